@@ -1,2 +1,3 @@
-pub mod Table
 pub mod Instance
+pub mod Options
+pub mod Table

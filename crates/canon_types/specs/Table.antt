@@ -1,6 +1,6 @@
 -- A table of types: tuples and functions, each in the order in which they were added. The shape of a type
 -- (canon_model) is its meaning apart from the table.
-use Rattle.std.specs.Prelude.{◌≡◌, ℕ, ◌+◌, ◌<◌, List, [], ◌∷◌, ◌++◌, length, Option, Some, None, slice_get, Bool}
+use Rattle.std.specs.Prelude.{◌≡◌, ℕ, ◌+◌, ◌<◌, ◌≤◌, List, [], ◌∷◌, ◌++◌, length, slice_index_or, Bool}
 use Rattle.canon_model.specs.Shape.{Members, Shape, bool, member, no_members, s8, scalar, u32}
 use Rattle.canon_types.specs.declared.table.InterfaceType.{InterfaceType}
 use Rattle.canon_types.specs.declared.table.InterfaceType.TheVariants as ty
@@ -14,22 +14,19 @@ pub record Table : Type 0 where
 abbrev pub HasTuple : Table → ℕ → Type 0
 HasTuple t i = i < length t.tuples
 
--- the parameters and the results of the function are tuples of the table
-pub record IsOver (t : Table) (f : TypeFunc) : Type 0 where
-  pub params : HasTuple t f.params
-  pub results : HasTuple t f.results
-
 abbrev pub HasFunc : Table → ℕ → Type 0
 HasFunc t i = i < length t.funcs
 
--- what an option has of types
-abbrev pub types_in : Option (List InterfaceType) → List InterfaceType
-types_in None = []
-types_in (Some types) = types
-
 -- the types of a tuple's members
 abbrev pub types_of : Table → ℕ → List InterfaceType
-types_of t i = types_in (slice_get t.tuples i)
+types_of t i = slice_index_or t.tuples i []
+
+-- the parameters and the results of a function are tuples of the table, so far of these counts
+pub record IsOver (t : Table) (f : TypeFunc) : Type 0 where
+  pub params : HasTuple t f.params
+  pub results : HasTuple t f.results
+  pub few_params : length (types_of t f.params) ≤ 4
+  pub one_result : length (types_of t f.results) ≡ 1
 
 -- ---- shapes
 

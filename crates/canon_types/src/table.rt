@@ -27,6 +27,9 @@ pub struct TypeFunc {
     pub async_: bool,
 }
 
+/// The most types that a table holds.
+const MAX_TYPES: usize = 1 << 20;
+
 /// The types of a component. Contracts see a table of tuples and functions.
 #[derive(Debug, Drop)]
 pub struct ComponentTypes {
@@ -35,18 +38,18 @@ pub struct ComponentTypes {
 }
 
 impl Model for ComponentTypes {
-    ghost use Rattle.std.specs.Prelude.{◌<◌, All, length, map};
-    ghost use Rattle.canon_types.specs.Table.{Table};
+    ghost use Rattle.std.specs.Prelude.{All, map};
+    ghost use Rattle.canon_types.specs.Table.{Table, IsOver};
 
     ghost Value = { Table };
 
     ghost view = { λ c. record { tuples = map (λ t. t.types.items) c.tuples.items; funcs = c.funcs.items } };
 
-    ghost invariant = { λ c. All (λ f. (f.params < length c.tuples.items) × (f.results < length c.tuples.items)) c.funcs.items };
+    ghost invariant = { λ c. All (IsOver (record { tuples = map (λ t. t.types.items) c.tuples.items; funcs = c.funcs.items })) c.funcs.items };
 }
 
 impl ComponentTypes {
-    ghost use Rattle.canon_types.specs.Table.{HasFunc, HasTuple, IsOver, types_of};
+    ghost use Rattle.canon_types.specs.Table.{AddsFunc, HasFunc, HasTuple, IsOver, types_of};
 
     /// Whether the table has this function type.
     pub fn contains_func(&self, i: TypeFuncIndex) -> bool
@@ -64,6 +67,36 @@ impl ComponentTypes {
         &self.funcs[i.as_u32() as usize]
     }
 
+    /// Adds a function, and the tuples of its parameters and results.
+    fn push_func(
+        &mut self,
+        params: Vec<InterfaceType>,
+        results: Vec<InterfaceType>,
+        async_: bool,
+    ) -> Result<TypeFuncIndex, TypeError>
+        requires few_params { length params.items ≤ 4 }
+        requires one_result { length results.items ≡ 1 }
+        ensures ok { IfOk result (λ i. AddsFunc self.old params.items results.items async_ i self.new) }
+        ensures err { OnErr result (self.new ≡ self.old) }
+        ensures full { (result ≡ Err TypeError.TooManyTypes) ↔ (2 ^ 20 < length self.old.tuples + length self.old.funcs + 3) }
+    {
+        let first = self.tuples.len();
+        let number = self.funcs.len();
+        if MAX_TYPES < first.saturating_add(number).saturating_add(3) {
+            return Err(TypeError::TooManyTypes);
+        }
+        self.tuples.reserve(2)?;
+        self.funcs.reserve(1)?;
+        self.tuples.push_reserved(TypeTuple { types: params });
+        self.tuples.push_reserved(TypeTuple { types: results });
+        self.funcs.push_reserved(TypeFunc {
+            params: TypeTupleIndex::from_u32(first as u32),
+            results: TypeTupleIndex::from_u32(first as u32 + 1),
+            async_,
+        });
+        Ok(TypeFuncIndex::from_u32(number as u32))
+    }
+
     /// The tuple type of a number.
     pub fn tuple(&self, i: TypeTupleIndex) -> &TypeTuple
         requires { HasTuple self.now i }
@@ -72,9 +105,6 @@ impl ComponentTypes {
         &self.tuples[i.as_u32() as usize]
     }
 }
-
-/// The most types that a table holds.
-const MAX_TYPES: usize = 1 << 20;
 
 /// Adds types to a table. Contracts see the table so far.
 #[derive(Debug, Drop)]
@@ -118,21 +148,7 @@ impl TypeBuilder {
         ensures err { OnErr result (self.new ≡ self.old) }
         ensures full { (result ≡ Err TypeError.TooManyTypes) ↔ (2 ^ 20 < length self.old.tuples + length self.old.funcs + 3) }
     {
-        let first = self.types.tuples.len();
-        let number = self.types.funcs.len();
-        if MAX_TYPES < first.saturating_add(number).saturating_add(3) {
-            return Err(TypeError::TooManyTypes);
-        }
-        self.types.tuples.reserve(2)?;
-        self.types.funcs.reserve(1)?;
-        self.types.tuples.push(TypeTuple { types: params })?;
-        self.types.tuples.push(TypeTuple { types: results })?;
-        self.types.funcs.push(TypeFunc {
-            params: TypeTupleIndex::from_u32(first as u32),
-            results: TypeTupleIndex::from_u32(first as u32 + 1),
-            async_,
-        })?;
-        Ok(TypeFuncIndex::from_u32(number as u32))
+        self.types.push_func(params, results, async_)
     }
 
     /// The table.

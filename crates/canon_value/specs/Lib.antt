@@ -1,0 +1,5 @@
+pub mod Value
+pub mod Fails
+pub mod Component
+pub mod Core
+pub mod Context
