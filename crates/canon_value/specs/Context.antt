@@ -1,5 +1,5 @@
 -- What the contexts of lowering and lifting hold.
-use Rattle.std.specs.Prelude.{ℕ, Option, slice_get}
+use Rattle.std.specs.Prelude.{ℕ}
 use Rattle.canon_model.specs.Text.{Encoding}
 use Rattle.canon_value.specs.Component.{encoding_at}
 use Rattle.canon_value.specs.Core.{Parts}

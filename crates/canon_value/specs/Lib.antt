@@ -1,5 +1,7 @@
-pub mod Value
-pub mod Fails
 pub mod Component
-pub mod Core
 pub mod Context
+pub mod Core
+pub mod Fails
+pub mod Faults
+pub mod Lowers
+pub mod Value

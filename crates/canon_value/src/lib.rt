@@ -3,8 +3,14 @@
 
 mod component;
 mod core_data;
+mod fault;
+mod lift;
+mod lower;
 mod val;
 
 pub use component::{Component, Export};
 pub use core_data::Core;
+pub use fault::Fault;
+pub use lift::{LiftContext, lift_results};
+pub use lower::{LowerContext, lower_args};
 pub use val::Val;
