@@ -107,7 +107,7 @@ lowering_ends enc m t types args dst i at et ea h =
     (subst (λ (ts : List InterfaceType). IsRowAt true enc m (members_of t ts) (drop i args) dst at) (sym dt)
     (subst (λ (vs : List Val). IsRowAt true enc m no_members vs dst at) (sym da) (no_trees, (refl, refl), refl)))
 
-places_one : (v : Val) → places v ≡ 1
+pub places_one : (v : Val) → places v ≡ 1
 places_one (val.Bool b) = refl
 places_one (val.S8 z) = refl
 places_one (val.U32 n) = refl

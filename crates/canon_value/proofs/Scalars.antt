@@ -1,17 +1,17 @@
 -- The words of scalars.
-use Rattle.std.proofs.Common.{◌≡◌, ◌<◌, ◌%◌, ◌^◌, ℕ, List, [], ◌∷◌, length, set, refl, ap, arith, sym, subst, ◌∙◌, Bool, true, false, pos, negsuc, ℤ, FitsSigned, w8, w32, lit<}
+use Rattle.std.proofs.Common.{◌≡◌, ◌<◌, ◌%◌, ◌^◌, ℕ, List, [], ◌∷◌, length, set, refl, ap, arith, sym, subst, ◌∙◌, Bool, true, false, pos, negsuc, ℤ, FitsSigned, w8, w32, lit<, suc}
 use mir.Val.{bool_byte}
 use Rattle.std.proofs.lemmas.Int.{to_z-of_z}
 use Rattle.std.specs.Int.{cast_signed, cast_unsigned}
 use Rattle.std.specs.Prelude.{not, slice_index, ◌==◌}
 use Rattle.canon_model.specs.Flat.{flat_bits}
 use Rattle.canon_model.specs.Rep.{ScalarIs}
-use Rattle.canon_model.specs.Shape.{bool, s8, u32}
-use Rattle.canon_model.specs.Layout.{flat}
+use Rattle.canon_model.specs.Shape.{bool, member_count, s8, u32}
+use Rattle.canon_model.specs.Layout.{flat, members_flat}
 use Rattle.canon_model.specs.Memory.{Memory, low}
 use Rattle.canon_model.specs.Text.{Encoding}
 use Rattle.canon_model.specs.Tree.{number, truth}
-use Rattle.canon_types.specs.Table.{Table, shape_of}
+use Rattle.canon_types.specs.Table.{Table, members_of, shape_of}
 use Rattle.canon_types.specs.declared.table.InterfaceType.{InterfaceType}
 use Rattle.canon_types.specs.declared.table.InterfaceType.TheVariants as ty
 use Rattle.canon_value.specs.Lowers.{IsLifted, IsLowered, IsOfWord}
@@ -72,3 +72,13 @@ pub word_lifted : (t : Table) (enc : Encoding) (m : Memory) (k : InterfaceType) 
 word_lifted t enc m k ws i w v e h =
     let (c, tree, is, represented, has) = h t in
     subst (λ s. IsLifted enc m s ws i v) (sym is) (tree, (subst (λ n. ScalarIs c (n % 2 ^ flat_bits c) tree) e represented, λ strict. cc), has)
+
+-- types in a row take a word each
+pub members_flat-members_of : (t : Table) (types : List InterfaceType) → members_flat (members_of t types) ≡ length types
+unfolding flat
+members_flat-members_of t [] = refl
+members_flat-members_of t (k ∷ types) = omega (arith, flat_one t k, members_flat-members_of t types)
+
+pub member_count-members_of : (t : Table) (types : List InterfaceType) → member_count (members_of t types) ≡ length types
+member_count-members_of t [] = refl
+member_count-members_of t (k ∷ types) = ap suc (member_count-members_of t types)

@@ -3,5 +3,6 @@ pub mod Context
 pub mod Core
 pub mod Fails
 pub mod Faults
+pub mod Laws
 pub mod Lowers
 pub mod Value

@@ -4,6 +4,7 @@
 mod component;
 mod core_data;
 mod fault;
+pub mod laws;
 mod lift;
 mod lower;
 mod val;
