@@ -1,2 +1,5 @@
 pub mod Callees
+pub mod JsonViews
 pub mod Outcomes
+pub mod Pieces
+pub mod Played

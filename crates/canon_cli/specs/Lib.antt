@@ -1,3 +1,9 @@
 pub mod Call
+pub mod Json
+pub mod Play
 pub mod Runs
+pub mod Scripted
+pub mod Session
 pub mod Stores
+pub mod Streams
+pub mod Text
