@@ -34,8 +34,8 @@ scripted_callee play c h =
     let e : Export = record { ty = 0; func = 0; options = 0 } in
     let first : slice_get c.exports.items 0 ≡ Some e = ap (λ es. slice_get es 0) h.exports in
     ap (callee_in c) first ∙ (
-      ap (λ t. with_parts t c) h.table
-      ∙ ap (λ os. record { func = 0; params = members_of (script_table play.params play.results) play.params; results = members_of (script_table play.params play.results) play.results; encoding = encoding_in (slice_get os 0) }) h.options
+    ap (λ t. with_parts t c) h.table
+    ∙ ap (λ os. record { func = 0; params = members_of (script_table play.params play.results) play.params; results = members_of (script_table play.params play.results) play.results; encoding = encoding_in (slice_get os 0) }) h.options
     )
   where
     with_parts : Table → Component → Callee

@@ -1,6 +1,7 @@
 pub mod Call
 pub mod Json
 pub mod Play
+pub mod Program
 pub mod Runs
 pub mod Scripted
 pub mod Session
