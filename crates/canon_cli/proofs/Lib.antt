@@ -1,4 +1,5 @@
 pub mod Callees
+pub mod Inputs
 pub mod JsonViews
 pub mod Outcomes
 pub mod Pieces

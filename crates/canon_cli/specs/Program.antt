@@ -77,6 +77,14 @@ pub record AnswersInput (input : List ℕ) (s : Status) : Type 0 where
   pub bad_script : length input ≤ max_input → (tree : Data) → IsJson input tree → script_of tree ≡ None → (s.0 ≡ 8) ⊎ (s.0 ≡ 5)
   pub script : length input ≤ max_input → (tree : Data) → IsJson input tree → (play : Play) → script_of tree ≡ Some play → (s.0 ≡ 0) ⊎ ((s.0 ≡ 4) ⊎ (s.0 ≡ 5))
 
+-- an input that is a script
+pub record IsScript (input : List ℕ) : Type 0 where
+  pub short : length input ≤ max_input
+  pub tree : Data
+  pub json : IsJson input tree
+  pub play : Play
+  pub script : script_of tree ≡ Some play
+
 -- a fact of the bytes that a source tells
 abbrev pub OnTold : Option (List ℕ) → (List ℕ → Type 0) → Type 0
 OnTold None P = Unit {0}

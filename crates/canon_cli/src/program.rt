@@ -4,7 +4,7 @@ ghost use Rattle.serde_json.specs.Read.{read};
 ghost use Rattle.serde_json.specs.View.{view};
 ghost use Rattle.canon_memory.specs.Counts.{Rose};
 ghost use Rattle.canon_cli.specs.Play.{Play, play_of};
-ghost use Rattle.canon_cli.specs.Program.{AnswersInput, IsJson, IsNoJson, IsRefusal, IsStatus, OnTold, ReadsNoJson, ReadsNoScript, ReadsScript, ReadsTooMuch, is_run, max_input};
+ghost use Rattle.canon_cli.specs.Program.{AnswersInput, IsJson, IsNoJson, IsRefusal, IsScript, IsStatus, OnTold, ReadsNoJson, ReadsNoScript, ReadsScript, ReadsTooMuch, is_run, max_input};
 ghost use Rattle.canon_cli.specs.Session.{Session};
 ghost use Rattle.canon_cli.specs.Streams.{AppendsFront, TakesAtMost};
 ghost use Rattle.canon_cli.specs.Text.{transcript_text};
@@ -57,6 +57,10 @@ pub fn run<S: Source, K: Sink>(
     ensures answers { is_run words.now ≡ true → ¬ Rose (S.faults source.old) (S.faults source.new)
         → OnTold (S.left source.old) (λ input. AnswersInput input result) }
     ensures taken { ¬ (result ≡ Status.TOO_LONG) → ¬ (result ≡ Status.MEMORY) → TakesAtMost max_input (S.left source.old) (S.left source.new) }
+
+    // A script is played and written whole, or memory ran out, where nothing failed.
+    ensures complete { is_run words.now ≡ true → ¬ Rose (S.faults source.old) (S.faults source.new) → ¬ Rose (K.faults sink.old) (K.faults sink.new)
+        → OnTold (S.left source.old) (λ input. IsScript input → (result.0 ≡ 0) ⊎ (result.0 ≡ 5)) }
     ensures no_other { IsStatus result }
 {
     if is_run(words) {
