@@ -1,0 +1,6 @@
+pub mod Writing
+pub mod Surrogates
+pub mod Faults
+pub mod Answers
+pub mod Decoding
+pub mod Lending
