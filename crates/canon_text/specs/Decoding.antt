@@ -33,4 +33,4 @@ pub record Decodes (form : Form) (bytes text : List ℕ) : Type 0 where
 abbrev pub units_in : List ℕ → List ℕ
 units_in [] = []
 units_in (low ∷ []) = []
-units_in (low ∷ high ∷ bytes) = low + 256 * high ∷ units_in bytes
+units_in (low ∷ high ∷ bytes) = (low + 256 * high) ∷ units_in bytes

@@ -11,7 +11,7 @@ ghost use Rattle.canon_text.specs.Lending.{LendsRest};
 use crate::error::TextError;
 use crate::units::first_fault;
 use crate::utf8::text_of;
-use crate::writing::{write_units, write_utf16_bytes};
+use crate::writing::{write_unit, write_units, write_utf16_bytes};
 
 /// The bit of a compact length that says UTF-16.
 pub const UTF16_TAG: u64 = 1 << 31;
@@ -22,8 +22,7 @@ fn inflate(dst: &mut [u8], count: usize)
     ensures { dst.new ≡ over dst.old (inflated dst.old count) }
 {
     for i in (0..count).rev() {
-        dst[2 * i] = dst[i];
-        dst[2 * i + 1] = 0;
+        write_unit(dst, 2 * i, u16::from(dst[i]));
     }
 }
 

@@ -1,6 +1,6 @@
 //! Texts out of the bytes of an encoding.
 
-ghost use Rattle.std.specs.Prelude.{◌≡◌, ◌%◌, ◌↔◌, length, false, IsTrue, MatchResult, IfOk, ⊤};
+ghost use Rattle.std.specs.Prelude.{◌≡◌, ◌%◌, ◌↔◌, length, false, IsTrue, MatchResult, MatchOption, IfOk, ⊤};
 ghost use Rattle.std.specs.Str.{IsAscii};
 ghost use Rattle.canon_model.specs.Text.{in_latin1, in_utf16, in_utf8};
 ghost use Rattle.canon_text.specs.Faults.{IsFirstFault};
@@ -43,14 +43,25 @@ pub fn decode_utf16(alloc: Global, src: &[u8]) -> Result<CowStr<'_>, DecodeError
     Ok(CowStr::Owned(text))
 }
 
+// The bytes as a text, where all are below 128.
+fn ascii_text(src: &[u8]) -> Option<&str>
+    ensures { MatchOption result (¬ (IsAscii src.now)) (λ t. IsAscii src.now × (t.now ≡ src.now)) }
+{
+    if !src.is_ascii() {
+        return None;
+    }
+    match std::str::from_utf8(src) {
+        Ok(text) => Some(text),
+        Err(_) => None,
+    }
+}
+
 /// The text of Latin-1. It is borrowed exactly where all bytes are below 128.
 pub fn decode_latin1(alloc: Global, src: &[u8]) -> Result<CowStr<'_>, OutOfMemory>
     ensures { IfOk result (λ t. Decodes in_latin1 src.now (cow_text t) × (IsTrue (is_borrowed t) ↔ IsAscii src.now)) }
 {
-    if src.is_ascii() {
-        if let Ok(text) = text_of(src) {
-            return Ok(CowStr::Borrowed(text));
-        }
+    if let Some(text) = ascii_text(src) {
+        return Ok(CowStr::Borrowed(text));
     }
     let mut text = String::new(alloc);
     for byte in src {

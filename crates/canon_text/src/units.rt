@@ -1,6 +1,6 @@
 //! Characters out of UTF-16.
 
-ghost use Rattle.std.specs.Prelude.{◌≡◌, ◌+◌, ◌*◌, ◌<◌, length, drop, MatchOption, slice_index};
+ghost use Rattle.std.specs.Prelude.{◌≡◌, ◌+◌, ◌*◌, ◌<◌, length, drop, MatchOption, ◌≤◌, slice_get};
 ghost use Rattle.std.specs.Char.Escape.{encode_utf16};
 ghost use Rattle.canon_model.specs.Text.{in_utf16};
 ghost use Rattle.canon_text.specs.Faults.{Begins, IllFormed, WellFormed, IllFormedAt};
@@ -29,38 +29,43 @@ pub(crate) fn utf16_len(c: char) -> usize
     if (c as u32) < 0x1_0000 { 1 } else { 2 }
 }
 
+// The unit at a place, if there is one.
+fn unit_at(src: &[u16], at: usize) -> Option<u16>
+    ensures { result ≡ slice_get src.now at }
+{
+    if at < src.len() { Some(src[at]) } else { None }
+}
+
 // The character that begins at a place.
 pub(crate) fn char_at(src: &[u16], at: usize) -> Option<char>
     requires { at < length src.now }
     ensures { MatchOption result (IllFormed in_utf16 (drop at src.now)) (λ c. Begins in_utf16 c (drop at src.now)) }
 {
-    let next = if at + 1 < src.len() {
-        Some(src[at + 1])
-    } else {
-        None
-    };
-    char_of(src[at], next)
+    char_of(src[at], unit_at(src, at + 1))
 }
 
-// The unit of this number.
-fn unit_at(src: &[u8], number: usize) -> u16
-    requires { 2 * number + 1 < length src.now }
-    ensures { result ≡ slice_index (units_in src.now) number }
+// The unit of this number, if there is one.
+fn unit_in(src: &[u8], number: usize) -> Option<u16>
+    requires { number ≤ length (units_in src.now) }
+    ensures { result ≡ slice_get (units_in src.now) number }
 {
-    u16::from(src[2 * number]) + 256 * u16::from(src[2 * number + 1])
+    if number < src.len() / 2 {
+        let low = 2 * number;
+        Some(u16::from(src[low]) + 256 * u16::from(src[low + 1]))
+    } else {
+        None
+    }
 }
 
 // The character that begins at a unit of this number.
 pub(crate) fn char_in(src: &[u8], number: usize) -> Option<char>
-    requires { 2 * number + 1 < length src.now }
+    requires { number < length (units_in src.now) }
     ensures { MatchOption result (IllFormed in_utf16 (drop number (units_in src.now))) (λ c. Begins in_utf16 c (drop number (units_in src.now))) }
 {
-    let next = if 2 * number + 3 < src.len() {
-        Some(unit_at(src, number + 1))
-    } else {
-        None
-    };
-    char_of(unit_at(src, number), next)
+    match unit_in(src, number) {
+        Some(unit) => char_of(unit, unit_in(src, number + 1)),
+        None => None,
+    }
 }
 
 // The place of the first surrogate without its partner.

@@ -32,19 +32,23 @@ pub(crate) fn write_utf16(dst: &mut [u16], at: usize, c: char) -> usize
     end
 }
 
-// Writes units as bytes, the low byte first, and says where they end.
-pub(crate) fn write_units(dst: &mut [u8], at: usize, units: &[u16]) -> usize
-    requires { at + 2 * length units.now ≤ length dst.old }
-    ensures end { result ≡ at + 2 * length units.now }
-    ensures writes { dst.new ≡ placed dst.old at (flat_map unit_bytes units.now) }
+// Writes a unit as bytes, the low byte first.
+pub(crate) fn write_unit(dst: &mut [u8], at: usize, unit: u16)
+    requires { at + 2 ≤ length dst.old }
+    ensures { dst.new ≡ placed dst.old at (unit_bytes unit) }
 {
-    let mut end = at;
-    for unit in units {
-        dst[end] = (*unit % 256) as u8;
-        dst[end + 1] = (*unit / 256) as u8;
-        end += 2;
+    let bytes = [(unit % 256) as u8, (unit / 256) as u8];
+    dst[at..at + 2].copy_from_slice(&bytes);
+}
+
+// Writes units as bytes.
+pub(crate) fn write_units(dst: &mut [u8], at: usize, units: &[u16])
+    requires { at + 2 * length units.now ≤ length dst.old }
+    ensures { dst.new ≡ placed dst.old at (flat_map unit_bytes units.now) }
+{
+    for (i, unit) in units.iter().enumerate() {
+        write_unit(dst, at + 2 * i, *unit);
     }
-    end
 }
 
 // Writes a character's units as bytes, and says where they end.
@@ -55,5 +59,7 @@ pub(crate) fn write_utf16_bytes(dst: &mut [u8], at: usize, c: char) -> usize
 {
     let mut buffer = [0; 2];
     let units = c.encode_utf16(&mut buffer);
-    write_units(dst, at, units)
+    let end = at + 2 * units.len();
+    write_units(dst, at, units);
+    end
 }
