@@ -1,5 +1,5 @@
 -- Latin-1 and the bytes of units.
-use Rattle.std.proofs.Common.{IsTrue, List, [], add-one, ap, append_assoc, ap₂, arith, cond, drop, false, flat_map, get_or, le-ltb, length, lt-ltb, nat_lt, refl, set, suc, sym, take, true, zero, ℕ, ◌*◌, ◌++◌, ◌+◌, ◌-◌, ◌/◌, ◌%◌, ◌<◌, ◌∙◌, ◌∷◌, ◌≡◌, ◌≤◌}
+use Rattle.std.proofs.Common.{Bool, IsTrue, List, [], add-one, ap, append_assoc, ap₂, arith, cond, drop, false, flat_map, get_or, le-ltb, length, lt-ltb, nat_lt, refl, set, suc, sym, take, true, zero, ℕ, ◌*◌, ◌++◌, ◌+◌, ◌-◌, ◌/◌, ◌%◌, ◌<◌, ◌∙◌, ◌∷◌, ◌≡◌, ◌≤◌}
 use Rattle.std.proofs.lemmas.Bool.{and_from, cond-false, cond-true, false≢true, ltb-true}
 use Rattle.std.proofs.lemmas.List.{append-nil, drop-drop, drop_all, drop_at, drop_more, get_or-take, get_or_append_left, length-append, length-take, length-take-le, set_at, take-append-drop, take-append-le, take-take, take_all, take_at, take_more}
 use Rattle.std.proofs.lemmas.Grind.{flat_map-append}
@@ -11,8 +11,16 @@ use Rattle.canon_text.specs.Writing.{over, placed}
 use Rattle.canon_text.proofs.Widths.{length-unit_bytes}
 
 -- ---- Latin-1
+first_of_two : (x y : Bool) → cond x y false ≡ true → (x ≡ true) × (y ≡ true)
+first_of_two true y h = (refl, h)
+first_of_two false y h = absurd (false≢true h)
+
+second_false : (x y : Bool) → y ≡ false → cond x y false ≡ false
+second_false true y h = h
+second_false false y h = refl
+
 latin1_parts : (c : ℕ) (cs : List ℕ) → all_latin1 (c ∷ cs) ≡ true → (c < 256) × (all_latin1 cs ≡ true)
-latin1_parts c cs h = ?
+latin1_parts c cs h = let p = first_of_two (nat_lt c 256) (all_latin1 cs) h in (ltb-true c 256 p.0, p.1)
 
 pub latin1_each : (cs : List ℕ) (k : ℕ) → all_latin1 cs ≡ true → get_or cs k 0 < 256
 latin1_each [] k h = omega arith
@@ -26,7 +34,7 @@ latin1_from (c ∷ cs) h = cond-true (nat_lt c 256) _ _ (lt-ltb c 256 (h 0)) ∙
 pub latin1_not : (cs : List ℕ) (k : ℕ) → 256 ≤ get_or cs k 0 → all_latin1 cs ≡ false
 latin1_not [] k h = absurd (omega arith)
 latin1_not (c ∷ cs) zero h = cond-false (nat_lt c 256) _ _ (le-ltb c 256 h)
-latin1_not (c ∷ cs) (suc k) h = ?
+latin1_not (c ∷ cs) (suc k) h = second_false (nat_lt c 256) (all_latin1 cs) (latin1_not cs k h)
 
 pub latin1_scalars : (cs : List ℕ) → all_latin1 cs ≡ true → all_scalars cs ≡ true
 latin1_scalars [] h = refl
@@ -106,3 +114,8 @@ inflating_step old now new count i x e h k is w =
     let more : flat_map unit_bytes (drop i xs) ≡ unit_bytes x ++ flat_map unit_bytes (drop (i + 1) xs) =
         ap (λ l. flat_map unit_bytes l) (drop_more xs i 0 (omega (arith, length-take-le count old (omega arith)))) ∙ ap (λ y. unit_bytes y ++ flat_map unit_bytes (drop (i + 1) xs)) (sym read) in
     w ∙ ap₂ (λ a b. a ++ (unit_bytes x ++ b)) kept left ∙ ap (λ l. take (2 * i) old ++ (l ++ drop (2 * count) old)) (sym more)
+
+-- one value more over the front
+pub over-more_set : (old now src : List ℕ) (i x : ℕ) → now ≡ over old (take i src) → i < length src → i < length old → x ≡ get_or src i 0 → set now i x ≡ over old (take (i + 1) src)
+over-more_set old now src i x e h room is =
+    over-set old now (take i src) i x e (length-take-le i src (omega arith)) room ∙ ap (λ l. over old l) (ap (λ y. take i src ++ y ∷ []) is ∙ sym (take_more src i 0 h))

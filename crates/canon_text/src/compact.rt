@@ -22,7 +22,8 @@ fn inflate(dst: &mut [u8], count: usize)
     ensures { dst.new ≡ over dst.old (inflated dst.old count) }
 {
     for i in (0..count).rev() {
-        write_unit(dst, 2 * i, u16::from(dst[i]));
+        let byte = dst[i];
+        write_unit(dst, 2 * i, u16::from(byte));
     }
 }
 

@@ -68,7 +68,7 @@ pub fn utf8_to_latin1(src: &[u8], dst: &mut [u8]) -> SizePair
         };
         dst[written] = byte;
         written += 1;
-        read += if byte < 128 { 1 } else { 2 };
+        read += char::from(byte).len_utf8();
     }
     SizePair {
         src_read: read as u64,
@@ -85,11 +85,11 @@ fn latin1_at(src: &[u8], at: usize) -> Option<u8>
     if first < 128 {
         return Some(first);
     }
-    if at + 1 >= src.len() || first < 0xC2 || first > 0xC3 {
+    if at + 1 >= src.len() {
         return None;
     }
     let second = src[at + 1];
-    if second < 0x80 || second >= 0xC0 {
+    if first < 0xC2 || first > 0xC3 || second < 0x80 || second > 0xBF {
         return None;
     }
     Some((first - 0xC0) * 64 + (second - 0x80))

@@ -1,0 +1,15 @@
+use Rattle.std.proofs.Common.{ap, arith, length, refl, sym, ◌+◌, ◌∙◌}
+use Rattle.std.proofs.lemmas.List.{append-nil}
+use Rattle.std.specs.Char.{encode_utf8}
+use Rattle.canon_model.specs.Text.{in_utf8}
+use Rattle.canon_text.proofs.Narrowing.{narrowing-end, narrowing-more, narrowing-stop, narrowing_room}
+use Rattle.canon_text.proofs.latin1.utf8_to_latin1.Goals as goal
+
+pub bounds-dst-written : goal.bounds-dst-written
+bounds-dst-written c = let room = narrowing_room _ _ _ _ _ c.loop-read.invariant in omega (arith, c.requires)
+
+pub loop-read-preserved : goal.loop-read-preserved
+loop-read-preserved c = ?
+
+pub returns : goal.returns
+returns c = narrowing-end in_utf8 c.args.src.now c.args.dst.now c.loop-read.dst c.loop-read.read c.loop-read.written c.loop-read.invariant c.loop-read-test.false
