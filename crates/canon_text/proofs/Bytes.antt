@@ -119,3 +119,12 @@ inflating_step old now new count i x e h k is w =
 pub over-more_set : (old now src : List ℕ) (i x : ℕ) → now ≡ over old (take i src) → i < length src → i < length old → x ≡ get_or src i 0 → set now i x ≡ over old (take (i + 1) src)
 over-more_set old now src i x e h room is =
     over-set old now (take i src) i x e (length-take-le i src (omega arith)) room ∙ ap (λ l. over old l) (ap (λ y. take i src ++ y ∷ []) is ∙ sym (take_more src i 0 h))
+
+latin1-take : (cs : List ℕ) (n : ℕ) → all_latin1 cs ≡ true → all_latin1 (take n cs) ≡ true
+latin1-take cs zero h = refl
+latin1-take [] (suc n) h = refl
+latin1-take (c ∷ cs) (suc n) h = let p = first_of_two (nat_lt c 256) (all_latin1 cs) h in cond-true (nat_lt c 256) _ _ p.0 ∙ latin1-take cs n p.1
+
+-- bytes are Latin-1
+pub latin1_front : (bytes : List ℕ) (n : ℕ) → ((k : ℕ) → get_or bytes k 0 < 256) → all_latin1 (take n bytes) ≡ true
+latin1_front bytes n h = latin1-take bytes n (latin1_from bytes h)

@@ -6,3 +6,4 @@ pub mod Passing
 pub mod Validated
 pub mod Bytes
 pub mod Narrowing
+pub mod Spelled

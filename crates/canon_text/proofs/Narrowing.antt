@@ -151,10 +151,10 @@ unfolding Starts NotLatin1
 clash c source k (inl (a, b, d)) (h, g) = omega arith
 clash c source k (inr (a, b, d, e)) (h, g) = grind arith
 
-pub no_latin1 : (xs : List ℕ) (n : ℕ) → 128 ≤ get_or xs n 0 → (length xs ≤ n + 1) ⊎ (get_or xs n 0 < 194) ⊎ (195 < get_or xs n 0) ⊎ (get_or xs (n + 1) 0 < 128) ⊎ (192 ≤ get_or xs (n + 1) 0) → BeginsNoLatin1 in_utf8 (drop n xs)
+pub no_latin1 : (xs : List ℕ) (n : ℕ) → 128 ≤ get_or xs n 0 → (length xs ≤ n + 1) ⊎ ((get_or xs n 0 < 194) ⊎ ((195 < get_or xs n 0) ⊎ ((get_or xs (n + 1) 0 < 128) ⊎ (192 ≤ get_or xs (n + 1) 0)))) → BeginsNoLatin1 in_utf8 (drop n xs)
 unfolding NotLatin1
 no_latin1 xs n h cause c small b =
-    let zeroth : get_or (drop n xs) 0 0 ≡ get_or xs n 0 = get_or-drop n xs 0 0 in
+    let zeroth : get_or (drop n xs) 0 0 ≡ get_or xs n 0 = get_or-drop n xs 0 0 ∙ ap (λ k. get_or xs k 0) (omega arith) in
     let first : get_or (drop n xs) 1 0 ≡ get_or xs (n + 1) 0 = get_or-drop n xs 1 0 in
     let long : length (drop n xs) ≡ length xs - n = length-drop n xs in
     clash c (drop n xs) small (starts c (drop n xs) small b) (omega arith, ⊎_elim (λ l. inl (omega arith)) (λ r. ⊎_elim (λ l. inr (inl (omega arith))) (λ r2. ⊎_elim (λ l. inr (inr (inl (omega arith)))) (λ r3. ⊎_elim (λ l. inr (inr (inr (inl (omega arith))))) (λ l. inr (inr (inr (inr (omega arith))))) r3) r2) r) cause)

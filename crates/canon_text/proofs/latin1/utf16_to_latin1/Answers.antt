@@ -1,6 +1,7 @@
-use Rattle.std.proofs.Common.{arith, get_or, refl, sym}
+use Rattle.std.proofs.Common.{arith, get_or, length, refl, subst, sym, ◌≡◌}
+use Rattle.canon_text.specs.Answers.{Narrows}
 use Rattle.canon_model.specs.Text.{in_utf16}
-use Rattle.canon_text.proofs.Narrowing.{begins_unit, narrowing-more, narrowing-stop, no_unit, unit_width}
+use Rattle.canon_text.proofs.Narrowing.{begins_unit, narrowing-end, narrowing-more, narrowing-stop, no_unit, unit_width}
 use Rattle.canon_text.proofs.latin1.utf16_to_latin1.Goals as goal
 
 pub loop-i-preserved : goal.loop-i-preserved
@@ -11,4 +12,6 @@ pub returns-then-src-i-gt255 : goal.returns-then-src-i-gt255
 returns-then-src-i-gt255 c = narrowing-stop in_utf16 c.args.src.now c.args.dst.now c.loop-i.dst c.loop-i.i c.loop-i.i c.loop-i.invariant (no_unit c.args.src.now c.loop-i.i c.loop-i-test.true (omega arith))
 
 pub returns : goal.returns
-returns c = ?
+returns c =
+    let last : c.loop-i.i ≡ length c.args.src.now = omega (arith, c.loop-i.auto.i-end) in
+    subst (λ n. Narrows in_utf16 c.args.src.now c.args.dst.now c.loop-i.dst n n) last (narrowing-end in_utf16 c.args.src.now c.args.dst.now c.loop-i.dst c.loop-i.i c.loop-i.i c.loop-i.invariant c.loop-i-test.false)
