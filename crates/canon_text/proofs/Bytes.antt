@@ -1,6 +1,6 @@
 -- Latin-1 and the bytes of units.
-use Rattle.std.proofs.Common.{Bool, IsTrue, List, [], add-one, ap, append_assoc, ap₂, arith, cond, drop, false, flat_map, get_or, le-ltb, length, lt-ltb, nat_lt, refl, set, suc, sym, take, true, zero, ℕ, ◌*◌, ◌++◌, ◌+◌, ◌-◌, ◌/◌, ◌%◌, ◌<◌, ◌∙◌, ◌∷◌, ◌≡◌, ◌≤◌}
-use Rattle.std.proofs.lemmas.Bool.{and_from, cond-false, cond-true, false≢true, ltb-true}
+use Rattle.std.proofs.Common.{Bool, IsTrue, List, [], add-one, ap, append_assoc, ap₂, arith, cond, drop, false, flat_map, get_or, le-ltb, length, lt-ltb, nat_lt, refl, set, suc, sym, take, true, zero, ℕ, ⊎_elim, ◌*◌, ◌++◌, ◌+◌, ◌-◌, ◌/◌, ◌%◌, ◌<◌, ◌∙◌, ◌∷◌, ◌≡◌, ◌≤◌}
+use Rattle.std.proofs.lemmas.Bool.{and_from, cases_lt, cond-false, cond-true, false≢true, ltb-true}
 use Rattle.std.proofs.lemmas.List.{append-nil, drop-drop, drop_all, drop_at, drop_more, get_or-take, get_or_append_left, length-append, length-take, length-take-le, set_at, take-append-drop, take-append-le, take-take, take_all, take_at, take_more}
 use Rattle.std.proofs.lemmas.Grind.{flat_map-append}
 use Rattle.std.specs.Char.Escape.{encode_utf16}
@@ -128,3 +128,14 @@ latin1-take (c ∷ cs) (suc n) h = let p = first_of_two (nat_lt c 256) (all_lati
 -- bytes are Latin-1
 pub latin1_front : (bytes : List ℕ) (n : ℕ) → ((k : ℕ) → get_or bytes k 0 < 256) → all_latin1 (take n bytes) ≡ true
 latin1_front bytes n h = latin1-take bytes n (latin1_from bytes h)
+
+pub length-inflated : (old : List ℕ) (count : ℕ) → 2 * count ≤ length old → all_latin1 (take count old) ≡ true → length (flat_map unit_bytes (flat_map encode_utf16 (take count old))) ≡ 2 * count
+length-inflated old count h small = omega (arith, length-unit_bytes (flat_map encode_utf16 (take count old)), ap length (latin1_units (take count old) small), length-take-le count old (omega arith))
+
+-- whether a text is Latin-1 shows in its units
+pub latin1-units : (cs : List ℕ) → all_latin1 (flat_map encode_utf16 cs) ≡ all_latin1 cs
+latin1-units [] = refl
+latin1-units (c ∷ cs) = ⊎_elim
+    (λ h. ap (λ us. all_latin1 (us ++ flat_map encode_utf16 cs)) (cond-true (nat_lt c 0x1_0000) _ _ (lt-ltb c 0x1_0000 h)) ∙ ap (λ b. cond (nat_lt c 256) b false) (latin1-units cs))
+    (λ h. ap (λ us. all_latin1 (us ++ flat_map encode_utf16 cs)) (cond-false (nat_lt c 0x1_0000) _ _ (le-ltb c 0x1_0000 h)) ∙ cond-false (nat_lt (0xD800 + (c - 0x1_0000) / 0x400) 256) _ _ (le-ltb _ 256 (omega arith)) ∙ sym (cond-false (nat_lt c 256) _ _ (le-ltb c 256 (omega arith))))
+    (cases_lt c 0x1_0000)

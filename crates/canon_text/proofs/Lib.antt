@@ -7,3 +7,5 @@ pub mod Validated
 pub mod Bytes
 pub mod Narrowing
 pub mod Spelled
+pub mod Compacting
+pub mod Decoded

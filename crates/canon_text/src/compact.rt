@@ -19,7 +19,8 @@ pub const UTF16_TAG: u64 = 1 << 31;
 // Makes units of the first bytes, in place, the last first.
 fn inflate(dst: &mut [u8], count: usize)
     requires { 2 * count ≤ length dst.old }
-    ensures { dst.new ≡ over dst.old (inflated dst.old count) }
+    ensures writes { dst.new ≡ over dst.old (inflated dst.old count) }
+    ensures long { length (inflated dst.old count) ≡ 2 * count }
 {
     for i in (0..count).rev() {
         let byte = dst[i];

@@ -1,5 +1,5 @@
 use Rattle.std.proofs.Common.{ap, arith, get_or, refl, subst, sym, take, ◌+◌, ◌-◌, ◌∙◌, ◌<◌, ◌≡◌, ℕ}
-use Rattle.canon_text.proofs.Bytes.{inflating, inflating_end, inflating_start, inflating_step, latin1_front}
+use Rattle.canon_text.proofs.Bytes.{inflating, inflating_end, inflating_start, inflating_step, latin1_front, length-inflated}
 use Rattle.canon_text.proofs.compact.inflate.Goals as goal
 
 pub loop-i-init : goal.loop-i-init
@@ -17,4 +17,8 @@ loop-i-preserved c =
 pub returns : goal.returns
 returns c =
     let last : c.loop-i.i ≡ 0 = omega arith in
-    c.loop-i.invariant.stands ∙ ap (λ n. inflating c.args.dst.now c.args.count n) last ∙ inflating_end c.args.dst.now c.args.count c.requires (latin1_front c.args.dst.now c.args.count c.loop-i.invariant.bytes)
+    let small = latin1_front c.args.dst.now c.args.count c.loop-i.invariant.bytes in
+    record {
+      writes = c.loop-i.invariant.stands ∙ ap (λ n. inflating c.args.dst.now c.args.count n) last ∙ inflating_end c.args.dst.now c.args.count c.requires small;
+      long = length-inflated c.args.dst.now c.args.count c.requires small;
+    }
