@@ -62,8 +62,8 @@ placed-more old now items more at end h e k =
     let long : length (take at old ++ items) ≡ end = omega (arith, length-append (take at old) items, length-take-le at old h) in
     let kept : take end now ≡ take at old ++ items = ap (λ l. take end l) whole ∙ take_at (take at old ++ items) tail end long in
     let left : drop (end + length more) now ≡ drop (at + length (items ++ more)) old =
-        sym (drop-drop (length more) end now) ∙ ap (λ l. drop (length more) l) (ap (λ l. drop end l) whole ∙ drop_at (take at old ++ items) tail end long)
-        ∙ drop-drop (length more) (at + length items) old ∙ ap (λ n. drop n old) (omega (arith, length-append items more)) in
+    sym (drop-drop (length more) end now) ∙ ap (λ l. drop (length more) l) (ap (λ l. drop end l) whole ∙ drop_at (take at old ++ items) tail end long)
+    ∙ drop-drop (length more) (at + length items) old ∙ ap (λ n. drop n old) (omega (arith, length-append items more)) in
     ap₂ (λ a b. a ++ (more ++ b)) kept left ∙ append_assoc (take at old) items (more ++ drop (at + length (items ++ more)) old) ∙ ap (λ l. take at old ++ l) (sym (append_assoc items more (drop (at + length (items ++ more)) old)))
 
 pub placed-nil : (old : List ℕ) (at : ℕ) → placed old at [] ≡ old
@@ -108,11 +108,11 @@ inflating_step old now new count i x e h k is w =
     let behind = flat_map unit_bytes (drop (i + 1) xs) ++ drop (2 * count) old in
     let read : x ≡ get_or xs i 0 = is ∙ ap (λ l. get_or l i 0) e ∙ inflating_read old count i h k ∙ sym (get_or-take count old i 0 h) in
     let kept : take (2 * i) now ≡ take (2 * i) old =
-        ap (λ l. take (2 * i) l) e ∙ take-append-le (2 * i) (take (2 * (i + 1)) old) behind (omega (arith, length-take-le (2 * (i + 1)) old (omega arith))) ∙ take-take (2 * i) (2 * (i + 1)) old (omega arith) in
+    ap (λ l. take (2 * i) l) e ∙ take-append-le (2 * i) (take (2 * (i + 1)) old) behind (omega (arith, length-take-le (2 * (i + 1)) old (omega arith))) ∙ take-take (2 * i) (2 * (i + 1)) old (omega arith) in
     let left : drop (2 * i + 2) now ≡ behind =
-        ap (λ l. drop (2 * i + 2) l) e ∙ drop_at (take (2 * (i + 1)) old) behind (2 * i + 2) (omega (arith, length-take-le (2 * (i + 1)) old (omega arith))) in
+    ap (λ l. drop (2 * i + 2) l) e ∙ drop_at (take (2 * (i + 1)) old) behind (2 * i + 2) (omega (arith, length-take-le (2 * (i + 1)) old (omega arith))) in
     let more : flat_map unit_bytes (drop i xs) ≡ unit_bytes x ++ flat_map unit_bytes (drop (i + 1) xs) =
-        ap (λ l. flat_map unit_bytes l) (drop_more xs i 0 (omega (arith, length-take-le count old (omega arith)))) ∙ ap (λ y. unit_bytes y ++ flat_map unit_bytes (drop (i + 1) xs)) (sym read) in
+    ap (λ l. flat_map unit_bytes l) (drop_more xs i 0 (omega (arith, length-take-le count old (omega arith)))) ∙ ap (λ y. unit_bytes y ++ flat_map unit_bytes (drop (i + 1) xs)) (sym read) in
     w ∙ ap₂ (λ a b. a ++ (unit_bytes x ++ b)) kept left ∙ ap (λ l. take (2 * i) old ++ (l ++ drop (2 * count) old)) (sym more)
 
 -- one value more over the front

@@ -75,7 +75,7 @@ pub writes_bytes-more : (text rest rest2 scalars old now new : List ℕ) (at end
 writes_bytes-more text rest rest2 cs old now new at end end2 c room h e k w =
     let more = flat_map unit_bytes (encode_utf16 c) in
     let joined : flat_map unit_bytes (flat_map encode_utf16 cs) ++ more ≡ flat_map unit_bytes (flat_map encode_utf16 (cs ++ c ∷ [])) =
-        sym (flat_map-append unit_bytes (flat_map encode_utf16 cs) (encode_utf16 c)) ∙ ap (λ l. flat_map unit_bytes l) (units-push cs c) in
+    sym (flat_map-append unit_bytes (flat_map encode_utf16 cs) (encode_utf16 c)) ∙ ap (λ l. flat_map unit_bytes l) (units-push cs c) in
     let long : end ≡ at + length (flat_map unit_bytes (flat_map encode_utf16 cs)) = h.count ∙ ap (λ n. at + n) (sym (length-unit_bytes (flat_map encode_utf16 cs))) in
     record {
       read = has_read-more text rest rest2 cs c h.read e;

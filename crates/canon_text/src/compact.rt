@@ -6,7 +6,7 @@ ghost use Rattle.canon_model.specs.Text.{all_latin1, in_utf16, in_utf8, unit_byt
 ghost use Rattle.canon_text.specs.Answers.{Compacts, Widens, bytes_before, inflated};
 ghost use Rattle.canon_text.specs.Faults.{IsFirstFault};
 ghost use Rattle.canon_text.specs.Writing.{over};
-ghost use Rattle.canon_text.specs.Lending.{LendsRest};
+ghost use Rattle.canon_text.specs.Lending.{LendsFrom, LendsRest};
 
 use crate::error::TextError;
 use crate::units::first_fault;
@@ -28,6 +28,15 @@ fn inflate(dst: &mut [u8], count: usize)
     }
 }
 
+// The part of a destination from a place on.
+fn rest_of(dst: &mut [u8], at: usize) -> &mut [u8]
+    requires { at ≤ length dst.old }
+    ensures* lends { sem 𝓛 (LendsFrom dst.entry at result) }
+    ensures rest { result.now ≡ drop at dst.old }
+{
+    &mut dst[at..]
+}
+
 /// Makes units of the first bytes, which are Latin-1, in place, and hands out the rest
 /// (wasmtime's `inflate_latin1_bytes`).
 pub fn inflate_latin1_bytes(dst: &mut [u8], latin1_bytes_so_far: u64) -> &mut [u8]
@@ -37,7 +46,7 @@ pub fn inflate_latin1_bytes(dst: &mut [u8], latin1_bytes_so_far: u64) -> &mut [u
 {
     let count = latin1_bytes_so_far as usize;
     inflate(dst, count);
-    &mut dst[2 * count..]
+    rest_of(dst, 2 * count)
 }
 
 /// Makes the first bytes of `dst`, which are Latin-1, UTF-16 in place, and writes the source behind

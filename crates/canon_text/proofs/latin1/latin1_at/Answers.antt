@@ -11,7 +11,7 @@ returns-then-at-src c = no_latin1 c.args.src.now c.args.at c.if-first-lt128.fals
 
 pub returns-then-first-lt194 : goal.returns-then-first-lt194
 returns-then-first-lt194 c = no_latin1 c.args.src.now c.args.at c.if-first-lt128.false (inr (elim c.then-first-lt194.branch [
-  then-first-lt194-via-then-first-lt194 w ↦ inl (omega arith)
+  | then-first-lt194-via-then-first-lt194 w ↦ inl (omega arith)
   | then-first-lt194-via-else-first-lt194+then-first-gt195 w ↦ inr (inl (omega arith))
   | then-first-lt194-via-else-first-lt194+else-first-gt195+then-second-lt128 w ↦ inr (inr (inl (omega arith)))
   | then-first-lt194-via-else-first-lt194+else-first-gt195+else-second-lt128+then-second-gt191 w ↦ inr (inr (inr (omega arith)))
