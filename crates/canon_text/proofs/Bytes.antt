@@ -19,7 +19,7 @@ second_false : (x y : Bool) → y ≡ false → cond x y false ≡ false
 second_false true y h = h
 second_false false y h = refl
 
-latin1_parts : (c : ℕ) (cs : List ℕ) → all_latin1 (c ∷ cs) ≡ true → (c < 256) × (all_latin1 cs ≡ true)
+pub latin1_parts : (c : ℕ) (cs : List ℕ) → all_latin1 (c ∷ cs) ≡ true → (c < 256) × (all_latin1 cs ≡ true)
 latin1_parts c cs h = let p = first_of_two (nat_lt c 256) (all_latin1 cs) h in (ltb-true c 256 p.0, p.1)
 
 pub latin1_each : (cs : List ℕ) (k : ℕ) → all_latin1 cs ≡ true → get_or cs k 0 < 256
@@ -139,3 +139,7 @@ latin1-units (c ∷ cs) = ⊎_elim
     (λ h. ap (λ us. all_latin1 (us ++ flat_map encode_utf16 cs)) (cond-true (nat_lt c 0x1_0000) _ _ (lt-ltb c 0x1_0000 h)) ∙ ap (λ b. cond (nat_lt c 256) b false) (latin1-units cs))
     (λ h. ap (λ us. all_latin1 (us ++ flat_map encode_utf16 cs)) (cond-false (nat_lt c 0x1_0000) _ _ (le-ltb c 0x1_0000 h)) ∙ cond-false (nat_lt (0xD800 + (c - 0x1_0000) / 0x400) 256) _ _ (le-ltb _ 256 (omega arith)) ∙ sym (cond-false (nat_lt c 256) _ _ (le-ltb c 256 (omega arith))))
     (cases_lt c 0x1_0000)
+
+pub one_latin1 : (c : ℕ) → c < 256 → all_latin1 (c ∷ []) ≡ true
+one_latin1 c h = cond-true (nat_lt c 256) _ _ (lt-ltb c 256 h)
+

@@ -9,3 +9,6 @@ pub mod Narrowing
 pub mod Spelled
 pub mod Compacting
 pub mod Decoded
+pub mod Splits
+pub mod Lawful
+pub mod Kept

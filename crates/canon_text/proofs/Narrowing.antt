@@ -11,7 +11,7 @@ use Rattle.canon_model.specs.Text.{Form, all_latin1, can_spell, in_latin1, in_ut
 use Rattle.canon_text.specs.Answers.{Narrows}
 use Rattle.canon_text.specs.Faults.{Begins, BeginsNoLatin1}
 use Rattle.canon_text.specs.Writing.{over}
-use Rattle.canon_text.proofs.Bytes.{over-set}
+use Rattle.canon_text.proofs.Bytes.{one_latin1, over-set}
 use Rattle.canon_text.proofs.Pairs.{begins_char, units-one}
 use Rattle.canon_text.proofs.Reading.{IsFront, front-more, front-nil}
 
@@ -27,9 +27,6 @@ pub record Narrowing (form : Form) (source old now : List ℕ) (read written : �
 
 pub narrowing-nil : (form : Form) (source old : List ℕ) → Narrowing form source old old 0 0
 narrowing-nil form source old = record { scalars = []; so_far = record { front = front-nil form source; latin1 = refl; count = refl; writes = refl } }
-
-one_latin1 : (c : ℕ) → c < 256 → all_latin1 (c ∷ []) ≡ true
-one_latin1 c h = cond-true (nat_lt c 256) _ _ (lt-ltb c 256 h)
 
 pub narrowing-more : (form : Form) (source old now new : List ℕ) (read read2 written c : ℕ) → Narrowing form source old now read written → Begins form c (drop read source) → c < 256 → read2 ≡ read + length (units form (c ∷ [])) → written < length old → new ≡ set now written c → Narrowing form source old new read2 (written + 1)
 narrowing-more form source old now new read read2 written c h b small e room w =
@@ -57,7 +54,7 @@ narrowing-stop form source old now read written h stops = record {
   writes = h.so_far.writes;
 }
 
-some_units : (form : Form) (c : ℕ) → 0 < length (units form (c ∷ []))
+pub some_units : (form : Form) (c : ℕ) → 0 < length (units form (c ∷ []))
 unfolding encode_utf8
 some_units in_utf8 c = let few = length-le-encodes (c ∷ []) in omega arith
 some_units in_utf16 c = grind arith

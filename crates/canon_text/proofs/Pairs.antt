@@ -14,7 +14,7 @@ use Rattle.canon_text.specs.Surrogates.{IsCharOf, IsLone}
 -- what is known of a scalar value's units
 IsUnits : ℕ → List ℕ → Type 0
 IsUnits c us = ((us ≡ c ∷ []) × ((c < 0xD800) ⊎ (0xE000 ≤ c)))
-    ⊎ ((high : ℕ) × (low : ℕ) × (us ≡ high ∷ low ∷ []) × (0xD800 ≤ high) × (high < 0xDC00) × (0xDC00 ≤ low) × (low < 0xE000))
+    ⊎ ((high : ℕ) × (low : ℕ) × (us ≡ high ∷ low ∷ []) × (0xD800 ≤ high) × (high < 0xDC00) × (0xDC00 ≤ low) × (low < 0xE000) × (c ≡ 0x1_0000 + (high - 0xD800) * 0x400 + (low - 0xDC00)))
 
 units_of : (c : ℕ) → scalar c ≡ true → IsUnits c (encode_utf16 c)
 unfolding IsUnits
@@ -26,6 +26,7 @@ units_of c s = ⊎_elim
       cond-false (nat_lt c 0x1_0000) _ _ (le-ltb c 0x1_0000 h),
       omega arith,
       ⊎_elim (λ l. omega arith) (λ g. let top : c < 1114112 = g.1 in omega arith) (scalar_cases c s),
+      omega arith,
       omega arith,
       omega arith,
     ))
@@ -73,9 +74,9 @@ no_char u c next rest more us e lone (inl h) is =
     let low : 0xD800 ≤ u = lone.0 in
     let high : u < 0xE000 = lone.1 in
     absurd (⊎_elim (λ l. let l2 : c < 0xD800 = l in omega arith) (λ l. let l2 : 0xE000 ≤ c = l in omega arith) h.1)
-no_char u c next [] more us e lone (inr (hi, lo, h, h1, h2, h3, h4)) is =
+no_char u c next [] more us e lone (inr (hi, lo, h, h1, h2, h3, h4, h5)) is =
     let is2 : u ∷ [] ≡ hi ∷ lo ∷ more = is ∙ ap (λ l. l ++ more) h in cc
-no_char u c next (v ∷ rest) more us e lone (inr (hi, lo, h, h1, h2, h3, h4)) is =
+no_char u c next (v ∷ rest) more us e lone (inr (hi, lo, h, h1, h2, h3, h4, h5)) is =
     let is2 : u ∷ v ∷ rest ≡ hi ∷ lo ∷ more = is ∙ ap (λ l. l ++ more) h in
     let same : u ≡ hi = cc in
     let same2 : v ≡ lo = cc in
@@ -152,3 +153,25 @@ units_in-bytes bytes small even = units_back bytes (length bytes / 2) small (ome
 -- no unit stands past the end
 pub none_past : (xs : List ℕ) (n : ℕ) → n < length xs → None ≡ slice_get xs n → ⊥
 none_past xs n h e = let some = slice_get-get_or xs n 0 h in cc
+
+same_units : (c d : ℕ) (us vs xs ys : List ℕ) → IsUnits c us → IsUnits d vs → us ++ xs ≡ vs ++ ys → (c ≡ d) × (xs ≡ ys)
+unfolding IsUnits
+same_units c d us vs xs ys (inl h) (inl g) e =
+    let e2 : c ∷ xs ≡ d ∷ ys = ap (λ l. l ++ xs) (sym h.0) ∙ e ∙ ap (λ l. l ++ ys) g.0 in (cc, cc)
+same_units c d us vs xs ys (inl h) (inr (hi, lo, g, g1, g2, g3, g4, g5)) e =
+    let e2 : c ∷ xs ≡ hi ∷ lo ∷ ys = ap (λ l. l ++ xs) (sym h.0) ∙ e ∙ ap (λ l. l ++ ys) g in
+    let same : c ≡ hi = cc in
+    absurd (⊎_elim (λ l. let l2 : c < 0xD800 = l in omega arith) (λ l. let l2 : 0xE000 ≤ c = l in omega arith) h.1)
+same_units c d us vs xs ys (inr (hi, lo, h, h1, h2, h3, h4, h5)) (inl g) e =
+    let e2 : hi ∷ lo ∷ xs ≡ d ∷ ys = ap (λ l. l ++ xs) (sym h) ∙ e ∙ ap (λ l. l ++ ys) g.0 in
+    let same : d ≡ hi = cc in
+    absurd (⊎_elim (λ l. let l2 : d < 0xD800 = l in omega arith) (λ l. let l2 : 0xE000 ≤ d = l in omega arith) g.1)
+same_units c d us vs xs ys (inr (hi, lo, h, h1, h2, h3, h4, h5)) (inr (hj, lj, g, g1, g2, g3, g4, g5)) e =
+    let e2 : hi ∷ lo ∷ xs ≡ hj ∷ lj ∷ ys = ap (λ l. l ++ xs) (sym h) ∙ e ∙ ap (λ l. l ++ ys) g in
+    let same : hi ≡ hj = cc in
+    let same2 : lo ≡ lj = cc in
+    (omega arith, cc)
+
+-- no character's units begin another's
+pub char_same : (c d : ℕ) (xs ys : List ℕ) → scalar c ≡ true → scalar d ≡ true → encode_utf16 c ++ xs ≡ encode_utf16 d ++ ys → (c ≡ d) × (xs ≡ ys)
+char_same c d xs ys h g e = same_units c d (encode_utf16 c) (encode_utf16 d) xs ys (units_of c h) (units_of d g) e

@@ -3,4 +3,4 @@ pub mod Surrogates
 pub mod Faults
 pub mod Answers
 pub mod Decoding
-pub mod Lending
+pub mod Laws

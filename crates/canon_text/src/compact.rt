@@ -1,12 +1,11 @@
 //! Conversions into "latin1+utf16", whose UTF-16 stands as bytes, the low byte of a unit first.
 
 ghost use Rattle.std.specs.Prelude.{◌≡◌, ◌+◌, ◌*◌, ◌%◌, ◌^◌, ◌<◌, ◌≤◌, ◌++◌, length, take, drop, flat_map, IsTrue, MatchResult};
-ghost use Rattle.std.specs.Borrow.{sem};
+ghost use Rattle.std.specs.Borrow.{Array, LendsBoth, sem, u8};
 ghost use Rattle.canon_model.specs.Text.{all_latin1, in_utf16, in_utf8, unit_bytes};
 ghost use Rattle.canon_text.specs.Answers.{Compacts, Widens, bytes_before, inflated};
 ghost use Rattle.canon_text.specs.Faults.{IsFirstFault};
 ghost use Rattle.canon_text.specs.Writing.{over};
-ghost use Rattle.canon_text.specs.Lending.{LendsFrom, LendsRest};
 
 use crate::error::TextError;
 use crate::units::first_fault;
@@ -28,25 +27,28 @@ fn inflate(dst: &mut [u8], count: usize)
     }
 }
 
-// The part of a destination from a place on.
-fn rest_of(dst: &mut [u8], at: usize) -> &mut [u8]
-    requires { at ≤ length dst.old }
-    ensures* lends { sem 𝓛 (LendsFrom dst.entry at result) }
-    ensures rest { result.now ≡ drop at dst.old }
+/// Makes units of the first bytes, which are Latin-1, in place, and hands out these units and the
+/// rest.
+pub fn inflate_latin1_parts(dst: &mut [u8], latin1_bytes_so_far: u64) -> (&mut [u8], &mut [u8])
+    requires { 2 * latin1_bytes_so_far ≤ length dst.old }
+    ensures* joined { sem 𝓛 (LendsBoth (Array u8 0) (Array u8 0) (Array u8 0) dst.entry result ◌++◌) }
+    ensures first { result.0.now ≡ inflated dst.old latin1_bytes_so_far }
+    ensures rest { result.1.now ≡ drop (2 * latin1_bytes_so_far) dst.old }
 {
-    &mut dst[at..]
+    let count = latin1_bytes_so_far as usize;
+    let (first, rest) = dst.split_at_mut(2 * count);
+    inflate(first, count);
+    (first, rest)
 }
 
 /// Makes units of the first bytes, which are Latin-1, in place, and hands out the rest
-/// (wasmtime's `inflate_latin1_bytes`).
+/// (wasmtime's `inflate_latin1_bytes`). `inflate_latin1_parts` says what the first part becomes.
 pub fn inflate_latin1_bytes(dst: &mut [u8], latin1_bytes_so_far: u64) -> &mut [u8]
     requires { 2 * latin1_bytes_so_far ≤ length dst.old }
-    ensures* lends { sem 𝓛 (LendsRest dst.entry latin1_bytes_so_far result) }
-    ensures rest { result.now ≡ drop (2 * latin1_bytes_so_far) dst.old }
+    ensures { result.now ≡ drop (2 * latin1_bytes_so_far) dst.old }
 {
-    let count = latin1_bytes_so_far as usize;
-    inflate(dst, count);
-    rest_of(dst, 2 * count)
+    let (_, rest) = inflate_latin1_parts(dst, latin1_bytes_so_far);
+    rest
 }
 
 /// Makes the first bytes of `dst`, which are Latin-1, UTF-16 in place, and writes the source behind

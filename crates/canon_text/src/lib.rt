@@ -6,13 +6,14 @@ mod cow;
 mod decode;
 mod error;
 mod latin1;
+pub mod laws;
 mod units;
 mod utf16;
 mod utf8;
 mod writing;
 
 pub use compact::{
-    UTF16_TAG, inflate_latin1_bytes, utf8_to_compact_utf16, utf16_to_compact_probably_utf16,
+    UTF16_TAG, inflate_latin1_bytes, inflate_latin1_parts, utf8_to_compact_utf16, utf16_to_compact_probably_utf16,
     utf16_to_compact_utf16,
 };
 pub use cow::CowStr;
