@@ -1,6 +1,6 @@
 -- The laws of faults and passes.
-use Rattle.std.proofs.Common.{All, Bool, IsTrue, List, [], ap, append_assoc, arith, drop, false, inl, inr, length, refl, subst, sym, take, true, ℕ, ⊎_elim, ◌++◌, ◌+◌, ◌-◌, ◌<◌, ◌∙◌, ◌∷◌, ◌≡◌, ◌≤◌, ◌⊎◌}
-use Rattle.std.proofs.lemmas.List.{append-nil, drop_at, length-append, take_at}
+use Rattle.std.proofs.Common.{All, Bool, IsTrue, List, [], ap, append_assoc, arith, drop, false, get_or, inl, inr, length, refl, subst, sym, take, true, ℕ, ⊎_elim, ◌++◌, ◌+◌, ◌-◌, ◌<◌, ◌∙◌, ◌∷◌, ◌≡◌, ◌≤◌, ◌⊎◌}
+use Rattle.std.proofs.lemmas.List.{append-nil, drop_at, get_or_at, length-append, take_at}
 use Rattle.std.specs.Char.{encode_utf8}
 use Rattle.std.specs.Str.{encode_utf8_all}
 use Rattle.canon_model.proofs.Passes.{can_spell-append, encode_utf8_all-append, pass_goes_on, units-append}
@@ -9,10 +9,10 @@ use Rattle.canon_model.specs.Text.{Form, can_spell, units}
 use Rattle.canon_text.specs.Answers.{PassFails, Passed}
 use Rattle.canon_text.specs.declared.error.TextError.{TextError}
 use Rattle.canon_text.specs.Faults.{Begins, IllFormed, IllFormedAt, WellFormed}
-use Rattle.canon_text.specs.Laws.{OneFault, PassReads, PassRefuses, Passes, PassesWrite, WroteFront, more, none}
+use Rattle.canon_text.specs.Laws.{OneFault, PassReads, PassRefuses, Passes, PassesWrite, WroteFront, no_pass, then_pass}
 use Rattle.canon_text.specs.Writing.{over}
 use Rattle.canon_text.proofs.Narrowing.{some_units}
-use Rattle.canon_text.proofs.Splits.{GoesOn, first_can, first_same, first_units, fronts, ill_begins, ill_front, ill_same, nothing_left}
+use Rattle.canon_text.proofs.Splits.{GoesOn, first_can, first_same, first_units, fronts, ill_begins, ill_front, ill_same, nil_can, nothing_left, units-nil}
 
 fault_excludes : (form : Form) (source cs rest : List ℕ) → can_spell form cs ≡ true → source ≡ units form cs ++ rest → IllFormed form rest → WellFormed form source → ⊥
 fault_excludes form source cs rest can is ill w =
@@ -34,8 +34,22 @@ goes_past form first room c more rest fault can e h =
     subst (λ k. (room < length (encode_utf8 k)) ⊎ (IsTrue first × (127 < k))) (sym same.0) h.cause
 
 never : (form : Form) (first : Bool) (source rest fault cs more : List ℕ) (room : ℕ) → IsPass form first source room cs rest → IsPass form first (units form (cs ++ more)) room (cs ++ more) [] → IllFormed form fault → can_spell form more ≡ true → rest ≡ units form more ++ fault → ⊥
-never form first source rest fault cs [] room h g ill can e = ?
-never form first source rest fault cs (c ∷ more) room h g ill can e = ?
+never form first source rest fault cs [] room h g ill can e =
+    let same : rest ≡ fault = e ∙ ap (λ l. l ++ fault) (units-nil form) in
+    let some : 0 < length fault = ill.some in
+    ⊎_elim (λ none. omega (arith, ap length (sym same ∙ none))) (λ s. ill.none s.next (record { more = s.more; can = s.can; is = sym same ∙ s.is })) h.stops
+never form first source rest fault cs (c ∷ more) room h g ill can e =
+    let some : 0 < length fault = ill.some in
+    let long = ap length (encode_utf8_all-append cs (c ∷ more)) ∙ length-append (encode_utf8_all cs) (encode_utf8 c ++ encode_utf8_all more) in
+    let fits : length (encode_utf8_all (cs ++ c ∷ more)) ≤ room = g.fits in
+    let here : get_or (cs ++ c ∷ more) (length cs) 0 ≡ c = get_or_at cs c more 0 (length cs) refl in
+    ⊎_elim
+    (λ none. omega (arith, ap length (nothing_left form (c ∷ more) fault (sym none ∙ e))))
+    (λ s. ⊎_elim
+      (λ l. let full : room - length (encode_utf8_all cs) < length (encode_utf8 c) = l in omega (arith, length-append (encode_utf8 c) (encode_utf8_all more)))
+      (λ p. let big : 127 < c = p.1 in let small : get_or (cs ++ c ∷ more) (length cs) 0 < 128 = g.plain p.0 (length cs) 0 (omega (arith, length-append cs (c ∷ more))) in omega arith)
+      (goes_past form first (room - length (encode_utf8_all cs)) c more rest fault can e s))
+    h.stops
 
 never_both : (form : Form) (first : Bool) (source old new after : List ℕ) (read written : ℕ) (error : TextError) → Passed form first source old new read written → PassFails form first source old after error → ⊥
 never_both form first source old new after read written error h g =
@@ -64,8 +78,8 @@ one_more form first source old new rest bytes read written h g =
     }
 
 pub passes_write : PassesWrite
-passes_write form source rest bytes (none s) = ?
-passes_write form source rest bytes (more first s old new r bs read written h g) = one_more form first s old new r bs read written h (passes_write form (drop read s) r bs g)
+passes_write form source rest bytes (no_pass s) = record { scalars = []; can = nil_can form; reads = ap (λ l. l ++ s) (sym (units-nil form)); writes = refl }
+passes_write form source rest bytes (then_pass first s old new r bs read written h g) = one_more form first s old new r bs read written h (passes_write form (drop read s) r bs g)
 
 some_read : (form : Form) (cs : List ℕ) → ¬ (cs ≡ []) → 0 < length (units form cs)
 some_read form [] some = absurd (some refl)

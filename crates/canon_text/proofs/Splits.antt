@@ -32,10 +32,15 @@ pub record GoesOn (form : Form) (cs ds xs ys : List ℕ) : Type 0 where
   pub rest : xs ≡ units form more ++ ys
   pub can : can_spell form more ≡ true
 
-units-nil : (form : Form) → units form [] ≡ []
+pub units-nil : (form : Form) → units form [] ≡ []
 units-nil in_utf8 = refl
 units-nil in_utf16 = refl
 units-nil in_latin1 = refl
+
+pub nil_can : (form : Form) → can_spell form [] ≡ true
+nil_can in_utf8 = refl
+nil_can in_utf16 = refl
+nil_can in_latin1 = refl
 
 longer : (form : Form) (c : ℕ) (cs ds xs ys : List ℕ) → GoesOn form cs ds xs ys → GoesOn form (c ∷ cs) (c ∷ ds) xs ys
 longer form c cs ds xs ys h = record { more = h.more; is = ap (λ l. c ∷ l) h.is; rest = h.rest; can = h.can }
@@ -69,11 +74,6 @@ ill_front form cs ds xs ys h g e ill = ⊎_elim
       record { more = []; is = sym (l.is ∙ ap (λ m. cs ++ m) none ∙ append-nil cs) ∙ sym (append-nil ds); rest = sym (l.rest ∙ ap (λ m. units form m ++ ys) none ∙ ap (λ m. m ++ ys) (units-nil form)) ∙ ap (λ m. m ++ xs) (sym (units-nil form)); can = nil_can form })
     (λ r. r)
     (fronts form cs ds xs ys h g e)
-  where
-  nil_can : (form : Form) → can_spell form [] ≡ true
-  nil_can in_utf8 = refl
-  nil_can in_utf16 = refl
-  nil_can in_latin1 = refl
 
 pub nothing_left : (form : Form) (more xs : List ℕ) → [] ≡ units form more ++ xs → xs ≡ []
 nothing_left form more [] e = refl

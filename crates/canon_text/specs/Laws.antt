@@ -20,8 +20,8 @@ pub record PassRefuses : Type 0 where
 
 -- a run of passes, each over what the one before left, and all that they wrote
 pub data Passes (form : Form) : List ℕ → List ℕ → List ℕ → Type 0 where
-  none : (source : List ℕ) → Passes form source source []
-  more : (first : Bool) (source old new rest bytes : List ℕ) (read written : ℕ) → Passed form first source old new read written → Passes form (drop read source) rest bytes → Passes form source rest (take written new ++ bytes)
+  no_pass : (source : List ℕ) → Passes form source source []
+  then_pass : (first : Bool) (source old new rest bytes : List ℕ) (read written : ℕ) → Passed form first source old new read written → Passes form (drop read source) rest bytes → Passes form source rest (take written new ++ bytes)
 
 -- what was read and written is the same text
 pub record WroteFront (form : Form) (source rest bytes : List ℕ) : Type 0 where
