@@ -142,4 +142,3 @@ latin1-units (c ∷ cs) = ⊎_elim
 
 pub one_latin1 : (c : ℕ) → c < 256 → all_latin1 (c ∷ []) ≡ true
 one_latin1 c h = cond-true (nat_lt c 256) _ _ (lt-ltb c 256 h)
-

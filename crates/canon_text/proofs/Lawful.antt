@@ -46,9 +46,9 @@ never form first source rest fault cs (c ∷ more) room h g ill can e =
     ⊎_elim
     (λ none. omega (arith, ap length (nothing_left form (c ∷ more) fault (sym none ∙ e))))
     (λ s. ⊎_elim
-      (λ l. let full : room - length (encode_utf8_all cs) < length (encode_utf8 c) = l in omega (arith, length-append (encode_utf8 c) (encode_utf8_all more)))
-      (λ p. let big : 127 < c = p.1 in let small : get_or (cs ++ c ∷ more) (length cs) 0 < 128 = g.plain p.0 (length cs) 0 (omega (arith, length-append cs (c ∷ more))) in omega arith)
-      (goes_past form first (room - length (encode_utf8_all cs)) c more rest fault can e s))
+    (λ l. let full : room - length (encode_utf8_all cs) < length (encode_utf8 c) = l in omega (arith, length-append (encode_utf8 c) (encode_utf8_all more)))
+    (λ p. let big : 127 < c = p.1 in let small : get_or (cs ++ c ∷ more) (length cs) 0 < 128 = g.plain p.0 (length cs) 0 (omega (arith, length-append cs (c ∷ more))) in omega arith)
+    (goes_past form first (room - length (encode_utf8_all cs)) c more rest fault can e s))
     h.stops
 
 never_both : (form : Form) (first : Bool) (source old new after : List ℕ) (read written : ℕ) (error : TextError) → Passed form first source old new read written → PassFails form first source old after error → ⊥

@@ -13,8 +13,8 @@ mod utf8;
 mod writing;
 
 pub use compact::{
-    UTF16_TAG, inflate_latin1_bytes, inflate_latin1_parts, utf8_to_compact_utf16, utf16_to_compact_probably_utf16,
-    utf16_to_compact_utf16,
+    UTF16_TAG, inflate_latin1_bytes, inflate_latin1_parts, utf8_to_compact_utf16,
+    utf16_to_compact_probably_utf16, utf16_to_compact_utf16,
 };
 pub use cow::CowStr;
 pub use decode::{decode_latin1, decode_utf8, decode_utf16};
@@ -24,3 +24,6 @@ pub use latin1::{
 };
 pub use utf8::{utf8_to_utf8, utf8_to_utf16};
 pub use utf16::{utf16_to_utf8, utf16_to_utf16};
+
+#[cfg(test)]
+mod tests;
