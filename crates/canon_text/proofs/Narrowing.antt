@@ -1,5 +1,5 @@
 -- Characters up to U+00FF, as bytes.
-use Rattle.std.proofs.Common.{IsTrue, List, [], add-one, ap, append_assoc, arith, cond, drop, get_or, inl, inr, le-ltb, length, lt-ltb, nat_lt, refl, set, slice_get, subst, suc, sym, take, true, ℕ, ⊎_elim, ◌*◌, ◌++◌, ◌+◌, ◌-◌, ◌/◌, ◌%◌, ◌<◌, ◌∙◌, ◌∷◌, ◌≡◌, ◌≤◌, ◌⊎◌}
+use Rattle.std.proofs.Common.{IsTrue, List, MatchOption, None, Option, Some, [], add-one, ap, append_assoc, arith, cond, drop, get_or, inl, inr, le-ltb, length, lt-ltb, nat_lt, refl, set, slice_get, subst, suc, sym, take, true, ℕ, ⊎_elim, ◌*◌, ◌++◌, ◌+◌, ◌-◌, ◌/◌, ◌%◌, ◌<◌, ◌∙◌, ◌∷◌, ◌≡◌, ◌≤◌, ◌⊎◌}
 use Rattle.std.proofs.lemmas.Bool.{and_from, cases_lt, cond-false, cond-true}
 use Rattle.std.proofs.lemmas.List.{append-nil, drop_all, drop_more, get_or-drop, length-append, length-drop, length_push}
 use Rattle.std.proofs.lemmas.Str.{encode_ascii, length-le-encodes}
@@ -10,6 +10,7 @@ use Rattle.canon_model.proofs.Passes.{can_spell-append}
 use Rattle.canon_model.specs.Text.{Form, all_latin1, can_spell, in_latin1, in_utf16, in_utf8, units}
 use Rattle.canon_text.specs.Answers.{Narrows}
 use Rattle.canon_text.specs.Faults.{Begins, BeginsNoLatin1}
+use Rattle.canon_text.specs.TwoBytes.{IsNotTwoBytes, IsTwoBytes}
 use Rattle.canon_text.specs.Writing.{over}
 use Rattle.canon_text.proofs.Bytes.{one_latin1, over-set}
 use Rattle.canon_text.proofs.Pairs.{begins_char, units-one}
@@ -155,3 +156,8 @@ no_latin1 xs n h cause c small b =
     let first : get_or (drop n xs) 1 0 ≡ get_or xs (n + 1) 0 = get_or-drop n xs 1 0 in
     let long : length (drop n xs) ≡ length xs - n = length-drop n xs in
     clash c (drop n xs) small (starts c (drop n xs) small b) (omega arith, ⊎_elim (λ l. inl (omega arith)) (λ r. ⊎_elim (λ l. inr (inl (omega arith))) (λ r2. ⊎_elim (λ l. inr (inr (inl (omega arith)))) (λ r3. ⊎_elim (λ l. inr (inr (inr (inl (omega arith))))) (λ l. inr (inr (inr (inr (omega arith))))) r3) r2) r) cause)
+
+-- what two bytes at a place tell
+pub two_begin : (xs : List ℕ) (n : ℕ) (r : Option ℕ) → 128 ≤ get_or xs n 0 → n + 1 < length xs → MatchOption r (IsNotTwoBytes (get_or xs n 0) (get_or xs (n + 1) 0)) (λ c. IsTwoBytes (get_or xs n 0) (get_or xs (n + 1) 0) c) → MatchOption r (BeginsNoLatin1 in_utf8 (drop n xs)) (λ c. Begins in_utf8 c (drop n xs))
+two_begin xs n None h k a = no_latin1 xs n h (inr a)
+two_begin xs n (Some c) h k a = begins_two xs n c k a.0 a.1 a.2 a.3 a.4

@@ -1,5 +1,6 @@
 pub mod Writing
 pub mod Surrogates
+pub mod TwoBytes
 pub mod Faults
 pub mod Answers
 pub mod Decoding

@@ -4,6 +4,7 @@ ghost use Rattle.std.specs.Prelude.{◌≡◌, ◌<◌, ◌≤◌, length, drop,
 ghost use Rattle.canon_model.specs.Text.{in_latin1, in_utf16, in_utf8};
 ghost use Rattle.canon_text.specs.Answers.{Converts, Narrows, Passed};
 ghost use Rattle.canon_text.specs.Faults.{Begins, BeginsNoLatin1};
+ghost use Rattle.canon_text.specs.TwoBytes.{IsNotTwoBytes, IsTwoBytes};
 
 use crate::error::SizePair;
 use crate::utf16::ends_pass;
@@ -88,7 +89,13 @@ fn latin1_at(src: &[u8], at: usize) -> Option<u8>
     if at + 1 >= src.len() {
         return None;
     }
-    let second = src[at + 1];
+    latin1_of(first, src[at + 1])
+}
+
+// The character from U+0080 to U+00FF that two bytes are.
+fn latin1_of(first: u8, second: u8) -> Option<u8>
+    ensures { MatchOption result (IsNotTwoBytes first second) (λ c. IsTwoBytes first second c) }
+{
     if first < 0xC2 || first > 0xC3 || second < 0x80 || second > 0xBF {
         return None;
     }
