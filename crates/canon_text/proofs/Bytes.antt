@@ -1,7 +1,7 @@
 -- Latin-1 and the bytes of units.
-use Rattle.std.proofs.Common.{Bool, IsTrue, List, [], add-one, ap, append_assoc, ap₂, arith, cond, drop, false, flat_map, get_or, le-ltb, length, lt-ltb, nat_lt, refl, set, suc, sym, take, true, zero, ℕ, ⊎_elim, ◌*◌, ◌++◌, ◌+◌, ◌-◌, ◌/◌, ◌%◌, ◌<◌, ◌∙◌, ◌∷◌, ◌≡◌, ◌≤◌}
+use Rattle.std.proofs.Common.{Bool, List, [], ap, append_assoc, ap₂, arith, cond, drop, false, flat_map, get_or, le-ltb, length, lt-ltb, nat_lt, refl, set, suc, sym, take, true, zero, ℕ, ⊎_elim, ◌*◌, ◌++◌, ◌+◌, ◌-◌, ◌/◌, ◌<◌, ◌∙◌, ◌∷◌, ◌≡◌, ◌≤◌}
 use Rattle.std.proofs.lemmas.Bool.{and_from, cases_lt, cond-false, cond-true, false≢true, ltb-true}
-use Rattle.std.proofs.lemmas.List.{append-nil, drop-drop, drop_all, drop_at, drop_more, get_or-take, get_or_append_left, length-append, length-take, length-take-le, set_at, take-append-drop, take-append-le, take-take, take_all, take_at, take_more}
+use Rattle.std.proofs.lemmas.List.{drop-drop, drop_all, drop_at, drop_more, get_or-take, get_or_append_left, length-append, length-take, length-take-le, set_at, take-append-drop, take-append-le, take-take, take_at, take_more}
 use Rattle.std.proofs.lemmas.Grind.{flat_map-append}
 use Rattle.std.specs.Char.Escape.{encode_utf16}
 use Rattle.std.specs.Str.{all_scalars}

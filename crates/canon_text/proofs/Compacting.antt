@@ -1,7 +1,7 @@
 -- UTF-16 in the bytes of a compact text.
-use Rattle.std.proofs.Common.{Bool, IsTrue, List, [], ap, ap₂, arith, cond, false, flat_map, length, refl, subst, sym, take, true, ℕ, ◌*◌, ◌++◌, ◌+◌, ◌/◌, ◌<◌, ◌^◌, ◌∙◌, ◌∷◌, ◌≡◌, ◌≤◌}
+use Rattle.std.proofs.Common.{Bool, List, ap, ap₂, arith, cond, false, flat_map, length, sym, true, ℕ, ◌*◌, ◌++◌, ◌+◌, ◌/◌, ◌^◌, ◌∙◌, ◌≡◌}
 use Rattle.std.specs.Char.Escape.{encode_utf16}
-use Rattle.canon_model.specs.Text.{Form, all_latin1, in_latin1, in_utf16, in_utf8, spelling, unit_bytes, units}
+use Rattle.canon_model.specs.Text.{all_latin1, in_latin1, in_utf16, in_utf8, spelling, unit_bytes, units}
 use Rattle.canon_text.specs.Answers.{Compacts, Widens, compact_form, compact_length, inflated}
 use Rattle.canon_text.specs.Faults.{WellFormed}
 use Rattle.canon_text.specs.Writing.{over, placed}

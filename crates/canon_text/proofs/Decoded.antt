@@ -1,12 +1,12 @@
 -- Texts out of bytes.
-use Rattle.std.proofs.Common.{IsTrue, IsUtf8, List, [], ap, append_assoc, arith, drop, flat_map, get_or, length, refl, sym, take, true, ℕ, ◌%◌, ◌*◌, ◌++◌, ◌+◌, ◌/◌, ◌<◌, ◌∙◌, ◌∷◌, ◌≡◌, ◌≤◌}
+use Rattle.std.proofs.Common.{IsUtf8, List, [], ap, arith, drop, flat_map, get_or, length, refl, sym, take, ℕ, ◌%◌, ◌++◌, ◌+◌, ◌/◌, ◌<◌, ◌∙◌, ◌∷◌, ◌≡◌, ◌≤◌}
 use Rattle.std.proofs.lemmas.List.{append-nil, take_all, take_more}
 use Rattle.std.specs.Char.{encode_utf8}
 use Rattle.std.specs.Char.Escape.{encode_utf16}
 use Rattle.std.specs.Str.{IsAscii, encode_utf8_all}
-use Rattle.std.proofs.lemmas.Str.{IsUtf8-from_ascii, encodes-IsAscii}
+use Rattle.std.proofs.lemmas.Str.{encodes-IsAscii}
 use Rattle.canon_model.proofs.Passes.{encode_utf8_all-append}
-use Rattle.canon_model.specs.Text.{all_latin1, in_latin1, in_utf16, in_utf8, unit_bytes, units}
+use Rattle.canon_model.specs.Text.{in_latin1, in_utf16, in_utf8, unit_bytes}
 use Rattle.canon_text.specs.Decoding.{Decodes, units_in}
 use Rattle.canon_text.specs.Faults.{Begins}
 use Rattle.canon_text.proofs.Bytes.{latin1_from}

@@ -1,16 +1,13 @@
 -- The laws of whole conversions.
-use Rattle.std.proofs.Common.{Bool, IsTrue, List, [], ap, ap₂, append_assoc, arith, cond, drop, false, flat_map, leb, le-ltb, length, lt-ltb, nat_lt, not, refl, subst, sym, take, true, ℕ, ⊎_elim, ◌*◌, ◌++◌, ◌+◌, ◌-◌, ◌<◌, ◌^◌, ◌∙◌, ◌∷◌, ◌≡◌, ◌≤◌, ◌⊎◌}
-use Rattle.std.proofs.lemmas.Bool.{cond-false, cond-true}
+use Rattle.std.proofs.Common.{Bool, List, ap, arith, cond, drop, false, flat_map, le-ltb, length, lt-ltb, nat_lt, not, refl, subst, sym, take, true, ℕ, ◌*◌, ◌++◌, ◌+◌, ◌-◌, ◌<◌, ◌^◌, ◌∙◌, ◌≡◌, ◌≤◌}
 use Rattle.std.proofs.lemmas.Grind.{flat_map-append}
 use Rattle.std.proofs.lemmas.List.{append-nil, drop_all, drop_at, length-append, take_at}
 use Rattle.std.proofs.lemmas.Str.{encodes_same}
-use Rattle.std.specs.Char.Escape.{encode_utf16}
 use Rattle.std.specs.Str.{encode_utf8_all}
 use Rattle.canon_model.proofs.Passes.{can_spell-append, units-append}
 use Rattle.canon_model.proofs.Texts.{spells_same, units_determine}
-use Rattle.canon_model.specs.Text.{Form, IsLeastTag, Spells, all_latin1, can_spell, compact, in_latin1, in_utf16, in_utf8, is_tagged, spelling, text_bytes, text_form, unit_bytes, units}
-use Rattle.canon_text.specs.Answers.{Compacts, Converts, Narrows, Passed, Widens, compact_form, compact_length, inflated}
-use Rattle.canon_text.specs.Decoding.{Decodes}
+use Rattle.canon_model.specs.Text.{Form, Spells, all_latin1, can_spell, compact, in_latin1, in_utf16, in_utf8, is_tagged, spelling, text_bytes, text_form, unit_bytes, units}
+use Rattle.canon_text.specs.Answers.{Compacts, Converts, Narrows, Passed, compact_form, compact_length}
 use Rattle.canon_text.specs.Laws.{CompactLengths, NarrowThenWide, Reads, ScalarsKept, WroteWide}
 use Rattle.canon_text.specs.Writing.{over}
 use Rattle.canon_text.proofs.Bytes.{latin1_scalars, latin1_units}

@@ -1,5 +1,5 @@
 -- The laws of faults and passes.
-use Rattle.std.proofs.Common.{All, Bool, IsTrue, List, [], ap, append_assoc, arith, drop, false, get_or, inl, inr, length, refl, subst, sym, take, true, ℕ, ⊎_elim, ◌++◌, ◌+◌, ◌-◌, ◌<◌, ◌∙◌, ◌∷◌, ◌≡◌, ◌≤◌, ◌⊎◌}
+use Rattle.std.proofs.Common.{Bool, IsTrue, List, [], ap, append_assoc, arith, drop, get_or, length, refl, subst, sym, take, true, ℕ, ⊎_elim, ◌++◌, ◌-◌, ◌<◌, ◌∙◌, ◌∷◌, ◌≡◌, ◌≤◌, ◌⊎◌}
 use Rattle.std.proofs.lemmas.List.{append-nil, drop_at, get_or_at, length-append, take_at}
 use Rattle.std.specs.Char.{encode_utf8}
 use Rattle.std.specs.Str.{encode_utf8_all}
@@ -8,11 +8,10 @@ use Rattle.canon_model.specs.Pass.{IsPass, Stops}
 use Rattle.canon_model.specs.Text.{Form, can_spell, units}
 use Rattle.canon_text.specs.Answers.{PassFails, Passed}
 use Rattle.canon_text.specs.declared.error.TextError.{TextError}
-use Rattle.canon_text.specs.Faults.{Begins, IllFormed, IllFormedAt, WellFormed}
-use Rattle.canon_text.specs.Laws.{OneFault, PassReads, PassRefuses, Passes, PassesWrite, WroteFront, no_pass, then_pass}
-use Rattle.canon_text.specs.Writing.{over}
+use Rattle.canon_text.specs.Faults.{IllFormed, WellFormed}
+use Rattle.canon_text.specs.Laws.{OneFault, PassReads, PassRefuses, PassesWrite, WroteFront, no_pass, then_pass}
 use Rattle.canon_text.proofs.Narrowing.{some_units}
-use Rattle.canon_text.proofs.Splits.{GoesOn, first_can, first_same, first_units, fronts, ill_begins, ill_front, ill_same, nil_can, nothing_left, units-nil}
+use Rattle.canon_text.proofs.Splits.{first_can, first_same, first_units, ill_front, ill_same, nil_can, nothing_left, units-nil}
 
 fault_excludes : (form : Form) (source cs rest : List ℕ) → can_spell form cs ≡ true → source ≡ units form cs ++ rest → IllFormed form rest → WellFormed form source → ⊥
 fault_excludes form source cs rest can is ill w =

@@ -1,5 +1,5 @@
 -- Characters up to U+00FF, as bytes.
-use Rattle.std.proofs.Common.{IsTrue, List, MatchOption, None, Option, Some, [], add-one, ap, append_assoc, arith, cond, drop, get_or, inl, inr, le-ltb, length, lt-ltb, nat_lt, refl, set, slice_get, subst, suc, sym, take, true, ℕ, ⊎_elim, ◌*◌, ◌++◌, ◌+◌, ◌-◌, ◌/◌, ◌%◌, ◌<◌, ◌∙◌, ◌∷◌, ◌≡◌, ◌≤◌, ◌⊎◌}
+use Rattle.std.proofs.Common.{IsTrue, List, MatchOption, None, Option, Some, [], ap, arith, drop, get_or, inl, inr, le-ltb, length, lt-ltb, nat_lt, refl, set, slice_get, subst, sym, ℕ, ⊎_elim, ◌*◌, ◌++◌, ◌+◌, ◌-◌, ◌/◌, ◌%◌, ◌<◌, ◌∙◌, ◌∷◌, ◌≡◌, ◌≤◌, ◌⊎◌}
 use Rattle.std.proofs.lemmas.Bool.{and_from, cases_lt, cond-false, cond-true}
 use Rattle.std.proofs.lemmas.List.{append-nil, drop_all, drop_more, get_or-drop, length-append, length-drop, length_push}
 use Rattle.std.proofs.lemmas.Str.{encode_ascii, length-le-encodes}
@@ -7,7 +7,7 @@ use Rattle.std.specs.Char.{encode_utf8}
 use Rattle.std.specs.Str.{encode_utf8_all}
 use lib.Utf8.{low_scalar}
 use Rattle.canon_model.proofs.Passes.{can_spell-append}
-use Rattle.canon_model.specs.Text.{Form, all_latin1, can_spell, in_latin1, in_utf16, in_utf8, units}
+use Rattle.canon_model.specs.Text.{Form, all_latin1, in_latin1, in_utf16, in_utf8, units}
 use Rattle.canon_text.specs.Answers.{Narrows}
 use Rattle.canon_text.specs.Faults.{Begins, BeginsNoLatin1}
 use Rattle.canon_text.specs.TwoBytes.{IsNotTwoBytes, IsTwoBytes}

@@ -1,8 +1,8 @@
 -- The characters of UTF-16, of one unit or a pair of surrogates.
-use Rattle.std.proofs.Common.{IfSome, IsSomeAnd, IsTrue, List, MatchOption, None, Option, Some, [], ap, append_assoc, arith, cond, drop, flat_map, get_or, inl, inr, le-ltb, leb, length, lt-ltb, nat_lt, refl, slice_get, subst, suc, sym, true, zero, ℕ, ⊎_elim, ◌&&◌, ◌*◌, ◌++◌, ◌+◌, ◌-◌, ◌/◌, ◌%◌, ◌<◌, ◌∙◌, ◌∷◌, ◌≡◌, ◌≤◌, ◌⊎◌}
+use Rattle.std.proofs.Common.{IfSome, IsSomeAnd, List, MatchOption, None, Option, Some, [], ap, arith, drop, flat_map, get_or, inl, inr, le-ltb, length, lt-ltb, nat_lt, refl, slice_get, subst, suc, sym, true, zero, ℕ, ⊎_elim, ◌*◌, ◌++◌, ◌+◌, ◌-◌, ◌/◌, ◌%◌, ◌<◌, ◌∙◌, ◌∷◌, ◌≡◌, ◌≤◌, ◌⊎◌}
 use Rattle.std.proofs.lemmas.Bool.{and_from, and_parts, cases_lt, cond-false, cond-true, le-leb}
 use Rattle.std.proofs.lemmas.List.{append-nil, drop_more}
-use Rattle.std.proofs.lemmas.Option.{slice_get-get_or, slice_get_past}
+use Rattle.std.proofs.lemmas.Option.{slice_get-get_or}
 use Rattle.std.specs.Char.Escape.{encode_utf16}
 use Rattle.std.specs.Char.Utf16.{surrogate_pair_char}
 use lib.Utf8.{scalar, scalar_cases}

@@ -1,18 +1,18 @@
 -- A pass into UTF-8 on its way.
-use Rattle.std.proofs.Common.{All, Bool, IsTrue, List, [], ap, append_assoc, arith, drop, false, get_or, inl, inr, length, lt-ltb, nat_lt, refl, subst, sym, true, ℕ, ◌++◌, ◌+◌, ◌-◌, ◌<◌, ◌∙◌, ◌∷◌, ◌≡◌, ◌≤◌, ◌⊎◌}
+use Rattle.std.proofs.Common.{All, Bool, IsTrue, List, [], ap, arith, drop, false, get_or, inl, inr, length, lt-ltb, nat_lt, refl, subst, sym, ℕ, ◌++◌, ◌+◌, ◌-◌, ◌<◌, ◌∙◌, ◌∷◌, ◌≡◌, ◌≤◌, ◌⊎◌}
 use Rattle.std.proofs.lemmas.List.{append-nil, drop_all, drop_more, length-append}
 use Rattle.std.proofs.lemmas.List.Elements.{All-nil, All-push}
 use Rattle.std.proofs.lemmas.Bool.{cond-true, false≢true}
 use Rattle.std.specs.Char.{encode_utf8}
 use Rattle.std.specs.Str.{encode_utf8_all}
 use Rattle.canon_model.proofs.Passes.{encode_utf8_all-append}
-use Rattle.canon_model.specs.Pass.{IsPass, Stops}
+use Rattle.canon_model.specs.Pass.{Stops}
 use Rattle.canon_model.specs.Text.{Form, in_latin1, units}
 use Rattle.canon_text.specs.Answers.{PassFails, Passed}
 use Rattle.canon_text.specs.declared.error.TextError.{TextError}
 use Rattle.canon_text.specs.Faults.{Begins, IllFormed, error_form, error_place}
 use Rattle.canon_text.specs.Writing.{over, placed}
-use Rattle.canon_text.proofs.Reading.{IsFront, front-all, front-more, front-nil}
+use Rattle.canon_text.proofs.Reading.{IsFront, front-more, front-nil}
 use Rattle.canon_text.proofs.Written.{over-more}
 
 pub record IsMidway (form : Form) (first : Bool) (source old now : List ℕ) (read written : ℕ) (scalars : List ℕ) : Type 0 where

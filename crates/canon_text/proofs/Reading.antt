@@ -1,5 +1,5 @@
 -- Whole characters read from the front of a source.
-use Rattle.std.proofs.Common.{IsTrue, List, [], ap, append_assoc, arith, drop, length, refl, subst, sym, true, ℕ, ◌++◌, ◌+◌, ◌∙◌, ◌∷◌, ◌≡◌, ◌≤◌}
+use Rattle.std.proofs.Common.{IsTrue, List, [], ap, append_assoc, arith, drop, length, refl, sym, ℕ, ◌++◌, ◌+◌, ◌∙◌, ◌∷◌, ◌≡◌, ◌≤◌}
 use Rattle.std.proofs.lemmas.List.{append-nil, drop_all, drop_at, length-append}
 use Rattle.canon_model.proofs.Passes.{can_spell-append, units-append}
 use Rattle.canon_model.specs.Text.{Form, can_spell, in_latin1, in_utf16, in_utf8, units}

@@ -1,5 +1,5 @@
 -- The characters of a UTF-8 text, read one after another and written as UTF-16.
-use Rattle.std.proofs.Common.{IsTrue, IsUtf8, List, [], ap, append_assoc, arith, flat_map, length, refl, subst, sym, true, ℕ, ◌*◌, ◌++◌, ◌+◌, ◌-◌, ◌<◌, ◌∙◌, ◌∷◌, ◌≡◌, ◌≤◌}
+use Rattle.std.proofs.Common.{IsUtf8, List, [], ap, append_assoc, arith, flat_map, length, refl, subst, sym, true, ℕ, ◌*◌, ◌++◌, ◌+◌, ◌∙◌, ◌∷◌, ◌≡◌, ◌≤◌}
 use Rattle.std.proofs.lemmas.Bool.{and_from, and_parts}
 use Rattle.std.proofs.lemmas.Grind.{flat_map-append}
 use Rattle.std.proofs.lemmas.List.{append-nil, length-append, nil_from_length}
@@ -8,7 +8,7 @@ use Rattle.std.specs.Char.{IsScalar, encode_utf8}
 use Rattle.std.specs.Char.Escape.{encode_utf16}
 use Rattle.std.specs.Str.{all_scalars, encode_utf8_all}
 use Rattle.canon_model.proofs.Passes.{can_spell-append, encode_utf8_all-append}
-use Rattle.canon_model.specs.Text.{in_utf16, in_utf8, unit_bytes, units}
+use Rattle.canon_model.specs.Text.{in_utf16, in_utf8, unit_bytes}
 use Rattle.canon_text.specs.Answers.{Converts}
 use Rattle.canon_text.specs.Writing.{over, placed}
 use Rattle.canon_text.proofs.Bytes.{placed-more}

@@ -1,13 +1,12 @@
 -- Two fronts of one source: one goes on from the other.
-use Rattle.std.proofs.Common.{IsTrue, List, [], ap, append_assoc, arith, inl, inr, length, refl, subst, sym, true, ℕ, ⊎_elim, ◌++◌, ◌+◌, ◌<◌, ◌∙◌, ◌∷◌, ◌≡◌, ◌≤◌, ◌⊎◌}
+use Rattle.std.proofs.Common.{List, [], ap, append_assoc, arith, inl, inr, length, refl, subst, sym, true, ℕ, ⊎_elim, ◌++◌, ◌∙◌, ◌∷◌, ◌≡◌, ◌⊎◌}
 use Rattle.std.proofs.lemmas.Bool.{and_from, and_parts}
 use Rattle.std.proofs.lemmas.List.{append-nil, length-append}
 use Rattle.std.proofs.lemmas.Str.{encode_same}
 use Rattle.canon_model.proofs.Passes.{units-append}
 use Rattle.canon_model.specs.Text.{Form, can_spell, in_latin1, in_utf16, in_utf8, units}
-use Rattle.canon_text.specs.Faults.{Begins, IllFormed, IllFormedAt, WellFormed}
+use Rattle.canon_text.specs.Faults.{IllFormed}
 use Rattle.canon_text.proofs.Bytes.{latin1_parts, one_latin1}
-use Rattle.canon_text.proofs.Narrowing.{some_units}
 use Rattle.canon_text.proofs.Pairs.{char_same, units-one}
 
 -- the first character of a text that can be spelled

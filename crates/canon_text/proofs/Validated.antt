@@ -1,12 +1,12 @@
 -- std's judgement on UTF-8, in the terms of forms.
-use Rattle.std.proofs.Common.{IsTrue, IsUtf8, List, [], ap, arith, drop, length, refl, subst, sym, take, true, ℕ, ◌++◌, ◌+◌, ◌-◌, ◌<◌, ◌∙◌, ◌∷◌, ◌≡◌, ◌≤◌}
+use Rattle.std.proofs.Common.{IsUtf8, List, ap, arith, drop, length, subst, sym, take, ℕ, ◌++◌, ◌+◌, ◌∙◌, ◌≡◌, ◌≤◌}
 use Rattle.std.proofs.lemmas.Bool.{and_parts}
 use Rattle.std.proofs.lemmas.List.{append-nil, append_assoc, length-append, length-drop, length-take-le, take-append-drop, take_at}
 use Rattle.std.proofs.lemmas.Str.{IsUtf8-append, IsUtf8-encode, len_utf8_bounds, length-encode}
 use Rattle.std.specs.Char.{encode_utf8}
-use Rattle.std.specs.Str.{IsValidUpTo, encode_utf8_all}
-use Rattle.canon_model.specs.Text.{in_utf8, units}
-use Rattle.canon_text.specs.Faults.{Begins, IllFormed, IllFormedAt}
+use Rattle.std.specs.Str.{IsValidUpTo}
+use Rattle.canon_model.specs.Text.{in_utf8}
+use Rattle.canon_text.specs.Faults.{Begins, IllFormedAt}
 
 take_over : (n : ℕ) (bs xs more : List ℕ) → n ≤ length bs → drop n bs ≡ xs ++ more → take (n + length xs) bs ≡ take n bs ++ xs
 take_over n bs xs more h e =

@@ -1,12 +1,10 @@
 -- How many units a text has in one form and in another.
-use Rattle.std.proofs.Common.{IsTrue, List, [], ap, arith, cond, flat_map, le-ltb, length, lt-ltb, nat_lt, refl, true, ℕ, ⊎_elim, ◌*◌, ◌++◌, ◌+◌, ◌<◌, ◌∙◌, ◌∷◌, ◌≡◌, ◌≤◌}
-use Rattle.std.proofs.lemmas.Bool.{cases_lt, cond-false, cond-true}
+use Rattle.std.proofs.Common.{List, [], arith, flat_map, length, refl, ℕ, ◌*◌, ◌∷◌, ◌≡◌, ◌≤◌}
 use Rattle.std.proofs.lemmas.List.{length-append}
-use Rattle.std.proofs.lemmas.Str.{length-encode}
-use Rattle.std.specs.Char.{encode_utf8, len_utf8}
+use Rattle.std.specs.Char.{encode_utf8}
 use Rattle.std.specs.Char.Escape.{encode_utf16}
 use Rattle.std.specs.Str.{encode_utf8_all}
-use Rattle.canon_model.specs.Text.{all_latin1, unit_bytes}
+use Rattle.canon_model.specs.Text.{unit_bytes}
 
 -- a character has no more units than bytes
 pub width_le : (c : ℕ) → length (encode_utf16 c) ≤ length (encode_utf8 c)

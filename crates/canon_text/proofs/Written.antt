@@ -1,5 +1,5 @@
 -- Writes at a place of a destination whose front is written.
-use Rattle.std.proofs.Common.{List, [], ap, append_assoc, ap₂, drop, length, refl, sym, take, ℕ, ◌++◌, ◌+◌, ◌∙◌, ◌≡◌, ◌≤◌}
+use Rattle.std.proofs.Common.{List, ap, append_assoc, ap₂, drop, length, sym, take, ℕ, ◌++◌, ◌+◌, ◌∙◌, ◌≡◌, ◌≤◌}
 use Rattle.std.proofs.lemmas.List.{append-nil, drop-drop, drop_all, drop_at, length-append, take_at}
 use Rattle.canon_text.specs.Writing.{over, placed}
 

@@ -1,10 +1,10 @@
 -- What the conversions answer and write, over the scalar values that they read.
-use Rattle.std.specs.Prelude.{Bool, IsTrue, List, [], flat_map, if◌then◌else◌, length, take, ℕ, ◌++◌, ◌+◌, ◌<◌, ◌^◌, ◌∷◌, ◌≡◌}
+use Rattle.std.specs.Prelude.{Bool, IsTrue, List, [], flat_map, if◌then◌else◌, length, take, ℕ, ◌++◌, ◌+◌, ◌^◌, ◌≡◌}
 use Rattle.std.specs.Str.{encode_utf8_all}
 use Rattle.canon_model.specs.Pass.{IsPass}
 use Rattle.canon_model.specs.Text.{Form, all_latin1, can_spell, in_latin1, in_utf16, spelling, unit_bytes, units}
 use Rattle.canon_text.specs.declared.error.TextError.{TextError}
-use Rattle.canon_text.specs.Faults.{BeginsNoLatin1, IllFormed, IsFirstFault, error_form, error_place}
+use Rattle.canon_text.specs.Faults.{BeginsNoLatin1, IllFormed, error_form, error_place}
 use Rattle.canon_text.specs.Writing.{over}
 
 -- A whole source, from one form into another; so many units are written, and the rest stays.

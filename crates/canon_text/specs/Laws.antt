@@ -1,5 +1,5 @@
 -- Laws over the definitions that the conversions' contracts name.
-use Rattle.std.specs.Prelude.{Bool, IsTrue, List, [], drop, false, length, take, ℕ, ◌*◌, ◌++◌, ◌+◌, ◌<◌, ◌^◌, ◌≡◌, ◌≤◌}
+use Rattle.std.specs.Prelude.{Bool, IsTrue, List, [], drop, false, length, take, ℕ, ◌*◌, ◌++◌, ◌<◌, ◌^◌, ◌≡◌, ◌≤◌}
 use Rattle.std.specs.Str.{encode_utf8_all}
 use Rattle.canon_model.specs.Text.{Form, IsLeastTag, Spells, can_spell, compact, in_latin1, in_utf16, in_utf8, spelling, text_bytes, text_form, units}
 use Rattle.canon_text.specs.declared.error.TextError.{TextError}

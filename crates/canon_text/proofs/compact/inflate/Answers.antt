@@ -1,4 +1,4 @@
-use Rattle.std.proofs.Common.{ap, arith, get_or, refl, subst, sym, take, ◌+◌, ◌-◌, ◌∙◌, ◌<◌, ◌≡◌, ℕ}
+use Rattle.std.proofs.Common.{ap, arith, sym, ◌+◌, ◌-◌, ◌∙◌, ◌≡◌}
 use Rattle.canon_text.proofs.Bytes.{inflating, inflating_end, inflating_start, inflating_step, latin1_front, length-inflated}
 use Rattle.canon_text.proofs.compact.inflate.Goals as goal
 

@@ -1,4 +1,4 @@
-use Rattle.std.proofs.Common.{arith, get_or, length, sym, ⊎_elim, ◌<◌}
+use Rattle.std.proofs.Common.{arith, length, sym, ⊎_elim}
 use Rattle.std.proofs.lemmas.Bool.{cases_lt}
 use Rattle.std.proofs.lemmas.List.{get_or_past}
 use Rattle.canon_text.proofs.Bytes.{latin1_from, latin1_not}

@@ -1,4 +1,4 @@
-use Rattle.std.proofs.Common.{arith, refl, sym, ◌∙◌}
+use Rattle.std.proofs.Common.{sym}
 use Rattle.canon_text.proofs.Compacting.{compacts_narrow, compacts_wide}
 use Rattle.canon_text.proofs.compact.utf16_to_compact_probably_utf16.Goals as goal
 

@@ -1,4 +1,4 @@
-use Rattle.std.proofs.Common.{arith, refl, sym}
+use Rattle.std.proofs.Common.{refl}
 use Rattle.canon_text.proofs.Compacting.{behind, widens16}
 use Rattle.canon_text.proofs.compact.utf16_to_compact_utf16.Goals as goal
 

@@ -1,4 +1,4 @@
-use Rattle.std.proofs.Common.{arith, refl, sym}
+use Rattle.std.proofs.Common.{arith, refl}
 use Rattle.canon_text.proofs.Compacting.{widens8}
 use Rattle.canon_text.proofs.Spelled.{has_read_room, writes_bytes-more}
 use Rattle.canon_text.proofs.compact.utf8_to_compact_utf16.Goals as goal

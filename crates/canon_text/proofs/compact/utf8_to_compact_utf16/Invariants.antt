@@ -1,4 +1,3 @@
-use Rattle.std.proofs.Common.{◌*◌}
 use Rattle.std.specs.Str.Iter.{chars_rest}
 use Rattle.canon_text.proofs.Spelled.{WritesBytes}
 use Rattle.canon_text.proofs.compact.utf8_to_compact_utf16.Given as goal

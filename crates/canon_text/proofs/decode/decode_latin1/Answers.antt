@@ -1,4 +1,4 @@
-use Rattle.std.proofs.Common.{ap, arith, get_or, refl, sym, ◌∙◌}
+use Rattle.std.proofs.Common.{arith, refl}
 use Rattle.std.proofs.lemmas.Bool.{false≢true}
 use Rattle.std.specs.String.{string_bytes}
 use Rattle.canon_text.proofs.Decoded.{decodes1, decodes_ascii, latin1-more}

@@ -1,4 +1,4 @@
-use Rattle.std.proofs.Common.{ap, arith, refl, sym, ◌+◌, ◌∙◌}
+use Rattle.std.proofs.Common.{ap, arith, refl, ◌+◌}
 use Rattle.std.specs.String.{string_bytes}
 use Rattle.canon_text.specs.Decoding.{units_in}
 use Rattle.canon_text.proofs.Decoded.{decoding-end, decoding-more}

@@ -1,4 +1,4 @@
-use Rattle.std.proofs.Common.{length, ◌-◌}
+use Rattle.std.proofs.Common.{◌-◌}
 use Rattle.std.specs.String.{string_bytes}
 use Rattle.canon_text.specs.Decoding.{units_in}
 use Rattle.canon_text.proofs.Decoded.{Decoding16}

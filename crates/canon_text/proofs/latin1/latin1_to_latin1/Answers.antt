@@ -1,5 +1,4 @@
-use Rattle.std.proofs.Common.{ap, arith, length, refl, sym, ◌∙◌}
-use Rattle.canon_text.specs.Writing.{over}
+use Rattle.std.proofs.Common.{arith, refl, sym, ◌∙◌}
 use Rattle.canon_text.proofs.Bytes.{latin1_from}
 use Rattle.canon_text.proofs.Written.{over_all}
 use Rattle.canon_text.proofs.latin1.latin1_to_latin1.Goals as goal

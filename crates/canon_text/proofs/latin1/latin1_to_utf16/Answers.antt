@@ -1,7 +1,7 @@
-use Rattle.std.proofs.Common.{ap, arith, get_or, length, refl, sym, take, ◌∙◌, ℕ, ◌<◌}
+use Rattle.std.proofs.Common.{ap, arith, length, refl, sym, ◌∙◌}
 use Rattle.std.proofs.lemmas.List.{take_all}
 use Rattle.canon_text.specs.Writing.{over}
-use Rattle.canon_text.proofs.Bytes.{latin1_from, latin1_units, over-more_set}
+use Rattle.canon_text.proofs.Bytes.{latin1_from, latin1_units}
 use Rattle.canon_text.proofs.latin1.latin1_to_utf16.Goals as goal
 
 pub returns : goal.returns

@@ -1,4 +1,4 @@
-use Rattle.std.proofs.Common.{arith, get_or, length, refl, subst, sym, drop}
+use Rattle.std.proofs.Common.{arith, length, refl, subst, sym, drop}
 use Rattle.canon_model.specs.Text.{in_latin1}
 use Rattle.canon_text.proofs.Passing.{begins_byte, goes_on, midway-more}
 use Rattle.canon_text.specs.Faults.{Begins}

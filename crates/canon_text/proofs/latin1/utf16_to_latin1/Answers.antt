@@ -1,4 +1,4 @@
-use Rattle.std.proofs.Common.{arith, get_or, length, refl, subst, sym, ◌≡◌}
+use Rattle.std.proofs.Common.{arith, get_or, length, refl, subst, ◌≡◌}
 use Rattle.canon_text.specs.Answers.{Narrows}
 use Rattle.canon_model.specs.Text.{in_utf16}
 use Rattle.canon_text.proofs.Narrowing.{begins_unit, narrowing-end, narrowing-more, narrowing-stop, no_unit, unit_width}

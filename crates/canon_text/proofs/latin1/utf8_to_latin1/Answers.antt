@@ -2,7 +2,7 @@ use Rattle.std.proofs.Common.{ap, arith, length, refl, sym, ◌+◌, ◌∙◌}
 use Rattle.std.proofs.lemmas.List.{append-nil}
 use Rattle.std.specs.Char.{encode_utf8}
 use Rattle.canon_model.specs.Text.{in_utf8}
-use Rattle.canon_text.proofs.Narrowing.{narrowing-end, narrowing-more, narrowing-stop, narrowing_room}
+use Rattle.canon_text.proofs.Narrowing.{narrowing-end, narrowing-more, narrowing_room}
 use Rattle.canon_text.proofs.latin1.utf8_to_latin1.Goals as goal
 
 pub bounds-dst-written : goal.bounds-dst-written

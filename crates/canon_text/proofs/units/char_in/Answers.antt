@@ -1,4 +1,4 @@
-use Rattle.std.proofs.Common.{arith, get_or, sym, ◌∙◌}
+use Rattle.std.proofs.Common.{arith, sym, ◌∙◌}
 use Rattle.std.proofs.lemmas.Option.{get_or_from_slice_get}
 use Rattle.canon_text.proofs.Pairs.{char_begins, length-units_in, none_past}
 use Rattle.canon_text.specs.Decoding.{units_in}

@@ -1,7 +1,7 @@
 use Rattle.std.proofs.Common.{ap, length, sym, ◌+◌, ◌∙◌}
 use Rattle.canon_model.specs.Text.{in_utf16}
 use Rattle.canon_text.proofs.Pairs.{units-one}
-use Rattle.canon_text.proofs.Reading.{front-ill, read-all, read-more}
+use Rattle.canon_text.proofs.Reading.{read-all, read-more}
 use Rattle.canon_text.proofs.units.first_fault.Goals as goal
 
 pub loop-at-preserved : goal.loop-at-preserved

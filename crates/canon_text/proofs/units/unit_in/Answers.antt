@@ -1,4 +1,4 @@
-use Rattle.std.proofs.Common.{Some, add-one, ap, ap₂, arith, get_or, length, refl, suc, sym, ◌*◌, ◌+◌, ◌/◌, ◌∙◌, ◌≡◌}
+use Rattle.std.proofs.Common.{Some, ap, ap₂, arith, get_or, refl, suc, sym, ◌*◌, ◌+◌, ◌∙◌, ◌≡◌}
 use Rattle.std.proofs.lemmas.Option.{slice_get_past}
 use Rattle.canon_text.specs.Decoding.{units_in}
 use Rattle.canon_text.proofs.Pairs.{length-units_in, unit_in_some}

@@ -1,4 +1,4 @@
-use Rattle.std.proofs.Common.{ap, length, refl, sym, ◌+◌, ◌∙◌}
+use Rattle.std.proofs.Common.{ap, length, sym, ◌+◌, ◌∙◌}
 use Rattle.canon_model.specs.Text.{in_utf16}
 use Rattle.canon_text.proofs.Pairs.{units-one}
 use Rattle.canon_text.proofs.Passing.{goes_on, midway-more}
