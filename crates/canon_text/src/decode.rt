@@ -1,6 +1,6 @@
 //! Texts out of the bytes of an encoding.
 
-ghost use Rattle.std.specs.Prelude.{◌≡◌, ◌%◌, ◌↔◌, length, false, IsTrue, MatchResult, MatchOption, IfOk, ⊤};
+ghost use Rattle.std.specs.Prelude.{◌≡◌, ◌%◌, ◌↔◌, length, false, IsTrue, MatchResult, MatchOption};
 ghost use Rattle.std.specs.Str.{IsAscii};
 ghost use Rattle.canon_model.specs.Text.{in_latin1, in_utf16, in_utf8};
 ghost use Rattle.canon_text.specs.Faults.{IsFirstFault};
@@ -13,7 +13,7 @@ use crate::utf8::text_of;
 use canon_types::OutOfMemory;
 use std::alloc::Global;
 
-/// The text of UTF-8, which is borrowed.
+/// The text of UTF-8 bytes, which is borrowed (CanonicalABI.md, "load_string_from_range").
 pub fn decode_utf8(src: &[u8]) -> Result<CowStr<'_>, TextError>
     ensures { MatchResult result
         (λ t. Decodes in_utf8 src.now (cow_text t) × IsTrue (is_borrowed t))
@@ -23,7 +23,8 @@ pub fn decode_utf8(src: &[u8]) -> Result<CowStr<'_>, TextError>
     Ok(CowStr::Borrowed(text))
 }
 
-/// The text of UTF-16, whose units stand with the low byte first. It is owned.
+/// The text of UTF-16 bytes, whose units stand with the low byte first. It is owned, and the place
+/// of a fault counts units (CanonicalABI.md, "load_string_from_range").
 pub fn decode_utf16(alloc: Global, src: &[u8]) -> Result<CowStr<'_>, DecodeError>
     requires { length src.now % 2 ≡ 0 }
     ensures { MatchResult result
@@ -56,9 +57,12 @@ fn ascii_text(src: &[u8]) -> Option<&str>
     }
 }
 
-/// The text of Latin-1. It is borrowed exactly where all bytes are below 128.
+/// The text of Latin-1 bytes. It is borrowed exactly where all bytes are below 128, and takes no memory
+/// then.
 pub fn decode_latin1(alloc: Global, src: &[u8]) -> Result<CowStr<'_>, OutOfMemory>
-    ensures { IfOk result (λ t. Decodes in_latin1 src.now (cow_text t) × (IsTrue (is_borrowed t) ↔ IsAscii src.now)) }
+    ensures { MatchResult result
+        (λ t. Decodes in_latin1 src.now (cow_text t) × (IsTrue (is_borrowed t) ↔ IsAscii src.now))
+        (λ _. ¬ (IsAscii src.now)) }
 {
     if let Some(text) = ascii_text(src) {
         return Ok(CowStr::Borrowed(text));
