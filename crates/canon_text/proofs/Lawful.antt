@@ -1,5 +1,5 @@
 -- The laws of faults and passes.
-use Rattle.std.proofs.Common.{Bool, IsTrue, List, [], ap, append_assoc, arith, drop, get_or, length, refl, subst, sym, take, true, ℕ, ⊎_elim, ◌++◌, ◌-◌, ◌<◌, ◌∙◌, ◌∷◌, ◌≡◌, ◌≤◌, ◌⊎◌}
+use Rattle.std.proofs.Common.{All, Bool, IsTrue, List, [], ap, append_assoc, arith, drop, get_or, length, refl, subst, sym, take, true, ℕ, ⊎_elim, ◌++◌, ◌-◌, ◌<◌, ◌∙◌, ◌∷◌, ◌≡◌, ◌≤◌, ◌⊎◌}
 use Rattle.std.proofs.lemmas.List.{append-nil, drop_at, get_or_at, length-append, take_at}
 use Rattle.std.specs.Char.{encode_utf8}
 use Rattle.std.specs.Str.{encode_utf8_all}
@@ -32,23 +32,26 @@ goes_past form first room c more rest fault can e h =
     let same = first_same form c h.next (units form more ++ fault) h.more (first_can form c more can).0 h.can (sym (first_units form c more fault) ∙ sym e ∙ h.is) in
     subst (λ k. (room < length (encode_utf8 k)) ⊎ (IsTrue first × (127 < k))) (sym same.0) h.cause
 
+-- a pass can't end before what fits
+pub no_further : (form : Form) (first : Bool) (source rest tail cs : List ℕ) (c : ℕ) (more : List ℕ) (room : ℕ) → IsPass form first source room cs rest → length (encode_utf8_all (cs ++ c ∷ more)) ≤ room → (IsTrue first → All (λ x. x < 128) (cs ++ c ∷ more)) → can_spell form (c ∷ more) ≡ true → rest ≡ units form (c ∷ more) ++ tail → ⊥
+no_further form first source rest tail cs c more room h fits plain can e =
+    let long = ap length (encode_utf8_all-append cs (c ∷ more)) ∙ length-append (encode_utf8_all cs) (encode_utf8 c ++ encode_utf8_all more) in
+    let here : get_or (cs ++ c ∷ more) (length cs) 0 ≡ c = get_or_at cs c more 0 (length cs) refl in
+    let some = some_units form c in
+    ⊎_elim
+    (λ none. omega (arith, ap length (sym none ∙ e ∙ first_units form c more tail), length-append (units form (c ∷ [])) (units form more ++ tail)))
+    (λ s. ⊎_elim
+    (λ l. let full : room - length (encode_utf8_all cs) < length (encode_utf8 c) = l in omega (arith, length-append (encode_utf8 c) (encode_utf8_all more)))
+    (λ p. let big : 127 < c = p.1 in let small : get_or (cs ++ c ∷ more) (length cs) 0 < 128 = plain p.0 (length cs) 0 (omega (arith, length-append cs (c ∷ more))) in omega arith)
+    (goes_past form first (room - length (encode_utf8_all cs)) c more rest tail can e s))
+    h.stops
+
 never : (form : Form) (first : Bool) (source rest fault cs more : List ℕ) (room : ℕ) → IsPass form first source room cs rest → IsPass form first (units form (cs ++ more)) room (cs ++ more) [] → IllFormed form fault → can_spell form more ≡ true → rest ≡ units form more ++ fault → ⊥
 never form first source rest fault cs [] room h g ill can e =
     let same : rest ≡ fault = e ∙ ap (λ l. l ++ fault) (units-nil form) in
     let some : 0 < length fault = ill.some in
     ⊎_elim (λ none. omega (arith, ap length (sym same ∙ none))) (λ s. ill.none s.next (record { more = s.more; can = s.can; is = sym same ∙ s.is })) h.stops
-never form first source rest fault cs (c ∷ more) room h g ill can e =
-    let some : 0 < length fault = ill.some in
-    let long = ap length (encode_utf8_all-append cs (c ∷ more)) ∙ length-append (encode_utf8_all cs) (encode_utf8 c ++ encode_utf8_all more) in
-    let fits : length (encode_utf8_all (cs ++ c ∷ more)) ≤ room = g.fits in
-    let here : get_or (cs ++ c ∷ more) (length cs) 0 ≡ c = get_or_at cs c more 0 (length cs) refl in
-    ⊎_elim
-    (λ none. omega (arith, ap length (nothing_left form (c ∷ more) fault (sym none ∙ e))))
-    (λ s. ⊎_elim
-    (λ l. let full : room - length (encode_utf8_all cs) < length (encode_utf8 c) = l in omega (arith, length-append (encode_utf8 c) (encode_utf8_all more)))
-    (λ p. let big : 127 < c = p.1 in let small : get_or (cs ++ c ∷ more) (length cs) 0 < 128 = g.plain p.0 (length cs) 0 (omega (arith, length-append cs (c ∷ more))) in omega arith)
-    (goes_past form first (room - length (encode_utf8_all cs)) c more rest fault can e s))
-    h.stops
+never form first source rest fault cs (c ∷ more) room h g ill can e = no_further form first source rest fault cs c more room h g.fits g.plain can e
 
 never_both : (form : Form) (first : Bool) (source old new after : List ℕ) (read written : ℕ) (error : TextError) → Passed form first source old new read written → PassFails form first source old after error → ⊥
 never_both form first source old new after read written error h g =

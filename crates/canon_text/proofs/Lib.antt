@@ -12,3 +12,4 @@ pub mod Decoded
 pub mod Splits
 pub mod Lawful
 pub mod Kept
+pub mod Answered

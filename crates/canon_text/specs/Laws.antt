@@ -5,7 +5,7 @@ use Rattle.canon_model.specs.Text.{Form, IsLeastTag, Spells, can_spell, compact,
 use Rattle.canon_text.specs.declared.error.TextError.{TextError}
 use Rattle.canon_text.specs.Answers.{Compacts, Converts, Narrows, PassFails, Passed, Widens, compact_form, compact_length}
 use Rattle.canon_text.specs.Decoding.{Decodes}
-use Rattle.canon_text.specs.Faults.{IllFormedAt, WellFormed}
+use Rattle.canon_text.specs.Faults.{IllFormedAt, WellFormed, error_place}
 use Rattle.canon_text.specs.Writing.{over}
 
 -- A source has one first fault, or it is a text.
@@ -69,3 +69,13 @@ pub record ScalarsKept : Type 0 where
   pub wrote_wide : (form : Form) (source old new cs ds : List ℕ) (n : ℕ) → WroteWide form source old new n → Reads form source cs → Spells in_utf16 (take (2 * n) new) ds → cs ≡ ds
   pub compacts : (source new cs ds : List ℕ) (n : ℕ) → Compacts source new n → length source < 2 ^ 31 → Reads in_utf16 source cs → Spells (text_form compact n) (take (text_bytes compact n) new) ds → cs ≡ ds
   pub decodes : (form : Form) (bytes text cs ds : List ℕ) → Decodes form bytes text → Spells form bytes cs → Spells in_utf8 text ds → cs ≡ ds
+
+-- The definitions fix the answers and what is written.
+pub record OneAnswer : Type 0 where
+  pub converts : (from to : Form) (source old a b : List ℕ) (m n : ℕ) → Converts from to source old a m → Converts from to source old b n → (m ≡ n) × (a ≡ b)
+  pub passed : (form : Form) (first : Bool) (source old a b : List ℕ) (read written read2 written2 : ℕ) → Passed form first source old a read written → Passed form first source old b read2 written2 → (read ≡ read2) × (written ≡ written2) × (a ≡ b)
+  pub refused : (form : Form) (first : Bool) (source old a b : List ℕ) (e f : TextError) → PassFails form first source old a e → PassFails form first source old b f → (error_place e ≡ error_place f) × (a ≡ b)
+  pub narrows : (form : Form) (source old a b : List ℕ) (read written read2 written2 : ℕ) → Narrows form source old a read written → Narrows form source old b read2 written2 → (read ≡ read2) × (written ≡ written2) × (a ≡ b)
+  pub widens : (form : Form) (source old a b : List ℕ) (so_far m n : ℕ) → Widens form source old a so_far m → Widens form source old b so_far n → (m ≡ n) × (a ≡ b)
+  pub compacts : (source a b : List ℕ) (m n : ℕ) → Compacts source a m → Compacts source b n → (m ≡ n) × (a ≡ b)
+  pub decodes : (form : Form) (bytes a b : List ℕ) → Decodes form bytes a → Decodes form bytes b → a ≡ b

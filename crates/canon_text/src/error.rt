@@ -5,7 +5,8 @@ ghost use Rattle.canon_text.specs.declared.error.DecodeError.TheVariants as refu
 
 use std::alloc::{AllocError, AllocFailed};
 
-/// The place of the first ill-formed sequence, in bytes for UTF-8 and in units for UTF-16.
+/// The place of the first ill-formed sequence in the part that was tried, in bytes for UTF-8 and in
+/// units for UTF-16.
 #[derive(Clone, Copy, Debug, PartialEq, Eq)]
 pub enum TextError {
     InvalidUtf8(u64),

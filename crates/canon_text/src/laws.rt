@@ -1,6 +1,6 @@
 //! Laws over the definitions that the conversions' contracts name.
 
-ghost use Rattle.canon_text.specs.Laws.{CompactLengths, NarrowThenWide, OneFault, PassReads, PassRefuses, PassesWrite, ScalarsKept};
+ghost use Rattle.canon_text.specs.Laws.{CompactLengths, NarrowThenWide, OneAnswer, OneFault, PassReads, PassRefuses, PassesWrite, ScalarsKept};
 
 /// A source has one first fault, or it is a text.
 pub fn one_fault()
@@ -35,4 +35,9 @@ pub fn compact_lengths()
 /// A conversion that reads its whole source keeps the scalar values.
 pub fn scalars_kept()
     ensures { ScalarsKept }
+{}
+
+/// The definitions fix the answers and what is written.
+pub fn one_answer()
+    ensures { OneAnswer }
 {}
