@@ -1,23 +1,20 @@
 -- Texts out of bytes.
 use Rattle.std.proofs.Common.{IsUtf8, List, [], ap, arith, drop, flat_map, get_or, length, refl, sym, take, ℕ, ◌%◌, ◌++◌, ◌+◌, ◌/◌, ◌<◌, ◌∙◌, ◌∷◌, ◌≡◌, ◌≤◌}
-use Rattle.std.proofs.lemmas.List.{append-nil, take_all, take_more}
+use Rattle.std.proofs.lemmas.List.{take_all, take_more}
 use Rattle.std.specs.Char.{encode_utf8}
 use Rattle.std.specs.Char.Escape.{encode_utf16}
 use Rattle.std.specs.Str.{IsAscii, encode_utf8_all}
 use Rattle.std.proofs.lemmas.Str.{encodes-IsAscii}
-use Rattle.canon_model.proofs.Passes.{encode_utf8_all-append}
 use Rattle.canon_model.specs.Text.{in_latin1, in_utf16, in_utf8, unit_bytes}
 use Rattle.canon_text.specs.Decoding.{Decodes, units_in}
 use Rattle.canon_text.specs.Faults.{Begins}
 use Rattle.canon_text.proofs.Bytes.{latin1_from}
 use Rattle.canon_text.proofs.Pairs.{length-units_in, units-one, units_in-bytes}
 use Rattle.canon_text.proofs.Reading.{IsFront, front-all, front-more, front-nil}
+use Rattle.canon_text.proofs.Widths.{encode-push}
 
 pub decodes8 : (bytes text : List ℕ) → text ≡ bytes → IsUtf8 bytes → Decodes in_utf8 bytes text
 decodes8 bytes text e u = record { scalars = u.0; spells = record { can = u.1.0; is = u.1.1 }; is = e ∙ sym u.1.1 }
-
-encode-push : (cs : List ℕ) (c : ℕ) → encode_utf8_all cs ++ encode_utf8 c ≡ encode_utf8_all (cs ++ c ∷ [])
-encode-push cs c = ap (λ l. encode_utf8_all cs ++ l) (sym (append-nil (encode_utf8 c))) ∙ sym (encode_utf8_all-append cs (c ∷ []))
 
 -- the text so far, of units before a place
 pub record Decoding16 (source text : List ℕ) (at : ℕ) : Type 0 where

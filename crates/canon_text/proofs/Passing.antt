@@ -5,7 +5,6 @@ use Rattle.std.proofs.lemmas.List.Elements.{All-nil, All-push}
 use Rattle.std.proofs.lemmas.Bool.{cond-true, false≢true}
 use Rattle.std.specs.Char.{encode_utf8}
 use Rattle.std.specs.Str.{encode_utf8_all}
-use Rattle.canon_model.proofs.Passes.{encode_utf8_all-append}
 use Rattle.canon_model.specs.Pass.{Stops}
 use Rattle.canon_model.specs.Text.{Form, in_latin1, units}
 use Rattle.canon_text.specs.Answers.{PassFails, Passed}
@@ -13,6 +12,7 @@ use Rattle.canon_text.specs.declared.error.TextError.{TextError}
 use Rattle.canon_text.specs.Faults.{Begins, IllFormed, error_form, error_place}
 use Rattle.canon_text.specs.Writing.{over, placed}
 use Rattle.canon_text.proofs.Reading.{IsFront, front-more, front-nil}
+use Rattle.canon_text.proofs.Widths.{encode-push}
 use Rattle.canon_text.proofs.Written.{over-more}
 
 pub record IsMidway (form : Form) (first : Bool) (source old now : List ℕ) (read written : ℕ) (scalars : List ℕ) : Type 0 where
@@ -29,12 +29,6 @@ pub record Midway (form : Form) (first : Bool) (source old now : List ℕ) (read
 pub midway-nil : (form : Form) (first : Bool) (source old : List ℕ) → Midway form first source old old 0 0
 midway-nil form first source old = record { scalars = []; so_far = record { front = front-nil form source; count = refl; fits = omega arith; plain = λ _. All-nil (λ c. c < 128); writes = refl } }
 
-encode-one : (c : ℕ) → encode_utf8_all (c ∷ []) ≡ encode_utf8 c
-encode-one c = append-nil (encode_utf8 c)
-
-encode-push : (cs : List ℕ) (c : ℕ) → encode_utf8_all (cs ++ c ∷ []) ≡ encode_utf8_all cs ++ encode_utf8 c
-encode-push cs c = encode_utf8_all-append cs (c ∷ []) ∙ ap (λ l. encode_utf8_all cs ++ l) (encode-one c)
-
 pub midway-more : (form : Form) (first : Bool) (source old now new : List ℕ) (read read2 written written2 c : ℕ) → Midway form first source old now read written → Begins form c (drop read source) → ¬ ((length old - written < length (encode_utf8 c)) ⊎ (IsTrue first × (127 < c)))
     → read2 ≡ read + length (units form (c ∷ [])) → written2 ≡ written + length (encode_utf8 c) → new ≡ placed now written (encode_utf8 c) → Midway form first source old new read2 written2
 midway-more form first source old now new read read2 written written2 c h b goes e k w =
@@ -44,10 +38,10 @@ midway-more form first source old now new read read2 written written2 c h b goes
       scalars = cs ++ c ∷ [];
       so_far = record {
         front = front-more form source read read2 c cs h.so_far.front b e;
-        count = k ∙ ap (λ n. n + length (encode_utf8 c)) h.so_far.count ∙ sym (length-append (encode_utf8_all cs) (encode_utf8 c)) ∙ ap length (sym (encode-push cs c));
+        count = k ∙ ap (λ n. n + length (encode_utf8 c)) h.so_far.count ∙ sym (length-append (encode_utf8_all cs) (encode_utf8 c)) ∙ ap length (encode-push cs c);
         fits = let before : written ≤ length old = h.so_far.fits in omega arith;
         plain = λ t. All-push (λ c. c < 128) cs c (h.so_far.plain t) (omega (arith, λ (l : 127 < c). goes (inr (t, l))));
-        writes = over-more old now new (encode_utf8_all cs) (encode_utf8 c) written h.so_far.writes h.so_far.count w ∙ ap (λ l. over old l) (sym (encode-push cs c));
+        writes = over-more old now new (encode_utf8_all cs) (encode_utf8 c) written h.so_far.writes h.so_far.count w ∙ ap (λ l. over old l) (encode-push cs c);
       };
     }
 
