@@ -1,0 +1,3 @@
+pub mod SlotsLemmas
+pub mod StepLemmas
+pub mod TableLemmas
