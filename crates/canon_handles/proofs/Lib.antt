@@ -1,3 +1,4 @@
+pub mod HeldLemmas
 pub mod SlotsLemmas
 pub mod StepLemmas
 pub mod TableLemmas

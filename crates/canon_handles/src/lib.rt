@@ -3,9 +3,23 @@
 #![tactic(auto)]
 
 mod counter;
+mod end;
 mod error;
+mod future;
+mod handle;
+mod handle_table;
+mod resource;
 mod slot;
 mod slot_table;
+mod stream;
+mod task;
+mod thread;
 
 pub use counter::HandleCounter;
 pub use error::HandleError;
+pub use handle::{
+    CurrentScope, Entry, GuestThread, RemovedResource, Scope, TransmitLocalState, TypedResource,
+    TypedResourceIndex, Waitable,
+};
+pub use handle_table::HandleTable;
+pub use thread::ThreadHandleTable;
