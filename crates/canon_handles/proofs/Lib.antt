@@ -1,3 +1,4 @@
+pub mod FreshLemmas
 pub mod HeldLemmas
 pub mod SlotsLemmas
 pub mod StepLemmas

@@ -1,4 +1,5 @@
 pub mod Calls
+pub mod Laws
 pub mod Slots
 pub mod Step
 pub mod Table

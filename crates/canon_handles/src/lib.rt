@@ -8,6 +8,7 @@ mod error;
 mod future;
 mod handle;
 mod handle_table;
+pub mod laws;
 mod resource;
 mod slot;
 mod slot_table;
