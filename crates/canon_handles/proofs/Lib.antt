@@ -1,5 +1,6 @@
 pub mod FreshLemmas
 pub mod HeldLemmas
+pub mod LentLemmas
 pub mod SlotsLemmas
 pub mod StepLemmas
 pub mod TableLemmas

@@ -341,7 +341,7 @@ module _ {E : Type 0} (next max : ℕ) (slots : List (Slot E)) (t : Table E) (in
       let k = taken_at next max slots t index view some in
       freed_linked next max (index - 1) slots k.entry s k.within k.slot
 
-same_read : {E : Type 0} (xs : List (Slot E)) (i : ℕ) (d e : Slot E) → i < length xs → get_or xs i d ≡ get_or xs i e
+pub same_read : {E : Type 0} (xs : List (Slot E)) (i : ℕ) (d e : Slot E) → i < length xs → get_or xs i d ≡ get_or xs i e
 same_read [] i d e h = absurd (omega arith)
 same_read (x ∷ xs) zero d e h = refl
 same_read (x ∷ xs) (suc i) d e h = same_read xs i d e (omega arith)

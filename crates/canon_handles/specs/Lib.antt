@@ -1,5 +1,7 @@
 pub mod Calls
 pub mod Laws
+pub mod Lending
+pub mod LendingTable
 pub mod Slots
 pub mod Step
 pub mod Table

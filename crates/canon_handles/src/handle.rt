@@ -139,6 +139,23 @@ pub enum Entry {
     },
 }
 
+impl Entry {
+    ghost use Rattle.std.specs.Borrow.{sem};
+    ghost use Rattle.canon_handles.specs.Lending.{LendsEntryState, HandsOut, state_in};
+
+    /// The state of an end of a stream or a future.
+    pub(crate) fn state_mut(&mut self) -> Result<&mut TransmitLocalState, HandleError>
+        ensures* lends { sem 𝓛 (LendsEntryState self.entry result) }
+        ensures state { HandsOut (state_in self.old) result }
+    {
+        match self {
+            Entry::Stream { state, .. } => Ok(state),
+            Entry::Future { state, .. } => Ok(state),
+            _ => Err(HandleError::WrongKind),
+        }
+    }
+}
+
 /// What an index of a table of threads names.
 #[derive(Clone, Copy, Debug, PartialEq, Eq)]
 pub struct GuestThread {

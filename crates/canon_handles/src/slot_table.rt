@@ -1,6 +1,8 @@
 //! A table over one vector of slots, in which a free slot names the next free one.
 
-ghost use Rattle.std.specs.Prelude.{◌≡◌, ◌≤◌, ◌<◌, ◌+◌, ◌==◌, ◌^◌, OnOk, OnErr, None, ◌∷◌, map, slice_index_or, is_some, true};
+ghost use Rattle.std.specs.Prelude.{◌≡◌, ◌≤◌, ◌<◌, ◌+◌, ◌==◌, ◌^◌, OnOk, OnErr, IsOkAnd, None, Some, ◌∷◌, map, slice_index_or, is_some, true};
+ghost use Rattle.std.specs.Borrow.{sem};
+ghost use Rattle.canon_handles.specs.LendingTable.{LendsTableEntry};
 ghost use Rattle.canon_handles.specs.Slots.{entry_of, link};
 ghost use Rattle.canon_handles.specs.Table.{max_handle, empty_table, entry_at, entry_count, fresh_index, insert, with_entry, without, IsFresh, DoesWithMemory};
 
@@ -74,6 +76,16 @@ impl<E: Copy> SlotTable<E> {
         ensures { result ≡ entry_at self.now.table index }
     {
         entry_in(self.slots.as_slice(), index)
+    }
+
+    /// The entry at an index that has one, to be written.
+    pub(crate) fn entry_mut(&mut self, index: u32) -> Result<&mut E, HandleError>
+        requires { is_some (entry_at self.old.table index) ≡ true }
+        ensures* lends { sem 𝓛 (LendsTableEntry E.row self.entry index result) }
+        ensures entry { IsOkAnd result (λ e. entry_at self.old.table index ≡ Some e.now) }
+    {
+        let slot = &mut self.slots[(index - 1) as usize];
+        slot.entry_mut()
     }
 
     /// A new entry.
