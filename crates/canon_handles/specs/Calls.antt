@@ -16,7 +16,7 @@ use Rattle.canon_handles.specs.declared.handle.Entry.TheVariants as entry
 use Rattle.canon_handles.specs.declared.handle.GuestThread.{GuestThread}
 use Rattle.canon_handles.specs.declared.error.HandleError.{HandleError}
 use Rattle.canon_handles.specs.declared.error.HandleError.TheVariants.{UnknownHandle, NotAResource, ResourceTypeMismatch, StillLent, TooManyLends, HandleLimit, WrongKind, WrongType, WrongEnd, Busy}
-use Rattle.canon_handles.specs.Step.{refuse_if, and_then}
+use Rattle.canon_handles.specs.Step.{refuse_if, and_then, put}
 use Rattle.canon_handles.specs.Table.{Table, Counter, Outcome, entry_at, entry_count, with_entry, insert, look_up, remove_with, is_at_limit, one_more, one_less}
 
 abbrev pub lends_of : Option Entry → ℕ
@@ -116,6 +116,20 @@ abbrev pub read_future : ℕ → Entry → Result (ℕ × TransmitLocalState) Ha
 read_future expected (entry.Future ty rep state) = refuse_if (not (ty == expected)) WrongType (Ok (rep, state))
 read_future expected _ = Err WrongKind
 
+-- an end in another state
+abbrev pub entry_in_state : Entry → TransmitLocalState → Entry
+entry_in_state (entry.Stream ty rep old) s = entry.Stream ty rep s
+entry_in_state (entry.Future ty rep old) s = entry.Future ty rep s
+entry_in_state e s = e
+
+abbrev pub in_state : Option Entry → TransmitLocalState → Option Entry
+in_state None s = None
+in_state (Some e) s = Some (entry_in_state e s)
+
+-- the table after the state of a stream's or a future's end was written
+abbrev pub with_state : Table Entry → ℕ → TransmitLocalState → Table Entry
+with_state t i s = record { array = put t.array i (in_state (entry_at t i) s); free = t.free; max = t.max }
+
 -- the representation of a readable end that no operation uses, and whether it is done
 abbrev pub readable : ℕ × TransmitLocalState → Result (ℕ × Bool) HandleError
 readable (rep, Read done) = Ok (rep, done)
@@ -136,6 +150,10 @@ stream_insert_write t c ty rep = insert t c (entry.Stream ty rep (Write false))
 abbrev pub stream_rep : Table Entry → ℕ → ℕ → Result (ℕ × TransmitLocalState) HandleError
 stream_rep t ty i = look_up (read_stream ty) t i
 
+-- the state of a stream's end
+abbrev pub stream_state : Table Entry → ℕ → ℕ → Result TransmitLocalState HandleError
+stream_state t ty i = and_then (stream_rep t ty i) (λ p. Ok p.1)
+
 abbrev pub stream_remove_readable : Table Entry → Counter → ℕ → ℕ → Outcome Entry (ℕ × Bool)
 stream_remove_readable t c ty i = remove_with (λ e. and_then (read_stream ty e) readable) t c i
 
@@ -150,6 +168,10 @@ future_insert_write t c ty rep = insert t c (entry.Future ty rep (Write false))
 
 abbrev pub future_rep : Table Entry → ℕ → ℕ → Result (ℕ × TransmitLocalState) HandleError
 future_rep t ty i = look_up (read_future ty) t i
+
+-- the state of a future's end
+abbrev pub future_state : Table Entry → ℕ → ℕ → Result TransmitLocalState HandleError
+future_state t ty i = and_then (future_rep t ty i) (λ p. Ok p.1)
 
 abbrev pub future_remove_readable : Table Entry → Counter → ℕ → ℕ → Outcome Entry (ℕ × Bool)
 future_remove_readable t c ty i = remove_with (λ e. and_then (read_future ty e) readable) t c i

@@ -8,15 +8,10 @@ use Rattle.canon_handles.specs.declared.error.HandleError.{HandleError}
 use Rattle.canon_handles.specs.declared.error.HandleError.TheVariants.{UnknownHandle, WrongKind}
 use Rattle.canon_handles.specs.declared.slot.Slot.{Slot}
 use Rattle.canon_handles.specs.declared.slot.Slot.TheVariants.{Free, Taken}
+use Rattle.canon_handles.specs.Calls.{entry_in_state}
 use Rattle.canon_handles.specs.contracts.handle.TransmitLocalState as state
 use Rattle.canon_handles.specs.contracts.handle.Entry as of_entry
 use Rattle.canon_handles.specs.contracts.slot.Slot as slot
-
--- an end in another state
-abbrev pub entry_in_state : Entry → TransmitLocalState → Entry
-entry_in_state (entry.Stream ty rep old) s = entry.Stream ty rep s
-entry_in_state (entry.Future ty rep old) s = entry.Future ty rep s
-entry_in_state e s = e
 
 -- the state of an end
 abbrev pub state_in : Entry → Result TransmitLocalState HandleError

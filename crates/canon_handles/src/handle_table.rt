@@ -24,7 +24,7 @@ pub(crate) const MAX_HANDLE: u32 = 268_435_455;
 #[derive(Drop)]
 pub struct HandleTable {
     held: u64,
-    table: SlotTable<Entry>,
+    pub(crate) table: SlotTable<Entry>,
 }
 
 impl Model for HandleTable {

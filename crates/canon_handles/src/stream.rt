@@ -2,7 +2,10 @@
 
 ghost use Rattle.std.specs.Prelude.{◌≡◌, ◌≤◌, ◌+◌, OnOk};
 ghost use Rattle.canon_handles.specs.Table.{lookup_entry, Does, DoesWithMemory};
-ghost use Rattle.canon_handles.specs.Calls.{held_count, IsUnlent, KeepsCount, read_stream, readable, writable, stream_insert_read, stream_insert_write, stream_rep, stream_remove_readable, stream_remove_writable};
+ghost use Rattle.canon_handles.specs.Calls.{held_count, IsUnlent, KeepsCount, read_stream, readable, writable, stream_insert_read, stream_insert_write, stream_rep, stream_state, stream_remove_readable, stream_remove_writable};
+ghost use Rattle.canon_handles.specs.Lending.{HandsOut};
+ghost use Rattle.canon_handles.specs.LendingState.{LendsTableState};
+ghost use Rattle.std.specs.Borrow.{sem};
 ghost use Rattle.canon_handles.specs.Step.{and_then};
 
 use crate::counter::HandleCounter;
@@ -66,6 +69,20 @@ impl HandleTable {
         ensures { result ≡ stream_rep self.now.table ty idx }
     {
         stream_from(ty, self.entry(idx))
+    }
+
+    /// The state of an end of a stream of this type, to be written.
+    pub fn stream_state(
+        &mut self,
+        ty: TypeStreamTableIndex,
+        idx: u32,
+    ) -> Result<&mut TransmitLocalState, HandleError>
+        ensures* lends { sem 𝓛 (LendsTableState self.entry idx result) }
+        ensures state { HandsOut (stream_state self.old.table ty idx) result }
+    {
+        let _told = stream_from(ty, self.entry(idx))?;
+        let entry = self.table.entry_mut(idx)?;
+        entry.state_mut()
     }
 
     /// Removes a read end that no operation uses. Answers its representation, and whether it is done.
