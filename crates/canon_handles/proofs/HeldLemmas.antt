@@ -8,38 +8,29 @@ use Rattle.canon_handles.specs.declared.error.HandleError.TheVariants.{IndexOver
 use Rattle.canon_handles.specs.Step.{put, one_if, refuse_if}
 use Rattle.canon_handles.specs.Table.{Table, Counter, entry_at, entry_count, fresh_index, with_new, with_entry, without, IsFresh, insert, is_full, is_at_limit, one_more, DoesWithMemory}
 use Rattle.canon_handles.specs.Calls.{lends_of, held_count, IsUnlent}
-use Rattle.canon_handles.proofs.StepLemmas.{sum_by-put, some_within}
+use Rattle.canon_handles.proofs.StepLemmas.{sum_by-put}
 
 -- the sum over the entries after an insertion
 pub sum-with_new : {E : Type 0} (f : Option E → ℕ) (t : Table E) (e : E) → f None ≡ 0 → IsFresh t (fresh_index t) → sum_by f (with_new t e).array ≡ sum_by f t.array + f (Some e)
 sum-with_new f t e z k =
-    let a = sum_by-put f t.array (fresh_index t) (Some e) None z k.at_end in
+    let a = sum_by-put f t.array (fresh_index t) (Some e) None z in
     let b : f (entry_at t (fresh_index t)) ≡ 0 = ap f k.vacant ∙ z in
     omega arith
 
-within_of : {E : Type 0} (t : Table E) (i : ℕ) (o : Option E) → entry_at t i ≡ o → is_some o ≡ true → i < length t.array
-within_of t i None is some = absurd (cc)
-within_of t i (Some e) is some = some_within t.array i e is
-
 -- after a removal
-pub sum-without : {E : Type 0} (f : Option E → ℕ) (t : Table E) (i : ℕ) → f None ≡ 0 → is_some (entry_at t i) ≡ true → sum_by f (without t i).array + f (entry_at t i) ≡ sum_by f t.array
-sum-without f t i z some =
-    let h = within_of t i (entry_at t i) refl some in
-    let a = sum_by-put f t.array i None None z (omega arith) in
-    omega arith
+pub sum-without : {E : Type 0} (f : Option E → ℕ) (t : Table E) (i : ℕ) → f None ≡ 0 → sum_by f (without t i).array + f (entry_at t i) ≡ sum_by f t.array
+sum-without f t i z = let a = sum_by-put f t.array i None None z in omega arith
 
 -- where another entry is written
-pub sum-with_entry : {E : Type 0} (f : Option E → ℕ) (t : Table E) (i : ℕ) (e : E) → f None ≡ 0 → is_some (entry_at t i) ≡ true → sum_by f (with_entry t i e).array + f (entry_at t i) ≡ sum_by f t.array + f (Some e)
-sum-with_entry f t i e z some =
-    let h = within_of t i (entry_at t i) refl some in
-    sum_by-put f t.array i (Some e) None z (omega arith)
+pub sum-with_entry : {E : Type 0} (f : Option E → ℕ) (t : Table E) (i : ℕ) (e : E) → f None ≡ 0 → sum_by f (with_entry t i e).array + f (entry_at t i) ≡ sum_by f t.array + f (Some e)
+sum-with_entry f t i e z = sum_by-put f t.array i (Some e) None z
 
 pub entry_count-with_new : {E : Type 0} (t : Table E) (e : E) → IsFresh t (fresh_index t) → entry_count (with_new t e) ≡ entry_count t + 1
 entry_count-with_new t e k = sum-with_new (λ o. one_if (is_some o)) t e refl k
 
 pub entry_count-without : {E : Type 0} (t : Table E) (i : ℕ) → is_some (entry_at t i) ≡ true → entry_count (without t i) + 1 ≡ entry_count t
 entry_count-without t i some =
-    let a = sum-without (λ o. one_if (is_some o)) t i refl some in
+    let a = sum-without (λ o. one_if (is_some o)) t i refl in
     let b : one_if (is_some (entry_at t i)) ≡ 1 = ap one_if some in
     omega arith
 
@@ -52,14 +43,14 @@ held-with_new t e k unlent =
 pub held-without : (t : Table Entry) (i : ℕ) → IsUnlent (entry_at t i) → held_count (without t i) + 1 ≡ held_count t
 held-without t i k =
     let a = entry_count-without t i k.0 in
-    let b = sum-without lends_of t i refl k.0 in
+    let b = sum-without lends_of t i refl in
     let c = k.1 in
     omega arith
 
 pub held-with_entry : (t : Table Entry) (i : ℕ) (e : Entry) → is_some (entry_at t i) ≡ true → held_count (with_entry t i e) + lends_of (entry_at t i) ≡ held_count t + lends_of (Some e)
 held-with_entry t i e some =
-    let a = sum-with_entry (λ o. one_if (is_some o)) t i e refl some in
-    let b = sum-with_entry lends_of t i e refl some in
+    let a = sum-with_entry (λ o. one_if (is_some o)) t i e refl in
+    let b = sum-with_entry lends_of t i e refl in
     let c : one_if (is_some (entry_at t i)) ≡ 1 = ap one_if some in
     omega arith
 

@@ -380,11 +380,11 @@ pub counted_added : {E : Type 0} (next max count : ℕ) (slots : List (Slot E)) 
 counted_added next max count slots e s at_end room = record {
   linked = added_linked next max slots e s.linked at_end room;
   counted =
-    (let a = sum_by-append free_weight slots (Taken e ∷ []) in
-    let b = sum_by-cons free_weight (Taken e) [] in
-    let d = length-append slots (Taken e ∷ []) in
-    let k = s.counted in
-    omega arith);
+      (let a = sum_by-append free_weight slots (Taken e ∷ []) in
+      let b = sum_by-cons free_weight (Taken e) [] in
+      let d = length-append slots (Taken e ∷ []) in
+      let k = s.counted in
+      omega arith);
 }
 
 pub counted_taken : {E : Type 0} (next max link' count : ℕ) (slots : List (Slot E)) (e : E) → IsStored next max count slots → next ≢ length slots → link' ≡ link (slot_in slots next) → IsStored link' max (count + 1) (set slots next (Taken e))

@@ -1,11 +1,14 @@
 -- The state of an end changes nothing of what its table holds.
-use Rattle.std.proofs.Common.{rules, ◌≡◌, ℕ, ◌+◌, Option, Some, None, Result, Ok, Err, is_some, refl, sym, ap, ◌∙◌, arith}
+use Rattle.std.proofs.Common.{rules, ◌≡◌, ℕ, ◌+◌, Option, Some, None, Result, Ok, Err, is_some, refl, ap, arith, sum_by}
 use Rattle.std.specs.Result.{IsOk}
 use Rattle.canon_handles.specs.declared.handle.Entry.{Entry}
 use Rattle.canon_handles.specs.declared.handle.Entry.TheVariants as entry
 use Rattle.canon_handles.specs.declared.handle.TransmitLocalState.{TransmitLocalState}
-use Rattle.canon_handles.specs.Table.{Stored, entry_at, with_entry}
-use Rattle.canon_handles.specs.Calls.{held_count, lends_of, entry_in_state}
+use Rattle.canon_handles.specs.Step.{one_if}
+use Rattle.canon_handles.specs.Table.{Table, Stored, entry_at, with_entry}
+use Rattle.canon_handles.specs.Calls.{held_count, lends_of, entry_in_state, in_state, with_state}
+use Rattle.canon_handles.specs.Laws.{StatesAreNotHeld}
+use Rattle.canon_handles.proofs.StepLemmas.{sum_by-put}
 use Rattle.canon_handles.specs.LendingTable.{stored_with}
 use Rattle.canon_handles.proofs.HeldLemmas.{held-with_entry}
 
@@ -31,3 +34,24 @@ held_alike s n i e e' is at same =
 
 pub held_in_state : (s n : Stored Entry) (i : ℕ) (e : Entry) (w : TransmitLocalState) → n ≡ stored_with s i (entry_in_state e w) → entry_at s.table i ≡ Some e → held_count s.table ≡ held_count n.table
 held_in_state s n i e w is at = held_alike s n i e (entry_in_state e w) is at (lends-in_state e w)
+
+-- what counts the same in any state is summed the same
+sum-in_state : (f : Option Entry → ℕ) (t : Table Entry) (i : ℕ) (w : TransmitLocalState) → f None ≡ 0 → ((o : Option Entry) → f (in_state o w) ≡ f o) → sum_by f (with_state t i w).array ≡ sum_by f t.array
+sum-in_state f t i w z same =
+    let a = sum_by-put f t.array i (in_state (entry_at t i) w) None z in
+    let b = same (entry_at t i) in
+    omega arith
+
+counts_in_state : (w : TransmitLocalState) (o : Option Entry) → one_if (is_some (in_state o w)) ≡ one_if (is_some o)
+counts_in_state w None = refl
+counts_in_state w (Some e) = refl
+
+lends_in_state : (w : TransmitLocalState) (o : Option Entry) → lends_of (in_state o w) ≡ lends_of o
+lends_in_state w None = refl
+lends_in_state w (Some e) = lends-in_state e w
+
+pub states_are_not_held : StatesAreNotHeld
+states_are_not_held t i w =
+    let a = sum-in_state (λ o. one_if (is_some o)) t i w refl (counts_in_state w) in
+    let b = sum-in_state lends_of t i w refl (lends_in_state w) in
+    omega arith

@@ -38,16 +38,16 @@ get_or-put_other (y ∷ ys) zero (suc j) x d h ne = refl
 get_or-put_other (y ∷ ys) (suc i) zero x d h ne = refl
 get_or-put_other (y ∷ ys) (suc i) (suc j) x d h ne = get_or-put_other ys i j x d (omega arith) (λ e. ne (ap suc e))
 
-pub sum_by-put : {A : Type 0} (f : A → ℕ) (xs : List A) (i : ℕ) (x d : A) → f d ≡ 0 → i ≤ length xs → sum_by f (put xs i x) + f (get_or xs i d) ≡ sum_by f xs + f x
-sum_by-put f [] zero x d z h = omega arith
-sum_by-put f [] (suc i) x d z h = absurd (omega arith)
-sum_by-put f (y ∷ ys) zero x d z h =
+pub sum_by-put : {A : Type 0} (f : A → ℕ) (xs : List A) (i : ℕ) (x d : A) → f d ≡ 0 → sum_by f (put xs i x) + f (get_or xs i d) ≡ sum_by f xs + f x
+sum_by-put f [] zero x d z = omega arith
+sum_by-put f [] (suc i) x d z = omega arith
+sum_by-put f (y ∷ ys) zero x d z =
     let a : sum_by f (put (y ∷ ys) 0 x) ≡ f x + sum_by f ys = sum_by-cons f x ys in
     let b : sum_by f (y ∷ ys) ≡ f y + sum_by f ys = sum_by-cons f y ys in
     let c : f (get_or (y ∷ ys) 0 d) ≡ f y = refl in
     omega arith
-sum_by-put f (y ∷ ys) (suc i) x d z h =
-    let e = sum_by-put f ys i x d z (omega arith) in
+sum_by-put f (y ∷ ys) (suc i) x d z =
+    let e = sum_by-put f ys i x d z in
     let a : sum_by f (put (y ∷ ys) (suc i) x) ≡ f y + sum_by f (put ys i x) = sum_by-cons f y (put ys i x) in
     let b : sum_by f (y ∷ ys) ≡ f y + sum_by f ys = sum_by-cons f y ys in
     let c : f (get_or (y ∷ ys) (suc i) d) ≡ f (get_or ys i d) = refl in

@@ -1,5 +1,8 @@
--- Which index a table gives, told by what happened to its indexes.
+-- Laws: which index a table gives, told by what happened to its indexes, and what a state counts for.
 use Rattle.std.specs.Prelude.{◌≡◌, ℕ, ◌+◌, max, ◌==◌, Bool, true, false, ◌||◌, if◌then◌else◌, List, [], ◌∷◌, is_some}
+use Rattle.canon_handles.specs.declared.handle.Entry.{Entry}
+use Rattle.canon_handles.specs.declared.handle.TransmitLocalState.{TransmitLocalState}
+use Rattle.canon_handles.specs.Calls.{held_count, with_state}
 use Rattle.canon_handles.specs.Table.{Table, entry_at, fresh_index, is_full, with_new, without, empty_table, first_or}
 
 -- A call on a table of entries that gives or frees an index.
@@ -42,3 +45,7 @@ abbrev pub IndexReuse : Type 0 → Type 0
 IndexReuse E = (greatest : ℕ) (calls : List (TableCall E)) →
     let w : Recorded E = record_calls calls (empty_table greatest, []) in
     fresh_index w.0 ≡ first_or (greatest_given w.1 + 1) (freed (λ _. false) w.1)
+
+-- a state that is written changes nothing of what a table holds
+abbrev pub StatesAreNotHeld : Type 0
+StatesAreNotHeld = (t : Table Entry) (i : ℕ) (s : TransmitLocalState) → held_count (with_state t i s) ≡ held_count t

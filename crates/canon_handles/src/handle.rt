@@ -85,12 +85,8 @@ pub enum RemovedResource {
 /// that the instance was told that the other end is dropped, or that the future has its value.
 #[derive(Clone, Copy, Debug, PartialEq, Eq)]
 pub enum TransmitLocalState {
-    Write {
-        done: bool,
-    },
-    Read {
-        done: bool,
-    },
+    Write { done: bool },
+    Read { done: bool },
     /// A read or a write is in progress.
     Busy,
 }

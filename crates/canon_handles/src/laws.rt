@@ -1,6 +1,6 @@
-//! A law of the definitions.
+//! Laws of the definitions.
 
-ghost use Rattle.canon_handles.specs.Laws.{IndexReuse};
+ghost use Rattle.canon_handles.specs.Laws.{IndexReuse, StatesAreNotHeld};
 ghost use Rattle.canon_handles.specs.declared.handle.Entry.{Entry};
 ghost use Rattle.canon_handles.specs.declared.handle.GuestThread.{GuestThread};
 
@@ -10,4 +10,10 @@ ghost use Rattle.canon_handles.specs.declared.handle.GuestThread.{GuestThread};
 pub fn index_reuse()
     ensures handles { IndexReuse Entry }
     ensures threads { IndexReuse GuestThread }
+{}
+
+/// The state of a stream's or a future's end, whatever is written there, counts nothing: a table
+/// has held as much before as after.
+pub fn states_are_not_held()
+    ensures { StatesAreNotHeld }
 {}

@@ -14,6 +14,8 @@ mod slot;
 mod slot_table;
 mod stream;
 mod task;
+#[cfg(test)]
+mod tests;
 mod thread;
 
 pub use counter::HandleCounter;

@@ -67,10 +67,12 @@ impl HandleTable {
         let index = idx.raw_index();
         match self.entry(index) {
             None => Err(HandleError::UnknownHandle),
-            Some(Entry::ResourceOwn {
-                resource,
-                lend_count,
-            }) => {
+            Some(
+                Entry::ResourceOwn {
+                    resource,
+                    lend_count,
+                },
+            ) => {
                 let rep = resource.rep(&idx)?;
                 if lend_count == u32::MAX {
                     return Err(HandleError::TooManyLends);
@@ -104,10 +106,12 @@ impl HandleTable {
         let index = idx.raw_index();
         match self.entry(index) {
             None => Err(HandleError::UnknownHandle),
-            Some(Entry::ResourceOwn {
-                resource,
-                lend_count,
-            }) => {
+            Some(
+                Entry::ResourceOwn {
+                    resource,
+                    lend_count,
+                },
+            ) => {
                 self.give_back(counter, index, resource, lend_count);
                 Ok(())
             }
@@ -153,10 +157,12 @@ fn removed_from(
 {
     match entry {
         None => Err(HandleError::UnknownHandle),
-        Some(Entry::ResourceOwn {
-            resource,
-            lend_count,
-        }) => {
+        Some(
+            Entry::ResourceOwn {
+                resource,
+                lend_count,
+            },
+        ) => {
             if lend_count != 0 {
                 return Err(HandleError::StillLent);
             }
