@@ -134,6 +134,11 @@ DoesWithMemory step spare (Ok a) t t' c c' = step ≡ Ok (a, t', c')
 DoesWithMemory step spare (Err e) t t' c c' =
     ((step ≡ Err e) ⊎ ((e ≡ OutOfMemory) × (spare ≡ 0) × (is_ok step ≡ true))) × (t' ≡ t) × (c' ≡ c)
 
+-- an insertion uses up one of the insertions to spare at most, and a refused one none
+abbrev pub SparesOneLess : {A : Type 0} → Result A HandleError → ℕ → ℕ → Type 0
+SparesOneLess (Ok a) old new = old ≤ new + 1
+SparesOneLess (Err e) old new = old ≤ new
+
 -- What is known of a fresh index.
 pub record IsFresh {E : Type 0} (t : Table E) (n : ℕ) : Type 0 where
   pub positive : 0 < n

@@ -1,7 +1,7 @@
 //! The handle table of a component instance.
 
 ghost use Rattle.std.specs.Prelude.{◌≡◌, ◌≤◌, ◌<◌, ◌+◌, ◌-◌, ◌==◌, OnOk, OnErr, Some, false};
-ghost use Rattle.canon_handles.specs.Table.{max_handle, empty_table, entry_at, entry_count, insert, with_entry, without, one_less, one_more, is_at_limit, DoesWithMemory};
+ghost use Rattle.canon_handles.specs.Table.{max_handle, empty_table, entry_at, entry_count, insert, with_entry, without, one_less, one_more, is_at_limit, DoesWithMemory, SparesOneLess};
 ghost use Rattle.canon_handles.specs.Calls.{held_count, lends_of, IsUnlent, KeepsCount, most_lends};
 ghost use Rattle.canon_handles.specs.declared.handle.Entry.TheVariants.{ResourceOwn};
 
@@ -110,7 +110,7 @@ impl HandleTable {
         requires counted { held_count self.old.table ≤ counter.old.live }
         requires unlent { lends_of (Some entry) ≡ 0 }
         ensures step { DoesWithMemory (insert self.old.table counter.old entry) self.old.spare result self.old.table self.new.table counter.old counter.new }
-        ensures spare { self.old.spare ≤ self.new.spare + 1 }
+        ensures spare { SparesOneLess result self.old.spare self.new.spare }
         ensures count { KeepsCount self.old.table self.new.table counter.old counter.new }
     {
         let index = self.table.insert(counter, entry)?;

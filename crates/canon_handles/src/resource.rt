@@ -1,7 +1,7 @@
 //! The calls on resource handles.
 
 ghost use Rattle.std.specs.Prelude.{◌≡◌, ◌≤◌, ◌<◌, ◌+◌, Some, OnOk, true, false};
-ghost use Rattle.canon_handles.specs.Table.{entry_at, with_entry, one_less, one_more, is_at_limit, lookup_entry, Does, DoesWithMemory};
+ghost use Rattle.canon_handles.specs.Table.{entry_at, with_entry, one_less, one_more, is_at_limit, lookup_entry, Does, DoesWithMemory, SparesOneLess};
 ghost use Rattle.canon_handles.specs.Calls.{held_count, lends_of, is_own, IsUnlent, KeepsCount, most_lends, raw_index, read_rep, read_removed, resource_own_insert, resource_borrow_insert, resource_rep, resource_lend, resource_undo_lend, remove_resource};
 ghost use Rattle.canon_handles.specs.declared.handle.Entry.TheVariants.{ResourceOwn};
 
@@ -19,7 +19,7 @@ impl HandleTable {
     ) -> Result<u32, HandleError>
         requires { held_count self.old.table ≤ counter.old.live }
         ensures step { DoesWithMemory (resource_own_insert self.old.table counter.old resource) self.old.spare result self.old.table self.new.table counter.old counter.new }
-        ensures spare { self.old.spare ≤ self.new.spare + 1 }
+        ensures spare { SparesOneLess result self.old.spare self.new.spare }
         ensures count { KeepsCount self.old.table self.new.table counter.old counter.new }
     {
         self.insert(
@@ -40,7 +40,7 @@ impl HandleTable {
     ) -> Result<u32, HandleError>
         requires { held_count self.old.table ≤ counter.old.live }
         ensures step { DoesWithMemory (resource_borrow_insert self.old.table counter.old resource scope) self.old.spare result self.old.table self.new.table counter.old counter.new }
-        ensures spare { self.old.spare ≤ self.new.spare + 1 }
+        ensures spare { SparesOneLess result self.old.spare self.new.spare }
         ensures count { KeepsCount self.old.table self.new.table counter.old counter.new }
     {
         self.insert(counter, Entry::ResourceBorrow { resource, scope })

@@ -4,7 +4,7 @@ ghost use Rattle.std.specs.Prelude.{◌≡◌, ◌≤◌, ◌<◌, ◌+◌, ◌=
 ghost use Rattle.std.specs.Borrow.{sem};
 ghost use Rattle.canon_handles.specs.LendingTable.{LendsTableEntry};
 ghost use Rattle.canon_handles.specs.Slots.{entry_of, link};
-ghost use Rattle.canon_handles.specs.Table.{max_handle, empty_table, entry_at, entry_count, fresh_index, insert, with_entry, without, IsFresh, DoesWithMemory};
+ghost use Rattle.canon_handles.specs.Table.{max_handle, empty_table, entry_at, entry_count, fresh_index, insert, with_entry, without, IsFresh, DoesWithMemory, SparesOneLess};
 
 use crate::counter::HandleCounter;
 use crate::error::HandleError;
@@ -95,7 +95,7 @@ impl<E: Copy> SlotTable<E> {
         entry: E,
     ) -> Result<u32, HandleError>
         ensures step { DoesWithMemory (insert self.old.table counter.old entry) self.old.spare result self.old.table self.new.table counter.old counter.new }
-        ensures spare { self.old.spare ≤ self.new.spare + 1 }
+        ensures spare { SparesOneLess result self.old.spare self.new.spare }
         ensures fresh { IsFresh self.old.table (fresh_index self.old.table) }
     {
         let next = self.next;

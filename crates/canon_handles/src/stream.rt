@@ -1,7 +1,7 @@
 //! The calls on the ends of streams.
 
 ghost use Rattle.std.specs.Prelude.{◌≡◌, ◌≤◌, ◌+◌, OnOk};
-ghost use Rattle.canon_handles.specs.Table.{lookup_entry, Does, DoesWithMemory};
+ghost use Rattle.canon_handles.specs.Table.{lookup_entry, Does, DoesWithMemory, SparesOneLess};
 ghost use Rattle.canon_handles.specs.Calls.{held_count, IsUnlent, KeepsCount, read_stream, readable, writable, stream_insert_read, stream_insert_write, stream_rep, stream_state, stream_remove_readable, stream_remove_writable};
 ghost use Rattle.canon_handles.specs.Lending.{HandsOut};
 ghost use Rattle.canon_handles.specs.LendingState.{LendsTableState};
@@ -25,7 +25,7 @@ impl HandleTable {
     ) -> Result<u32, HandleError>
         requires { held_count self.old.table ≤ counter.old.live }
         ensures step { DoesWithMemory (stream_insert_read self.old.table counter.old ty rep) self.old.spare result self.old.table self.new.table counter.old counter.new }
-        ensures spare { self.old.spare ≤ self.new.spare + 1 }
+        ensures spare { SparesOneLess result self.old.spare self.new.spare }
         ensures count { KeepsCount self.old.table self.new.table counter.old counter.new }
     {
         self.insert(
@@ -47,7 +47,7 @@ impl HandleTable {
     ) -> Result<u32, HandleError>
         requires { held_count self.old.table ≤ counter.old.live }
         ensures step { DoesWithMemory (stream_insert_write self.old.table counter.old ty rep) self.old.spare result self.old.table self.new.table counter.old counter.new }
-        ensures spare { self.old.spare ≤ self.new.spare + 1 }
+        ensures spare { SparesOneLess result self.old.spare self.new.spare }
         ensures count { KeepsCount self.old.table self.new.table counter.old counter.new }
     {
         self.insert(

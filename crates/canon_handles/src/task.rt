@@ -1,7 +1,7 @@
 //! The calls on error contexts, subtasks and waitable sets.
 
 ghost use Rattle.std.specs.Prelude.{◌≡◌, ◌≤◌, ◌+◌, OnOk};
-ghost use Rattle.canon_handles.specs.Table.{lookup_entry, Does, DoesWithMemory};
+ghost use Rattle.canon_handles.specs.Table.{lookup_entry, Does, DoesWithMemory, SparesOneLess};
 ghost use Rattle.canon_handles.specs.Calls.{held_count, IsUnlent, KeepsCount, read_error_context, read_subtask, read_waitable_set, read_waitable, error_context_insert, error_context_rep, error_context_drop, subtask_insert_guest, subtask_insert_host, subtask_rep, subtask_remove, waitable_set_insert, waitable_set_rep, waitable_set_remove, waitable_rep};
 
 use crate::counter::HandleCounter;
@@ -18,7 +18,7 @@ impl HandleTable {
     ) -> Result<u32, HandleError>
         requires { held_count self.old.table ≤ counter.old.live }
         ensures step { DoesWithMemory (error_context_insert self.old.table counter.old rep) self.old.spare result self.old.table self.new.table counter.old counter.new }
-        ensures spare { self.old.spare ≤ self.new.spare + 1 }
+        ensures spare { SparesOneLess result self.old.spare self.new.spare }
         ensures count { KeepsCount self.old.table self.new.table counter.old counter.new }
     {
         self.insert(counter, Entry::ErrorContext { rep })
@@ -55,7 +55,7 @@ impl HandleTable {
     ) -> Result<u32, HandleError>
         requires { held_count self.old.table ≤ counter.old.live }
         ensures step { DoesWithMemory (subtask_insert_guest self.old.table counter.old rep) self.old.spare result self.old.table self.new.table counter.old counter.new }
-        ensures spare { self.old.spare ≤ self.new.spare + 1 }
+        ensures spare { SparesOneLess result self.old.spare self.new.spare }
         ensures count { KeepsCount self.old.table self.new.table counter.old counter.new }
     {
         self.insert(
@@ -75,7 +75,7 @@ impl HandleTable {
     ) -> Result<u32, HandleError>
         requires { held_count self.old.table ≤ counter.old.live }
         ensures step { DoesWithMemory (subtask_insert_host self.old.table counter.old rep) self.old.spare result self.old.table self.new.table counter.old counter.new }
-        ensures spare { self.old.spare ≤ self.new.spare + 1 }
+        ensures spare { SparesOneLess result self.old.spare self.new.spare }
         ensures count { KeepsCount self.old.table self.new.table counter.old counter.new }
     {
         self.insert(counter, Entry::Subtask { rep, is_host: true })
@@ -112,7 +112,7 @@ impl HandleTable {
     ) -> Result<u32, HandleError>
         requires { held_count self.old.table ≤ counter.old.live }
         ensures step { DoesWithMemory (waitable_set_insert self.old.table counter.old rep) self.old.spare result self.old.table self.new.table counter.old counter.new }
-        ensures spare { self.old.spare ≤ self.new.spare + 1 }
+        ensures spare { SparesOneLess result self.old.spare self.new.spare }
         ensures count { KeepsCount self.old.table self.new.table counter.old counter.new }
     {
         self.insert(counter, Entry::WaitableSet { rep })

@@ -1,7 +1,7 @@
 //! The table of a component instance's threads.
 
 ghost use Rattle.std.specs.Prelude.{◌≡◌, ◌≤◌, ◌+◌};
-ghost use Rattle.canon_handles.specs.Table.{max_handle, empty_table, entry_at, entry_count, Does, DoesWithMemory};
+ghost use Rattle.canon_handles.specs.Table.{max_handle, empty_table, entry_at, entry_count, Does, DoesWithMemory, SparesOneLess};
 ghost use Rattle.canon_handles.specs.Calls.{guest_thread_insert, guest_thread_rep, guest_thread_remove};
 
 use crate::counter::HandleCounter;
@@ -54,7 +54,7 @@ impl ThreadHandleTable {
     ) -> Result<u32, HandleError>
         requires { entry_count self.old.table ≤ counter.old.live }
         ensures step { DoesWithMemory (guest_thread_insert self.old.table counter.old rep) self.old.spare result self.old.table self.new.table counter.old counter.new }
-        ensures spare { self.old.spare ≤ self.new.spare + 1 }
+        ensures spare { SparesOneLess result self.old.spare self.new.spare }
         ensures count { entry_count self.new.table + counter.old.live ≡ entry_count self.old.table + counter.new.live }
     {
         self.table.insert(counter, GuestThread { rep })
