@@ -6,7 +6,7 @@ use Rattle.canon_handles.specs.declared.handle.TypedResource.{TypedResource}
 use Rattle.canon_handles.specs.declared.error.HandleError.{HandleError}
 use Rattle.canon_handles.specs.declared.error.HandleError.TheVariants.{IndexOverflow, HandleLimit}
 use Rattle.canon_handles.specs.Step.{put, one_if, refuse_if}
-use Rattle.canon_handles.specs.Table.{Table, Counter, entry_at, entry_count, fresh_index, with_new, with_entry, without, IsFresh, insert, is_full, is_at_limit, one_more, DoesWithMemory}
+use Rattle.canon_handles.specs.Table.{Table, Stored, Counter, entry_at, entry_count, fresh_index, with_new, with_entry, without, IsFresh, insert, is_full, is_at_limit, one_more, DoesWithMemory}
 use Rattle.canon_handles.specs.Calls.{lends_of, held_count, IsUnlent}
 use Rattle.canon_handles.proofs.StepLemmas.{sum_by-put}
 
@@ -69,14 +69,14 @@ insert_table {E = E} t c e a is = ap (λ (a : ℕ × Table E × Counter). a.1) (
 pub insert_counter : {E : Type 0} (t : Table E) (c : Counter) (e : E) (a : ℕ × Table E × Counter) → insert t c e ≡ Ok a → one_more c ≡ a.2
 insert_counter {E = E} t c e a is = ap (λ (a : ℕ × Table E × Counter). a.2) (insert_given t c e a is)
 
-pub counts_after_insert : {E : Type 0} (r : Result ℕ HandleError) (t t' : Table E) (c c' : Counter) (e : E) (spare : ℕ) → DoesWithMemory (insert t c e) spare r t t' c c' → IsFresh t (fresh_index t) → entry_count t' + c.live ≡ entry_count t + c'.live
-counts_after_insert (Ok i) t t' c c' e spare step k =
-    let a : entry_count (with_new t e) ≡ entry_count t' = ap entry_count (insert_table t c e (i, t', c') step) in
-    let b : c.live + 1 ≡ c'.live = ap (λ (c : Counter). c.live) (insert_counter t c e (i, t', c') step) in
-    let d = entry_count-with_new t e k in
+pub counts_after_insert : {E : Type 0} (r : Result ℕ HandleError) (s s' : Stored E) (c c' : Counter) (e : E) → DoesWithMemory (insert s.table c e) r s s' c c' → IsFresh s.table (fresh_index s.table) → entry_count s'.table + c.live ≡ entry_count s.table + c'.live
+counts_after_insert (Ok i) s s' c c' e step k =
+    let a : entry_count (with_new s.table e) ≡ entry_count s'.table = ap entry_count (insert_table s.table c e (i, s'.table, c') step) in
+    let b : c.live + 1 ≡ c'.live = ap (λ (c : Counter). c.live) (insert_counter s.table c e (i, s'.table, c') step) in
+    let d = entry_count-with_new s.table e k in
     omega arith
-counts_after_insert (Err x) t t' c c' e spare step k =
-    let a : entry_count t' ≡ entry_count t = ap entry_count step.1 in
+counts_after_insert (Err x) s s' c c' e step k =
+    let a : entry_count s'.table ≡ entry_count s.table = ap entry_count step.1 in
     let b : c'.live ≡ c.live = ap (λ (c : Counter). c.live) step.2 in
     omega arith
 

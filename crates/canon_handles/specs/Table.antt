@@ -124,15 +124,15 @@ pub record IsTable {E : Type 0} (t : Table E) : Type 0 where
 -- Contracts
 
 -- a call answers what the step does, and a refused one leaves table and counter
-abbrev pub Does : {E A : Type 0} → Outcome E A → Result A HandleError → Table E → Table E → Counter → Counter → Type 0
-Does step (Ok a) t t' c c' = step ≡ Ok (a, t', c')
-Does step (Err e) t t' c c' = (step ≡ Err e) × (t' ≡ t) × (c' ≡ c)
+abbrev pub Does : {E A : Type 0} → Outcome E A → Result A HandleError → Stored E → Stored E → Counter → Counter → Type 0
+Does step (Ok a) s s' c c' = step ≡ Ok (a, s'.table, c')
+Does step (Err e) s s' c c' = (step ≡ Err e) × (s'.table ≡ s.table) × (c' ≡ c)
 
 -- the same of a call that may want memory, where nothing else refuses it and it has no insertion to spare
-abbrev pub DoesWithMemory : {E A : Type 0} → Outcome E A → ℕ → Result A HandleError → Table E → Table E → Counter → Counter → Type 0
-DoesWithMemory step spare (Ok a) t t' c c' = step ≡ Ok (a, t', c')
-DoesWithMemory step spare (Err e) t t' c c' =
-    ((step ≡ Err e) ⊎ ((e ≡ OutOfMemory) × (spare ≡ 0) × (is_ok step ≡ true))) × (t' ≡ t) × (c' ≡ c)
+abbrev pub DoesWithMemory : {E A : Type 0} → Outcome E A → Result A HandleError → Stored E → Stored E → Counter → Counter → Type 0
+DoesWithMemory step (Ok a) s s' c c' = step ≡ Ok (a, s'.table, c')
+DoesWithMemory step (Err e) s s' c c' =
+    ((step ≡ Err e) ⊎ ((e ≡ OutOfMemory) × (s.spare ≡ 0) × (is_ok step ≡ true))) × (s'.table ≡ s.table) × (c' ≡ c)
 
 -- an insertion uses up one of the insertions to spare at most, and a refused one none
 abbrev pub SparesOneLess : {A : Type 0} → Result A HandleError → ℕ → ℕ → Type 0

@@ -109,7 +109,8 @@ impl HandleTable {
     ) -> Result<u32, HandleError>
         requires counted { held_count self.old.table ≤ counter.old.live }
         requires unlent { lends_of (Some entry) ≡ 0 }
-        ensures step { DoesWithMemory (insert self.old.table counter.old entry) self.old.spare result self.old.table self.new.table counter.old counter.new }
+        ensures step { DoesWithMemory (insert self.old.table counter.old entry)
+            result self.old self.new counter.old counter.new }
         ensures spare { SparesOneLess result self.old.spare self.new.spare }
         ensures count { KeepsCount self.old.table self.new.table counter.old counter.new }
     {

@@ -18,7 +18,8 @@ impl HandleTable {
         resource: TypedResource,
     ) -> Result<u32, HandleError>
         requires { held_count self.old.table ≤ counter.old.live }
-        ensures step { DoesWithMemory (resource_own_insert self.old.table counter.old resource) self.old.spare result self.old.table self.new.table counter.old counter.new }
+        ensures step { DoesWithMemory (resource_own_insert self.old.table counter.old resource)
+            result self.old self.new counter.old counter.new }
         ensures spare { SparesOneLess result self.old.spare self.new.spare }
         ensures count { KeepsCount self.old.table self.new.table counter.old counter.new }
     {
@@ -39,7 +40,8 @@ impl HandleTable {
         scope: Scope,
     ) -> Result<u32, HandleError>
         requires { held_count self.old.table ≤ counter.old.live }
-        ensures step { DoesWithMemory (resource_borrow_insert self.old.table counter.old resource scope) self.old.spare result self.old.table self.new.table counter.old counter.new }
+        ensures step { DoesWithMemory (resource_borrow_insert self.old.table counter.old resource scope)
+            result self.old self.new counter.old counter.new }
         ensures spare { SparesOneLess result self.old.spare self.new.spare }
         ensures count { KeepsCount self.old.table self.new.table counter.old counter.new }
     {
@@ -60,7 +62,8 @@ impl HandleTable {
         idx: TypedResourceIndex,
     ) -> Result<(u32, bool), HandleError>
         requires { held_count self.old.table ≤ counter.old.live }
-        ensures step { Does (resource_lend self.old.table counter.old idx) result self.old.table self.new.table counter.old counter.new }
+        ensures step { Does (resource_lend self.old.table counter.old idx)
+            result self.old self.new counter.old counter.new }
         ensures spare { self.new.spare ≡ self.old.spare }
         ensures count { KeepsCount self.old.table self.new.table counter.old counter.new }
     {
@@ -99,7 +102,8 @@ impl HandleTable {
     ) -> Result<(), HandleError>
         requires counted { held_count self.old.table ≤ counter.old.live }
         requires lent { is_own (entry_at self.old.table (raw_index idx)) ≡ true → 0 < lends_of (entry_at self.old.table (raw_index idx)) }
-        ensures step { Does (resource_undo_lend self.old.table counter.old idx) result self.old.table self.new.table counter.old counter.new }
+        ensures step { Does (resource_undo_lend self.old.table counter.old idx)
+            result self.old self.new counter.old counter.new }
         ensures spare { self.new.spare ≡ self.old.spare }
         ensures count { KeepsCount self.old.table self.new.table counter.old counter.new }
     {
@@ -126,7 +130,8 @@ impl HandleTable {
         idx: TypedResourceIndex,
     ) -> Result<RemovedResource, HandleError>
         requires { held_count self.old.table ≤ counter.old.live }
-        ensures step { Does (remove_resource self.old.table counter.old idx) result self.old.table self.new.table counter.old counter.new }
+        ensures step { Does (remove_resource self.old.table counter.old idx)
+            result self.old self.new counter.old counter.new }
         ensures spare { self.old.spare ≤ self.new.spare }
         ensures count { KeepsCount self.old.table self.new.table counter.old counter.new }
     {

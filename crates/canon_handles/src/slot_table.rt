@@ -94,7 +94,8 @@ impl<E: Copy> SlotTable<E> {
         counter: &mut HandleCounter,
         entry: E,
     ) -> Result<u32, HandleError>
-        ensures step { DoesWithMemory (insert self.old.table counter.old entry) self.old.spare result self.old.table self.new.table counter.old counter.new }
+        ensures step { DoesWithMemory (insert self.old.table counter.old entry)
+            result self.old self.new counter.old counter.new }
         ensures spare { SparesOneLess result self.old.spare self.new.spare }
         ensures fresh { IsFresh self.old.table (fresh_index self.old.table) }
     {

@@ -24,7 +24,8 @@ impl HandleTable {
         rep: u32,
     ) -> Result<u32, HandleError>
         requires { held_count self.old.table ≤ counter.old.live }
-        ensures step { DoesWithMemory (stream_insert_read self.old.table counter.old ty rep) self.old.spare result self.old.table self.new.table counter.old counter.new }
+        ensures step { DoesWithMemory (stream_insert_read self.old.table counter.old ty rep)
+            result self.old self.new counter.old counter.new }
         ensures spare { SparesOneLess result self.old.spare self.new.spare }
         ensures count { KeepsCount self.old.table self.new.table counter.old counter.new }
     {
@@ -46,7 +47,8 @@ impl HandleTable {
         rep: u32,
     ) -> Result<u32, HandleError>
         requires { held_count self.old.table ≤ counter.old.live }
-        ensures step { DoesWithMemory (stream_insert_write self.old.table counter.old ty rep) self.old.spare result self.old.table self.new.table counter.old counter.new }
+        ensures step { DoesWithMemory (stream_insert_write self.old.table counter.old ty rep)
+            result self.old self.new counter.old counter.new }
         ensures spare { SparesOneLess result self.old.spare self.new.spare }
         ensures count { KeepsCount self.old.table self.new.table counter.old counter.new }
     {
@@ -93,7 +95,8 @@ impl HandleTable {
         idx: u32,
     ) -> Result<(u32, bool), HandleError>
         requires { held_count self.old.table ≤ counter.old.live }
-        ensures step { Does (stream_remove_readable self.old.table counter.old ty idx) result self.old.table self.new.table counter.old counter.new }
+        ensures step { Does (stream_remove_readable self.old.table counter.old ty idx)
+            result self.old self.new counter.old counter.new }
         ensures spare { self.old.spare ≤ self.new.spare }
         ensures count { KeepsCount self.old.table self.new.table counter.old counter.new }
     {
@@ -110,7 +113,8 @@ impl HandleTable {
         idx: u32,
     ) -> Result<u32, HandleError>
         requires { held_count self.old.table ≤ counter.old.live }
-        ensures step { Does (stream_remove_writable self.old.table counter.old ty idx) result self.old.table self.new.table counter.old counter.new }
+        ensures step { Does (stream_remove_writable self.old.table counter.old ty idx)
+            result self.old self.new counter.old counter.new }
         ensures spare { self.old.spare ≤ self.new.spare }
         ensures count { KeepsCount self.old.table self.new.table counter.old counter.new }
     {

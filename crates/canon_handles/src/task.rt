@@ -17,7 +17,8 @@ impl HandleTable {
         rep: u32,
     ) -> Result<u32, HandleError>
         requires { held_count self.old.table ≤ counter.old.live }
-        ensures step { DoesWithMemory (error_context_insert self.old.table counter.old rep) self.old.spare result self.old.table self.new.table counter.old counter.new }
+        ensures step { DoesWithMemory (error_context_insert self.old.table counter.old rep)
+            result self.old self.new counter.old counter.new }
         ensures spare { SparesOneLess result self.old.spare self.new.spare }
         ensures count { KeepsCount self.old.table self.new.table counter.old counter.new }
     {
@@ -38,7 +39,8 @@ impl HandleTable {
         idx: u32,
     ) -> Result<u32, HandleError>
         requires { held_count self.old.table ≤ counter.old.live }
-        ensures step { Does (error_context_drop self.old.table counter.old idx) result self.old.table self.new.table counter.old counter.new }
+        ensures step { Does (error_context_drop self.old.table counter.old idx)
+            result self.old self.new counter.old counter.new }
         ensures spare { self.old.spare ≤ self.new.spare }
         ensures count { KeepsCount self.old.table self.new.table counter.old counter.new }
     {
@@ -54,7 +56,8 @@ impl HandleTable {
         rep: u32,
     ) -> Result<u32, HandleError>
         requires { held_count self.old.table ≤ counter.old.live }
-        ensures step { DoesWithMemory (subtask_insert_guest self.old.table counter.old rep) self.old.spare result self.old.table self.new.table counter.old counter.new }
+        ensures step { DoesWithMemory (subtask_insert_guest self.old.table counter.old rep)
+            result self.old self.new counter.old counter.new }
         ensures spare { SparesOneLess result self.old.spare self.new.spare }
         ensures count { KeepsCount self.old.table self.new.table counter.old counter.new }
     {
@@ -74,7 +77,8 @@ impl HandleTable {
         rep: u32,
     ) -> Result<u32, HandleError>
         requires { held_count self.old.table ≤ counter.old.live }
-        ensures step { DoesWithMemory (subtask_insert_host self.old.table counter.old rep) self.old.spare result self.old.table self.new.table counter.old counter.new }
+        ensures step { DoesWithMemory (subtask_insert_host self.old.table counter.old rep)
+            result self.old self.new counter.old counter.new }
         ensures spare { SparesOneLess result self.old.spare self.new.spare }
         ensures count { KeepsCount self.old.table self.new.table counter.old counter.new }
     {
@@ -95,7 +99,8 @@ impl HandleTable {
         idx: u32,
     ) -> Result<(u32, bool), HandleError>
         requires { held_count self.old.table ≤ counter.old.live }
-        ensures step { Does (subtask_remove self.old.table counter.old idx) result self.old.table self.new.table counter.old counter.new }
+        ensures step { Does (subtask_remove self.old.table counter.old idx)
+            result self.old self.new counter.old counter.new }
         ensures spare { self.old.spare ≤ self.new.spare }
         ensures count { KeepsCount self.old.table self.new.table counter.old counter.new }
     {
@@ -111,7 +116,8 @@ impl HandleTable {
         rep: u32,
     ) -> Result<u32, HandleError>
         requires { held_count self.old.table ≤ counter.old.live }
-        ensures step { DoesWithMemory (waitable_set_insert self.old.table counter.old rep) self.old.spare result self.old.table self.new.table counter.old counter.new }
+        ensures step { DoesWithMemory (waitable_set_insert self.old.table counter.old rep)
+            result self.old self.new counter.old counter.new }
         ensures spare { SparesOneLess result self.old.spare self.new.spare }
         ensures count { KeepsCount self.old.table self.new.table counter.old counter.new }
     {
@@ -132,7 +138,8 @@ impl HandleTable {
         idx: u32,
     ) -> Result<u32, HandleError>
         requires { held_count self.old.table ≤ counter.old.live }
-        ensures step { Does (waitable_set_remove self.old.table counter.old idx) result self.old.table self.new.table counter.old counter.new }
+        ensures step { Does (waitable_set_remove self.old.table counter.old idx)
+            result self.old self.new counter.old counter.new }
         ensures spare { self.old.spare ≤ self.new.spare }
         ensures count { KeepsCount self.old.table self.new.table counter.old counter.new }
     {

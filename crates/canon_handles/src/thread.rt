@@ -53,7 +53,8 @@ impl ThreadHandleTable {
         rep: u32,
     ) -> Result<u32, HandleError>
         requires { entry_count self.old.table ≤ counter.old.live }
-        ensures step { DoesWithMemory (guest_thread_insert self.old.table counter.old rep) self.old.spare result self.old.table self.new.table counter.old counter.new }
+        ensures step { DoesWithMemory (guest_thread_insert self.old.table counter.old rep)
+            result self.old self.new counter.old counter.new }
         ensures spare { SparesOneLess result self.old.spare self.new.spare }
         ensures count { entry_count self.new.table + counter.old.live ≡ entry_count self.old.table + counter.new.live }
     {
@@ -77,7 +78,8 @@ impl ThreadHandleTable {
         idx: u32,
     ) -> Result<u32, HandleError>
         requires { entry_count self.old.table ≤ counter.old.live }
-        ensures step { Does (guest_thread_remove self.old.table counter.old idx) result self.old.table self.new.table counter.old counter.new }
+        ensures step { Does (guest_thread_remove self.old.table counter.old idx)
+            result self.old self.new counter.old counter.new }
         ensures spare { self.old.spare ≤ self.new.spare }
         ensures count { entry_count self.new.table + counter.old.live ≡ entry_count self.old.table + counter.new.live }
     {

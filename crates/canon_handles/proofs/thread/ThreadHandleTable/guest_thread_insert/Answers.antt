@@ -7,5 +7,5 @@ use Rattle.canon_handles.proofs.thread.ThreadHandleTable.guest_thread_insert.Goa
 pub returns-clause-count : goal.returns-clause-count
 returns-clause-count c =
     let view : entry_count c.self.inside.table.table ≡ entry_count c.args.self.now.table = ap (λ (v : Stored GuestThread). entry_count v.table) c.self.view_is in
-    let count = counts_after_insert c.insert.result c.self.inside.table.table c.insert.new.self.table c.args.counter.now c.insert.new.counter (record { rep = c.args.rep }) c.self.inside.table.spare c.insert.ensures.step c.insert.ensures.fresh in
+    let count = counts_after_insert c.insert.result c.self.inside.table c.insert.new.self c.args.counter.now c.insert.new.counter (record { rep = c.args.rep }) c.insert.ensures.step c.insert.ensures.fresh in
     omega arith
