@@ -1,11 +1,11 @@
 -- What the changes of a table do to the number of its entries and lends.
-use Rattle.std.proofs.Common.{◌≡◌, ℕ, ◌+◌, ◌<◌, ◌≤◌, Bool, true, false, List, length, get_or, Option, Some, None, is_some, Result, Ok, Err, refl, sym, ap, ◌∙◌, arith, sum_by}
+use Rattle.std.proofs.Common.{◌≡◌, ℕ, ◌+◌, Bool, true, false, Option, Some, None, is_some, Result, Ok, Err, refl, ap, ◌∙◌, arith, sum_by}
 use Rattle.canon_handles.specs.declared.handle.Entry.{Entry}
 use Rattle.canon_handles.specs.declared.handle.Entry.TheVariants.{ResourceOwn}
 use Rattle.canon_handles.specs.declared.handle.TypedResource.{TypedResource}
 use Rattle.canon_handles.specs.declared.error.HandleError.{HandleError}
 use Rattle.canon_handles.specs.declared.error.HandleError.TheVariants.{IndexOverflow, HandleLimit}
-use Rattle.canon_handles.specs.Step.{put, one_if, refuse_if}
+use Rattle.canon_handles.specs.Step.{one_if, refuse_if}
 use Rattle.canon_handles.specs.Table.{Table, Stored, Counter, entry_at, entry_count, fresh_index, with_new, with_entry, without, IsFresh, insert, is_full, is_at_limit, one_more, DoesWithMemory}
 use Rattle.canon_handles.specs.Calls.{lends_of, held_count, IsUnlent}
 use Rattle.canon_handles.proofs.StepLemmas.{sum_by-put}

@@ -1,5 +1,5 @@
 -- What writing a lent entry does to the table that it stands in.
-use Rattle.std.proofs.Common.{◌≡◌, ℕ, ◌-◌, ◌<◌, true, List, length, get_or, Option, Some, None, is_some, Result, Ok, Err, IsOkAnd, OnErr, refl, sym, ap, subst, ◌∙◌}
+use Rattle.std.proofs.Common.{◌≡◌, ℕ, ◌-◌, true, List, get_or, Some, is_some, Result, Ok, Err, IsOkAnd, OnErr, sym, ap, subst, ◌∙◌}
 use Rattle.std.proofs.Math.ListN.{set}
 use Rattle.std.proofs.lemmas.List.{set-get_or}
 use Rattle.std.specs.Borrow.{MutBor}
@@ -7,7 +7,7 @@ use Rattle.canon_handles.specs.declared.slot.Slot.{Slot}
 use Rattle.canon_handles.specs.declared.slot.Slot.TheVariants.{Free, Taken}
 use Rattle.canon_handles.specs.declared.error.HandleError.{HandleError}
 use Rattle.canon_handles.specs.Table.{Table, Stored, entry_at}
-use Rattle.canon_handles.specs.Slots.{entry_of, slot_in, table_of, spare_of, IsStored}
+use Rattle.canon_handles.specs.Slots.{entry_of, table_of, spare_of, IsStored}
 use Rattle.canon_handles.specs.Lending.{slot_with, entry_in_slot, HandsOut}
 use Rattle.canon_handles.specs.LendingTable.{stored_with}
 use Rattle.canon_handles.proofs.SlotsLemmas.{taken_at, counted_written, write_table, write_spare, entry-table_of, same_read}

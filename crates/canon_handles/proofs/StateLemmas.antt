@@ -1,5 +1,5 @@
 -- The state of an end changes nothing of what its table holds.
-use Rattle.std.proofs.Common.{rules, ◌≡◌, ℕ, ◌+◌, Option, Some, None, Result, Ok, Err, is_some, refl, ap, arith, sum_by}
+use Rattle.std.proofs.Common.{rules, ◌≡◌, ℕ, Option, Some, None, Result, Ok, Err, is_some, refl, ap, arith, sum_by}
 use Rattle.std.specs.Result.{IsOk}
 use Rattle.canon_handles.specs.declared.handle.Entry.{Entry}
 use Rattle.canon_handles.specs.declared.handle.Entry.TheVariants as entry

@@ -1,5 +1,5 @@
 -- Laws: which index a table gives, told by what happened to its indexes, and what a state counts for.
-use Rattle.std.specs.Prelude.{◌≡◌, ℕ, ◌+◌, max, ◌==◌, Bool, true, false, ◌||◌, if◌then◌else◌, List, [], ◌∷◌, is_some}
+use Rattle.std.specs.Prelude.{◌≡◌, ℕ, ◌+◌, max, ◌==◌, Bool, false, ◌||◌, if◌then◌else◌, List, [], ◌∷◌, is_some}
 use Rattle.canon_handles.specs.declared.handle.Entry.{Entry}
 use Rattle.canon_handles.specs.declared.handle.TransmitLocalState.{TransmitLocalState}
 use Rattle.canon_handles.specs.Calls.{held_count, with_state}

@@ -1,5 +1,5 @@
 -- What becomes of the slot or the entry out of which a part is lent to be written.
-use Rattle.std.specs.Prelude.{◌≡◌, Option, Some, None, Result, Ok, Err, MatchResult}
+use Rattle.std.specs.Prelude.{◌≡◌, Result, Ok, Err, MatchResult}
 use Rattle.std.specs.Borrow.{Fml, MutBor, RattleType, LendsIfOk}
 use Rattle.canon_handles.specs.declared.handle.Entry.{Entry}
 use Rattle.canon_handles.specs.declared.handle.Entry.TheVariants as entry

@@ -1,4 +1,4 @@
-use Rattle.std.proofs.Common.{◌≡◌, refl, ◌∙◌}
+use Rattle.std.proofs.Common.{refl, ◌∙◌}
 use Rattle.canon_handles.specs.Calls.{entry_in_state}
 use Rattle.canon_handles.proofs.StateLemmas.{is_ok_of, held_in_state, held_alike}
 use Rattle.canon_handles.proofs.handle_table.HandleTable.stream_state.Goals as goal

@@ -1,4 +1,4 @@
-use Rattle.std.proofs.Common.{◌≡◌, refl, ap, ◌∙◌}
+use Rattle.std.proofs.Common.{refl, ap, ◌∙◌}
 use Rattle.canon_handles.specs.Table.{Stored}
 use Rattle.canon_handles.specs.LendingTable.{stored_with}
 use Rattle.canon_handles.proofs.LentLemmas.{lent_stored, kept_stored, lent_view, kept_view, lent_entry, on_err_always}
