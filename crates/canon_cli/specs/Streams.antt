@@ -1,5 +1,5 @@
 -- What reads and writes do to the bytes that are known, and why they fail.
-use Rattle.std.specs.Prelude.{ℕ, ◌≤◌, ◌<◌, ◌≡◌, List, length, take, Option, None, Some, Result, OnErr}
+use Rattle.std.specs.Prelude.{ℕ, ◌+◌, ◌-◌, ◌^◌, ◌≤◌, ◌≡◌, min, List, length, take, Option, Result, OnErr}
 use Rattle.std.specs.Io.KnownBytes.{Appends, Consumes}
 use Rattle.canon_memory.specs.Counts.{Rose}
 
@@ -15,6 +15,10 @@ AppendsFront old new piece = (n : ℕ) × (n ≤ length piece) × Appends old ne
 -- at most so many bytes were taken
 abbrev pub TakesAtMost : ℕ → Option (List ℕ) → Option (List ℕ) → Type 0
 TakesAtMost most old new = (bytes : List ℕ) × Consumes old new bytes × (length bytes ≤ most)
+
+-- the number of the next call, counted from 1 and standing still at the end of a `u64`
+abbrev pub next_call : ℕ → ℕ
+next_call calls = min (calls + 1) (2 ^ 64 - 1)
 
 -- what contracts see of a source in memory: the bytes that are left, how many it gives at once, which calls fail, and
 -- how many calls and faults there were

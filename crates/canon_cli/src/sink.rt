@@ -1,7 +1,7 @@
-ghost use Rattle.std.specs.Prelude.{◌≡◌, [], ◌+◌, ◌-◌, ◌^◌, ◌≤◌, ◌<◌, min, length, Some, None, Option, List, ℕ, IfOk};
+ghost use Rattle.std.specs.Prelude.{◌≡◌, [], ◌+◌, ◌-◌, ◌^◌, ◌≤◌, ◌<◌, min, length, Some, None, Option, List, ℕ, Contains, IfOk, IsErr};
 ghost use Rattle.std.specs.Io.{WritesAtMost};
 ghost use Rattle.std.specs.Io.KnownBytes.{WriteAppends};
-ghost use Rattle.canon_cli.specs.Streams.{Counted, HasCause, Taking};
+ghost use Rattle.canon_cli.specs.Streams.{Counted, HasCause, Taking, next_call};
 
 use crate::Failed;
 use std::alloc::Global;
@@ -71,7 +71,15 @@ impl Sink for MemorySink {
 
     ghost faults = { λ s. s.faults };
 
-    fn write(&mut self, piece: &[u8]) -> Result<usize, Failed> {
+    fn write(&mut self, piece: &[u8]) -> Result<usize, Failed>
+        ensures bound { WritesAtMost result piece.now }
+        ensures goes_on { IfOk result (λ n. 0 < length piece.now → 0 < n) }
+        ensures bytes { WriteAppends (Some self.old.taken) (Some self.new.taken) result piece.now }
+        ensures cause { HasCause self.old.faults self.new.faults result }
+        ensures fails { Contains self.old.fails (next_call self.old.calls) → IsErr result }
+        ensures given { IfOk result (λ n. n ≡ min (length piece.now) self.old.chunk) }
+        ensures counted { self.new.calls ≡ next_call self.old.calls }
+    {
         self.calls = self.calls.saturating_add(1);
         if self.fails.contains(&self.calls) {
             self.faults = self.faults.saturating_add(1);

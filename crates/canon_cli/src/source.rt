@@ -1,7 +1,7 @@
-ghost use Rattle.std.specs.Prelude.{◌≡◌, ◌+◌, ◌-◌, ◌^◌, ◌≤◌, ◌<◌, min, drop, take, length, Some, None, Option, List, ℕ};
+ghost use Rattle.std.specs.Prelude.{◌≡◌, ◌+◌, ◌-◌, ◌^◌, ◌≤◌, ◌<◌, min, drop, take, length, Some, None, Option, List, ℕ, Contains, IfOk, IsErr, ◌↔◌};
 ghost use Rattle.std.specs.Io.{ReadsAtMost};
 ghost use Rattle.std.specs.Io.KnownBytes.{ReadConsumes};
-ghost use Rattle.canon_cli.specs.Streams.{Counted, Feeding, HasCause};
+ghost use Rattle.canon_cli.specs.Streams.{Counted, Feeding, HasCause, next_call};
 
 use std::io::Read;
 use std::marker::Model;
@@ -66,7 +66,14 @@ impl Source for MemorySource {
 
     ghost faults = { λ s. s.faults };
 
-    fn read(&mut self, buf: &mut [u8]) -> Result<usize, Failed> {
+    fn read(&mut self, buf: &mut [u8]) -> Result<usize, Failed>
+        ensures bound { ReadsAtMost result buf.new }
+        ensures bytes { ReadConsumes (Some self.old.left) (Some self.new.left) result buf.new }
+        ensures cause { HasCause self.old.faults self.new.faults result }
+        ensures fails { IsErr result ↔ Contains self.old.fails (next_call self.old.calls) }
+        ensures given { IfOk result (λ n. n ≡ min (min (length self.old.left) (length buf.old)) self.old.chunk) }
+        ensures counted { self.new.calls ≡ next_call self.old.calls }
+    {
         self.calls = self.calls.saturating_add(1);
         if self.fails.contains(&self.calls) {
             self.faults = self.faults.saturating_add(1);
