@@ -1,13 +1,12 @@
 -- Values and their trees.
-use Rattle.std.proofs.Common.{◌≡◌, ◌+◌, ℕ, ℤ, zero, suc, List, [], ◌∷◌, length, refl, ap, ap₂, arith, sym, subst, ◌∙◌, Bool, pos, inl, inr}
+use Rattle.std.proofs.Common.{◌≡◌, ◌+◌, suc, List, [], ◌∷◌, length, refl, ap, ap₂, arith, sym, subst, ◌∙◌, pos, inl, inr}
 use Rattle.canon_model.specs.Shape.{Members, Scalar, Shape, bool, borrow, char, f32, f64, fixed, flags, list, member, member_count, no_members, own, product, s16, s32, s64, s8, scalar, string, u16, u32, u64, u8, variant}
 use Rattle.canon_model.specs.Tree.{Tree, Trees, no_trees, number, tree, truth}
-use Rattle.canon_value.specs.Fails.{Failure, Fails, FailsAt, IsOtherScalar, MemberFails, mismatch, places}
+use Rattle.canon_value.specs.Fails.{Failure, Fails, IsOtherScalar, mismatch, places}
 use Rattle.canon_value.specs.Laws.{FailureExcludes, FailuresAreAll, OneValue}
 use Rattle.canon_value.specs.Value.{HasScalar, HasTree, HaveTrees}
 use Rattle.canon_value.specs.declared.val.Val.{Val}
 use Rattle.canon_value.specs.declared.val.Val.TheVariants as val
-use Rattle.canon_value.proofs.Rows.{places_one}
 
 -- there are as many values as members
 pub have_count : (ms : Members) (vs : List Val) (ts : Trees) → HaveTrees ms vs ts → length vs ≡ member_count ms

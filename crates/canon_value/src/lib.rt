@@ -7,6 +7,8 @@ mod fault;
 pub mod laws;
 mod lift;
 mod lower;
+#[cfg(test)]
+mod tests;
 mod val;
 
 pub use component::{Component, Export};
