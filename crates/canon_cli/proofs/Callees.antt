@@ -1,12 +1,11 @@
 -- The parameters and results of a callee.
-use Rattle.std.proofs.Common.{◌≡◌, ◌≤◌, ◌<◌, ℕ, List, length, Some, ap, arith, refl, sym, ◌∙◌}
+use Rattle.std.proofs.Common.{◌≡◌, ◌≤◌, length, Some, ap, arith, ◌∙◌}
 use Rattle.std.specs.Prelude.{slice_get}
-use Rattle.canon_model.specs.Flat.{max_params, max_results}
+use Rattle.canon_model.specs.Flat.{max_params}
 use Rattle.canon_model.specs.Layout.{members_flat}
-use Rattle.canon_model.specs.Shape.{member_count}
 use Rattle.canon_types.specs.Table.{IsOver, Table, param_members, result_members, types_of}
 use Rattle.canon_types.specs.declared.table.TypeFunc.{TypeFunc}
-use Rattle.canon_value.proofs.Scalars.{member_count-members_of, members_flat-members_of}
+use Rattle.canon_value.proofs.Scalars.{members_flat-members_of}
 use Rattle.canon_value.specs.declared.component.Component.{Component}
 use Rattle.canon_value.specs.declared.component.Export.{Export}
 use Rattle.canon_cli.specs.Call.{result_words}

@@ -1,6 +1,7 @@
 pub mod Callees
 pub mod Inputs
 pub mod JsonViews
+pub mod Listed
 pub mod Outcomes
 pub mod Pieces
 pub mod Played

@@ -1,8 +1,7 @@
 -- What a call did, from what its steps answered.
-use Rattle.std.proofs.Common.{◌≡◌, ◌≤◌, ℕ, List, [], ◌∷◌, ◌++◌, length, Option, None, Some, Result, Ok, Err, Vec, Global, refl, ap, subst, sym, ◌∙◌, inl, inr, arith}
+use Rattle.std.proofs.Common.{◌≡◌, ℕ, List, [], ◌∷◌, length, Option, None, Some, Result, Ok, Err, Vec, Global, refl, subst, sym, inl, inr, arith}
 use Rattle.canon_memory.specs.declared.event.Event.{Event}
 use Rattle.canon_memory.specs.declared.event.Event.TheVariants as event
-use Rattle.canon_model.specs.Tree.{Trees}
 use Rattle.canon_model.specs.Memory.{Memory}
 use Rattle.canon_model.specs.Shape.{Members, member_count}
 use Rattle.canon_model.specs.Text.{Encoding}
@@ -11,11 +10,10 @@ use Rattle.std.specs.Prelude.{IfOk}
 use Rattle.canon_value.specs.Core.{narrow}
 use Rattle.canon_value.specs.Fails.{MemberFails, mismatch}
 use Rattle.canon_value.specs.Lowers.{AreArgs, AreResults}
-use Rattle.canon_value.specs.declared.fault.Fault.{Fault}
 use Rattle.canon_value.specs.declared.fault.Fault.TheVariants as fault
 use Rattle.canon_value.specs.declared.val.Val.{Val}
-use Rattle.canon_cli.specs.Call.{Call, IsCall, Lifted, OnAnswered, Ran, result_words}
-use Rattle.canon_cli.specs.Runs.{Each, EndsIn, IsFrontOfRun, IsOneRun, IsReturn, IsTrap, NewEvents, OnReturn, OnStart}
+use Rattle.canon_cli.specs.Call.{Call, IsCall, Lifted, OnAnswered, result_words}
+use Rattle.canon_cli.specs.Runs.{IsFrontOfRun, NewEvents}
 use Rattle.canon_cli.specs.Stores.{Callee}
 use Rattle.canon_cli.specs.declared.error.Error.{Error}
 use Rattle.canon_cli.specs.declared.error.Error.TheVariants as error

@@ -1,5 +1,5 @@
 -- The record of a script's call, from what the call ensures.
-use Rattle.std.proofs.Common.{◌≡◌, ◌≢◌, ℕ, List, [], ◌∷◌, ◌++◌, Option, Some, Result, Ok, Err, refl, ap, subst, sym, ◌∙◌, length}
+use Rattle.std.proofs.Common.{◌≡◌, ◌≢◌, ℕ, List, [], ◌++◌, Some, Result, Ok, Err, refl, ap, subst, sym, ◌∙◌, length}
 use Rattle.std.proofs.lemmas.List.{with_items_is}
 use Rattle.std.specs.Prelude.{OnOk, Vec, slice_get}
 use Rattle.std.specs.Vec.{with_items}
@@ -7,9 +7,7 @@ use Rattle.std.specs.declared.alloc.Global.{Global}
 use Rattle.canon_memory.specs.Guest.{Recorded}
 use Rattle.canon_memory.specs.declared.event.Event.{Event}
 use Rattle.canon_model.specs.Shape.{member_count}
-use Rattle.canon_model.specs.Text.{utf8}
 use Rattle.canon_types.specs.Table.{Table, members_of}
-use Rattle.canon_types.specs.declared.table.InterfaceType.{InterfaceType}
 use Rattle.canon_value.proofs.Scalars.{member_count-members_of}
 use Rattle.canon_value.specs.Component.{encoding_in}
 use Rattle.canon_value.specs.Fails.{MemberFails, mismatch}
@@ -19,7 +17,7 @@ use Rattle.canon_value.specs.declared.fault.Fault.TheVariants as fault
 use Rattle.canon_value.specs.declared.val.Val.{Val}
 use Rattle.canon_cli.specs.Call.{IsCall, OnAnswered}
 use Rattle.canon_cli.specs.Play.{Play}
-use Rattle.canon_cli.specs.Runs.{Each, NewEvents, OnReturn}
+use Rattle.canon_cli.specs.Runs.{NewEvents}
 use Rattle.canon_cli.specs.Scripted.{Does, Doing, Follows}
 use Rattle.canon_cli.specs.Session.{IsPlayed, IsScripted, fresh_store, outcome, script_callee, script_memory, script_table, values_of}
 use Rattle.canon_cli.specs.Stores.{Callee, Named, Stored, callee_in, callee_of, params_in, results_in}

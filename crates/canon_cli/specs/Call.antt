@@ -16,7 +16,7 @@ use Rattle.canon_value.specs.Value.{HaveTrees}
 use Rattle.canon_value.specs.declared.fault.Fault.{Fault}
 use Rattle.canon_value.specs.declared.fault.Fault.TheVariants as fault
 use Rattle.canon_value.specs.declared.val.Val.{Val}
-use Rattle.canon_cli.specs.Runs.{Each, EndsIn, IsFrontOfRun, IsOneRun, IsReturn, IsRun, IsTrap, OnReturn, OnStart}
+use Rattle.canon_cli.specs.Runs.{Each, EndsIn, IsFrontOfRun, IsOneRun, IsReturn, IsTrap, OnReturn, OnStart}
 use Rattle.canon_cli.specs.Stores.{Callee}
 use Rattle.canon_cli.specs.declared.error.Error.{Error}
 use Rattle.canon_cli.specs.declared.error.Error.TheVariants as error

@@ -1,5 +1,7 @@
 pub mod Call
+pub mod Conversions
 pub mod Json
+pub mod Lines
 pub mod Play
 pub mod Program
 pub mod Runs
@@ -8,3 +10,4 @@ pub mod Session
 pub mod Stores
 pub mod Streams
 pub mod Text
+pub mod TextCalls

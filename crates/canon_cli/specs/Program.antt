@@ -1,19 +1,46 @@
 -- What the program reads, and what it answers.
-use Rattle.std.specs.Prelude.{◌≡◌, ℕ, ◌^◌, ◌<◌, ◌≤◌, ◌⊎◌, List, [], ◌∷◌, length, Bool, true, false, nat_eq, codes, Option, None, Some, String, string_bytes, IsUtf8}
+use Rattle.std.specs.Prelude.{◌≡◌, ℕ, ◌^◌, ◌<◌, ◌≤◌, ◌⊎◌, List, [], ◌∷◌, length, nat_eq, codes, if◌then◌else◌, Option, None, Some, option_map, String, string_bytes, IsUtf8}
 use lib.Pointwise.{pointwise}
 use Rattle.std.specs.declared.alloc.Global.{Global}
 use Rattle.std.specs.Io.KnownBytes.{Consumes, IsAtEnd}
 use Rattle.serde_json.specs.Data.{Data}
 use Rattle.serde_json.specs.Read.{read}
+use Rattle.canon_cli.specs.Conversions.{Job, conversions_of}
 use Rattle.canon_cli.specs.Json.{script_of}
+use Rattle.canon_cli.specs.Lines.{Lines}
 use Rattle.canon_cli.specs.Play.{Play}
+use Rattle.canon_cli.specs.Session.{Session}
+use Rattle.canon_cli.specs.Text.{transcript_text}
+use Rattle.canon_cli.specs.declared.command.Command.{Command}
+use Rattle.canon_cli.specs.declared.command.Command.TheVariants as command
 use Rattle.canon_cli.specs.declared.status.Status.{Status}
+use Rattle.canon_cli.specs.declared.transcript.Record.{Record}
 
--- whether the words are the command `run`
-abbrev pub is_run : List (String Global) → Bool
-is_run [] = false
-is_run (word ∷ []) = pointwise nat_eq (string_bytes word) (codes "run")
-is_run (word ∷ other ∷ words) = false
+-- the command that the words are
+abbrev pub command_named : List ℕ → Option Command
+command_named name =
+    if pointwise nat_eq name (codes "run") then Some command.Run
+    else (if pointwise nat_eq name (codes "text") then Some command.Text else None)
+
+abbrev pub command_of : List (String Global) → Option Command
+command_of [] = None
+command_of (word ∷ []) = command_named (string_bytes word)
+command_of (word ∷ other ∷ words) = None
+
+-- what a command is asked to do
+pub data Task : Type 0 where
+  script : Play → Task
+  conversions : List Job → Task
+
+-- what a JSON value asks a command to do
+abbrev pub task_of : Command → Data → Option Task
+task_of command.Run tree = option_map script (script_of tree)
+task_of command.Text tree = option_map conversions (conversions_of tree)
+
+-- what a task leaves in the transcript, and its text: a script its session, and conversions their lines
+abbrev pub Done : Task → List Record → List ℕ → Type 0
+Done (script play) records text = Session play records × (text ≡ transcript_text records)
+Done (conversions jobs) records text = (records ≡ []) × Lines jobs text
 
 -- the most bytes of an input
 abbrev pub max_input : ℕ
@@ -34,13 +61,19 @@ pub record IsInput (left left' : Option (List ℕ)) (bytes : List ℕ) : Type 0 
   pub whole : IsAtEnd left'
   pub short : length bytes ≤ max_input
 
--- what was read is a script
-pub record ReadsScript (left left' : Option (List ℕ)) (play : Play) : Type 0 where
+-- what was read is a task
+pub record ReadsTask (asked : Command) (left left' : Option (List ℕ)) (task : Task) : Type 0 where
   pub input : List ℕ
   pub tree : Data
   pub whole : IsInput left left' input
   pub json : IsJson input tree
-  pub script : script_of tree ≡ Some play
+  pub is : task_of asked tree ≡ Some task
+
+-- what was read is a task, and this was left and is to be written
+pub record Performed (asked : Command) (left left' : Option (List ℕ)) (records : List Record) (text : List ℕ) : Type 0 where
+  pub task : Task
+  pub reads : ReadsTask asked left left' task
+  pub done : Done task records text
 
 -- what was read is no JSON
 pub record ReadsNoJson (left left' : Option (List ℕ)) : Type 0 where
@@ -48,13 +81,13 @@ pub record ReadsNoJson (left left' : Option (List ℕ)) : Type 0 where
   pub whole : IsInput left left' input
   pub none : IsNoJson input
 
--- what was read is JSON and no script
-pub record ReadsNoScript (left left' : Option (List ℕ)) : Type 0 where
+-- what was read is JSON and no task
+pub record ReadsNoTask (asked : Command) (left left' : Option (List ℕ)) : Type 0 where
   pub input : List ℕ
   pub tree : Data
   pub whole : IsInput left left' input
   pub json : IsJson input tree
-  pub none : script_of tree ≡ None
+  pub none : task_of asked tree ≡ None
 
 -- more was read than an input may have
 pub record ReadsTooMuch (left left' : Option (List ℕ)) : Type 0 where
@@ -62,7 +95,7 @@ pub record ReadsTooMuch (left left' : Option (List ℕ)) : Type 0 where
   pub taken : Consumes left left' input
   pub long : max_input < length input
 
--- nothing was played: wrong words (2), a failed read (3), too many bytes (6), no JSON (7) or no script (8)
+-- nothing was done: wrong words (2), a failed read (3), too many bytes (6), no JSON (7) or no task (8)
 abbrev pub IsRefusal : Status → Type 0
 IsRefusal s = (s.0 ≡ 2) ⊎ ((s.0 ≡ 3) ⊎ ((s.0 ≡ 6) ⊎ ((s.0 ≡ 7) ⊎ (s.0 ≡ 8))))
 
@@ -71,19 +104,19 @@ abbrev pub IsStatus : Status → Type 0
 IsStatus s = IsRefusal s ⊎ ((s.0 ≡ 0) ⊎ ((s.0 ≡ 4) ⊎ (s.0 ≡ 5)))
 
 -- The status of an input that was there to be read, where no read failed: each is answered, or want of memory.
-pub record AnswersInput (input : List ℕ) (s : Status) : Type 0 where
+pub record AnswersInput (asked : Command) (input : List ℕ) (s : Status) : Type 0 where
   pub too_long : max_input < length input → (s.0 ≡ 6) ⊎ (s.0 ≡ 5)
   pub not_json : length input ≤ max_input → IsNoJson input → (s.0 ≡ 7) ⊎ (s.0 ≡ 5)
-  pub bad_script : length input ≤ max_input → (tree : Data) → IsJson input tree → script_of tree ≡ None → (s.0 ≡ 8) ⊎ (s.0 ≡ 5)
-  pub script : length input ≤ max_input → (tree : Data) → IsJson input tree → (play : Play) → script_of tree ≡ Some play → (s.0 ≡ 0) ⊎ ((s.0 ≡ 4) ⊎ (s.0 ≡ 5))
+  pub bad_script : length input ≤ max_input → (tree : Data) → IsJson input tree → task_of asked tree ≡ None → (s.0 ≡ 8) ⊎ (s.0 ≡ 5)
+  pub task : length input ≤ max_input → (tree : Data) → IsJson input tree → (task : Task) → task_of asked tree ≡ Some task → (s.0 ≡ 0) ⊎ ((s.0 ≡ 4) ⊎ (s.0 ≡ 5))
 
--- an input that is a script
-pub record IsScript (input : List ℕ) : Type 0 where
+-- an input that is a task
+pub record IsTask (asked : Command) (input : List ℕ) : Type 0 where
   pub short : length input ≤ max_input
   pub tree : Data
   pub json : IsJson input tree
-  pub play : Play
-  pub script : script_of tree ≡ Some play
+  pub task : Task
+  pub is : task_of asked tree ≡ Some task
 
 -- a fact of the bytes that a source tells
 abbrev pub OnTold : Option (List ℕ) → (List ℕ → Type 0) → Type 0

@@ -1,17 +1,20 @@
-ghost use Rattle.std.specs.Prelude.{◌≡◌, ◌⊎◌, ◌≤◌, ◌<◌, ◌^◌, ◌↔◌, [], true, false, length, IfOk, IfErr, OnOk, OnErr, Err, IsUtf8};
+ghost use Rattle.std.specs.Prelude.{◌≡◌, ◌⊎◌, ◌≤◌, ◌<◌, ◌^◌, ◌↔◌, [], length, List, ℕ, None, Some, IfSome, IfOk, IfErr, OnOk, OnErr, Err, IsUtf8, string_bytes};
 ghost use Rattle.std.specs.Io.KnownBytes.{Appends, Consumes, IsAtEnd};
 ghost use Rattle.serde_json.specs.Read.{read};
 ghost use Rattle.serde_json.specs.View.{view};
 ghost use Rattle.canon_memory.specs.Counts.{Rose};
+ghost use Rattle.canon_cli.specs.Json.{script_of};
 ghost use Rattle.canon_cli.specs.Play.{Play, play_of};
-ghost use Rattle.canon_cli.specs.Program.{AnswersInput, IsJson, IsNoJson, IsRefusal, IsScript, IsStatus, OnTold, ReadsNoJson, ReadsNoScript, ReadsScript, ReadsTooMuch, is_run, max_input};
+ghost use Rattle.canon_cli.specs.Program.{AnswersInput, Done, IsJson, IsNoJson, IsRefusal, IsStatus, IsTask, OnTold, Performed, ReadsNoJson, ReadsNoTask, ReadsTask, ReadsTooMuch, Task, command_of, max_input, task_of};
 ghost use Rattle.canon_cli.specs.Session.{Session};
 ghost use Rattle.canon_cli.specs.Streams.{AppendsFront, TakesAtMost};
 ghost use Rattle.canon_cli.specs.Text.{transcript_text};
+ghost use Rattle.canon_cli.specs.declared.error.ScriptError.TheVariants as refused;
 
+use crate::command::command_of;
 use crate::player::play;
 use crate::text::print;
-use crate::{Script, ScriptError, Sink, Source, Status, Transcript, script_of_json};
+use crate::{Command, ScriptError, Sink, Source, Status, Transcript, script_of_json, text_lines};
 use serde_json::Value;
 use std::alloc::Global;
 
@@ -19,7 +22,8 @@ use std::alloc::Global;
 const MAX_INPUT: usize = 1 << 24;
 
 /// Does what the words of the command line say. The words are those after the program's name; `run` plays the script
-/// that the source holds, and writes its transcript to the sink.
+/// that the source holds, and writes its transcript to the sink; `text` plays the conversions that it holds, and writes
+/// their lines.
 pub fn run<S: Source, K: Sink>(
     alloc: Global,
     words: &[String],
@@ -30,105 +34,101 @@ pub fn run<S: Source, K: Sink>(
     requires { transcript.old ≡ [] }
 
     // At 2, which comes exactly where the words are no command, nothing was read.
-    ensures usage { (result ≡ Status.USAGE) ↔ (is_run words.now ≡ false) }
+    ensures usage { (result ≡ Status.USAGE) ↔ (command_of words.now ≡ None) }
     ensures unread { result ≡ Status.USAGE → source.new ≡ source.old }
 
-    // At 0 the source was read to its end, what was read is a script, its session is in the transcript, and the
-    // sink took the session's text; at 4 a front of it.
-    ensures done { result ≡ Status.DONE → (play : Play) × ReadsScript (S.left source.old) (S.left source.new) play
-        × Session play transcript.new × Appends (K.taken sink.old) (K.taken sink.new) (transcript_text transcript.new) }
-    ensures write_fault { result ≡ Status.WRITE_FAULT → (play : Play) × ReadsScript (S.left source.old) (S.left source.new) play
-        × Session play transcript.new × AppendsFront (K.taken sink.old) (K.taken sink.new) (transcript_text transcript.new)
-        × Rose (K.faults sink.old) (K.faults sink.new) }
+    // At 0 the source was read to its end, what was read is a script or conversions, as the command asks, its session
+    // is in the transcript, which conversions leave empty, and the sink took its text; at 4 a front of it.
+    ensures done { result ≡ Status.DONE → IfSome (command_of words.now) (λ asked. (text : List ℕ)
+        × Performed asked (S.left source.old) (S.left source.new) transcript.new text × Appends (K.taken sink.old) (K.taken sink.new) text) }
+    ensures write_fault { result ≡ Status.WRITE_FAULT → IfSome (command_of words.now) (λ asked. (text : List ℕ)
+        × Performed asked (S.left source.old) (S.left source.new) transcript.new text × AppendsFront (K.taken sink.old) (K.taken sink.new) text
+        × Rose (K.faults sink.old) (K.faults sink.new)) }
 
-    // At 5 nothing was written, and the transcript is empty or a session.
-    ensures memory { result ≡ Status.MEMORY → (sink.new ≡ sink.old) × ((transcript.new ≡ [])
-        ⊎ ((play : Play) × ReadsScript (S.left source.old) (S.left source.new) play × Session play transcript.new)) }
+    // At 5 nothing was written, and the transcript is empty or what the task leaves.
+    ensures memory { result ≡ Status.MEMORY → IfSome (command_of words.now) (λ asked. (sink.new ≡ sink.old) × ((transcript.new ≡ [])
+        ⊎ ((text : List ℕ) × Performed asked (S.left source.old) (S.left source.new) transcript.new text))) }
 
     // The other refusals, each with its cause. They leave the sink and the transcript as they were.
     ensures refused { IsRefusal result → (sink.new ≡ sink.old) × (transcript.new ≡ []) }
     ensures read_fault { result ≡ Status.READ_FAULT → Rose (S.faults source.old) (S.faults source.new) }
     ensures too_long { result ≡ Status.TOO_LONG → ReadsTooMuch (S.left source.old) (S.left source.new) }
     ensures not_json { result ≡ Status.NOT_JSON → ReadsNoJson (S.left source.old) (S.left source.new) }
-    ensures bad_script { result ≡ Status.BAD_SCRIPT → ReadsNoScript (S.left source.old) (S.left source.new) }
+    ensures bad_script { result ≡ Status.BAD_SCRIPT → IfSome (command_of words.now) (λ asked. ReadsNoTask asked (S.left source.old) (S.left source.new)) }
 
     // A command whose reads don't fail answers an input by what it is, or by want of memory; it takes no more of it
     // than an input may have, or answers so.
-    ensures answers { is_run words.now ≡ true → ¬ Rose (S.faults source.old) (S.faults source.new)
-        → OnTold (S.left source.old) (λ input. AnswersInput input result) }
+    ensures answers { IfSome (command_of words.now) (λ asked. ¬ Rose (S.faults source.old) (S.faults source.new)
+        → OnTold (S.left source.old) (λ input. AnswersInput asked input result)) }
     ensures taken { ¬ (result ≡ Status.TOO_LONG) → ¬ (result ≡ Status.MEMORY) → TakesAtMost max_input (S.left source.old) (S.left source.new) }
 
-    // A script is played and written whole, or memory ran out, where nothing failed.
-    ensures complete { is_run words.now ≡ true → ¬ Rose (S.faults source.old) (S.faults source.new) → ¬ Rose (K.faults sink.old) (K.faults sink.new)
-        → OnTold (S.left source.old) (λ input. IsScript input → (result.0 ≡ 0) ⊎ (result.0 ≡ 5)) }
+    // A task is done and its text written whole, or memory ran out, where nothing failed.
+    ensures complete { IfSome (command_of words.now) (λ asked. ¬ Rose (S.faults source.old) (S.faults source.new) → ¬ Rose (K.faults sink.old) (K.faults sink.new)
+        → OnTold (S.left source.old) (λ input. IsTask asked input → (result.0 ≡ 0) ⊎ (result.0 ≡ 5))) }
     ensures no_other { IsStatus result }
 {
-    if is_run(words) {
-        run_script(alloc, source, sink, transcript)
-    } else {
-        Status::USAGE
+    match command_of(words) {
+        Some(command) => run_command(alloc, command, source, sink, transcript),
+        None => Status::USAGE,
     }
 }
 
-/// Plays the script of a source.
-fn run_script<S: Source, K: Sink>(
+/// Does what a command asks of the JSON value of a source.
+fn run_command<S: Source, K: Sink>(
     alloc: Global,
+    asked: Command,
     source: &mut S,
     sink: &mut K,
     transcript: &mut Transcript,
 ) -> Status
     requires { transcript.old ≡ [] }
-    // At 0 the source was read to its end, what was read is a script, its session is in the transcript, and the
-    // sink took the session's text; at 4 a front of it.
-    ensures done { result ≡ Status.DONE → (play : Play) × ReadsScript (S.left source.old) (S.left source.new) play
-        × Session play transcript.new × Appends (K.taken sink.old) (K.taken sink.new) (transcript_text transcript.new) }
-    ensures write_fault { result ≡ Status.WRITE_FAULT → (play : Play) × ReadsScript (S.left source.old) (S.left source.new) play
-        × Session play transcript.new × AppendsFront (K.taken sink.old) (K.taken sink.new) (transcript_text transcript.new)
+    // At 0 the source was read to its end, what was read is a task, and the sink took its text; at 4 a front of it.
+    ensures done { result ≡ Status.DONE → (text : List ℕ)
+        × Performed asked (S.left source.old) (S.left source.new) transcript.new text × Appends (K.taken sink.old) (K.taken sink.new) text }
+    ensures write_fault { result ≡ Status.WRITE_FAULT → (text : List ℕ)
+        × Performed asked (S.left source.old) (S.left source.new) transcript.new text × AppendsFront (K.taken sink.old) (K.taken sink.new) text
         × Rose (K.faults sink.old) (K.faults sink.new) }
 
-    // At 5 nothing was written, and the transcript is empty or a session.
+    // At 5 nothing was written, and the transcript is empty or what the task leaves.
     ensures memory { result ≡ Status.MEMORY → (sink.new ≡ sink.old) × ((transcript.new ≡ [])
-        ⊎ ((play : Play) × ReadsScript (S.left source.old) (S.left source.new) play × Session play transcript.new)) }
+        ⊎ ((text : List ℕ) × Performed asked (S.left source.old) (S.left source.new) transcript.new text)) }
 
     // The other refusals, each with its cause. They leave the sink and the transcript as they were.
     ensures refused { IsRefusal result → (sink.new ≡ sink.old) × (transcript.new ≡ []) }
     ensures read_fault { result ≡ Status.READ_FAULT → Rose (S.faults source.old) (S.faults source.new) }
     ensures too_long { result ≡ Status.TOO_LONG → ReadsTooMuch (S.left source.old) (S.left source.new) }
     ensures not_json { result ≡ Status.NOT_JSON → ReadsNoJson (S.left source.old) (S.left source.new) }
-    ensures bad_script { result ≡ Status.BAD_SCRIPT → ReadsNoScript (S.left source.old) (S.left source.new) }
+    ensures bad_script { result ≡ Status.BAD_SCRIPT → ReadsNoTask asked (S.left source.old) (S.left source.new) }
     ensures taken { ¬ (result ≡ Status.TOO_LONG) → ¬ (result ≡ Status.MEMORY) → TakesAtMost max_input (S.left source.old) (S.left source.new) }
     ensures no_other { IsStatus result }
     ensures used { ¬ (result ≡ Status.USAGE) }
 {
-    let script = match read_script(alloc, source) {
-        Ok(script) => script,
+    let text = match perform_input(alloc, asked, source, transcript) {
+        Ok(text) => text,
         Err(status) => return status,
     };
-    if play(alloc, script, transcript).is_err() {
-        return Status::MEMORY;
-    }
-    match write_text(alloc, sink, transcript) {
+    match write_all(sink, text.as_bytes()) {
         Ok(()) => Status::DONE,
         Err(status) => status,
     }
 }
 
-fn is_run(words: &[String]) -> bool
-    ensures { result ≡ is_run words.now }
-{
-    match words {
-        [word] => word.as_str() == "run",
-        _ => false,
-    }
-}
-
-/// The script that a source has.
-fn read_script<S: Source>(alloc: Global, source: &mut S) -> Result<Script, Status>
-    ensures script { IfOk result (λ script. ReadsScript (S.left source.old) (S.left source.new) (play_of script)) }
+/// Does what a command asks of the JSON value of a source, and gives the text that is to be written.
+fn perform_input<S: Source>(
+    alloc: Global,
+    asked: Command,
+    source: &mut S,
+    transcript: &mut Transcript,
+) -> Result<String, Status>
+    requires { transcript.old ≡ [] }
+    ensures done { IfOk result (λ text. Performed asked (S.left source.old) (S.left source.new) transcript.new (string_bytes text)) }
+    ensures memory { result ≡ Err Status.MEMORY → (transcript.new ≡ [])
+        ⊎ ((text : List ℕ) × Performed asked (S.left source.old) (S.left source.new) transcript.new text) }
+    ensures refused { IfErr result (λ s. ¬ (s ≡ Status.MEMORY) → transcript.new ≡ []) }
     ensures read_fault { result ≡ Err Status.READ_FAULT → Rose (S.faults source.old) (S.faults source.new) }
     ensures too_long { result ≡ Err Status.TOO_LONG → ReadsTooMuch (S.left source.old) (S.left source.new) }
     ensures not_json { result ≡ Err Status.NOT_JSON → ReadsNoJson (S.left source.old) (S.left source.new) }
-    ensures bad_script { result ≡ Err Status.BAD_SCRIPT → ReadsNoScript (S.left source.old) (S.left source.new) }
+    ensures bad_script { result ≡ Err Status.BAD_SCRIPT → ReadsNoTask asked (S.left source.old) (S.left source.new) }
     ensures taken { result ≡ Err Status.READ_FAULT → TakesAtMost max_input (S.left source.old) (S.left source.new) }
     ensures no_other { IfErr result (λ s. (s ≡ Status.READ_FAULT) ⊎ ((s ≡ Status.MEMORY) ⊎ ((s ≡ Status.TOO_LONG) ⊎ ((s ≡ Status.NOT_JSON) ⊎ (s ≡ Status.BAD_SCRIPT))))) }
 {
@@ -140,24 +140,59 @@ fn read_script<S: Source>(alloc: Global, source: &mut S) -> Result<Script, Statu
         Ok(tree) => tree,
         Err(status) => return Err(status),
     };
-    match script_of_json(alloc, &tree) {
-        Ok(script) => Ok(script),
+    match perform(alloc, asked, &tree, transcript) {
+        Ok(text) => Ok(text),
         Err(ScriptError::BadScript) => Err(Status::BAD_SCRIPT),
         Err(ScriptError::OutOfMemory) => Err(Status::MEMORY),
     }
 }
 
-/// Prints a transcript to a sink.
-fn write_text<K: Sink>(alloc: Global, sink: &mut K, transcript: &Transcript) -> Result<(), Status>
-    ensures ok { OnOk result (Appends (K.taken sink.old) (K.taken sink.new) (transcript_text transcript.now)) }
-    ensures write_fault { result ≡ Err Status.WRITE_FAULT → AppendsFront (K.taken sink.old) (K.taken sink.new) (transcript_text transcript.now)
-        × Rose (K.faults sink.old) (K.faults sink.new) }
-    ensures no_other { IfErr result (λ s. (s ≡ Status.MEMORY) ⊎ (s ≡ Status.WRITE_FAULT)) }
-    ensures memory { result ≡ Err Status.MEMORY → sink.new ≡ sink.old }
+/// Does what a command asks of a JSON value, and gives the text that is to be written.
+fn perform(
+    alloc: Global,
+    asked: Command,
+    tree: &Value,
+    transcript: &mut Transcript,
+) -> Result<String, ScriptError>
+    requires { transcript.old ≡ [] }
+    ensures done { IfOk result (λ text. (task : Task) × (task_of asked (view tree.now) ≡ Some task) × Done task transcript.new (string_bytes text)) }
+    ensures memory { result ≡ Err refused.OutOfMemory → (transcript.new ≡ [])
+        ⊎ ((task : Task) × (text : List ℕ) × (task_of asked (view tree.now) ≡ Some task) × Done task transcript.new text) }
+    ensures bad_script { result ≡ Err refused.BadScript → (task_of asked (view tree.now) ≡ None) × (transcript.new ≡ []) }
 {
-    match print(alloc, transcript) {
-        Ok(text) => write_all(sink, text.as_bytes()),
-        Err(_) => Err(Status::MEMORY),
+    match asked {
+        Command::Run => perform_script(alloc, tree, transcript),
+        Command::Text => perform_conversions(alloc, tree),
+    }
+}
+
+/// Plays the script of a JSON value, and prints its transcript.
+fn perform_script(
+    alloc: Global,
+    tree: &Value,
+    transcript: &mut Transcript,
+) -> Result<String, ScriptError>
+    requires { transcript.old ≡ [] }
+    ensures done { IfOk result (λ text. (task : Task) × (task_of Command.Run (view tree.now) ≡ Some task) × Done task transcript.new (string_bytes text)) }
+    ensures memory { result ≡ Err refused.OutOfMemory → (transcript.new ≡ [])
+        ⊎ ((task : Task) × (text : List ℕ) × (task_of Command.Run (view tree.now) ≡ Some task) × Done task transcript.new text) }
+    ensures bad_script { result ≡ Err refused.BadScript → (task_of Command.Run (view tree.now) ≡ None) × (transcript.new ≡ []) }
+{
+    let script = script_of_json(alloc, tree)?;
+    if play(alloc, script, transcript).is_err() {
+        return Err(ScriptError::OutOfMemory);
+    }
+    Ok(print(alloc, transcript)?)
+}
+
+/// Plays the conversions of a JSON value, and prints their lines.
+fn perform_conversions(alloc: Global, tree: &Value) -> Result<String, ScriptError>
+    ensures done { IfOk result (λ text. (task : Task) × (task_of Command.Text (view tree.now) ≡ Some task) × Done task [] (string_bytes text)) }
+    ensures bad_script { result ≡ Err refused.BadScript → task_of Command.Text (view tree.now) ≡ None }
+{
+    match text_lines(alloc, tree) {
+        Ok(text) => Ok(text),
+        Err(error) => Err(error),
     }
 }
 

@@ -1,13 +1,11 @@
-use Rattle.std.proofs.Common.{Some, ◌≡◌, ◌≤◌, ◌∙◌, ap, arith, length, sym, subst}
+use Rattle.std.proofs.Common.{Some, ◌≡◌, ◌∙◌, ap, arith, length, sym, subst}
 use Rattle.std.specs.Prelude.{slice_get}
-use Rattle.canon_model.specs.Flat.{max_params, max_results}
 use Rattle.canon_model.specs.Layout.{members_flat}
 use Rattle.canon_model.specs.Shape.{member_count}
-use Rattle.canon_types.specs.Table.{IsOver, Table, param_members, result_members}
+use Rattle.canon_types.specs.Table.{IsOver, param_members}
 use Rattle.canon_types.specs.Table.{types_of as member_types}
 use Rattle.canon_value.proofs.Scalars.{member_count-members_of}
 use Rattle.canon_value.specs.Core.{types_of}
-use Rattle.canon_cli.specs.Call.{result_words}
 use Rattle.canon_cli.specs.Stores.{export_callee}
 use Rattle.canon_cli.proofs.Callees.{callee_params, param_words, params_near}
 use Rattle.canon_cli.proofs.func.lower_params.Goals as goal

@@ -1,5 +1,4 @@
-use Rattle.std.proofs.Common.{List, Ok, Err, Result, Vec, Global, ◌∙◌, ap, subst}
-use Rattle.canon_memory.specs.declared.event.Event.{Event}
+use Rattle.std.proofs.Common.{Ok, Err, Result, Vec, Global, ◌∙◌, subst}
 use Rattle.canon_value.specs.declared.val.Val.{Val}
 use Rattle.canon_cli.proofs.Outcomes.{err_call, ok_call, same_answered, weaker}
 use Rattle.canon_cli.specs.Call.{Call, OnAnswered}

@@ -1,4 +1,4 @@
-use Rattle.std.proofs.Common.{◌≡◌, ◌+◌, ◌∙◌, ◌≤◌, ap, arith, length, sym}
+use Rattle.std.proofs.Common.{◌+◌, ◌∙◌, ◌≤◌, ap, arith, length, sym}
 use Rattle.std.proofs.lemmas.Grind.{common_steps}
 use Rattle.canon_cli.proofs.Pieces.{given, gives_front, none_left}
 use Rattle.canon_cli.proofs.source.MemorySourceSource.read.Goals as goal

@@ -1,0 +1,85 @@
+-- The conversions that a JSON value asks for.
+use Rattle.std.specs.Prelude.{ℕ, ◌+◌, ◌-◌, ◌&&◌, ◌++◌, List, [], ◌∷◌, length, Bool, false, nat_le, nat_eq, if◌then◌else◌, codes, Option, None, Some, Result, Ok, Err, option_and_then, replicate}
+use lib.Pointwise.{pointwise}
+use Rattle.hex.specs.Hex.{decode_of, encode_lower}
+use Rattle.hex.specs.declared.error.FromHexError.{FromHexError}
+use Rattle.serde_json.specs.Data.{Data}
+use Rattle.serde_json.specs.Find.{get, as_bool, as_str, as_object}
+use Rattle.canon_cli.specs.Json.{each_of, has_len, or_else, word_of}
+use Rattle.canon_cli.specs.TextCalls.{fits, max_room, name_of}
+use Rattle.canon_cli.specs.declared.conversion.TextCall.{TextCall}
+use Rattle.canon_cli.specs.declared.conversion.TextCall.TheVariants as call
+use Rattle.canon_cli.specs.declared.conversion.Conversion.{Conversion}
+
+-- a conversion: its source and the front of its destination as bytes, and the destination's bytes
+pub record Job : Type 0 where
+  pub call : TextCall
+  pub src : List ℕ
+  pub room : ℕ
+  pub dst : List ℕ
+  pub first : Bool
+  pub so_far : ℕ
+
+abbrev pub job_of : Conversion → Job
+job_of c = record { call = c.call; src = c.src.items; room = c.room; dst = c.dst.items; first = c.first; so_far = c.so_far }
+
+-- the destination before the call: the rest is zero
+abbrev pub destination : Job → List ℕ
+destination j = j.dst ++ replicate (j.room - length j.dst) 0
+
+abbrev pub calls : List TextCall
+calls = call.Utf8ToUtf8 ∷ call.Utf16ToUtf16 ∷ call.Latin1ToLatin1 ∷ call.Latin1ToUtf16 ∷ call.Utf8ToUtf16 ∷ call.Utf16ToUtf8 ∷ call.Latin1ToUtf8
+    ∷ call.Utf16ToCompactProbablyUtf16 ∷ call.Utf8ToLatin1 ∷ call.Utf16ToLatin1 ∷ call.Utf8ToCompactUtf16 ∷ call.Utf16ToCompactUtf16 ∷ []
+
+-- the call among these that has the name
+abbrev pub call_among : List TextCall → List ℕ → Option TextCall
+call_among [] name = None
+call_among (c ∷ cs) name = if pointwise nat_eq name (name_of c) then Some c else call_among cs name
+
+abbrev pub call_of : Data → Option TextCall
+call_of d = option_and_then (call_among calls) (as_str d)
+
+-- the bytes whose hex, in small letters, this is
+abbrev pub spelled_so : List ℕ → Result (List ℕ) FromHexError → Option (List ℕ)
+spelled_so text (Ok bytes) = if pointwise nat_eq text (encode_lower bytes) then Some bytes else None
+spelled_so text (Err e) = None
+
+abbrev pub hex_bytes : List ℕ → Option (List ℕ)
+hex_bytes text = spelled_so text (decode_of text)
+
+abbrev pub bytes_of : Data → Option (List ℕ)
+bytes_of d = option_and_then hex_bytes (as_str d)
+
+-- how many members of these names there are
+abbrev pub there : Option Data → ℕ
+there None = 0
+there (Some d) = 1
+
+abbrev pub optional_members : Data → ℕ
+optional_members d = there (get (codes "dst") d) + (there (get (codes "first") d) + there (get (codes "so_far") d))
+
+-- a conversion whose destination holds its front, and whose call's condition holds
+abbrev pub if_fits : Job → Option Job
+if_fits j = if nat_le j.room max_room && (nat_le (length j.dst) j.room && fits j.call (length j.src) j.room j.so_far) then Some j else None
+
+abbrev pub job_with : TextCall → ℕ → Bool → ℕ → List ℕ → List ℕ → Job
+job_with c room first so_far src dst = record { call = c; src = src; room = room; dst = dst; first = first; so_far = so_far }
+
+-- with a call and its numbers, the source and the destination's front
+abbrev pub with_bytes : Data → TextCall → ℕ → Bool → ℕ → Option Job
+with_bytes d c room first so_far =
+    option_and_then (λ src. option_and_then (λ dst. if_fits (job_with c room first so_far src dst)) (or_else (get (codes "dst") d) bytes_of (Some [])))
+    (option_and_then bytes_of (get (codes "src") d))
+
+abbrev pub conversion_of : Data → Option Job
+conversion_of d =
+    if has_len (3 + optional_members d) (as_object d)
+    then option_and_then (λ c. option_and_then (λ room. option_and_then (λ first. option_and_then (with_bytes d c room first)
+    (or_else (get (codes "so_far") d) word_of (Some 0)))
+    (or_else (get (codes "first") d) as_bool (Some false)))
+    (option_and_then word_of (get (codes "room") d)))
+    (option_and_then call_of (get (codes "fn") d))
+    else None
+
+abbrev pub conversions_of : Data → Option (List Job)
+conversions_of d = if has_len 1 (as_object d) then option_and_then (each_of conversion_of) (get (codes "text") d) else None

@@ -1,0 +1,183 @@
+ghost use Rattle.std.specs.Prelude.{◌≡◌, ◌≤◌, ◌++◌, [], map, false, codes, Some, option_map};
+ghost use Rattle.hex.specs.Hex.{decode_of, encode_lower};
+ghost use Rattle.serde_json.specs.Find.{as_bool, get};
+ghost use Rattle.serde_json.specs.View.{view, items_view};
+ghost use Rattle.canon_cli.specs.Conversions as spec;
+ghost use Rattle.canon_cli.specs.Json as json_spec;
+ghost use Rattle.canon_cli.specs.Json.{Gives};
+
+use crate::ScriptError;
+use crate::conversion::{CALLS, Conversion, TextCall};
+use crate::json::has_len;
+use hex::FromHexError;
+use serde_json::Value;
+use std::alloc::Global;
+
+/// The most bytes of a destination.
+const MAX_ROOM: u64 = 1 << 20;
+
+/// The conversions that a JSON value asks for.
+pub(crate) fn conversions_of(alloc: Global, v: &Value) -> Result<Vec<Conversion>, ScriptError>
+    ensures { Gives (λ cs. map spec.job_of cs.items) result (spec.conversions_of (view v.now)) }
+{
+    if !has_len(v, 1) {
+        return Err(ScriptError::BadScript);
+    }
+    let Some(items) = v.get("text") else {
+        return Err(ScriptError::BadScript);
+    };
+    let Some(items) = items.as_array() else {
+        return Err(ScriptError::BadScript);
+    };
+    each(alloc, items)
+}
+
+fn each(alloc: Global, items: &[Value]) -> Result<Vec<Conversion>, ScriptError>
+    ensures { Gives (λ cs. map spec.job_of cs.items) result (json_spec.each spec.conversion_of (items_view items.now)) }
+{
+    let mut found = Vec::new(alloc);
+    for item in items {
+        let conversion = conversion_of(alloc, item)?;
+        found.push(conversion)?;
+    }
+    Ok(found)
+}
+
+fn conversion_of(alloc: Global, v: &Value) -> Result<Conversion, ScriptError>
+    ensures { Gives spec.job_of result (spec.conversion_of (view v.now)) }
+{
+    if !has_len(v, 3 + optional_members(v)) {
+        return Err(ScriptError::BadScript);
+    }
+    let Some(call) = v.get("fn").and_then(call_of) else {
+        return Err(ScriptError::BadScript);
+    };
+    let Some(room) = v.get("room").and_then(Value::as_u64) else {
+        return Err(ScriptError::BadScript);
+    };
+    let Some(first) = first_of(v) else {
+        return Err(ScriptError::BadScript);
+    };
+    let Some(so_far) = so_far_of(v) else {
+        return Err(ScriptError::BadScript);
+    };
+    with_bytes(alloc, v, call, room, first, so_far)
+}
+
+fn optional_members(v: &Value) -> usize
+    ensures { result ≡ spec.optional_members (view v.now) }
+{
+    there(v.get("dst")) + (there(v.get("first")) + there(v.get("so_far")))
+}
+
+fn there(v: Option<&Value>) -> usize
+    ensures count { result ≡ spec.there (option_map (λ x. view x.now) v.entry) }
+    ensures few { result ≤ 1 }
+{
+    match v {
+        Some(_) => 1,
+        None => 0,
+    }
+}
+
+fn first_of(v: &Value) -> Option<bool>
+    ensures { result ≡ json_spec.or_else (get (codes "first") (view v.now)) as_bool (Some false) }
+{
+    match v.get("first") {
+        Some(first) => first.as_bool(),
+        None => Some(false),
+    }
+}
+
+fn so_far_of(v: &Value) -> Option<u64>
+    ensures { result ≡ json_spec.or_else (get (codes "so_far") (view v.now)) json_spec.word_of (Some 0) }
+{
+    match v.get("so_far") {
+        Some(so_far) => so_far.as_u64(),
+        None => Some(0),
+    }
+}
+
+// With a call and its numbers, the source and the destination's front.
+fn with_bytes(
+    alloc: Global,
+    v: &Value,
+    call: TextCall,
+    room: u64,
+    first: bool,
+    so_far: u64,
+) -> Result<Conversion, ScriptError>
+    ensures { Gives spec.job_of result (spec.with_bytes (view v.now) call room first so_far) }
+{
+    let Some(src) = v.get("src") else {
+        return Err(ScriptError::BadScript);
+    };
+    let src = bytes_of(alloc, src)?;
+    let dst = dst_of(alloc, v)?;
+    let len = dst.len() as u64;
+    if room <= MAX_ROOM && len <= room && call.fits(src.len() as u64, room, so_far) {
+        Ok(Conversion {
+            call,
+            src,
+            room,
+            dst,
+            first,
+            so_far,
+        })
+    } else {
+        Err(ScriptError::BadScript)
+    }
+}
+
+fn dst_of(alloc: Global, v: &Value) -> Result<Vec<u8>, ScriptError>
+    ensures { Gives (λ bytes. bytes.items) result (json_spec.or_else (get (codes "dst") (view v.now)) spec.bytes_of (Some [])) }
+{
+    match v.get("dst") {
+        Some(dst) => bytes_of(alloc, dst),
+        None => Ok(Vec::new(alloc)),
+    }
+}
+
+fn call_of(v: &Value) -> Option<TextCall>
+    ensures { result ≡ spec.call_of (view v.now) }
+{
+    call_among(&CALLS, v.as_str()?)
+}
+
+// The call among these that has the name.
+fn call_among(calls: &[TextCall], name: &str) -> Option<TextCall>
+    ensures { result ≡ spec.call_among calls.now name.now }
+{
+    for call in calls {
+        if call.is_named(name) {
+            return Some(*call);
+        }
+    }
+    None
+}
+
+fn bytes_of(alloc: Global, v: &Value) -> Result<Vec<u8>, ScriptError>
+    ensures { Gives (λ bytes. bytes.items) result (spec.bytes_of (view v.now)) }
+{
+    match v.as_str() {
+        Some(text) => bytes_spelled(alloc, text),
+        None => Err(ScriptError::BadScript),
+    }
+}
+
+// The bytes whose hex, in small letters, a text is.
+fn bytes_spelled(alloc: Global, text: &str) -> Result<Vec<u8>, ScriptError>
+    ensures { Gives (λ bytes. bytes.items) result (spec.hex_bytes text.now) }
+{
+    let bytes = match hex::decode(alloc, text) {
+        Ok(bytes) => bytes,
+        Err(FromHexError::OutOfMemory) => return Err(ScriptError::OutOfMemory),
+        Err(_) => return Err(ScriptError::BadScript),
+    };
+    let small = hex::encode(alloc, bytes.as_slice())?;
+    if small.as_str() == text {
+        Ok(bytes)
+    } else {
+        Err(ScriptError::BadScript)
+    }
+}
