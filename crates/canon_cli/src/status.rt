@@ -24,6 +24,6 @@ impl Status {
     /// The input is no JSON.
     pub const NOT_JSON: Status = Status(7);
 
-    /// The JSON is no script.
+    /// The JSON is no script, or no conversions.
     pub const BAD_SCRIPT: Status = Status(8);
 }
