@@ -6,7 +6,7 @@ use crate::{ComponentTypes, StoreId};
 use std::marker::Model;
 
 /// A component's types in a store. Contracts see the table and the store's number.
-#[derive(Debug, Drop)]
+#[derive(Drop)]
 pub struct InstanceType {
     types: ComponentTypes,
     store: StoreId,

@@ -6,7 +6,9 @@ mod index;
 mod instance;
 mod options;
 mod table;
+mod types;
 
+pub use canon_abi::{CanonicalAbiInfo, DiscriminantSize, FlagsSize, MAX_FLAT_PARAMS, VariantInfo};
 pub use error::{OutOfMemory, TypeError};
 pub use index::{
     ExportIndex, OptionsIndex, RuntimeInstance, StoreId, TypeEnumIndex, TypeFixedLengthListIndex,
@@ -16,4 +18,9 @@ pub use index::{
 };
 pub use instance::InstanceType;
 pub use options::{CanonicalOptions, StringEncoding};
-pub use table::{ComponentTypes, InterfaceType, TypeBuilder, TypeFunc, TypeTuple};
+pub use table::{ComponentTypes, TypeBuilder};
+pub use types::{
+    InterfaceType, RecordField, ResourceKind, TypeEnum, TypeFixedLengthList, TypeFlags, TypeFunc,
+    TypeList, TypeMap, TypeOption, TypeRecord, TypeResourceTable, TypeResult, TypeTuple,
+    TypeVariant,
+};

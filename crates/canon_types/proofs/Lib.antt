@@ -1,0 +1,6 @@
+pub mod Plain
+pub mod Growth
+pub mod Measures
+pub mod Laid
+pub mod Names
+pub mod Adding
