@@ -7,7 +7,7 @@ use Rattle.canon_abi.specs.Abi.{AreOfCases, AreOfMembers, HasInfo, HasLayout, Te
 use Rattle.canon_abi.specs.declared.abi.CanonicalAbiInfo.{CanonicalAbiInfo}
 use Rattle.canon_abi.specs.declared.abi.VariantInfo.{VariantInfo}
 use Rattle.canon_model.specs.Layout.{align, align_to, cases_align, cases_flat, cases_size, ends, flat, members_align, members_end, members_flat, payload_offset, size, tag_size}
-use Rattle.canon_model.specs.Shape.{Cases, Members, Name, ProductKind, Shape, VariantKind, bare, case_count, case_for, member, no_cases, no_members, of_option, of_places, payload, product, tuple, tuple_members, variant}
+use Rattle.canon_model.specs.Shape.{Cases, Members, Name, ProductKind, Shape, VariantKind, bare, case_count, case_for, member, no_cases, no_members, of_option, of_places, of_result, result_of, payload, product, tuple, tuple_members, variant}
 use Rattle.canon_model.proofs.Layouts.{members_end-le-size}
 use Rattle.canon_types.specs.declared.types.InterfaceType.{InterfaceType}
 use Rattle.canon_types.specs.Laid.{AreLaid, ArePayloadsLaid, IsPayloadLaid, unnamed_cases}
@@ -171,6 +171,18 @@ result_cases known None None = refl
 result_cases known None (Some e) = refl
 result_cases known (Some o) None = refl
 result_cases known (Some o) (Some e) = refl
+
+pub kind_laid : (abi : CanonicalAbiInfo) (k j : VariantKind) (cs : Cases) → HasLayout abi (variant j cs) → HasLayout abi (variant k cs)
+unfolding size align flat
+kind_laid abi k j cs h = record { size = h.size; align = h.align; flat = h.flat }
+
+pub result_bytes : (known : List Shape) (ok error : Option InterfaceType) → size false (variant of_option (unnamed_cases known (ok ∷ error ∷ []))) ≡ size false (result_of (payload_in known ok) (payload_in known error))
+unfolding size
+result_bytes known ok error = ap (λ (cs : Cases). size false (variant of_result cs)) (result_cases known ok error)
+
+pub result_laid : (known : List Shape) (abi : CanonicalAbiInfo) (ok error : Option InterfaceType) → HasLayout abi (variant of_option (unnamed_cases known (ok ∷ error ∷ []))) → HasLayout abi (result_of (payload_in known ok) (payload_in known error))
+result_laid known abi ok error h =
+    subst (λ (cs : Cases). HasLayout abi (variant of_result cs)) (result_cases known ok error) (kind_laid abi of_result of_option (unnamed_cases known (ok ∷ error ∷ [])) h)
 
 -- ---- answers
 

@@ -4,3 +4,4 @@ pub mod Measures
 pub mod Laid
 pub mod Names
 pub mod Adding
+pub mod Made

@@ -102,7 +102,8 @@ impl ComponentTypes {
         ensures cause { IfErr result (λ e. e ≢ TypeError.OutOfMemory → (e ≡ TypeError.SizeTooLarge) × (2 ^ 32 ≤ size false (variant of_option (unnamed_cases (all_shapes self.now) payloads.now)))) }
     {
         let abis = self.payload_abis(payloads)?;
-        match CanonicalAbiInfo::variant(&abis) {
+        let told = abis.as_slice();
+        match CanonicalAbiInfo::variant(told) {
             Some(told) => Ok(told),
             None => Err(TypeError::SizeTooLarge),
         }
@@ -198,9 +199,10 @@ impl ComponentTypes {
         ensures err { OnErr result (self.new ≡ self.old) }
         ensures cause { IfErr result (λ e. e ≢ TypeError.OutOfMemory → refusal self.old (TupleType types.items) ≡ Some e) }
     {
-        self.check_parts(&types, types.is_empty())?;
-        let (depth, has_borrow) = self.measure(&types)?;
-        let abi = self.record_abi(&types)?;
+        let parts = types.as_slice();
+        self.check_parts(parts, parts.is_empty())?;
+        let (depth, has_borrow) = self.measure(parts)?;
+        let abi = self.record_abi(parts)?;
         self.check_room(1)?;
         let item = Item::Tuple(TypeTuple { types, abi });
         let place = self.push(Entry {
@@ -220,11 +222,12 @@ impl ComponentTypes {
         ensures cause { IfErr result (λ e. e ≢ TypeError.OutOfMemory → refusal self.old (fields_type fields.items) ≡ Some e) }
     {
         let types = self.field_types(&fields)?;
-        self.check_parts(&types, fields.is_empty())?;
-        check_count(fields.len(), MAX_NAMES)?;
+        let parts = types.as_slice();
+        self.check_parts(parts, parts.is_empty())?;
+        check_count(parts.len(), MAX_NAMES)?;
         check_fields(*self.entries.allocator(), &fields)?;
-        let (depth, has_borrow) = self.measure(&types)?;
-        let abi = self.record_abi(&types)?;
+        let (depth, has_borrow) = self.measure(parts)?;
+        let abi = self.record_abi(parts)?;
         self.check_room(1)?;
         let item = Item::Record(TypeRecord { fields, abi });
         let place = self.push(Entry {
@@ -284,13 +287,15 @@ impl ComponentTypes {
         ensures err { OnErr result (self.new ≡ self.old) }
         ensures cause { IfErr result (λ e. e ≢ TypeError.OutOfMemory → refusal self.old (cases_type cases.items) ≡ Some e) }
     {
-        let payloads = self.case_payloads(&cases)?;
-        let parts = self.payload_types(&payloads)?;
-        self.check_parts(&parts, cases.is_empty())?;
-        check_count(cases.len(), MAX_NAMES)?;
+        let listed = self.case_payloads(&cases)?;
+        let payloads = listed.as_slice();
+        let types = self.payload_types(payloads)?;
+        let parts = types.as_slice();
+        self.check_parts(parts, payloads.is_empty())?;
+        check_count(payloads.len(), MAX_NAMES)?;
         let cases = case_map(*self.entries.allocator(), cases)?;
-        let (depth, has_borrow) = self.measure(&parts)?;
-        let (abi, info) = self.variant_abi(&payloads)?;
+        let (depth, has_borrow) = self.measure(parts)?;
+        let (abi, info) = self.variant_abi(payloads)?;
         self.check_room(1)?;
         let item = Item::Variant(TypeVariant { cases, abi, info });
         let place = self.push(Entry {
@@ -306,14 +311,14 @@ impl ComponentTypes {
         ensures err { OnErr result (self.new ≡ self.old) }
         ensures cause { IfErr result (λ e. e ≢ TypeError.OutOfMemory → refusal self.old (EnumType (names_of names.items)) ≡ Some e) }
     {
-        if names.is_empty() {
+        let count = names.as_slice().len();
+        if count == 0 {
             return Err(TypeError::Empty);
         }
-        check_count(names.len(), MAX_NAMES)?;
-        let count = names.len() as u64;
+        check_count(count, MAX_NAMES)?;
+        let (abi, info) = CanonicalAbiInfo::enum_(count as u64);
         let names = name_set(*self.entries.allocator(), names)?;
         self.check_room(1)?;
-        let (abi, info) = CanonicalAbiInfo::enum_(count);
         let item = Item::Enum(TypeEnum { names, abi, info });
         let place = self.push(Entry {
             item,
@@ -328,11 +333,12 @@ impl ComponentTypes {
         ensures err { OnErr result (self.new ≡ self.old) }
         ensures cause { IfErr result (λ e. e ≢ TypeError.OutOfMemory → refusal self.old (FlagsType (names_of names.items)) ≡ Some e) }
     {
-        if names.is_empty() {
+        let count = names.as_slice().len();
+        if count == 0 {
             return Err(TypeError::Empty);
         }
-        check_count(names.len(), MAX_FLAGS)?;
-        let abi = CanonicalAbiInfo::flags(names.len() as u64);
+        check_count(count, MAX_FLAGS)?;
+        let abi = CanonicalAbiInfo::flags(count as u64);
         let names = name_set(*self.entries.allocator(), names)?;
         self.check_room(1)?;
         let item = Item::Flags(TypeFlags { names, abi });
@@ -377,9 +383,10 @@ impl ComponentTypes {
         ensures cause { IfErr result (λ e. e ≢ TypeError.OutOfMemory → refusal self.old (ResultType ok err) ≡ Some e) }
     {
         let payloads = [ok, err];
-        let parts = self.payload_types(&payloads)?;
-        self.check_parts(&parts, false)?;
-        let (depth, has_borrow) = self.measure(&parts)?;
+        let types = self.payload_types(&payloads)?;
+        let parts = types.as_slice();
+        self.check_parts(parts, false)?;
+        let (depth, has_borrow) = self.measure(parts)?;
         let (abi, info) = self.variant_abi(&payloads)?;
         self.check_room(1)?;
         let item = Item::Result(TypeResult {
