@@ -247,7 +247,7 @@ kept-same c items funcs same fit =
 -- ---- functions
 
 -- a tuple that was there is there among more definitions
-has_more : (test : Definition → Bool) (t new : Table) (more : List Definition) (i : ℕ) → new.definitions ≡ t.definitions ++ more → has test t i ≡ true → has test new i ≡ true
+pub has_more : (test : Definition → Bool) (t new : Table) (more : List Definition) (i : ℕ) → new.definitions ≡ t.definitions ++ more → has test t i ≡ true → has test new i ≡ true
 has_more test t new more i grown h = go (slice_get t.definitions i) refl
   where
     go : (o : Option Definition) → slice_get t.definitions i ≡ o → has test new i ≡ true

@@ -5,3 +5,4 @@ pub mod Laid
 pub mod Names
 pub mod Adding
 pub mod Made
+pub mod Funcs

@@ -131,15 +131,18 @@ func_refusal t params results =
     ∷ (is_full_for 3 t, error.TooManyTypes)
     ∷ []))
 
--- the table with two tuples and a function over them more
-abbrev pub with_func : Table → List InterfaceType → List InterfaceType → Bool → Table
-with_func t params results async =
+-- the table with two definitions and a function over them more
+abbrev pub with_func_of : Table → Definition → Definition → Bool → Table
+with_func_of t params results async =
     let n = length t.definitions in
     record {
-      definitions = t.definitions ++ TupleType params ∷ [] ++ TupleType results ∷ [];
+      definitions = t.definitions ++ params ∷ [] ++ results ∷ [];
       funcs = t.funcs ++ record { params = n; results = n + 1; async_ = async } ∷ [];
       resources = t.resources;
     }
+
+abbrev pub with_func : Table → List InterfaceType → List InterfaceType → Bool → Table
+with_func t params results async = with_func_of t (TupleType params) (TupleType results) async
 
 -- the function is new in the table, over two tuples that are new there
 pub record AddsFunc (old : Table) (params results : List InterfaceType) (async : Bool) (i : ℕ) (new : Table) : Type 0 where

@@ -1,4 +1,4 @@
-ghost use Rattle.std.specs.Prelude.{◌≡◌, ◌≢◌, ◌<◌, ◌≤◌, ◌^◌, false, true, map, None, Some, slice_get, MatchOption, length, All, IfOk, IfErr, OnErr, IsTrue, ◌↔◌};
+ghost use Rattle.std.specs.Prelude.{◌≡◌, ◌≢◌, ◌<◌, ◌≤◌, ◌^◌, false, true, map, None, Some, nat_lt, slice_get, MatchOption, length, All, IfOk, IfErr, OnErr, IsTrue, ◌↔◌};
 ghost use Rattle.std.specs.Result.{result_err};
 ghost use Rattle.std.specs.List.{list_all, list_any};
 ghost use Rattle.canon_abi.specs.Abi.{HasInfo, HasLayout};
@@ -99,9 +99,7 @@ impl ComponentTypes {
             InterfaceType::Result(i) => self.get_result(*i).is_some(),
             InterfaceType::Flags(i) => self.get_flags(*i).is_some(),
             InterfaceType::FixedLengthList(i) => self.get_fixed_length_list(*i).is_some(),
-            InterfaceType::Own(t) | InterfaceType::Borrow(t) => {
-                (t.as_u32() as usize) < self.resources.len()
-            }
+            InterfaceType::Own(t) | InterfaceType::Borrow(t) => self.has_resource(*t),
             _ => true,
         }
     }
@@ -269,6 +267,13 @@ impl ComponentTypes {
         &self.resources[i.as_u32() as usize]
     }
 
+    /// Whether the table has this resource table.
+    fn has_resource(&self, i: TypeResourceTableIndex) -> bool
+        ensures { result ≡ nat_lt i (length self.now.resources) }
+    {
+        (i.as_u32() as usize) < self.resources.len()
+    }
+
     fn get_list(&self, i: TypeListIndex) -> Option<&TypeList>
         ensures { MatchOption result (has is_list self.now i ≡ false) (λ x. Finds self.now i (Item.List x.now)) }
     {
@@ -421,7 +426,10 @@ impl ComponentTypes {
         ensures { result ≡ is_full_for more self.now }
     {
         let types = self.entries.len().saturating_add(self.funcs.len());
-        types.saturating_add(self.resources.len()).saturating_add(more) > MAX_ENTRIES
+        types
+            .saturating_add(self.resources.len())
+            .saturating_add(more)
+            > MAX_ENTRIES
     }
 
     /// The depth of the deepest of these types.

@@ -6,8 +6,8 @@ ghost use Rattle.canon_model.specs.Shape.{VariantKind, fixed, of_option, of_plac
 ghost use Rattle.canon_types.specs.Depth.{deepest, has_borrow, member_borrows};
 ghost use Rattle.canon_types.specs.Keeps.{IsEntry, cases_type, definition_of, fields_type, names_of};
 ghost use Rattle.canon_types.specs.Laid.{AreLaid, ArePayloadsLaid, IsPayloadLaid, unnamed_cases};
-ghost use Rattle.canon_types.specs.Refusal.{Adds, AddsFunc, AddsResource, func_parts_refusal, func_refusal, is_full_for, refusal, resource_refusal, with_definition, with_func};
-ghost use Rattle.canon_types.specs.Table.{EnumType, FixedListType, FlagsType, Knows, KnowsPayload, ListType, MapType, OptionType, ResultType, TupleType, all_shapes, defined_shape, members_of, shape_of};
+ghost use Rattle.canon_types.specs.Refusal.{Adds, AddsFunc, AddsResource, func_parts_refusal, func_refusal, is_full_for, refusal, resource_refusal, with_definition, with_func_of};
+ghost use Rattle.canon_types.specs.Table.{EnumType, FixedListType, FlagsType, Knows, KnowsPayload, ListType, MapType, OptionType, ResultType, TupleType, all_shapes, defined_shape, is_tuple, members_of, shape_of};
 
 use super::names::{MAX_FLAGS, MAX_NAMES, case_map, check_count, check_fields, name_set};
 use super::{ComponentTypes, Entry, Item, MAX_DEPTH};
@@ -169,7 +169,10 @@ impl ComponentTypes {
         ensures cause { IfErr result (λ e. e ≡ TypeError.OutOfMemory) }
     {
         let alloc = *self.entries.allocator();
-        let types = payloads.iter().filter_map(|payload| *payload).collect(alloc)?;
+        let types = payloads
+            .iter()
+            .filter_map(|payload| *payload)
+            .collect(alloc)?;
         Ok(types)
     }
 
@@ -439,4 +442,129 @@ impl ComponentTypes {
     {
         CanonicalAbiInfo::fixed_length_list(self.canonical_abi(element), u64::from(count))
     }
+
+    /// Adds a function, and the tuples of its parameters and results.
+    pub(super) fn add_func(
+        &mut self,
+        params: Vec<InterfaceType>,
+        results: Vec<InterfaceType>,
+        async_: bool,
+    ) -> Result<TypeFuncIndex, TypeError>
+        ensures ok { IfOk result (λ i. AddsFunc self.old params.items results.items async_ i self.new) }
+        ensures err { OnErr result (self.new ≡ self.old) }
+        ensures cause { IfErr result (λ e. e ≢ TypeError.OutOfMemory → func_refusal self.old params.items results.items ≡ Some e) }
+    {
+        self.check_func_parts(&params, &results)?;
+        let params_deepest = self.deepest(&params);
+        let results_deepest = self.deepest(&results);
+        if params_deepest.max(results_deepest) >= MAX_DEPTH {
+            return Err(TypeError::TooDeep);
+        }
+        let params = self.tuple_entry(params)?;
+        let results = self.tuple_entry(results)?;
+        if results.has_borrow {
+            return Err(TypeError::BorrowInResult);
+        }
+        self.check_room(3)?;
+        self.push_func(params, results, async_)
+    }
+
+    fn check_func_parts(
+        &self,
+        params: &[InterfaceType],
+        results: &[InterfaceType],
+    ) -> Result<(), TypeError>
+        ensures { result_err result ≡ func_parts_refusal self.now params.now results.now }
+    {
+        if !self.all_known(params) || !self.all_known(results) {
+            return Err(TypeError::UnknownIndex);
+        }
+        if self.any_unit(params) || self.any_unit(results) {
+            return Err(TypeError::Empty);
+        }
+        Ok(())
+    }
+
+    /// The entry of a tuple of known types, which may have no members.
+    fn tuple_entry(&self, types: Vec<InterfaceType>) -> Result<Entry, TypeError>
+        requires known { All (Knows self.now) types.items }
+        requires shallow { deepest (members_of self.now types.items) < 100 }
+        ensures ok { IfOk result (λ e. definition_of e.item ≡ TupleType types.items) }
+        ensures entry { IfOk result (λ e. IsEntry self.now (defined_shape (all_shapes self.now) (definition_of e.item)) e) }
+        ensures borrows { IfOk result (λ e. e.has_borrow ≡ member_borrows (members_of self.now types.items)) }
+        ensures fits { OnOk result (size false (product of_places (members_of self.now types.items)) < 2 ^ 32) }
+        ensures cause { IfErr result (λ e. e ≢ TypeError.OutOfMemory → (e ≡ TypeError.SizeTooLarge) × (2 ^ 32 ≤ size false (product of_places (members_of self.now types.items)))) }
+    {
+        let depth = self.deepest(&types) + 1;
+        let has_borrow = self.any_borrow(&types);
+        let abi = self.record_abi(&types)?;
+        let item = Item::Tuple(TypeTuple { types, abi });
+        Ok(Entry {
+            item,
+            depth,
+            has_borrow,
+        })
+    }
+
+    /// Adds two tuples and a function over them, all or none.
+    fn push_func(
+        &mut self,
+        params: Entry,
+        results: Entry,
+        async_: bool,
+    ) -> Result<TypeFuncIndex, TypeError>
+        requires room { is_full_for 3 self.old ≡ false }
+        requires params_entry { IsEntry self.old (defined_shape (all_shapes self.old) (definition_of params.item)) params }
+        requires results_entry { IsEntry self.old (defined_shape (all_shapes self.old) (definition_of results.item)) results }
+        requires params_tuple { is_tuple (definition_of params.item) ≡ true }
+        requires results_tuple { is_tuple (definition_of results.item) ≡ true }
+        ensures ok { IfOk result (λ i. (i ≡ length self.old.funcs) × (self.new ≡ with_func_of self.old (definition_of params.item) (definition_of results.item) async_)) }
+        ensures err { OnErr result (self.new ≡ self.old) }
+        ensures cause { IfErr result (λ e. e ≡ TypeError.OutOfMemory) }
+    {
+        self.entries.reserve(2)?;
+        self.funcs.reserve(1)?;
+        let place = self.entries.len() as u32;
+        let index = self.funcs.len() as u32;
+        let func = TypeFunc {
+            params: TypeTupleIndex::from_u32(place),
+            results: TypeTupleIndex::from_u32(place + 1),
+            async_,
+        };
+        push_reserved(&mut self.entries, params);
+        push_reserved(&mut self.entries, results);
+        push_reserved(&mut self.funcs, func);
+        Ok(TypeFuncIndex::from_u32(index))
+    }
+
+    /// Adds a table of resources.
+    pub(super) fn add_resource_table(
+        &mut self,
+        t: TypeResourceTable,
+    ) -> Result<TypeResourceTableIndex, TypeError>
+        ensures ok { IfOk result (λ i. AddsResource self.old t i self.new) }
+        ensures err { OnErr result (self.new ≡ self.old) }
+        ensures cause { IfErr result (λ e. e ≢ TypeError.OutOfMemory → resource_refusal self.old t ≡ Some e) }
+    {
+        if t.instance.as_u32() > MAX_INSTANCE {
+            return Err(TypeError::TooManyTypes);
+        }
+        self.check_room(1)?;
+        let number = self.resources.len() as u32;
+        self.resources.push(t)?;
+        Ok(TypeResourceTableIndex::from_u32(number))
+    }
+}
+
+/// The largest number of an instance.
+const MAX_INSTANCE: u32 = 255;
+
+/// Adds an item for which there is room.
+fn push_reserved<T: Drop>(items: &mut Vec<T>, item: T)
+    requires { vec_len items.old < vec_capacity items.old }
+    ensures added { items.new.items ≡ items.old.items ++ item ∷ [] }
+    ensures len { vec_len items.new ≡ vec_len items.old + 1 }
+    ensures capacity { vec_capacity items.old ≤ vec_capacity items.new }
+{
+    let _ = items.push(item);
 }
