@@ -1,5 +1,5 @@
 -- The numbers of lists are those of the types whose parts the lists tell.
-use Rattle.std.proofs.Common.{◌≡◌, ℕ, zero, suc, ⊎_elim, inl, inr, nat_le, ◌+◌, ◌*◌, ◌^◌, ◌≤◌, ◌<◌, max, min, false, length, Option, Some, None, List, [], ◌∷◌, map, refl, sym, ap, ◌∙◌, subst, arith}
+use Rattle.std.proofs.Common.{◌≡◌, ℕ, zero, suc, ⊎_elim, inl, inr, ◌+◌, ◌*◌, ◌^◌, ◌≤◌, ◌<◌, max, min, false, length, Option, Some, None, List, [], ◌∷◌, map, refl, sym, ap, ◌∙◌, subst, arith}
 use Rattle.std.specs.Prelude.{sum_by}
 use Rattle.std.proofs.Math.Nat.{suc-mul}
 use Rattle.std.proofs.lemmas.Bool.{cases_lt}
@@ -12,7 +12,7 @@ use Rattle.canon_model.specs.Layout.{align, align_to, cases_align, cases_flat, c
 use Rattle.canon_model.proofs.Layouts.{align_pos, align_to-next_multiple_of, alignment_positive, alignment-max, cases_align_pos, cases_alignment, members_alignment, tag_alignment}
 use Rattle.canon_abi.specs.declared.abi.CanonicalAbiInfo.{CanonicalAbiInfo}
 use Rattle.canon_abi.specs.declared.abi.VariantInfo.{VariantInfo}
-use Rattle.canon_abi.specs.Numbers.{Numbers, AreTold, IsInfo, TellsCases, TellsNumbers, capped, case_numbers_of, end_after, end_of, flat_within, largest_align, largest_size, most_words, nothing, numbers_of, of_product, of_row, of_variant, payload_place, variant_align}
+use Rattle.canon_abi.specs.Numbers.{Numbers, AreTold, TellsCases, TellsNumbers, capped, case_numbers_of, end_of, flat_within, largest_align, largest_size, most_words, nothing, numbers_of, of_product, of_row, of_variant, payload_place, variant_align}
 use Rattle.canon_abi.specs.Sizes.{tag_bytes}
 use Rattle.canon_abi.specs.Abi.{AreOfCases, AreOfMembers, HasInfo, HasLayout, TellsLayout, TellsVariant}
 use Rattle.canon_abi.proofs.Capped.{choice_told, numbers_of_told, record_told}

@@ -1,7 +1,7 @@
 -- What numbers say of a type, where pointers have 4 bytes.
 use Rattle.std.specs.Prelude.{◌≡◌, ◌≤◌, ◌^◌, false, List, [], ◌∷◌, Option, Some, None, MatchOption, ⊤}
 use Rattle.canon_model.specs.Layout.{align, flat, payload_offset, size, tag_size}
-use Rattle.canon_model.specs.Shape.{Cases, Members, ProductKind, Shape, VariantKind, bare, case_count, member, no_cases, no_members, payload, product, variant}
+use Rattle.canon_model.specs.Shape.{Cases, Members, Shape, VariantKind, bare, case_count, member, no_cases, no_members, payload, variant}
 use Rattle.canon_abi.specs.Numbers.{flat_within}
 use Rattle.canon_abi.specs.Sizes.{tag_bytes}
 use Rattle.canon_abi.specs.declared.abi.CanonicalAbiInfo.{CanonicalAbiInfo}

@@ -10,11 +10,11 @@ use Rattle.canon_types.specs.declared.types.InterfaceType.{InterfaceType}
 use Rattle.canon_types.specs.declared.types.InterfaceType.TheVariants as ty
 use Rattle.canon_types.specs.declared.types.TypeFunc.{TypeFunc}
 use Rattle.canon_types.specs.declared.table.Entry.{Entry}
-use Rattle.canon_model.specs.Shape.{Cases, Members, Name, Shape, case_for, fixed, list_of, map_of, member, no_cases, of_places, option_of, product, record_of, result_of, variant_of}
+use Rattle.canon_model.specs.Shape.{Name, Shape, fixed, list_of, map_of, of_places, option_of, product, record_of, result_of, variant_of}
 use Rattle.canon_types.specs.declared.table.ComponentTypes.TheInside.{Inside}
 use Rattle.canon_types.specs.Keeps.{definition_of, table, IsEntry, EntriesFit}
-use Rattle.canon_types.specs.Refusal.{with_definition, with_func}
-use Rattle.canon_types.specs.Table.{Definition, EnumType, FixedListType, FlagsType, IsOver, Knows, ListType, MapType, OptionType, RecordType, ResultType, Table, TupleType, VariantType, all_shapes, cases_in, defined_shape, fields_in, has, is_enum, is_fixed_list, is_flags, is_list, is_map, is_option, is_record, is_result, is_tuple, is_variant, members_in, named_case, no_shape, parts, payload_in, place, shape_in, shape_of, shapes_after}
+use Rattle.canon_types.specs.Refusal.{with_definition}
+use Rattle.canon_types.specs.Table.{Definition, EnumType, FixedListType, FlagsType, IsOver, Knows, ListType, MapType, OptionType, RecordType, ResultType, Table, TupleType, VariantType, all_shapes, cases_in, defined_shape, fields_in, has, is_enum, is_fixed_list, is_flags, is_list, is_map, is_option, is_record, is_result, is_tuple, is_variant, members_in, named_case, no_shape, parts, place, shape_in, shape_of, shapes_after}
 use Rattle.canon_types.specs.declared.types.TypeResourceTable.{TypeResourceTable}
 
 -- ---- shapes in the order of addition

@@ -7,11 +7,11 @@ use Rattle.canon_abi.specs.Abi.{AreOfCases, AreOfMembers, HasInfo, HasLayout, Te
 use Rattle.canon_abi.specs.declared.abi.CanonicalAbiInfo.{CanonicalAbiInfo}
 use Rattle.canon_abi.specs.declared.abi.VariantInfo.{VariantInfo}
 use Rattle.canon_model.specs.Layout.{align, align_to, cases_align, cases_flat, cases_size, ends, flat, members_align, members_end, members_flat, payload_offset, size, tag_size}
-use Rattle.canon_model.specs.Shape.{Cases, Members, Name, ProductKind, Shape, VariantKind, bare, case_count, case_for, member, no_cases, no_members, of_option, of_places, of_result, result_of, payload, product, tuple, tuple_members, variant}
+use Rattle.canon_model.specs.Shape.{Cases, Members, Name, ProductKind, Shape, VariantKind, case_count, case_for, no_cases, of_option, of_places, of_result, result_of, product, tuple, tuple_members, variant}
 use Rattle.canon_model.proofs.Layouts.{members_end-le-size}
 use Rattle.canon_types.specs.declared.types.InterfaceType.{InterfaceType}
 use Rattle.canon_types.specs.Laid.{AreLaid, ArePayloadsLaid, IsPayloadLaid, unnamed_cases}
-use Rattle.canon_types.specs.Table.{cases_in, fields_in, members_in, named_case, payload_in, shape_in}
+use Rattle.canon_types.specs.Table.{cases_in, fields_in, members_in, payload_in, shape_in}
 
 -- ---- one part more
 

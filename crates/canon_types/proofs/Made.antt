@@ -1,21 +1,20 @@
 -- Definitions made of what a call is handed.
-use Rattle.std.proofs.Common.{Err, Ok, Result, ◌≢◌, ◌≡◌, ℕ, suc, ◌+◌, ◌<◌, ◌≤◌, ◌^◌, Bool, true, false, nat_lt, max, ◌==◌, Option, Some, None, List, [], ◌∷◌, length, map, filter_map, All, string_bytes, String, refl, sym, ap, ◌∙◌, subst, arith}
+use Rattle.std.proofs.Common.{Err, Ok, Result, ◌≢◌, ◌≡◌, ℕ, ◌+◌, ◌<◌, ◌≤◌, ◌^◌, Bool, true, false, nat_lt, max, ◌==◌, Option, Some, None, List, [], ◌∷◌, length, map, filter_map, All, string_bytes, String, refl, sym, ap, ◌∙◌, subst, arith}
 use Rattle.std.specs.Prelude.{IfErr, IsErr, IsErrAnd}
-use Rattle.std.specs.Option.{option_map_or}
 use Rattle.std.proofs.lemmas.Bool.Decides.{nat_tests}
 use Rattle.std.proofs.lemmas.List.{length-map}
 use Rattle.std.proofs.lemmas.List.Elements.{All-cons, All-head, All-nil, All-tail}
 use Rattle.canon_model.specs.Layout.{size}
-use Rattle.canon_model.specs.Shape.{of_places, product, Cases, Name, Shape, of_cases, of_option, of_result, option_of, result_of, variant}
+use Rattle.canon_model.specs.Shape.{of_places, product, Name}
 use Rattle.canon_types.specs.declared.error.TypeError.{TypeError}
 use Rattle.canon_types.specs.declared.error.TypeError.TheVariants as error
 use Rattle.canon_types.specs.declared.types.InterfaceType.{InterfaceType}
 use Rattle.canon_types.specs.declared.types.RecordField.{RecordField}
 use Rattle.canon_types.specs.declared.table.Entry.{Entry}
 use Rattle.canon_types.specs.Depth.{deepest, depth, has_borrow, member_borrows}
-use Rattle.canon_types.specs.Keeps.{IsEntry, KeepsLayout, cases_type, definition_of, fields_type, names_of}
+use Rattle.canon_types.specs.Keeps.{IsEntry, KeepsLayout, cases_type, definition_of, fields_type}
 use Rattle.canon_types.specs.Refusal.{first_error, func_parts_refusal, func_refusal, is_full_for, or_else, has_repeats, is_empty, most_names, names, names_refusal, parts_refusal, refusal}
-use Rattle.canon_types.specs.Table.{Definition, EnumType, Knows, KnowsPayload, ResultType, Table, all_shapes, defined_shape, members_of, parts}
+use Rattle.canon_types.specs.Table.{Definition, Knows, KnowsPayload, ResultType, Table, all_shapes, defined_shape, members_of, parts}
 use Rattle.canon_types.proofs.Measures.{borrows_defined, depth_defined}
 use Rattle.canon_types.proofs.Adding.{refused_at_names}
 

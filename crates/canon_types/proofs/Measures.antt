@@ -1,9 +1,9 @@
 -- A definition's depth and its borrows are those of its parts.
-use Rattle.std.proofs.Common.{◌≡◌, ℕ, ◌+◌, max, Bool, true, false, ◌||◌, Option, Some, None, List, [], ◌∷◌, ◌++◌, map, filter_map, refl, sym, ap, ◌∙◌, arith}
-use Rattle.canon_model.specs.Shape.{Cases, Members, Name, Shape, bare_cases, case_for, no_cases}
+use Rattle.std.proofs.Common.{◌≡◌, ℕ, ◌+◌, max, Bool, true, false, ◌||◌, Option, Some, None, List, [], ◌∷◌, map, filter_map, refl, ap, arith}
+use Rattle.canon_model.specs.Shape.{Name, Shape, bare_cases}
 use Rattle.canon_types.specs.declared.types.InterfaceType.{InterfaceType}
 use Rattle.canon_types.specs.Depth.{case_borrows, deepest, deepest_case, depth, has_borrow, member_borrows}
-use Rattle.canon_types.specs.Table.{Definition, EnumType, FixedListType, FlagsType, ListType, MapType, OptionType, RecordType, ResultType, TupleType, VariantType, cases_in, defined_shape, fields_in, members_in, parts, payload_in, shape_in}
+use Rattle.canon_types.specs.Table.{Definition, EnumType, FixedListType, FlagsType, ListType, MapType, OptionType, RecordType, ResultType, TupleType, VariantType, cases_in, defined_shape, fields_in, members_in, parts, shape_in}
 
 deepest-fields : (known : List Shape) (fs : List (Name × InterfaceType)) → deepest (fields_in known fs) ≡ deepest (members_in known (map (λ f. f.1) fs))
 deepest-fields known [] = refl

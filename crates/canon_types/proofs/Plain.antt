@@ -1,5 +1,5 @@
 -- The numbers of types without a definition, and of lists and maps.
-use Rattle.std.proofs.Common.{◌≡◌, ℕ, Option, Some, false, refl, sym, ap, ◌∙◌, subst}
+use Rattle.std.proofs.Common.{◌≡◌, ℕ, Some, sym, ◌∙◌, subst}
 use Rattle.canon_abi.specs.Abi.{HasLayout}
 use Rattle.canon_abi.specs.declared.abi.CanonicalAbiInfo.{CanonicalAbiInfo}
 use Rattle.canon_model.specs.Layout.{align, flat, scalar_size, size}

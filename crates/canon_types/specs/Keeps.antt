@@ -2,7 +2,7 @@
 use Rattle.std.specs.Prelude.{◌≡◌, ℕ, ◌<◌, Some, Option, String, List, length, map, get_or, slice_get, All, string_bytes, false, ⊤}
 use Rattle.canon_abi.specs.Abi.{HasInfo, HasLayout}
 use Rattle.canon_model.specs.Layout.{offset}
-use Rattle.canon_model.specs.Shape.{Name, Scalar, Shape, borrow, list, own, scalar, string}
+use Rattle.canon_model.specs.Shape.{Name, Scalar, Shape, borrow, own, scalar, string}
 use Rattle.canon_model.specs.Layout.{scalar_size}
 use Rattle.canon_types.specs.declared.types.InterfaceType.{InterfaceType}
 use Rattle.canon_types.specs.declared.types.TypeList.{TypeList}

@@ -1,9 +1,9 @@
 -- When a definition is not added to a table, and what adding it gives.
-use Rattle.std.specs.Prelude.{◌≡◌, ℕ, ◌+◌, max, Bool, true, false, not, ◌||◌, ◌&&◌, ◌==◌, nat_lt, nat_le, if◌then◌else◌, List, [], ◌∷◌, ◌++◌, length, map, bytes_eq, Option, Some, None}
+use Rattle.std.specs.Prelude.{◌≡◌, ℕ, ◌+◌, max, Bool, true, false, not, ◌||◌, ◌&&◌, ◌==◌, nat_lt, if◌then◌else◌, List, [], ◌∷◌, ◌++◌, length, map, bytes_eq, Option, Some, None}
 use Rattle.std.specs.List.{list_all, list_any}
 use Rattle.canon_model.specs.Layout.{size}
 use Rattle.canon_model.specs.Shape.{Name, Shape, of_places, product, tuple}
-use Rattle.canon_types.specs.Depth.{depth, has_borrow, member_borrows}
+use Rattle.canon_types.specs.Depth.{depth, has_borrow}
 use Rattle.canon_types.specs.declared.error.TypeError.{TypeError}
 use Rattle.canon_types.specs.declared.error.TypeError.TheVariants as error
 use Rattle.canon_types.specs.declared.types.InterfaceType.{InterfaceType}

@@ -2,7 +2,7 @@ use Rattle.std.proofs.Common.{All, subst, sym, ◌≡◌, ◌+◌, ◌++◌, ◌
 use Rattle.std.proofs.lemmas.Grind.{common_steps}
 use Rattle.canon_types.specs.declared.table.Entry.{Entry}
 use Rattle.canon_types.specs.declared.types.TypeFunc.{TypeFunc}
-use Rattle.canon_types.specs.Table.{IsOver, Table}
+use Rattle.canon_types.specs.Table.{IsOver}
 use Rattle.canon_types.proofs.Funcs.{func_table_along, funcs-func, funcs-same}
 use Rattle.canon_types.proofs.Growth.{definitions_of, kept-push_two, kept-same}
 use Rattle.canon_types.proofs.table.ComponentTypes.push_func.Goals as goal

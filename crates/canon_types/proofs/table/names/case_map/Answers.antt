@@ -1,4 +1,4 @@
-use Rattle.std.proofs.Common.{◌≡◌, [], ◌∷◌, ◌++◌, refl, string_bytes, sym, ◌∙◌}
+use Rattle.std.proofs.Common.{◌≡◌, [], ◌∷◌, ◌++◌, refl, string_bytes, sym}
 use Rattle.std.specs.String.{string_eq}
 use Rattle.std.specs.Vec.Iter.{into_iter_items}
 use Rattle.canon_types.proofs.Names.{all_next, entry_new, found_entry, next_entry}
