@@ -3,6 +3,8 @@
 
 mod abi;
 mod sizes;
+#[cfg(test)]
+mod tests;
 
 pub use abi::{CanonicalAbiInfo, MAX_FLAT_PARAMS, VariantInfo};
 pub use sizes::{DiscriminantSize, FlagsSize};
