@@ -4,7 +4,11 @@ use crate::{CanonicalAbiInfo, DiscriminantSize, FlagsSize};
 fn discriminants_have_1_2_or_4_bytes(rt: HostRuntime) {
     for (count, bytes) in [(1, 1), (256, 1), (257, 2), (65_536, 2), (65_537, 4)] {
         let size = DiscriminantSize::from_count(count);
-        assert_eq!(rt; size.map(|size| size.byte_size()), Some(bytes), "of {count} cases");
+        assert_eq!(rt;
+            size.map(|size| size.byte_size()),
+            Some(bytes),
+            "of {count} cases"
+        );
     }
     assert_eq!(rt; DiscriminantSize::from_count(4_294_967_297), None);
 }
@@ -50,8 +54,12 @@ fn a_record_places_each_field_at_its_alignment(rt: HostRuntime) {
 #[test]
 fn a_variant_places_its_payload_after_the_discriminant(rt: HostRuntime) {
     let cases = [None, Some(CanonicalAbiInfo::SCALAR8)];
-    let told = CanonicalAbiInfo::variant(&cases)
-        .map(|(abi, info)| (abi.size32, abi.align32, abi.flat, info.payload_offset32));
+    let told = CanonicalAbiInfo::variant(&cases).map(|(abi, info)| (
+        abi.size32,
+        abi.align32,
+        abi.flat,
+        info.payload_offset32,
+    ));
     assert_eq!(rt; told, Some((16, 8, Some(2), 8)));
     let (abi, info) = CanonicalAbiInfo::enum_(257);
     assert_eq!(rt; (abi.size32, info.size), (2, DiscriminantSize::Size2));

@@ -1,6 +1,6 @@
 use canon_types::{
-    ComponentTypes, InterfaceType, InstanceType, RecordField, ResourceKind, RuntimeInstance, StoreId,
-    TypeBuilder, TypeError, TypeResourceTable, TypeResourceTableIndex, TypeTupleIndex,
+    ComponentTypes, InstanceType, InterfaceType, RecordField, ResourceKind, RuntimeInstance,
+    StoreId, TypeBuilder, TypeError, TypeResourceTable, TypeResourceTableIndex, TypeTupleIndex,
 };
 use std::alloc::Global;
 use std::test::Fail;
@@ -33,7 +33,11 @@ fn discriminants_of_enums_have_1_2_or_4_bytes(rt: HostRuntime) -> Result<(), Fai
 #[test]
 fn a_large_enum_is_added_and_one_name_more_is_too_many(rt: HostRuntime) -> Result<(), Fail> {
     let alloc = rt.alloc();
-    assert!(rt; TypeBuilder::new(alloc).add_enum(names(alloc, 1_048_576)?).is_ok());
+    assert!(rt;
+        TypeBuilder::new(alloc)
+            .add_enum(names(alloc, 1_048_576)?)
+            .is_ok()
+    );
     let more = TypeBuilder::new(alloc).add_enum(names(alloc, 1_048_577)?);
     assert_eq!(rt; more, Err(TypeError::TooManyNames));
     let flags = TypeBuilder::new(alloc).add_flags(names(alloc, 8_161)?);
@@ -45,7 +49,10 @@ fn a_large_enum_is_added_and_one_name_more_is_too_many(rt: HostRuntime) -> Resul
 fn a_type_of_no_table_and_an_empty_type_are_refused(rt: HostRuntime) -> Result<(), Fail> {
     let alloc = rt.alloc();
     let unknown = InterfaceType::Tuple(TypeTupleIndex::from_u32(5));
-    assert_eq!(rt; TypeBuilder::new(alloc).add_list(unknown), Err(TypeError::UnknownIndex));
+    assert_eq!(rt;
+        TypeBuilder::new(alloc).add_list(unknown),
+        Err(TypeError::UnknownIndex)
+    );
     let own = TypeBuilder::new(alloc).add_own(TypeResourceTableIndex::from_u32(0));
     assert_eq!(rt; own, Err(TypeError::UnknownIndex));
     let empty = TypeBuilder::new(alloc).add_tuple(Vec::new(alloc));
@@ -57,9 +64,18 @@ fn a_type_of_no_table_and_an_empty_type_are_refused(rt: HostRuntime) -> Result<(
 fn a_repeated_name_is_refused(rt: HostRuntime) -> Result<(), Fail> {
     let alloc = rt.alloc();
     let twice = vec![in alloc; name(alloc, "a")?, name(alloc, "a")?]?;
-    assert_eq!(rt; TypeBuilder::new(alloc).add_enum(twice), Err(TypeError::RepeatedName));
-    let a = RecordField { name: name(alloc, "a")?, ty: InterfaceType::U8 };
-    let b = RecordField { name: name(alloc, "a")?, ty: InterfaceType::U8 };
+    assert_eq!(rt;
+        TypeBuilder::new(alloc).add_enum(twice),
+        Err(TypeError::RepeatedName)
+    );
+    let a = RecordField {
+        name: name(alloc, "a")?,
+        ty: InterfaceType::U8,
+    };
+    let b = RecordField {
+        name: name(alloc, "a")?,
+        ty: InterfaceType::U8,
+    };
     let record = TypeBuilder::new(alloc).add_record(vec![in alloc; a, b]?);
     assert_eq!(rt; record, Err(TypeError::RepeatedName));
     Ok(())
@@ -105,7 +121,11 @@ fn a_function_answers_no_borrow(rt: HostRuntime) -> Result<(), Fail> {
     let list = builder.add_list(borrow)?;
     let deep = builder.add_func(Vec::new(alloc), vec![in alloc; list]?, false);
     assert_eq!(rt; deep, Err(TypeError::BorrowInResult));
-    assert!(rt; builder.add_func(vec![in alloc; list]?, Vec::new(alloc), false).is_ok());
+    assert!(rt;
+        builder
+            .add_func(vec![in alloc; list]?, Vec::new(alloc), false)
+            .is_ok()
+    );
     let large = builder.add_resource_table(resource(256));
     assert_eq!(rt; large, Err(TypeError::TooManyTypes));
     Ok(())
@@ -116,11 +136,20 @@ fn each_kind_is_added_and_found(rt: HostRuntime) -> Result<(), Fail> {
     let alloc = rt.alloc();
     let mut builder = TypeBuilder::new(alloc);
     let fields = vec![in alloc;
-        RecordField { name: name(alloc, "name")?, ty: InterfaceType::String },
-        RecordField { name: name(alloc, "score")?, ty: InterfaceType::U32 },
+        RecordField {
+            name: name(alloc, "name")?,
+            ty: InterfaceType::String
+        },
+        RecordField {
+            name: name(alloc, "score")?,
+            ty: InterfaceType::U32
+        },
     ]?;
     let record = builder.add_record(fields)?;
-    let cases = vec![in alloc; (name(alloc, "none")?, None), (name(alloc, "some")?, Some(InterfaceType::U64))]?;
+    let cases = vec![in alloc;
+        (name(alloc, "none")?, None),
+        (name(alloc, "some")?, Some(InterfaceType::U64)),
+    ]?;
     let variant = builder.add_variant(cases)?;
     let map = builder.add_map(InterfaceType::U8, InterfaceType::String)?;
     let option = builder.add_option(InterfaceType::Char)?;
@@ -142,7 +171,11 @@ fn each_kind_is_added_and_found(rt: HostRuntime) -> Result<(), Fail> {
     ] {
         assert!(rt; types.contains(&ty));
         let abi = types.canonical_abi(&ty);
-        assert_eq!(rt; (abi.size32, abi.align32, abi.flat), (size, align, flat), "{ty:?}");
+        assert_eq!(rt;
+            (abi.size32, abi.align32, abi.flat),
+            (size, align, flat),
+            "{ty:?}"
+        );
     }
     find_each(&rt, &types, record, variant, map)?;
     let instance = InstanceType::new(types, StoreId::from_u64(7));
@@ -167,7 +200,10 @@ fn find_each(
     }
     if let InterfaceType::Map(i) = map {
         assert!(rt; types.contains(&InterfaceType::Map(i)));
-        assert_eq!(rt; (types.map(i).entry_abi.size32, types.map(i).value_offset32), (12, 4));
+        assert_eq!(rt;
+            (types.map(i).entry_abi.size32, types.map(i).value_offset32),
+            (12, 4)
+        );
     }
     Ok(())
 }
