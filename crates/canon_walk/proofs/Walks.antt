@@ -3,11 +3,11 @@ use Rattle.std.proofs.Common.{◌≡◌, ℕ, zero, suc, ◌+◌, ◌*◌, ◌<�
 use Rattle.std.proofs.lemmas.List.Elements.{All-head, All-tail}
 use Rattle.canon_model.specs.Layout.{cases_flat, flat, members_flat}
 use Rattle.canon_model.specs.Shape.{Cases, Name, Shape, bare_cases}
-use Rattle.canon_types.specs.declared.types.InterfaceType.{InterfaceType}
-use Rattle.canon_types.specs.declared.types.RecordField.{RecordField}
-use Rattle.canon_types.specs.Depth.{deepest, depth}
-use Rattle.canon_types.specs.Table.{Definition, EnumType, FixedListType, FlagsType, Knows, KnowsPayload, ListType, MapType, OptionType, RecordType, ResultType, Table, TupleType, VariantType, all_shapes, cases_in, defined_shape, fields_in, members_in, members_of, parts, shape_in, shape_of}
-use Rattle.canon_types.proofs.Measures.{depth_defined}
+use Rattle.canon_table.specs.declared.types.InterfaceType.{InterfaceType}
+use Rattle.canon_table.specs.declared.types.RecordField.{RecordField}
+use Rattle.canon_table.specs.Depth.{deepest, depth}
+use Rattle.canon_table.specs.Table.{Definition, EnumType, FixedListType, FlagsType, Knows, KnowsPayload, ListType, MapType, OptionType, RecordType, ResultType, Table, TupleType, VariantType, all_shapes, cases_in, defined_shape, fields_in, members_in, members_of, parts, shape_in, shape_of}
+use Rattle.canon_table.proofs.Measures.{depth_defined}
 use Rattle.canon_walk.specs.Walk.{defined_flat, most_flat, payload_depth, payload_flat, sum_flat, types_of_fields}
 
 flat-fields : (t : Table) (fs : List (Name × InterfaceType)) → members_flat (fields_in (all_shapes t) fs) ≡ sum_flat t (map (λ f. f.1) fs)

@@ -1,10 +1,10 @@
 -- Words of types in a row, and of payloads.
 use Rattle.std.specs.Prelude.{ℕ, ◌+◌, ◌*◌, max, length, List, [], ◌∷◌, map, Option, Some, None}
 use Rattle.canon_model.specs.Layout.{flag_words, flat}
-use Rattle.canon_types.specs.Depth.{depth}
-use Rattle.canon_types.specs.Table.{Definition, EnumType, FixedListType, FlagsType, ListType, MapType, OptionType, RecordType, ResultType, Table, TupleType, VariantType, shape_of}
-use Rattle.canon_types.specs.declared.types.InterfaceType.{InterfaceType}
-use Rattle.canon_types.specs.declared.types.RecordField.{RecordField}
+use Rattle.canon_table.specs.Depth.{depth}
+use Rattle.canon_table.specs.Table.{Definition, EnumType, FixedListType, FlagsType, ListType, MapType, OptionType, RecordType, ResultType, Table, TupleType, VariantType, shape_of}
+use Rattle.canon_table.specs.declared.types.InterfaceType.{InterfaceType}
+use Rattle.canon_table.specs.declared.types.RecordField.{RecordField}
 
 abbrev pub payload_flat : Table → Option InterfaceType → ℕ
 payload_flat t None = 0

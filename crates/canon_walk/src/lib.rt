@@ -8,7 +8,7 @@ pub use walk::flat_count;
 #[cfg(test)]
 mod tests {
     use crate::flat_count;
-    use canon_types::{InterfaceType, TypeBuilder};
+    use canon_table::{InterfaceType, TypeBuilder};
     use std::test::Fail;
 
     #[test]

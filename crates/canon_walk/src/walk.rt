@@ -1,10 +1,10 @@
 ghost use Rattle.std.specs.Prelude.{◌^◌, ◌<◌, All, SomeIff, filter_map};
 ghost use Rattle.indexmap.specs.IndexMap.{values};
 ghost use Rattle.canon_model.specs.Layout.{flat};
-ghost use Rattle.canon_types.specs.Table.{Knows, KnowsPayload, shape_of};
+ghost use Rattle.canon_table.specs.Table.{Knows, KnowsPayload, shape_of};
 ghost use Rattle.canon_walk.specs.Walk.{most_flat, payload_flat, sum_flat, types_of_fields};
 
-use canon_types::{ComponentTypes, InterfaceType, RecordField, TypeVariant};
+use canon_table::{ComponentTypes, InterfaceType, RecordField, TypeVariant};
 
 /// How many words a value of the type takes, unless they pass 64 bits.
 #[cycle(flat)]

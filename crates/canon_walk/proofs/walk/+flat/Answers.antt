@@ -3,12 +3,12 @@ use Rattle.std.specs.Prelude.{SomeIff}
 use Rattle.std.proofs.lemmas.Grind.{common_steps}
 use Rattle.indexmap.specs.IndexMap.{values}
 use Rattle.canon_model.specs.Layout.{flat}
-use Rattle.canon_types.specs.declared.types.InterfaceType.{InterfaceType}
-use Rattle.canon_types.specs.declared.types.RecordField.{RecordField}
-use Rattle.canon_types.specs.Depth.{deepest, depth}
-use Rattle.canon_types.specs.Keeps.{enum_type, record_type, result_type, tuple_type, variant_type}
-use Rattle.canon_types.specs.Table.{Knows, members_of, parts, shape_of}
-use Rattle.canon_types.proofs.Made.{case_parts, case_payload_list, field_parts}
+use Rattle.canon_table.specs.declared.types.InterfaceType.{InterfaceType}
+use Rattle.canon_table.specs.declared.types.RecordField.{RecordField}
+use Rattle.canon_table.specs.Depth.{deepest, depth}
+use Rattle.canon_table.specs.Keeps.{enum_type, record_type, result_type, tuple_type, variant_type}
+use Rattle.canon_table.specs.Table.{Knows, members_of, parts, shape_of}
+use Rattle.canon_table.proofs.Made.{case_parts, case_payload_list, field_parts}
 use Rattle.canon_walk.specs.Walk.{most_flat, sum_flat, types_of_fields}
 use Rattle.canon_walk.proofs.Walks.{deeper, field_depth, field_known, payload_deep, payload_known, result_deep, result_known, words}
 use Rattle.canon_walk.proofs.walk.+flat.Goals as goal

@@ -1,10 +1,10 @@
 -- A type is deeper than its parts; between them stand a payload, and then a list of parts.
 use Rattle.std.proofs.Common.{◌≡◌, ◌+◌, ◌*◌, ◌^◌, ◌<◌, ◌≤◌, List, Option, All, drop, max, filter_map}
 use Rattle.indexmap.specs.IndexMap.{values}
-use Rattle.canon_types.specs.declared.types.InterfaceType.{InterfaceType}
-use Rattle.canon_types.specs.declared.types.RecordField.{RecordField}
-use Rattle.canon_types.specs.Depth.{deepest, depth}
-use Rattle.canon_types.specs.Table.{Knows, members_of, shape_of}
+use Rattle.canon_table.specs.declared.types.InterfaceType.{InterfaceType}
+use Rattle.canon_table.specs.declared.types.RecordField.{RecordField}
+use Rattle.canon_table.specs.Depth.{deepest, depth}
+use Rattle.canon_table.specs.Table.{Knows, members_of, shape_of}
 use Rattle.canon_walk.specs.Walk.{most_flat, payload_depth, sum_flat, types_of_fields}
 use Rattle.canon_walk.proofs.walk.+flat.Given as goal
 
