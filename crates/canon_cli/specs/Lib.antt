@@ -1,0 +1,10 @@
+pub mod Call
+pub mod Json
+pub mod Play
+pub mod Program
+pub mod Runs
+pub mod Scripted
+pub mod Session
+pub mod Stores
+pub mod Streams
+pub mod Text

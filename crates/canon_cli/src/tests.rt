@@ -1,0 +1,184 @@
+use super::*;
+use canon_memory::Memory;
+use canon_types::{
+    CanonicalOptions, ExportIndex, InstanceType, InterfaceType, OptionsIndex, RuntimeInstance,
+    StoreId, StringEncoding, TypeBuilder,
+};
+use canon_value::{Component, Core, Export};
+use std::alloc::Global;
+use std::test::Fail;
+
+const ONE_CALL: &str =
+    r#"{"funcs":[{"params":["u32","s8"],"results":["bool"]}],"items":[{"call":0,"params":[{"u32":7},{"s8":-1}],"guest":[{"return":[2]}]}]}"#;
+
+const NO_WORD: &str =
+    r#"{"funcs":[{"params":["u32","s8"],"results":["bool"]}],"items":[{"call":0,"params":[{"u32":7},{"s8":-1}],"guest":[{"return":[]}]}]}"#;
+
+const TRAPS: &str =
+    r#"{"funcs":[{"params":["u32","s8"],"results":["bool"]}],"items":[{"call":0,"params":[{"u32":7},{"s8":-1}],"guest":[{"trap":true}]}]}"#;
+
+const MISTYPED: &str =
+    r#"{"funcs":[{"params":["u32","s8"],"results":["bool"]}],"items":[{"call":0,"params":[{"bool":true},{"s8":-1}],"guest":[{"return":[2]}]}]}"#;
+
+const ONE_CALL_TEXT: &str = "call 0\nstart 0 7 4294967295\nreturn 2\nok true\nlive 0\n";
+
+// What a run of the command `run` answers and writes, with these failing calls of the source and of the sink.
+fn answer(
+    alloc: Global,
+    script: &str,
+    read_fails: u64,
+    sink_chunk: usize,
+    write_fails: u64,
+) -> Result<(u8, String), Fail> {
+    let mut words = Vec::new(alloc);
+    words.push(String::from_str(alloc, "run")?)?;
+    let bytes = script.as_bytes().to_vec(alloc)?;
+    let mut source = MemorySource::new(bytes, 100, vec![in alloc; read_fails]?);
+    let mut sink = MemorySink::new(alloc, sink_chunk.max(1), vec![in alloc; write_fails]?);
+    let mut transcript = Transcript::new(alloc);
+    let status = run(alloc, &words, &mut source, &mut sink, &mut transcript);
+    let text = std::str::from_utf8(sink.taken())?;
+    Ok((status.0, String::from_str(alloc, text)?))
+}
+
+#[test]
+fn scripts_are_played_and_printed(rt: HostRuntime) -> Result<(), Fail> {
+    let cases = [
+        (ONE_CALL, ONE_CALL_TEXT),
+        (
+            NO_WORD,
+            "call 0\nstart 0 7 4294967295\nreturn\nerror WrongWords\nlive 0\n",
+        ),
+        (
+            TRAPS,
+            "call 0\nstart 0 7 4294967295\ntrap\nerror GuestTrap\nlive 0\n",
+        ),
+        (MISTYPED, "call 0\nerror TypeMismatch 0\nlive 0\n"),
+    ];
+    for (script, want) in cases {
+        let (status, text) = answer(rt.alloc(), script, 0, 1000, 0)?;
+        assert_eq!(rt; status, 0);
+        assert_eq!(rt; text.as_str(), want);
+    }
+    Ok(())
+}
+
+#[test]
+fn what_is_no_script_has_its_status(rt: HostRuntime) -> Result<(), Fail> {
+    let cases = [
+        ("[1", 7),
+        ("", 7),
+        ("[]", 8),
+        (r#"{"funcs":[],"items":[]}"#, 8),
+    ];
+    for (script, want) in cases {
+        let (status, text) = answer(rt.alloc(), script, 0, 1000, 0)?;
+        assert_eq!(rt; status, want);
+        assert_eq!(rt; text.as_str(), "");
+    }
+    Ok(())
+}
+
+#[test]
+fn a_source_that_fails_its_first_or_second_call_is_a_read_fault(
+    rt: HostRuntime,
+) -> Result<(), Fail> {
+    for call in [1, 2] {
+        let (status, text) = answer(rt.alloc(), ONE_CALL, call, 1000, 0)?;
+        assert_eq!(rt; status, 3);
+        assert_eq!(rt; text.as_str(), "");
+    }
+    Ok(())
+}
+
+#[test]
+fn a_sink_that_fails_took_a_front_of_the_text(rt: HostRuntime) -> Result<(), Fail> {
+    let (status, text) = answer(rt.alloc(), ONE_CALL, 0, 4, 2)?;
+    assert_eq!(rt; status, 4);
+    assert_eq!(rt; text.as_str(), "call");
+    let whole = ONE_CALL_TEXT.as_bytes();
+    for k in 0..whole.len() {
+        let (status, text) = answer(rt.alloc(), ONE_CALL, 0, 1, k as u64 + 1)?;
+        assert_eq!(rt; status, 4);
+        assert_eq!(rt; text.as_bytes(), &whole[..k]);
+    }
+    Ok(())
+}
+
+#[test]
+fn words_that_are_no_command_read_nothing(rt: HostRuntime) -> Result<(), Fail> {
+    let alloc = rt.alloc();
+    for words in [&["walk"][..], &["run", "x"][..], &[][..]] {
+        let mut given = Vec::new(alloc);
+        for word in words {
+            given.push(String::from_str(alloc, word)?)?;
+        }
+        let mut source = MemorySource::new(Vec::new(alloc), 1, vec![in alloc; 1u64]?);
+        let mut sink = MemorySink::new(alloc, 1, Vec::new(alloc));
+        let mut transcript = Transcript::new(alloc);
+        let status = run(alloc, &given, &mut source, &mut sink, &mut transcript);
+        assert_eq!(rt; status, Status::USAGE);
+        assert_eq!(rt; sink.taken().len(), 0);
+        assert_eq!(rt; transcript.records().len(), 0);
+    }
+    Ok(())
+}
+
+#[test]
+fn a_std_reader_and_writer_are_a_source_and_a_sink(rt: HostRuntime) -> Result<(), Fail> {
+    let alloc = rt.alloc();
+    let mut source = StdSource::new(ONE_CALL.as_bytes());
+    let bytes = read_all(alloc, &mut source).map_err(|_| "not read")?;
+    assert_eq!(rt; bytes.as_slice(), ONE_CALL.as_bytes());
+    let mut sink = StdSink::new(Vec::new(alloc));
+    assert_eq!(rt; write_all(&mut sink, b"text"), Ok(()));
+    Ok(())
+}
+
+// A component with one export, of a function from a u32 to a bool.
+fn component(alloc: Global) -> Result<Component, Fail> {
+    let mut types = TypeBuilder::new(alloc);
+    let params = vec![in alloc; InterfaceType::U32]?;
+    let results = vec![in alloc; InterfaceType::Bool]?;
+    let ty = types
+        .add_func(params, results, false)
+        .map_err(|_| "no type")?;
+    let options = CanonicalOptions {
+        instance: RuntimeInstance::from_u32(0),
+        string_encoding: StringEncoding::Utf8,
+        async_: false,
+        post_return: None,
+    };
+    let export = Export {
+        ty,
+        func: 5,
+        options: OptionsIndex::from_u32(0),
+    };
+    Ok(Component {
+        types: InstanceType::new(types.finish(), StoreId::from_u64(3)),
+        options: vec![in alloc; options]?,
+        exports: vec![in alloc; export]?,
+    })
+}
+
+#[test]
+fn a_store_gives_its_exports_and_owns_no_others(rt: HostRuntime) -> Result<(), Fail> {
+    let alloc = rt.alloc();
+    let component = component(alloc)?;
+    assert!(rt; component.check());
+    let memory = Memory::new(alloc, 16).map_err(|_| "no memory")?;
+    let guest = ScriptedGuest::new(alloc);
+    let core = Core::new(alloc, StoreId::from_u64(3), (), guest, memory, component).map_err(
+        |_| "no core",
+    )?;
+    let mut store = Store::new(core);
+    assert!(rt; store.func(ExportIndex::from_u32(1)).is_none());
+    let f = store.func(ExportIndex::from_u32(0)).ok_or("no export")?;
+    assert!(rt; store.owns(&f));
+    assert_eq!(rt; f.export(), ExportIndex::from_u32(0));
+    assert!(rt; !store.owns(&Func::of(StoreId::from_u64(4), ExportIndex::from_u32(0))));
+    assert!(rt; !store.is_trapped());
+    store.core_mut().guest_mut().load(Vec::new(alloc));
+    assert_eq!(rt; store.core().id(), StoreId::from_u64(3));
+    Ok(())
+}

@@ -1,0 +1,28 @@
+//! The handle tables of a component: one table of the handles of a component instance, and one of
+//! its threads, under one counter of live handles.
+#![tactic(auto)]
+
+mod counter;
+mod end;
+mod error;
+mod future;
+mod handle;
+mod handle_table;
+pub mod laws;
+mod resource;
+mod slot;
+mod slot_table;
+mod stream;
+mod task;
+#[cfg(test)]
+mod tests;
+mod thread;
+
+pub use counter::HandleCounter;
+pub use error::HandleError;
+pub use handle::{
+    CurrentScope, Entry, GuestThread, RemovedResource, Scope, TransmitLocalState, TypedResource,
+    TypedResourceIndex, Waitable,
+};
+pub use handle_table::HandleTable;
+pub use thread::ThreadHandleTable;

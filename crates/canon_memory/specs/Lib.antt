@@ -1,0 +1,4 @@
+pub mod Counts
+pub mod Guest
+pub mod Journal
+pub mod Memory

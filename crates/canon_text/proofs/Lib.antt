@@ -1,0 +1,15 @@
+pub mod Written
+pub mod Pairs
+pub mod Reading
+pub mod Widths
+pub mod Passing
+pub mod Validated
+pub mod Bytes
+pub mod Narrowing
+pub mod Spelled
+pub mod Compacting
+pub mod Decoded
+pub mod Splits
+pub mod Lawful
+pub mod Kept
+pub mod Answered

@@ -1,0 +1,7 @@
+pub mod Writing
+pub mod Surrogates
+pub mod TwoBytes
+pub mod Faults
+pub mod Answers
+pub mod Decoding
+pub mod Laws

@@ -1,0 +1,44 @@
+//! What conversions answer.
+
+ghost use Rattle.std.specs.Prelude.{◌≡◌};
+ghost use Rattle.canon_text.specs.declared.error.DecodeError.TheVariants as refused;
+
+use std::alloc::{AllocError, AllocFailed};
+
+/// The place of the first ill-formed sequence in the part that was tried, in bytes for UTF-8 and in
+/// units for UTF-16.
+#[derive(Clone, Copy, Debug, PartialEq, Eq)]
+pub enum TextError {
+    InvalidUtf8(u64),
+    InvalidUtf16(u64),
+}
+
+/// Why bytes give no text.
+#[derive(Clone, Copy, Debug, PartialEq, Eq)]
+pub enum DecodeError {
+    Text(TextError),
+    OutOfMemory,
+}
+
+impl From<AllocError> for DecodeError {
+    ghost from_gives = { λ _ e. e ≡ refused.OutOfMemory };
+
+    fn from(_: AllocError) -> Self {
+        DecodeError::OutOfMemory
+    }
+}
+
+impl<T: Drop> From<AllocFailed<T>> for DecodeError {
+    ghost from_gives = { λ _ e. e ≡ refused.OutOfMemory };
+
+    fn from(_: AllocFailed<T>) -> Self {
+        DecodeError::OutOfMemory
+    }
+}
+
+/// How much a pass has read and written, in units of the source and of the destination.
+#[derive(Clone, Copy, Debug, PartialEq, Eq)]
+pub struct SizePair {
+    pub src_read: u64,
+    pub dst_written: u64,
+}

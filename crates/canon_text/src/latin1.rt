@@ -1,0 +1,124 @@
+//! Conversions of and into Latin-1.
+
+ghost use Rattle.std.specs.Prelude.{◌≡◌, ◌<◌, ◌≤◌, length, drop, MatchOption};
+ghost use Rattle.canon_model.specs.Text.{in_latin1, in_utf16, in_utf8};
+ghost use Rattle.canon_text.specs.Answers.{Converts, Narrows, Passed};
+ghost use Rattle.canon_text.specs.Faults.{Begins, BeginsNoLatin1};
+ghost use Rattle.canon_text.specs.TwoBytes.{IsNotTwoBytes, IsTwoBytes};
+
+use crate::error::SizePair;
+use crate::utf16::ends_pass;
+use crate::writing::write_utf8;
+
+/// Copies Latin-1 into as many bytes (wasmtime's `latin1_to_latin1`).
+pub fn latin1_to_latin1(src: &[u8], dst: &mut [u8])
+    requires { length src.now ≡ length dst.old }
+    ensures { Converts in_latin1 in_latin1 src.now dst.old dst.new (length src.now) }
+{
+    dst.copy_from_slice(src);
+}
+
+/// Writes one unit for each byte of Latin-1 (wasmtime's `latin1_to_utf16`).
+pub fn latin1_to_utf16(src: &[u8], dst: &mut [u16])
+    requires { length src.now ≡ length dst.old }
+    ensures { Converts in_latin1 in_utf16 src.now dst.old dst.new (length src.now) }
+{
+    for i in 0..src.len() {
+        dst[i] = u16::from(src[i]);
+    }
+}
+
+/// A pass from Latin-1 to UTF-8: it reads until a character doesn't fit, and a first pass until one
+/// is above U+007F (wasmtime's `latin1_to_utf8`).
+pub fn latin1_to_utf8(src: &[u8], dst: &mut [u8], first_pass: bool) -> SizePair
+    ensures { Passed in_latin1 first_pass src.now dst.old dst.new result.src_read result.dst_written }
+{
+    let mut read = 0;
+    let mut written = 0;
+    while read < src.len() {
+        let c = char::from(src[read]);
+        if ends_pass(c, first_pass, dst.len() - written) {
+            return SizePair {
+                src_read: read as u64,
+                dst_written: written as u64,
+            };
+        }
+        written = write_utf8(dst, written, c);
+        read += 1;
+    }
+    SizePair {
+        src_read: read as u64,
+        dst_written: written as u64,
+    }
+}
+
+/// Writes UTF-8 as Latin-1 into at least as many bytes, up to the first byte that begins no
+/// character up to U+00FF, which is no fault (wasmtime's `utf8_to_latin1`).
+pub fn utf8_to_latin1(src: &[u8], dst: &mut [u8]) -> SizePair
+    requires { length src.now ≤ length dst.old }
+    ensures { Narrows in_utf8 src.now dst.old dst.new result.src_read result.dst_written }
+{
+    let mut read = 0;
+    let mut written = 0;
+    while read < src.len() {
+        let Some(byte) = latin1_at(src, read) else {
+            return SizePair {
+                src_read: read as u64,
+                dst_written: written as u64,
+            };
+        };
+        dst[written] = byte;
+        written += 1;
+        read += char::from(byte).len_utf8();
+    }
+    SizePair {
+        src_read: read as u64,
+        dst_written: written as u64,
+    }
+}
+
+// The character up to U+00FF that begins at a place of UTF-8.
+fn latin1_at(src: &[u8], at: usize) -> Option<u8>
+    requires { at < length src.now }
+    ensures { MatchOption result (BeginsNoLatin1 in_utf8 (drop at src.now)) (λ c. Begins in_utf8 c (drop at src.now)) }
+{
+    let first = src[at];
+    if first < 128 {
+        return Some(first);
+    }
+    if at + 1 >= src.len() {
+        return None;
+    }
+    latin1_of(first, src[at + 1])
+}
+
+// The character from U+0080 to U+00FF that two bytes are.
+fn latin1_of(first: u8, second: u8) -> Option<u8>
+    ensures { MatchOption result (IsNotTwoBytes first second) (λ c. IsTwoBytes first second c) }
+{
+    if first < 0xC2 || first > 0xC3 || second < 0x80 || second > 0xBF {
+        return None;
+    }
+    Some((first - 0xC0) * 64 + (second - 0x80))
+}
+
+/// Writes UTF-16 as Latin-1 into at least as many bytes, up to the first unit above 255, which is
+/// no fault (wasmtime's `utf16_to_latin1`).
+pub fn utf16_to_latin1(src: &[u16], dst: &mut [u8]) -> SizePair
+    requires { length src.now ≤ length dst.old }
+    ensures { Narrows in_utf16 src.now dst.old dst.new result.src_read result.dst_written }
+{
+    for i in 0..src.len() {
+        if src[i] > 255 {
+            return SizePair {
+                src_read: i as u64,
+                dst_written: i as u64,
+            };
+        }
+        dst[i] = src[i] as u8;
+    }
+    SizePair {
+        src_read: src.len() as u64,
+        dst_written: src.len() as u64,
+    }
+}

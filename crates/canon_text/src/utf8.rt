@@ -1,0 +1,47 @@
+//! Conversions of UTF-8 that read the whole source.
+
+ghost use Rattle.std.specs.Prelude.{◌≡◌, ◌≤◌, length, MatchResult, IsUtf8};
+ghost use Rattle.canon_model.specs.Text.{in_utf8, in_utf16};
+ghost use Rattle.canon_text.specs.Faults.{IsFirstFault};
+ghost use Rattle.canon_text.specs.Answers.{Converts};
+
+use crate::error::TextError;
+use crate::writing::write_utf16;
+
+// The source as a text.
+pub(crate) fn text_of(src: &[u8]) -> Result<&str, TextError>
+    ensures { MatchResult result (λ t. (t.now ≡ src.now) × IsUtf8 src.now) (λ e. IsFirstFault in_utf8 src.now e) }
+{
+    match std::str::from_utf8(src) {
+        Ok(text) => Ok(text),
+        Err(error) => Err(TextError::InvalidUtf8(error.valid_up_to() as u64)),
+    }
+}
+
+/// Copies UTF-8 into as many bytes. A refusal leaves `dst` unchanged (wasmtime's `utf8_to_utf8`).
+pub fn utf8_to_utf8(src: &[u8], dst: &mut [u8]) -> Result<(), TextError>
+    requires { length src.now ≡ length dst.old }
+    ensures { MatchResult result
+        (λ _. Converts in_utf8 in_utf8 src.now dst.old dst.new (length src.now))
+        (λ e. IsFirstFault in_utf8 src.now e × (dst.new ≡ dst.old)) }
+{
+    let text = text_of(src)?;
+    dst.copy_from_slice(text.as_bytes());
+    Ok(())
+}
+
+/// Writes UTF-8 as UTF-16 into at least as many units, and answers the units written. A refusal
+/// leaves `dst` unchanged (wasmtime's `utf8_to_utf16`).
+pub fn utf8_to_utf16(src: &[u8], dst: &mut [u16]) -> Result<u64, TextError>
+    requires { length src.now ≤ length dst.old }
+    ensures { MatchResult result
+        (λ n. Converts in_utf8 in_utf16 src.now dst.old dst.new n)
+        (λ e. IsFirstFault in_utf8 src.now e × (dst.new ≡ dst.old)) }
+{
+    let text = text_of(src)?;
+    let mut written = 0;
+    for c in text.chars() {
+        written = write_utf16(dst, written, c);
+    }
+    Ok(written as u64)
+}

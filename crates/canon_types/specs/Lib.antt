@@ -1,0 +1,3 @@
+pub mod Instance
+pub mod Options
+pub mod Table

@@ -1,0 +1,17 @@
+use crate::RuntimeInstance;
+
+/// How texts are spelled in a component's memory (CanonicalABI.md, `string-encoding`).
+#[derive(Clone, Copy, Debug, PartialEq, Eq)]
+pub enum StringEncoding {
+    Utf8,
+}
+
+/// The canonical options of a function (CanonicalABI.md, `canonopt`).
+#[derive(Clone, Copy, Debug, PartialEq, Eq)]
+pub struct CanonicalOptions {
+    pub instance: RuntimeInstance,
+    pub string_encoding: StringEncoding,
+    pub async_: bool,
+    /// The core function that runs after the results were lifted.
+    pub post_return: Option<u32>,
+}
