@@ -11,7 +11,7 @@ use Rattle.canon_model.specs.Layout.{size}
 use Rattle.canon_model.specs.Shape.{ListKind, Shape, list}
 use Rattle.canon_table.specs.Depth.{deepest, depth}
 use Rattle.std.proofs.lemmas.Bool.Decides.{nat_tests}
-use Rattle.canon_table.specs.Table.{Definition, Knows, Table, all_shapes, defined_shape, has, knows, members_of, no_shape, parts, place, plain_shape, shape_of}
+use Rattle.canon_table.specs.Table.{Definition, Knows, Table, all_shapes, defined_shape, definition_at, has, knows, members_of, no_shape, parts, place, plain_shape, shape_of}
 use Rattle.canon_table.specs.Refusal.{Adds, is_empty, is_full_for, laid_shape, most_names, names, names_refusal, or_else, parts_refusal, refusal, shape_refusal, with_definition}
 use Rattle.canon_table.proofs.Measures.{depth_defined}
 use Rattle.canon_table.proofs.Growth.{all_shapes-with, length-all_shapes, defined_shape-with, shape_of-with, knows-with}
@@ -141,6 +141,10 @@ slice_get-last (x ∷ xs) d = slice_get-last xs d
 pub has_new : (test : Definition → Bool) (t : Table) (d : Definition) (n : ℕ) → n ≡ length t.definitions → test d ≡ true → has test (with_definition t d) n ≡ true
 has_new test t d n at h = grind (arith, slice_get-last t.definitions d)
 
+new_definition : (t : Table) (d : Definition) (type : InterfaceType) → place type ≡ Some (length t.definitions) → definition_at (with_definition t d) type ≡ Some d
+new_definition t d type e =
+    ap (λ (o : Option ℕ). option_map_or (slice_get (with_definition t d).definitions) o None) e ∙ slice_get-last t.definitions d
+
 new_shape : (t : Table) (d : Definition) (type : InterfaceType) → place type ≡ Some (length t.definitions) → shape_of (with_definition t d) type ≡ defined_shape (all_shapes t) d
 new_shape t d type e =
     ap (λ (o : Option ℕ). option_map_or (λ i. get_or (all_shapes (with_definition t d)) i no_shape) o (plain_shape type)) e
@@ -156,6 +160,7 @@ adds t d type new accepted grown at known =
       place = at;
       known = known;
       defined = record {
+        definition = new_definition t d type at;
         shape = new_shape t d type at ∙ sym (defined_shape-with t d d parts_known);
         known = λ k x lt. knows-with t d _ (parts_known k x lt);
       };

@@ -212,8 +212,13 @@ parts (ResultType ok error) = option_to_list ok ++ option_to_list error
 parts (FlagsType names) = []
 parts (FixedListType element count) = element ∷ []
 
+-- the definition of a type, if it has one
+abbrev pub definition_at : Table → InterfaceType → Option Definition
+definition_at t type = option_map_or (slice_get t.definitions) (place type) None
+
 -- the type has this definition, and the table knows its parts
 pub record IsDefined (t : Table) (type : InterfaceType) (d : Definition) : Type 0 where
+  pub definition : definition_at t type ≡ Some d
   pub shape : shape_of t type ≡ defined_shape (all_shapes t) d
   pub known : All (Knows t) (parts d)
 

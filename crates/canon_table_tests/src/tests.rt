@@ -1,6 +1,8 @@
+mod look_ups;
+
 use canon_table::{
-    ComponentTypes, InstanceType, InterfaceType, RecordField, ResourceKind, RuntimeInstance,
-    StoreId, TypeBuilder, TypeError, TypeResourceTable, TypeResourceTableIndex, TypeTupleIndex,
+    InstanceType, InterfaceType, RecordField, ResourceKind, RuntimeInstance, StoreId, TypeBuilder,
+    TypeError, TypeResourceTable, TypeResourceTableIndex, TypeTupleIndex,
 };
 use std::alloc::Global;
 use std::test::Fail;
@@ -132,7 +134,7 @@ fn a_function_answers_no_borrow(rt: HostRuntime) -> Result<(), Fail> {
 }
 
 #[test]
-fn each_kind_is_added_and_found(rt: HostRuntime) -> Result<(), Fail> {
+fn each_kind_is_added_with_its_numbers(rt: HostRuntime) -> Result<(), Fail> {
     let alloc = rt.alloc();
     let mut builder = TypeBuilder::new(alloc);
     let fields = vec![in alloc;
@@ -177,33 +179,7 @@ fn each_kind_is_added_and_found(rt: HostRuntime) -> Result<(), Fail> {
             "{ty:?}"
         );
     }
-    find_each(&rt, &types, record, variant, map)?;
     let instance = InstanceType::new(types, StoreId::from_u64(7));
     assert!(rt; instance.types().contains(&record));
-    Ok(())
-}
-
-fn find_each(
-    rt: &impl std::process::Abort,
-    types: &ComponentTypes,
-    record: InterfaceType,
-    variant: InterfaceType,
-    map: InterfaceType,
-) -> Result<(), Fail> {
-    if let InterfaceType::Record(i) = record {
-        assert!(rt; types.contains(&InterfaceType::Record(i)));
-        assert_eq!(rt; types.record(i).fields.len(), 2);
-    }
-    if let InterfaceType::Variant(i) = variant {
-        assert!(rt; types.contains(&InterfaceType::Variant(i)));
-        assert_eq!(rt; types.variant(i).info.payload_offset32, 8);
-    }
-    if let InterfaceType::Map(i) = map {
-        assert!(rt; types.contains(&InterfaceType::Map(i)));
-        assert_eq!(rt;
-            (types.map(i).entry_abi.size32, types.map(i).value_offset32),
-            (12, 4)
-        );
-    }
     Ok(())
 }
