@@ -1,0 +1,4 @@
+pub mod Alignment
+pub mod Sizes
+pub mod Numbers
+pub mod Abi

@@ -1,0 +1,10 @@
+//! The numbers of the canonical ABI: sizes, alignments, flat words, discriminants and flags.
+#![tactic(auto)]
+
+mod abi;
+mod sizes;
+#[cfg(test)]
+mod tests;
+
+pub use abi::{CanonicalAbiInfo, MAX_FLAT_PARAMS, VariantInfo};
+pub use sizes::{DiscriminantSize, FlagsSize};

@@ -1,0 +1,24 @@
+//! The types of values and functions, and the tables that hold them.
+#![tactic(auto)]
+
+mod error;
+mod instance;
+mod table;
+mod types;
+
+pub use canon_abi::{CanonicalAbiInfo, DiscriminantSize, FlagsSize, MAX_FLAT_PARAMS, VariantInfo};
+pub use canon_types::{
+    CanonicalOptions, ExportIndex, OptionsIndex, OutOfMemory, RuntimeInstance, StoreId,
+    StringEncoding, TypeEnumIndex, TypeFixedLengthListIndex, TypeFlagsIndex, TypeFuncIndex,
+    TypeFutureTableIndex, TypeListIndex, TypeMapIndex, TypeOptionIndex, TypeRecordIndex,
+    TypeResourceTableIndex, TypeResultIndex, TypeStreamTableIndex, TypeTupleIndex,
+    TypeVariantIndex,
+};
+pub use error::TypeError;
+pub use instance::InstanceType;
+pub use table::{ComponentTypes, TypeBuilder};
+pub use types::{
+    InterfaceType, RecordField, ResourceKind, TypeEnum, TypeFixedLengthList, TypeFlags, TypeFunc,
+    TypeList, TypeMap, TypeOption, TypeRecord, TypeResourceTable, TypeResult, TypeTuple,
+    TypeVariant,
+};

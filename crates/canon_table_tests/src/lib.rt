@@ -1,0 +1,5 @@
+//! Tests of the table of types.
+#![tactic(auto)]
+
+#[cfg(test)]
+mod tests;
