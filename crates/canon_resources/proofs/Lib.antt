@@ -1,0 +1,4 @@
+pub mod HandlesLemmas
+pub mod HostLemmas
+pub mod LedgerLemmas
+pub mod StepLemmas

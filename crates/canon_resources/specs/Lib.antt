@@ -1,0 +1,4 @@
+pub mod Handles
+pub mod Laws
+pub mod Ledger
+pub mod Owed
