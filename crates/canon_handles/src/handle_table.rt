@@ -2,7 +2,7 @@
 
 ghost use Rattle.std.specs.Prelude.{◌≡◌, ◌≤◌, ◌<◌, ◌+◌, ◌-◌, ◌==◌, OnOk, OnErr, Some, false};
 ghost use Rattle.canon_handles.specs.Table.{max_handle, empty_table, entry_at, entry_count, insert, with_entry, without, one_less, one_more, is_at_limit, DoesWithMemory, SparesOneLess};
-ghost use Rattle.canon_handles.specs.Calls.{held_count, lends_of, IsUnlent, KeepsCount, most_lends};
+ghost use Rattle.canon_handles.specs.Calls.{held_count, is_own, lends_of, IsUnlent, KeepsCount, most_lends};
 ghost use Rattle.canon_handles.specs.declared.handle.Entry.TheVariants.{ResourceOwn};
 
 use crate::counter::HandleCounter;
@@ -81,6 +81,16 @@ impl HandleTable {
         match self.entry(idx) {
             Some(Entry::ResourceOwn { lend_count, .. }) => lend_count,
             _ => 0,
+        }
+    }
+
+    /// Whether there is an own handle at an index.
+    pub fn is_own(&self, idx: u32) -> bool
+        ensures { result ≡ is_own (entry_at self.now.table idx) }
+    {
+        match self.entry(idx) {
+            Some(Entry::ResourceOwn { .. }) => true,
+            _ => false,
         }
     }
 

@@ -102,6 +102,7 @@ fn a_lent_handle_stays_whatever_the_type(rt: HostRuntime) {
     assert_eq!(rt; table.resource_rep(index()), Ok(9));
     assert_eq!(rt; table.resource_lend(&mut counter, index()), Ok((9, true)));
     assert_eq!(rt; table.lends(1), 1);
+    assert!(rt; table.is_own(1));
     assert_eq!(rt; table.held(), 2);
     let refused = table.remove_resource(&mut counter, host_index(1));
     assert_eq!(rt; refused, Err(HandleError::StillLent));

@@ -1,3 +1,5 @@
+pub mod BooksLemmas
+pub mod ContextLemmas
 pub mod HandlesLemmas
 pub mod HostLemmas
 pub mod LedgerLemmas

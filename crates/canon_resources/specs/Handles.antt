@@ -50,6 +50,15 @@ with_table h p t c = record { tables = slice_set h.tables p t; counter = c; scop
 abbrev pub no_scope : OpenScope
 no_scope = record { lenders = []; borrow_count = 0 }
 
+abbrev pub one_lender_more : OpenScope → Lender → OpenScope
+one_lender_more s lender = record { lenders = s.lenders ++ lender ∷ []; borrow_count = s.borrow_count }
+
+abbrev pub one_borrow_more : OpenScope → OpenScope
+one_borrow_more s = record { lenders = s.lenders; borrow_count = s.borrow_count + 1 }
+
+abbrev pub one_borrow_less : OpenScope → OpenScope
+one_borrow_less s = record { lenders = s.lenders; borrow_count = s.borrow_count - 1 }
+
 abbrev pub scope_at : Handles → ℕ → OpenScope
 scope_at h k = slice_index_or h.scopes k no_scope
 
@@ -119,21 +128,25 @@ resource_rep h p idx = at_index (raw_index idx) (table.resource_rep (table_at h 
 
 -- one borrow handle fewer names scope k
 abbrev pub borrow_dropped : Handles → ℕ → Handles
-borrow_dropped h k = with_scope h k (record { lenders = (scope_at h k).lenders; borrow_count = (scope_at h k).borrow_count - 1 })
+borrow_dropped h k = with_scope h k (one_borrow_less (scope_at h k))
 
 abbrev pub borrow_added : Handles → ℕ → Handles
-borrow_added h k = with_scope h k (record { lenders = (scope_at h k).lenders; borrow_count = (scope_at h k).borrow_count + 1 })
+borrow_added h k = with_scope h k (one_borrow_more (scope_at h k))
 
 abbrev pub lender_added : Handles → ℕ → Lender → Handles
-lender_added h k lender = with_scope h k (record { lenders = (scope_at h k).lenders ++ lender ∷ []; borrow_count = (scope_at h k).borrow_count })
+lender_added h k lender = with_scope h k (one_lender_more (scope_at h k) lender)
 
 abbrev pub dropped : RemovedResource × Handles → Answer (Option ℕ)
 dropped (Own rep, h) = Ok (Some rep, h)
 dropped (Borrow (Id k), h) = Ok (None, borrow_dropped h k)
 
+-- a handle is removed, whichever it is
+abbrev pub removing_resource : Handles → ℕ → TypedResourceIndex → Answer RemovedResource
+removing_resource h p idx = on_table h p (raw_index idx) (λ t c. table.remove_resource t c idx)
+
 -- canon resource.drop: the representation of a removed own handle
 abbrev pub resource_drop : Handles → ℕ → TypedResourceIndex → Answer (Option ℕ)
-resource_drop h p idx = and_then (on_table h p (raw_index idx) (λ t c. table.remove_resource t c idx)) dropped
+resource_drop h p idx = and_then (removing_resource h p idx) dropped
 
 abbrev pub lifted_own : RemovedResource × Handles → Answer ℕ
 lifted_own (Own rep, h) = Ok (rep, h)
@@ -141,7 +154,7 @@ lifted_own (Borrow scope, h) = Err fault.BorrowAsOwn
 
 -- lift_own
 abbrev pub resource_lift_own : Handles → ℕ → TypedResourceIndex → Answer ℕ
-resource_lift_own h p idx = and_then (on_table h p (raw_index idx) (λ t c. table.remove_resource t c idx)) lifted_own
+resource_lift_own h p idx = and_then (removing_resource h p idx) lifted_own
 
 abbrev pub lent : ℕ → Lender → (ℕ × Bool) × Handles → Answer ℕ
 lent k lender ((rep, true), h) = Ok (rep, lender_added h k lender)

@@ -1,3 +1,4 @@
+pub mod Books
 pub mod Handles
 pub mod Laws
 pub mod Ledger

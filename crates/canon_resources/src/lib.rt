@@ -1,9 +1,12 @@
 //! The resources of a store: its handle tables, the scopes of its calls, and what is lent in them.
 #![tactic(auto)]
 
+mod context;
 mod fault;
+mod handles;
 mod host;
 pub mod laws;
 
+pub use context::CallContext;
 pub use fault::ResourceFault;
-pub use host::TableSlot;
+pub use host::{HostResourceData, TableSlot};

@@ -1,0 +1,10 @@
+use Rattle.std.proofs.Common.{◌≡◌, ◌<◌, ◌≤◌, ◌+◌, OnErr, OnOk, length, map, List, Some, ℕ, [], ◌++◌, ◌∷◌, take, ◌-◌, ◌*◌}
+use Rattle.canon_handles.specs.Table.{Table, entry_at}
+use Rattle.canon_resources.specs.Handles as handles
+use Rattle.canon_resources.specs.Handles.{fault_at, at_index, give_back, no_scope, table_at, OpenScope, IsSound, Takes, TakesSurely, removing_resource}
+use Rattle.canon_resources.specs.Books.{Context, handles_of}
+use Rattle.canon_resources.specs.Owed.{IsOwed}
+use Rattle.canon_resources.proofs.handles.give_back.Given as goal
+
+abbrev pub invariant-loop-place : goal.invariant-loop-place
+invariant-loop-place l = ?

@@ -1,0 +1,233 @@
+//! The handle tables of a store, their counter and the open scopes.
+
+ghost use Rattle.std.specs.Prelude.{◌≡◌, ◌<◌, ◌≤◌, ◌+◌, OnErr, OnOk, length, map, List, Some, ℕ, [], ◌++◌, ◌∷◌, take, ◌-◌};
+ghost use Rattle.canon_handles.specs.Table.{Table, entry_at};
+ghost use Rattle.canon_resources.specs.Handles as handles;
+ghost use Rattle.canon_resources.specs.Handles.{fault_at, at_index, give_back, no_scope, table_at, OpenScope, IsSound, Takes, TakesSurely, removing_resource};
+ghost use Rattle.canon_resources.specs.Books.{Context, handles_of};
+ghost use Rattle.canon_resources.specs.Owed.{IsOwed};
+
+use crate::context::CallContext;
+use crate::fault::ResourceFault;
+use canon_handles::{
+    HandleCounter, HandleError, HandleTable, RemovedResource, Scope, TypedResource,
+    TypedResourceIndex,
+};
+use canon_types::OutOfMemory;
+
+/// The handle tables of a store, the host's first and then that of each instance, their counter,
+/// and the open scopes, the current one last.
+#[derive(Drop)]
+pub(crate) struct StoreHandles {
+    pub(crate) tables: Vec<HandleTable>,
+    pub(crate) counter: HandleCounter,
+    pub(crate) scopes: Vec<CallContext>,
+}
+
+/// The fault of a refused call on a table, at an index of it.
+fn fault_of(index: u32, error: HandleError) -> ResourceFault
+    ensures { result ≡ fault_at index error }
+{
+    match error {
+        HandleError::UnknownHandle => ResourceFault::UnknownHandle(index),
+        HandleError::ResourceTypeMismatch => ResourceFault::ResourceTypeMismatch,
+        HandleError::StillLent => ResourceFault::StillLent(index),
+        HandleError::TooManyLends => ResourceFault::TooManyLends(index),
+        HandleError::HandleLimit => ResourceFault::HandleLimit,
+        HandleError::IndexOverflow => ResourceFault::IndexOverflow,
+        HandleError::OutOfMemory => ResourceFault::OutOfMemory,
+        _ => ResourceFault::NotAResource(index),
+    }
+}
+
+/// The answer of a call on a table, about an index of it.
+fn at_index<T>(index: u32, answer: Result<T, HandleError>) -> Result<T, ResourceFault>
+    ensures { result ≡ at_index index answer }
+{
+    match answer {
+        Ok(value) => Ok(value),
+        Err(error) => Err(fault_of(index, error)),
+    }
+}
+
+impl StoreHandles {
+    /// A new own handle.
+    pub(crate) fn insert_own(
+        &mut self,
+        table: u32,
+        resource: TypedResource,
+    ) -> Result<u32, ResourceFault>
+        requires within { table < length self.old.tables.items }
+        requires sound { IsSound (handles_of self.old.tables.items self.old.counter self.old.scopes.items) }
+        ensures { Takes (handles.resource_new (handles_of self.old.tables.items self.old.counter self.old.scopes.items) table resource) result
+            (handles_of self.old.tables.items self.old.counter self.old.scopes.items) (handles_of self.new.tables.items self.new.counter self.new.scopes.items) }
+    {
+        let entries = &mut self.tables[table as usize];
+        let answer = entries.resource_own_insert(&mut self.counter, resource);
+        at_index(0, answer)
+    }
+
+    /// The representation of a handle.
+    pub(crate) fn rep(
+        &self,
+        table: u32,
+        index: TypedResourceIndex,
+    ) -> Result<u32, ResourceFault>
+        requires within { table < length self.now.tables.items }
+        ensures { result ≡ handles.resource_rep (handles_of self.now.tables.items self.now.counter self.now.scopes.items) table index }
+    {
+        let raw = index.raw_index();
+        at_index(raw, self.tables[table as usize].resource_rep(index))
+    }
+
+    /// A new borrow handle, made in an open scope, which counts it once it stands.
+    pub(crate) fn insert_borrow(
+        &mut self,
+        table: u32,
+        resource: TypedResource,
+        number: u64,
+    ) -> Result<u32, ResourceFault>
+        requires within { table < length self.old.tables.items }
+        requires scope_open { number < length self.old.scopes.items }
+        requires sound { IsSound (handles_of self.old.tables.items self.old.counter self.old.scopes.items) }
+        ensures { Takes (handles.lower_borrow_in (Some number) (handles_of self.old.tables.items self.old.counter self.old.scopes.items) table resource) result (handles_of self.old.tables.items self.old.counter self.old.scopes.items) (handles_of self.new.tables.items self.new.counter self.new.scopes.items) }
+    {
+        let entries = &mut self.tables[table as usize];
+        let answer = entries.resource_borrow_insert(&mut self.counter, resource, Scope::Id(number));
+        let index = at_index(0, answer)?;
+        let _live = self.counter.live();
+        self.scopes[number as usize].add_borrow();
+        Ok(index)
+    }
+
+    /// Removes a handle.
+    fn remove(
+        &mut self,
+        table: u32,
+        index: TypedResourceIndex,
+    ) -> Result<RemovedResource, ResourceFault>
+        requires within { table < length self.old.tables.items }
+        requires sound { IsSound (handles_of self.old.tables.items self.old.counter self.old.scopes.items) }
+        ensures { TakesSurely (removing_resource (handles_of self.old.tables.items self.old.counter self.old.scopes.items) table index) result (handles_of self.old.tables.items self.old.counter self.old.scopes.items) (handles_of self.new.tables.items self.new.counter self.new.scopes.items) }
+    {
+        let raw = index.raw_index();
+        let entries = &mut self.tables[table as usize];
+        let answer = entries.remove_resource(&mut self.counter, index);
+        at_index(raw, answer)
+    }
+
+    /// Drops a handle: gives the representation of an own handle.
+    pub(crate) fn drop_handle(
+        &mut self,
+        table: u32,
+        index: TypedResourceIndex,
+    ) -> Result<Option<u32>, ResourceFault>
+        requires within { table < length self.old.tables.items }
+        requires sound { IsSound (handles_of self.old.tables.items self.old.counter self.old.scopes.items) }
+        ensures { TakesSurely (handles.resource_drop (handles_of self.old.tables.items self.old.counter self.old.scopes.items) table index) result (handles_of self.old.tables.items self.old.counter self.old.scopes.items) (handles_of self.new.tables.items self.new.counter self.new.scopes.items) }
+    {
+        match self.remove(table, index)? {
+            RemovedResource::Own { rep } => Ok(Some(rep)),
+            RemovedResource::Borrow {
+                scope: Scope::Id(number),
+            } => {
+                self.scopes[number as usize].drop_borrow();
+                Ok(None)
+            }
+        }
+    }
+
+    /// Takes an own handle out. A borrow handle stays.
+    pub(crate) fn lift_own(
+        &mut self,
+        table: u32,
+        index: TypedResourceIndex,
+    ) -> Result<u32, ResourceFault>
+        requires within { table < length self.old.tables.items }
+        requires sound { IsSound (handles_of self.old.tables.items self.old.counter self.old.scopes.items) }
+        ensures { TakesSurely (handles.resource_lift_own (handles_of self.old.tables.items self.old.counter self.old.scopes.items) table index) result (handles_of self.old.tables.items self.old.counter self.old.scopes.items) (handles_of self.new.tables.items self.new.counter self.new.scopes.items) }
+    {
+        let seen = &index;
+        let rep = self.rep(table, *seen);
+        let is_own = self.tables[table as usize].is_own(seen.raw_index());
+        if rep.is_ok() && !is_own {
+            return Err(ResourceFault::BorrowAsOwn);
+        }
+        match self.remove(table, *seen)? {
+            RemovedResource::Own { rep } => Ok(rep),
+            RemovedResource::Borrow { .. } => Err(ResourceFault::BorrowAsOwn),
+        }
+    }
+
+    /// The representation of a handle. An own handle is lent to the call of an open scope, for
+    /// whose lender room is made first.
+    pub(crate) fn lend(
+        &mut self,
+        table: u32,
+        index: TypedResourceIndex,
+        number: u64,
+    ) -> Result<u32, ResourceFault>
+        requires within { table < length self.old.tables.items }
+        requires scope_open { number < length self.old.scopes.items }
+        requires sound { IsSound (handles_of self.old.tables.items self.old.counter self.old.scopes.items) }
+        ensures { Takes (handles.lift_borrow_in (Some number) (handles_of self.old.tables.items self.old.counter self.old.scopes.items) table index) result (handles_of self.old.tables.items self.old.counter self.old.scopes.items) (handles_of self.new.tables.items self.new.counter self.new.scopes.items) }
+    {
+        let seen = &index;
+        let context = &mut self.scopes[number as usize];
+        if context.reserve().is_err() {
+            return Err(ResourceFault::OutOfMemory);
+        }
+        let entries = &mut self.tables[table as usize];
+        let answer = entries.resource_lend(&mut self.counter, *seen);
+        let (rep, is_own) = at_index(seen.raw_index(), answer)?;
+        if is_own {
+            context.add_lender(table, *seen);
+        }
+        Ok(rep)
+    }
+
+    /// The representation of a handle where there is no scope, in which no own handle is lent.
+    pub(crate) fn lend_in_none(
+        &self,
+        table: u32,
+        index: TypedResourceIndex,
+    ) -> Result<u32, ResourceFault>
+        requires within { table < length self.now.tables.items }
+        ensures { TakesSurely (handles.lift_borrow_in None (handles_of self.now.tables.items self.now.counter self.now.scopes.items) table index) result (handles_of self.now.tables.items self.now.counter self.now.scopes.items) (handles_of self.now.tables.items self.now.counter self.now.scopes.items) }
+    {
+        let seen = &index;
+        let rep = self.rep(table, *seen)?;
+        if self.tables[table as usize].is_own(seen.raw_index()) {
+            return Err(ResourceFault::NoScope);
+        }
+        Ok(rep)
+    }
+
+    /// The end of the call of an open scope: its borrow handles must have been dropped, and its
+    /// lends are given back.
+    pub(crate) fn exit(&mut self, number: u64) -> Result<(), ResourceFault>
+        requires scope_open { number < length self.old.scopes.items }
+        requires sound { IsSound (handles_of self.old.tables.items self.old.counter self.old.scopes.items) }
+        ensures { TakesSurely (handles.exit_scope (Some number) (handles_of self.old.tables.items self.old.counter self.old.scopes.items)) result (handles_of self.old.tables.items self.old.counter self.old.scopes.items) (handles_of self.new.tables.items self.new.counter self.new.scopes.items) }
+    {
+        let context = &mut self.scopes[number as usize];
+        if context.borrow_count() != 0 {
+            return Err(ResourceFault::BorrowsRemain);
+        }
+        give_back(&mut self.tables, &mut self.counter, context);
+        context.clear_lenders();
+        Ok(())
+    }
+}
+
+/// Gives the lends of a scope back, each in the table in which it was found.
+fn give_back(tables: &mut Vec<HandleTable>, counter: &mut HandleCounter, context: &CallContext)
+    requires { IsOwed context.now.scope.lenders (handles_of tables.old.items counter.old []) }
+    ensures { (scopes : List Context) → handles_of tables.new.items counter.new scopes ≡ give_back context.now.scope.lenders (handles_of tables.old.items counter.old scopes) }
+{
+    for place in 0..context.lender_count() {
+        let (table, index) = context.lender(place);
+        let entries = &mut tables[table as usize];
+        let _answer = entries.resource_undo_lend(counter, index);
+    }
+}
