@@ -112,7 +112,7 @@ pub lenders-with_scope : (q j : ℕ) (h : Handles) (k : ℕ) (s : OpenScope) →
     → lenders_of q j (set h.scopes k s) + standing q j (scope_at h k).lenders ≡ lenders_of q j h.scopes + standing q j s.lenders
 lenders-with_scope q j h k s within = sum_by-set (λ (s : OpenScope). standing q j s.lenders) h.scopes k s no_scope within
 
-open_by_count : (h : Handles) (k : ℕ) → 1 ≤ (scope_at h k).borrow_count → k < length h.scopes
+pub open_by_count : (h : Handles) (k : ℕ) → 1 ≤ (scope_at h k).borrow_count → k < length h.scopes
 open_by_count h k some = elim (within_or_past k (length h.scopes)) [
   | inl l ↦ l
   | inr past ↦

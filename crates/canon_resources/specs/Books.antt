@@ -1,5 +1,5 @@
 -- What the fields of a ledger stand for.
-use Rattle.std.specs.Prelude.{ℕ, List, [], ◌∷◌, map, min, ◌-◌, ◌≤◌, ◌≡◌, length, Option, Some, None}
+use Rattle.std.specs.Prelude.{ℕ, zero, suc, Bool, false, nat_le, List, [], ◌∷◌, map, min, ◌-◌, ◌≤◌, ◌<◌, ◌≡◌, length, Option, Some, None, Result}
 use Rattle.canon_handles.specs.declared.handle.CurrentScope.{CurrentScope}
 use Rattle.canon_handles.specs.declared.handle.CurrentScope.TheVariants as current
 use Rattle.canon_handles.specs.declared.handle.Scope.TheVariants.{Id}
@@ -7,8 +7,9 @@ use Rattle.canon_handles.specs.declared.handle.Entry.{Entry}
 use Rattle.canon_handles.specs.declared.handle.TypedResourceIndex.{TypedResourceIndex}
 use Rattle.canon_handles.specs.Table.{Counter, Stored}
 use Rattle.canon_resources.specs.declared.host.TableSlot.{TableSlot}
-use Rattle.canon_resources.specs.Handles.{Handles, Lender, OpenScope}
-use Rattle.canon_resources.specs.Ledger.{LedgerState, HostIndexes}
+use Rattle.canon_resources.specs.declared.fault.ResourceFault.{ResourceFault}
+use Rattle.canon_resources.specs.Handles.{Handles, Lender, OpenScope, IsSound}
+use Rattle.canon_resources.specs.Ledger.{LedgerState, HostIndexes, IsHostSound, Done, with_slot, raised, last_generation}
 
 -- A scope, with a number of lends that need no memory.
 pub record Context : Type 0 where
@@ -40,3 +41,31 @@ handles_of tables counter scopes = record { tables = map (λ t. t.table) tables;
 abbrev pub scope_number : Option CurrentScope → Option ℕ
 scope_number None = None
 scope_number (Some (current.Id (Id k))) = Some k
+
+abbrev pub ledger_of : List (Stored Entry) → Counter → List Context → HostIndexes → LedgerState
+ledger_of tables counter scopes host = record { handles = handles_of tables counter scopes; host = host }
+
+-- what every call keeps of a ledger: its laws, the host's table and those of at most 256 instances
+pub record Holds (l : LedgerState) : Type 0 where
+  pub sound : IsSound l.handles
+  pub host : IsHostSound l
+  pub some : 0 < length l.handles.tables
+  pub few : length l.handles.tables ≤ 257
+
+-- a call answers what the step does and leaves what it leaves
+abbrev pub DidSurely : {A : Type 0} → Done A → Result A ResourceFault → LedgerState → Type 0
+DidSurely d r l = (r ≡ d.answer) × (l ≡ d.after)
+
+-- an insertion into table p, at which the host's writes a slot
+abbrev pub written_at : ℕ → ℕ → HostIndexes → HostIndexes
+written_at zero i host = with_slot host i None None
+written_at (suc n) i host = host
+
+-- a removal from table p, before which the host's raises the generation
+abbrev pub raised_at : ℕ → HostIndexes → HostIndexes
+raised_at zero host = raised host
+raised_at (suc n) host = host
+
+abbrev pub is_spent : ℕ → HostIndexes → Bool
+is_spent zero host = nat_le last_generation host.generation
+is_spent (suc n) host = false

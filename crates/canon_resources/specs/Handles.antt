@@ -1,5 +1,6 @@
 -- The handle tables of a store, with the counter of them all and the open scopes.
-use Rattle.std.specs.Prelude.{◌≡◌, ℕ, suc, ◌+◌, ◌-◌, ◌==◌, nat_lt, Bool, true, false, not, ◌&&◌, if◌then◌else◌, List, [], ◌∷◌, ◌++◌, length, take, Option, Some, None, Result, Ok, Err, slice_index_or, slice_set, sum_by, is_some, ◌⊎◌}
+use Rattle.std.specs.Prelude.{◌≡◌, ℕ, suc, ◌+◌, ◌-◌, ◌==◌, nat_lt, Bool, true, false, not, ◌&&◌, if◌then◌else◌, List, [], ◌∷◌, ◌++◌, length, take, Option, Some, None, Result, Ok, Err, slice_index_or, slice_set, sum_by, is_some, is_ok, ◌⊎◌}
+use Rattle.canon_handles.specs.declared.handle.Scope.{Scope}
 use Rattle.canon_handles.specs.declared.handle.Scope.TheVariants.{Id}
 use Rattle.canon_handles.specs.declared.handle.TypedResource.{TypedResource}
 use Rattle.canon_handles.specs.declared.handle.TypedResource.TheVariants.{Host, Component}
@@ -100,6 +101,10 @@ opened h (Some k) = if nat_lt k (length h.scopes) then Some k else None
 
 -- Scopes
 
+-- the top open scope
+abbrev pub top_scope : Handles → Option ℕ
+top_scope h = if length h.scopes == 0 then None else Some (length h.scopes - 1)
+
 abbrev pub enter : Handles → Handles
 enter h = record { tables = h.tables; counter = h.counter; scopes = h.scopes ++ no_scope ∷ [] }
 
@@ -136,13 +141,20 @@ borrow_added h k = with_scope h k (one_borrow_more (scope_at h k))
 abbrev pub lender_added : Handles → ℕ → Lender → Handles
 lender_added h k lender = with_scope h k (one_lender_more (scope_at h k) lender)
 
+abbrev pub number_of : Scope → ℕ
+number_of (Id k) = k
+
 abbrev pub dropped : RemovedResource × Handles → Answer (Option ℕ)
 dropped (Own rep, h) = Ok (Some rep, h)
-dropped (Borrow (Id k), h) = Ok (None, borrow_dropped h k)
+dropped (Borrow scope, h) = Ok (None, borrow_dropped h (number_of scope))
 
 -- a handle is removed, whichever it is
 abbrev pub removing_resource : Handles → ℕ → TypedResourceIndex → Answer RemovedResource
 removing_resource h p idx = on_table h p (raw_index idx) (λ t c. table.remove_resource t c idx)
+
+-- the index names a borrow handle of its type
+abbrev pub names_borrow : Handles → ℕ → TypedResourceIndex → Bool
+names_borrow h p idx = is_ok (resource_rep h p idx) && not (table.is_own (entry_at (table_at h p) (raw_index idx)))
 
 -- canon resource.drop: the representation of a removed own handle
 abbrev pub resource_drop : Handles → ℕ → TypedResourceIndex → Answer (Option ℕ)
@@ -156,13 +168,17 @@ lifted_own (Borrow scope, h) = Err fault.BorrowAsOwn
 abbrev pub resource_lift_own : Handles → ℕ → TypedResourceIndex → Answer ℕ
 resource_lift_own h p idx = and_then (removing_resource h p idx) lifted_own
 
+-- an own handle is lent once more, and what a borrow handle names is told
+abbrev pub lending : Handles → ℕ → TypedResourceIndex → Answer (ℕ × Bool)
+lending h p idx = on_table h p (raw_index idx) (λ t c. table.resource_lend t c idx)
+
 abbrev pub lent : ℕ → Lender → (ℕ × Bool) × Handles → Answer ℕ
 lent k lender ((rep, true), h) = Ok (rep, lender_added h k lender)
 lent k lender ((rep, false), h) = Ok (rep, h)
 
 -- lift_borrow in a scope that is open, or in none
 abbrev pub lift_borrow_in : Option ℕ → Handles → ℕ → TypedResourceIndex → Answer ℕ
-lift_borrow_in (Some k) h p idx = and_then (on_table h p (raw_index idx) (λ t c. table.resource_lend t c idx)) (lent k (record { table = p; index = idx }))
+lift_borrow_in (Some k) h p idx = and_then (lending h p idx) (lent k (record { table = p; index = idx }))
 lift_borrow_in None h p idx =
     and_then (resource_rep h p idx) (λ rep.
     refuse_if (table.is_own (entry_at (table_at h p) (raw_index idx))) fault.NoScope
@@ -171,10 +187,13 @@ lift_borrow_in None h p idx =
 abbrev pub resource_lift_borrow : Option ℕ → Handles → ℕ → TypedResourceIndex → Answer ℕ
 resource_lift_borrow scope h p idx = lift_borrow_in (opened h scope) h p idx
 
+-- a new borrow handle of scope k
+abbrev pub inserting_borrow : Handles → ℕ → TypedResource → ℕ → Answer ℕ
+inserting_borrow h p resource k = on_table h p 0 (λ t c. table.resource_borrow_insert t c resource (Id k))
+
 abbrev pub lower_borrow_in : Option ℕ → Handles → ℕ → TypedResource → Answer ℕ
 lower_borrow_in (Some k) h p resource =
-    and_then (on_table h p 0 (λ t c. table.resource_borrow_insert t c resource (Id k)))
-    (λ (i, h'). Ok (i, borrow_added h' k))
+    and_then (inserting_borrow h p resource k) (λ (i, h'). Ok (i, borrow_added h' k))
 lower_borrow_in None h p resource = Err fault.NoScope
 
 -- lower_borrow

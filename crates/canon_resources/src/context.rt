@@ -75,7 +75,6 @@ impl CallContext {
     }
 
     /// A lender: the table in which the lending call found it, and its index.
-    #[tactic(auto, using(crate::proofs::ContextLemmas::length_paired, crate::proofs::ContextLemmas::length_paired_tables, crate::proofs::ContextLemmas::get_paired))]
     pub(crate) fn lender(&self, place: usize) -> (u32, TypedResourceIndex)
         requires { place < length self.now.scope.lenders }
         ensures { slice_get self.now.scope.lenders place ≡ Some (record { table = result.0; index = result.1 }) }

@@ -6,7 +6,9 @@ mod fault;
 mod handles;
 mod host;
 pub mod laws;
+mod ledger;
 
 pub use context::CallContext;
 pub use fault::ResourceFault;
+pub use ledger::Ledger;
 pub use host::{HostResourceData, TableSlot};
