@@ -2,6 +2,7 @@ pub mod BooksLemmas
 pub mod ContextLemmas
 pub mod DidLemmas
 pub mod HandlesLemmas
+pub mod HoldsLemmas
 pub mod HostLemmas
 pub mod LedgerLemmas
 pub mod OwedLemmas

@@ -77,11 +77,7 @@ impl StoreHandles {
     }
 
     /// The representation of a handle.
-    pub(crate) fn rep(
-        &self,
-        table: u32,
-        index: TypedResourceIndex,
-    ) -> Result<u32, ResourceFault>
+    pub(crate) fn rep(&self, table: u32, index: TypedResourceIndex) -> Result<u32, ResourceFault>
         requires within { table < length self.now.tables.items }
         ensures { result ≡ handles.resource_rep (handles_of self.now.tables.items self.now.counter self.now.scopes.items) table index }
     {

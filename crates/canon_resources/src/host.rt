@@ -41,7 +41,7 @@ impl HostResourceData {
     ghost use Rattle.canon_handles.specs.Step.{refuse_if};
     ghost use Rattle.std.specs.Prelude.{Ok, nat_le, if◌then◌else◌};
     ghost use Rattle.canon_resources.specs.Ledger.{last_generation, raised, with_slot};
-    ghost use Rattle.canon_resources.specs.Books.{no_indexes};
+    ghost use Rattle.canon_resources.specs.Books.{is_spent, no_indexes, raised_at, written_at};
     ghost use Rattle.canon_resources.specs.declared.fault.ResourceFault.TheVariants.{GenerationExhausted};
 
     /// No slots, and the first generation.
@@ -75,12 +75,7 @@ impl HostResourceData {
 
     /// Writes the slot of an index, which has one or is the next to have one.
     #[tactic(auto, using(crate::proofs::ContextLemmas::slots_written, crate::proofs::ContextLemmas::slots_pushed))]
-    pub(crate) fn write(
-        &mut self,
-        index: u32,
-        instance: Option<RuntimeInstance>,
-        dtor: Option<u32>,
-    )
+    pub(crate) fn write(&mut self, index: u32, instance: Option<RuntimeInstance>, dtor: Option<u32>)
         requires positive { 0 < index }
         requires next { index ≤ length self.old.indexes.slots }
         requires room { 0 < self.old.room }
@@ -109,5 +104,37 @@ impl HostResourceData {
         }
         self.generation += 1;
         Ok(())
+    }
+
+    /// Makes room for the slot of an insertion into a table, which the host's alone has.
+    pub(crate) fn reserve_at(&mut self, table: u32) -> Result<(), OutOfMemory>
+        ensures indexes { self.new.indexes ≡ self.old.indexes }
+        ensures room { OnOk result (table ≡ 0 → 0 < self.new.room) }
+    {
+        if table != 0 {
+            return Ok(());
+        }
+        self.reserve()
+    }
+
+    /// Writes the slot of an insertion into a table.
+    pub(crate) fn write_at(&mut self, table: u32, index: u32)
+        requires { table ≡ 0 → (0 < index) × (index ≤ length self.old.indexes.slots) × (0 < self.old.room) }
+        ensures { self.new.indexes ≡ written_at table index self.old.indexes }
+    {
+        if table == 0 {
+            self.write(index, None, None);
+        }
+    }
+
+    /// Raises the generation, before a handle is removed from the host's table.
+    pub(crate) fn raise_at(&mut self, table: u32) -> Result<(), ResourceFault>
+        ensures answer { result ≡ refuse_if (is_spent table self.old.indexes) GenerationExhausted (Ok tt) }
+        ensures after { self.new.indexes ≡ (if is_spent table self.old.indexes then self.old.indexes else raised_at table self.old.indexes) }
+    {
+        if table != 0 {
+            return Ok(());
+        }
+        self.raise()
     }
 }

@@ -7,8 +7,13 @@ mod handles;
 mod host;
 pub mod laws;
 mod ledger;
+mod tables;
 
 pub use context::CallContext;
 pub use fault::ResourceFault;
-pub use ledger::Ledger;
 pub use host::{HostResourceData, TableSlot};
+pub use ledger::Ledger;
+pub use tables::ResourceTables;
+
+#[cfg(test)]
+mod tests;
