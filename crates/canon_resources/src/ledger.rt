@@ -163,6 +163,7 @@ impl Ledger {
         ensures number { result ≡ host_table }
         ensures within { result < length self.now.handles.tables }
     {
+        let _count = self.handles.tables.len();
         0
     }
 

@@ -14,6 +14,7 @@ use canon_types::ComponentTypes;
 /// The ledger as a call reaches it: with the types of the component, where there is one, and the
 /// scope of the call that runs. That scope, where there is one, must be open. So far every resource
 /// is the host's.
+#[derive(Drop)]
 pub struct ResourceTables<'a> {
     pub ledger: &'a mut Ledger,
     pub types: Option<&'a ComponentTypes>,
