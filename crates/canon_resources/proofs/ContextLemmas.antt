@@ -1,0 +1,67 @@
+-- Lenders whose tables and indexes stand in two lists, and slots.
+use Rattle.std.proofs.Common.{◌≡◌, ℕ, zero, suc, ◌+◌, ◌-◌, ◌<◌, ◌≤◌, ◌&&◌, ◌==◌, List, [], ◌∷◌, ◌++◌, length, get_or, map, Option, Some, None, refl, sym, ap, subst, ◌∙◌, arith, slice_get, slice_index_or, slice_set}
+use Rattle.std.proofs.Math.ListN.{set}
+use Rattle.std.proofs.lemmas.List.{map-set, length-map}
+use Rattle.canon_handles.specs.declared.handle.TypedResourceIndex.{TypedResourceIndex}
+use Rattle.canon_handles.specs.Step.{put}
+use Rattle.canon_handles.proofs.StepLemmas.{put_within, put_end}
+use Rattle.canon_resources.specs.declared.host.TableSlot.{TableSlot}
+use Rattle.canon_resources.specs.Handles.{Lender, is_empty_scope}
+use Rattle.canon_resources.specs.Ledger.{HostIndexes, with_slot}
+use Rattle.canon_resources.specs.Books.{paired, indexes_of}
+
+pub length_paired : (ps : List ℕ) (is : List TypedResourceIndex) → length ps ≡ length is → length (paired ps is) ≡ length is
+length_paired [] [] e = refl
+length_paired [] (i ∷ is) e = absurd (omega arith)
+length_paired (p ∷ ps) [] e = absurd (omega arith)
+length_paired (p ∷ ps) (i ∷ is) e = let k = length_paired ps is (omega arith) in omega arith
+
+pub length_paired_tables : (ps : List ℕ) (is : List TypedResourceIndex) → length ps ≡ length is → length (paired ps is) ≡ length ps
+length_paired_tables ps is e = let k = length_paired ps is e in omega arith
+
+pub indexes_paired : (ps : List ℕ) (is : List TypedResourceIndex) → length ps ≡ length is → is ≡ map (λ (l : Lender). l.index) (paired ps is)
+indexes_paired [] [] e = refl
+indexes_paired [] (i ∷ is) e = absurd (omega arith)
+indexes_paired (p ∷ ps) [] e = absurd (omega arith)
+indexes_paired (p ∷ ps) (i ∷ is) e = ap (λ l. i ∷ l) (indexes_paired ps is (omega arith))
+
+pub paired_append : (ps : List ℕ) (is : List TypedResourceIndex) (p : ℕ) (i : TypedResourceIndex) → length ps ≡ length is
+    → paired (ps ++ p ∷ []) (is ++ i ∷ []) ≡ paired ps is ++ record { table = p; index = i } ∷ []
+paired_append [] [] p i e = refl
+paired_append [] (j ∷ is) p i e = absurd (omega arith)
+paired_append (q ∷ ps) [] p i e = absurd (omega arith)
+paired_append (q ∷ ps) (j ∷ is) p i e = ap (λ l. record { table = q; index = j } ∷ l) (paired_append ps is p i (omega arith))
+
+get_paired : (ps : List ℕ) (is : List TypedResourceIndex) (k p : ℕ) (i : TypedResourceIndex) → length ps ≡ length is → k < length ps → p ≡ slice_index_or ps k p → i ≡ slice_index_or is k i
+    → slice_get (paired ps is) k ≡ Some (record { table = p; index = i })
+get_paired [] is k p i e h a b = absurd (omega arith)
+get_paired (q ∷ ps) [] k p i e h a b = absurd (omega arith)
+get_paired (q ∷ ps) (j ∷ is) zero p i e h a b = λ t. Some (record { table = sym a t; index = sym b t })
+get_paired (q ∷ ps) (j ∷ is) (suc k) p i e h a b = get_paired ps is k p i (omega arith) (omega arith) a b
+
+pub lender_at : (ps : List ℕ) (is : List TypedResourceIndex) (lenders : List Lender) (k p : ℕ) (i : TypedResourceIndex) → length ps ≡ length is → paired ps is ≡ lenders → k < length lenders → p ≡ slice_index_or ps k p → i ≡ slice_index_or is k i
+    → slice_get lenders k ≡ Some (record { table = p; index = i })
+lender_at ps is lenders k p i e v h a b =
+    ap (λ l. slice_get l k) (sym v) ∙ get_paired ps is k p i e (let n = length_paired_tables ps is e in let m = ap (λ (l : List Lender). length l) v in omega arith) a b
+
+-- slots, of which that of index 0 is none
+
+pub slots_written : (slots : List TableSlot) (i : ℕ) (s : TableSlot) → i < length slots → None ∷ map Some (set slots i s) ≡ put (None ∷ map Some slots) (suc i) (Some s)
+slots_written slots i s h =
+    ap (λ l. None ∷ l) (map-set Some slots i s ∙ sym (put_within (map Some slots) i (Some s) (let e = length-map slots Some in omega arith)))
+
+map-append_one : (slots : List TableSlot) (s : TableSlot) → map Some (slots ++ s ∷ []) ≡ map Some slots ++ Some s ∷ []
+map-append_one [] s = refl
+map-append_one (x ∷ xs) s = ap (λ l. Some x ∷ l) (map-append_one xs s)
+
+pub slots_pushed : (slots : List TableSlot) (i : ℕ) (s : TableSlot) → i ≡ length slots → None ∷ map Some (slots ++ s ∷ []) ≡ put (None ∷ map Some slots) (suc i) (Some s)
+slots_pushed slots i s e =
+    ap (λ l. None ∷ l) (map-append_one slots s ∙ sym (put_end (map Some slots) (Some s)) ∙ ap (λ n. put (map Some slots) n (Some s)) (length-map slots Some ∙ sym e))
+
+pub host_pushed : (slots new : List TableSlot) (generation index : ℕ) (instance dtor : Option ℕ) (now : HostIndexes) → indexes_of (None ∷ map Some slots) generation ≡ now → 0 < index → index ≤ length now.slots → length slots ≤ index - 1
+    → new ≡ slots ++ record { generation = generation; instance = instance; dtor = dtor } ∷ [] → indexes_of (None ∷ map Some new) generation ≡ with_slot now index instance dtor
+host_pushed slots new generation zero instance dtor now v p h l e = absurd (omega arith)
+host_pushed slots new generation (suc i) instance dtor now v p h l e =
+    ap (λ l. indexes_of (None ∷ map Some l) generation) e
+    ∙ ap (λ l. indexes_of l generation) (slots_pushed slots i (record { generation = generation; instance = instance; dtor = dtor }) (let m = length-map slots Some in let n = ap (λ (h : HostIndexes). length h.slots) v in omega arith))
+    ∙ ap (λ (h : HostIndexes). with_slot h (suc i) instance dtor) v

@@ -1,0 +1,14 @@
+use Rattle.std.proofs.Common.{rules, ◌≡◌, ◌≤◌, ◌<◌, OnOk, length, Ok, nat_le, if◌then◌else◌, ℕ, ◌+◌, ◌-◌, ◌*◌, ◌/◌, ◌%◌, Bool, true, false, nat_eq, nat_lt, List, [], ◌∷◌, ◌++◌, slice_index_or, slice_set, bit_and, bit_or, Fits, w8, w32, w64, Bor, MutBor}
+use Rattle.canon_handles.specs.Step.{refuse_if}
+use Rattle.canon_resources.specs.Ledger.{last_generation, raised, with_slot}
+use Rattle.canon_resources.specs.Books.{no_indexes}
+use Rattle.canon_resources.specs.declared.fault.ResourceFault.TheVariants.{GenerationExhausted}
+use Rattle.std.proofs.Common.{ap, arith}
+use Rattle.canon_resources.specs.Books.{KeptIndexes}
+use Rattle.canon_resources.proofs.host.HostResourceData.write.Goals as goal
+use Rattle.canon_resources.proofs.ContextLemmas.{host_pushed}
+
+pub returns-else-place-len : goal.returns-else-place-len
+returns-else-place-len c =
+    host_pushed c.self.inside.slots.items c.push_reserved.new.self.items c.self.inside.generation c.args.index c.args.instance c.args.dtor c.args.self.now.indexes
+    (ap (λ (k : KeptIndexes). k.indexes) c.self.view_is) c.requires.positive c.requires.next (let l = c.len.ensures in let f = c.if-place-len.false in omega arith) c.push_reserved.ensures.items

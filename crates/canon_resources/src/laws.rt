@@ -1,0 +1,43 @@
+//! Laws of the definitions.
+
+ghost use Rattle.canon_resources.specs.Laws.{RefusalsChangeNothing, NewLedgersAreSound, StepsKeepHandlesSound, StepsKeepHostSound, IndexesAnswerForTheirInsertion, IndexesAreGivenOnce, StepsCompose, PartsCompose, WholesAreParts};
+
+/// A refused step changes nothing but the host's generation, where it is a removal there.
+pub fn refusals_change_nothing()
+    ensures { RefusalsChangeNothing }
+{}
+
+/// A new ledger has what every step keeps.
+pub fn new_ledgers_are_sound()
+    ensures { NewLedgersAreSound }
+{}
+
+/// Over every list of steps, the live handles are the entries and the lends, a lend count is the
+/// number of times its handle stands among the lenders of open scopes, and a scope's borrow count
+/// is the number of borrow handles that name it.
+pub fn steps_keep_handles_sound()
+    ensures { StepsKeepHandlesSound }
+{}
+
+/// Over every list of steps, no slot of the host is newer than the current generation, and that of
+/// an index without an entry is older.
+pub fn steps_keep_host_sound()
+    ensures { StepsKeepHostSound }
+{}
+
+/// A host index is accepted only while the entry of the insertion that gave it stands.
+pub fn indexes_answer_for_their_insertion()
+    ensures { IndexesAnswerForTheirInsertion }
+{}
+
+/// No two insertions give one host index.
+pub fn indexes_are_given_once()
+    ensures { IndexesAreGivenOnce }
+{}
+
+/// Accepted lists of steps compose.
+pub fn steps_compose()
+    ensures whole { StepsCompose }
+    ensures part { PartsCompose }
+    ensures whole_is_part { WholesAreParts }
+{}

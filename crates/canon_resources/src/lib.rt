@@ -1,0 +1,19 @@
+//! The resources of a store: its handle tables, the scopes of its calls, and what is lent in them.
+#![tactic(auto)]
+
+mod context;
+mod fault;
+mod handles;
+mod host;
+pub mod laws;
+mod ledger;
+mod tables;
+
+pub use context::CallContext;
+pub use fault::ResourceFault;
+pub use host::{HostResourceData, TableSlot};
+pub use ledger::Ledger;
+pub use tables::ResourceTables;
+
+#[cfg(test)]
+mod tests;
