@@ -3,8 +3,8 @@ use Rattle.std.proofs.Common.{◌≡◌, ◌≤◌, length, Some, ap, arith, ◌
 use Rattle.std.specs.Prelude.{slice_get}
 use Rattle.canon_model.specs.Flat.{max_params}
 use Rattle.canon_model.specs.Layout.{members_flat}
-use Rattle.canon_types.specs.Table.{IsOver, Table, param_members, result_members, types_of}
-use Rattle.canon_types.specs.declared.table.TypeFunc.{TypeFunc}
+use Rattle.canon_scalars.specs.Table.{IsOver, Table, param_members, result_members, types_of}
+use Rattle.canon_scalars.specs.declared.table.TypeFunc.{TypeFunc}
 use Rattle.canon_value.proofs.Scalars.{members_flat-members_of}
 use Rattle.canon_value.specs.declared.component.Component.{Component}
 use Rattle.canon_value.specs.declared.component.Export.{Export}

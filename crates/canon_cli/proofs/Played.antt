@@ -7,7 +7,7 @@ use Rattle.std.specs.declared.alloc.Global.{Global}
 use Rattle.canon_memory.specs.Guest.{Recorded}
 use Rattle.canon_memory.specs.declared.event.Event.{Event}
 use Rattle.canon_model.specs.Shape.{member_count}
-use Rattle.canon_types.specs.Table.{Table, members_of}
+use Rattle.canon_scalars.specs.Table.{Table, members_of}
 use Rattle.canon_value.proofs.Scalars.{member_count-members_of}
 use Rattle.canon_value.specs.Component.{encoding_in}
 use Rattle.canon_value.specs.Fails.{MemberFails, mismatch}

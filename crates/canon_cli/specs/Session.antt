@@ -2,10 +2,10 @@
 use Rattle.std.specs.Prelude.{◌≡◌, ◌≢◌, ℕ, List, [], ◌∷◌, None, Result, Ok, Err, false, replicate}
 use Rattle.canon_memory.specs.Guest.{Recorded}
 use Rattle.canon_model.specs.Text.{utf8}
-use Rattle.canon_types.specs.Table.{Table, members_of}
+use Rattle.canon_scalars.specs.Table.{Table, members_of}
 use Rattle.canon_types.specs.declared.options.CanonicalOptions.{CanonicalOptions}
 use Rattle.canon_types.specs.declared.options.StringEncoding.TheVariants.{Utf8}
-use Rattle.canon_types.specs.declared.table.InterfaceType.{InterfaceType}
+use Rattle.canon_scalars.specs.declared.table.InterfaceType.{InterfaceType}
 use Rattle.canon_value.specs.Fails.{MemberFails, mismatch}
 use Rattle.canon_value.specs.declared.component.Component.{Component}
 use Rattle.canon_value.specs.declared.fault.Fault.TheVariants as fault

@@ -2,8 +2,8 @@
 use Rattle.std.specs.Prelude.{◌≡◌, ℕ, ◌<◌, Bool, length, Option, Some, None, slice_get}
 use Rattle.canon_model.specs.Shape.{Members, no_members}
 use Rattle.canon_model.specs.Text.{Encoding, utf8}
-use Rattle.canon_types.specs.declared.table.TypeFunc.{TypeFunc}
-use Rattle.canon_types.specs.Table.{Table, param_members, result_members}
+use Rattle.canon_scalars.specs.declared.table.TypeFunc.{TypeFunc}
+use Rattle.canon_scalars.specs.Table.{Table, param_members, result_members}
 use Rattle.canon_value.specs.Component.{encoding_at}
 use Rattle.canon_value.specs.Core.{Parts}
 use Rattle.canon_value.specs.declared.component.Component.{Component}

@@ -1,5 +1,5 @@
 ghost use Rattle.std.specs.Prelude.{◌≡◌, ◌≢◌, [], ◌∷◌, length, Err, IfOk, OnErr, OnOk};
-ghost use Rattle.canon_types.specs.Table.{HasFunc, types_of};
+ghost use Rattle.canon_scalars.specs.Table.{HasFunc, types_of};
 ghost use Rattle.canon_value.specs.Component.{IsSound};
 ghost use Rattle.canon_cli.specs.Play.{play_of};
 ghost use Rattle.canon_cli.specs.Session.{IsPlayed, IsScripted, Session, fresh_store, outcome, script_options, values_of};
@@ -9,7 +9,7 @@ use crate::{
     Action, Answer, Call, Error, Head, Record, Script, ScriptedGuest, Signature, Store, Transcript,
 };
 use canon_memory::{Journaled, Memory};
-use canon_types::{
+use canon_scalars::{
     CanonicalOptions, ExportIndex, InstanceType, OptionsIndex, OutOfMemory, RuntimeInstance,
     StoreId, StringEncoding, TypeBuilder, TypeFuncIndex,
 };

@@ -2,7 +2,7 @@ ghost use Rattle.std.specs.Prelude.{◌≡◌, ◌<◌, ◌↔◌, length, false
 ghost use Rattle.canon_cli.specs.Stores.{IsOwned, Stored};
 
 use crate::Func;
-use canon_types::ExportIndex;
+use canon_scalars::ExportIndex;
 use canon_value::Core;
 use std::marker::Model;
 

@@ -1,6 +1,6 @@
 use super::*;
 use canon_memory::Memory;
-use canon_types::{
+use canon_scalars::{
     CanonicalOptions, ExportIndex, InstanceType, InterfaceType, OptionsIndex, RuntimeInstance,
     StoreId, StringEncoding, TypeBuilder,
 };

@@ -1,3 +1,1 @@
-pub mod Instance
 pub mod Options
-pub mod Table

@@ -13,8 +13,8 @@ use Rattle.canon_model.specs.Memory.{Inside, Memory}
 use Rattle.canon_model.specs.Shape.{Members, Shape, no_members}
 use Rattle.canon_model.specs.Text.{Encoding}
 use Rattle.canon_model.specs.Tree.{Tree, Trees, no_trees, tree}
-use Rattle.canon_types.specs.Table.{Table, members_of, shape_of}
-use Rattle.canon_types.specs.declared.table.InterfaceType.{InterfaceType}
+use Rattle.canon_scalars.specs.Table.{Table, members_of, shape_of}
+use Rattle.canon_scalars.specs.declared.table.InterfaceType.{InterfaceType}
 use Rattle.canon_value.specs.Fails.{FailsAt, MemberFails, mismatch, places}
 use Rattle.canon_value.specs.Value.{HasTree, HaveTrees}
 use Rattle.canon_value.specs.Faults.{fault_at}

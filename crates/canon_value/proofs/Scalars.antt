@@ -11,9 +11,9 @@ use Rattle.canon_model.specs.Layout.{flat, members_flat}
 use Rattle.canon_model.specs.Memory.{Memory, low}
 use Rattle.canon_model.specs.Text.{Encoding}
 use Rattle.canon_model.specs.Tree.{number, truth}
-use Rattle.canon_types.specs.Table.{Table, members_of, shape_of}
-use Rattle.canon_types.specs.declared.table.InterfaceType.{InterfaceType}
-use Rattle.canon_types.specs.declared.table.InterfaceType.TheVariants as ty
+use Rattle.canon_scalars.specs.Table.{Table, members_of, shape_of}
+use Rattle.canon_scalars.specs.declared.table.InterfaceType.{InterfaceType}
+use Rattle.canon_scalars.specs.declared.table.InterfaceType.TheVariants as ty
 use Rattle.canon_value.specs.Lowers.{IsLifted, IsLowered, IsOfWord}
 use Rattle.canon_value.specs.declared.val.Val.{Val}
 use Rattle.canon_value.specs.declared.val.Val.TheVariants as val

@@ -3,7 +3,7 @@ use Rattle.std.specs.Prelude.{ℕ, ◌<◌, length, All, Option, None, Some, sli
 use Rattle.canon_model.specs.Text.{Encoding, utf8}
 use Rattle.canon_types.specs.declared.options.CanonicalOptions.{CanonicalOptions}
 use Rattle.canon_types.specs.Options.{encoding_of}
-use Rattle.canon_types.specs.Table.{HasFunc}
+use Rattle.canon_scalars.specs.Table.{HasFunc}
 use Rattle.canon_value.specs.declared.component.Component.{Component}
 use Rattle.canon_value.specs.declared.component.Export.{Export}
 

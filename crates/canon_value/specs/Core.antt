@@ -1,7 +1,7 @@
 -- What contracts see of a core.
 use Rattle.std.specs.Prelude.{ℕ, List, false}
 use Rattle.canon_model.specs.Memory.{Memory, memory_of}
-use Rattle.canon_types.specs.Table.{Table}
+use Rattle.canon_scalars.specs.Table.{Table}
 use Rattle.canon_value.specs.declared.component.Component.{Component}
 
 pub record Parts (T G : Type 0) : Type 0 where

@@ -6,8 +6,8 @@ use Rattle.canon_model.specs.Memory.{Memory}
 use Rattle.canon_model.specs.Shape.{Members, Scalar, Shape, scalar}
 use Rattle.canon_model.specs.Text.{Encoding}
 use Rattle.canon_model.specs.Tree.{Tree, Trees}
-use Rattle.canon_types.specs.Table.{Table, shape_of}
-use Rattle.canon_types.specs.declared.table.InterfaceType.{InterfaceType}
+use Rattle.canon_scalars.specs.Table.{Table, shape_of}
+use Rattle.canon_scalars.specs.declared.table.InterfaceType.{InterfaceType}
 use Rattle.canon_value.specs.declared.fault.Fault.{Fault}
 use Rattle.canon_value.specs.declared.fault.Fault.TheVariants as fault
 use Rattle.canon_value.specs.declared.val.Val.{Val}

@@ -1,7 +1,7 @@
 ghost use Rattle.std.specs.Prelude.{◌↔◌, IsTrue};
 ghost use Rattle.canon_value.specs.Component.{IsSound};
 
-use canon_types::{CanonicalOptions, InstanceType, OptionsIndex, TypeFuncIndex};
+use canon_scalars::{CanonicalOptions, InstanceType, OptionsIndex, TypeFuncIndex};
 
 /// A function that a component gives: its type, its core function and its options.
 #[derive(Clone, Copy, Debug, PartialEq, Eq)]

@@ -6,7 +6,7 @@ ghost use Rattle.canon_value.specs.Core.{Parts};
 
 use crate::Component;
 use canon_memory::{Guest, GuestFault, Memory, Step, ValRaw};
-use canon_types::{OutOfMemory, StoreId};
+use canon_scalars::{OutOfMemory, StoreId};
 use std::alloc::Global;
 use std::marker::Model;
 

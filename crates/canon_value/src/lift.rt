@@ -1,7 +1,7 @@
 ghost use Rattle.std.specs.Prelude.{◌≡◌, ◌≤◌, ◌+◌, length, IfErr, IfOk, IfSome, IsOk, Some, slice_get};
 ghost use Rattle.canon_model.specs.Flat.{max_results};
 ghost use Rattle.canon_model.specs.Layout.{flat, members_flat};
-ghost use Rattle.canon_types.specs.Table.{HasTuple, shape_of, tuple_members};
+ghost use Rattle.canon_scalars.specs.Table.{HasTuple, shape_of, tuple_members};
 ghost use Rattle.canon_value.specs.Component.{HasOptions};
 ghost use Rattle.canon_value.specs.Context.{encoding_by};
 ghost use Rattle.canon_value.specs.Core.{narrow, types_of};
@@ -10,7 +10,7 @@ ghost use Rattle.canon_value.specs.Lowers.{AreResults, IsLifted, IsOfWord};
 use crate::lower::flat_count;
 use crate::{Core, Fault, Val};
 use canon_memory::ValRaw;
-use canon_types::{
+use canon_scalars::{
     CanonicalOptions, ComponentTypes, InstanceType, InterfaceType, OptionsIndex, RuntimeInstance,
     StoreId, TypeTupleIndex,
 };

@@ -3,7 +3,7 @@ ghost use Rattle.canon_model.specs.Flat.{max_params};
 ghost use Rattle.canon_model.specs.Layout.{flat, members_flat};
 ghost use Rattle.canon_model.specs.Memory.{Memory};
 ghost use Rattle.canon_model.specs.Text.{Encoding};
-ghost use Rattle.canon_types.specs.Table.{HasTuple, Table, shape_of, tuple_members, types_of as member_types};
+ghost use Rattle.canon_scalars.specs.Table.{HasTuple, Table, shape_of, tuple_members, types_of as member_types};
 ghost use Rattle.canon_value.specs.Component.{HasOptions};
 ghost use Rattle.canon_value.specs.Context.{encoding_by};
 ghost use Rattle.canon_value.specs.Core.{narrow, types_of};
@@ -13,7 +13,7 @@ ghost use Rattle.canon_value.specs.Lowers.{AreArgs, BlamesArgs, BlamesValue, IsL
 
 use crate::{Core, Fault, Val};
 use canon_memory::{Guest, ValRaw};
-use canon_types::{
+use canon_scalars::{
     CanonicalOptions, ComponentTypes, InstanceType, InterfaceType, OptionsIndex, RuntimeInstance,
     TypeTupleIndex,
 };

@@ -6,7 +6,7 @@ ghost use Rattle.canon_value.specs.Core.{types_of};
 
 use super::*;
 use canon_memory::{Guest, GuestFault, Memory, Step, ValRaw, Words};
-use canon_types::{
+use canon_scalars::{
     CanonicalOptions, InstanceType, InterfaceType, OptionsIndex, RuntimeInstance, StoreId,
     StringEncoding, TypeBuilder, TypeFuncIndex, TypeTupleIndex,
 };

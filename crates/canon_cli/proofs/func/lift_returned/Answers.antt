@@ -1,7 +1,7 @@
 use Rattle.std.proofs.Common.{Some, ◌≡◌, ◌∙◌, ap, arith, length, sym, subst}
 use Rattle.std.specs.Prelude.{slice_get}
-use Rattle.canon_types.specs.Table.{IsOver}
-use Rattle.canon_types.specs.Table.{types_of as member_types}
+use Rattle.canon_scalars.specs.Table.{IsOver}
+use Rattle.canon_scalars.specs.Table.{types_of as member_types}
 use Rattle.canon_value.specs.Core.{types_of}
 use Rattle.canon_cli.specs.Call.{result_words}
 use Rattle.canon_cli.specs.Stores.{export_callee}

@@ -2,8 +2,8 @@ use Rattle.std.proofs.Common.{Some, ◌≡◌, ◌∙◌, ap, arith, length, sym
 use Rattle.std.specs.Prelude.{slice_get}
 use Rattle.canon_model.specs.Layout.{members_flat}
 use Rattle.canon_model.specs.Shape.{member_count}
-use Rattle.canon_types.specs.Table.{IsOver, param_members}
-use Rattle.canon_types.specs.Table.{types_of as member_types}
+use Rattle.canon_scalars.specs.Table.{IsOver, param_members}
+use Rattle.canon_scalars.specs.Table.{types_of as member_types}
 use Rattle.canon_value.proofs.Scalars.{member_count-members_of}
 use Rattle.canon_value.specs.Core.{types_of}
 use Rattle.canon_cli.specs.Stores.{export_callee}

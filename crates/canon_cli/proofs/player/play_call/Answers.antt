@@ -1,6 +1,6 @@
 use Rattle.std.proofs.Common.{rules, ◌≡◌, ◌∙◌, ap, arith, length, refl, sym}
 use Rattle.canon_model.specs.Shape.{member_count}
-use Rattle.canon_types.specs.Table.{types_of}
+use Rattle.canon_scalars.specs.Table.{types_of}
 use Rattle.canon_cli.proofs.Played.{fresh_callee, kept_results, played, script_params, script_results}
 use Rattle.canon_cli.specs.Play.{Play}
 use Rattle.canon_cli.specs.Session.{values_of}

@@ -1,7 +1,7 @@
 use Rattle.std.proofs.Common.{false, ◌≡◌, ◌≤◌, ◌<◌, ◌+◌, ◌-◌, ◌∙◌, ap, arith, get_or, length, refl, subst, sym}
 use Rattle.canon_model.specs.Layout.{flat}
-use Rattle.canon_types.specs.Table.{Table, members_of, shape_of}
-use Rattle.canon_types.specs.Table.{types_of as member_types}
+use Rattle.canon_scalars.specs.Table.{Table, members_of, shape_of}
+use Rattle.canon_scalars.specs.Table.{types_of as member_types}
 use Rattle.canon_value.specs.Context.{encoding_by}
 use Rattle.canon_value.specs.Core.{narrow, types_of}
 use Rattle.canon_value.specs.Lowers.{AreArgs, BlamesValue, IsLowered}

@@ -1,5 +1,5 @@
 use Rattle.std.proofs.Common.{◌≡◌}
-use Rattle.canon_types.specs.Table.{types_of as member_types}
+use Rattle.canon_scalars.specs.Table.{types_of as member_types}
 use Rattle.canon_value.specs.Context.{encoding_by}
 use Rattle.canon_value.specs.Core.{narrow, types_of}
 use Rattle.canon_value.proofs.Rows.{IsLowering}

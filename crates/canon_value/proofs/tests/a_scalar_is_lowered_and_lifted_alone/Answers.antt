@@ -1,5 +1,5 @@
 use Rattle.std.proofs.Common.{[], sym}
-use Rattle.canon_types.specs.declared.table.InterfaceType.TheVariants as ty
+use Rattle.canon_scalars.specs.declared.table.InterfaceType.TheVariants as ty
 use Rattle.canon_value.proofs.Scalars.{flat_one}
 use Rattle.canon_value.proofs.tests.a_scalar_is_lowered_and_lifted_alone.Goals as goal
 

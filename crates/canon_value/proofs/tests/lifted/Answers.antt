@@ -1,8 +1,8 @@
 use Rattle.std.proofs.Common.{◌≡◌, ◌∙◌, [], ◌∷◌, ap, arith, length, sym}
 use Rattle.std.specs.Prelude.{slice_index_or}
 use Rattle.canon_model.specs.Layout.{members_flat}
-use Rattle.canon_types.specs.Table.{tuple_members}
-use Rattle.canon_types.specs.Table.{types_of as member_types}
+use Rattle.canon_scalars.specs.Table.{tuple_members}
+use Rattle.canon_scalars.specs.Table.{types_of as member_types}
 use Rattle.canon_value.specs.Core.{types_of}
 use Rattle.canon_value.proofs.Scalars.{members_flat-members_of}
 use Rattle.canon_value.proofs.tests.lifted.Goals as goal

@@ -1,12 +1,12 @@
 -- A table with more tuples.
-use Rattle.std.proofs.Common.{◌≡◌, ◌≤◌, ◌<◌, ℕ, ◌+◌, List, [], ◌∷◌, ◌++◌, length, get_or, map, ap, refl, subst, sym, ◌∙◌, arith, Bool}
+use Rattle.std.proofs.Common.{◌≡◌, ◌≤◌, ◌+◌, List, [], ◌∷◌, ◌++◌, length, get_or, map, ap, refl, subst, sym, ◌∙◌, arith}
 use Rattle.std.proofs.lemmas.List.{get_or_append_left, get_or-append-add, length-append, length-map}
 use Rattle.std.proofs.lemmas.List.Elements.{All-append, All-cons, All-nil}
 use Rattle.std.specs.Prelude.{All}
-use Rattle.canon_types.specs.declared.table.InterfaceType.{InterfaceType}
-use Rattle.canon_types.specs.declared.table.TypeFunc.{TypeFunc}
-use Rattle.canon_types.specs.declared.table.TypeTuple.{TypeTuple}
-use Rattle.canon_types.specs.Table.{IsOver, Table}
+use Rattle.canon_scalars.specs.declared.table.InterfaceType.{InterfaceType}
+use Rattle.canon_scalars.specs.declared.table.TypeFunc.{TypeFunc}
+use Rattle.canon_scalars.specs.declared.table.TypeTuple.{TypeTuple}
+use Rattle.canon_scalars.specs.Table.{IsOver, Table}
 
 abbrev with_tuples : List (List InterfaceType) → List TypeFunc → Table
 with_tuples tuples funcs = record { tuples = tuples; funcs = funcs }

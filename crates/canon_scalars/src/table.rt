@@ -1,5 +1,5 @@
 ghost use Rattle.std.specs.Prelude.{◌≡◌, ◌<◌, ◌≤◌, ◌^◌, ◌↔◌, ◌+◌, ℕ, [], length, map, All, IsTrue, Some, IfOk, IfErr, OnErr, Err, slice_get};
-ghost use Rattle.canon_types.specs.declared.table.InterfaceType.{InterfaceType};
+ghost use Rattle.canon_scalars.specs.declared.table.InterfaceType.{InterfaceType};
 
 use crate::{TypeError, TypeFuncIndex, TypeTupleIndex};
 use std::alloc::Global;
@@ -39,7 +39,7 @@ pub struct ComponentTypes {
 
 impl Model for ComponentTypes {
     ghost use Rattle.std.specs.Prelude.{All, map};
-    ghost use Rattle.canon_types.specs.Table.{Table, IsOver};
+    ghost use Rattle.canon_scalars.specs.Table.{Table, IsOver};
 
     ghost Value = { Table };
 
@@ -49,7 +49,7 @@ impl Model for ComponentTypes {
 }
 
 impl ComponentTypes {
-    ghost use Rattle.canon_types.specs.Table.{AddsFunc, HasFunc, HasTuple, IsOver, types_of};
+    ghost use Rattle.canon_scalars.specs.Table.{AddsFunc, HasFunc, HasTuple, IsOver, types_of};
 
     /// Whether the table has this function type.
     pub fn contains_func(&self, i: TypeFuncIndex) -> bool
@@ -113,7 +113,7 @@ pub struct TypeBuilder {
 }
 
 impl Model for TypeBuilder {
-    ghost use Rattle.canon_types.specs.Table.{Table};
+    ghost use Rattle.canon_scalars.specs.Table.{Table};
 
     ghost Value = { Table };
 
@@ -121,7 +121,7 @@ impl Model for TypeBuilder {
 }
 
 impl TypeBuilder {
-    ghost use Rattle.canon_types.specs.Table.{AddsFunc};
+    ghost use Rattle.canon_scalars.specs.Table.{AddsFunc};
 
     /// A table with no types.
     pub fn new(alloc: Global) -> Self

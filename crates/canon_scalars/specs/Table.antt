@@ -2,9 +2,9 @@
 -- (canon_model) is its meaning apart from the table.
 use Rattle.std.specs.Prelude.{◌≡◌, ℕ, ◌+◌, ◌<◌, ◌≤◌, List, [], ◌∷◌, ◌++◌, length, slice_index_or, Bool}
 use Rattle.canon_model.specs.Shape.{Members, Shape, bool, member, no_members, s8, scalar, u32}
-use Rattle.canon_types.specs.declared.table.InterfaceType.{InterfaceType}
-use Rattle.canon_types.specs.declared.table.InterfaceType.TheVariants as ty
-use Rattle.canon_types.specs.declared.table.TypeFunc.{TypeFunc}
+use Rattle.canon_scalars.specs.declared.table.InterfaceType.{InterfaceType}
+use Rattle.canon_scalars.specs.declared.table.InterfaceType.TheVariants as ty
+use Rattle.canon_scalars.specs.declared.table.TypeFunc.{TypeFunc}
 
 -- the members of each tuple, and the functions
 pub record Table : Type 0 where

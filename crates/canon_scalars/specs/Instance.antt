@@ -1,6 +1,6 @@
 -- What contracts see of a component's types in a store.
 use Rattle.std.specs.Prelude.{ℕ}
-use Rattle.canon_types.specs.Table.{Table}
+use Rattle.canon_scalars.specs.Table.{Table}
 
 pub record Instance : Type 0 where
   pub types : Table

@@ -1,6 +1,6 @@
 ghost use Rattle.std.specs.Prelude.{◌≡◌, ℕ};
-ghost use Rattle.canon_types.specs.Table.{Table};
-ghost use Rattle.canon_types.specs.Instance.{Instance};
+ghost use Rattle.canon_scalars.specs.Table.{Table};
+ghost use Rattle.canon_scalars.specs.Instance.{Instance};
 
 use crate::{ComponentTypes, StoreId};
 use std::marker::Model;

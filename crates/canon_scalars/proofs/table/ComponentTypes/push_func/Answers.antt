@@ -1,8 +1,8 @@
 use Rattle.std.proofs.Common.{rules, ◌≡◌, ◌+◌, ◌++◌, ◌∷◌, [], length}
-use Rattle.canon_types.specs.declared.table.TypeFunc.{TypeFunc}
-use Rattle.canon_types.specs.declared.table.TypeTuple.{TypeTuple}
-use Rattle.canon_types.proofs.Tables.{kept_over}
-use Rattle.canon_types.proofs.table.ComponentTypes.push_func.Goals as goal
+use Rattle.canon_scalars.specs.declared.table.TypeFunc.{TypeFunc}
+use Rattle.canon_scalars.specs.declared.table.TypeTuple.{TypeTuple}
+use Rattle.canon_scalars.proofs.Tables.{kept_over}
+use Rattle.canon_scalars.proofs.table.ComponentTypes.push_func.Goals as goal
 
 pub invariant_of-self-2 : goal.invariant_of-self-2
 invariant_of-self-2 c =
