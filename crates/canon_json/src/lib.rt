@@ -1,0 +1,10 @@
+//! How JSON values are read, and why one is refused.
+#![tactic(auto)]
+
+mod error;
+mod read;
+
+pub use error::ScriptError;
+pub use read::{
+    Reader, bool_or, each, each_of, has_len, items_of, only, only_member, there, two, u32_of,
+};

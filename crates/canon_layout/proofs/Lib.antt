@@ -1,0 +1,5 @@
+pub mod FuncLines
+pub mod Known
+pub mod Offsets
+pub mod Reading
+pub mod Told

@@ -1,0 +1,90 @@
+-- Which table of types a JSON value asks for.
+use Rattle.std.specs.Prelude.{ℕ, ◌+◌, List, [], ◌∷◌, ◌++◌, length, Bool, if◌then◌else◌, codes, Option, None, Some, option_map, option_and_then}
+use Rattle.serde_json.specs.Data.{Data, Items, no_items}
+use Rattle.serde_json.specs.Find.{get, as_array, as_object}
+use Rattle.canon_json.specs.Json.{has_len, items_of, onward, there}
+use Rattle.canon_table.specs.Refusal.{empty_table, func_refusal, refusal, resource_refusal, with_definition, with_func}
+use Rattle.canon_table.specs.Table.{Definition, EnumType, FixedListType, FlagsType, ListType, MapType, OptionType, RecordType, ResultType, Table, TupleType, VariantType, knows}
+use Rattle.canon_table.specs.declared.error.TypeError.{TypeError}
+use Rattle.canon_table.specs.declared.types.InterfaceType.{InterfaceType}
+use Rattle.canon_table.specs.declared.types.InterfaceType.TheVariants as ty
+use Rattle.canon_table.specs.declared.types.TypeResourceTable.{TypeResourceTable}
+use Rattle.canon_layout.specs.Entries.{Entry, FuncParts, defines, entry_of, func_of, handle, resource_of}
+
+-- a table, and the type of each entry
+pub record Listed : Type 0 where
+  pub table : Table
+  pub types : List InterfaceType
+
+abbrev pub so_far : Table → List InterfaceType → Listed
+so_far t types = record { table = t; types = types }
+
+-- with one type more
+abbrev pub grown : Table → List InterfaceType → InterfaceType → Listed
+grown t types type = so_far t (types ++ type ∷ [])
+
+-- the type that a definition of this number defines
+abbrev pub type_at : ℕ → Definition → InterfaceType
+type_at n (ListType element) = ty.List n
+type_at n (MapType key value) = ty.Map n
+type_at n (RecordType fields) = ty.Record n
+type_at n (TupleType types) = ty.Tuple n
+type_at n (VariantType cases) = ty.Variant n
+type_at n (EnumType names) = ty.Enum n
+type_at n (OptionType some) = ty.Option n
+type_at n (ResultType ok error) = ty.Result n
+type_at n (FlagsType names) = ty.Flags n
+type_at n (FixedListType element count) = ty.FixedLengthList n
+
+-- what is added, unless it is refused
+abbrev pub unless : {A : Type 0} → Option TypeError → A → Option A
+unless None a = Some a
+unless (Some e) a = None
+
+abbrev pub with_entry : Listed → Entry → Option Listed
+with_entry l (defines d) = unless (refusal l.table d) (grown (with_definition l.table d) l.types (type_at (length l.table.definitions) d))
+with_entry l (handle t) = if knows l.table t then Some (grown l.table l.types t) else None
+
+abbrev pub add_entry : Listed → Data → Option Listed
+add_entry l d = option_and_then (with_entry l) (entry_of l.types d)
+
+abbrev pub with_resource : Table → TypeResourceTable → Option Table
+with_resource t r = unless (resource_refusal t r) (record t { resources = t.resources ++ r ∷ [] })
+
+abbrev pub add_resource : Table → Data → Option Table
+add_resource t d = option_and_then (with_resource t) (resource_of d)
+
+abbrev pub with_parts : Table → FuncParts → Option Table
+with_parts t f = unless (func_refusal t f.params f.results) (with_func t f.params f.results f.async)
+
+abbrev pub add_func : List InterfaceType → Table → Data → Option Table
+add_func types t d = option_and_then (with_parts t) (func_of types d)
+
+-- the types of an array, over these resources
+abbrev pub types_over : Table → Items → Option Listed
+types_over t entries = onward add_entry (so_far t []) entries
+
+-- the types of an array, without resources
+abbrev pub types_of : Data → Option Listed
+types_of d = option_and_then (types_over empty_table) (as_array d)
+
+-- the functions of an array, over these types
+abbrev pub with_funcs : Items → Listed → Option Listed
+with_funcs funcs l = option_map (λ t. so_far t l.types) (onward (add_func l.types) l.table funcs)
+
+-- resources come first, then types, then functions
+abbrev pub listed : Items → Items → Items → Option Listed
+listed resources types funcs = option_and_then (λ t. option_and_then (with_funcs funcs) (types_over t types)) (onward add_resource empty_table resources)
+
+abbrev pub members_there : Data → ℕ
+members_there d = there (get (codes "resources") d) + (there (get (codes "types") d) + there (get (codes "funcs") d))
+
+-- an object of these three members, each of which may be missing
+abbrev pub layout_of : Data → Option Listed
+layout_of d =
+    if has_len (members_there d) (as_object d)
+    then option_and_then (λ resources. option_and_then (λ types. option_and_then (listed resources types)
+    (items_of (get (codes "funcs") d)))
+    (items_of (get (codes "types") d)))
+    (items_of (get (codes "resources") d))
+    else None

@@ -1,0 +1,143 @@
+-- What a JSON value says of a type, of a function and of a resource.
+use Rattle.std.specs.Prelude.{ℕ, ◌+◌, List, [], ◌∷◌, Bool, true, false, nat_eq, if◌then◌else◌, codes, slice_get, Option, None, Some, option_map, option_and_then}
+use Rattle.std.specs.List.{find}
+use lib.Pointwise.{pointwise}
+use Rattle.serde_json.specs.Data.{Data, null, boolean, number, string, array, object}
+use Rattle.serde_json.specs.Find.{get, as_bool, as_object, as_str, as_u64}
+use Rattle.canon_json.specs.Json.{each_of, has_len, only, only_member, or_else, there, two, u32_of}
+use Rattle.canon_model.specs.Shape.{Name}
+use Rattle.canon_table.specs.Table.{Definition, EnumType, FixedListType, FlagsType, ListType, MapType, OptionType, RecordType, ResultType, TupleType, VariantType}
+use Rattle.canon_table.specs.declared.types.InterfaceType.{InterfaceType}
+use Rattle.canon_table.specs.declared.types.InterfaceType.TheVariants as ty
+use Rattle.canon_table.specs.declared.types.ResourceKind.{ResourceKind}
+use Rattle.canon_table.specs.declared.types.ResourceKind.TheVariants as resource
+use Rattle.canon_table.specs.declared.types.TypeResourceTable.{TypeResourceTable}
+use Rattle.canon_layout.specs.Words.{kind_word, kinds, plain_types, type_word}
+use Rattle.canon_layout.specs.declared.funcs.Signature.{Signature}
+use Rattle.canon_layout.specs.declared.words.Kind.{Kind}
+use Rattle.canon_layout.specs.declared.words.Kind.TheVariants as kind
+
+-- ---- types
+
+abbrev pub plain_named : List ℕ → Option InterfaceType
+plain_named name = find (λ t. pointwise nat_eq name (type_word t)) plain_types
+
+-- a type by its name, or by the number of an entry among those before
+abbrev pub type_of : List InterfaceType → Data → Option InterfaceType
+type_of before null = None
+type_of before (boolean b) = None
+type_of before (number n) = option_and_then (slice_get before) (as_u64 n)
+type_of before (string s) = plain_named s
+type_of before (array ds) = None
+type_of before (object ms) = None
+
+-- a type, or null for none
+abbrev pub payload_of : List InterfaceType → Data → Option (Option InterfaceType)
+payload_of before null = Some None
+payload_of before d = option_map (λ t. Some t) (type_of before d)
+
+-- two values, each read in its way
+abbrev pub both : {A B : Type 0} → (Data → Option A) → (Data → Option B) → Data × Data → Option (A × B)
+both first second p = option_and_then (λ a. option_map (λ b. (a, b)) (second p.1)) (first p.0)
+
+abbrev pub pair_of : {A B : Type 0} → (Data → Option A) → (Data → Option B) → Data → Option (A × B)
+pair_of first second d = option_and_then (both first second) (two d)
+
+-- a name and a type
+abbrev pub field_of : List InterfaceType → Data → Option (Name × InterfaceType)
+field_of before = pair_of as_str (type_of before)
+
+abbrev pub bare_case : Data → Option (Name × Option InterfaceType)
+bare_case name = option_map (λ n. (n, None)) (as_str name)
+
+-- a name alone, or with a type
+abbrev pub case_of : List InterfaceType → Data → Option (Name × Option InterfaceType)
+case_of before d = or_else (only d) bare_case (option_map (λ f. (f.0, Some f.1)) (field_of before d))
+
+-- ---- entries
+
+-- an entry defines a type over those before it, or it is a handle of a resource
+pub data Entry : Type 0 where
+  defines : Definition → Entry
+  handle : InterfaceType → Entry
+
+-- an entry of this kind, by its member's value
+abbrev pub entry_by : Kind → List InterfaceType → Data → Option Entry
+entry_by kind.List before d = option_map (λ t. defines (ListType t)) (type_of before d)
+entry_by kind.Option before d = option_map (λ t. defines (OptionType t)) (type_of before d)
+entry_by kind.Map before d = option_map (λ p. defines (MapType p.0 p.1)) (pair_of (type_of before) (type_of before) d)
+entry_by kind.Record before d = option_map (λ fields. defines (RecordType fields)) (each_of (field_of before) d)
+entry_by kind.Tuple before d = option_map (λ ts. defines (TupleType ts)) (each_of (type_of before) d)
+entry_by kind.Variant before d = option_map (λ cases. defines (VariantType cases)) (each_of (case_of before) d)
+entry_by kind.Enum before d = option_map (λ names. defines (EnumType names)) (each_of as_str d)
+entry_by kind.Flags before d = option_map (λ names. defines (FlagsType names)) (each_of as_str d)
+entry_by kind.Result before d = option_map (λ p. defines (ResultType p.0 p.1)) (pair_of (payload_of before) (payload_of before) d)
+entry_by kind.Fixed before d = option_map (λ p. defines (FixedListType p.0 p.1)) (pair_of (type_of before) u32_of d)
+entry_by kind.Own before d = option_map (λ r. handle (ty.Own r)) (u32_of d)
+entry_by kind.Borrow before d = option_map (λ r. handle (ty.Borrow r)) (u32_of d)
+
+abbrev pub kind_named : List ℕ → Option Kind
+kind_named name = find (λ k. pointwise nat_eq name (kind_word k)) kinds
+
+-- an object of one member
+abbrev pub entry_of : List InterfaceType → Data → Option Entry
+entry_of before d = option_and_then (λ m. option_and_then (λ k. entry_by k before m.1) (kind_named m.0)) (option_and_then only_member (as_object d))
+
+-- ---- functions
+
+-- the types of a function's parameters and results, and whether it is async
+pub record FuncParts : Type 0 where
+  pub params : List InterfaceType
+  pub results : List InterfaceType
+  pub async : Bool
+
+abbrev pub signature_of : Signature → FuncParts
+signature_of s = record { params = s.params.items; results = s.results.items; async = s.is_async }
+
+-- post says whether the function has a post-return function, which its type doesn't tell
+abbrev pub func_of : List InterfaceType → Data → Option FuncParts
+func_of types d =
+    let async = get (codes "async") d in
+    let post = get (codes "post") d in
+    if has_len (2 + (there async + there post)) (as_object d)
+    then option_and_then (λ params. option_and_then (λ results. option_and_then (λ a. option_map (λ p. record { params = params; results = results; async = a })
+    (or_else post as_bool (Some false)))
+    (or_else async as_bool (Some false)))
+    (option_and_then (each_of (type_of types)) (get (codes "results") d)))
+    (option_and_then (each_of (type_of types)) (get (codes "params") d))
+    else None
+
+-- ---- resources
+
+-- a resource of instance 0
+abbrev pub resource_with : ResourceKind → Bool → TypeResourceTable
+resource_with k here = record { instance = 0; kind = k; defined_here = here }
+
+-- the host's, by a number
+abbrev pub dynamic_of : Data → Option TypeResourceTable
+dynamic_of d = if has_len 2 (as_object d) then option_map (λ n. resource_with (resource.HostDynamic n) false) (option_and_then u32_of (get (codes "id") d)) else None
+
+-- a number, or null for none
+abbrev pub dtor_of : Data → Option (Option ℕ)
+dtor_of null = Some None
+dtor_of d = option_map (λ f. Some f) (u32_of d)
+
+-- the guest's, defined here unless it says otherwise, with a destructor or none
+abbrev pub guest_of : Data → Option TypeResourceTable
+guest_of d =
+    let here = get (codes "here") d in
+    let dtor = get (codes "dtor") d in
+    if has_len (2 + (there here + there dtor)) (as_object d)
+    then option_and_then (λ n. option_and_then (λ h. option_map (λ f. resource_with (resource.Guest n f) h)
+    (or_else dtor dtor_of (Some None)))
+    (or_else here as_bool (Some true)))
+    (option_and_then u32_of (get (codes "id") d))
+    else None
+
+abbrev pub resource_by : Data → List ℕ → Option TypeResourceTable
+resource_by d kind =
+    if pointwise nat_eq kind (codes "dynamic") then dynamic_of d
+    else (if pointwise nat_eq kind (codes "guest") then guest_of d else None)
+
+abbrev pub resource_of : Data → Option TypeResourceTable
+resource_of d = option_and_then (resource_by d) (option_and_then as_str (get (codes "kind") d))

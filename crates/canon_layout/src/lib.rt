@@ -1,0 +1,18 @@
+//! Types, functions and resources as a script writes them, and what the command `layout` prints of them.
+#![tactic(auto)]
+
+mod entries;
+mod funcs;
+mod lines;
+mod listing;
+mod readers;
+mod resources;
+mod words;
+
+pub use lines::layout_lines;
+pub use listing::{listing_of_json, types_of_json};
+pub use readers::type_of_json;
+pub use words::{Kind, type_word};
+
+#[cfg(test)]
+mod tests;

@@ -1,0 +1,75 @@
+ghost use Rattle.std.specs.Prelude.{◌≡◌, All, IfOk};
+ghost use Rattle.serde_json.specs.View.{view, items_view};
+ghost use Rattle.canon_json.specs.Json.{Gives};
+ghost use Rattle.canon_table.specs.Table.{Knows};
+ghost use Rattle.canon_layout.specs.Asked as spec;
+
+use crate::entries::add_entries;
+use crate::funcs::add_funcs;
+use crate::resources::add_resources;
+use canon_json::{ScriptError, has_len, items_of, there};
+use canon_table::{ComponentTypes, InterfaceType, TypeBuilder};
+use serde_json::Value;
+use std::alloc::Global;
+
+/// The table of an array of types, and the type of each entry. No resource is there.
+pub fn types_of_json(
+    alloc: Global,
+    v: &Value,
+) -> Result<(ComponentTypes, Vec<InterfaceType>), ScriptError>
+    ensures table { Gives (λ p. spec.so_far p.0 p.1.items) result (spec.types_of (view v.now)) }
+    ensures known { IfOk result (λ p. All (Knows p.0) p.1.items) }
+{
+    let Some(items) = v.as_array() else {
+        return Err(ScriptError::BadScript);
+    };
+    let mut builder = TypeBuilder::new(alloc);
+    let types = add_entries(alloc, &mut builder, items)?;
+    Ok((builder.finish(), types))
+}
+
+/// The table of an object's `resources`, `types` and `funcs`, and the type of each entry of `types`.
+pub fn listing_of_json(
+    alloc: Global,
+    v: &Value,
+) -> Result<(ComponentTypes, Vec<InterfaceType>), ScriptError>
+    ensures table { Gives (λ p. spec.so_far p.0 p.1.items) result (spec.layout_of (view v.now)) }
+    ensures known { IfOk result (λ p. All (Knows p.0) p.1.items) }
+{
+    if !has_len(v, members(v)) {
+        return Err(ScriptError::BadScript);
+    }
+    let Some(resources) = items_of(v.get("resources")) else {
+        return Err(ScriptError::BadScript);
+    };
+    let Some(types) = items_of(v.get("types")) else {
+        return Err(ScriptError::BadScript);
+    };
+    let Some(funcs) = items_of(v.get("funcs")) else {
+        return Err(ScriptError::BadScript);
+    };
+    listed(alloc, resources, types, funcs)
+}
+
+/// How many of its members there are.
+fn members(v: &Value) -> usize
+    ensures { result ≡ spec.members_there (view v.now) }
+{
+    there(v.get("resources")) + (there(v.get("types")) + there(v.get("funcs")))
+}
+
+fn listed(
+    alloc: Global,
+    resources: &[Value],
+    types: &[Value],
+    funcs: &[Value],
+) -> Result<(ComponentTypes, Vec<InterfaceType>), ScriptError>
+    ensures table { Gives (λ p. spec.so_far p.0 p.1.items) result (spec.listed (items_view resources.now) (items_view types.now) (items_view funcs.now)) }
+    ensures known { IfOk result (λ p. All (Knows p.0) p.1.items) }
+{
+    let mut builder = TypeBuilder::new(alloc);
+    add_resources(&mut builder, resources)?;
+    let types = add_entries(alloc, &mut builder, types)?;
+    add_funcs(alloc, &mut builder, &types, funcs)?;
+    Ok((builder.finish(), types))
+}
