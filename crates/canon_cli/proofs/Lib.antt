@@ -1,6 +1,5 @@
 pub mod Callees
 pub mod Inputs
-pub mod JsonViews
 pub mod Listed
 pub mod Outcomes
 pub mod Pieces

@@ -5,7 +5,7 @@ use Rattle.hex.specs.Hex.{decode_of, encode_lower}
 use Rattle.hex.specs.declared.error.FromHexError.{FromHexError}
 use Rattle.serde_json.specs.Data.{Data}
 use Rattle.serde_json.specs.Find.{get, as_bool, as_str, as_object}
-use Rattle.canon_cli.specs.Json.{each_of, has_len, or_else, word_of}
+use Rattle.canon_json.specs.Json.{each_of, has_len, or_else, there, word_of}
 use Rattle.canon_cli.specs.TextCalls.{fits, max_room, name_of}
 use Rattle.canon_cli.specs.declared.conversion.TextCall.{TextCall}
 use Rattle.canon_cli.specs.declared.conversion.TextCall.TheVariants as call
@@ -51,10 +51,6 @@ abbrev pub bytes_of : Data → Option (List ℕ)
 bytes_of d = option_and_then hex_bytes (as_str d)
 
 -- how many members of these names there are
-abbrev pub there : Option Data → ℕ
-there None = 0
-there (Some d) = 1
-
 abbrev pub optional_members : Data → ℕ
 optional_members d = there (get (codes "dst") d) + (there (get (codes "first") d) + there (get (codes "so_far") d))
 

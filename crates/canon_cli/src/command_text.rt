@@ -5,7 +5,7 @@ ghost use Rattle.canon_model.specs.Text.{unit_bytes};
 ghost use Rattle.canon_text.specs.Decoding.{units_in};
 ghost use Rattle.canon_cli.specs.Conversions.{Job, conversions_of, destination, job_of};
 ghost use Rattle.canon_cli.specs.Lines as spec;
-ghost use Rattle.canon_cli.specs.declared.error.ScriptError.TheVariants as refused;
+ghost use Rattle.canon_json.specs.declared.error.ScriptError.TheVariants as refused;
 
 use crate::ScriptError;
 use crate::conversion::{Conversion, TextCall};

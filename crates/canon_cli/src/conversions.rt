@@ -3,12 +3,11 @@ ghost use Rattle.hex.specs.Hex.{decode_of, encode_lower};
 ghost use Rattle.serde_json.specs.Find.{as_bool, get};
 ghost use Rattle.serde_json.specs.View.{view, items_view};
 ghost use Rattle.canon_cli.specs.Conversions as spec;
-ghost use Rattle.canon_cli.specs.Json as json_spec;
-ghost use Rattle.canon_cli.specs.Json.{Gives};
+ghost use Rattle.canon_json.specs.Json.{Gives, or_else, word_of};
 
 use crate::ScriptError;
 use crate::conversion::{CALLS, Conversion, TextCall};
-use crate::json::has_len;
+use canon_json::{Reader, bool_or, each_of, has_len, there};
 use hex::FromHexError;
 use serde_json::Value;
 use std::alloc::Global;
@@ -23,24 +22,24 @@ pub(crate) fn conversions_of(alloc: Global, v: &Value) -> Result<Vec<Conversion>
     if !has_len(v, 1) {
         return Err(ScriptError::BadScript);
     }
-    let Some(items) = v.get("text") else {
-        return Err(ScriptError::BadScript);
-    };
-    let Some(items) = items.as_array() else {
-        return Err(ScriptError::BadScript);
-    };
-    each(alloc, items)
+    each_of(alloc, &Conversions, v.get("text"))
 }
 
-fn each(alloc: Global, items: &[Value]) -> Result<Vec<Conversion>, ScriptError>
-    ensures { Gives (λ cs. map spec.job_of cs.items) result (json_spec.each spec.conversion_of (items_view items.now)) }
-{
-    let mut found = Vec::new(alloc);
-    for item in items {
-        let conversion = conversion_of(alloc, item)?;
-        found.push(conversion)?;
+/// Reads conversions.
+struct Conversions;
+
+impl Reader for Conversions {
+    type Item = Conversion;
+
+    ghost Seen = { spec.Job };
+
+    ghost seen = { spec.job_of };
+
+    ghost reads = { λ _. spec.conversion_of };
+
+    fn read(&self, alloc: Global, v: &Value) -> Result<Conversion, ScriptError> {
+        conversion_of(alloc, v)
     }
-    Ok(found)
 }
 
 fn conversion_of(alloc: Global, v: &Value) -> Result<Conversion, ScriptError>
@@ -55,7 +54,7 @@ fn conversion_of(alloc: Global, v: &Value) -> Result<Conversion, ScriptError>
     let Some(room) = v.get("room").and_then(Value::as_u64) else {
         return Err(ScriptError::BadScript);
     };
-    let Some(first) = first_of(v) else {
+    let Some(first) = bool_or(v.get("first"), false) else {
         return Err(ScriptError::BadScript);
     };
     let Some(so_far) = so_far_of(v) else {
@@ -70,27 +69,8 @@ fn optional_members(v: &Value) -> usize
     there(v.get("dst")) + (there(v.get("first")) + there(v.get("so_far")))
 }
 
-fn there(v: Option<&Value>) -> usize
-    ensures count { result ≡ spec.there (option_map (λ x. view x.now) v.entry) }
-    ensures few { result ≤ 1 }
-{
-    match v {
-        Some(_) => 1,
-        None => 0,
-    }
-}
-
-fn first_of(v: &Value) -> Option<bool>
-    ensures { result ≡ json_spec.or_else (get (codes "first") (view v.now)) as_bool (Some false) }
-{
-    match v.get("first") {
-        Some(first) => first.as_bool(),
-        None => Some(false),
-    }
-}
-
 fn so_far_of(v: &Value) -> Option<u64>
-    ensures { result ≡ json_spec.or_else (get (codes "so_far") (view v.now)) json_spec.word_of (Some 0) }
+    ensures { result ≡ or_else (get (codes "so_far") (view v.now)) word_of (Some 0) }
 {
     match v.get("so_far") {
         Some(so_far) => so_far.as_u64(),
@@ -130,7 +110,7 @@ fn with_bytes(
 }
 
 fn dst_of(alloc: Global, v: &Value) -> Result<Vec<u8>, ScriptError>
-    ensures { Gives (λ bytes. bytes.items) result (json_spec.or_else (get (codes "dst") (view v.now)) spec.bytes_of (Some [])) }
+    ensures { Gives (λ bytes. bytes.items) result (or_else (get (codes "dst") (view v.now)) spec.bytes_of (Some [])) }
 {
     match v.get("dst") {
         Some(dst) => bytes_of(alloc, dst),

@@ -9,7 +9,7 @@ ghost use Rattle.canon_cli.specs.Program.{AnswersInput, Done, IsJson, IsNoJson, 
 ghost use Rattle.canon_cli.specs.Session.{Session};
 ghost use Rattle.canon_cli.specs.Streams.{AppendsFront, TakesAtMost};
 ghost use Rattle.canon_cli.specs.Text.{transcript_text};
-ghost use Rattle.canon_cli.specs.declared.error.ScriptError.TheVariants as refused;
+ghost use Rattle.canon_json.specs.declared.error.ScriptError.TheVariants as refused;
 
 use crate::command::command_of;
 use crate::player::play;
