@@ -5,6 +5,8 @@ use Rattle.std.specs.declared.alloc.Global.{Global}
 use Rattle.std.specs.Io.KnownBytes.{Consumes, IsAtEnd}
 use Rattle.serde_json.specs.Data.{Data}
 use Rattle.serde_json.specs.Read.{read}
+use Rattle.canon_layout.specs.Asked.{Listed, layout_of}
+use Rattle.canon_layout.specs.Lines.{layout_text}
 use Rattle.canon_cli.specs.Conversions.{Job, conversions_of}
 use Rattle.canon_cli.specs.Json.{script_of}
 use Rattle.canon_cli.specs.Lines.{Lines}
@@ -20,7 +22,8 @@ use Rattle.canon_cli.specs.declared.transcript.Record.{Record}
 abbrev pub command_named : List ℕ → Option Command
 command_named name =
     if pointwise nat_eq name (codes "run") then Some command.Run
-    else (if pointwise nat_eq name (codes "text") then Some command.Text else None)
+    else (if pointwise nat_eq name (codes "text") then Some command.Text
+    else (if pointwise nat_eq name (codes "layout") then Some command.Layout else None))
 
 abbrev pub command_of : List (String Global) → Option Command
 command_of [] = None
@@ -31,16 +34,19 @@ command_of (word ∷ other ∷ words) = None
 pub data Task : Type 0 where
   script : Play → Task
   conversions : List Job → Task
+  listing : Listed → Task
 
 -- what a JSON value asks a command to do
 abbrev pub task_of : Command → Data → Option Task
 task_of command.Run tree = option_map script (script_of tree)
 task_of command.Text tree = option_map conversions (conversions_of tree)
+task_of command.Layout tree = option_map listing (layout_of tree)
 
--- what a task leaves in the transcript, and its text: a script its session, and conversions their lines
+-- what a task leaves in the transcript, and its text: a script its session, conversions their lines, and so types
 abbrev pub Done : Task → List Record → List ℕ → Type 0
 Done (script play) records text = Session play records × (text ≡ transcript_text records)
 Done (conversions jobs) records text = (records ≡ []) × Lines jobs text
+Done (listing l) records text = (records ≡ []) × (text ≡ layout_text l)
 
 -- the most bytes of an input
 abbrev pub max_input : ℕ

@@ -9,6 +9,9 @@ pub enum Command {
 
     /// Plays conversions of texts, and prints a line for each.
     Text,
+
+    /// Builds a table of types, and prints how each lies in memory and in words.
+    Layout,
 }
 
 pub(crate) fn command_of(words: &[String]) -> Option<Command>
@@ -27,6 +30,8 @@ fn command_named(name: &str) -> Option<Command>
         Some(Command::Run)
     } else if name == "text" {
         Some(Command::Text)
+    } else if name == "layout" {
+        Some(Command::Layout)
     } else {
         None
     }

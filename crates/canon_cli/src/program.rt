@@ -15,6 +15,7 @@ use crate::command::command_of;
 use crate::player::play;
 use crate::text::print;
 use crate::{Command, ScriptError, Sink, Source, Status, Transcript, script_of_json, text_lines};
+use canon_layout::layout_lines;
 use serde_json::Value;
 use std::alloc::Global;
 
@@ -22,8 +23,8 @@ use std::alloc::Global;
 const MAX_INPUT: usize = 1 << 24;
 
 /// Does what the words of the command line say. The words are those after the program's name; `run` plays the script
-/// that the source holds, and writes its transcript to the sink; `text` plays the conversions that it holds, and writes
-/// their lines.
+/// that the source holds, and writes its transcript to the sink; `text` plays the conversions that it holds, and
+/// `layout` builds the types, and each writes their lines.
 pub fn run<S: Source, K: Sink>(
     alloc: Global,
     words: &[String],
@@ -37,8 +38,9 @@ pub fn run<S: Source, K: Sink>(
     ensures usage { (result ≡ Status.USAGE) ↔ (command_of words.now ≡ None) }
     ensures unread { result ≡ Status.USAGE → source.new ≡ source.old }
 
-    // At 0 the source was read to its end, what was read is a script or conversions, as the command asks, its session
-    // is in the transcript, which conversions leave empty, and the sink took its text; at 4 a front of it.
+    // At 0 the source was read to its end, what was read is a script, conversions or types, as the command asks, a
+    // script's session is in the transcript, which the others leave empty, and the sink took its text; at 4 a front of
+    // it.
     ensures done { result ≡ Status.DONE → IfSome (command_of words.now) (λ asked. (text : List ℕ)
         × Performed asked (S.left source.old) (S.left source.new) transcript.new text × Appends (K.taken sink.old) (K.taken sink.new) text) }
     ensures write_fault { result ≡ Status.WRITE_FAULT → IfSome (command_of words.now) (λ asked. (text : List ℕ)
@@ -163,6 +165,7 @@ fn perform(
     match asked {
         Command::Run => perform_script(alloc, tree, transcript),
         Command::Text => perform_conversions(alloc, tree),
+        Command::Layout => perform_layout(alloc, tree),
     }
 }
 
@@ -191,6 +194,17 @@ fn perform_conversions(alloc: Global, tree: &Value) -> Result<String, ScriptErro
     ensures bad_script { result ≡ Err refused.BadScript → task_of Command.Text (view tree.now) ≡ None }
 {
     match text_lines(alloc, tree) {
+        Ok(text) => Ok(text),
+        Err(error) => Err(error),
+    }
+}
+
+/// Builds the types of a JSON value, and prints their lines.
+fn perform_layout(alloc: Global, tree: &Value) -> Result<String, ScriptError>
+    ensures done { IfOk result (λ text. (task : Task) × (task_of Command.Layout (view tree.now) ≡ Some task) × Done task [] (string_bytes text)) }
+    ensures bad_script { result ≡ Err refused.BadScript → task_of Command.Layout (view tree.now) ≡ None }
+{
+    match layout_lines(alloc, tree) {
         Ok(text) => Ok(text),
         Err(error) => Err(error),
     }

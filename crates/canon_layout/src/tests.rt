@@ -75,3 +75,59 @@ fn an_input_that_asks_for_no_table_is_refused(rt: HostRuntime) -> Result<(), Fai
     }
     Ok(())
 }
+
+/// An input with one flags type of so many names.
+fn flags(alloc: Global, names: u32) -> Result<String, AllocError> {
+    let mut text = String::from_str(alloc, r#"{"types":[{"flags":["f""#)?;
+    for i in 1..names {
+        write!(text, ",\"f{i}\"")?;
+    }
+    text.push_str("]}]}")?;
+    Ok(text)
+}
+
+/// An input with so many lists over one another.
+fn lists(alloc: Global, depth: u32) -> Result<String, AllocError> {
+    let mut text = String::from_str(alloc, r#"{"types":[{"list":"u8"}"#)?;
+    for i in 1..depth {
+        let before = i - 1;
+        write!(text, ",{{\"list\":{before}}}")?;
+    }
+    text.push_str("]}")?;
+    Ok(text)
+}
+
+#[test]
+fn flags_end_at_8160_names_and_lists_at_depth_100(rt: HostRuntime) -> Result<(), Fail> {
+    let most = flags(rt.alloc(), 8160)?;
+    let lines = printed(rt.alloc(), most.as_str())?.expect(&rt, "8,160 flags");
+    assert_eq!(rt; lines.as_str(), "type 0 flags size 1020 align 4 flat -\n");
+    let more = flags(rt.alloc(), 8161)?;
+    assert!(rt; printed(rt.alloc(), more.as_str())?.is_err_and(|e| e == ScriptError::BadScript));
+    let deepest = lists(rt.alloc(), 99)?;
+    assert!(rt; printed(rt.alloc(), deepest.as_str())?.is_ok());
+    let deeper = lists(rt.alloc(), 100)?;
+    assert!(rt; printed(rt.alloc(), deeper.as_str())?.is_err_and(|e| e == ScriptError::BadScript));
+    Ok(())
+}
+
+#[test]
+fn types_are_read_by_name_and_by_number(rt: HostRuntime) -> Result<(), Fail> {
+    let entries = Value::from_str(rt.alloc(), r#"[{"list":"u8"},{"option":0}]"#)?;
+    let (table, types) = types_of_json(rt.alloc(), &entries)?;
+    assert_eq!(rt; types.len(), 2);
+    assert!(rt; table.contains(&types[1]));
+    assert_eq!(rt; type_word(&types[0]), Kind::List.word());
+    let number = Value::from_str(rt.alloc(), "1")?;
+    assert_eq!(rt; type_of_json(&number, &types), Ok(types[1]));
+    let name = Value::from_str(rt.alloc(), r#""string""#)?;
+    assert_eq!(rt; type_of_json(&name, &types), Ok(InterfaceType::String));
+    let later = Value::from_str(rt.alloc(), "2")?;
+    assert_eq!(rt; type_of_json(&later, &types), Err(ScriptError::BadScript));
+    let owned = Value::from_str(rt.alloc(), r#"[{"own":0}]"#)?;
+    assert!(rt; types_of_json(rt.alloc(), &owned).is_err_and(|e| e == ScriptError::BadScript));
+    let all = Value::from_str(rt.alloc(), r#"{"types":[{"list":"u8"}]}"#)?;
+    let (_, types) = listing_of_json(rt.alloc(), &all)?;
+    assert_eq!(rt; types.len(), 1);
+    Ok(())
+}
