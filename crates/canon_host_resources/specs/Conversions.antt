@@ -1,14 +1,10 @@
 -- What the conversions of host resources answer and do to the ledger.
-use Rattle.std.specs.Prelude.{ℕ, Option, Some, None, Result, Ok, Err}
-use Rattle.canon_handles.specs.Step.{and_then}
-use Rattle.canon_handles.specs.declared.handle.TypedResourceIndex.TheVariants.{Host}
+use Rattle.std.specs.Prelude.{ℕ, Option, Some, None, Ok}
 use Rattle.canon_table.specs.declared.resource.ResourceType.{ResourceType}
 use Rattle.canon_resources.specs.declared.fault.ResourceFault.{ResourceFault}
 use Rattle.canon_resources.specs.declared.fault.ResourceFault.TheVariants as fault
-use Rattle.canon_resources.specs.Handles.{host_table}
-use Rattle.canon_resources.specs.Index.{GivenIndex}
 use Rattle.canon_resources.specs.Ledger as ledger
-use Rattle.canon_resources.specs.Ledger.{LedgerState, Done, given, is_stale, refused, unless_stale}
+use Rattle.canon_resources.specs.Ledger.{LedgerState, Done, given, mapped, refused}
 use Rattle.canon_host_resources.specs.declared.host.ResourceState.{ResourceState}
 use Rattle.canon_host_resources.specs.declared.host.ResourceState.TheVariants as state
 use Rattle.canon_host_resources.specs.declared.any.ResourceAnyHandle.{ResourceAnyHandle}
@@ -19,10 +15,6 @@ use Rattle.canon_host_resources.specs.Held.{Held, held, Any, any}
 abbrev pub answered : {A : Type 0} → A → LedgerState → Done A
 answered a l = record { answer = Ok a; after = l }
 
--- what f makes of the answer
-abbrev pub mapped : {A B : Type 0} → (A → B) → Done A → Done B
-mapped f d = record { answer = and_then d.answer (λ a. Ok (f a)); after = d.after }
-
 -- into a resource that tells its type: an own handle that is in no table is put into the host's, and a borrow keeps its representation alone
 abbrev pub into_any : ResourceState → ℕ → ResourceType → LedgerState → Done Any
 into_any state.Borrow rep ty l = answered (any (handle.Synthetic rep) ty) l
@@ -30,19 +22,10 @@ into_any state.NotInTable rep ty l = mapped (λ x. any (handle.Own x) ty) (given
 into_any state.Taken rep ty l = refused fault.HostConsumed l
 into_any (state.Index x) rep ty l = answered (any (handle.Own x) ty) l
 
--- where the handle's representation was told, the handle is removed
-abbrev pub removed_once_told : Result ℕ ResourceFault → LedgerState → GivenIndex → Done ℕ
-removed_once_told (Ok rep) l x = mapped (λ _. rep) (ledger.host_resource_drop l x)
-removed_once_told (Err e) l x = refused e l
-
--- a borrow handle is taken out of the host's table: what it names is told first, which changes nothing
-abbrev pub borrow_out : LedgerState → GivenIndex → Done ℕ
-borrow_out l x = unless_stale l (is_stale l.host x) (removed_once_told (ledger.resource_rep l host_table (Host x.index)) l x)
-
 -- out of a resource that tells its type, where that is d
 abbrev pub out_of : {D : Type 0} → D → ResourceAnyHandle → LedgerState → Done (Held D)
 out_of d (handle.Own x) l = mapped (λ rep. held state.NotInTable rep d) (ledger.host_resource_lift_own l x)
-out_of d (handle.Borrow x) l = mapped (λ rep. held state.Borrow rep d) (borrow_out l x)
+out_of d (handle.Borrow x) l = mapped (λ rep. held state.Borrow rep d) (ledger.host_resource_remove l x)
 out_of d (handle.Synthetic rep) l = answered (held state.Borrow rep d) l
 
 -- and where it may not be of the wanted type

@@ -19,7 +19,7 @@ pub struct Dynamic;
 impl HostResourceType<u32> for Dynamic {
     ghost use Rattle.canon_table.specs.declared.resource.ResourceType.TheVariants.{HostDynamic};
     ghost use Rattle.canon_table.specs.Resource.{as_host_dynamic};
-    ghost use Rattle.canon_host_resources.proofs.TypeLemmas.{as_dynamic_its, as_dynamic_no_other};
+    ghost use Rattle.canon_host_resources.specs.TypeLaws.{as_dynamic_its, as_dynamic_no_other};
 
     ghost checked = { as_host_dynamic };
 

@@ -21,7 +21,7 @@ pub struct Static<T> {
 impl<T: HostType> HostResourceType<()> for Static<T> {
     ghost use Rattle.canon_table.specs.declared.resource.ResourceType.TheVariants.{Host};
     ghost use Rattle.canon_host_resources.specs.Types.{as_host};
-    ghost use Rattle.canon_host_resources.proofs.TypeLemmas.{as_host_its, as_host_no_other};
+    ghost use Rattle.canon_host_resources.specs.TypeLaws.{as_host_its, as_host_no_other};
 
     ghost checked = { as_host T.ID };
 

@@ -6,7 +6,7 @@ ghost use Rattle.canon_resources.specs.Books.{DidSurely, IsOpen};
 ghost use Rattle.canon_resources.specs.Places.{SamePlaces};
 
 use crate::any::{ResourceAny, ResourceAnyHandle};
-use crate::borrow::take_borrow;
+use crate::conversion::into_any;
 use canon_resources::{HostResourceIndex, HostResourceTables, ResourceFault};
 use canon_table::ResourceType;
 use std::fmt;
@@ -154,16 +154,7 @@ impl<T: HostResourceType<D>, D: Copy> HostResource<T, D> {
         ensures step { Did (into_any self.state self.rep (T.type_of self.ty) tables.old.tables.ledger.now) result tables.old.tables.ledger.now tables.new.tables.ledger.now }
         ensures places { SamePlaces tables.old.tables.ledger.now tables.new.tables.ledger.now }
     {
-        let ty = T::resource_type(self.ty);
-        match self.state {
-            ResourceState::Borrow => Ok(ResourceAny::new_borrow(self.rep, ty)),
-            ResourceState::NotInTable => {
-                let idx = tables.host_resource_lower_own(self.rep, None, None)?;
-                Ok(ResourceAny::new(idx, ty, true))
-            }
-            ResourceState::Taken => Err(ResourceFault::HostConsumed),
-            ResourceState::Index(idx) => Ok(ResourceAny::new(idx, ty, true)),
-        }
+        into_any(self.state, self.rep, T::resource_type(self.ty), tables)
     }
 
     /// A resource of any type as one of this kind, out of the host's table.
@@ -187,7 +178,7 @@ impl<T: HostResourceType<D>, D: Copy> HostResource<T, D> {
                 Ok(HostResource::new_own(rep, ty))
             }
             ResourceAnyHandle::Borrow(idx) => {
-                let rep = take_borrow(idx, tables)?;
+                let rep = tables.host_resource_remove(idx)?;
                 Ok(HostResource::new_borrow(rep, ty))
             }
             ResourceAnyHandle::Synthetic(rep) => Ok(HostResource::new_borrow(rep, ty)),

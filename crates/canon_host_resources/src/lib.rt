@@ -3,7 +3,7 @@
 #![tactic(auto)]
 
 mod any;
-mod borrow;
+mod conversion;
 mod dynamic;
 mod fixed;
 mod host;

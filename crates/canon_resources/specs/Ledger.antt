@@ -130,6 +130,19 @@ with_slot_answered s d = record { answer = and_then d.answer (λ rep. Ok (with_i
 abbrev pub host_resource_drop : LedgerState → GivenIndex → Done (Option (ℕ × TableSlot))
 host_resource_drop l x = unless_stale l (is_stale l.host x) (with_slot_answered (slot_at l.host x.index) (resource_drop l host_table (HostIndex x.index)))
 
+-- what f makes of the answer
+abbrev pub mapped : {A B : Type 0} → (A → B) → Done A → Done B
+mapped f d = record { answer = and_then d.answer (λ a. Ok (f a)); after = d.after }
+
+-- where the handle's representation was told, the handle is removed
+abbrev pub removed_once_told : Result ℕ ResourceFault → LedgerState → GivenIndex → Done ℕ
+removed_once_told (Ok rep) l x = mapped (λ _. rep) (host_resource_drop l x)
+removed_once_told (Err e) l x = refused e l
+
+-- a handle is removed, and its representation is told first, which changes nothing
+abbrev pub host_resource_remove : LedgerState → GivenIndex → Done ℕ
+host_resource_remove l x = unless_stale l (is_stale l.host x) (removed_once_told (resource_rep l host_table (HostIndex x.index)) l x)
+
 abbrev pub slot : LedgerState → GivenIndex → Result (Option TableSlot) ResourceFault
 slot l x = refuse_if (is_stale l.host x) fault.HostDeallocated (Ok (slot_at l.host x.index))
 

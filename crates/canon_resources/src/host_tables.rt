@@ -134,6 +134,28 @@ impl<'a> HostResourceTables<'a> {
         Ok(with_its_slot(slot, rep))
     }
 
+    /// Removes a handle of the host and answers its representation, an own handle's or a borrow
+    /// handle's. That it can be told is tested first, which changes nothing, the generation included.
+    pub fn host_resource_remove(&mut self, idx: HostResourceIndex) -> Result<u32, ResourceFault>
+        requires scope_open { IsOpen self.old.tables.current_scope self.old.tables.ledger.now }
+        ensures same_reference { self.new.tables.ledger.ghost_name ≡ self.old.tables.ledger.ghost_name }
+        ensures same_types { self.new.tables.types ≡ self.old.tables.types }
+        ensures same_scope { self.new.tables.current_scope ≡ self.old.tables.current_scope }
+        ensures step { DidSurely (ledger.host_resource_remove self.old.tables.ledger.now idx) result self.new.tables.ledger.now }
+        ensures places { SamePlaces self.old.tables.ledger.now self.new.tables.ledger.now }
+    {
+        if self.tables.is_stale(&idx) {
+            return Err(ResourceFault::HostDeallocated);
+        }
+        let rep = self
+            .tables
+            .resource_rep(TypedResourceIndex::Host(idx.index()))?;
+        match self.host_resource_drop(idx) {
+            Ok(_) => Ok(rep),
+            Err(fault) => Err(fault),
+        }
+    }
+
     /// What the host keeps of an index; nothing where the index has no slot. Changes nothing.
     pub fn slot(&self, idx: HostResourceIndex) -> Result<Option<TableSlot>, ResourceFault>
         ensures { result ≡ ledger.slot self.now.tables.ledger.now idx }
