@@ -1,10 +1,11 @@
 -- What the conversions of host resources answer and do to the ledger.
-use Rattle.std.specs.Prelude.{ℕ, Option, Some, None, Ok}
+use Rattle.std.specs.Prelude.{ℕ, Option, Some, None, Result, Ok}
 use Rattle.canon_table.specs.declared.resource.ResourceType.{ResourceType}
 use Rattle.canon_resources.specs.declared.fault.ResourceFault.{ResourceFault}
 use Rattle.canon_resources.specs.declared.fault.ResourceFault.TheVariants as fault
 use Rattle.canon_resources.specs.Ledger as ledger
-use Rattle.canon_resources.specs.Ledger.{LedgerState, Done, given, mapped, refused}
+use Rattle.canon_resources.specs.Ledger.{LedgerState, Did, Done, given, mapped, refused}
+use Rattle.canon_resources.specs.Books.{DidSurely}
 use Rattle.canon_host_resources.specs.declared.host.ResourceState.{ResourceState}
 use Rattle.canon_host_resources.specs.declared.host.ResourceState.TheVariants as state
 use Rattle.canon_host_resources.specs.declared.any.ResourceAnyHandle.{ResourceAnyHandle}
@@ -32,3 +33,8 @@ out_of d (handle.Synthetic rep) l = answered (held state.Borrow rep d) l
 abbrev pub from_any : {D : Type 0} → Option D → ResourceAnyHandle → LedgerState → Done (Held D)
 from_any (Some d) h l = out_of d h l
 from_any None h l = refused fault.ResourceTypeMismatch l
+
+-- a conversion into a resource that tells its type: one that must insert may want memory, and no other does
+abbrev pub Converted : ResourceState → Done Any → Result Any ResourceFault → LedgerState → LedgerState → Type 0
+Converted state.NotInTable d r l l' = Did d r l l'
+Converted _ d r l l' = DidSurely d r l'

@@ -1,8 +1,7 @@
 //! How a host resource becomes one that tells its type by its value.
 
 ghost use Rattle.std.specs.Prelude.{◌≡◌};
-ghost use Rattle.canon_host_resources.specs.Conversions.{into_any};
-ghost use Rattle.canon_resources.specs.Ledger.{Did};
+ghost use Rattle.canon_host_resources.specs.Conversions.{Converted, into_any};
 ghost use Rattle.canon_resources.specs.Books.{IsOpen};
 ghost use Rattle.canon_resources.specs.Places.{SamePlaces};
 
@@ -23,7 +22,7 @@ pub(crate) fn into_any(
     ensures same_reference { tables.new.tables.ledger.ghost_name ≡ tables.old.tables.ledger.ghost_name }
     ensures same_types { tables.new.tables.types ≡ tables.old.tables.types }
     ensures same_scope { tables.new.tables.current_scope ≡ tables.old.tables.current_scope }
-    ensures step { Did (into_any state rep ty tables.old.tables.ledger.now) result tables.old.tables.ledger.now tables.new.tables.ledger.now }
+    ensures step { Converted state (into_any state rep ty tables.old.tables.ledger.now) result tables.old.tables.ledger.now tables.new.tables.ledger.now }
     ensures places { SamePlaces tables.old.tables.ledger.now tables.new.tables.ledger.now }
 {
     match state {

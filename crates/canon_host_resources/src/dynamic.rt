@@ -1,7 +1,6 @@
 //! A host resource whose type is told by a number.
 
 ghost use Rattle.std.specs.Prelude.{◌≡◌};
-ghost use Rattle.canon_resources.specs.Ledger.{Did};
 ghost use Rattle.canon_resources.specs.Books.{DidSurely, IsOpen};
 ghost use Rattle.canon_resources.specs.Places.{SamePlaces};
 
@@ -55,7 +54,7 @@ impl Model for ResourceDynamic {
 
 impl ResourceDynamic {
     ghost use Rattle.canon_host_resources.specs.Held.{held, is_owned};
-    ghost use Rattle.canon_host_resources.specs.Conversions.{from_any, into_any};
+    ghost use Rattle.canon_host_resources.specs.Conversions.{Converted, from_any, into_any};
     ghost use Rattle.canon_host_resources.specs.declared.host.ResourceState.TheVariants as state;
     ghost use Rattle.canon_table.specs.declared.resource.ResourceType.TheVariants.{HostDynamic};
     ghost use Rattle.canon_table.specs.Resource.{as_host_dynamic};
@@ -132,7 +131,7 @@ impl ResourceDynamic {
         ensures same_reference { tables.new.tables.ledger.ghost_name ≡ tables.old.tables.ledger.ghost_name }
         ensures same_types { tables.new.tables.types ≡ tables.old.tables.types }
         ensures same_scope { tables.new.tables.current_scope ≡ tables.old.tables.current_scope }
-        ensures step { Did (into_any self.state self.rep (HostDynamic self.ty) tables.old.tables.ledger.now) result tables.old.tables.ledger.now tables.new.tables.ledger.now }
+        ensures step { Converted self.state (into_any self.state self.rep (HostDynamic self.ty) tables.old.tables.ledger.now) result tables.old.tables.ledger.now tables.new.tables.ledger.now }
         ensures places { SamePlaces tables.old.tables.ledger.now tables.new.tables.ledger.now }
     {
         self.inner.try_into_resource_any(tables)

@@ -1,7 +1,6 @@
 //! A host resource whose type is told by its Rust type.
 
 ghost use Rattle.std.specs.Prelude.{◌≡◌};
-ghost use Rattle.canon_resources.specs.Ledger.{Did};
 ghost use Rattle.canon_resources.specs.Books.{DidSurely, IsOpen};
 ghost use Rattle.canon_resources.specs.Places.{SamePlaces};
 
@@ -56,7 +55,7 @@ impl<T> Model for Resource<T> {
 
 impl<T: HostType> Resource<T> {
     ghost use Rattle.canon_host_resources.specs.Held.{held, is_owned};
-    ghost use Rattle.canon_host_resources.specs.Conversions.{from_any, into_any};
+    ghost use Rattle.canon_host_resources.specs.Conversions.{Converted, from_any, into_any};
     ghost use Rattle.canon_host_resources.specs.declared.host.ResourceState.TheVariants as state;
     ghost use Rattle.canon_table.specs.declared.resource.ResourceType.TheVariants.{Host};
     ghost use Rattle.canon_host_resources.specs.Types.{as_host};
@@ -126,7 +125,7 @@ impl<T: HostType> Resource<T> {
         ensures same_reference { tables.new.tables.ledger.ghost_name ≡ tables.old.tables.ledger.ghost_name }
         ensures same_types { tables.new.tables.types ≡ tables.old.tables.types }
         ensures same_scope { tables.new.tables.current_scope ≡ tables.old.tables.current_scope }
-        ensures step { Did (into_any self.state self.rep (Host T.ID) tables.old.tables.ledger.now) result tables.old.tables.ledger.now tables.new.tables.ledger.now }
+        ensures step { Converted self.state (into_any self.state self.rep (Host T.ID) tables.old.tables.ledger.now) result tables.old.tables.ledger.now tables.new.tables.ledger.now }
         ensures places { SamePlaces tables.old.tables.ledger.now tables.new.tables.ledger.now }
     {
         self.inner.try_into_resource_any(tables)

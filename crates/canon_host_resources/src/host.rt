@@ -1,7 +1,6 @@
 //! A resource that the host implements.
 
 ghost use Rattle.std.specs.Prelude.{◌≡◌};
-ghost use Rattle.canon_resources.specs.Ledger.{Did};
 ghost use Rattle.canon_resources.specs.Books.{DidSurely, IsOpen};
 ghost use Rattle.canon_resources.specs.Places.{SamePlaces};
 
@@ -67,7 +66,7 @@ impl<T, D> Model for HostResource<T, D> {
 
 impl<T: HostResourceType<D>, D: Copy> HostResource<T, D> {
     ghost use Rattle.canon_host_resources.specs.Held.{held, is_owned};
-    ghost use Rattle.canon_host_resources.specs.Conversions.{from_any, into_any};
+    ghost use Rattle.canon_host_resources.specs.Conversions.{Converted, from_any, into_any};
     ghost use Rattle.canon_host_resources.specs.declared.host.ResourceState.TheVariants as state;
 
     /// An own handle of the host that is in no table yet.
@@ -151,7 +150,7 @@ impl<T: HostResourceType<D>, D: Copy> HostResource<T, D> {
         ensures same_reference { tables.new.tables.ledger.ghost_name ≡ tables.old.tables.ledger.ghost_name }
         ensures same_types { tables.new.tables.types ≡ tables.old.tables.types }
         ensures same_scope { tables.new.tables.current_scope ≡ tables.old.tables.current_scope }
-        ensures step { Did (into_any self.state self.rep (T.type_of self.ty) tables.old.tables.ledger.now) result tables.old.tables.ledger.now tables.new.tables.ledger.now }
+        ensures step { Converted self.state (into_any self.state self.rep (T.type_of self.ty) tables.old.tables.ledger.now) result tables.old.tables.ledger.now tables.new.tables.ledger.now }
         ensures places { SamePlaces tables.old.tables.ledger.now tables.new.tables.ledger.now }
     {
         into_any(self.state, self.rep, T::resource_type(self.ty), tables)

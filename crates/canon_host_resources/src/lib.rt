@@ -4,6 +4,7 @@
 
 mod any;
 mod conversion;
+mod convert;
 mod dynamic;
 mod fixed;
 mod host;

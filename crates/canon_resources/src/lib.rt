@@ -20,4 +20,6 @@ pub use ledger::Ledger;
 pub use tables::ResourceTables;
 
 #[cfg(test)]
+mod host_tests;
+#[cfg(test)]
 mod tests;
