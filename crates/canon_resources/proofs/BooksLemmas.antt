@@ -1,18 +1,14 @@
 -- What a call on one table does to the handles that the fields stand for.
-use Rattle.std.proofs.Common.{◌≡◌, ℕ, zero, suc, ◌+◌, ◌<◌, ◌≤◌, List, [], ◌∷◌, length, get_or, map, Option, None, Result, Ok, Err, refl, sym, ap, subst, ◌∙◌, arith, sum_by, ◌⊎◌, inl, inr}
+use Rattle.std.proofs.Common.{◌≡◌, ℕ, zero, suc, ◌+◌, ◌<◌, ◌≤◌, List, [], ◌∷◌, length, get_or, map, Result, Ok, Err, refl, sym, ap, subst, ◌∙◌, arith, sum_by, inl, inr}
 use Rattle.std.proofs.Math.ListN.{set}
-use Rattle.std.proofs.lemmas.List.{map-set, get_or-map, length-map}
+use Rattle.std.proofs.lemmas.List.{map-set, get_or-map}
 use Rattle.std.proofs.lemmas.List.Sums.{sum_by-cons}
 use Rattle.canon_handles.specs.declared.handle.Entry.{Entry}
-use Rattle.canon_handles.specs.declared.handle.TypedResource.{TypedResource}
-use Rattle.canon_handles.specs.declared.handle.TypedResourceIndex.{TypedResourceIndex}
 use Rattle.canon_handles.specs.declared.error.HandleError.{HandleError}
 use Rattle.canon_resources.specs.declared.fault.ResourceFault.{ResourceFault}
-use Rattle.canon_resources.specs.declared.fault.ResourceFault.TheVariants as fault
 use Rattle.canon_handles.specs.Table.{Table, Counter, Stored, Outcome, empty_table, Does, DoesWithMemory}
-use Rattle.canon_handles.specs.Calls as table
 use Rattle.canon_handles.specs.Calls.{held_count, lends_of}
-use Rattle.canon_resources.specs.Handles.{Handles, Answer, IsSound, Takes, TakesSurely, table_at, with_table, on_table, finished, at_index, fault_at, total, stands}
+use Rattle.canon_resources.specs.Handles.{Handles, IsSound, Takes, TakesSurely, table_at, with_table, on_table, finished, at_index, fault_at, total, stands}
 use Rattle.canon_resources.specs.Books.{Context, handles_of}
 use Rattle.canon_resources.proofs.HandlesLemmas.{same_table}
 

@@ -1,13 +1,15 @@
 -- Lenders whose tables and indexes stand in two lists, and slots.
-use Rattle.std.proofs.Common.{◌≡◌, ℕ, zero, suc, ◌+◌, ◌-◌, ◌<◌, ◌≤◌, ◌&&◌, ◌==◌, List, [], ◌∷◌, ◌++◌, length, get_or, map, Option, Some, None, refl, sym, ap, subst, ◌∙◌, arith, slice_get, slice_index_or, slice_set}
+use Rattle.std.proofs.Common.{◌≡◌, ℕ, zero, suc, ◌-◌, ◌<◌, ◌≤◌, List, [], ◌∷◌, ◌++◌, length, get_or, map, Option, Some, None, refl, sym, ap, subst, ◌∙◌, arith, slice_get, slice_index_or, option_map, unwrap_or, Bor}
+use Rattle.std.specs.Slice.{IsGetResult}
+use Rattle.std.proofs.lemmas.Option.{slice_get-get_or, slice_get-map, slice_get_past, unwrap_or-slice_get}
 use Rattle.std.proofs.Math.ListN.{set}
 use Rattle.std.proofs.lemmas.List.{map-set, length-map}
 use Rattle.canon_handles.specs.declared.handle.TypedResourceIndex.{TypedResourceIndex}
 use Rattle.canon_handles.specs.Step.{put}
 use Rattle.canon_handles.proofs.StepLemmas.{put_within, put_end}
 use Rattle.canon_resources.specs.declared.host.TableSlot.{TableSlot}
-use Rattle.canon_resources.specs.Handles.{Lender, is_empty_scope}
-use Rattle.canon_resources.specs.Ledger.{HostIndexes, with_slot}
+use Rattle.canon_resources.specs.Handles.{Lender}
+use Rattle.canon_resources.specs.Ledger.{HostIndexes, slot_at, with_slot}
 use Rattle.canon_resources.specs.Books.{paired, indexes_of}
 
 pub length_paired : (ps : List ℕ) (is : List TypedResourceIndex) → length ps ≡ length is → length (paired ps is) ≡ length is
@@ -65,3 +67,23 @@ host_pushed slots new generation (suc i) instance dtor now v p h l e =
     ap (λ l. indexes_of (None ∷ map Some l) generation) e
     ∙ ap (λ l. indexes_of l generation) (slots_pushed slots i (record { generation = generation; instance = instance; dtor = dtor }) (let m = length-map slots Some in let n = ap (λ (h : HostIndexes). length h.slots) v in omega arith))
     ∙ ap (λ (h : HostIndexes). with_slot h (suc i) instance dtor) v
+
+flat : (o : Option TableSlot) → unwrap_or (option_map Some o) None ≡ o
+flat (Some s) = refl
+flat None = refl
+
+slot_get : (slots : List TableSlot) (k : ℕ) → slice_get slots k ≡ get_or (map Some slots) k None
+slot_get slots k = sym (flat (slice_get slots k)) ∙ sym (ap (λ (o : Option (Option TableSlot)). unwrap_or o None) (slice_get-map Some slots k)) ∙ unwrap_or-slice_get (map Some slots) k None
+
+item_is : (slots : List TableSlot) (k : ℕ) (r : Option (Bor TableSlot)) → IsGetResult slots k k r → option_map (λ (b : Bor TableSlot). b.now) r ≡ slice_get slots k
+item_is slots k (Some x) h = ap Some (h.4 (omega arith) x.now) ∙ sym (slice_get-get_or slots k x.now h.3.0)
+item_is slots k None h = sym (slice_get_past slots k h.3)
+
+module _ (slots : List TableSlot) (generation : ℕ) (now : HostIndexes) (is : indexes_of (None ∷ map Some slots) generation ≡ now) where
+  pub no_slot : (i : ℕ) → i ≡ 0 → None ≡ slot_at now i
+  no_slot i z = ap (λ (h : HostIndexes). slot_at h 0) is ∙ ap (λ (k : ℕ). slot_at now k) (sym z)
+
+  pub slot_found : (i : ℕ) (r : Option (Bor TableSlot)) (o : Option TableSlot) → 0 < i → IsGetResult slots (i - 1) (i - 1) r → o ≡ option_map (λ (b : Bor TableSlot). b.now) r → o ≡ slot_at now i
+  slot_found zero r o positive found e = absurd (omega arith)
+  slot_found (suc k) r o positive found e =
+      e ∙ item_is slots k r (subst (λ (n : ℕ). IsGetResult slots n n r) (omega arith) found) ∙ slot_get slots k ∙ ap (λ (h : HostIndexes). slot_at h (suc k)) is

@@ -1,23 +1,16 @@
 -- What the ledger's calls do, and what they keep.
-use Rattle.std.proofs.Common.{◌≡◌, ℕ, zero, suc, ◌+◌, ◌-◌, ◌<◌, ◌≤◌, Bool, true, false, nat_le, List, [], ◌∷◌, ◌++◌, length, take, map, Option, Some, None, Result, Ok, Err, refl, sym, ap, subst, ◌∙◌, arith, IfOk, ◌⊎◌, inl, inr, get_or}
-use Rattle.std.proofs.Math.ListN.{set}
-use Rattle.std.proofs.lemmas.List.{length-set}
-use Rattle.canon_handles.specs.declared.handle.RemovedResource.TheVariants.{Borrow, Own}
-use Rattle.canon_handles.specs.declared.handle.TypedResource.{TypedResource}
-use Rattle.canon_handles.specs.declared.handle.TypedResourceIndex.{TypedResourceIndex}
+use Rattle.std.proofs.Common.{◌≡◌, ℕ, zero, suc, ◌-◌, Bool, true, false, List, [], ◌∷◌, ◌++◌, length, take, map, Option, None, Result, Ok, Err, refl, sym, ap, subst, ◌∙◌, arith, inl, inr}
 use Rattle.canon_handles.specs.declared.handle.Entry.{Entry}
-use Rattle.canon_handles.specs.declared.handle.Entry.TheVariants.{ResourceOwn, ResourceBorrow}
 use Rattle.canon_handles.specs.Table.{Stored, Counter}
 use Rattle.canon_resources.specs.declared.fault.ResourceFault.{ResourceFault}
 use Rattle.canon_resources.specs.declared.fault.ResourceFault.TheVariants as fault
-use Rattle.canon_resources.specs.Handles as handles
-use Rattle.canon_resources.specs.Handles.{Handles, Answer, IsSound, Takes, TakesSurely, OpenScope, no_scope, can_leave, enter, leave}
+use Rattle.canon_resources.specs.Handles.{Handles, Answer, Takes, TakesSurely, OpenScope, no_scope, can_leave}
 use Rattle.canon_resources.specs.Ledger.{LedgerState, HostIndexes, IsHostSound, Done, Did, Call, Enter, Leave, do_step, plainly, inserting, removing, with_slot, raised, last_generation}
 use Rattle.canon_resources.specs.Ledger as ledger
-use Rattle.canon_resources.specs.Books.{Context, handles_of, ledger_of, Holds, DidSurely, written_at, raised_at, is_spent}
+use Rattle.canon_resources.specs.Books.{Context, ledger_of, Holds, DidSurely, written_at, raised_at, is_spent}
 use Rattle.canon_resources.proofs.LedgerLemmas.{sound-step}
 use Rattle.canon_resources.proofs.HostLemmas.{host-step}
-use Rattle.canon_resources.proofs.HandlesLemmas.{sound-enter, sound-leave}
+use Rattle.canon_resources.proofs.HandlesLemmas.{sound-leave}
 
 -- Scopes that open and close
 
@@ -90,6 +83,12 @@ did_inserting zero r l i m host e w = (
 did_inserting (suc n) r l i m host e w = (
   ap (λ r. (plainly r l).answer) e,
   (λ t. record { handles = m; host = w t }) ∙ sym (ap (λ r. (plainly r l).after) e),
+)
+
+pub did_inserting_host : (r : Answer ℕ) (l : LedgerState) (i : ℕ) (m : Handles) (host : HostIndexes) (instance dtor : Option ℕ) → r ≡ Ok (i, m) → host ≡ with_slot l.host i instance dtor → Did (inserting 0 instance dtor r l) (Ok i) l (record { handles = m; host = host })
+did_inserting_host r l i m host instance dtor e w = (
+  ap (λ r. (inserting 0 instance dtor r l).answer) e,
+  (λ t. record { handles = m; host = w t }) ∙ sym (ap (λ r. (inserting 0 instance dtor r l).after) e),
 )
 
 pub did_not_insert : (p : ℕ) (r : Answer ℕ) (l : LedgerState) (e : ResourceFault) (m : Handles) → Takes r (Err e) l.handles m → Did (inserting p None None r l) (Err e) l (record { handles = m; host = l.host })

@@ -19,7 +19,8 @@ use Rattle.canon_handles.specs.Table.{Table, Counter, entry_at, fresh_index, wit
 use Rattle.canon_handles.specs.Calls.{raw_index, undo_lend_entry, is_own, lends_of}
 use Rattle.canon_resources.specs.Handles as handles
 use Rattle.canon_resources.specs.Handles.{Handles, Lender, Answer, IsSound, can_leave, host_table, table_at, with_table, with_scope, no_scope, scope_at, finished, dropped, lifted_own, lent, opened, lift_borrow_in, lower_borrow_in, borrow_added, give_back, undone, exit_scope, borrows, stands}
-use Rattle.canon_resources.specs.Ledger.{LedgerState, HostIndexes, HostResourceIndex, Done, Call, Enter, Leave, SetLimit, New, Rep, Drop, LiftOwn, LiftBorrow, LowerBorrow, ExitScope, HostLiftOwn, HostLiftBorrow, HostDrop, HostLowerOwn, HostLowerBorrow, do_step, run, plainly, inserting, host_removing, unless_stale, is_stale, slot_is_stale, leaving, with_slot, slot_at, host_entry, last_generation, IsAccepted, IsHostSound, new_ledger, resource_drop, resource_lift_own, resource_lift_borrow}
+use Rattle.canon_resources.specs.Index.{GivenIndex}
+use Rattle.canon_resources.specs.Ledger.{LedgerState, HostIndexes, Done, Call, Enter, Leave, SetLimit, New, Rep, Drop, LiftOwn, LiftBorrow, LowerBorrow, ExitScope, HostLiftOwn, HostLiftBorrow, HostDrop, HostLowerOwn, HostLowerBorrow, do_step, run, plainly, inserting, host_removing, unless_stale, is_stale, slot_is_stale, leaving, with_slot, slot_at, host_entry, last_generation, IsAccepted, IsHostSound, new_ledger, resource_drop, resource_lift_own, resource_lift_borrow}
 use Rattle.canon_resources.specs.Laws.{Gives, is_host_insertion, StepsKeepHostSound, IndexesAnswerForTheirInsertion, IndexesAreGivenOnce, NewLedgersAreSound, with_generation_raised}
 use Rattle.canon_handles.proofs.StepLemmas.{length-put, length-put_end, get_or-put_same, get_or-put_other, some_within}
 use Rattle.canon_resources.proofs.StepLemmas.{if_ok-refuse, if_ok-then, if_ok_always}
@@ -378,13 +379,13 @@ host-run (call ∷ calls) l s h = host-run calls (do_step call l).after (sound-s
 -- An index that was given
 
 -- It has a slot, which may have been written again since.
-record IsKnown (x : HostResourceIndex) (l : LedgerState) : Type 0 where
+record IsKnown (x : GivenIndex) (l : LedgerState) : Type 0 where
   slot : TableSlot
   there : slot_at l.host x.index ≡ Some slot
   older : x.generation ≤ slot.generation
 
 -- It will be accepted no more.
-record IsSpent (x : HostResourceIndex) (l : LedgerState) : Type 0 where
+record IsSpent (x : GivenIndex) (l : LedgerState) : Type 0 where
   slot : TableSlot
   there : slot_at l.host x.index ≡ Some slot
   why : (x.generation < slot.generation) ⊎ ((is_some (host_entry l x.index) ≡ false) × (x.generation < l.host.generation))
@@ -392,10 +393,10 @@ record IsSpent (x : HostResourceIndex) (l : LedgerState) : Type 0 where
 at_slot : (l : LedgerState) (i : ℕ) (s : TableSlot) (P : TableSlot → Type 0) → slot_at l.host i ≡ Some s → IfSome (slot_at l.host i) P → P s
 at_slot l i s P e h = subst (λ (o : Option TableSlot). IfSome o P) e h
 
-stale_by : (l : LedgerState) (x : HostResourceIndex) (s : TableSlot) → slot_at l.host x.index ≡ Some s → is_stale l.host x ≡ not (s.generation == x.generation)
+stale_by : (l : LedgerState) (x : GivenIndex) (s : TableSlot) → slot_at l.host x.index ≡ Some s → is_stale l.host x ≡ not (s.generation == x.generation)
 stale_by l x s e = ap (λ (o : Option TableSlot). slot_is_stale o x.generation) e
 
-not_spent : (x : HostResourceIndex) (l : LedgerState) → IsSpent x l → IsAccepted x l → ⊥
+not_spent : (x : GivenIndex) (l : LedgerState) → IsSpent x l → IsAccepted x l → ⊥
 not_spent x l s a = elim s.why as (λ _. ⊥) [
   | inl newer ↦
       (let ne : s.slot.generation ≢ x.generation = omega arith in
@@ -404,7 +405,7 @@ not_spent x l s a = elim s.why as (λ _. ⊥) [
   | inr w ↦ (let e = w.0 in let c = a.stands in cc)
 ]
 
-spent_or_accepted : (x : HostResourceIndex) (l : LedgerState) → IsHostSound l → IsKnown x l → IsAccepted x l ⊎ IsSpent x l
+spent_or_accepted : (x : GivenIndex) (l : LedgerState) → IsHostSound l → IsKnown x l → IsAccepted x l ⊎ IsSpent x l
 spent_or_accepted x l s k = elim (equal_or_not k.slot.generation x.generation) [
   | inl at ↦ elim (false_or_true (is_some (host_entry l x.index))) [
     | inl none ↦
@@ -415,7 +416,7 @@ spent_or_accepted x l s k = elim (equal_or_not k.slot.generation x.generation) [
   | inr ne ↦ (let o = k.older in inr (record { slot = k.slot; there = k.there; why = inl (omega arith) }))
 ]
 
-known-effect : (x : HostResourceIndex) (l l' : LedgerState) → Effect l l' → IsHostSound l → IsKnown x l → IsKnown x l'
+known-effect : (x : GivenIndex) (l l' : LedgerState) → Effect l l' → IsHostSound l → IsKnown x l → IsKnown x l'
 known-effect x l l' (inl k) s w =
     record { slot = w.slot; there = ap (λ (xs : List (Option TableSlot)). get_or xs x.index None) k.slots ∙ w.there; older = w.older }
 known-effect x l l' (inr k) s w = elim (equal_or_not x.index k.0) [
@@ -433,7 +434,7 @@ still_none l l' i true e h none = absurd (let some = h e in cc)
 not_less_generation : (l l' : LedgerState) → Keeps l l' → l.host.generation ≤ l'.host.generation
 not_less_generation l l' k = elim k.generation as (λ _. l.host.generation ≤ l'.host.generation) [ inl w ↦ (let e = w.1 in omega arith) | inr e ↦ omega arith ]
 
-spent-effect : (x : HostResourceIndex) (l l' : LedgerState) → Effect l l' → IsHostSound l → IsSpent x l → IsSpent x l'
+spent-effect : (x : GivenIndex) (l l' : LedgerState) → Effect l l' → IsHostSound l → IsSpent x l → IsSpent x l'
 spent-effect x l l' (inl k) s w =
     record {
       slot = w.slot;
@@ -460,12 +461,12 @@ spent-effect x l l' (inr k) s w = elim (equal_or_not x.index k.0) [
       }
 ]
 
-spent-run : (x : HostResourceIndex) (calls : List Call) (l : LedgerState) → IsSound l.handles → IsHostSound l → IsSpent x l → IsSpent x (run calls l)
+spent-run : (x : GivenIndex) (calls : List Call) (l : LedgerState) → IsSound l.handles → IsHostSound l → IsSpent x l → IsSpent x (run calls l)
 spent-run x [] l s h w = w
 spent-run x (call ∷ calls) l s h w =
     spent-run x calls (do_step call l).after (sound-step call l s) (host-step call l s h) (spent-effect x l (do_step call l).after (effect call l s) h w)
 
-known-run : (x : HostResourceIndex) (calls : List Call) (l : LedgerState) → IsSound l.handles → IsHostSound l → IsKnown x l → IsKnown x (run calls l)
+known-run : (x : GivenIndex) (calls : List Call) (l : LedgerState) → IsSound l.handles → IsHostSound l → IsKnown x l → IsKnown x (run calls l)
 known-run x [] l s h w = w
 known-run x (call ∷ calls) l s h w =
     known-run x calls (do_step call l).after (sound-step call l s) (host-step call l s h) (known-effect x l (do_step call l).after (effect call l s) h w)
@@ -498,7 +499,7 @@ inserts (HostDrop x) l i s h e = absurd (cc)
 inserts (HostLowerOwn rep dtor instance) l i s h e = inserts-inserting instance dtor (handles.resource_new l.handles 0 (Host rep)) l i (more-new l.handles (Host rep) s) e
 inserts (HostLowerBorrow scope rep) l i s h e = inserts-inserting None None (handles.resource_lower_borrow scope l.handles 0 (Host rep)) l i (more-lower_in (opened l.handles scope) l.handles (Host rep) s) e
 
-known_when_given : (call : Call) (l : LedgerState) (x : HostResourceIndex) → IsSound l.handles → IsHostSound l → Gives call l x → IsKnown x (do_step call l).after
+known_when_given : (call : Call) (l : LedgerState) (x : GivenIndex) → IsSound l.handles → IsHostSound l → Gives call l x → IsKnown x (do_step call l).after
 known_when_given call l x s h g =
     let k = inserts call l x.index s g.insertion g.index in
     let n = new_generation l (do_step call l).after x.index k h in let same = g.generation in

@@ -7,7 +7,8 @@ use Rattle.canon_resources.specs.declared.fault.ResourceFault.{ResourceFault}
 use Rattle.canon_handles.specs.Step.{and_then}
 use Rattle.canon_resources.specs.Handles as handles
 use Rattle.canon_resources.specs.Handles.{Handles, Answer, IsSound, can_leave, host_table}
-use Rattle.canon_resources.specs.Ledger.{LedgerState, HostResourceIndex, Done, Call, Enter, Leave, SetLimit, New, Rep, Drop, LiftOwn, LiftBorrow, LowerBorrow, ExitScope, HostLiftOwn, HostLiftBorrow, HostDrop, HostLowerOwn, HostLowerBorrow, do_step, plainly, inserting, removing, host_removing, unless_stale, is_stale, leaving, raised, Through, Partway, last_generation, dropped_number, host_dropped_number, with_its_slot, with_slot_answered, slot_at, resource_drop}
+use Rattle.canon_resources.specs.Index.{GivenIndex}
+use Rattle.canon_resources.specs.Ledger.{LedgerState, Done, Call, Enter, Leave, SetLimit, New, Rep, Drop, LiftOwn, LiftBorrow, LowerBorrow, ExitScope, HostLiftOwn, HostLiftBorrow, HostDrop, HostLowerOwn, HostLowerBorrow, do_step, plainly, inserting, removing, host_removing, unless_stale, is_stale, leaving, raised, Through, Partway, last_generation, dropped_number, host_dropped_number, with_its_slot, with_slot_answered, slot_at, resource_drop}
 use Rattle.canon_resources.specs.Laws.{RefusalsChangeNothing, StepsKeepHandlesSound, StepsCompose, PartsCompose, WholesAreParts, with_generation_raised}
 use Rattle.canon_resources.proofs.HandlesLemmas.{sound-enter, sound-leave, sound-set_limit, sound-resource_new, sound-resource_drop, sound-resource_lift_own, sound-resource_lift_borrow, sound-resource_lower_borrow, sound-validate_scope_exit}
 
@@ -94,7 +95,7 @@ refused-leaving : (b : Bool) (l : LedgerState) (e : ResourceFault) → (leaving 
 refused-leaving true l e is = absurd (cc)
 refused-leaving false l e is = refl
 
-abbrev host_dropping : LedgerState → HostResourceIndex → Done (Option (ℕ × TableSlot))
+abbrev host_dropping : LedgerState → GivenIndex → Done (Option (ℕ × TableSlot))
 host_dropping l x = with_slot_answered (slot_at l.host x.index) (resource_drop l host_table (HostIndex x.index))
 
 pub refusals : RefusalsChangeNothing

@@ -1,7 +1,7 @@
 -- Each lend that is owed can be given back.
-use Rattle.std.proofs.Common.{◌≡◌, ℕ, zero, suc, ◌+◌, ◌-◌, ◌<◌, ◌≤◌, List, [], ◌∷◌, length, get_or, drop, map, Option, Some, None, Result, Ok, Err, refl, sym, ap, subst, ◌∙◌, arith, add-one, sum_by, slice_get}
+use Rattle.std.proofs.Common.{◌≡◌, ℕ, zero, suc, ◌+◌, ◌-◌, ◌<◌, ◌≤◌, List, [], ◌∷◌, length, get_or, drop, map, Option, Some, None, Result, Ok, Err, refl, sym, ap, subst, ◌∙◌, arith, slice_get}
 use Rattle.std.proofs.Math.ListN.{set}
-use Rattle.std.proofs.lemmas.List.{map-set, length-map, get_or-map}
+use Rattle.std.proofs.lemmas.List.{map-set, length-map}
 use Rattle.std.proofs.lemmas.List.Sums.{sum_by-cons}
 use Rattle.canon_handles.specs.declared.handle.TypedResource.{TypedResource}
 use Rattle.canon_handles.specs.declared.handle.TypedResourceIndex.{TypedResourceIndex}
@@ -9,10 +9,10 @@ use Rattle.canon_handles.specs.declared.handle.Entry.{Entry}
 use Rattle.canon_handles.specs.declared.handle.Entry.TheVariants.{ResourceOwn, ResourceBorrow, Stream, Future, ErrorContext, Subtask, WaitableSet}
 use Rattle.canon_handles.specs.declared.error.HandleError.{HandleError}
 use Rattle.canon_handles.specs.Step.{one_if}
-use Rattle.canon_handles.specs.Table.{Table, Counter, Stored, Does, entry_at, with_entry, one_less, empty_table}
+use Rattle.canon_handles.specs.Table.{Table, Counter, Stored, Does, entry_at, with_entry, one_less}
 use Rattle.canon_handles.specs.Calls.{held_count, lends_of, raw_index, undo_lend_entry, resource_undo_lend}
 use Rattle.canon_handles.proofs.StepLemmas.{some_within}
-use Rattle.canon_resources.specs.Handles.{Handles, Lender, OpenScope, table_at, with_table, is_lender_of, finished, undone, give_back, on_table, stands, total}
+use Rattle.canon_resources.specs.Handles.{Handles, Lender, table_at, with_table, is_lender_of, finished, undone, give_back, on_table, stands}
 use Rattle.canon_resources.specs.Books.{Context, handles_of}
 use Rattle.canon_resources.specs.Owed.{IsOwed}
 use Rattle.canon_resources.proofs.HandlesLemmas.{standing, there_by_entry, total_after, entries_after, lender_here, lender_there, same_table}

@@ -1,7 +1,6 @@
 -- What a write to a scope does to the handles that the fields stand for.
-use Rattle.std.proofs.Common.{◌≡◌, ℕ, zero, suc, ◌+◌, ◌-◌, ◌<◌, ◌≤◌, Bool, true, false, not, ◌&&◌, ◌==◌, List, [], ◌∷◌, length, get_or, map, Option, Some, None, Result, Ok, Err, refl, sym, ap, subst, ◌∙◌, arith, sum_by, is_ok, IfOk}
+use Rattle.std.proofs.Common.{◌≡◌, ℕ, ◌+◌, ◌<◌, ◌≤◌, Bool, true, false, not, ◌&&◌, ◌==◌, List, [], ◌∷◌, length, get_or, map, Option, Some, None, Result, Ok, Err, refl, sym, ap, subst, ◌∙◌, arith, sum_by, is_ok, IfOk}
 use Rattle.std.proofs.Math.ListN.{set}
-use Rattle.std.proofs.Math.Bool.{and-false}
 use Rattle.std.proofs.lemmas.Bool.{eq-eqb}
 use Rattle.std.proofs.lemmas.List.{map-set, get_or-map, length-map, set-get_or}
 use Rattle.std.proofs.lemmas.List.Sums.{sum_by-cons}
@@ -19,9 +18,8 @@ use Rattle.canon_handles.specs.Step.{one_if, refuse_if, and_then}
 use Rattle.canon_handles.specs.Table.{Table, Counter, Stored, entry_at, without, one_less, lookup_entry}
 use Rattle.canon_handles.specs.Calls.{is_own, raw_index, read_rep, read_removed, rep_as}
 use Rattle.canon_handles.proofs.StepLemmas.{one_if-true, some_within}
-use Rattle.canon_resources.specs.declared.fault.ResourceFault.{ResourceFault}
 use Rattle.canon_resources.specs.declared.fault.ResourceFault.TheVariants.{BorrowAsOwn, BorrowsRemain}
-use Rattle.canon_resources.specs.Handles.{Handles, Lender, OpenScope, Answer, IsSound, table_at, scope_at, with_scope, no_scope, number_of, total, stands, borrows, finished, at_index, inserting_borrow, removing_resource, names_borrow, resource_lift_own, lifted_own, exit_scope, give_back}
+use Rattle.canon_resources.specs.Handles.{Handles, OpenScope, Answer, IsSound, table_at, scope_at, with_scope, no_scope, number_of, stands, borrows, finished, at_index, inserting_borrow, removing_resource, names_borrow, resource_lift_own, lifted_own, exit_scope, give_back}
 use Rattle.canon_resources.specs.Books.{Context, handles_of}
 use Rattle.canon_resources.specs.Owed.{IsOwed}
 use Rattle.canon_resources.proofs.HandlesLemmas.{if_ok-finished, if_ok-insert, removed_cases, there_by_entry, total_after, open_by_count, lenders-with_scope, standing}

@@ -1,13 +1,10 @@
 -- What the fields of a ledger stand for.
-use Rattle.std.specs.Prelude.{ℕ, zero, suc, Bool, true, false, nat_le, IfSome, List, [], ◌∷◌, map, min, ◌-◌, ◌≤◌, ◌<◌, ◌≡◌, length, Option, Some, None, Result}
+use Rattle.std.specs.Prelude.{ℕ, zero, suc, ◌+◌, ◌*◌, Bool, false, nat_le, IfSome, List, [], ◌∷◌, map, ◌≤◌, ◌<◌, ◌≡◌, length, Option, Some, None, Result}
 use Rattle.canon_handles.specs.declared.handle.CurrentScope.{CurrentScope}
 use Rattle.canon_handles.specs.declared.handle.CurrentScope.TheVariants as current
 use Rattle.canon_handles.specs.declared.handle.Scope.TheVariants.{Id}
 use Rattle.canon_handles.specs.declared.handle.Entry.{Entry}
-use Rattle.canon_handles.specs.declared.handle.TypedResource.{TypedResource}
-use Rattle.canon_handles.specs.declared.handle.TypedResource.TheVariants.{Host, Component}
 use Rattle.canon_handles.specs.declared.handle.TypedResourceIndex.{TypedResourceIndex}
-use Rattle.canon_handles.specs.declared.handle.TypedResourceIndex.TheVariants.{Host as HostIndex, Component as ComponentIndex}
 use Rattle.canon_handles.specs.Table.{Counter, Stored}
 use Rattle.canon_resources.specs.declared.host.TableSlot.{TableSlot}
 use Rattle.canon_resources.specs.declared.fault.ResourceFault.{ResourceFault}
@@ -77,11 +74,7 @@ is_spent (suc n) host = false
 abbrev pub IsOpen : Option CurrentScope → LedgerState → Type 0
 IsOpen s l = IfSome (scope_number s) (λ k. k < length l.handles.scopes)
 
--- a resource of the host
-abbrev pub is_host : TypedResource → Bool
-is_host (Host rep) = true
-is_host (Component ty rep) = false
-
-abbrev pub is_host_index : TypedResourceIndex → Bool
-is_host_index (HostIndex i) = true
-is_host_index (ComponentIndex ty i) = false
+-- what canon resource.drop answers the guest: for a removed own handle that its destructor is to run, and on what
+abbrev pub drop_return : Option ℕ → ℕ
+drop_return (Some rep) = 2 * rep + 1
+drop_return None = 0

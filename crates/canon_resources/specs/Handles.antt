@@ -3,9 +3,7 @@ use Rattle.std.specs.Prelude.{◌≡◌, ℕ, suc, ◌+◌, ◌-◌, ◌==◌, n
 use Rattle.canon_handles.specs.declared.handle.Scope.{Scope}
 use Rattle.canon_handles.specs.declared.handle.Scope.TheVariants.{Id}
 use Rattle.canon_handles.specs.declared.handle.TypedResource.{TypedResource}
-use Rattle.canon_handles.specs.declared.handle.TypedResource.TheVariants.{Host, Component}
 use Rattle.canon_handles.specs.declared.handle.TypedResourceIndex.{TypedResourceIndex}
-use Rattle.canon_handles.specs.declared.handle.TypedResourceIndex.TheVariants.{Host as HostIndex, Component as ComponentIndex}
 use Rattle.canon_handles.specs.declared.handle.RemovedResource.{RemovedResource}
 use Rattle.canon_handles.specs.declared.handle.RemovedResource.TheVariants.{Own, Borrow}
 use Rattle.canon_handles.specs.declared.handle.Entry.{Entry}

@@ -1,8 +1,9 @@
 -- Laws of the ledger, over every list of its steps.
-use Rattle.std.specs.Prelude.{◌≡◌, ℕ, ◌+◌, max, ◌==◌, Bool, true, false, ◌||◌, if◌then◌else◌, List, [], ◌∷◌, ◌++◌, ◌⊎◌, is_some, Ok, Err}
+use Rattle.std.specs.Prelude.{◌≡◌, ℕ, ◌==◌, Bool, true, false, List, ◌++◌, ◌⊎◌, Ok, Err}
 use Rattle.canon_resources.specs.declared.fault.ResourceFault.{ResourceFault}
 use Rattle.canon_resources.specs.Handles.{IsSound}
-use Rattle.canon_resources.specs.Ledger.{LedgerState, HostResourceIndex, Call, New, Drop, LiftOwn, LowerBorrow, HostLiftOwn, HostDrop, HostLowerOwn, HostLowerBorrow, do_step, run, raised, Through, Partway, IsAccepted, IsHostSound, new_ledger}
+use Rattle.canon_resources.specs.Index.{GivenIndex}
+use Rattle.canon_resources.specs.Ledger.{LedgerState, Call, New, Drop, LiftOwn, LowerBorrow, HostLiftOwn, HostDrop, HostLowerOwn, HostLowerBorrow, do_step, run, raised, Through, Partway, IsAccepted, IsHostSound, new_ledger}
 
 -- Refusals
 
@@ -44,19 +45,19 @@ is_host_insertion (HostLowerBorrow scope rep) = true
 is_host_insertion _ = false
 
 -- the step is an insertion into the host's table, and gives this index
-pub record Gives (call : Call) (l : LedgerState) (x : HostResourceIndex) : Type 0 where
+pub record Gives (call : Call) (l : LedgerState) (x : GivenIndex) : Type 0 where
   pub insertion : is_host_insertion call ≡ true
   pub index : (do_step call l).answer ≡ Ok x.index
   pub generation : x.generation ≡ l.host.generation
 
 -- a host index is accepted only while the entry of the insertion that gave it stands: where it is accepted after more steps, it was accepted all along
 abbrev pub IndexesAnswerForTheirInsertion : Type 0
-IndexesAnswerForTheirInsertion = (l : LedgerState) → IsSound l.handles → IsHostSound l → (call : Call) (x : HostResourceIndex) → Gives call l x →
+IndexesAnswerForTheirInsertion = (l : LedgerState) → IsSound l.handles → IsHostSound l → (call : Call) (x : GivenIndex) → Gives call l x →
     (calls more : List Call) → IsAccepted x (run (calls ++ more) (do_step call l).after) → IsAccepted x (run calls (do_step call l).after)
 
 -- no later insertion gives the index again
 abbrev pub IndexesAreGivenOnce : Type 0
-IndexesAreGivenOnce = (l : LedgerState) → IsSound l.handles → IsHostSound l → (call : Call) (x : HostResourceIndex) → Gives call l x →
+IndexesAreGivenOnce = (l : LedgerState) → IsSound l.handles → IsHostSound l → (call : Call) (x : GivenIndex) → Gives call l x →
     (calls : List Call) (again : Call) → Gives again (run calls (do_step call l).after) x → ⊥
 
 -- Lists of steps

@@ -1,5 +1,5 @@
 -- The ledger: the handles of a store, and the generations by which the host's indexes are told apart.
-use Rattle.std.specs.Prelude.{◌≡◌, ℕ, zero, suc, ◌+◌, ◌*◌, ◌^◌, ◌==◌, nat_le, Bool, true, false, not, List, [], ◌∷◌, length, ◌⊎◌, Option, Some, None, Result, Ok, Err, slice_index_or, replicate, is_some, IfSome, ◌<◌, ◌≤◌}
+use Rattle.std.specs.Prelude.{◌≡◌, ℕ, zero, suc, ◌+◌, ◌==◌, nat_le, Bool, true, false, not, List, [], ◌∷◌, length, ◌⊎◌, Option, Some, None, Result, Ok, Err, slice_index_or, replicate, is_some, IfSome, ◌<◌, ◌≤◌}
 use Rattle.canon_resources.specs.declared.host.TableSlot.{TableSlot}
 use Rattle.canon_handles.specs.declared.handle.TypedResource.{TypedResource}
 use Rattle.canon_handles.specs.declared.handle.TypedResource.TheVariants.{Host}
@@ -11,6 +11,7 @@ use Rattle.canon_handles.specs.Step.{refuse_if, and_then, put}
 use Rattle.canon_handles.specs.declared.handle.Entry.{Entry}
 use Rattle.canon_handles.specs.Table.{entry_at, empty_table, max_handle}
 use Rattle.canon_resources.specs.Handles as handles
+use Rattle.canon_resources.specs.Index.{GivenIndex}
 use Rattle.canon_resources.specs.Handles.{Handles, Answer, host_table, table_at}
 
 -- slots has what the host remembers of each index that its table gave, and generation is the current one
@@ -21,15 +22,6 @@ pub record HostIndexes : Type 0 where
 pub record LedgerState : Type 0 where
   pub handles : Handles
   pub host : HostIndexes
-
--- an index of the host's table, with the generation in which it was given
-pub record HostResourceIndex : Type 0 where
-  pub index : ℕ
-  pub generation : ℕ
-
--- as one number of 64 bits
-abbrev pub packed : HostResourceIndex → ℕ
-packed x = x.index + x.generation * 2 ^ 32
 
 -- what a call answers, and the ledger after it
 pub record Done (A : Type 0) : Type 0 where
@@ -47,7 +39,7 @@ slot_is_stale None generation = false
 slot_is_stale (Some slot) generation = not (slot.generation == generation)
 
 -- the index was given again since
-abbrev pub is_stale : HostIndexes → HostResourceIndex → Bool
+abbrev pub is_stale : HostIndexes → GivenIndex → Bool
 is_stale host x = slot_is_stale (slot_at host x.index) x.generation
 
 -- an insertion at index i
@@ -120,10 +112,10 @@ abbrev pub unless_stale : {A : Type 0} → LedgerState → Bool → Done A → D
 unless_stale l true d = refused fault.HostDeallocated l
 unless_stale l false d = d
 
-abbrev pub host_resource_lift_own : LedgerState → HostResourceIndex → Done ℕ
+abbrev pub host_resource_lift_own : LedgerState → GivenIndex → Done ℕ
 host_resource_lift_own l x = unless_stale l (is_stale l.host x) (resource_lift_own l host_table (HostIndex x.index))
 
-abbrev pub host_resource_lift_borrow : Option ℕ → LedgerState → HostResourceIndex → Done ℕ
+abbrev pub host_resource_lift_borrow : Option ℕ → LedgerState → GivenIndex → Done ℕ
 host_resource_lift_borrow scope l x = unless_stale l (is_stale l.host x) (resource_lift_borrow scope l host_table (HostIndex x.index))
 
 -- a removed own handle's representation, with what the host remembers of its index
@@ -135,18 +127,34 @@ with_its_slot None rep = None
 abbrev pub with_slot_answered : Option TableSlot → Done (Option ℕ) → Done (Option (ℕ × TableSlot))
 with_slot_answered s d = record { answer = and_then d.answer (λ rep. Ok (with_its_slot s rep)); after = d.after }
 
-abbrev pub host_resource_drop : LedgerState → HostResourceIndex → Done (Option (ℕ × TableSlot))
+abbrev pub host_resource_drop : LedgerState → GivenIndex → Done (Option (ℕ × TableSlot))
 host_resource_drop l x = unless_stale l (is_stale l.host x) (with_slot_answered (slot_at l.host x.index) (resource_drop l host_table (HostIndex x.index)))
 
-abbrev pub slot : LedgerState → HostResourceIndex → Result (Option TableSlot) ResourceFault
+-- what f makes of the answer
+abbrev pub mapped : {A B : Type 0} → (A → B) → Done A → Done B
+mapped f d = record { answer = and_then d.answer (λ a. Ok (f a)); after = d.after }
+
+-- where the handle's representation was told, the handle is removed
+abbrev pub removed_once_told : Result ℕ ResourceFault → LedgerState → GivenIndex → Done ℕ
+removed_once_told (Ok rep) l x = mapped (λ _. rep) (host_resource_drop l x)
+removed_once_told (Err e) l x = refused e l
+
+-- a handle is removed, and its representation is told first, which changes nothing
+abbrev pub host_resource_remove : LedgerState → GivenIndex → Done ℕ
+host_resource_remove l x = unless_stale l (is_stale l.host x) (removed_once_told (resource_rep l host_table (HostIndex x.index)) l x)
+
+abbrev pub slot : LedgerState → GivenIndex → Result (Option TableSlot) ResourceFault
 slot l x = refuse_if (is_stale l.host x) fault.HostDeallocated (Ok (slot_at l.host x.index))
 
--- the insertion's index, with the current generation
 abbrev pub host_resource_lower_own : LedgerState → ℕ → Option ℕ → Option ℕ → Done ℕ
 host_resource_lower_own l rep dtor instance = inserting host_table instance dtor (handles.resource_new l.handles host_table (Host rep)) l
 
 abbrev pub host_resource_lower_borrow : Option ℕ → LedgerState → ℕ → Done ℕ
 host_resource_lower_borrow scope l rep = resource_lower_borrow scope l host_table (Host rep)
+
+-- an insertion's index, with the generation before it, in which it is given
+abbrev pub given : LedgerState → Done ℕ → Done GivenIndex
+given l d = record { answer = and_then d.answer (λ i. Ok (record { index = i; generation = l.host.generation })); after = d.after }
 
 -- Lists of steps
 
@@ -162,9 +170,9 @@ pub data Call : Type 0 where
   LiftBorrow : Option ℕ → ℕ → TypedResourceIndex → Call
   LowerBorrow : Option ℕ → ℕ → TypedResource → Call
   ExitScope : Option ℕ → Call
-  HostLiftOwn : HostResourceIndex → Call
-  HostLiftBorrow : Option ℕ → HostResourceIndex → Call
-  HostDrop : HostResourceIndex → Call
+  HostLiftOwn : GivenIndex → Call
+  HostLiftBorrow : Option ℕ → GivenIndex → Call
+  HostDrop : GivenIndex → Call
   HostLowerOwn : ℕ → Option ℕ → Option ℕ → Call
   HostLowerBorrow : Option ℕ → ℕ → Call
 
@@ -245,7 +253,7 @@ abbrev pub host_entry : LedgerState → ℕ → Option Entry
 host_entry l i = entry_at (table_at l.handles host_table) i
 
 -- an index that an access takes, and at which there is an entry
-pub record IsAccepted (x : HostResourceIndex) (l : LedgerState) : Type 0 where
+pub record IsAccepted (x : GivenIndex) (l : LedgerState) : Type 0 where
   pub current : is_stale l.host x ≡ false
   pub stands : is_some (host_entry l x.index) ≡ true
 

@@ -1,5 +1,7 @@
 pub mod Books
 pub mod Handles
+pub mod Index
 pub mod Laws
 pub mod Ledger
 pub mod Owed
+pub mod Places

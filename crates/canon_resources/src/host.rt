@@ -40,7 +40,7 @@ impl Model for HostResourceData {
 impl HostResourceData {
     ghost use Rattle.canon_handles.specs.Step.{refuse_if};
     ghost use Rattle.std.specs.Prelude.{Ok, nat_le, if◌then◌else◌};
-    ghost use Rattle.canon_resources.specs.Ledger.{last_generation, raised, with_slot};
+    ghost use Rattle.canon_resources.specs.Ledger.{last_generation, raised, slot_at, with_slot};
     ghost use Rattle.canon_resources.specs.Books.{is_spent, no_indexes, raised_at, written_at};
     ghost use Rattle.canon_resources.specs.declared.fault.ResourceFault.TheVariants.{GenerationExhausted};
 
@@ -60,6 +60,24 @@ impl HostResourceData {
             slots: Vec::new(alloc),
             generation,
         }
+    }
+
+    /// The current generation.
+    pub(crate) fn generation(&self) -> u32
+        ensures { result ≡ self.now.indexes.generation }
+    {
+        self.generation
+    }
+
+    /// The slot of an index, if it has one.
+    pub(crate) fn slot(&self, index: u32) -> Option<TableSlot>
+        ensures { result ≡ slot_at self.now.indexes index }
+    {
+        let slots = &self.slots;
+        if index == 0 {
+            return None;
+        }
+        slots.get(index as usize - 1).copied()
     }
 
     /// Makes room for one slot.

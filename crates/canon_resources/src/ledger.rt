@@ -5,17 +5,18 @@ ghost use Rattle.canon_handles.specs.declared.handle.Scope.TheVariants.{Id};
 ghost use Rattle.canon_resources.specs.Handles as handles;
 ghost use Rattle.canon_resources.specs.Handles.{can_leave, host_table, number_of, scope_at, top_scope};
 ghost use Rattle.canon_handles.specs.Table.{empty_table, max_handle};
-ghost use Rattle.canon_resources.specs.Ledger.{Did, enter, leave, new_ledger, resource_drop, resource_lift_borrow, resource_lift_own, resource_lower_borrow, resource_new, resource_rep, set_limit, validate_scope_exit};
+ghost use Rattle.canon_resources.specs.Ledger.{Did, enter, host_resource_lower_own, is_stale, slot_at, leave, new_ledger, resource_drop, resource_lift_borrow, resource_lift_own, resource_lower_borrow, resource_new, resource_rep, set_limit, validate_scope_exit};
 ghost use Rattle.canon_resources.specs.Books.{scope_number, DidSurely, IsOpen};
 
 use crate::context::CallContext;
 use crate::fault::ResourceFault;
 use crate::handles::{StoreHandles, number_of};
-use crate::host::HostResourceData;
+use crate::host::{HostResourceData, TableSlot};
+use crate::index::HostResourceIndex;
 use canon_handles::{
     CurrentScope, HandleCounter, HandleTable, Scope, TypedResource, TypedResourceIndex,
 };
-use canon_types::OutOfMemory;
+use canon_types::{OutOfMemory, RuntimeInstance};
 use std::alloc::Global;
 use std::marker::Model;
 
@@ -200,6 +201,48 @@ impl Ledger {
         }
         let index = self.handles.insert_borrow(table, resource, number)?;
         self.host.write_at(table, index);
+        Ok(index)
+    }
+
+    /// The generation in which the next index of the host's table is given.
+    pub(crate) fn generation(&self) -> u32
+        ensures { result ≡ self.now.host.generation }
+    {
+        self.host.generation()
+    }
+
+    /// What the host keeps of an index of its table.
+    pub(crate) fn slot(&self, index: u32) -> Option<TableSlot>
+        ensures { result ≡ slot_at self.now.host index }
+    {
+        self.host.slot(index)
+    }
+
+    /// Whether an index of the host's table was given again since.
+    pub(crate) fn is_stale(&self, index: &HostResourceIndex) -> bool
+        ensures { result ≡ is_stale self.now.host index.now }
+    {
+        match self.slot(index.index()) {
+            None => false,
+            Some(slot) => slot.generation != index.generation(),
+        }
+    }
+
+    /// A new own handle of the host, with what the host keeps of its index.
+    pub(crate) fn host_lower_own(
+        &mut self,
+        rep: u32,
+        dtor: Option<u32>,
+        instance: Option<RuntimeInstance>,
+    ) -> Result<u32, ResourceFault>
+        ensures { Did (host_resource_lower_own self.old rep dtor instance) result self.old self.new }
+    {
+        if self.host.reserve().is_err() {
+            return Err(ResourceFault::OutOfMemory);
+        }
+        let table = self.host_table();
+        let index = self.handles.insert_own(table, TypedResource::Host(rep))?;
+        self.host.write(index, instance, dtor);
         Ok(index)
     }
 

@@ -1,6 +1,7 @@
 pub mod Depth
-pub mod Table
+pub mod Instance
+pub mod Keeps
 pub mod Laid
 pub mod Refusal
-pub mod Keeps
-pub mod Instance
+pub mod Resource
+pub mod Table

@@ -2,7 +2,7 @@ ghost use Rattle.std.specs.Prelude.{◌≡◌, ℕ};
 ghost use Rattle.canon_table.specs.Table.{Table};
 ghost use Rattle.canon_table.specs.Instance.{Instance};
 
-use crate::{ComponentTypes, StoreId};
+use crate::{ComponentTypes, ResourceKind, ResourceType, StoreId, TypeResourceTableIndex};
 use std::marker::Model;
 
 /// A component's types in a store. Contracts see the table and the store's number.
@@ -19,6 +19,10 @@ impl Model for InstanceType {
 }
 
 impl InstanceType {
+    ghost use Rattle.std.specs.Prelude.{Some};
+    ghost use Rattle.canon_table.specs.Table.{HasResource};
+    ghost use Rattle.canon_table.specs.Resource.{resource_type_at};
+
     pub fn new(types: ComponentTypes, store: StoreId) -> Self
         ensures types { result.types ≡ types }
         ensures store { result.store ≡ store }
@@ -30,5 +34,19 @@ impl InstanceType {
         ensures { result.now ≡ self.now.types }
     {
         &self.types
+    }
+
+    /// The type of a resource, by its table: the host's type of its number, or the one that the
+    /// instance defines in this store.
+    pub fn resource_type(&self, t: TypeResourceTableIndex) -> ResourceType
+        requires { HasResource self.now.types t }
+        ensures { resource_type_at self.now t ≡ Some result }
+    {
+        let table = self.types.resource_table(t);
+        match table.kind {
+            ResourceKind::Host(id) => ResourceType::Host(id),
+            ResourceKind::HostDynamic(payload) => ResourceType::HostDynamic(payload),
+            ResourceKind::Guest { id, .. } => ResourceType::guest(self.store, table.instance, id),
+        }
     }
 }

@@ -3,6 +3,7 @@
 
 mod error;
 mod instance;
+mod resource;
 mod table;
 mod types;
 
@@ -16,6 +17,7 @@ pub use canon_types::{
 };
 pub use error::TypeError;
 pub use instance::InstanceType;
+pub use resource::{HostType, ResourceType};
 pub use table::{ComponentTypes, TypeBuilder};
 pub use types::{
     InterfaceType, RecordField, ResourceKind, TypeEnum, TypeFixedLengthList, TypeFlags, TypeFunc,

@@ -1,6 +1,6 @@
-use Rattle.std.proofs.Common.{◌≡◌, ◌+◌, List, [], drop, ap, sym, subst, refl, ◌∙◌, arith, length}
+use Rattle.std.proofs.Common.{◌+◌, [], drop, ap, sym, subst, refl, ◌∙◌, arith}
 use Rattle.canon_resources.specs.Handles.{give_back}
-use Rattle.canon_resources.specs.Books.{Context, handles_of}
+use Rattle.canon_resources.specs.Books.{handles_of}
 use Rattle.canon_resources.specs.Owed.{IsOwed}
 use Rattle.canon_resources.proofs.OwedLemmas.{first_left, table_within, held_counted, lent_there, owed_after, rest_after, nothing_left}
 use Rattle.canon_resources.proofs.handles.give_back.Goals as goal

@@ -1,8 +1,6 @@
 use Rattle.std.proofs.Common.{drop}
-use Rattle.std.proofs.Common.{◌≡◌, ◌<◌, ◌≤◌, ◌+◌, OnErr, OnOk, length, map, List, Some, ℕ, [], ◌++◌, ◌∷◌, take, ◌-◌, slice_index_or, ◌*◌}
-use Rattle.canon_handles.specs.Table.{Table, entry_at}
-use Rattle.canon_resources.specs.Handles as handles
-use Rattle.canon_resources.specs.Handles.{fault_at, at_index, give_back, no_scope, table_at, OpenScope, IsSound, Takes, TakesSurely, number_of, scope_at, inserting_borrow, lending, names_borrow, removing_resource}
+use Rattle.std.proofs.Common.{◌≡◌, List, []}
+use Rattle.canon_resources.specs.Handles.{give_back}
 use Rattle.canon_resources.specs.Books.{Context, handles_of}
 use Rattle.canon_resources.specs.Owed.{IsOwed}
 use Rattle.canon_resources.proofs.handles.give_back.Given as goal

@@ -1,5 +1,4 @@
-use Rattle.std.proofs.Common.{rules, ◌≡◌, ◌<◌, ◌+◌, ◌-◌, ◌^◌, OnOk, length, map, slice_get, Some, ◌++◌, ◌∷◌, [], ℕ, ◌*◌, ◌≤◌, ◌/◌, ◌%◌, Bool, true, false, nat_eq, nat_lt, List, slice_index_or, slice_set, bit_and, bit_or, Fits, w8, w32, w64, Bor, MutBor}
-use Rattle.canon_resources.specs.Handles.{no_scope, is_empty_scope, one_lender_more, one_borrow_more, one_borrow_less}
+use Rattle.std.proofs.Common.{length}
 use Rattle.std.proofs.Common.{arith, ap}
 use Rattle.canon_resources.specs.Books.{Context}
 use Rattle.canon_resources.proofs.context.CallContext.lender.Goals as goal

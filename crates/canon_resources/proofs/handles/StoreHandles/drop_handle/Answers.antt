@@ -1,7 +1,6 @@
-use Rattle.std.proofs.Common.{◌≡◌, arith, length, Ok, ap, ◌∙◌}
+use Rattle.std.proofs.Common.{arith, Ok, ap, ◌∙◌}
 use Rattle.std.proofs.lemmas.List.{length-map}
 use Rattle.canon_handles.specs.declared.handle.RemovedResource.{RemovedResource}
-use Rattle.canon_resources.specs.Handles.{Handles}
 use Rattle.canon_resources.specs.Books.{Context, handles_of}
 use Rattle.canon_resources.proofs.ScopeLemmas.{removed_counts}
 use Rattle.canon_resources.proofs.handles.StoreHandles.drop_handle.Goals as goal

@@ -1,4 +1,4 @@
-use Rattle.std.proofs.Common.{◌≡◌, arith, List, length, Ok, ap, ◌∙◌, ℕ, ◌+◌, ◌<◌, sym, subst}
+use Rattle.std.proofs.Common.{◌≡◌, arith, List, length, Ok, ap, ◌∙◌, ℕ, ◌<◌, sym, subst}
 use Rattle.canon_handles.specs.Step.{and_then}
 use Rattle.canon_resources.specs.Handles.{Handles, Answer, OpenScope, borrow_added, one_borrow_more, scope_at}
 use Rattle.canon_resources.specs.Books.{Context, handles_of}

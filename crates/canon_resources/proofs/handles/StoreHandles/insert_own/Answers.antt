@@ -1,9 +1,3 @@
-use Rattle.std.proofs.Common.{rules, ◌≡◌, ◌<◌, ◌≤◌, ◌+◌, OnErr, OnOk, length, map, List, Some, ℕ, [], ◌++◌, ◌∷◌, take, ◌-◌, ◌*◌, ◌/◌, ◌%◌, Bool, true, false, nat_eq, nat_lt, slice_index_or, slice_set, bit_and, bit_or, Fits, w8, w32, w64, Bor, MutBor}
-use Rattle.canon_handles.specs.Table.{Table, entry_at}
-use Rattle.canon_resources.specs.Handles as handles
-use Rattle.canon_resources.specs.Handles.{fault_at, at_index, give_back, no_scope, table_at, OpenScope, IsSound, Takes, TakesSurely}
-use Rattle.canon_resources.specs.Books.{handles_of}
-use Rattle.canon_resources.specs.Owed.{IsOwed}
 use Rattle.canon_handles.specs.Calls.{resource_own_insert}
 use Rattle.canon_resources.proofs.handles.StoreHandles.insert_own.Goals as goal
 use Rattle.canon_resources.proofs.BooksLemmas.{held_le, taken}

@@ -1,8 +1,3 @@
-use Rattle.std.proofs.Common.{rules, ◌≡◌, ◌≤◌, ◌<◌, OnOk, length, Ok, nat_le, if◌then◌else◌, ℕ, ◌+◌, ◌-◌, ◌*◌, ◌/◌, ◌%◌, Bool, true, false, nat_eq, nat_lt, List, [], ◌∷◌, ◌++◌, slice_index_or, slice_set, bit_and, bit_or, Fits, w8, w32, w64, Bor, MutBor}
-use Rattle.canon_handles.specs.Step.{refuse_if}
-use Rattle.canon_resources.specs.Ledger.{last_generation, raised, with_slot}
-use Rattle.canon_resources.specs.Books.{no_indexes}
-use Rattle.canon_resources.specs.declared.fault.ResourceFault.TheVariants.{GenerationExhausted}
 use Rattle.std.proofs.Common.{ap, arith}
 use Rattle.canon_resources.specs.Books.{KeptIndexes}
 use Rattle.canon_resources.proofs.host.HostResourceData.write.Goals as goal

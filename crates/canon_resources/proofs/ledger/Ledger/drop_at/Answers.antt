@@ -1,6 +1,4 @@
-use Rattle.std.proofs.Common.{◌≡◌, ◌∙◌, sym, ap, arith, length}
-use Rattle.canon_resources.specs.Ledger.{LedgerState}
-use Rattle.canon_resources.specs.Books.{handles_of, ledger_of, written_at}
+use Rattle.canon_resources.specs.Books.{handles_of, ledger_of}
 use Rattle.canon_resources.proofs.HoldsLemmas.{kept_drop}
 use Rattle.canon_resources.proofs.ledger.Ledger.drop_at.Goals as goal
 

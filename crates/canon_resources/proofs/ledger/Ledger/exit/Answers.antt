@@ -1,6 +1,6 @@
-use Rattle.std.proofs.Common.{◌≡◌, ◌∙◌, sym, ap, arith, length}
+use Rattle.std.proofs.Common.{ap, arith, length}
 use Rattle.canon_resources.specs.Ledger.{LedgerState}
-use Rattle.canon_resources.specs.Books.{handles_of, ledger_of, written_at}
+use Rattle.canon_resources.specs.Books.{handles_of, ledger_of}
 use Rattle.canon_resources.proofs.HoldsLemmas.{kept_exit}
 use Rattle.canon_resources.proofs.ledger.Ledger.exit.Goals as goal
 

@@ -1,4 +1,4 @@
-use Rattle.std.proofs.Common.{◌≡◌, true, ap, ◌∙◌, arith, ◌-◌}
+use Rattle.std.proofs.Common.{ap, ◌∙◌, arith, ◌-◌}
 use Rattle.std.specs.Vec.{vec_len}
 use Rattle.canon_resources.specs.Handles.{can_leave}
 use Rattle.canon_resources.specs.Ledger.{LedgerState}

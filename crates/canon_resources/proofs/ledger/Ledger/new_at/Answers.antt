@@ -1,5 +1,4 @@
-use Rattle.std.proofs.Common.{◌≡◌, ◌∙◌, sym, ap, arith, length}
-use Rattle.canon_resources.specs.Ledger.{LedgerState}
+use Rattle.std.proofs.Common.{◌∙◌, sym, ap}
 use Rattle.canon_resources.specs.Books.{handles_of, ledger_of, written_at}
 use Rattle.canon_resources.proofs.HoldsLemmas.{kept_new, new_slot_given}
 use Rattle.canon_resources.proofs.ledger.Ledger.new_at.Goals as goal

@@ -1,0 +1,4 @@
+pub mod Conversions
+pub mod Held
+pub mod TypeLaws
+pub mod Types

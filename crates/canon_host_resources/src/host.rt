@@ -1,0 +1,201 @@
+//! A resource that the host implements.
+
+ghost use Rattle.std.specs.Prelude.{◌≡◌};
+ghost use Rattle.canon_resources.specs.Books.{DidSurely, IsOpen};
+ghost use Rattle.canon_resources.specs.Places.{SamePlaces};
+
+use crate::any::{ResourceAny, ResourceAnyHandle};
+use crate::conversion::into_any;
+use canon_resources::{HostResourceIndex, HostResourceTables, ResourceFault};
+use canon_table::ResourceType;
+use std::fmt;
+use std::fmt::{Debug, Formatter};
+use std::marker::{Model, PhantomData};
+
+/// Where the handle of a host resource is.
+#[derive(Clone, Copy, Debug, PartialEq, Eq)]
+pub enum ResourceState {
+    /// It is a borrow, without a handle of its own.
+    Borrow,
+    /// It is owned, and in no table yet.
+    NotInTable,
+    /// It was owned, and was given away.
+    Taken,
+    /// It is owned, and has this index in the host's table.
+    Index(HostResourceIndex),
+}
+
+/// A kind of host resources: the resource types that belong to it, each told by a `D`.
+pub trait HostResourceType<D> {
+    ghost use Rattle.std.specs.Prelude.{◌≡◌, Option, Some};
+    ghost use Rattle.canon_table.specs.declared.resource.ResourceType.{ResourceType as Kind};
+
+    ghost checked: { Kind → Option D };
+
+    ghost type_of: { D → Kind };
+
+    /// What tells a resource type, where it is one of this kind.
+    fn typecheck(ty: ResourceType) -> Option<D>
+        ensures { result ≡ checked ty };
+
+    /// The resource type that is told so.
+    fn resource_type(d: D) -> ResourceType
+        ensures { result ≡ type_of d };
+
+    ghost its_types_pass: { (d : D) → checked (type_of d) ≡ Some d };
+
+    ghost no_others_pass: { (ty : Kind) (d : D) → checked ty ≡ Some d → ty ≡ type_of d };
+}
+
+/// A resource of a kind `T`, whose type a `D` tells. Its representation is a number of the host's.
+#[derive(Drop)]
+pub struct HostResource<T, D> {
+    rep: u32,
+    ty: D,
+    state: ResourceState,
+    kind: PhantomData<T>,
+}
+
+impl<T, D> Model for HostResource<T, D> {
+    ghost use Rattle.canon_host_resources.specs.Held.{Held};
+
+    ghost Value = { Held D };
+
+    ghost view = { λ r. record { rep = r.rep; ty = r.ty; state = r.state } };
+}
+
+impl<T: HostResourceType<D>, D: Copy> HostResource<T, D> {
+    ghost use Rattle.canon_host_resources.specs.Held.{held, is_owned};
+    ghost use Rattle.canon_host_resources.specs.Conversions.{Converted, from_any, into_any};
+    ghost use Rattle.canon_host_resources.specs.declared.host.ResourceState.TheVariants as state;
+
+    /// An own handle of the host that is in no table yet.
+    pub fn new_own(rep: u32, ty: D) -> Self
+        ensures { result ≡ held state.NotInTable rep ty }
+    {
+        HostResource {
+            rep,
+            ty,
+            state: ResourceState::NotInTable,
+            kind: PhantomData,
+        }
+    }
+
+    /// A borrow of a representation.
+    pub fn new_borrow(rep: u32, ty: D) -> Self
+        ensures { result ≡ held state.Borrow rep ty }
+    {
+        HostResource {
+            rep,
+            ty,
+            state: ResourceState::Borrow,
+            kind: PhantomData,
+        }
+    }
+
+    /// The representation.
+    pub fn rep(&self) -> u32
+        ensures { result ≡ self.now.rep }
+    {
+        self.rep
+    }
+
+    /// What tells its type.
+    pub fn ty(&self) -> D
+        ensures { result ≡ self.now.ty }
+    {
+        self.ty
+    }
+
+    /// Whether it is no borrow.
+    pub fn owned(&self) -> bool
+        ensures { result ≡ is_owned self.now.state }
+    {
+        match self.state {
+            ResourceState::Borrow => false,
+            ResourceState::NotInTable | ResourceState::Taken | ResourceState::Index(_) => true,
+        }
+    }
+
+    /// Where its handle is.
+    pub fn state(&self) -> ResourceState
+        ensures { result ≡ self.now.state }
+    {
+        self.state
+    }
+
+    /// It was given away.
+    pub fn take(&mut self)
+        requires { self.old.state ≡ state.NotInTable }
+        ensures { self.new ≡ held state.Taken self.old.rep self.old.ty }
+    {
+        self.state = ResourceState::Taken;
+    }
+
+    /// It was put into the host's table at this index.
+    pub fn place(&mut self, idx: HostResourceIndex)
+        requires { self.old.state ≡ state.NotInTable }
+        ensures { self.new ≡ held (state.Index idx) self.old.rep self.old.ty }
+    {
+        self.state = ResourceState::Index(idx);
+    }
+
+    /// The resource as one that tells its type by its value. One that is in no table is put into the
+    /// host's. After a refusal the value is gone and the tables are unchanged.
+    pub fn try_into_resource_any(
+        self,
+        tables: &mut HostResourceTables<'_>,
+    ) -> Result<ResourceAny, ResourceFault>
+        requires scope_open { IsOpen tables.old.tables.current_scope tables.old.tables.ledger.now }
+        ensures same_reference { tables.new.tables.ledger.ghost_name ≡ tables.old.tables.ledger.ghost_name }
+        ensures same_types { tables.new.tables.types ≡ tables.old.tables.types }
+        ensures same_scope { tables.new.tables.current_scope ≡ tables.old.tables.current_scope }
+        ensures step { Converted self.state (into_any self.state self.rep (T.type_of self.ty) tables.old.tables.ledger.now) result tables.old.tables.ledger.now tables.new.tables.ledger.now }
+        ensures places { SamePlaces tables.old.tables.ledger.now tables.new.tables.ledger.now }
+    {
+        into_any(self.state, self.rep, T::resource_type(self.ty), tables)
+    }
+
+    /// A resource of any type as one of this kind, out of the host's table.
+    pub(crate) fn try_from_resource_any(
+        resource: ResourceAny,
+        tables: &mut HostResourceTables<'_>,
+    ) -> Result<Self, ResourceFault>
+        requires scope_open { IsOpen tables.old.tables.current_scope tables.old.tables.ledger.now }
+        ensures same_reference { tables.new.tables.ledger.ghost_name ≡ tables.old.tables.ledger.ghost_name }
+        ensures same_types { tables.new.tables.types ≡ tables.old.tables.types }
+        ensures same_scope { tables.new.tables.current_scope ≡ tables.old.tables.current_scope }
+        ensures step { DidSurely (from_any (T.checked resource.ty) resource.handle tables.old.tables.ledger.now) result tables.new.tables.ledger.now }
+        ensures places { SamePlaces tables.old.tables.ledger.now tables.new.tables.ledger.now }
+    {
+        let Some(ty) = T::typecheck(resource.ty()) else {
+            return Err(ResourceFault::ResourceTypeMismatch);
+        };
+        match resource.handle() {
+            ResourceAnyHandle::Own(idx) => {
+                let rep = tables.host_resource_lift_own(idx)?;
+                Ok(HostResource::new_own(rep, ty))
+            }
+            ResourceAnyHandle::Borrow(idx) => {
+                let rep = tables.host_resource_remove(idx)?;
+                Ok(HostResource::new_borrow(rep, ty))
+            }
+            ResourceAnyHandle::Synthetic(rep) => Ok(HostResource::new_borrow(rep, ty)),
+        }
+    }
+}
+
+impl<T, D> Debug for HostResource<T, D> {
+    fn fmt<W: fmt::Write>(&self, f: &mut Formatter<W>) -> fmt::Result {
+        let state = match self.state {
+            ResourceState::Borrow => "borrow",
+            ResourceState::NotInTable => "own (not in table)",
+            ResourceState::Taken => "taken",
+            ResourceState::Index(_) => "own",
+        };
+        f.debug_struct("Resource")
+            .field("rep", &self.rep)
+            .field("state", &state)
+            .finish()
+    }
+}
