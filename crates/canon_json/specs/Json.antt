@@ -1,7 +1,7 @@
 -- How JSON values are read: objects of so many members, arrays item by item, numbers.
-use Rattle.std.specs.Prelude.{◌≡◌, ℕ, suc, ◌^◌, ◌==◌, List, [], ◌∷◌, Bool, true, false, nat_lt, if◌then◌else◌, Option, None, Some, Result, Ok, Err, option_map, option_and_then}
+use Rattle.std.specs.Prelude.{◌≡◌, ℕ, suc, ◌^◌, ◌==◌, List, [], ◌∷◌, Bool, false, nat_lt, if◌then◌else◌, Option, None, Some, Result, Ok, Err, option_map, option_and_then}
 use Rattle.serde_json.specs.Data.{Data, Items, no_items, item, Members, no_members, member}
-use Rattle.serde_json.specs.Find.{as_number, as_array, as_object, as_u64}
+use Rattle.serde_json.specs.Find.{as_number, as_array, as_u64}
 use Rattle.canon_json.specs.declared.error.ScriptError.{ScriptError}
 use Rattle.canon_json.specs.declared.error.ScriptError.TheVariants as refused
 

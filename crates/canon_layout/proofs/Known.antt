@@ -1,5 +1,5 @@
 -- What a script lists is known to its table, which has no more functions than a table may have.
-use Rattle.std.proofs.Common.{◌≡◌, ◌≤◌, ◌+◌, ◌++◌, ℕ, zero, suc, List, [], ◌∷◌, length, IsTrue, if◌then◌else◌, codes, Bool, true, false, nat_lt, Option, None, Some, refl, ap, sym, subst, ◌∙◌, arith, append_assoc, length-append, max, option_and_then, option_map}
+use Rattle.std.proofs.Common.{◌≡◌, ◌≤◌, ◌+◌, ◌++◌, zero, suc, List, [], ◌∷◌, length, IsTrue, if◌then◌else◌, codes, Bool, true, false, nat_lt, Option, None, Some, refl, sym, subst, arith, append_assoc, length-append, max, option_and_then, option_map}
 use Rattle.std.proofs.lemmas.List.Elements.{All-append}
 use Rattle.std.proofs.lemmas.Bool.{ltb-false}
 use Rattle.std.specs.List.{All}
@@ -17,7 +17,6 @@ use Rattle.canon_table.specs.declared.error.TypeError.{TypeError}
 use Rattle.canon_table.specs.declared.error.TypeError.TheVariants as error
 use Rattle.canon_table.specs.declared.types.InterfaceType.{InterfaceType}
 use Rattle.canon_table.specs.declared.types.InterfaceType.TheVariants as ty
-use Rattle.canon_table.specs.declared.types.TypeFunc.{TypeFunc}
 use Rattle.canon_table.specs.declared.types.TypeResourceTable.{TypeResourceTable}
 use Rattle.canon_layout.specs.Asked.{Listed, add_entry, add_func, add_resource, grown, layout_of, listed, members_there, so_far, type_at, types_of, types_over, unless, with_entry, with_funcs, with_parts, with_resource}
 use Rattle.canon_layout.specs.Entries.{Entry, FuncParts, defines, entry_of, func_of, handle, resource_of}

@@ -1,11 +1,11 @@
 -- One member of a row is passed: where it begins and ends, and what is printed of it.
-use Rattle.std.proofs.Common.{◌≡◌, ◌<◌, ◌≤◌, ◌^◌, ◌+◌, ◌++◌, ℕ, zero, suc, List, [], ◌∷◌, map, length, drop, drop-cons, slice_index_or, false, string_bytes, refl, ap, sym, subst, ◌∙◌, arith, append_assoc}
+use Rattle.std.proofs.Common.{◌≡◌, ◌<◌, ◌^◌, ◌+◌, ◌++◌, ℕ, zero, suc, List, [], ◌∷◌, map, length, drop, drop-cons, slice_index_or, false, string_bytes, ap, sym, subst, ◌∙◌, arith, append_assoc}
 use Rattle.std.proofs.lemmas.List.Elements.{All-tail}
 use Rattle.std.specs.List.{All}
 use Rattle.std.specs.Fmt.{decimal}
 use Rattle.canon_abi.specs.Abi.{HasLayout}
 use Rattle.canon_abi.specs.declared.abi.CanonicalAbiInfo.{CanonicalAbiInfo}
-use Rattle.canon_model.specs.Layout.{align, align_to, begins, ends, members_end, size}
+use Rattle.canon_model.specs.Layout.{align_to, begins, ends, members_end, size}
 use Rattle.canon_model.specs.Shape.{Members, Name, ProductKind, Shape, member, product}
 use Rattle.canon_model.proofs.Layouts.{members_end-le, members_end-le-size}
 use Rattle.canon_table.proofs.Laid.{told_below}

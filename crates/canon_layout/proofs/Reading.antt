@@ -1,5 +1,5 @@
 -- Types by their names and numbers.
-use Rattle.std.proofs.Common.{◌≡◌, ℕ, List, Bool, true, false, Option, None, Some, is_some, slice_get, option_map, option_and_then, refl, ap}
+use Rattle.std.proofs.Common.{◌≡◌, ℕ, List, true, false, None, Some, is_some, slice_get, option_map, option_and_then, refl, ap}
 use Rattle.serde_json.specs.Data.{Data, null, boolean, number, string, array, object}
 use Rattle.serde_json.specs.Find.{as_null, as_number, as_str, as_u64}
 use Rattle.canon_table.specs.declared.types.InterfaceType.{InterfaceType}

@@ -1,6 +1,6 @@
 -- Which table of types a JSON value asks for.
-use Rattle.std.specs.Prelude.{ℕ, ◌+◌, List, [], ◌∷◌, ◌++◌, length, Bool, if◌then◌else◌, codes, Option, None, Some, option_map, option_and_then}
-use Rattle.serde_json.specs.Data.{Data, Items, no_items}
+use Rattle.std.specs.Prelude.{ℕ, ◌+◌, List, [], ◌∷◌, ◌++◌, length, if◌then◌else◌, codes, Option, None, Some, option_map, option_and_then}
+use Rattle.serde_json.specs.Data.{Data, Items}
 use Rattle.serde_json.specs.Find.{get, as_array, as_object}
 use Rattle.canon_json.specs.Json.{has_len, items_of, onward, there}
 use Rattle.canon_table.specs.Refusal.{empty_table, func_refusal, refusal, resource_refusal, with_definition, with_func}

@@ -1,5 +1,5 @@
 -- What a JSON value says of a type, of a function and of a resource.
-use Rattle.std.specs.Prelude.{ℕ, ◌+◌, List, [], ◌∷◌, Bool, true, false, nat_eq, if◌then◌else◌, codes, slice_get, Option, None, Some, option_map, option_and_then}
+use Rattle.std.specs.Prelude.{ℕ, ◌+◌, List, Bool, true, false, nat_eq, if◌then◌else◌, codes, slice_get, Option, None, Some, option_map, option_and_then}
 use Rattle.std.specs.List.{find}
 use lib.Pointwise.{pointwise}
 use Rattle.serde_json.specs.Data.{Data, null, boolean, number, string, array, object}

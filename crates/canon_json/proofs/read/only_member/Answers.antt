@@ -1,5 +1,4 @@
-use Rattle.std.proofs.Common.{◌≡◌, length, List, ℕ, Option, Some, option_and_then, ap, sym, ◌∙◌}
-use Rattle.serde_json.specs.Data.{Data}
+use Rattle.std.proofs.Common.{◌≡◌, length, List, ℕ, Some, option_and_then, ap, sym, ◌∙◌}
 use Rattle.serde_json.specs.View.{view}
 use Rattle.canon_json.specs.Json as spec
 use Rattle.canon_json.proofs.JsonViews.{only_member_first, only_member_of_none}
