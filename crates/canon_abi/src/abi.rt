@@ -9,6 +9,9 @@ const MAX_SIZE: u64 = 0xffff_ffff;
 /// The most words that are passed flat (CanonicalABI.md, MAX_FLAT_PARAMS).
 pub const MAX_FLAT_PARAMS: u8 = 16;
 
+/// The most words that results take in a row (CanonicalABI.md, MAX_FLAT_RESULTS).
+pub const MAX_FLAT_RESULTS: u8 = 1;
+
 /// How a type lies in memory and in words (CanonicalABI.md, "Alignment", "Element Size", "Flattening").
 #[derive(Clone, Copy, Debug, PartialEq, Eq)]
 pub struct CanonicalAbiInfo {

@@ -6,5 +6,5 @@ mod sizes;
 #[cfg(test)]
 mod tests;
 
-pub use abi::{CanonicalAbiInfo, MAX_FLAT_PARAMS, VariantInfo};
+pub use abi::{CanonicalAbiInfo, MAX_FLAT_PARAMS, MAX_FLAT_RESULTS, VariantInfo};
 pub use sizes::{DiscriminantSize, FlagsSize};

@@ -5,9 +5,9 @@ use Rattle.canon_model.specs.Flat.{max_params}
 use Rattle.canon_model.specs.Layout.{members_flat}
 use Rattle.canon_scalars.specs.Table.{IsOver, Table, param_members, result_members, types_of}
 use Rattle.canon_scalars.specs.declared.table.TypeFunc.{TypeFunc}
-use Rattle.canon_value.proofs.Scalars.{members_flat-members_of}
-use Rattle.canon_value.specs.declared.component.Component.{Component}
-use Rattle.canon_value.specs.declared.component.Export.{Export}
+use Rattle.canon_scalar_value.proofs.Scalars.{members_flat-members_of}
+use Rattle.canon_scalar_value.specs.declared.component.Component.{Component}
+use Rattle.canon_scalar_value.specs.declared.component.Export.{Export}
 use Rattle.canon_cli.specs.Call.{result_words}
 use Rattle.canon_cli.specs.Stores.{export_callee, params_in, results_in}
 

@@ -1,17 +1,17 @@
 -- What a call did, from what its steps answered.
 use Rattle.std.proofs.Common.{◌≡◌, ℕ, List, [], ◌∷◌, length, Option, None, Some, Result, Ok, Err, Vec, Global, refl, subst, sym, inl, inr, arith}
-use Rattle.canon_memory.specs.declared.event.Event.{Event}
-use Rattle.canon_memory.specs.declared.event.Event.TheVariants as event
+use Rattle.canon_scalar_memory.specs.declared.event.Event.{Event}
+use Rattle.canon_scalar_memory.specs.declared.event.Event.TheVariants as event
 use Rattle.canon_model.specs.Memory.{Memory}
 use Rattle.canon_model.specs.Shape.{Members, member_count}
 use Rattle.canon_model.specs.Text.{Encoding}
-use Rattle.canon_value.proofs.Values.{failure_excludes, have_count}
+use Rattle.canon_scalar_value.proofs.Values.{failure_excludes, have_count}
 use Rattle.std.specs.Prelude.{IfOk}
-use Rattle.canon_value.specs.Core.{narrow}
-use Rattle.canon_value.specs.Fails.{MemberFails, mismatch}
-use Rattle.canon_value.specs.Lowers.{AreArgs, AreResults}
-use Rattle.canon_value.specs.declared.fault.Fault.TheVariants as fault
-use Rattle.canon_value.specs.declared.val.Val.{Val}
+use Rattle.canon_scalar_value.specs.Core.{narrow}
+use Rattle.canon_scalar_value.specs.Fails.{MemberFails, mismatch}
+use Rattle.canon_scalar_value.specs.Lowers.{AreArgs, AreResults}
+use Rattle.canon_scalar_value.specs.declared.fault.Fault.TheVariants as fault
+use Rattle.canon_scalar_value.specs.declared.val.Val.{Val}
 use Rattle.canon_cli.specs.Call.{Call, IsCall, Lifted, OnAnswered, result_words}
 use Rattle.canon_cli.specs.Runs.{IsFrontOfRun, NewEvents}
 use Rattle.canon_cli.specs.Stores.{Callee}

@@ -4,17 +4,17 @@ use Rattle.std.proofs.lemmas.List.{with_items_is}
 use Rattle.std.specs.Prelude.{OnOk, Vec, slice_get}
 use Rattle.std.specs.Vec.{with_items}
 use Rattle.std.specs.declared.alloc.Global.{Global}
-use Rattle.canon_memory.specs.Guest.{Recorded}
-use Rattle.canon_memory.specs.declared.event.Event.{Event}
+use Rattle.canon_scalar_memory.specs.Guest.{Recorded}
+use Rattle.canon_scalar_memory.specs.declared.event.Event.{Event}
 use Rattle.canon_model.specs.Shape.{member_count}
 use Rattle.canon_scalars.specs.Table.{Table, members_of}
-use Rattle.canon_value.proofs.Scalars.{member_count-members_of}
-use Rattle.canon_value.specs.Component.{encoding_in}
-use Rattle.canon_value.specs.Fails.{MemberFails, mismatch}
-use Rattle.canon_value.specs.declared.component.Component.{Component}
-use Rattle.canon_value.specs.declared.component.Export.{Export}
-use Rattle.canon_value.specs.declared.fault.Fault.TheVariants as fault
-use Rattle.canon_value.specs.declared.val.Val.{Val}
+use Rattle.canon_scalar_value.proofs.Scalars.{member_count-members_of}
+use Rattle.canon_scalar_value.specs.Component.{encoding_in}
+use Rattle.canon_scalar_value.specs.Fails.{MemberFails, mismatch}
+use Rattle.canon_scalar_value.specs.declared.component.Component.{Component}
+use Rattle.canon_scalar_value.specs.declared.component.Export.{Export}
+use Rattle.canon_scalar_value.specs.declared.fault.Fault.TheVariants as fault
+use Rattle.canon_scalar_value.specs.declared.val.Val.{Val}
 use Rattle.canon_cli.specs.Call.{IsCall, OnAnswered}
 use Rattle.canon_cli.specs.Play.{Play}
 use Rattle.canon_cli.specs.Runs.{NewEvents}

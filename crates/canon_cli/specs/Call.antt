@@ -1,21 +1,21 @@
 -- What a call did.
 use Rattle.std.specs.Prelude.{◌≡◌, ◌⊎◌, ℕ, List, [], ◌∷◌, length, None, Result, Ok, Err, OnOk, IsOkUnless, Vec, nat_le, if◌then◌else◌}
 use Rattle.std.specs.declared.alloc.Global.{Global}
-use Rattle.canon_memory.specs.declared.event.Event.{Event}
-use Rattle.canon_memory.specs.declared.event.Event.TheVariants as event
+use Rattle.canon_scalar_memory.specs.declared.event.Event.{Event}
+use Rattle.canon_scalar_memory.specs.declared.event.Event.TheVariants as event
 use Rattle.canon_model.specs.Flat.{max_results}
 use Rattle.canon_model.specs.Layout.{members_flat}
 use Rattle.canon_model.specs.Memory.{Memory}
 use Rattle.canon_model.specs.Shape.{Members}
 use Rattle.canon_model.specs.Text.{Encoding}
 use Rattle.canon_model.specs.Tree.{Trees}
-use Rattle.canon_value.specs.Core.{narrow}
-use Rattle.canon_value.specs.Fails.{MemberFails, mismatch}
-use Rattle.canon_value.specs.Lowers.{AreArgs, AreResults}
-use Rattle.canon_value.specs.Value.{HaveTrees}
-use Rattle.canon_value.specs.declared.fault.Fault.{Fault}
-use Rattle.canon_value.specs.declared.fault.Fault.TheVariants as fault
-use Rattle.canon_value.specs.declared.val.Val.{Val}
+use Rattle.canon_scalar_value.specs.Core.{narrow}
+use Rattle.canon_scalar_value.specs.Fails.{MemberFails, mismatch}
+use Rattle.canon_scalar_value.specs.Lowers.{AreArgs, AreResults}
+use Rattle.canon_scalar_value.specs.Value.{HaveTrees}
+use Rattle.canon_scalar_value.specs.declared.fault.Fault.{Fault}
+use Rattle.canon_scalar_value.specs.declared.fault.Fault.TheVariants as fault
+use Rattle.canon_scalar_value.specs.declared.val.Val.{Val}
 use Rattle.canon_cli.specs.Runs.{Each, EndsIn, IsFrontOfRun, IsOneRun, IsReturn, IsTrap, OnReturn, OnStart}
 use Rattle.canon_cli.specs.Stores.{Callee}
 use Rattle.canon_cli.specs.declared.error.Error.{Error}

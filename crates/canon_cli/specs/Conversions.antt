@@ -1,11 +1,12 @@
 -- The conversions that a JSON value asks for.
 use Rattle.std.specs.Prelude.{ℕ, ◌+◌, ◌-◌, ◌&&◌, ◌++◌, List, [], ◌∷◌, length, Bool, false, nat_le, nat_eq, if◌then◌else◌, codes, Option, None, Some, Result, Ok, Err, option_and_then, replicate}
+use Rattle.std.specs.Option.{option_map_or}
 use lib.Pointwise.{pointwise}
 use Rattle.hex.specs.Hex.{decode_of, encode_lower}
 use Rattle.hex.specs.declared.error.FromHexError.{FromHexError}
 use Rattle.serde_json.specs.Data.{Data}
 use Rattle.serde_json.specs.Find.{get, as_bool, as_str, as_object}
-use Rattle.canon_json.specs.Json.{each_of, has_len, or_else, there, word_of}
+use Rattle.canon_json.specs.Json.{each_of, has_len, there, word_of}
 use Rattle.canon_cli.specs.TextCalls.{fits, max_room, name_of}
 use Rattle.canon_cli.specs.declared.conversion.TextCall.{TextCall}
 use Rattle.canon_cli.specs.declared.conversion.TextCall.TheVariants as call
@@ -64,15 +65,15 @@ job_with c room first so_far src dst = record { call = c; src = src; room = room
 -- with a call and its numbers, the source and the destination's front
 abbrev pub with_bytes : Data → TextCall → ℕ → Bool → ℕ → Option Job
 with_bytes d c room first so_far =
-    option_and_then (λ src. option_and_then (λ dst. if_fits (job_with c room first so_far src dst)) (or_else (get (codes "dst") d) bytes_of (Some [])))
+    option_and_then (λ src. option_and_then (λ dst. if_fits (job_with c room first so_far src dst)) (option_map_or bytes_of (get (codes "dst") d) (Some [])))
     (option_and_then bytes_of (get (codes "src") d))
 
 abbrev pub conversion_of : Data → Option Job
 conversion_of d =
     if has_len (3 + optional_members d) (as_object d)
     then option_and_then (λ c. option_and_then (λ room. option_and_then (λ first. option_and_then (with_bytes d c room first)
-    (or_else (get (codes "so_far") d) word_of (Some 0)))
-    (or_else (get (codes "first") d) as_bool (Some false)))
+    (option_map_or word_of (get (codes "so_far") d) (Some 0)))
+    (option_map_or as_bool (get (codes "first") d) (Some false)))
     (option_and_then word_of (get (codes "room") d)))
     (option_and_then call_of (get (codes "fn") d))
     else None

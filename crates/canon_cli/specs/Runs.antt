@@ -1,7 +1,7 @@
 -- The events of a run of a guest.
 use Rattle.std.specs.Prelude.{◌≡◌, ◌≤◌, ℕ, List, [], ◌∷◌, ◌++◌, length, Option, None, Some}
-use Rattle.canon_memory.specs.declared.event.Event.{Event}
-use Rattle.canon_memory.specs.declared.event.Event.TheVariants as event
+use Rattle.canon_scalar_memory.specs.declared.event.Event.{Event}
+use Rattle.canon_scalar_memory.specs.declared.event.Event.TheVariants as event
 
 -- what a told journal has at its end has this property
 abbrev pub NewEvents : Option (List Event) → Option (List Event) → (List Event → Type 0) → Type 0

@@ -1,8 +1,8 @@
 -- What a guest that follows a script does.
 use Rattle.std.specs.Prelude.{◌≡◌, ℕ, List, [], ◌∷◌, ◌++◌, length, drop, None}
 use Rattle.std.proofs.Common.{subst}
-use Rattle.canon_memory.specs.declared.event.Event.{Event}
-use Rattle.canon_memory.specs.declared.event.Event.TheVariants as event
+use Rattle.canon_scalar_memory.specs.declared.event.Event.{Event}
+use Rattle.canon_scalar_memory.specs.declared.event.Event.TheVariants as event
 use Rattle.canon_cli.specs.declared.script.Action.{Action}
 use Rattle.canon_cli.specs.declared.script.Action.TheVariants as action
 

@@ -1,15 +1,15 @@
 -- What a script, played, leaves in the transcript.
 use Rattle.std.specs.Prelude.{◌≡◌, ◌≢◌, ℕ, List, [], ◌∷◌, None, Result, Ok, Err, false, replicate}
-use Rattle.canon_memory.specs.Guest.{Recorded}
+use Rattle.canon_scalar_memory.specs.Guest.{Recorded}
 use Rattle.canon_model.specs.Text.{utf8}
 use Rattle.canon_scalars.specs.Table.{Table, members_of}
 use Rattle.canon_types.specs.declared.options.CanonicalOptions.{CanonicalOptions}
 use Rattle.canon_types.specs.declared.options.StringEncoding.TheVariants.{Utf8}
 use Rattle.canon_scalars.specs.declared.table.InterfaceType.{InterfaceType}
-use Rattle.canon_value.specs.Fails.{MemberFails, mismatch}
-use Rattle.canon_value.specs.declared.component.Component.{Component}
-use Rattle.canon_value.specs.declared.fault.Fault.TheVariants as fault
-use Rattle.canon_value.specs.declared.val.Val.{Val}
+use Rattle.canon_scalar_value.specs.Fails.{MemberFails, mismatch}
+use Rattle.canon_scalar_value.specs.declared.component.Component.{Component}
+use Rattle.canon_scalar_value.specs.declared.fault.Fault.TheVariants as fault
+use Rattle.canon_scalar_value.specs.declared.val.Val.{Val}
 use Rattle.canon_cli.specs.Call.{IsCall}
 use Rattle.canon_cli.specs.Play.{Play}
 use Rattle.canon_cli.specs.Scripted.{Doing, Follows}

@@ -4,10 +4,10 @@ use Rattle.canon_model.specs.Shape.{Members, no_members}
 use Rattle.canon_model.specs.Text.{Encoding, utf8}
 use Rattle.canon_scalars.specs.declared.table.TypeFunc.{TypeFunc}
 use Rattle.canon_scalars.specs.Table.{Table, param_members, result_members}
-use Rattle.canon_value.specs.Component.{encoding_at}
-use Rattle.canon_value.specs.Core.{Parts}
-use Rattle.canon_value.specs.declared.component.Component.{Component}
-use Rattle.canon_value.specs.declared.component.Export.{Export}
+use Rattle.canon_scalar_value.specs.Component.{encoding_at}
+use Rattle.canon_scalar_value.specs.Core.{Parts}
+use Rattle.canon_scalar_value.specs.declared.component.Component.{Component}
+use Rattle.canon_scalar_value.specs.declared.component.Export.{Export}
 
 -- what contracts see of a store
 pub record Stored (T G : Type 0) : Type 0 where

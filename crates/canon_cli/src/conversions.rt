@@ -1,9 +1,10 @@
 ghost use Rattle.std.specs.Prelude.{◌≡◌, ◌≤◌, ◌++◌, [], map, false, codes, Some, option_map};
+ghost use Rattle.std.specs.Option.{option_map_or};
 ghost use Rattle.hex.specs.Hex.{decode_of, encode_lower};
 ghost use Rattle.serde_json.specs.Find.{as_bool, get};
 ghost use Rattle.serde_json.specs.View.{view, items_view};
 ghost use Rattle.canon_cli.specs.Conversions as spec;
-ghost use Rattle.canon_json.specs.Json.{Gives, or_else, word_of};
+ghost use Rattle.canon_json.specs.Json.{Gives, word_of};
 
 use crate::ScriptError;
 use crate::conversion::{CALLS, Conversion, TextCall};
@@ -70,7 +71,7 @@ fn optional_members(v: &Value) -> usize
 }
 
 fn so_far_of(v: &Value) -> Option<u64>
-    ensures { result ≡ or_else (get (codes "so_far") (view v.now)) word_of (Some 0) }
+    ensures { result ≡ option_map_or word_of (get (codes "so_far") (view v.now)) (Some 0) }
 {
     match v.get("so_far") {
         Some(so_far) => so_far.as_u64(),
@@ -110,7 +111,7 @@ fn with_bytes(
 }
 
 fn dst_of(alloc: Global, v: &Value) -> Result<Vec<u8>, ScriptError>
-    ensures { Gives (λ bytes. bytes.items) result (or_else (get (codes "dst") (view v.now)) spec.bytes_of (Some [])) }
+    ensures { Gives (λ bytes. bytes.items) result (option_map_or spec.bytes_of (get (codes "dst") (view v.now)) (Some [])) }
 {
     match v.get("dst") {
         Some(dst) => bytes_of(alloc, dst),

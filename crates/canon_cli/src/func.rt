@@ -1,19 +1,19 @@
 ghost use Rattle.std.specs.Prelude.{◌≡◌, ◌≤◌, ◌<◌, ℕ, Err, Ok, Some, length, true, IfOk, OnErr, OnOk, slice_get};
-ghost use Rattle.canon_memory.specs.Counts.{Rose};
-ghost use Rattle.canon_memory.specs.Journal.{Adds};
+ghost use Rattle.canon_scalar_memory.specs.Counts.{Rose};
+ghost use Rattle.canon_scalar_memory.specs.Journal.{Adds};
 ghost use Rattle.canon_scalars.specs.Table.{HasFunc};
-ghost use Rattle.canon_value.specs.Component.{IsInside};
-ghost use Rattle.canon_value.specs.Core.{narrow, types_of};
-ghost use Rattle.canon_value.specs.Fails.{MemberFails, mismatch};
+ghost use Rattle.canon_scalar_value.specs.Component.{IsInside};
+ghost use Rattle.canon_scalar_value.specs.Core.{narrow, types_of};
+ghost use Rattle.canon_scalar_value.specs.Fails.{MemberFails, mismatch};
 ghost use Rattle.canon_model.specs.Shape.{member_count};
 ghost use Rattle.canon_cli.specs.Call.{Call, IsCall, Lifted, Lowered, OnAnswered, Started};
 ghost use Rattle.canon_cli.specs.Runs.{NewEvents};
 ghost use Rattle.canon_cli.specs.Stores.{IsOwned, Named, callee_of, export_callee};
 
 use crate::{Error, Store};
-use canon_memory::{Guest, GuestFault, Step, ValRaw, Words};
+use canon_scalar_memory::{Guest, GuestFault, Step, ValRaw, Words};
 use canon_scalars::{ExportIndex, StoreId};
-use canon_value::{Core, Export, Fault, LiftContext, LowerContext, Val, lift_results, lower_args};
+use canon_scalar_value::{Core, Export, Fault, LiftContext, LowerContext, Val, lift_results, lower_args};
 use std::alloc::Global;
 use std::marker::Model;
 

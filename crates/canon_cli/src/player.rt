@@ -1,6 +1,6 @@
 ghost use Rattle.std.specs.Prelude.{◌≡◌, ◌≢◌, [], ◌∷◌, length, Err, IfOk, OnErr, OnOk};
 ghost use Rattle.canon_scalars.specs.Table.{HasFunc, types_of};
-ghost use Rattle.canon_value.specs.Component.{IsSound};
+ghost use Rattle.canon_scalar_value.specs.Component.{IsSound};
 ghost use Rattle.canon_cli.specs.Play.{play_of};
 ghost use Rattle.canon_cli.specs.Session.{IsPlayed, IsScripted, Session, fresh_store, outcome, script_options, values_of};
 ghost use Rattle.canon_cli.specs.Stores.{IsOwned};
@@ -8,12 +8,12 @@ ghost use Rattle.canon_cli.specs.Stores.{IsOwned};
 use crate::{
     Action, Answer, Call, Error, Head, Record, Script, ScriptedGuest, Signature, Store, Transcript,
 };
-use canon_memory::{Journaled, Memory};
+use canon_scalar_memory::{Journaled, Memory};
 use canon_scalars::{
     CanonicalOptions, ExportIndex, InstanceType, OptionsIndex, OutOfMemory, RuntimeInstance,
     StoreId, StringEncoding, TypeBuilder, TypeFuncIndex,
 };
-use canon_value::{Component, Core, Export, Fault, Val};
+use canon_scalar_value::{Component, Core, Export, Fault, Val};
 use std::alloc::Global;
 
 /// The bytes of a script's memory.

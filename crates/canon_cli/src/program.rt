@@ -2,7 +2,7 @@ ghost use Rattle.std.specs.Prelude.{◌≡◌, ◌⊎◌, ◌≤◌, ◌<◌, �
 ghost use Rattle.std.specs.Io.KnownBytes.{Appends, Consumes, IsAtEnd};
 ghost use Rattle.serde_json.specs.Read.{read};
 ghost use Rattle.serde_json.specs.View.{view};
-ghost use Rattle.canon_memory.specs.Counts.{Rose};
+ghost use Rattle.canon_scalar_memory.specs.Counts.{Rose};
 ghost use Rattle.canon_cli.specs.Json.{script_of};
 ghost use Rattle.canon_cli.specs.Play.{Play, play_of};
 ghost use Rattle.canon_cli.specs.Program.{AnswersInput, Done, IsJson, IsNoJson, IsRefusal, IsStatus, IsTask, OnTold, Performed, ReadsNoJson, ReadsNoTask, ReadsTask, ReadsTooMuch, Task, command_of, max_input, task_of};

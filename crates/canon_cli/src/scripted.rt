@@ -3,7 +3,7 @@ ghost use Rattle.std.specs.Vec.Iter.{into_iter_items};
 ghost use Rattle.canon_cli.specs.Scripted.{Does, Doing, does_then};
 
 use crate::Action;
-use canon_memory::{Guest, GuestFault, Memory, Step, ValRaw};
+use canon_scalar_memory::{Guest, GuestFault, Memory, Step, ValRaw};
 use std::alloc::Global;
 use std::marker::Model;
 use std::vec::IntoIter;

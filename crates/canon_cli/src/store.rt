@@ -3,7 +3,7 @@ ghost use Rattle.canon_cli.specs.Stores.{IsOwned, Stored};
 
 use crate::Func;
 use canon_scalars::ExportIndex;
-use canon_value::Core;
+use canon_scalar_value::Core;
 use std::marker::Model;
 
 /// A core, and whether a call of it trapped. Contracts see both.
@@ -24,7 +24,7 @@ impl<T, G> Store<T, G> {
     ghost use Rattle.std.specs.Borrow.{Lends, sem};
     ghost use Rattle.canon_cli.specs.Stores.{IsOwned};
     ghost use Rattle.canon_cli.specs.contracts.store.Store.{the_row};
-    ghost use Rattle.canon_value.specs.contracts.core_data.Core as core_type;
+    ghost use Rattle.canon_scalar_value.specs.contracts.core_data.Core as core_type;
 
     pub fn new(core: Core<T, G>) -> Self
         ensures { result ≡ record { core = core; trapped = false } }

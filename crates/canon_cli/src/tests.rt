@@ -1,10 +1,10 @@
 use super::*;
-use canon_memory::Memory;
+use canon_scalar_memory::Memory;
 use canon_scalars::{
     CanonicalOptions, ExportIndex, InstanceType, InterfaceType, OptionsIndex, RuntimeInstance,
     StoreId, StringEncoding, TypeBuilder,
 };
-use canon_value::{Component, Core, Export};
+use canon_scalar_value::{Component, Core, Export};
 use std::alloc::Global;
 use std::test::Fail;
 

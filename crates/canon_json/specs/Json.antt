@@ -1,5 +1,6 @@
 -- How JSON values are read: objects of so many members, arrays item by item, numbers.
 use Rattle.std.specs.Prelude.{◌≡◌, ℕ, suc, ◌^◌, ◌==◌, List, [], ◌∷◌, Bool, false, nat_lt, if◌then◌else◌, Option, None, Some, Result, Ok, Err, option_map, option_and_then}
+use Rattle.std.specs.Option.{option_map_or}
 use Rattle.serde_json.specs.Data.{Data, Items, no_items, item, Members, no_members, member}
 use Rattle.serde_json.specs.Find.{as_number, as_array, as_u64}
 use Rattle.canon_json.specs.declared.error.ScriptError.{ScriptError}
@@ -33,11 +34,6 @@ only_member no_members = None
 only_member (member k d no_members) = Some (k, d)
 only_member (member k d (member l e ms)) = None
 
--- a member that is there is read, else this is it
-abbrev pub or_else : {A : Type 0} → Option Data → (Data → Option A) → Option A → Option A
-or_else None read other = other
-or_else (Some d) read other = read d
-
 -- ---- arrays
 
 -- the only item of an array
@@ -69,7 +65,7 @@ each_of read d = option_and_then (each read) (as_array d)
 
 -- an array, or nothing where the member is missing
 abbrev pub items_of : Option Data → Option Items
-items_of d = or_else d as_array (Some no_items)
+items_of d = option_map_or as_array d (Some no_items)
 
 -- each item of an array in order, which takes what is there so far further
 abbrev pub onward : {A : Type 0} → (A → Data → Option A) → A → Items → Option A

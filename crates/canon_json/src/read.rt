@@ -1,4 +1,5 @@
 ghost use Rattle.std.specs.Prelude.{◌≡◌, ◌≤◌, map, Option, Some, option_map, option_and_then};
+ghost use Rattle.std.specs.Option.{option_map_or};
 ghost use Rattle.serde_json.specs.Data.{Data};
 ghost use Rattle.serde_json.specs.Find.{as_array, as_bool, as_object};
 ghost use Rattle.serde_json.specs.View.{view, items_view};
@@ -44,7 +45,7 @@ pub fn only_member(v: &Value) -> Option<(&str, &Value)>
 
 /// A member that is true or false, or what it is where it is missing.
 pub fn bool_or(v: Option<&Value>, default: bool) -> Option<bool>
-    ensures { result ≡ spec.or_else (option_map (λ x. view x.now) v.entry) as_bool (Some default) }
+    ensures { result ≡ option_map_or as_bool (option_map (λ x. view x.now) v.entry) (Some default) }
 {
     match v {
         Some(v) => v.as_bool(),

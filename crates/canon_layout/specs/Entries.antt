@@ -1,10 +1,11 @@
 -- What a JSON value says of a type, of a function and of a resource.
 use Rattle.std.specs.Prelude.{ℕ, ◌+◌, List, Bool, true, false, nat_eq, if◌then◌else◌, codes, slice_get, Option, None, Some, option_map, option_and_then}
+use Rattle.std.specs.Option.{option_map_or}
 use Rattle.std.specs.List.{find}
 use lib.Pointwise.{pointwise}
 use Rattle.serde_json.specs.Data.{Data, null, boolean, number, string, array, object}
 use Rattle.serde_json.specs.Find.{get, as_bool, as_object, as_str, as_u64}
-use Rattle.canon_json.specs.Json.{each_of, has_len, only, only_member, or_else, there, two, u32_of}
+use Rattle.canon_json.specs.Json.{each_of, has_len, only, only_member, there, two, u32_of}
 use Rattle.canon_model.specs.Shape.{Name}
 use Rattle.canon_table.specs.Table.{Definition, EnumType, FixedListType, FlagsType, ListType, MapType, OptionType, RecordType, ResultType, TupleType, VariantType}
 use Rattle.canon_table.specs.declared.types.InterfaceType.{InterfaceType}
@@ -52,7 +53,7 @@ bare_case name = option_map (λ n. (n, None)) (as_str name)
 
 -- a name alone, or with a type
 abbrev pub case_of : List InterfaceType → Data → Option (Name × Option InterfaceType)
-case_of before d = or_else (only d) bare_case (option_map (λ f. (f.0, Some f.1)) (field_of before d))
+case_of before d = option_map_or bare_case (only d) (option_map (λ f. (f.0, Some f.1)) (field_of before d))
 
 -- ---- entries
 
@@ -101,8 +102,8 @@ func_of types d =
     let post = get (codes "post") d in
     if has_len (2 + (there async + there post)) (as_object d)
     then option_and_then (λ params. option_and_then (λ results. option_and_then (λ a. option_map (λ p. record { params = params; results = results; async = a })
-    (or_else post as_bool (Some false)))
-    (or_else async as_bool (Some false)))
+    (option_map_or as_bool post (Some false)))
+    (option_map_or as_bool async (Some false)))
     (option_and_then (each_of (type_of types)) (get (codes "results") d)))
     (option_and_then (each_of (type_of types)) (get (codes "params") d))
     else None
@@ -129,8 +130,8 @@ guest_of d =
     let dtor = get (codes "dtor") d in
     if has_len (2 + (there here + there dtor)) (as_object d)
     then option_and_then (λ n. option_and_then (λ h. option_map (λ f. resource_with (resource.Guest n f) h)
-    (or_else dtor dtor_of (Some None)))
-    (or_else here as_bool (Some true)))
+    (option_map_or dtor_of dtor (Some None)))
+    (option_map_or as_bool here (Some true)))
     (option_and_then u32_of (get (codes "id") d))
     else None
 

@@ -1,12 +1,12 @@
 -- What the command `layout` prints.
-use Rattle.std.specs.Prelude.{ℕ, ◌+◌, List, [], ◌∷◌, ◌++◌, false, map, nat_le, if◌then◌else◌, codes, string_bytes}
+use Rattle.std.specs.Prelude.{ℕ, ◌+◌, List, [], ◌∷◌, ◌++◌, false, nat_le, if◌then◌else◌, codes}
 use Rattle.std.specs.Fmt.{decimal}
+use Rattle.canon_model.specs.Flat.{max_params, max_results}
 use Rattle.canon_model.specs.Layout.{align, begins, ends, flat, payload_offset, size, tag_size}
 use Rattle.canon_model.specs.Shape.{Cases, Members, Shape, borrow, case_count, fixed, flags, list, member, no_members, own, product, scalar, string, variant}
-use Rattle.canon_table.specs.Table.{Table, all_shapes, fields_in, shape_of}
+use Rattle.canon_table.specs.Table.{Table, shape_of}
 use Rattle.canon_table.specs.declared.types.InterfaceType.{InterfaceType}
 use Rattle.canon_table.specs.declared.types.InterfaceType.TheVariants as ty
-use Rattle.canon_table.specs.declared.types.RecordField.{RecordField}
 use Rattle.canon_table.specs.declared.types.TypeFunc.{TypeFunc}
 use Rattle.canon_layout.specs.Asked.{Listed}
 use Rattle.canon_layout.specs.Words.{type_word}
@@ -15,9 +15,9 @@ use Rattle.canon_layout.specs.Words.{type_word}
 abbrev pub end : List ℕ
 end = 10 ∷ []
 
--- a number of words, or - above 16
+-- a number of words, or - where there are more than parameters may take
 abbrev pub flat_text : ℕ → List ℕ
-flat_text words = if nat_le words 16 then decimal words else codes "-"
+flat_text words = if nat_le words max_params then decimal words else codes "-"
 
 abbrev pub numbers_text : Shape → List ℕ
 numbers_text s = codes " size " ++ decimal (size false s) ++ codes " align " ++ decimal (align false s) ++ codes " flat " ++ flat_text (flat s)
@@ -29,10 +29,6 @@ offsets_text o (member name s ms) = 32 ∷ decimal (begins false o s) ++ offsets
 
 abbrev pub cases_text : Cases → List ℕ
 cases_text cs = codes " tag " ++ decimal (tag_size (case_count cs)) ++ codes " payload " ++ decimal (payload_offset false cs)
-
--- the members of a record of these fields
-abbrev pub field_members : Table → List RecordField → Members
-field_members t fields = fields_in (all_shapes t) (map (λ f. (string_bytes f.name, f.ty)) fields)
 
 -- where the parts of a record, a tuple or a variant stand
 abbrev pub parts_text : Shape → List ℕ
@@ -54,13 +50,7 @@ abbrev pub type_lines : Table → ℕ → List InterfaceType → List ℕ
 type_lines t i [] = []
 type_lines t i (type ∷ types) = type_line t i type ++ type_lines t (i + 1) types
 
--- how many words parameters and results take at most, or else a pointer to their tuple
-abbrev pub max_flat_params : ℕ
-max_flat_params = 16
-
-abbrev pub max_flat_results : ℕ
-max_flat_results = 1
-
+-- at most so many words, or else a pointer to the tuple
 abbrev pub passed_text : ℕ → Shape → List ℕ
 passed_text most s =
     if nat_le (flat s) most then codes "flat " ++ decimal (flat s)
@@ -69,8 +59,8 @@ passed_text most s =
 -- the line of function i
 abbrev pub func_line : Table → ℕ → TypeFunc → List ℕ
 func_line t i f =
-    codes "func " ++ decimal i ++ codes " params " ++ passed_text max_flat_params (shape_of t (ty.Tuple f.params))
-    ++ codes " results " ++ passed_text max_flat_results (shape_of t (ty.Tuple f.results)) ++ end
+    codes "func " ++ decimal i ++ codes " params " ++ passed_text max_params (shape_of t (ty.Tuple f.params))
+    ++ codes " results " ++ passed_text max_results (shape_of t (ty.Tuple f.results)) ++ end
 
 abbrev pub func_lines : Table → ℕ → List TypeFunc → List ℕ
 func_lines t i [] = []

@@ -12,7 +12,6 @@ mod words;
 pub use lines::layout_lines;
 pub use listing::{listing_of_json, types_of_json};
 pub use readers::type_of_json;
-pub use words::{Kind, type_word};
 
 #[cfg(test)]
 mod tests;

@@ -4,7 +4,7 @@ ghost use Rattle.canon_abi.specs.Abi.{HasInfo};
 ghost use Rattle.canon_json.specs.Json.{Gives};
 ghost use Rattle.canon_model.specs.Layout.{members_end};
 ghost use Rattle.canon_model.specs.Shape.{Cases};
-ghost use Rattle.canon_table.specs.Keeps.{fields_type};
+ghost use Rattle.canon_table.specs.Keeps.{field_members, fields_type};
 ghost use Rattle.canon_table.specs.Table.{HasFunc, Knows, all_shapes, fields_in, members_of, parts, shape_of};
 ghost use Rattle.canon_layout.specs.Asked.{layout_of};
 ghost use Rattle.canon_layout.specs.Lines as spec;
@@ -13,13 +13,11 @@ use crate::listing::listing_of_json;
 use crate::words::type_word;
 use canon_json::ScriptError;
 use canon_table::{
-    ComponentTypes, InterfaceType, MAX_FLAT_PARAMS, RecordField, TypeFuncIndex, VariantInfo,
+    ComponentTypes, InterfaceType, MAX_FLAT_PARAMS, MAX_FLAT_RESULTS, RecordField, TypeFuncIndex,
+    VariantInfo,
 };
 use serde_json::Value;
 use std::alloc::{AllocError, Global};
-
-/// The most words of a function's results (CanonicalABI.md, MAX_FLAT_RESULTS).
-const MAX_FLAT_RESULTS: u64 = 1;
 
 /// The most functions of a table.
 const MAX_FUNCS: u32 = 1_048_576;
@@ -128,8 +126,8 @@ fn print_fields(
     fields: &[RecordField],
 ) -> Result<(), AllocError>
     requires known { All (Knows table.now) (parts (fields_type fields.now)) }
-    requires fits { members_end false 0 (spec.field_members table.now fields.now) < 2 ^ 32 }
-    ensures { OnOk result (string_bytes text.new ≡ string_bytes text.old ++ codes " at" ++ spec.offsets_text 0 (spec.field_members table.now fields.now)) }
+    requires fits { members_end false 0 (field_members table.now fields.now) < 2 ^ 32 }
+    ensures { OnOk result (string_bytes text.new ≡ string_bytes text.old ++ codes " at" ++ spec.offsets_text 0 (field_members table.now fields.now)) }
 {
     text.push_str(" at")?;
     let mut end = 0u64;
@@ -193,7 +191,7 @@ fn print_func(text: &mut String, table: &ComponentTypes, i: TypeFuncIndex) -> Re
     print_passed(text, table, &params, u64::from(MAX_FLAT_PARAMS))?;
     text.push_str(" results ")?;
     let results = InterfaceType::Tuple(func.results);
-    print_passed(text, table, &results, MAX_FLAT_RESULTS)?;
+    print_passed(text, table, &results, u64::from(MAX_FLAT_RESULTS))?;
     text.push_str("\n")
 }
 

@@ -1,6 +1,7 @@
 ghost use Rattle.std.specs.Prelude.{◌≡◌, None, Some, option_map};
+ghost use Rattle.std.specs.Option.{option_map_or};
 ghost use Rattle.serde_json.specs.View.{view, items_view};
-ghost use Rattle.canon_json.specs.Json.{Gives, onward, or_else};
+ghost use Rattle.canon_json.specs.Json.{Gives, onward};
 ghost use Rattle.canon_layout.specs.Asked as spec;
 ghost use Rattle.canon_layout.specs.Entries as entry_spec;
 
@@ -69,7 +70,7 @@ fn guest_of(v: &Value) -> Option<TypeResourceTable>
 #[tactic(auto, using(crate::proofs::Reading::dtor_of_null, crate::proofs::Reading::dtor_of_number))]
 /// A number, or null or nothing for none.
 fn dtor_of(v: Option<&Value>) -> Option<Option<u32>>
-    ensures { result ≡ or_else (option_map (λ x. view x.now) v.entry) entry_spec.dtor_of (Some None) }
+    ensures { result ≡ option_map_or entry_spec.dtor_of (option_map (λ x. view x.now) v.entry) (Some None) }
 {
     let Some(v) = v else {
         return Some(None);

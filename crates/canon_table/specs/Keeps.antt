@@ -2,7 +2,7 @@
 use Rattle.std.specs.Prelude.{◌≡◌, ℕ, ◌<◌, Some, Option, String, List, length, map, get_or, slice_get, All, string_bytes, false, ⊤}
 use Rattle.canon_abi.specs.Abi.{HasInfo, HasLayout}
 use Rattle.canon_model.specs.Layout.{offset}
-use Rattle.canon_model.specs.Shape.{Name, Scalar, Shape, borrow, own, scalar, string}
+use Rattle.canon_model.specs.Shape.{Members, Name, Scalar, Shape, borrow, own, scalar, string}
 use Rattle.canon_model.specs.Layout.{scalar_size}
 use Rattle.canon_table.specs.declared.types.InterfaceType.{InterfaceType}
 use Rattle.canon_table.specs.declared.types.TypeList.{TypeList}
@@ -22,7 +22,7 @@ use Rattle.canon_table.specs.declared.table.Entry.{Entry}
 use Rattle.canon_table.specs.declared.table.PlainAbis.{PlainAbis}
 use Rattle.canon_table.specs.declared.table.ComponentTypes.TheInside.{Inside}
 use Rattle.canon_table.specs.Depth.{depth, element_shape, has_borrow, product_members, variant_cases}
-use Rattle.canon_table.specs.Table.{Definition, EnumType, FixedListType, FlagsType, IsOver, Knows, ListType, MapType, OptionType, RecordType, ResultType, Table, TupleType, VariantType, all_shapes, defined_shape, no_shape, parts}
+use Rattle.canon_table.specs.Table.{Definition, EnumType, FixedListType, FlagsType, IsOver, Knows, ListType, MapType, OptionType, RecordType, ResultType, Table, TupleType, VariantType, all_shapes, defined_shape, fields_in, no_shape, parts}
 
 -- ---- the definitions that the structs are
 
@@ -34,6 +34,10 @@ map_type m = MapType m.key m.value
 
 abbrev pub fields_type : List RecordField → Definition
 fields_type fields = RecordType (map (λ f. (string_bytes f.name, f.ty)) fields)
+
+-- the members of a record of these fields
+abbrev pub field_members : Table → List RecordField → Members
+field_members t fields = fields_in (all_shapes t) (map (λ f. (string_bytes f.name, f.ty)) fields)
 
 abbrev pub record_type : TypeRecord → Definition
 record_type r = fields_type r.fields.items

@@ -7,7 +7,9 @@ mod resource;
 mod table;
 mod types;
 
-pub use canon_abi::{CanonicalAbiInfo, DiscriminantSize, FlagsSize, MAX_FLAT_PARAMS, VariantInfo};
+pub use canon_abi::{
+    CanonicalAbiInfo, DiscriminantSize, FlagsSize, MAX_FLAT_PARAMS, MAX_FLAT_RESULTS, VariantInfo,
+};
 pub use canon_types::{
     CanonicalOptions, ExportIndex, OptionsIndex, OutOfMemory, RuntimeInstance, StoreId,
     StringEncoding, TypeEnumIndex, TypeFixedLengthListIndex, TypeFlagsIndex, TypeFuncIndex,

@@ -1,7 +1,7 @@
 use Rattle.std.proofs.Common.{length, ◌≡◌, ◌∙◌, ap, subst}
 use Rattle.std.specs.Prelude.{IfOk}
 use Rattle.canon_model.specs.Shape.{member_count}
-use Rattle.canon_value.specs.Core.{narrow}
+use Rattle.canon_scalar_value.specs.Core.{narrow}
 use Rattle.canon_cli.proofs.Outcomes.{lifted_count}
 use Rattle.canon_cli.specs.Stores.{export_callee}
 use Rattle.canon_cli.proofs.func.call_core.Goals as goal

@@ -2,7 +2,7 @@ use Rattle.std.proofs.Common.{Some, ◌≡◌, ◌∙◌, ap, arith, length, sym
 use Rattle.std.specs.Prelude.{slice_get}
 use Rattle.canon_scalars.specs.Table.{IsOver}
 use Rattle.canon_scalars.specs.Table.{types_of as member_types}
-use Rattle.canon_value.specs.Core.{types_of}
+use Rattle.canon_scalar_value.specs.Core.{types_of}
 use Rattle.canon_cli.specs.Call.{result_words}
 use Rattle.canon_cli.specs.Stores.{export_callee}
 use Rattle.canon_cli.proofs.Callees.{callee_results, result_words_one, results_one}

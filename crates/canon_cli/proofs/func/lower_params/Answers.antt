@@ -4,8 +4,8 @@ use Rattle.canon_model.specs.Layout.{members_flat}
 use Rattle.canon_model.specs.Shape.{member_count}
 use Rattle.canon_scalars.specs.Table.{IsOver, param_members}
 use Rattle.canon_scalars.specs.Table.{types_of as member_types}
-use Rattle.canon_value.proofs.Scalars.{member_count-members_of}
-use Rattle.canon_value.specs.Core.{types_of}
+use Rattle.canon_scalar_value.proofs.Scalars.{member_count-members_of}
+use Rattle.canon_scalar_value.specs.Core.{types_of}
 use Rattle.canon_cli.specs.Stores.{export_callee}
 use Rattle.canon_cli.proofs.Callees.{callee_params, param_words, params_near}
 use Rattle.canon_cli.proofs.func.lower_params.Goals as goal

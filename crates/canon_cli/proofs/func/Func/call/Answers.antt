@@ -1,5 +1,5 @@
 use Rattle.std.proofs.Common.{Ok, Err, Result, Vec, Global, ◌∙◌, subst}
-use Rattle.canon_value.specs.declared.val.Val.{Val}
+use Rattle.canon_scalar_value.specs.declared.val.Val.{Val}
 use Rattle.canon_cli.proofs.Outcomes.{err_call, ok_call, same_answered, weaker}
 use Rattle.canon_cli.specs.Call.{Call, OnAnswered}
 use Rattle.canon_cli.specs.Runs.{NewEvents}
