@@ -1,0 +1,82 @@
+-- What contracts see of a guest.
+use Rattle.std.specs.Prelude.{ℕ, ◌≤◌, ◌≡◌, ◌++◌, Bool, IsTrue, List, [], ◌∷◌, length, Option, Result, Ok, Err}
+use Rattle.canon_model.specs.Memory.{Block}
+use Rattle.canon_model.specs.Requests.{Call}
+use Rattle.canon_memory.specs.declared.error.GuestFault.{GuestFault}
+use Rattle.canon_memory.specs.declared.error.GuestFault.TheVariants as fault
+use Rattle.canon_memory.specs.declared.event.Event.{Event}
+use Rattle.canon_memory.specs.Counts.{Rose}
+use Rattle.canon_memory.specs.Journal.{Adds, answer_event, asked_trap}
+use Rattle.canon_memory.specs.Realloc.{IsTidy, ReallocLaw, new_block}
+
+-- Of an answer of `realloc`: whether it kept the law, and whether no byte outside its block changed.
+pub record Mark : Type 0 where
+  pub lawful : Bool
+  pub tidy : Bool
+
+-- The journal where the guest tells it, a mark for each answer of `realloc` in its life, the blocks that live, and
+-- how often it trapped and answered want of memory.
+pub record Seen : Type 0 where
+  pub journal : Option (List Event)
+  pub marks : List Mark
+  pub live : List Block
+  pub traps : ℕ
+  pub shortages : ℕ
+
+-- a guest and its memory at one time
+pub record Moment : Type 0 where
+  pub guest : Seen
+  pub bytes : List ℕ
+
+abbrev pub moment : Seen → List ℕ → Moment
+moment guest bytes = record { guest = guest; bytes = bytes }
+
+-- A call goes from one to the other: memory isn't shorter, counts never fall, and it adds these marks and, to a told
+-- journal, these events.
+pub record Goes (before after : Moment) (new_marks : List Mark) (new_events : List Event) : Type 0 where
+  pub no_shorter : length before.bytes ≤ length after.bytes
+  pub traps_later : before.guest.traps ≤ after.guest.traps
+  pub shortages_later : before.guest.shortages ≤ after.guest.shortages
+  pub marks : after.guest.marks ≡ before.guest.marks ++ new_marks
+  pub events : Adds before.guest.journal after.guest.journal new_events
+
+-- each fault is answered only where its count rose
+abbrev pub HasCause : {T : Type 0} → Seen → Seen → Result T GuestFault → Type 0
+HasCause before after (Ok x) = Unit {0}
+HasCause before after (Err fault.Trap) = Rose before.traps after.traps
+HasCause before after (Err fault.OutOfMemory) = Rose before.shortages after.shortages
+
+-- a fact for every answer but want of memory
+abbrev pub OnAnswer : {T : Type 0} → Result T GuestFault → Type 0 → Type 0
+OnAnswer (Ok x) P = P
+OnAnswer (Err fault.Trap) P = P
+OnAnswer (Err fault.OutOfMemory) P = Unit {0}
+
+-- ---- what `realloc` does
+
+-- an answer, with its mark
+pub record Answered (before after : Moment) (c : Call) (answer : ℕ) (mark : Mark) : Type 0 where
+  pub goes : Goes before after (mark ∷ []) (answer_event c answer ∷ [])
+  pub lawful : IsTrue mark.lawful → ReallocLaw before.guest.live after.guest.live before.bytes after.bytes c answer
+  pub tidy : IsTrue mark.tidy → IsTidy before.bytes after.bytes (new_block c answer)
+
+pub record Trapped (before after : Moment) (c : Call) : Type 0 where
+  pub goes : Goes before after [] (asked_trap c (length before.bytes) ∷ [])
+  pub rose : Rose before.guest.traps after.guest.traps
+
+pub record WasShort (before after : Moment) : Type 0 where
+  pub goes : Goes before after [] []
+  pub rose : Rose before.guest.shortages after.guest.shortages
+
+abbrev pub Reallocates : Moment → Moment → Call → Result ℕ GuestFault → Type 0
+Reallocates before after c (Ok answer) = (mark : Mark) × Answered before after c answer mark
+Reallocates before after c (Err fault.Trap) = Trapped before after c
+Reallocates before after c (Err fault.OutOfMemory) = WasShort before after
+
+-- ---- a guest that tells its journal
+
+-- a guest with its journal, and how often the journal had no room
+pub record Recorded (G : Type 0) : Type 0 where
+  pub guest : G
+  pub events : List Event
+  pub shortages : ℕ

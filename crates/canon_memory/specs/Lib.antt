@@ -1,0 +1,5 @@
+pub mod Counts
+pub mod Guest
+pub mod Journal
+pub mod Memory
+pub mod Realloc

@@ -1,0 +1,82 @@
+ghost use Rattle.std.specs.Prelude.{◌<◌, ◌^◌, ◌++◌, List, [], IfOk};
+ghost use Rattle.canon_memory.specs.declared.event.Event.{Event};
+ghost use Rattle.canon_memory.specs.Guest.{Goes, HasCause, OnAnswer, Reallocates, Seen, moment};
+ghost use Rattle.canon_memory.specs.Journal.{dtor_events, post_events, realloc_events, resume_events, start_events};
+ghost use Rattle.canon_memory.specs.Realloc.{call};
+
+use crate::{GuestFault, Memory, ValRaw, Words};
+
+/// What a guest does once it is let go: it returns these words, or asks for an import with them.
+#[derive(Debug, Drop)]
+pub enum Step {
+    Return(Words),
+    Import { index: u32, words: Words },
+}
+
+/// The code of a component, which runs in its memory. It may lie in all that it answers, but it doesn't make memory
+/// shorter.
+pub trait Guest {
+    /// Its journal, marks, live blocks and counts.
+    ghost seen: { Self → Seen };
+
+    /// What it may do from one state to another, as the events that tell it.
+    ghost moves: { Self → List Event → Self → Type 0 };
+
+    /// Starts a core function with these words.
+    fn start(
+        &mut self,
+        memory: &mut Memory,
+        func: u32,
+        words: &[ValRaw],
+    ) -> Result<Step, GuestFault>
+        ensures goes { Goes (moment (seen self.old) memory.old) (moment (seen self.new) memory.new) [] (start_events func words.now memory.old memory.new result) }
+        ensures moves { OnAnswer result (moves self.old (start_events func words.now memory.old memory.new result) self.new) }
+        ensures cause { HasCause (seen self.old) (seen self.new) result };
+
+    /// Lets a guest that asked for an import go on with these words.
+    fn resume(&mut self, memory: &mut Memory, words: &[ValRaw]) -> Result<Step, GuestFault>
+        ensures goes { Goes (moment (seen self.old) memory.old) (moment (seen self.new) memory.new) [] (resume_events words.now memory.old memory.new result) }
+        ensures moves { OnAnswer result (moves self.old (resume_events words.now memory.old memory.new result) self.new) }
+        ensures cause { HasCause (seen self.old) (seen self.new) result };
+
+    /// Asks for a block of `new_size` bytes, in the place of the block of `old_size` bytes at `old` (CanonicalABI.md,
+    /// "realloc"). An `old_size` of 0 names no block.
+    fn realloc(
+        &mut self,
+        memory: &mut Memory,
+        old: u64,
+        old_size: u64,
+        align: u32,
+        new_size: u64,
+    ) -> Result<u64, GuestFault>
+        requires aligned { 0 < align }
+        requires narrow { old < 2 ^ 32 }
+        requires old_sized { old_size < 2 ^ 32 }
+        requires new_sized { new_size < 2 ^ 32 }
+        ensures narrow { IfOk result (λ answer. answer < 2 ^ 32) }
+        ensures does { Reallocates (moment (seen self.old) memory.old) (moment (seen self.new) memory.new) (call old old_size align new_size) result }
+        ensures moves { OnAnswer result (moves self.old (realloc_events (call old old_size align new_size) memory.old result) self.new) };
+
+    /// Tells a guest that its returned words were read (CanonicalABI.md, "post-return").
+    fn post_return(
+        &mut self,
+        memory: &mut Memory,
+        func: u32,
+        words: &[ValRaw],
+    ) -> Result<(), GuestFault>
+        ensures goes { Goes (moment (seen self.old) memory.old) (moment (seen self.new) memory.new) [] (post_events func words.now memory.old result) }
+        ensures moves { OnAnswer result (moves self.old (post_events func words.now memory.old result) self.new) }
+        ensures cause { HasCause (seen self.old) (seen self.new) result };
+
+    /// Runs the destructor of a resource of this representation.
+    fn dtor(&mut self, memory: &mut Memory, func: u32, rep: u32) -> Result<(), GuestFault>
+        ensures goes { Goes (moment (seen self.old) memory.old) (moment (seen self.new) memory.new) [] (dtor_events func rep memory.old result) }
+        ensures moves { OnAnswer result (moves self.old (dtor_events func rep memory.old result) self.new) }
+        ensures cause { HasCause (seen self.old) (seen self.new) result };
+
+    /// It may do nothing.
+    ghost stays: { (g : Self) → moves g [] g };
+
+    /// It may do one thing after another.
+    ghost goes_on: { (g h k : Self) (xs ys : List Event) → moves g xs h → moves h ys k → moves g (xs ++ ys) k };
+}

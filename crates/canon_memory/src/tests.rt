@@ -1,0 +1,191 @@
+//! Worked values of words and memories, and the journal of a small guest.
+
+ghost use Rattle.std.specs.Prelude.{[], None};
+
+use super::*;
+use std::alloc::Global;
+use std::mem;
+use std::process::Abort;
+use std::test::Fail;
+
+/// A guest that writes 9 at byte 0 and returns its answer. It traps at core function 1.
+#[derive(Drop)]
+struct Writer {
+    alloc: Global,
+    answer: Words,
+    traps: u64,
+}
+
+impl Guest for Writer {
+    ghost seen = { λ g. record { journal = None; marks = []; live = []; traps = g.traps; shortages = 0 } };
+
+    ghost moves = { λ _ _ _. Unit {0} };
+
+    ghost stays = { λ _. record {} };
+
+    ghost goes_on = { λ _ _ _ _ _ _ _. record {} };
+
+    fn start(
+        &mut self,
+        memory: &mut Memory,
+        func: u32,
+        _words: &[ValRaw],
+    ) -> Result<Step, GuestFault> {
+        if func == 1 {
+            self.traps = self.traps.saturating_add(1);
+            return Err(GuestFault::Trap);
+        }
+        if let Some(byte) = memory.as_slice_mut().first_mut() {
+            *byte = 9;
+        }
+        let words = mem::replace(&mut self.answer, Words::new(self.alloc));
+        Ok(Step::Return(words))
+    }
+}
+
+fn writer_of(alloc: Global, answer: u32) -> Result<Writer, MemoryError> {
+    Ok(Writer {
+        alloc,
+        answer: Words::from_slice(alloc, &[ValRaw::u32(answer)])?,
+        traps: 0,
+    })
+}
+
+fn assert_start(rt: &impl Abort, event: Option<&Event>, number: u32, word: ValRaw, bytes: &[u8]) {
+    let Some(
+        Event::Start {
+            func,
+            words,
+            memory,
+        },
+    ) = event
+    else {
+        panic!(rt; "no start: {event:?}");
+    };
+    assert_eq!(rt; *func, number);
+    assert_eq!(rt; words.as_slice(), [word].as_slice());
+    assert_eq!(rt; memory.as_slice(), bytes);
+}
+
+#[test]
+fn a_word_of_32_bits_stands_in_the_low_half(rt: HostRuntime) {
+    assert_eq!(rt; ValRaw::i32(-1).get_u64(), 4_294_967_295);
+    assert_eq!(rt; ValRaw::u32(7).get_u64(), 7);
+    assert_eq!(rt; ValRaw::f32(0x3f80_0000).get_u64(), 0x3f80_0000);
+    let word = ValRaw::u64(0x1_ffff_fffe);
+    assert_eq!(rt; word.get_i32(), -2);
+    assert_eq!(rt; word.get_u32(), 0xffff_fffe);
+    assert_eq!(rt; word.get_f32(), 0xffff_fffe);
+}
+
+#[test]
+fn a_word_of_64_bits_is_whole(rt: HostRuntime) {
+    assert_eq!(rt; ValRaw::i64(-1).get_u64(), 18_446_744_073_709_551_615);
+    assert_eq!(rt; ValRaw::u64(18_446_744_073_709_551_615).get_i64(), -1);
+    assert_eq!(rt;
+        ValRaw::f64(0x3ff0_0000_0000_0000).get_f64(),
+        0x3ff0_0000_0000_0000
+    );
+}
+
+#[test]
+fn lists_hold_what_was_pushed_and_copied(rt: HostRuntime) -> Result<(), Fail> {
+    let (one, two) = (ValRaw::u32(1), ValRaw::u32(2));
+    let mut words = Words::new(rt.alloc());
+    words.push(one)?;
+    words.push(two)?;
+    assert_eq!(rt; words.len(), 2);
+    assert_eq!(rt; words.as_slice(), [one, two].as_slice());
+    let copy = Words::from_slice(rt.alloc(), words.as_slice())?;
+    assert_eq!(rt; copy.as_slice(), [one, two].as_slice());
+    let mut bytes = Bytes::new(rt.alloc());
+    bytes.push(8)?;
+    bytes.push(255)?;
+    assert_eq!(rt; bytes.len(), 2);
+    assert_eq!(rt; bytes.as_slice(), [8, 255].as_slice());
+    let copy = Bytes::from_slice(rt.alloc(), bytes.as_slice())?;
+    assert_eq!(rt; copy.as_slice(), [8, 255].as_slice());
+    Ok(())
+}
+
+#[test]
+fn a_memory_is_zeros_until_it_is_written(rt: HostRuntime) -> Result<(), Fail> {
+    let mut memory = Memory::new(rt.alloc(), 3)?;
+    assert_eq!(rt; memory.len(), 3);
+    assert_eq!(rt; memory.as_slice(), [0, 0, 0].as_slice());
+    memory.as_slice_mut().copy_from_slice(&[1, 2, 3]);
+    assert_eq!(rt; memory.as_slice(), [1, 2, 3].as_slice());
+    let past = Memory::new(rt.alloc(), 4_294_967_297);
+    assert!(rt; matches!(past, Err(MemoryError::TooLarge)), "{past:?}");
+    Ok(())
+}
+
+#[test]
+fn a_journal_tells_a_start_and_its_return(rt: HostRuntime) -> Result<(), Fail> {
+    let alloc = rt.alloc();
+    let mut memory = Memory::new(alloc, 2)?;
+    let mut guest = Journaled::new(alloc, writer_of(alloc, 5)?);
+    assert_eq!(rt; guest.events().len(), 0);
+    let Step::Return(words) = guest.start(&mut memory, 3, &[ValRaw::u32(7)])?;
+    assert_eq!(rt; words.as_slice(), [ValRaw::u32(5)].as_slice());
+    let events = guest.take_journal();
+    assert_eq!(rt; events.len(), 2);
+    assert_start(&rt, events.as_slice().first(), 3, ValRaw::u32(7), &[0, 0]);
+    let Some(Event::Return { words, memory }) = events.as_slice().last() else {
+        panic!(rt; "no return: {events:?}");
+    };
+    assert_eq!(rt; words.as_slice(), [ValRaw::u32(5)].as_slice());
+    assert_eq!(rt; memory.as_slice(), [9, 0].as_slice());
+    assert_eq!(rt; guest.events().len(), 0);
+    Ok(())
+}
+
+#[test]
+fn a_journal_tells_a_start_and_its_trap(rt: HostRuntime) -> Result<(), Fail> {
+    let alloc = rt.alloc();
+    let mut memory = Memory::new(alloc, 2)?;
+    let mut guest = Journaled::new(alloc, writer_of(alloc, 5)?);
+    guest.guest_mut().traps = 4;
+    let fault = guest.start(&mut memory, 1, &[ValRaw::u32(7)]);
+    assert!(rt; matches!(fault, Err(GuestFault::Trap)), "{fault:?}");
+    assert_eq!(rt; guest.guest().traps, 5);
+    let events = guest.take_journal();
+    assert_eq!(rt; events.len(), 2);
+    assert_start(&rt, events.as_slice().first(), 1, ValRaw::u32(7), &[0, 0]);
+    let last = events.as_slice().last();
+    assert!(rt;
+        matches!(
+            last,
+            Some(Event::Trap {
+                asked: None,
+                len: 2
+            })
+        ),
+        "{last:?}"
+    );
+    Ok(())
+}
+
+#[test]
+fn events_are_kept_in_order(rt: HostRuntime) -> Result<(), Fail> {
+    let mut events = Events::new(rt.alloc());
+    for len in [10, 20] {
+        events.push(Event::Trap {
+            asked: Some((0, 0, 4, len)),
+            len,
+        })?;
+    }
+    assert_eq!(rt; events.len(), 2);
+    let first = events.as_slice().first();
+    assert!(rt;
+        matches!(
+            first,
+            Some(Event::Trap {
+                asked: Some((0, 0, 4, 10)),
+                len: 10
+            })
+        ),
+        "{first:?}"
+    );
+    Ok(())
+}
