@@ -1,5 +1,5 @@
 -- What a call of `realloc` does to memory and to the blocks that live (CanonicalABI.md, "realloc").
-use Rattle.std.specs.Prelude.{ℕ, ◌+◌, ◌%◌, ◌<◌, ◌≤◌, ◌≡◌, ◌⊎◌, ◌↔◌, Bool, IsTrue, List, [], ◌∷◌, length, slice_index}
+use Rattle.std.specs.Prelude.{ℕ, ◌+◌, ◌%◌, ◌<◌, ◌≤◌, ◌≡◌, ◌⊎◌, ◌↔◌, List, [], ◌∷◌, length, slice_index}
 use Rattle.std.specs.List.{Contains}
 use Rattle.canon_model.specs.Memory.{Block, InBlocks}
 use Rattle.canon_model.specs.Requests.{Call}

@@ -120,6 +120,14 @@ impl Events {
         self.items[last] = item;
     }
 
+    /// Takes the last event away.
+    pub(crate) fn drop_last(&mut self)
+        requires { 1 ≤ length self.old }
+        ensures { self.new ≡ take (length self.old - 1) self.old }
+    {
+        self.items.truncate(self.items.len() - 1);
+    }
+
     /// Takes the last two events away.
     pub(crate) fn drop_both(&mut self)
         requires { 2 ≤ length self.old }

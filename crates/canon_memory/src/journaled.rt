@@ -1,4 +1,4 @@
-ghost use Rattle.std.specs.Prelude.{◌≡◌, ◌≤◌, ◌+◌, ◌-◌, ◌^◌, min, take, List, [], ◌∷◌, ◌++◌, length, None, Some, IfOk, OnOk, OnErr};
+ghost use Rattle.std.specs.Prelude.{◌≡◌, ◌+◌, List, ◌∷◌, [], ◌++◌, length, Some, IfOk, OnOk, OnErr};
 ghost use Rattle.canon_memory.specs.declared.event.Event.TheVariants as event;
 ghost use Rattle.canon_memory.specs.Guest.{Recorded};
 ghost use Rattle.canon_memory.specs.Journal.{step_event, trap_event};
@@ -24,8 +24,10 @@ impl<G> Model for Journaled<G> {
 }
 
 impl<G> Journaled<G> {
-    ghost use Rattle.std.specs.Prelude.{◌≡◌, []};
+    ghost use Rattle.std.specs.Prelude.{◌≡◌, ◌≤◌, ◌-◌, ◌∷◌, ◌++◌, [], OnErr, OnOk, length, take};
     ghost use Rattle.std.specs.Borrow.{Lends, sem};
+    ghost use Rattle.canon_memory.specs.Counts.{Rose};
+    ghost use Rattle.canon_memory.specs.Journal.{step_event};
     ghost use Rattle.canon_memory.specs.contracts.journaled.Journaled.{the_row};
 
     /// A guest that has done nothing yet.
@@ -66,9 +68,54 @@ impl<G> Journaled<G> {
     {
         mem::replace(&mut self.events, Events::new(self.alloc))
     }
+
+    /// Counts that the journal had no room.
+    fn run_out(&mut self)
+        ensures guest { self.new.guest ≡ self.old.guest }
+        ensures events { self.new.events ≡ self.old.events }
+        ensures later { self.old.shortages ≤ self.new.shortages }
+        ensures rose { Rose self.old.shortages self.new.shortages }
+    {
+        self.shortages = self.shortages.saturating_add(1);
+    }
+
+    /// Puts what the guest did in the place of the trap. Where memory runs out, takes the event before it away too.
+    fn conclude(&mut self, memory: &Memory, step: &Step) -> Result<(), MemoryError>
+        requires { 2 ≤ length self.old.events }
+        ensures guest { self.new.guest ≡ self.old.guest }
+        ensures told { OnOk result (self.new.events ≡ take (length self.old.events - 1) self.old.events ++ step_event step.now memory.now ∷ []) }
+        ensures untold { OnErr result (self.new.events ≡ take (length self.old.events - 2) self.old.events) }
+        ensures later { self.old.shortages ≤ self.new.shortages }
+        ensures rose { OnErr result (Rose self.old.shortages self.new.shortages) }
+    {
+        match event_of(self.alloc, step, memory) {
+            Ok(event) => {
+                self.events.replace_last(event);
+                Ok(())
+            }
+            Err(error) => {
+                self.events.drop_both();
+                self.run_out();
+                Err(error)
+            }
+        }
+    }
+
+    /// Leaves a call's event and its trap, or takes both away where the guest had no memory.
+    fn fail(&mut self, fault: GuestFault) -> GuestFault
+        requires { 2 ≤ length self.old.events }
+        ensures fault { result ≡ fault }
+        ensures trap { fault ≡ GuestFault.Trap → self.new ≡ self.old }
+        ensures short { fault ≡ GuestFault.OutOfMemory → self.new ≡ record self.old { events = take (length self.old.events - 2) self.old.events } }
+    {
+        if fault == GuestFault::OutOfMemory {
+            self.events.drop_both();
+        }
+        fault
+    }
 }
 
-#[tactic(auto, using(crate::proofs::Last::last_replaced))]
+#[tactic(auto, using(crate::proofs::Last::both_dropped, crate::proofs::Last::last_dropped, crate::proofs::Last::last_replaced, crate::proofs::Last::one_dropped, crate::proofs::Last::one_replaced))]
 impl<G: Guest> Guest for Journaled<G> {
     ghost seen = { λ j. record (G.seen j.guest) { journal = Some j.events; shortages = (G.seen j.guest).shortages + j.shortages } };
 
@@ -84,29 +131,119 @@ impl<G: Guest> Guest for Journaled<G> {
         func: u32,
         words: &[ValRaw],
     ) -> Result<Step, GuestFault> {
-        if begin(self.alloc, &mut self.events, memory, func, words).is_err() {
-            self.shortages = self.shortages.saturating_add(1);
+        if begin_start(self.alloc, &mut self.events, memory, func, words).is_err() {
+            self.run_out();
             return Err(GuestFault::OutOfMemory);
         }
         match self.guest.start(memory, func, words) {
-            Ok(step) => match conclude(self.alloc, &mut self.events, &step, memory) {
-                Ok(()) => Ok(step),
-                Err(_) => {
-                    self.shortages = self.shortages.saturating_add(1);
-                    Err(GuestFault::OutOfMemory)
+            Ok(step) => {
+                if self.conclude(memory, &step).is_err() {
+                    return Err(GuestFault::OutOfMemory);
                 }
-            },
+                Ok(step)
+            }
+            Err(fault) => Err(self.fail(fault)),
+        }
+    }
+
+    fn resume(&mut self, memory: &mut Memory, words: &[ValRaw]) -> Result<Step, GuestFault> {
+        if begin_resume(self.alloc, &mut self.events, memory, words).is_err() {
+            self.run_out();
+            return Err(GuestFault::OutOfMemory);
+        }
+        match self.guest.resume(memory, words) {
+            Ok(step) => {
+                if self.conclude(memory, &step).is_err() {
+                    return Err(GuestFault::OutOfMemory);
+                }
+                Ok(step)
+            }
+            Err(fault) => Err(self.fail(fault)),
+        }
+    }
+
+    fn realloc(
+        &mut self,
+        memory: &mut Memory,
+        old: u64,
+        old_size: u64,
+        align: u32,
+        new_size: u64,
+    ) -> Result<u64, GuestFault> {
+        let trap = Event::Trap {
+            asked: Some((old, old_size, align, new_size)),
+            len: memory.len(),
+        };
+        if self.events.push(trap).is_err() {
+            self.run_out();
+            return Err(GuestFault::OutOfMemory);
+        }
+        match self.guest.realloc(memory, old, old_size, align, new_size) {
+            Ok(answer) => {
+                self.events.replace_last(Event::Realloc {
+                    old,
+                    old_size,
+                    align,
+                    new_size,
+                    answer,
+                });
+                Ok(answer)
+            }
             Err(GuestFault::Trap) => Err(GuestFault::Trap),
             Err(GuestFault::OutOfMemory) => {
-                self.events.drop_both();
+                self.events.drop_last();
                 Err(GuestFault::OutOfMemory)
             }
         }
     }
+
+    fn post_return(
+        &mut self,
+        memory: &mut Memory,
+        func: u32,
+        words: &[ValRaw],
+    ) -> Result<(), GuestFault> {
+        if begin_post(self.alloc, &mut self.events, memory, func, words).is_err() {
+            self.run_out();
+            return Err(GuestFault::OutOfMemory);
+        }
+        match self.guest.post_return(memory, func, words) {
+            Ok(()) => {
+                self.events.drop_last();
+                Ok(())
+            }
+            Err(fault) => Err(self.fail(fault)),
+        }
+    }
+
+    fn dtor(&mut self, memory: &mut Memory, func: u32, rep: u32) -> Result<(), GuestFault> {
+        if begin(&mut self.events, Event::Dtor { func, rep }, memory).is_err() {
+            self.run_out();
+            return Err(GuestFault::OutOfMemory);
+        }
+        match self.guest.dtor(memory, func, rep) {
+            Ok(()) => {
+                self.events.drop_last();
+                Ok(())
+            }
+            Err(fault) => Err(self.fail(fault)),
+        }
+    }
 }
 
-/// Adds the start, and the trap that comes where the guest doesn't return.
-fn begin(
+/// Adds a call's event, and the trap that stays where the guest traps.
+fn begin(events: &mut Events, first: Event, memory: &Memory) -> Result<(), MemoryError>
+    ensures ok { OnOk result (events.new ≡ events.old ++ first ∷ trap_event (length memory.now) ∷ []) }
+    ensures err { OnErr result (events.new ≡ events.old) }
+{
+    let trap = Event::Trap {
+        asked: None,
+        len: memory.len(),
+    };
+    events.push_both(first, trap)
+}
+
+fn begin_start(
     alloc: Global,
     events: &mut Events,
     memory: &Memory,
@@ -121,34 +258,40 @@ fn begin(
         words: Words::from_slice(alloc, words)?,
         memory: Bytes::from_slice(alloc, memory.as_slice())?,
     };
-    let trap = Event::Trap {
-        asked: None,
-        len: memory.len(),
-    };
-    events.push_both(start, trap)
+    begin(events, start, memory)
 }
 
-/// Puts what the guest did in the place of the trap. Where memory runs out, takes the start away too.
-fn conclude(
+fn begin_resume(
     alloc: Global,
     events: &mut Events,
-    step: &Step,
     memory: &Memory,
+    words: &[ValRaw],
 ) -> Result<(), MemoryError>
-    requires { 2 ≤ length events.old }
-    ensures ok { OnOk result (events.new ≡ take (length events.old - 1) events.old ++ step_event step.now memory.now ∷ []) }
-    ensures err { OnErr result (events.new ≡ take (length events.old - 2) events.old) }
+    ensures ok { OnOk result (events.new ≡ events.old ++ event.Resume words.now memory.now ∷ trap_event (length memory.now) ∷ []) }
+    ensures err { OnErr result (events.new ≡ events.old) }
 {
-    match event_of(alloc, step, memory) {
-        Ok(event) => {
-            events.replace_last(event);
-            Ok(())
-        }
-        Err(error) => {
-            events.drop_both();
-            Err(error)
-        }
-    }
+    let resume = Event::Resume {
+        words: Words::from_slice(alloc, words)?,
+        memory: Bytes::from_slice(alloc, memory.as_slice())?,
+    };
+    begin(events, resume, memory)
+}
+
+fn begin_post(
+    alloc: Global,
+    events: &mut Events,
+    memory: &Memory,
+    func: u32,
+    words: &[ValRaw],
+) -> Result<(), MemoryError>
+    ensures ok { OnOk result (events.new ≡ events.old ++ event.Post func words.now ∷ trap_event (length memory.now) ∷ []) }
+    ensures err { OnErr result (events.new ≡ events.old) }
+{
+    let post = Event::Post {
+        func,
+        words: Words::from_slice(alloc, words)?,
+    };
+    begin(events, post, memory)
 }
 
 fn event_of(alloc: Global, step: &Step, memory: &Memory) -> Result<Event, MemoryError>
@@ -159,6 +302,14 @@ fn event_of(alloc: Global, step: &Step, memory: &Memory) -> Result<Event, Memory
         Step::Return(words) => {
             let words = Words::from_slice(alloc, words.as_slice())?;
             Ok(Event::Return { words, memory })
+        }
+        Step::Import { index, words } => {
+            let words = Words::from_slice(alloc, words.as_slice())?;
+            Ok(Event::Ask {
+                index: *index,
+                words,
+                memory,
+            })
         }
     }
 }

@@ -22,7 +22,7 @@ impl Model for Memory {
 }
 
 impl Memory {
-    ghost use Rattle.std.specs.Prelude.{◌≡◌, ◌^◌, ◌<◌, length, replicate, IfOk, Err, ◌↔◌};
+    ghost use Rattle.std.specs.Prelude.{◌≡◌, ◌+◌, ◌^◌, ◌<◌, ◌++◌, length, replicate, IfOk, OnErr, OnOk, Err, ◌↔◌};
     ghost use Rattle.std.specs.Borrow.{Array, Lends, sem, u8};
     ghost use Rattle.canon_memory.specs.Memory.{written_over};
     ghost use Rattle.canon_memory.specs.contracts.memory.Memory.{the_row};
@@ -37,6 +37,20 @@ impl Memory {
         }
         let bytes = vec![in alloc; 0; len as usize]?;
         Ok(Memory { bytes })
+    }
+
+    /// Adds `by` zeros at the end. A refusal leaves the memory as it was.
+    pub fn grow(&mut self, by: u64) -> Result<(), MemoryError>
+        ensures ok { OnOk result (self.new ≡ self.old ++ replicate by 0) }
+        ensures err { OnErr result (self.new ≡ self.old) }
+        ensures too_large { (result ≡ Err MemoryError.TooLarge) ↔ (2 ^ 32 < length self.old + by) }
+    {
+        let len = self.len();
+        if by > MAX_LEN - len {
+            return Err(MemoryError::TooLarge);
+        }
+        self.bytes.resize((len + by) as usize, 0)?;
+        Ok(())
     }
 
     /// The number of bytes.
