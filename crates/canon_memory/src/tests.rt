@@ -1,6 +1,6 @@
 //! Worked values of words and memories, and the journal of a small guest.
 
-ghost use Rattle.std.specs.Prelude.{[], None};
+ghost use Rattle.std.specs.Prelude.{[], ◌∷◌, None, false, if◌then◌else◌};
 
 use super::*;
 use std::alloc::Global;
@@ -8,16 +8,19 @@ use std::mem;
 use std::process::Abort;
 use std::test::Fail;
 
-/// A guest that writes 9 at byte 0 and returns its answer. It traps at core function 1.
+/// A guest that traps at core function 1 and destructor 1, asks for import 6 at core function 2, and returns its answer
+/// at every other. It writes 9 at byte 0 when it starts, and 8 when it is resumed. It answers one `realloc` with 16, and
+/// traps at the next.
 #[derive(Drop)]
 struct Writer {
     alloc: Global,
     answer: Words,
+    answered: bool,
     traps: u64,
 }
 
 impl Guest for Writer {
-    ghost seen = { λ g. record { journal = None; marks = []; live = []; traps = g.traps; shortages = 0 } };
+    ghost seen = { λ g. record { journal = None; marks = if g.answered then record { lawful = false; tidy = false } ∷ [] else []; live = []; traps = g.traps; shortages = 0 } };
 
     ghost moves = { λ _ _ _. Unit {0} };
 
@@ -39,7 +42,50 @@ impl Guest for Writer {
             *byte = 9;
         }
         let words = mem::replace(&mut self.answer, Words::new(self.alloc));
+        if func == 2 {
+            return Ok(Step::Import { index: 6, words });
+        }
         Ok(Step::Return(words))
+    }
+
+    fn resume(&mut self, memory: &mut Memory, _words: &[ValRaw]) -> Result<Step, GuestFault> {
+        if let Some(byte) = memory.as_slice_mut().first_mut() {
+            *byte = 8;
+        }
+        Ok(Step::Return(Words::new(self.alloc)))
+    }
+
+    fn realloc(
+        &mut self,
+        _memory: &mut Memory,
+        _old: u64,
+        _old_size: u64,
+        _align: u32,
+        _new_size: u64,
+    ) -> Result<u64, GuestFault> {
+        if self.answered {
+            self.traps = self.traps.saturating_add(1);
+            return Err(GuestFault::Trap);
+        }
+        self.answered = true;
+        Ok(16)
+    }
+
+    fn post_return(
+        &mut self,
+        _memory: &mut Memory,
+        _func: u32,
+        _words: &[ValRaw],
+    ) -> Result<(), GuestFault> {
+        Ok(())
+    }
+
+    fn dtor(&mut self, _memory: &mut Memory, func: u32, _rep: u32) -> Result<(), GuestFault> {
+        if func == 1 {
+            self.traps = self.traps.saturating_add(1);
+            return Err(GuestFault::Trap);
+        }
+        Ok(())
     }
 }
 
@@ -47,6 +93,7 @@ fn writer_of(alloc: Global, answer: u32) -> Result<Writer, MemoryError> {
     Ok(Writer {
         alloc,
         answer: Words::from_slice(alloc, &[ValRaw::u32(answer)])?,
+        answered: false,
         traps: 0,
     })
 }
@@ -63,6 +110,22 @@ fn assert_start(rt: &impl Abort, event: Option<&Event>, number: u32, word: ValRa
         panic!(rt; "no start: {event:?}");
     };
     assert_eq!(rt; *func, number);
+    assert_eq!(rt; words.as_slice(), [word].as_slice());
+    assert_eq!(rt; memory.as_slice(), bytes);
+}
+
+fn assert_ask(rt: &impl Abort, event: Option<&Event>, number: u32, word: ValRaw, bytes: &[u8]) {
+    let Some(
+        Event::Ask {
+            index,
+            words,
+            memory,
+        },
+    ) = event
+    else {
+        panic!(rt; "no ask: {event:?}");
+    };
+    assert_eq!(rt; *index, number);
     assert_eq!(rt; words.as_slice(), [word].as_slice());
     assert_eq!(rt; memory.as_slice(), bytes);
 }
@@ -121,12 +184,31 @@ fn a_memory_is_zeros_until_it_is_written(rt: HostRuntime) -> Result<(), Fail> {
 }
 
 #[test]
+fn a_memory_grows_by_zeros_up_to_its_limit(rt: HostRuntime) -> Result<(), Fail> {
+    let mut memory = Memory::new(rt.alloc(), 65_536)?;
+    memory.as_slice_mut().fill(7);
+    memory.grow(1)?;
+    assert_eq!(rt; memory.len(), 65_537);
+    assert_eq!(rt; memory.as_slice().get(65_535), Some(&7));
+    assert_eq!(rt; memory.as_slice().last(), Some(&0));
+    for by in [4_294_967_296, 18_446_744_073_709_551_615] {
+        let past = memory.grow(by);
+        assert!(rt; matches!(past, Err(MemoryError::TooLarge)), "{past:?}");
+    }
+    assert_eq!(rt; memory.len(), 65_537);
+    Ok(())
+}
+
+#[test]
 fn a_journal_tells_a_start_and_its_return(rt: HostRuntime) -> Result<(), Fail> {
     let alloc = rt.alloc();
     let mut memory = Memory::new(alloc, 2)?;
     let mut guest = Journaled::new(alloc, writer_of(alloc, 5)?);
     assert_eq!(rt; guest.events().len(), 0);
-    let Step::Return(words) = guest.start(&mut memory, 3, &[ValRaw::u32(7)])?;
+    let step = guest.start(&mut memory, 3, &[ValRaw::u32(7)])?;
+    let Step::Return(words) = &step else {
+        panic!(rt; "no return: {step:?}");
+    };
     assert_eq!(rt; words.as_slice(), [ValRaw::u32(5)].as_slice());
     let events = guest.take_journal();
     assert_eq!(rt; events.len(), 2);
@@ -152,6 +234,110 @@ fn a_journal_tells_a_start_and_its_trap(rt: HostRuntime) -> Result<(), Fail> {
     let events = guest.take_journal();
     assert_eq!(rt; events.len(), 2);
     assert_start(&rt, events.as_slice().first(), 1, ValRaw::u32(7), &[0, 0]);
+    let last = events.as_slice().last();
+    assert!(rt;
+        matches!(
+            last,
+            Some(Event::Trap {
+                asked: None,
+                len: 2
+            })
+        ),
+        "{last:?}"
+    );
+    Ok(())
+}
+
+#[test]
+fn a_journal_tells_an_ask_and_its_resume(rt: HostRuntime) -> Result<(), Fail> {
+    let alloc = rt.alloc();
+    let mut memory = Memory::new(alloc, 2)?;
+    let mut guest = Journaled::new(alloc, writer_of(alloc, 5)?);
+    let step = guest.start(&mut memory, 2, &[ValRaw::u32(7)])?;
+    assert!(rt; matches!(&step, Step::Import { index: 6, .. }), "{step:?}");
+    let step = guest.resume(&mut memory, &[ValRaw::u32(11)])?;
+    assert!(rt; matches!(&step, Step::Return(_)), "{step:?}");
+    let events = guest.take_journal();
+    assert_eq!(rt; events.len(), 4);
+    assert_start(&rt, events.as_slice().first(), 2, ValRaw::u32(7), &[0, 0]);
+    assert_ask(&rt, events.as_slice().get(1), 6, ValRaw::u32(5), &[9, 0]);
+    let Some(Event::Resume { words, memory }) = events.as_slice().get(2) else {
+        panic!(rt; "no resume: {events:?}");
+    };
+    assert_eq!(rt; words.as_slice(), [ValRaw::u32(11)].as_slice());
+    assert_eq!(rt; memory.as_slice(), [9, 0].as_slice());
+    let Some(Event::Return { words, memory }) = events.as_slice().last() else {
+        panic!(rt; "no return: {events:?}");
+    };
+    assert_eq!(rt; words.len(), 0);
+    assert_eq!(rt; memory.as_slice(), [8, 0].as_slice());
+    Ok(())
+}
+
+#[test]
+fn a_journal_tells_a_realloc_by_its_answer_or_its_request(rt: HostRuntime) -> Result<(), Fail> {
+    let alloc = rt.alloc();
+    let mut memory = Memory::new(alloc, 40)?;
+    let mut guest = Journaled::new(alloc, writer_of(alloc, 5)?);
+    assert_eq!(rt; guest.realloc(&mut memory, 0, 0, 4, 8)?, 16);
+    let fault = guest.realloc(&mut memory, 16, 8, 4, 20);
+    assert!(rt; matches!(fault, Err(GuestFault::Trap)), "{fault:?}");
+    let events = guest.take_journal();
+    assert_eq!(rt; events.len(), 2);
+    let first = events.as_slice().first();
+    assert!(rt;
+        matches!(
+            first,
+            Some(Event::Realloc {
+                old: 0,
+                old_size: 0,
+                align: 4,
+                new_size: 8,
+                answer: 16
+            })
+        ),
+        "{first:?}"
+    );
+    let last = events.as_slice().last();
+    assert!(rt;
+        matches!(
+            last,
+            Some(Event::Trap {
+                asked: Some((16, 8, 4, 20)),
+                len: 40
+            })
+        ),
+        "{last:?}"
+    );
+    Ok(())
+}
+
+#[test]
+fn a_journal_tells_a_post_return_and_a_destructor_that_traps(rt: HostRuntime) -> Result<(), Fail> {
+    let alloc = rt.alloc();
+    let mut memory = Memory::new(alloc, 2)?;
+    let mut guest = Journaled::new(alloc, writer_of(alloc, 5)?);
+    guest.post_return(&mut memory, 4, &[ValRaw::u32(5)])?;
+    guest.dtor(&mut memory, 3, 80)?;
+    let fault = guest.dtor(&mut memory, 1, 90);
+    assert!(rt; matches!(fault, Err(GuestFault::Trap)), "{fault:?}");
+    let events = guest.take_journal();
+    assert_eq!(rt; events.len(), 4);
+    let Some(Event::Post { func, words }) = events.as_slice().first() else {
+        panic!(rt; "no post-return: {events:?}");
+    };
+    assert_eq!(rt; *func, 4);
+    assert_eq!(rt; words.as_slice(), [ValRaw::u32(5)].as_slice());
+    let ended = events.as_slice().get(1);
+    assert!(rt;
+        matches!(ended, Some(Event::Dtor { func: 3, rep: 80 })),
+        "{ended:?}"
+    );
+    let first = events.as_slice().get(2);
+    assert!(rt;
+        matches!(first, Some(Event::Dtor { func: 1, rep: 90 })),
+        "{first:?}"
+    );
     let last = events.as_slice().last();
     assert!(rt;
         matches!(
