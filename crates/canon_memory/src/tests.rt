@@ -1,6 +1,6 @@
 //! Worked values of words and memories, and the journal of a small guest.
 
-ghost use Rattle.std.specs.Prelude.{[], ◌∷◌, None, false, if◌then◌else◌};
+ghost use Rattle.std.specs.Prelude.{[], ◌∷◌, None, false, true, if◌then◌else◌};
 
 use super::*;
 use std::alloc::Global;
@@ -20,7 +20,7 @@ struct Writer {
 }
 
 impl Guest for Writer {
-    ghost seen = { λ g. record { journal = None; marks = if g.answered then record { lawful = false; tidy = false } ∷ [] else []; live = []; traps = g.traps; shortages = 0 } };
+    ghost seen = { λ g. record { journal = None; marks = if g.answered then record { lawful = false; tidy = true } ∷ [] else []; live = []; traps = g.traps; shortages = 0 } };
 
     ghost moves = { λ _ _ _. Unit {0} };
 
