@@ -1,4 +1,4 @@
-ghost use Rattle.std.specs.Prelude.{◌<◌, ◌^◌, ◌++◌, List, [], IfOk};
+ghost use Rattle.std.specs.Prelude.{ℕ, ◌<◌, ◌^◌, ◌++◌, List, [], IfOk, OnOk};
 ghost use Rattle.canon_memory.specs.declared.event.Event.{Event};
 ghost use Rattle.canon_memory.specs.Guest.{Goes, HasCause, OnAnswer, Reallocates, Seen, moment};
 ghost use Rattle.canon_memory.specs.Journal.{dtor_events, post_events, realloc_events, resume_events, start_events};
@@ -21,6 +21,9 @@ pub trait Guest {
 
     /// What it may do from one state to another, as the events that tell it.
     ghost moves: { Self → List Event → Self → Type 0 };
+
+    /// What its post-return may make of memory, from before to after.
+    ghost post_leaves: { List ℕ → List ℕ → Type 0 };
 
     /// Starts a core function with these words.
     fn start(
@@ -66,6 +69,7 @@ pub trait Guest {
     ) -> Result<(), GuestFault>
         ensures goes { Goes (moment (seen self.old) memory.old) (moment (seen self.new) memory.new) [] (post_events func words.now memory.old result) }
         ensures moves { OnAnswer result (moves self.old (post_events func words.now memory.old result) self.new) }
+        ensures leaves { OnOk result (post_leaves memory.old memory.new) }
         ensures cause { HasCause (seen self.old) (seen self.new) result };
 
     /// Runs the destructor of a resource of this representation.

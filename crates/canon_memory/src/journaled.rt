@@ -121,6 +121,8 @@ impl<G: Guest> Guest for Journaled<G> {
 
     ghost moves = { λ j events k. G.moves j.guest events k.guest };
 
+    ghost post_leaves = { λ m n. G.post_leaves m n };
+
     ghost stays = { λ j. G.stays j.guest };
 
     ghost goes_on = { λ i j k xs ys f g. G.goes_on i.guest j.guest k.guest xs ys f g };

@@ -1,6 +1,6 @@
 //! Worked values of words and memories, and the journal of a small guest.
 
-ghost use Rattle.std.specs.Prelude.{[], ◌∷◌, None, false, true, if◌then◌else◌};
+ghost use Rattle.std.specs.Prelude.{◌≡◌, [], ◌∷◌, None, false, true, if◌then◌else◌};
 
 use super::*;
 use std::alloc::Global;
@@ -23,6 +23,8 @@ impl Guest for Writer {
     ghost seen = { λ g. record { journal = None; marks = if g.answered then record { lawful = false; tidy = true } ∷ [] else []; live = []; traps = g.traps; shortages = 0 } };
 
     ghost moves = { λ _ _ _. Unit {0} };
+
+    ghost post_leaves = { λ m n. n ≡ m };
 
     ghost stays = { λ _. record {} };
 
