@@ -22,7 +22,7 @@ impl Model for Memory {
 }
 
 impl Memory {
-    ghost use Rattle.std.specs.Prelude.{◌≡◌, ◌+◌, ◌^◌, ◌<◌, ◌++◌, length, replicate, IfOk, OnErr, OnOk, Err, ◌↔◌};
+    ghost use Rattle.std.specs.Prelude.{◌≡◌, ◌≤◌, ◌+◌, ◌^◌, ◌<◌, ◌++◌, length, replicate, IfOk, OnErr, OnOk, Err, ◌↔◌};
     ghost use Rattle.std.specs.Borrow.{Array, Lends, sem, u8};
     ghost use Rattle.canon_memory.specs.Memory.{written_over};
     ghost use Rattle.canon_memory.specs.contracts.memory.Memory.{the_row};
@@ -53,9 +53,10 @@ impl Memory {
         Ok(())
     }
 
-    /// The number of bytes.
+    /// The number of bytes, at most 2^32.
     pub fn len(&self) -> u64
-        ensures { result ≡ length self.now }
+        ensures count { result ≡ length self.now }
+        ensures few { length self.now ≤ 2 ^ 32 }
     {
         self.bytes.len() as u64
     }
