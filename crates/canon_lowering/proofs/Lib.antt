@@ -1,0 +1,15 @@
+pub mod Steps
+pub mod Lowerings
+pub mod Kept
+pub mod Storings
+pub mod Rows
+pub mod Bytes
+pub mod WordHomes
+pub mod Words
+pub mod WordRows
+pub mod Lists
+pub mod TextSteps
+pub mod Parameters
+pub mod Told
+pub mod Frames
+pub mod Cases

@@ -1,0 +1,5 @@
+pub mod Steps
+pub mod Lowering
+pub mod Storing
+pub mod Args
+pub mod Texts
