@@ -1,0 +1,4 @@
+pub mod Actions
+pub mod Allocator
+pub mod Orders
+pub mod Scripted

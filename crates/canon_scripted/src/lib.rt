@@ -1,0 +1,14 @@
+//! A guest that follows a script, and its allocator.
+#![tactic(auto)]
+
+mod actions;
+mod allocator;
+mod grow;
+mod guest;
+mod orders;
+#[cfg(test)]
+mod tests;
+
+pub use actions::Action;
+pub use guest::ScriptedGuest;
+pub use orders::Ordered;

@@ -1,0 +1,177 @@
+-- The text of a transcript.
+use Rattle.std.specs.Prelude.{ℕ, ◌-◌, ◌==◌, ◌&&◌, ◌||◌, nat_le, not, if◌then◌else◌, Bool, true, false, List, [], ◌∷◌, ◌++◌, codes, drop, flat_map, length, map, replicate, string_bytes, take, String}
+use Rattle.std.specs.Fmt.{decimal, digits, signed_decimal}
+use Rattle.std.specs.List.{join_with_byte}
+use Rattle.std.specs.Str.{chars}
+use Rattle.std.specs.declared.alloc.Global.{Global}
+use Rattle.hex.specs.Hex.{encode_lower}
+use Rattle.canon_memory.specs.declared.event.Event.{Event}
+use Rattle.canon_memory.specs.declared.event.Event.TheVariants as event
+use Rattle.canon_value.specs.declared.fault.At.{At}
+use Rattle.canon_value.specs.declared.fault.At.TheVariants as at
+use Rattle.canon_value.specs.declared.fault.Fault.{Fault}
+use Rattle.canon_value.specs.declared.fault.Fault.TheVariants as fault
+use Rattle.canon_value.specs.declared.val.Val.{Val}
+use Rattle.canon_value.specs.declared.val.Val.TheFolds.{fold-Val}
+use Rattle.canon_value.specs.declared.val.Val.TheOpen.{Val-F}
+use Rattle.canon_func.specs.declared.error.Error.{Error}
+use Rattle.canon_func.specs.declared.error.Error.TheVariants as error
+use Rattle.canon_transcript.specs.declared.blocks.Block.{Block}
+use Rattle.canon_transcript.specs.declared.transcript.Head.{Head}
+use Rattle.canon_transcript.specs.declared.transcript.Head.TheVariants as head
+use Rattle.canon_transcript.specs.declared.transcript.Answer.{Answer}
+use Rattle.canon_transcript.specs.declared.transcript.Answer.TheVariants as answer
+use Rattle.canon_transcript.specs.declared.transcript.Record.{Record}
+use Rattle.canon_transcript.specs.Blocks as blocks
+
+-- the end of a line
+abbrev pub end : List ℕ
+end = codes "\n"
+
+-- ---- values
+
+abbrev pub bool_text : Bool → List ℕ
+bool_text true = codes "true"
+bool_text false = codes "false"
+
+-- a number in lower-case hexadecimal, with zeros before it up to this many digits
+abbrev pub hexadecimal : ℕ → ℕ → List ℕ
+hexadecimal width n = replicate (width - length (digits 16 false n)) 48 ++ digits 16 false n
+
+-- U+0020 to U+007E but the two quotes and the backslash
+abbrev pub is_plain : ℕ → Bool
+is_plain c = nat_le 0x20 c && nat_le c 0x7E && not (c == 0x22 || c == 0x27 || c == 0x5C)
+
+-- a plain scalar stands for itself, and every other for its number in braces
+abbrev pub escaped : ℕ → List ℕ
+escaped c = if is_plain c then c ∷ [] else codes "\\u{" ++ digits 16 false c ++ codes "}"
+
+abbrev pub name_text : List ℕ → List ℕ
+name_text name = flat_map escaped (chars name)
+
+-- texts with a comma between them
+abbrev pub joined : List (List ℕ) → List ℕ
+joined texts = join_with_byte 0x2C texts
+
+-- a field's name and the text of its value
+abbrev pub named : String Global × List ℕ → List ℕ
+named field = name_text (string_bytes field.0) ++ codes ":" ++ field.1
+
+-- the text of one layer of a value, which has the texts of a record's and a tuple's members in their place
+abbrev pub layer_text : Val-F (List ℕ) → List ℕ
+layer_text (Val-F.Bool b) = bool_text b
+layer_text (Val-F.S8 n) = signed_decimal n
+layer_text (Val-F.U8 n) = decimal n
+layer_text (Val-F.S16 n) = signed_decimal n
+layer_text (Val-F.U16 n) = decimal n
+layer_text (Val-F.S32 n) = signed_decimal n
+layer_text (Val-F.U32 n) = decimal n
+layer_text (Val-F.S64 n) = signed_decimal n
+layer_text (Val-F.U64 n) = decimal n
+layer_text (Val-F.Float32 bits) = codes "f32:" ++ hexadecimal 8 bits
+layer_text (Val-F.Float64 bits) = codes "f64:" ++ hexadecimal 16 bits
+layer_text (Val-F.Char c) = codes "'" ++ escaped c ++ codes "'"
+layer_text (Val-F.Record fields) = codes "{" ++ joined (map named fields.items) ++ codes "}"
+layer_text (Val-F.Tuple parts) = codes "(" ++ joined parts.items ++ codes ")"
+
+abbrev pub value_text : Val → List ℕ
+value_text = fold-Val (List ℕ) layer_text
+
+-- a field, and the texts of a record of these fields and of a tuple of these parts
+abbrev pub field_text : String Global × Val → List ℕ
+field_text field = named (field.0, value_text field.1)
+
+abbrev pub fields_text : List (String Global × Val) → List ℕ
+fields_text fields = codes "{" ++ joined (map field_text fields) ++ codes "}"
+
+abbrev pub parts_text : List Val → List ℕ
+parts_text parts = codes "(" ++ joined (map value_text parts) ++ codes ")"
+
+-- a value after a space
+abbrev pub spaced : Val → List ℕ
+spaced value = 32 ∷ value_text value
+
+-- ---- errors
+
+abbrev pub at_text : At → List ℕ
+at_text (at.Word k) = codes "w" ++ decimal k
+at_text (at.Address a) = codes "@" ++ decimal a
+
+-- the name of the variant, and what it carries after a space
+abbrev pub fault_text : Fault → List ℕ
+fault_text (fault.TypeMismatch place) = codes "TypeMismatch " ++ decimal place
+fault_text (fault.FieldName place) = codes "FieldName " ++ decimal place
+fault_text (fault.LengthMismatch place) = codes "LengthMismatch " ++ decimal place
+fault_text (fault.ReallocMisaligned address) = codes "ReallocMisaligned " ++ decimal address
+fault_text (fault.ReallocOutOfBounds address) = codes "ReallocOutOfBounds " ++ decimal address
+fault_text fault.GuestTrap = codes "GuestTrap"
+fault_text (fault.PointerMisaligned a) = codes "PointerMisaligned " ++ at_text a
+fault_text (fault.PointerOutOfBounds a) = codes "PointerOutOfBounds " ++ at_text a
+fault_text (fault.InvalidChar a) = codes "InvalidChar " ++ at_text a
+-- no transcript holds it: a script that wants memory ends without a record
+fault_text fault.OutOfMemory = codes "OutOfMemory"
+
+abbrev pub error_text : Error → List ℕ
+error_text (error.Fault f) = fault_text f
+error_text error.WrongCount = codes "WrongCount"
+error_text error.AsyncLifted = codes "AsyncLifted"
+error_text error.CannotEnterComponent = codes "CannotEnterComponent"
+error_text error.WrongWords = codes "WrongWords"
+error_text (error.UnknownImport index) = codes "UnknownImport " ++ decimal index
+
+-- ---- events
+
+abbrev pub word_text : ℕ → List ℕ
+word_text word = 32 ∷ decimal word
+
+-- each word after a space, to the end of the line
+abbrev pub words_text : List ℕ → List ℕ
+words_text words = flat_map word_text words ++ end
+
+-- bytes in lower-case hexadecimal after a space, where there are some
+abbrev pub bytes_text : List ℕ → List ℕ
+bytes_text [] = []
+bytes_text (b ∷ bs) = 32 ∷ encode_lower (b ∷ bs)
+
+-- A block and the bytes that stand in it. A block may pass the end of memory: then these are the bytes up to there, and
+-- none where it starts past it.
+abbrev pub block_line : List ℕ → Block → List ℕ
+block_line memory b = codes "block " ++ decimal b.start ++ bytes_text (take b.size (drop b.start memory)) ++ end
+
+abbrev pub block_lines : List ℕ → List Block → List ℕ
+block_lines memory bs = flat_map (block_line memory) bs
+
+-- the lines of an event, where the events before it left these blocks
+abbrev pub event_text : List Block → Event → List ℕ
+event_text bs (event.Realloc old old_size align new_size answer) =
+    codes "realloc " ++ decimal old ++ codes " " ++ decimal old_size ++ codes " " ++ decimal align ++ codes " " ++ decimal new_size ++ codes " = " ++ decimal answer ++ end
+event_text bs (event.Start func words memory) = codes "start " ++ decimal func ++ words_text words ++ block_lines memory bs
+event_text bs (event.Ask index words memory) = codes "ask " ++ decimal index ++ words_text words
+event_text bs (event.Resume words memory) = codes "resume" ++ words_text words
+event_text bs (event.Return words memory) = codes "return" ++ words_text words
+event_text bs (event.Post func words) = codes "post" ++ words_text words
+event_text bs (event.Dtor func rep) = codes "dtor " ++ decimal func ++ codes " " ++ decimal rep ++ end
+event_text bs (event.Trap asked len) = codes "trap" ++ end
+
+-- the lines of events, where those before them left these blocks
+abbrev pub events_text : List Block → List Event → List ℕ
+events_text bs [] = []
+events_text bs (e ∷ es) = event_text bs e ++ events_text (blocks.after bs e) es
+
+-- ---- records
+
+abbrev pub head_text : Head → List ℕ
+head_text (head.Call func) = codes "call " ++ decimal func ++ end
+
+abbrev pub answer_text : Answer → List ℕ
+answer_text (answer.Ok values) = codes "ok" ++ flat_map spaced values.items ++ end
+answer_text (answer.Err e) = codes "error " ++ error_text e ++ end
+
+abbrev pub live_text : ℕ → List ℕ
+live_text live = codes "live " ++ decimal live ++ end
+
+abbrev pub record_text : Record → List ℕ
+record_text r = head_text r.head ++ events_text [] r.events ++ answer_text r.answer ++ live_text r.live
+
+abbrev pub transcript_text : List Record → List ℕ
+transcript_text records = flat_map record_text records

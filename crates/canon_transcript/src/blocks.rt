@@ -1,0 +1,90 @@
+ghost use Rattle.std.specs.Prelude.{◌≡◌, ◌++◌, IfOk, OnOk, string_bytes};
+ghost use Rattle.std.specs.List.{position};
+ghost use Rattle.canon_transcript.specs.Blocks as spec;
+
+use canon_memory::Event;
+use std::alloc::{AllocError, Global};
+
+/// A block that a `realloc` answered: its first address, and its size in bytes.
+#[derive(Clone, Copy)]
+pub(crate) struct Block {
+    pub start: u64,
+    pub size: u64,
+}
+
+/// The blocks that events leave, in order.
+pub(crate) fn blocks_of(alloc: Global, events: &[Event]) -> Result<Vec<Block>, AllocError>
+    ensures { IfOk result (λ blocks. blocks.items ≡ spec.blocks_of events.now) }
+{
+    let mut blocks = Vec::new(alloc);
+    for event in events {
+        follow(&mut blocks, event)?;
+    }
+    Ok(blocks)
+}
+
+/// Goes on from the blocks before an event to those after it.
+pub(crate) fn follow(blocks: &mut Vec<Block>, event: &Event) -> Result<(), AllocError>
+    ensures { OnOk result (blocks.new.items ≡ spec.after blocks.old.items event.now) }
+{
+    let Event::Realloc {
+        old,
+        old_size,
+        new_size,
+        answer,
+        ..
+    } = event
+    else {
+        return Ok(());
+    };
+    let old = Block {
+        start: *old,
+        size: *old_size,
+    };
+    let new = Block {
+        start: *answer,
+        size: *new_size,
+    };
+    if old.size == 0 {
+        return add(blocks, new);
+    }
+    put(blocks, old, new)
+}
+
+/// Adds a block at the end, unless it is empty.
+fn add(blocks: &mut Vec<Block>, new: Block) -> Result<(), AllocError>
+    ensures { OnOk result (blocks.new.items ≡ blocks.old.items ++ spec.answered new.start new.size) }
+{
+    if new.size > 0 {
+        blocks.push(new)?;
+    }
+    Ok(())
+}
+
+/// Puts a block in the place of an old one, or takes that out where the new one is empty. Where the old one isn't
+/// there, adds the new one.
+fn put(blocks: &mut Vec<Block>, old: Block, new: Block) -> Result<(), AllocError>
+    ensures { OnOk result (blocks.new.items ≡ spec.put old.start old.size (spec.answered new.start new.size) blocks.old.items) }
+{
+    let Some(i) = place_of(blocks, old) else {
+        return add(blocks, new);
+    };
+    if new.size > 0 {
+        blocks[i] = new;
+    } else {
+        blocks.remove(i);
+    }
+    Ok(())
+}
+
+fn place_of(blocks: &[Block], old: Block) -> Option<usize>
+    ensures { result ≡ position (spec.is_at old.start old.size) blocks.now }
+{
+    blocks.iter().position(|block| is_at(block, old))
+}
+
+fn is_at(block: &Block, old: Block) -> bool
+    ensures { result ≡ spec.is_at old.start old.size block.now }
+{
+    block.start == old.start && block.size == old.size
+}

@@ -1,0 +1,57 @@
+ghost use Rattle.std.specs.Prelude.{◌≡◌, ◌++◌, IfOk, OnOk, string_bytes};
+ghost use Rattle.canon_transcript.specs.Text as spec;
+
+use canon_func::Error;
+use canon_types::OutOfMemory;
+use canon_value::{At, Fault};
+use std::alloc::{AllocError, Global};
+
+/// The text of an error: its name, and what it carries after a space. Answers OutOfMemory alone.
+pub fn error_text(alloc: Global, e: &Error) -> Result<String, OutOfMemory>
+    ensures { IfOk result (λ text. string_bytes text ≡ spec.error_text e.now) }
+{
+    let mut text = String::new(alloc);
+    print_error(&mut text, *e)?;
+    Ok(text)
+}
+
+pub(crate) fn print_error(text: &mut String, error: Error) -> Result<(), AllocError>
+    ensures { OnOk result (string_bytes text.new ≡ string_bytes text.old ++ spec.error_text error) }
+{
+    match error {
+        Error::Fault(fault) => print_fault(text, fault),
+        Error::WrongCount => text.push_str("WrongCount"),
+        Error::AsyncLifted => text.push_str("AsyncLifted"),
+        Error::CannotEnterComponent => text.push_str("CannotEnterComponent"),
+        Error::WrongWords => text.push_str("WrongWords"),
+        Error::UnknownImport(index) => write!(text, "UnknownImport {index}"),
+    }
+}
+
+fn print_fault(text: &mut String, fault: Fault) -> Result<(), AllocError>
+    ensures { OnOk result (string_bytes text.new ≡ string_bytes text.old ++ spec.fault_text fault) }
+{
+    match fault {
+        Fault::TypeMismatch(place) => write!(text, "TypeMismatch {place}"),
+        Fault::FieldName(place) => write!(text, "FieldName {place}"),
+        Fault::LengthMismatch(place) => write!(text, "LengthMismatch {place}"),
+        Fault::ReallocMisaligned(address) => write!(text, "ReallocMisaligned {address}"),
+        Fault::ReallocOutOfBounds(address) => write!(text, "ReallocOutOfBounds {address}"),
+        Fault::GuestTrap => text.push_str("GuestTrap"),
+        Fault::PointerMisaligned(at) => print_at(text, "PointerMisaligned ", at),
+        Fault::PointerOutOfBounds(at) => print_at(text, "PointerOutOfBounds ", at),
+        Fault::InvalidChar(at) => print_at(text, "InvalidChar ", at),
+        Fault::OutOfMemory => text.push_str("OutOfMemory"),
+    }
+}
+
+/// Prints a place behind these words.
+fn print_at(text: &mut String, before: &str, at: At) -> Result<(), AllocError>
+    ensures { OnOk result (string_bytes text.new ≡ string_bytes text.old ++ (before.now ++ spec.at_text at)) }
+{
+    text.push_str(before)?;
+    match at {
+        At::Word(k) => write!(text, "w{k}"),
+        At::Address(a) => write!(text, "@{a}"),
+    }
+}

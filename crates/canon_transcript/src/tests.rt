@@ -1,0 +1,219 @@
+//! The lines of values, errors, events and records.
+
+use crate::{
+    Answer, Head, Record, Transcript, answer_text, error_text, event_text, head_text,
+    transcript_text, value_text,
+};
+use canon_func::Error;
+use canon_memory::{Bytes, Event, Events, ValRaw, Words};
+use canon_value::{At, Fault, Val};
+use std::alloc::Global;
+use std::test::Fail;
+
+#[test]
+fn each_value_prints_its_text(rt: HostRuntime) -> Result<(), Fail> {
+    let rows = [
+        (Val::Bool(true), "true"),
+        (Val::S8(-128), "-128"),
+        (Val::U8(255), "255"),
+        (Val::S16(-1), "-1"),
+        (Val::U16(65535), "65535"),
+        (Val::S32(-2147483648), "-2147483648"),
+        (Val::U32(4294967295), "4294967295"),
+        (Val::S64(-9223372036854775808), "-9223372036854775808"),
+        (Val::U64(18446744073709551615), "18446744073709551615"),
+        (Val::Float32(0x7fc0_0000), "f32:7fc00000"),
+        (Val::Float64(1), "f64:0000000000000001"),
+        (Val::Char('~'), "'~'"),
+        (Val::Char('\''), "'\\u{27}'"),
+        (Val::Char('\u{e9}'), "'\\u{e9}'"),
+        (Val::Char('\u{10ffff}'), "'\\u{10ffff}'"),
+        (Val::Tuple(Vec::new(rt.alloc())), "()"),
+    ];
+    for (value, text) in &rows {
+        let printed = value_text(rt.alloc(), value)?;
+        assert_eq!(rt; printed.as_str(), *text);
+    }
+    Ok(())
+}
+
+/// A record of a number, of two zeros and of no fields.
+fn record(alloc: Global) -> Result<Val, Fail> {
+    let mut zeros = Vec::new(alloc);
+    zeros.push(Val::U8(0))?;
+    zeros.push(Val::U8(0))?;
+    let mut fields = Vec::new(alloc);
+    fields.push((String::from_str(alloc, "a b")?, Val::S16(-1)))?;
+    fields.push((String::from_str(alloc, "\u{e9}\"")?, Val::Tuple(zeros)))?;
+    fields.push((String::from_str(alloc, "c")?, Val::Record(Vec::new(alloc))))?;
+    Ok(Val::Record(fields))
+}
+
+#[test]
+fn members_stand_in_a_row_and_names_are_escaped(rt: HostRuntime) -> Result<(), Fail> {
+    let printed = value_text(rt.alloc(), &record(rt.alloc())?)?;
+    assert_eq!(rt; printed.as_str(), "{a b:-1,\\u{e9}\\u{22}:(0,0),c:{}}");
+    Ok(())
+}
+
+#[test]
+fn each_error_prints_its_name_and_what_it_carries(rt: HostRuntime) -> Result<(), Fail> {
+    let rows = [
+        (Error::WrongCount, "WrongCount"),
+        (Error::AsyncLifted, "AsyncLifted"),
+        (Error::CannotEnterComponent, "CannotEnterComponent"),
+        (Error::WrongWords, "WrongWords"),
+        (Error::UnknownImport(3), "UnknownImport 3"),
+        (Error::Fault(Fault::GuestTrap), "GuestTrap"),
+        (Error::Fault(Fault::TypeMismatch(2)), "TypeMismatch 2"),
+        (Error::Fault(Fault::FieldName(1)), "FieldName 1"),
+        (Error::Fault(Fault::LengthMismatch(0)), "LengthMismatch 0"),
+        (
+            Error::Fault(Fault::ReallocMisaligned(1025)),
+            "ReallocMisaligned 1025",
+        ),
+        (
+            Error::Fault(Fault::ReallocOutOfBounds(65535)),
+            "ReallocOutOfBounds 65535",
+        ),
+        (
+            Error::Fault(Fault::PointerMisaligned(At::Word(0))),
+            "PointerMisaligned w0",
+        ),
+        (
+            Error::Fault(Fault::PointerOutOfBounds(At::Word(16))),
+            "PointerOutOfBounds w16",
+        ),
+        (
+            Error::Fault(Fault::InvalidChar(At::Address(1036))),
+            "InvalidChar @1036",
+        ),
+    ];
+    for (error, text) in rows {
+        let printed = error_text(rt.alloc(), &error)?;
+        assert_eq!(rt; printed.as_str(), text);
+    }
+    Ok(())
+}
+
+fn realloc(old: u64, old_size: u64, new_size: u64, answer: u64) -> Event {
+    Event::Realloc {
+        old,
+        old_size,
+        align: 1,
+        new_size,
+        answer,
+    }
+}
+
+fn words(alloc: Global, word: u64) -> Result<Words, Fail> {
+    Ok(Words::from_slice(alloc, &[ValRaw::u64(word)])?)
+}
+
+/// Requests for blocks, a start, and all that may follow.
+fn events(alloc: Global) -> Result<Events, Fail> {
+    let memory = [0x00u8, 0x01, 0xab, 0xff, 0x10, 0x7f];
+    let mut events = Events::new(alloc);
+    events.push(realloc(0, 0, 17, 0))?;
+    events.push(realloc(0, 0, 2, 1))?;
+    events.push(realloc(0, 17, 1, 3))?;
+    events.push(realloc(1, 2, 0, 1))?;
+    events.push(realloc(9, 9, 5, 4))?;
+    events.push(realloc(0, 0, 4, 6))?;
+    events.push(Event::Start {
+        func: 0,
+        words: words(alloc, 1024)?,
+        memory: Bytes::from_slice(alloc, &memory)?,
+    })?;
+    events.push(Event::Ask {
+        index: 2,
+        words: words(alloc, 18446744073709551615)?,
+        memory: Bytes::new(alloc),
+    })?;
+    events.push(Event::Resume {
+        words: Words::new(alloc),
+        memory: Bytes::new(alloc),
+    })?;
+    events.push(Event::Return {
+        words: words(alloc, 7)?,
+        memory: Bytes::new(alloc),
+    })?;
+    events.push(Event::Post {
+        func: 5,
+        words: words(alloc, 7)?,
+    })?;
+    events.push(Event::Dtor { func: 4, rep: 12 })?;
+    events.push(Event::Trap {
+        asked: None,
+        len: 6,
+    })?;
+    Ok(events)
+}
+
+const EVENT_LINES: [&str; 13] = [
+    "realloc 0 0 1 17 = 0\n",
+    "realloc 0 0 1 2 = 1\n",
+    "realloc 0 17 1 1 = 3\n",
+    "realloc 1 2 1 0 = 1\n",
+    "realloc 9 9 1 5 = 4\n",
+    "realloc 0 0 1 4 = 6\n",
+    "start 0 1024\nblock 3 ff\nblock 4 107f\nblock 6\n",
+    "ask 2 18446744073709551615\n",
+    "resume\n",
+    "return 7\n",
+    "post 7\n",
+    "dtor 4 12\n",
+    "trap\n",
+];
+
+#[test]
+fn each_event_prints_its_lines(rt: HostRuntime) -> Result<(), Fail> {
+    let events = events(rt.alloc())?;
+    assert_eq!(rt; events.len(), 13);
+    for (k, lines) in EVENT_LINES.iter().enumerate() {
+        if (k as u64) < events.len() {
+            let printed = event_text(rt.alloc(), &events, k as u64)?;
+            assert_eq!(rt; printed.as_str(), *lines);
+        }
+    }
+    Ok(())
+}
+
+#[test]
+fn records_follow_one_another(rt: HostRuntime) -> Result<(), Fail> {
+    let mut values = Vec::new(rt.alloc());
+    values.push(Val::U32(7))?;
+    values.push(record(rt.alloc())?)?;
+    let mut transcript = Transcript::new(rt.alloc());
+    transcript.push(Record {
+        head: Head::Call(0),
+        events: events(rt.alloc())?,
+        answer: Answer::Ok(values),
+        live: 3,
+    })?;
+    transcript.push(Record {
+        head: Head::Call(1),
+        events: Events::new(rt.alloc()),
+        answer: Answer::Err(Error::Fault(Fault::InvalidChar(At::Word(0)))),
+        live: 0,
+    })?;
+    let lines = [
+        "call 0\nrealloc 0 0 1 17 = 0\nrealloc 0 0 1 2 = 1\nrealloc 0 17 1 1 = 3\nrealloc 1 2 1 0 = 1\nrealloc 9 9 1 5 = 4\nrealloc 0 0 1 4 = 6\n",
+        "start 0 1024\nblock 3 ff\nblock 4 107f\nblock 6\nask 2 18446744073709551615\nresume\nreturn 7\npost 7\ndtor 4 12\ntrap\n",
+        "ok 7 {a b:-1,\\u{e9}\\u{22}:(0,0),c:{}}\nlive 3\n",
+        "call 1\nerror InvalidChar w0\nlive 0\n",
+    ];
+    let mut whole = String::new(rt.alloc());
+    for part in lines {
+        whole.push_str(part)?;
+    }
+    let printed = transcript_text(rt.alloc(), &transcript)?;
+    assert_eq!(rt; printed.as_str(), whole.as_str());
+    let last = transcript.records().last().expect(&rt, "two records");
+    assert_eq!(rt; head_text(rt.alloc(), last)?.as_str(), "call 1\n");
+    assert_eq!(rt;
+        answer_text(rt.alloc(), last)?.as_str(),
+        "error InvalidChar w0\n"
+    );
+    Ok(())
+}

@@ -1,0 +1,79 @@
+ghost use Rattle.std.specs.Prelude.{◌≡◌, List, [], ◌∷◌, ◌++◌, OnOk, OnErr};
+ghost use Rattle.canon_transcript.specs.declared.transcript.Record.{Record};
+
+use canon_func::Error;
+use canon_memory::Events;
+use canon_types::OutOfMemory;
+use canon_value::Val;
+use std::alloc::Global;
+use std::marker::Model;
+
+/// What an item of a script was: a call of this function.
+#[derive(Clone, Copy, Debug, PartialEq, Eq)]
+pub enum Head {
+    Call(u32),
+}
+
+/// What an item answered.
+#[derive(Debug, Drop)]
+pub enum Answer {
+    Ok(Vec<Val>),
+    Err(Error),
+}
+
+/// What an item did.
+#[derive(Debug, Drop)]
+pub struct Record {
+    pub head: Head,
+    /// What the guest was told and did, in order.
+    pub events: Events,
+    pub answer: Answer,
+    /// How many handles live after the item.
+    pub live: u64,
+}
+
+/// The records of a run, in order.
+#[derive(Debug, Drop)]
+pub struct Transcript {
+    records: Vec<Record>,
+}
+
+impl Model for Transcript {
+    ghost use Rattle.std.specs.Prelude.{List};
+    ghost use Rattle.canon_transcript.specs.declared.transcript.Record.{Record};
+    ghost use Rattle.canon_value.specs.contracts.val.Val as val;
+    ghost use Rattle.std.specs.Coded.{codes};
+
+    ghost Value = { List Record };
+
+    ghost view = { λ t. t.records.items };
+
+    ghost coded = { Prim.hlevel (codes, val.the_row.coded) };
+}
+
+impl Transcript {
+    /// An empty transcript.
+    pub fn new(alloc: Global) -> Self
+        ensures { result ≡ [] }
+    {
+        Transcript {
+            records: Vec::new(alloc),
+        }
+    }
+
+    /// The records, in order.
+    pub fn records(&self) -> &[Record]
+        ensures { result.now ≡ self.now }
+    {
+        &self.records
+    }
+
+    /// Adds a record at the end.
+    pub fn push(&mut self, item: Record) -> Result<(), OutOfMemory>
+        ensures ok { OnOk result (self.new ≡ self.old ++ item ∷ []) }
+        ensures err { OnErr result (self.new ≡ self.old) }
+    {
+        self.records.push(item)?;
+        Ok(())
+    }
+}

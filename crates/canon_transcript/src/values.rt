@@ -1,0 +1,135 @@
+ghost use Rattle.std.specs.Prelude.{[], if◌then◌else◌, ◌≡◌, ◌++◌, IfOk, OnOk, codes, flat_map, string_bytes};
+ghost use Rattle.canon_transcript.specs.Text as spec;
+
+use canon_types::OutOfMemory;
+use canon_value::Val;
+use std::alloc::{AllocError, Global};
+
+/// The text of a value. Answers OutOfMemory alone.
+pub fn value_text(alloc: Global, v: &Val) -> Result<String, OutOfMemory>
+    ensures { IfOk result (λ text. string_bytes text ≡ spec.value_text v.now) }
+{
+    let mut text = String::new(alloc);
+    print_value(&mut text, v)?;
+    Ok(text)
+}
+
+/// Prints each value after a space.
+pub(crate) fn print_values(text: &mut String, values: &[Val]) -> Result<(), AllocError>
+    ensures { OnOk result (string_bytes text.new ≡ string_bytes text.old ++ flat_map spec.spaced values.now) }
+{
+    for value in values {
+        text.push_str(" ")?;
+        print_value(text, value)?;
+    }
+    Ok(())
+}
+
+#[cycle(print)]
+fn print_value(text: &mut String, value: &Val) -> Result<(), AllocError>
+    ensures { OnOk result (string_bytes text.new ≡ string_bytes text.old ++ spec.value_text value.now) }
+{
+    match value {
+        Val::Bool(v) => write!(text, "{v}"),
+        Val::S8(v) => write!(text, "{v}"),
+        Val::U8(v) => write!(text, "{v}"),
+        Val::S16(v) => write!(text, "{v}"),
+        Val::U16(v) => write!(text, "{v}"),
+        Val::S32(v) => write!(text, "{v}"),
+        Val::U32(v) => write!(text, "{v}"),
+        Val::S64(v) => write!(text, "{v}"),
+        Val::U64(v) => write!(text, "{v}"),
+        Val::Float32(bits) => print_f32(text, *bits),
+        Val::Float64(bits) => print_f64(text, *bits),
+        Val::Char(c) => print_char(text, *c),
+        Val::Record(fields) => print_record(text, fields),
+        Val::Tuple(parts) => print_tuple(text, parts),
+    }
+}
+
+#[cycle(print)]
+fn print_record(text: &mut String, fields: &[(String, Val)]) -> Result<(), AllocError>
+    ensures { OnOk result (string_bytes text.new ≡ string_bytes text.old ++ spec.fields_text fields.now) }
+{
+    text.push_str("{")?;
+    let mut is_first = true;
+    for (name, value) in fields {
+        separate(text, is_first)?;
+        print_name(text, name)?;
+        text.push_str(":")?;
+        print_value(text, value)?;
+        is_first = false;
+    }
+    text.push_str("}")
+}
+
+#[cycle(print)]
+fn print_tuple(text: &mut String, parts: &[Val]) -> Result<(), AllocError>
+    ensures { OnOk result (string_bytes text.new ≡ string_bytes text.old ++ spec.parts_text parts.now) }
+{
+    text.push_str("(")?;
+    let mut is_first = true;
+    for part in parts {
+        separate(text, is_first)?;
+        print_value(text, part)?;
+        is_first = false;
+    }
+    text.push_str(")")
+}
+
+/// Prints a comma, but before the first of a row.
+fn separate(text: &mut String, is_first: bool) -> Result<(), AllocError>
+    ensures { OnOk result (string_bytes text.new ≡ string_bytes text.old ++ (if is_first then [] else codes ",")) }
+{
+    if is_first {
+        return Ok(());
+    }
+    text.push_str(",")
+}
+
+#[tactic(auto, using(crate::proofs::Digits::padded_hexadecimal))]
+fn print_f32(text: &mut String, bits: u32) -> Result<(), AllocError>
+    ensures { OnOk result (string_bytes text.new ≡ string_bytes text.old ++ (codes "f32:" ++ spec.hexadecimal 8 bits)) }
+{
+    write!(text, "f32:{bits:08x}")
+}
+
+#[tactic(auto, using(crate::proofs::Digits::padded_hexadecimal))]
+fn print_f64(text: &mut String, bits: u64) -> Result<(), AllocError>
+    ensures { OnOk result (string_bytes text.new ≡ string_bytes text.old ++ (codes "f64:" ++ spec.hexadecimal 16 bits)) }
+{
+    write!(text, "f64:{bits:016x}")
+}
+
+fn print_char(text: &mut String, c: char) -> Result<(), AllocError>
+    ensures { OnOk result (string_bytes text.new ≡ string_bytes text.old ++ codes "'" ++ spec.escaped c ++ codes "'") }
+{
+    text.push_str("'")?;
+    print_escaped(text, c)?;
+    text.push_str("'")
+}
+
+fn print_name(text: &mut String, name: &str) -> Result<(), AllocError>
+    ensures { OnOk result (string_bytes text.new ≡ string_bytes text.old ++ spec.name_text name.now) }
+{
+    for c in name.chars() {
+        print_escaped(text, c)?;
+    }
+    Ok(())
+}
+
+fn print_escaped(text: &mut String, c: char) -> Result<(), AllocError>
+    ensures { OnOk result (string_bytes text.new ≡ string_bytes text.old ++ spec.escaped c) }
+{
+    if is_plain(c) {
+        return text.push(c);
+    }
+    let number = u32::from(c);
+    write!(text, "\\u{{{number:x}}}")
+}
+
+fn is_plain(c: char) -> bool
+    ensures { result ≡ spec.is_plain c }
+{
+    matches!(c, ' '..='~') && !matches!(c, '"' | '\'' | '\\')
+}
