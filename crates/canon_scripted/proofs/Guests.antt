@@ -13,7 +13,8 @@ use Rattle.canon_memory.specs.Realloc.{IsTidy, ReallocLaw, new_block}
 use Rattle.canon_scripted.specs.Actions.{Turn, carry_out, turn}
 use Rattle.canon_scripted.specs.Allocator.{Allocator, InRow, allocate, copied}
 use Rattle.canon_scripted.specs.Orders.{next_order}
-use Rattle.canon_scripted.specs.Scripted.{Answers, Asked, Does, Doing, DoesRealloc, Plan, Told, after, counted, destroyed, ended, events_of, faulted, free_realloc, is_free, marks_of, ordered_realloc, post_returned, raised, realloc, reallocated, resumed, seen_of, started, told, with_actions}
+use Rattle.canon_scripted.specs.Leaves.{Answers, DoesRealloc, counted, faulted, raised, with_actions}
+use Rattle.canon_scripted.specs.Scripted.{Asked, Doing, Moves, Plan, Told, after, destroyed, ended, events_of, free_realloc, is_free, marks_by, marks_of, marks_told, ordered_realloc, post_returned, realloc, reallocated, resumed, seen_of, started, told}
 use Rattle.canon_scripted.specs.declared.actions.Action.{Action}
 use Rattle.canon_scripted.specs.declared.orders.Ordered.{Ordered}
 use Rattle.canon_scripted.specs.declared.orders.Ordered.TheVariants as ordered
@@ -88,8 +89,12 @@ counted_goes g h result m bytes es e later le = record {
 }
 
 -- one call
-one_call : (plan left : Plan) (call : Asked) (es : List Event) → es ≡ events_of plan call → left ≡ after plan call → Does plan es left
-one_call plan left call es e d = record { calls = call ∷ []; told = e ∙ sym (append-nil (events_of plan call)); leaves = d }
+one_call : (g h : Doing) (call : Asked) (es : List Event) → es ≡ events_of g.plan call → h.plan ≡ after g.plan call → h.marks ≡ g.marks ++ marks_told g.plan call → Moves g es h
+one_call g h call es e d ms = record {
+  new_marks = marks_told g.plan call;
+  does = record { calls = call ∷ []; told = e ∙ sym (append-nil (events_of g.plan call)); marked = sym (append-nil (marks_told g.plan call)); leaves = d };
+  marks = ms;
+}
 
 -- a plan that is left after actions
 plan_left : {T : Type 0} (g h : Doing) (result : Result T GuestFault) (actions : List Action) → h ≡ counted result (with_actions g actions) → OnAnswer result (h.plan ≡ record g.plan { actions = actions })
@@ -103,24 +108,26 @@ module _ (g h : Doing) (m bytes : List ℕ) where
       → (after g.plan call ≡ record g.plan { actions = (carry_out g.plan.actions m).left })
       → carry_out g.plan.actions m ≡ turn bytes result h.plan.actions
       → h.plan ≡ record g.plan { actions = h.plan.actions }
-      → Does g.plan (es bytes result) h.plan
-  acts result call es told leaves t p =
-      one_call g.plan h.plan call (es bytes result)
+      → h.marks ≡ g.marks → [] ≡ marks_told g.plan call
+      → Moves g (es bytes result) h
+  acts result call es told leaves t p ms none =
+      one_call g h call (es bytes result)
       (sym (told ∙ ap (λ (u : Turn). es u.memory u.result) t))
       (p ∙ ap (λ (u : Turn). record g.plan { actions = u.left }) (sym t) ∙ sym leaves)
+      (ms ∙ sym (append-nil g.marks) ∙ ap (λ (ks : List Mark). g.marks ++ ks) none)
 
   pub start_moves : (func : ℕ) (words : List ℕ) (result : Result Step GuestFault) → h ≡ counted result (with_actions g h.plan.actions)
       → OnAnswer result (carry_out g.plan.actions m ≡ turn bytes result h.plan.actions)
-      → OnAnswer result (Does g.plan (start_events func words m bytes result) h.plan)
-  start_moves func words (Ok x) e t = acts (Ok x) (started func words m) (λ b r. start_events func words m b r) refl refl t (plan_left g h (Ok x) h.plan.actions e)
-  start_moves func words (Err fault.Trap) e t = acts (Err fault.Trap) (started func words m) (λ b r. start_events func words m b r) refl refl t (ap (λ (k : Doing). k.plan) e)
+      → OnAnswer result (Moves g (start_events func words m bytes result) h)
+  start_moves func words (Ok x) e t = acts (Ok x) (started func words m) (λ b r. start_events func words m b r) refl refl t (plan_left g h (Ok x) h.plan.actions e) (ap (λ (k : Doing). k.marks) e) refl
+  start_moves func words (Err fault.Trap) e t = acts (Err fault.Trap) (started func words m) (λ b r. start_events func words m b r) refl refl t (ap (λ (k : Doing). k.plan) e) (ap (λ (k : Doing). k.marks) e) refl
   start_moves func words (Err fault.OutOfMemory) e t = tt
 
   pub resume_moves : (words : List ℕ) (result : Result Step GuestFault) → h ≡ counted result (with_actions g h.plan.actions)
       → OnAnswer result (carry_out g.plan.actions m ≡ turn bytes result h.plan.actions)
-      → OnAnswer result (Does g.plan (resume_events words m bytes result) h.plan)
-  resume_moves words (Ok x) e t = acts (Ok x) (resumed words m) (λ b r. resume_events words m b r) refl refl t (plan_left g h (Ok x) h.plan.actions e)
-  resume_moves words (Err fault.Trap) e t = acts (Err fault.Trap) (resumed words m) (λ b r. resume_events words m b r) refl refl t (ap (λ (k : Doing). k.plan) e)
+      → OnAnswer result (Moves g (resume_events words m bytes result) h)
+  resume_moves words (Ok x) e t = acts (Ok x) (resumed words m) (λ b r. resume_events words m b r) refl refl t (plan_left g h (Ok x) h.plan.actions e) (ap (λ (k : Doing). k.marks) e) refl
+  resume_moves words (Err fault.Trap) e t = acts (Err fault.Trap) (resumed words m) (λ b r. resume_events words m b r) refl refl t (ap (λ (k : Doing). k.plan) e) (ap (λ (k : Doing). k.marks) e) refl
   resume_moves words (Err fault.OutOfMemory) e t = tt
 
 -- a call that the guest ends itself leaves the plan
@@ -135,22 +142,23 @@ on_answer (Err fault.Trap) P p = p
 on_answer (Err fault.OutOfMemory) P p = tt
 
 pub post_moves : (g h : Doing) (func : ℕ) (words m : List ℕ) (result : Result (Unit {0}) GuestFault) → result ≡ ended g.plan.post_trap → h ≡ counted result g
-    → OnAnswer result (Does g.plan (post_events func words m result) h.plan)
-post_moves g h func words m result e k = on_answer result _ (one_call g.plan h.plan (post_returned func words m) _ (ap (λ r. post_events func words m r) e) (same_plan g h result k))
+    → OnAnswer result (Moves g (post_events func words m result) h)
+post_moves g h func words m result e k = on_answer result _ (one_call g h (post_returned func words m) _ (ap (λ r. post_events func words m r) e) (same_plan g h result k) (counted_marks g h result k ∙ sym (append-nil g.marks)))
 
 pub dtor_moves : (g h : Doing) (func rep : ℕ) (m : List ℕ) (result : Result (Unit {0}) GuestFault) → result ≡ ended g.plan.dtor_trap → h ≡ counted result g
-    → OnAnswer result (Does g.plan (dtor_events func rep m result) h.plan)
-dtor_moves g h func rep m result e k = on_answer result _ (one_call g.plan h.plan (destroyed func rep m) _ (ap (λ r. dtor_events func rep m r) e) (same_plan g h result k))
+    → OnAnswer result (Moves g (dtor_events func rep m result) h)
+dtor_moves g h func rep m result e k = on_answer result _ (one_call g h (destroyed func rep m) _ (ap (λ r. dtor_events func rep m r) e) (same_plan g h result k) (counted_marks g h result k ∙ sym (append-nil g.marks)))
 
 -- ---- `realloc`
 
 module _ (g h : Doing) (m bytes : List ℕ) (c : Call) where
-  told_moves : (result : Result ℕ GuestFault) → realloc (length m) g.plan c ≡ told result h.plan → Does g.plan (realloc_events c m result) h.plan
-  told_moves result t = one_call g.plan h.plan (reallocated c m) (realloc_events c m result)
+  told_moves : (result : Result ℕ GuestFault) → realloc (length m) g.plan c ≡ told result h.plan → h.marks ≡ g.marks ++ marks_by (is_free (next_order g.plan.reallocs)) result → Moves g (realloc_events c m result) h
+  told_moves result t ms = one_call g h (reallocated c m) (realloc_events c m result)
       (ap (λ (u : Told). realloc_events c m u.result) (sym t)) (ap (λ (u : Told). u.plan) (sym t))
+      (ms ∙ ap (λ (u : Told). g.marks ++ marks_by (is_free (next_order g.plan.reallocs)) u.result) (sym t))
 
-  pub answer_moves : (answer : ℕ) → Answers g m c h bytes answer → Does g.plan (realloc_events c m (Ok answer)) h.plan
-  answer_moves answer a = told_moves (Ok answer) a.told
+  pub answer_moves : (answer : ℕ) → Answers g m c h bytes answer → Moves g (realloc_events c m (Ok answer)) h
+  answer_moves answer a = told_moves (Ok answer) a.told a.marks
 
   pub answer_does : (answer : ℕ) → Answers g m c h bytes answer → (h.traps ≡ g.traps) × (h.shortages ≡ g.shortages)
       → (IsTrue (is_free (next_order g.plan.reallocs)) → ReallocLaw g.plan.allocator.live h.plan.allocator.live m bytes c answer) → IsTidy m bytes (new_block c answer) → length m ≤ length bytes
@@ -191,9 +199,9 @@ module _ (g k h : Doing) (m bytes : List ℕ) (c : Call) (same : (k.traps ≡ g.
         rose = rises g.shortages k.shortages h.shortages same.1 (ap (λ (x : Doing). x.shortages) s);
       }
 
-  pub fault_moves : (f r : GuestFault) → r ≡ f → DoesRealloc g m c k bytes (Err f) → h ≡ faulted f k → OnAnswer {T = ℕ} (Err r) (Does g.plan (realloc_events c m (Err r)) h.plan)
-  fault_moves f r e d s = subst (λ (x : GuestFault). OnAnswer {T = ℕ} (Err x) (Does g.plan (realloc_events c m (Err x)) h.plan)) (sym e) (by f d s)
+  pub fault_moves : (f r : GuestFault) → r ≡ f → DoesRealloc g m c k bytes (Err f) → h ≡ faulted f k → OnAnswer {T = ℕ} (Err r) (Moves g (realloc_events c m (Err r)) h)
+  fault_moves f r e d s = subst (λ (x : GuestFault). OnAnswer {T = ℕ} (Err x) (Moves g (realloc_events c m (Err x)) h)) (sym e) (by f d s)
     where
-      by : (x : GuestFault) → DoesRealloc g m c k bytes (Err x) → h ≡ faulted x k → OnAnswer {T = ℕ} (Err x) (Does g.plan (realloc_events c m (Err x)) h.plan)
-      by fault.Trap d s = subst (λ (x : Plan). Does g.plan (realloc_events c m (Err fault.Trap)) x) (sym (ap (λ (x : Doing). x.plan) s)) (told_moves g k m bytes c (Err fault.Trap) d.told)
+      by : (x : GuestFault) → DoesRealloc g m c k bytes (Err x) → h ≡ faulted x k → OnAnswer {T = ℕ} (Err x) (Moves g (realloc_events c m (Err x)) h)
+      by fault.Trap d s = told_moves g h m bytes c (Err fault.Trap) (d.told ∙ ap (λ (x : Doing). told (Err fault.Trap) x.plan) (sym s)) (ap (λ (x : Doing). x.marks) s ∙ d.marks ∙ sym (append-nil g.marks))
       by fault.OutOfMemory d s = tt

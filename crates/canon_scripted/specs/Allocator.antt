@@ -1,7 +1,6 @@
 -- An allocator that goes up: what it answers a call of `realloc`, by its five rules.
-use Rattle.std.specs.Prelude.{ℕ, ◌+◌, ◌%◌, ◌<◌, ◌≤◌, ◌≡◌, ◌++◌, ◌&&◌, ◌||◌, Bool, false, if◌then◌else◌, not, List, [], ◌∷◌, nat_eq, nat_le, nat_lt, Option, None, Some, Result, Ok, Err}
+use Rattle.std.specs.Prelude.{ℕ, min, ◌+◌, ◌^◌, ◌%◌, ◌<◌, ◌≤◌, ◌≡◌, ◌++◌, ◌&&◌, ◌||◌, Bool, false, if◌then◌else◌, not, List, [], ◌∷◌, nat_eq, nat_le, nat_lt, Option, None, Some, Result, Ok, Err}
 use Rattle.std.specs.List.{copy_within}
-use Rattle.std.specs.Prelude.{min, ◌^◌}
 use Rattle.canon_model.specs.Layout.{align_to}
 use Rattle.canon_model.specs.Memory.{Block}
 use Rattle.canon_model.specs.Requests.{Call}
@@ -62,8 +61,8 @@ smaller_placed len a c = placed len c.old c.new_size (record a { live = resized 
 abbrev pub moved_placed : ℕ → Allocator → Call → Option Placed
 moved_placed len a c = new_placed len (record a { live = resized a.live (old_block c) 0 }) c
 
--- Rule 1 is that of a call that names no old block, and 2 says that it traps where the old block doesn't live. Rules 3
--- and 4 want the old block aligned.
+-- The five rules: which one answers a call. It traps where nothing is placed, and, by rule 2, where its old block
+-- doesn't live. (In the memory of its earlier answers rule 4 never passes the end.)
 abbrev pub allocate : ℕ → Allocator → Call → Option Placed
 allocate len a c = let aligned = nat_eq (c.old % c.align) 0 in
     if nat_eq c.old_size 0 then new_placed len a c

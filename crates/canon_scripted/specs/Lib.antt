@@ -1,4 +1,5 @@
 pub mod Actions
 pub mod Allocator
+pub mod Leaves
 pub mod Orders
 pub mod Scripted

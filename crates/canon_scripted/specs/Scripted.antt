@@ -1,6 +1,6 @@
 -- What a guest that follows a script does.
-use Rattle.std.specs.Prelude.{◌≡◌, ◌+◌, ◌-◌, ◌^◌, ℕ, ◌++◌, Bool, true, false, if◌then◌else◌, List, [], ◌∷◌, length, drop, min, None, Option, Some, Result, Ok, Err}
-use Rattle.std.proofs.Common.{refl, sym, ap, ◌∙◌, append_assoc}
+use Rattle.std.specs.Prelude.{◌≡◌, ◌+◌, ℕ, ◌++◌, Bool, true, false, if◌then◌else◌, List, [], ◌∷◌, length, drop, None, Option, Some, Result, Ok, Err}
+use Rattle.std.proofs.Common.{refl, sym, ap, ◌∙◌, append-nil, append_assoc}
 use Rattle.canon_model.specs.Requests.{Call}
 use Rattle.canon_memory.specs.declared.error.GuestFault.{GuestFault}
 use Rattle.canon_memory.specs.declared.error.GuestFault.TheVariants as fault
@@ -8,7 +8,7 @@ use Rattle.canon_memory.specs.declared.event.Event.{Event}
 use Rattle.canon_memory.specs.Guest.{Mark, Seen}
 use Rattle.canon_memory.specs.Journal.{dtor_events, post_events, realloc_events, resume_events, start_events}
 use Rattle.canon_scripted.specs.Actions.{carry_out}
-use Rattle.canon_scripted.specs.Allocator.{Allocator, Placed, allocate, copied}
+use Rattle.canon_scripted.specs.Allocator.{Allocator, Placed, allocate}
 use Rattle.canon_scripted.specs.Orders.{next_order}
 use Rattle.canon_scripted.specs.declared.actions.Action.{Action}
 use Rattle.canon_scripted.specs.declared.orders.Ordered.{Ordered}
@@ -34,6 +34,12 @@ pub record Doing : Type 0 where
 abbrev pub marks_of : List Bool → List Mark
 marks_of [] = []
 marks_of (own ∷ rest) = record { lawful = own; tidy = true } ∷ marks_of rest
+
+-- whether the allocator answers
+abbrev pub is_free : Ordered → Bool
+is_free (ordered.Answer answer) = false
+is_free ordered.Trap = false
+is_free ordered.Free = true
 
 -- how many answers broke the law
 abbrev pub breaches : List Mark → ℕ
@@ -89,6 +95,18 @@ events_of plan (reallocated c memory) = realloc_events c memory (realloc (length
 events_of plan (post_returned func words memory) = post_events func words memory (ended plan.post_trap)
 events_of plan (destroyed func rep memory) = dtor_events func rep memory (ended plan.dtor_trap)
 
+-- the marks of its answers
+abbrev pub marks_by : Bool → Result ℕ GuestFault → List Mark
+marks_by own (Ok answer) = marks_of (own ∷ [])
+marks_by own (Err f) = []
+
+abbrev pub marks_told : Plan → Asked → List Mark
+marks_told plan (started func words memory) = []
+marks_told plan (resumed words memory) = []
+marks_told plan (reallocated c memory) = marks_by (is_free (next_order plan.reallocs)) (realloc (length memory) plan c).result
+marks_told plan (post_returned func words memory) = []
+marks_told plan (destroyed func rep memory) = []
+
 -- the plan after it
 abbrev pub after : Plan → Asked → Plan
 after plan (started func words memory) = record plan { actions = (carry_out plan.actions memory).left }
@@ -99,84 +117,59 @@ after plan (destroyed func rep memory) = plan
 
 -- ---- what its events tell
 
--- the events of calls in a row, and the plan that they leave
+-- the events of calls in a row, the marks of their answers, and the plan that they leave
 abbrev pub all_events : Plan → List Asked → List Event
 all_events plan [] = []
 all_events plan (call ∷ calls) = events_of plan call ++ all_events (after plan call) calls
+
+abbrev pub all_marks : Plan → List Asked → List Mark
+all_marks plan [] = []
+all_marks plan (call ∷ calls) = marks_told plan call ++ all_marks (after plan call) calls
 
 abbrev pub after_all : Plan → List Asked → Plan
 after_all plan [] = plan
 after_all plan (call ∷ calls) = after_all (after plan call) calls
 
--- With this plan these events come, and leave that: they tell some calls in a row.
-pub record Does (plan : Plan) (events : List Event) (left : Plan) : Type 0 where
+-- With this plan these events come, their answers have these marks, and that plan is left: they tell some calls in a row.
+pub record Does (plan : Plan) (events : List Event) (marks : List Mark) (left : Plan) : Type 0 where
   pub calls : List Asked
   pub told : events ≡ all_events plan calls
+  pub marked : marks ≡ all_marks plan calls
   pub leaves : left ≡ after_all plan calls
 
+-- from one state to another it did so, and had these marks more
+pub record Moves (g : Doing) (events : List Event) (h : Doing) : Type 0 where
+  pub new_marks : List Mark
+  pub does : Does g.plan events new_marks h.plan
+  pub marks : h.marks ≡ g.marks ++ new_marks
+
 -- one thing after another
-pub does_nothing : (plan : Plan) → Does plan [] plan
-does_nothing plan = record { calls = []; told = refl; leaves = refl }
+pub moves_nothing : (g : Doing) → Moves g [] g
+moves_nothing g = record { new_marks = []; does = record { calls = []; told = refl; marked = refl; leaves = refl }; marks = sym (append-nil g.marks) }
 
 events_then : (plan : Plan) (xs ys : List Asked) → all_events plan (xs ++ ys) ≡ all_events plan xs ++ all_events (after_all plan xs) ys
 events_then plan [] ys = refl
 events_then plan (x ∷ xs) ys = ap (λ (es : List Event). events_of plan x ++ es) (events_then (after plan x) xs ys) ∙ sym (append_assoc (events_of plan x) (all_events (after plan x) xs) (all_events (after_all (after plan x) xs) ys))
 
+marks_then : (plan : Plan) (xs ys : List Asked) → all_marks plan (xs ++ ys) ≡ all_marks plan xs ++ all_marks (after_all plan xs) ys
+marks_then plan [] ys = refl
+marks_then plan (x ∷ xs) ys = ap (λ (ms : List Mark). marks_told plan x ++ ms) (marks_then (after plan x) xs ys) ∙ sym (append_assoc (marks_told plan x) (all_marks (after plan x) xs) (all_marks (after_all (after plan x) xs) ys))
+
 after_then : (plan : Plan) (xs ys : List Asked) → after_all plan (xs ++ ys) ≡ after_all (after_all plan xs) ys
 after_then plan [] ys = refl
 after_then plan (x ∷ xs) ys = after_then (after plan x) xs ys
 
-pub does_then : (first mid last : Plan) (xs ys : List Event) → Does first xs mid → Does mid ys last → Does first (xs ++ ys) last
-does_then first mid last xs ys f g = record {
+does_then : (first mid last : Plan) (xs ys : List Event) (ms ns : List Mark) → Does first xs ms mid → Does mid ys ns last → Does first (xs ++ ys) (ms ++ ns) last
+does_then first mid last xs ys ms ns f g = record {
   calls = f.calls ++ g.calls;
   told = ap (λ (es : List Event). es ++ ys) f.told ∙ ap (λ (es : List Event). all_events first f.calls ++ es) (g.told ∙ ap (λ (p : Plan). all_events p g.calls) f.leaves) ∙ sym (events_then first f.calls g.calls);
+  marked = ap (λ (ks : List Mark). ks ++ ns) f.marked ∙ ap (λ (ks : List Mark). all_marks first f.calls ++ ks) (g.marked ∙ ap (λ (p : Plan). all_marks p g.calls) f.leaves) ∙ sym (marks_then first f.calls g.calls);
   leaves = g.leaves ∙ ap (λ (p : Plan). after_all p g.calls) f.leaves ∙ sym (after_then first f.calls g.calls);
 }
 
--- it did some of its plan
-abbrev pub Follows : Plan → List Event → Type 0
-Follows plan events = (left : Plan) × Does plan events left
-
--- ---- what a call leaves
-
--- a fault raises its count
-abbrev pub raised : ℕ → ℕ
-raised n = min (n + 1) (2 ^ 64 - 1)
-
-abbrev pub faulted : GuestFault → Doing → Doing
-faulted fault.Trap g = record g { traps = raised g.traps }
-faulted fault.OutOfMemory g = record g { shortages = raised g.shortages }
-
-abbrev pub counted : {T : Type 0} → Result T GuestFault → Doing → Doing
-counted (Ok x) g = g
-counted (Err f) g = faulted f g
-
-abbrev pub with_actions : Doing → List Action → Doing
-with_actions g actions = record g { plan = record g.plan { actions = actions } }
-
--- whether the allocator answers
-abbrev pub is_free : Ordered → Bool
-is_free (ordered.Answer answer) = false
-is_free ordered.Trap = false
-is_free ordered.Free = true
-
--- a call of `realloc` that was answered
-pub record Answers (g : Doing) (memory : List ℕ) (c : Call) (h : Doing) (after : List ℕ) (answer : ℕ) : Type 0 where
-  pub told : realloc (length memory) g.plan c ≡ told (Ok answer) h.plan
-  pub marks : h.marks ≡ g.marks ++ marks_of (is_free (next_order g.plan.reallocs) ∷ [])
-  pub bytes : after ≡ (if is_free (next_order g.plan.reallocs) then copied memory c answer else memory)
-
-pub record Traps (g : Doing) (memory : List ℕ) (c : Call) (h : Doing) (after : List ℕ) : Type 0 where
-  pub told : realloc (length memory) g.plan c ≡ told (Err fault.Trap) h.plan
-  pub marks : h.marks ≡ g.marks
-  pub bytes : after ≡ memory
-
-pub record Wants (g : Doing) (memory : List ℕ) (h : Doing) (after : List ℕ) : Type 0 where
-  pub marks : h.marks ≡ g.marks
-  pub bytes : after ≡ memory
-
--- before its fault is counted
-abbrev pub DoesRealloc : Doing → List ℕ → Call → Doing → List ℕ → Result ℕ GuestFault → Type 0
-DoesRealloc g memory c h after (Ok answer) = Answers g memory c h after answer
-DoesRealloc g memory c h after (Err fault.Trap) = Traps g memory c h after
-DoesRealloc g memory c h after (Err fault.OutOfMemory) = Wants g memory h after
+pub moves_then : (g h k : Doing) (xs ys : List Event) → Moves g xs h → Moves h ys k → Moves g (xs ++ ys) k
+moves_then g h k xs ys f e = record {
+  new_marks = f.new_marks ++ e.new_marks;
+  does = does_then g.plan h.plan k.plan xs ys f.new_marks e.new_marks f.does e.does;
+  marks = e.marks ∙ ap (λ (ms : List Mark). ms ++ e.new_marks) f.marks ∙ append_assoc g.marks f.new_marks e.new_marks;
+}

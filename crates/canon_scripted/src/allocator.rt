@@ -110,7 +110,7 @@ impl Allocator {
         None
     }
 
-    /// Rule 1.
+    /// Rule 1: a new block.
     fn place_new(&mut self, len: u64, align: u64, new_size: u64) -> Result<u64, GuestFault>
         requires aligned { 0 < align }
         ensures does { DoesPlace (new_placed len self.old (call 0 0 align new_size)) self.old self.new result }
@@ -126,7 +126,7 @@ impl Allocator {
         Ok(start)
     }
 
-    /// Rule 3.
+    /// Rule 3: the block that ends at the top, in another size.
     fn resize_last(
         &mut self,
         len: u64,
@@ -149,7 +149,7 @@ impl Allocator {
         Ok(old)
     }
 
-    /// Rule 4.
+    /// Rule 4: a block in a smaller size.
     fn shrink(
         &mut self,
         len: u64,
@@ -171,7 +171,7 @@ impl Allocator {
         Ok(old)
     }
 
-    /// Rule 5.
+    /// Rule 5: a new block in the place of one that lives no more.
     fn move_block(
         &mut self,
         len: u64,

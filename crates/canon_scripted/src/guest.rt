@@ -2,7 +2,7 @@ ghost use Rattle.std.specs.Prelude.{◌≡◌, ◌≤◌, ◌<◌, ◌+◌, ◌+
 ghost use Rattle.std.specs.Vec.{vec_len, vec_capacity};
 ghost use Rattle.canon_memory.specs.Realloc.{call};
 ghost use Rattle.canon_scripted.specs.Allocator.{DoesPlace, InRow, allocate, copied};
-ghost use Rattle.canon_scripted.specs.Scripted.{Does, breaches, does_nothing, does_then, marks_of, seen_of};
+ghost use Rattle.canon_scripted.specs.Scripted.{Moves, breaches, marks_of, moves_nothing, moves_then, seen_of};
 
 use crate::actions::{Action, Actions};
 use crate::allocator::Allocator;
@@ -46,7 +46,8 @@ impl ScriptedGuest {
     ghost use Rattle.canon_memory.specs.Realloc.{IsTidy, ReallocLaw, call, new_block};
     ghost use Rattle.canon_scripted.specs.Actions.{carry_out, turn};
     ghost use Rattle.canon_scripted.specs.Orders.{AreNarrow, next_order};
-    ghost use Rattle.canon_scripted.specs.Scripted.{DoesRealloc, breaches, counted, ended, faulted, is_free, with_actions};
+    ghost use Rattle.canon_scripted.specs.Leaves.{DoesRealloc, counted, faulted, with_actions};
+    ghost use Rattle.canon_scripted.specs.Scripted.{breaches, ended, is_free};
 
     /// A guest with nothing to do, whose allocator goes up from `heap`.
     pub fn new(alloc: Global, heap: u64) -> Self
@@ -176,13 +177,13 @@ impl ScriptedGuest {
 impl Guest for ScriptedGuest {
     ghost seen = { seen_of };
 
-    ghost moves = { λ g events h. Does g.plan events h.plan };
+    ghost moves = { λ g events h. Moves g events h };
 
     ghost post_leaves = { λ m n. n ≡ m };
 
-    ghost stays = { λ g. does_nothing g.plan };
+    ghost stays = { λ g. moves_nothing g };
 
-    ghost goes_on = { λ g h k xs ys f e. does_then g.plan h.plan k.plan xs ys f e };
+    ghost goes_on = { λ g h k xs ys f e. moves_then g h k xs ys f e };
 
     fn start(
         &mut self,

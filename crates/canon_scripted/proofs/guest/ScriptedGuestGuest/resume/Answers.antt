@@ -1,4 +1,4 @@
-use Rattle.canon_scripted.specs.Scripted.{with_actions}
+use Rattle.canon_scripted.specs.Leaves.{with_actions}
 use Rattle.canon_scripted.proofs.Guests.{counted_goes, resume_moves}
 use Rattle.canon_scripted.proofs.guest.ScriptedGuestGuest.resume.Goals as goal
 
