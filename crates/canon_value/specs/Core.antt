@@ -1,0 +1,25 @@
+-- What contracts see of a core.
+use Rattle.std.specs.Prelude.{ℕ, List}
+use Rattle.canon_memory.specs.Guest.{Moment, Seen, moment}
+use Rattle.canon_model.specs.Text.{Encoding}
+use Rattle.canon_table.specs.Table.{Table}
+use Rattle.canon_value.specs.Component.{encoding_at}
+use Rattle.canon_value.specs.declared.component.Component.{Component}
+
+pub record Parts (T G : Type 0) : Type 0 where
+  pub id : ℕ
+  pub state : T
+  pub guest : G
+  pub memory : List ℕ
+  pub component : Component
+
+abbrev pub types_of : {T G : Type 0} → Parts T G → Table
+types_of core = core.component.types.types
+
+-- the guest and its memory
+abbrev pub moment_of : {T G : Type 0} → (G → Seen) → Parts T G → Moment
+moment_of seen core = moment (seen core.guest) core.memory
+
+-- the encoding of the options of a number
+abbrev pub encoding_by : {T G : Type 0} → Parts T G → ℕ → Encoding
+encoding_by core options = encoding_at core.component options

@@ -1,0 +1,14 @@
+pub mod Args
+pub mod Built
+pub mod Component
+pub mod Core
+pub mod Fails
+pub mod Faults
+pub mod Laws
+pub mod Lifts
+pub mod Loads
+pub mod Lowers
+pub mod Moves
+pub mod Stores
+pub mod Value
+pub mod Words

@@ -1,0 +1,51 @@
+-- How values are stored one after another: each at its place of memory, and its fault, if it fails, at its place among the
+-- values. A core goes from one to another.
+use Rattle.std.specs.Prelude.{◌≡◌, ◌+◌, ◌⊎◌, Err, List, Ok, Result, ℕ}
+use Rattle.canon_lowering.specs.Storing.{MembersStoring, Storing}
+use Rattle.canon_memory.specs.Guest.{Seen}
+use Rattle.canon_memory.specs.declared.event.Event.{Event}
+use Rattle.canon_model.specs.Shape.{Members, Name, Shape}
+use Rattle.canon_value.specs.Core.{Parts, encoding_by, moment_of}
+use Rattle.canon_value.specs.Fails.{Blames, Failure, FailsAt, MemberFails}
+use Rattle.canon_value.specs.Lowers.{ending_of}
+use Rattle.canon_value.specs.Moves.{Moves}
+use Rattle.canon_value.specs.Value.{HasTree, HaveTrees, all_places, cap, member_names, places}
+use Rattle.canon_value.specs.declared.fault.Fault.{Fault}
+use Rattle.canon_value.specs.declared.fault.Fault.TheVariants as fault
+use Rattle.canon_value.specs.declared.val.Val.{Val}
+
+-- n places were counted from `from` on, or the fault is told at its place
+abbrev pub Counts : (Failure → ℕ → Type 0) → ℕ → ℕ → Result ℕ Fault → Type 0
+Counts F from n (Ok next) = next ≡ cap (from + n)
+Counts F from n (Err e) = Blames F from e
+
+-- the same of the fields of a record that has this place, with their names
+abbrev pub FieldsCount : ℕ → Members → List Name → List Val → ℕ → Result ℕ Fault → Type 0
+FieldsCount place ms names vs from (Ok next) = (names ≡ member_names ms) × (next ≡ cap (from + all_places vs))
+FieldsCount place ms names vs from (Err e) = ((e ≡ fault.FieldName place) × ¬ (names ≡ member_names ms)) ⊎ Blames (λ how k. MemberFails how ms vs k) from e
+
+-- only the guest and its memory may differ
+abbrev pub SameBut : {T G : Type 0} → Parts T G → Parts T G → Type 0
+SameBut before after = after ≡ record before { guest = after.guest; memory = after.memory }
+
+module _ {T G : Type 0} (seen : G → Seen) (moves : G → List Event → G → Type 0) (options : ℕ) (before after : Parts T G) where
+  -- a value of the shape s at the address `at`
+  pub record StoresTo (s : Shape) (at : ℕ) (v : Val) (from : ℕ) (result : Result ℕ Fault) : Type 0 where
+    pub storing : Storing (moment_of seen before) (moment_of seen after) (encoding_by before options) s at (HasTree s v) (ending_of result)
+    pub counted : Counts (λ how k. FailsAt how s v k) from (places v) result
+    pub moved : Moves seen moves before.guest after.guest (ending_of result)
+    pub same : SameBut before after
+
+  -- values in a row as the members of a product at `at`, where the one before them ends at offset o
+  pub record MembersStoreTo (ms : Members) (o at : ℕ) (vs : List Val) (from : ℕ) (result : Result ℕ Fault) : Type 0 where
+    pub storing : MembersStoring (moment_of seen before) (moment_of seen after) (encoding_by before options) ms o at (HaveTrees ms vs) (ending_of result)
+    pub counted : Counts (λ how k. MemberFails how ms vs k) from (all_places vs) result
+    pub moved : Moves seen moves before.guest after.guest (ending_of result)
+    pub same : SameBut before after
+
+  -- the fields of a record that has this place
+  pub record FieldsStoreTo (place : ℕ) (ms : Members) (o at : ℕ) (names : List Name) (vs : List Val) (from : ℕ) (result : Result ℕ Fault) : Type 0 where
+    pub storing : MembersStoring (moment_of seen before) (moment_of seen after) (encoding_by before options) ms o at (λ ts. (names ≡ member_names ms) × HaveTrees ms vs ts) (ending_of result)
+    pub counted : FieldsCount place ms names vs from result
+    pub moved : Moves seen moves before.guest after.guest (ending_of result)
+    pub same : SameBut before after
