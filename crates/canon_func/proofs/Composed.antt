@@ -1,0 +1,130 @@
+-- One step of a call after another.
+use Rattle.std.proofs.Common.{Err, List, None, Ok, Result, Some, Vec, Global, [], ap, arith, inl, inr, length, refl, subst, sym, ℕ, ◌++◌, ◌∙◌, ◌∷◌, ◌≡◌}
+use Rattle.std.specs.Prelude.{IfErr}
+use Rattle.std.proofs.lemmas.List.{append-nil}
+use Rattle.canon_memory.specs.declared.error.GuestFault.{GuestFault}
+use Rattle.canon_memory.specs.declared.error.GuestFault.TheVariants as guest
+use Rattle.canon_memory.specs.declared.event.Event.{Event}
+use Rattle.canon_memory.specs.declared.event.Event.TheVariants as event
+use Rattle.canon_memory.specs.Guest.{Goes, HasCause, Moment, OnAnswer, Seen, moment}
+use Rattle.canon_memory.specs.Journal.{post_events, trap_event}
+use Rattle.canon_lowering.proofs.Lowerings.{goes_none, goes_then}
+use Rattle.canon_lowering.specs.Args.{ArgsLowering}
+use Rattle.canon_lowering.specs.Lowering.{done, events_of, marks_of}
+use Rattle.canon_value.specs.Value.{HaveTrees}
+use Rattle.canon_value.specs.declared.fault.Fault.TheVariants as fault
+use Rattle.canon_value.specs.declared.val.Val.{Val}
+use Rattle.canon_func.specs.Call.{Adding, IsCall, Left, OnAnswered}
+use Rattle.canon_func.specs.Runs.{posts}
+use Rattle.canon_func.specs.Steps.{Concluded, CoreCall, Does, IsLate, IsRest, Lowered, Posted, RestCause, Started}
+use Rattle.canon_func.specs.Stores.{Callee}
+use Rattle.canon_func.specs.declared.error.Error.{Error}
+use Rattle.canon_func.specs.declared.error.Error.TheVariants as error
+use Rattle.canon_func.proofs.Calls.{joined, ready, refused_call, short_call}
+use Rattle.canon_func.proofs.Rests.{rest_of_return, rest_of_start}
+
+-- what follows from a fact for every answer but want of memory
+pub answered : {T : Type 0} (r : Result T Error) (P Q : Type 0) → (P → Q) → OnAnswered r P → OnAnswered r Q
+answered (Ok x) P Q f h = f h
+answered (Err (error.Fault fault.OutOfMemory)) P Q f h = tt
+answered (Err e) P Q f h = f h
+
+other : guest.OutOfMemory ≡ guest.Trap → ⊥
+other e = cc
+
+module _ (PostLeaves : List ℕ → List ℕ → Type 0) (callee : Callee) (words : List ℕ) where
+  -- the guest returned
+  pub run_returned : (a b c : Moment) (returned : List ℕ) (answer : Result (Vec Val Global) Error) (M N O : List Event → Type 0) → ((xs ys : List Event) → M xs → N ys → O (xs ++ ys))
+      → Does a b M (Started callee.func words a b (Ok returned)) → Does b c N (Concluded PostLeaves callee returned b c answer) → Does a c O (IsRest PostLeaves callee words a c answer)
+  run_returned a b c returned answer M N O f first second = record {
+    events = first.events ++ second.events;
+    goes = goes_then a b c [] [] first.events second.events first.goes second.goes;
+    moves = f first.events second.events first.moves second.moves;
+    so = subst (λ es. IsRest PostLeaves callee words a c answer (es ++ second.events)) (sym first.so) (rest_of_return PostLeaves callee words a b c returned answer second.events first.goes.traps_later second.so);
+  }
+
+  -- it didn't
+  pub run_refused : (a b : Moment) (e : Error) (M : List Event → Type 0) → Does a b M (Started callee.func words a b (Err e)) → Does a b M (IsRest PostLeaves callee words a b (Err e))
+  run_refused a b e M first = record { events = first.events; goes = first.goes; moves = first.moves; so = rest_of_start PostLeaves callee words a b e first.events first.so }
+
+  -- ---- post-return
+
+  pub posted_none : (s : Seen) (bytes : List ℕ) (M : List Event → Type 0) → callee.post ≡ None → M [] → Does (moment s bytes) (moment s bytes) M (Posted PostLeaves callee words (moment s bytes) (moment s bytes) (Ok tt))
+  posted_none s bytes M none stays = record {
+    events = [];
+    goes = goes_none s bytes bytes (omega arith);
+    moves = stays;
+    so = (sym (ap (λ o. posts o words) none), subst (λ o. Left PostLeaves o bytes bytes) (sym none) refl);
+  }
+
+  pub posted : (a b : Moment) (p : ℕ) (M : List Event → Type 0) → callee.post ≡ Some p → PostLeaves a.bytes b.bytes → Goes a b [] (event.Post p words ∷ []) → M (event.Post p words ∷ []) → Does a b M (Posted PostLeaves callee words a b (Ok tt))
+  posted a b p M some kept goes moves = record {
+    events = event.Post p words ∷ [];
+    goes = goes;
+    moves = moves;
+    so = (sym (ap (λ o. posts o words) some), subst (λ o. Left PostLeaves o a.bytes b.bytes) (sym some) kept);
+  }
+
+  pub post_trapped : (a b : Moment) (p : ℕ) (f : GuestFault) (M : List Event → Type 0) → f ≡ guest.Trap → callee.post ≡ Some p → Goes a b [] (post_events p words a.bytes (Err f))
+      → HasCause {T = Unit {0}} a.guest b.guest (Err f) → OnAnswer {T = Unit {0}} (Err f) (M (post_events p words a.bytes (Err f))) → Does a b M (Posted PostLeaves callee words a b (Err (error.Fault fault.GuestTrap)))
+  post_trapped a b p guest.Trap M e some goes cause moves = record {
+    events = event.Post p words ∷ trap_event (length a.bytes) ∷ [];
+    goes = goes;
+    moves = moves;
+    so = (cause, (p, some, refl));
+  }
+  post_trapped a b p guest.OutOfMemory M e some goes cause moves = absurd (other e)
+
+-- ---- the whole
+
+-- none of the refusals before the guest is entered
+pub rest_is_late : (callee : Callee) (a b : Moment) (es : List Event) (r : Result (Vec Val Global) Error) → IfErr r (RestCause callee a b es) → IfErr r IsLate
+rest_is_late callee a b es (Ok vals) h = tt
+rest_is_late callee a b es (Err error.WrongCount) h = absurd h
+rest_is_late callee a b es (Err error.AsyncLifted) h = absurd h
+rest_is_late callee a b es (Err error.CannotEnterComponent) h = absurd h
+rest_is_late callee a b es (Err error.WrongWords) h = refl
+rest_is_late callee a b es (Err (error.UnknownImport n)) h = refl
+rest_is_late callee a b es (Err (error.Fault f)) h = refl
+
+pub lowered_is_late : (callee : Callee) (params : List Val) (a b : Moment) (es : List Event) (e : Error) → Lowered callee params a b (Err e) es → IsLate e
+lowered_is_late callee params a b es (error.Fault f) h = refl
+lowered_is_late callee params a b es error.WrongCount h = absurd h
+lowered_is_late callee params a b es error.AsyncLifted h = absurd h
+lowered_is_late callee params a b es error.CannotEnterComponent h = absurd h
+lowered_is_late callee params a b es error.WrongWords h = absurd h
+lowered_is_late callee params a b es (error.UnknownImport n) h = absurd h
+
+module _ (PostLeaves : List ℕ → List ℕ → Type 0) (callee : Callee) (params : List Val) where
+  core_refused : (a b : Moment) (e : Error) (es : List Event) → Lowered callee params a b (Err e) es → CoreCall PostLeaves callee params a b (Err e) es
+  core_refused a b (error.Fault f) es (inl (short, same, none)) = subst (λ fs. CoreCall PostLeaves callee params a b (Err (error.Fault f)) fs) (sym none)
+      (subst (λ g. CoreCall PostLeaves callee params a b (Err (error.Fault g)) []) (sym short) (short_call PostLeaves callee params a b same))
+  core_refused a b (error.Fault f) es (inr (words, low, blames, is)) = subst (λ fs. CoreCall PostLeaves callee params a b (Err (error.Fault f)) fs) (sym is) (refused_call PostLeaves callee params a b f words low blames)
+  core_refused a b error.WrongCount es h = absurd h
+  core_refused a b error.AsyncLifted es h = absurd h
+  core_refused a b error.CannotEnterComponent es h = absurd h
+  core_refused a b error.WrongWords es h = absurd h
+  core_refused a b (error.UnknownImport n) es h = absurd h
+
+  -- the parameters were lowered
+  pub call_started : (a b c : Moment) (words : Vec ℕ Global) (answer : Result (Vec Val Global) Error) (M N O : List Event → Type 0) → ((xs ys : List Event) → M xs → N ys → O (xs ++ ys))
+      → Adding a b M (Lowered callee params a b (Ok words)) → Does b c N (IsRest PostLeaves callee words.items b c answer) → Adding a c O (CoreCall PostLeaves callee params a c answer)
+  call_started a b c words answer M N O f first second =
+      let low : ArgsLowering a b callee.encoding callee.params (HaveTrees callee.params params) words.items done = first.so.0 in
+      let xs : List Event = events_of low.answers low.trap in
+      let ys : List Event = second.events in
+      record {
+        events = xs ++ ys;
+        added = (goes_then a b c (marks_of low.answers) [] xs ys low.lowering.goes second.goes).events;
+        moves = λ there. f xs ys (subst M first.so.1 (first.moves there)) second.moves;
+        so = subst (λ o. CoreCall PostLeaves callee params a c answer (events_of low.answers o ++ ys)) (sym low.lowering.cause)
+            (joined PostLeaves callee params a b c words.items low.answers ys answer (ready callee params a b words.items low) low.lowering.goes.traps_later (second.goes.marks ∙ append-nil b.guest.marks) second.so);
+      }
+
+  -- they weren't
+  pub call_refused : (a b : Moment) (e : Error) (M : List Event → Type 0) → Adding a b M (Lowered callee params a b (Err e)) → Adding a b M (CoreCall PostLeaves callee params a b (Err e))
+  call_refused a b e M low = record { events = low.events; added = low.added; moves = low.moves; so = core_refused a b e low.events low.so }
+
+  -- it is refused, whatever the results
+  pub call_left : (a b : Moment) (e : Error) (results : List Val) (M : List Event → Type 0) → Adding a b M (CoreCall PostLeaves callee params a b (Err e)) → Adding a b M (IsCall PostLeaves callee params a b (Err e) results)
+  call_left a b e results M h = record { events = h.events; added = h.added; moves = h.moves; so = h.so results }

@@ -1,0 +1,6 @@
+pub mod Fronts
+pub mod Rests
+pub mod Calls
+pub mod Counts
+pub mod Composed
+pub mod Lowered

@@ -1,0 +1,39 @@
+use Rattle.std.proofs.Common.{Err, Global, Some, Vec, ap, arith, sym, ℕ, ◌∙◌, ◌≡◌}
+use Rattle.std.specs.Prelude.{slice_get}
+use Rattle.canon_table.specs.Table.{Table, tuple_members}
+use Rattle.canon_table.specs.declared.types.TypeFunc.{TypeFunc}
+use Rattle.canon_value.specs.Core.{encoding_by, moment_of, types_of}
+use Rattle.canon_func.specs.Call.{OnAnswered}
+use Rattle.canon_func.specs.Stores.{params_in}
+use Rattle.canon_func.specs.declared.error.Error.TheVariants as error
+use Rattle.canon_func.proofs.Lowered.{lowered_done, lowered_refused, refused_moves, written}
+use Rattle.canon_func.proofs.steps.lower_params.Goals as goal
+
+-- the members of the tuple are the callee's parameters
+members_are : (t u : Table) (i : ℕ) (f : TypeFunc) → u ≡ t → slice_get u.funcs i ≡ Some f → tuple_members t f.params ≡ params_in t (slice_get t.funcs i)
+members_are t u i f same found = sym (ap (params_in t) (ap (λ v. slice_get v.funcs i) (sym same) ∙ found))
+
+pub returns-in-Ok-clause-lowered : goal.returns-in-Ok-clause-lowered
+returns-in-Ok-clause-lowered g c =
+    let seen = g.G.Guest.seen in
+    let before = c.args.core.now in
+    let after = c.lower_into.new.core in
+    let f = c.func.result.now in
+    let same : c.types-types.result.now ≡ types_of before = c.types-types.ensures ∙ ap (λ k. k.types.types) c.component.ensures.component in
+    lowered_done (moment_of seen before) (moment_of seen after) (encoding_by before c.args.export.now.options) (tuple_members (types_of before) f.params) _ c.args.params.now
+    (members_are (types_of before) c.types-types.result.now c.args.export.now.ty f same c.func.ensures.found)
+    _ c.lower_into.new.words _ (written c.in_ok-words.words.items c.lower_into.new.words c.in_ok-words.words.len (omega (arith, c.deref_mut.ensures.len, c.lower_into.auto.words))) c.in-Ok.ensures.lowered c.in-Ok.ensures.moves
+
+pub returns-in-Err-clause-lowered : goal.returns-in-Err-clause-lowered
+returns-in-Err-clause-lowered g c =
+    let seen = g.G.Guest.seen in
+    let moves = g.G.Guest.moves in
+    let before = c.args.core.now in
+    let after = c.lower_into.new.core in
+    let f = c.func.result.now in
+    let e = c.in-Err.fault in
+    let same : c.types-types.result.now ≡ types_of before = c.types-types.ensures ∙ ap (λ k. k.types.types) c.component.ensures.component in
+    lowered_refused (moment_of seen before) (moment_of seen after) (encoding_by before c.args.export.now.options) (tuple_members (types_of before) f.params) _ c.args.params.now
+    (members_are (types_of before) c.types-types.result.now c.args.export.now.ty f same c.func.ensures.found)
+    e c.lower_into.new.words (λ es. OnAnswered {T = Vec ℕ Global} (Err (error.Fault e)) (moves before.guest es after.guest))
+    c.in-Err.ensures.lowered c.in-Err.ensures.cause (refused_moves (Vec ℕ Global) seen moves before.guest after.guest e c.in-Err.ensures.moves)

@@ -1,0 +1,165 @@
+-- What a call did.
+use Rattle.std.specs.Prelude.{Bool, Err, IfErr, IsOkUnless, IsSome, List, None, Ok, OnOk, Option, Result, Some, [], false, if◌then◌else◌, length, min, nat_le, not, slice_index, true, ℕ, ⊤, ◌%◌, ◌&&◌, ◌++◌, ◌+◌, ◌-◌, ◌<◌, ◌==◌, ◌^◌, ◌∷◌, ◌≡◌, ◌≤◌}
+use Rattle.canon_model.specs.Flat.{RepArgs, RepResults, max_results}
+use Rattle.canon_model.specs.Homes.{ParamsHome, PointsTo}
+use Rattle.canon_model.specs.Layout.{members_flat}
+use Rattle.canon_model.specs.Memory.{InBlocks}
+use Rattle.canon_model.specs.Reach.{At, Kind, ValuesFault, address, misaligned, no_scalar, out_of_bounds, word}
+use Rattle.canon_model.specs.Requests.{Request, params_requests}
+use Rattle.canon_model.specs.Shape.{Members, member_count}
+use Rattle.canon_model.specs.Tree.{Trees}
+use Rattle.canon_memory.specs.declared.event.Event.{Event}
+use Rattle.canon_memory.specs.Counts.{Rose}
+use Rattle.canon_memory.specs.Guest.{Moment}
+use Rattle.canon_memory.specs.Journal.{Adds}
+use Rattle.canon_lowering.specs.Lowering.{AllLawful, AllTidy, Answer, Meets, Trap, addresses_of, blocks_of, events_of, marks_of}
+use Rattle.canon_lowering.specs.Args.{Anywhere}
+use Rattle.canon_lowering.specs.Storing.{narrow}
+use Rattle.canon_value.specs.Fails.{BlamesMembers}
+use Rattle.canon_value.specs.Lifts.{AreResults}
+use Rattle.canon_value.specs.Value.{HaveTrees}
+use Rattle.canon_value.specs.declared.fault.At.TheVariants as place
+use Rattle.canon_value.specs.declared.fault.At as told
+use Rattle.canon_value.specs.declared.fault.Fault.{Fault}
+use Rattle.canon_value.specs.declared.fault.Fault.TheVariants as fault
+use Rattle.canon_value.specs.declared.val.Val.{Val}
+use Rattle.canon_func.specs.Runs.{AsksFor, Each, EndsIn, IsAnswer, IsFrontOfRun, IsNoAsk, IsNoRequest, IsNoStart, IsOneRun, IsReturn, IsTrap, OnReturn, OnStart}
+use Rattle.canon_func.specs.Stores.{Callee}
+use Rattle.canon_func.specs.declared.error.Error.{Error}
+use Rattle.canon_func.specs.declared.error.Error.TheVariants as error
+
+-- ---- before the guest is entered
+
+-- the error of the first test that applies
+abbrev pub first_error : List (Bool × Error) → Option Error
+first_error [] = None
+first_error (test ∷ tests) = if test.0 then Some test.1 else first_error tests
+
+-- Why a call with so many parameters and results is refused before the guest is entered, if it is: the first reason counts.
+abbrev pub refusal : Callee → ℕ → ℕ → Bool → Option Error
+refusal callee params results trapped = first_error (
+    (not ((params == member_count callee.params) && (results == member_count callee.results)), error.WrongCount)
+    ∷ (callee.async_, error.AsyncLifted)
+    ∷ (trapped, error.CannotEnterComponent)
+    ∷ [])
+
+-- the error, where it is one of these three
+abbrev pub refused_by : Result (Unit {0}) Error → Option Error
+refused_by (Ok x) = None
+refused_by (Err error.WrongCount) = Some error.WrongCount
+refused_by (Err error.AsyncLifted) = Some error.AsyncLifted
+refused_by (Err error.CannotEnterComponent) = Some error.CannotEnterComponent
+refused_by (Err error.WrongWords) = None
+refused_by (Err (error.UnknownImport n)) = None
+refused_by (Err (error.Fault f)) = None
+
+-- ---- at the start
+
+-- The guest was started with these words in this memory: they stand for the parameters, as far as the answers kept the law
+-- of `realloc`.
+pub record IsStart (callee : Callee) (params : List Val) (entry : List ℕ) (answers : List Answer) (words memory : List ℕ) : Type 0 where
+  pub trees : Trees
+  pub have : HaveTrees callee.params params trees
+  pub represented : AllLawful answers → RepArgs true callee.encoding (narrow memory) words callee.params trees
+  -- each pointer in the words is the home of its own block, and so is each in the blocks
+  pub homes : ParamsHome Anywhere callee.encoding false words callee.params trees (addresses_of answers) []
+  pub memory_homes : AllLawful answers → ParamsHome (PointsTo (narrow memory)) callee.encoding false words callee.params trees (addresses_of answers) []
+  -- memory at the call's entry stands, outside the answered blocks
+  pub frame : AllTidy answers → (i : ℕ) → i < length entry → ¬ InBlocks (blocks_of answers) i → slice_index memory i ≡ slice_index entry i
+
+-- The answers, and then the trap, met the first of these requests, and all of them where the guest was started.
+pub record MetFirst (requests : List Request) (answers : List Answer) (trap : Option Trap) (later : List Event) : Type 0 where
+  pub left : List Request
+  pub met : (last : ℕ) → Meets last requests answers trap left
+  pub all : Each (OnStart (λ words m. left ≡ [])) later
+
+-- ---- causes
+
+-- how many words values take: in a row up to `most` words, or one that points to them
+abbrev pub words_within : ℕ → Members → ℕ
+words_within most ms = if nat_le (members_flat ms) most then members_flat ms else 1
+
+-- how many words a function returns
+abbrev pub result_words : Members → ℕ
+result_words ms = words_within max_results ms
+
+-- where a fault stands, as it is told: the index of a word stays at the last number of a `u32`
+abbrev pub IsPlace : told.At → At → Type 0
+IsPlace (place.Word k) (word i) = k ≡ min i (2 ^ 32 - 1)
+IsPlace (place.Address a) (address b) = a ≡ b
+IsPlace _ _ = ⊥
+
+-- the words and the memory that were returned have a fault of this kind there
+abbrev pub HasFault : Callee → Kind → told.At → List ℕ → List ℕ → Type 0
+HasFault callee kind at words memory = (x : At) × IsPlace at x × ValuesFault callee.encoding (narrow memory) words max_results callee.results kind x
+
+-- why a call was refused with this fault
+abbrev pub FaultCause : Callee → List Val → Moment → Moment → List Event → Fault → Type 0
+FaultCause callee params before after events (fault.TypeMismatch k) = BlamesMembers callee.params params (fault.TypeMismatch k)
+FaultCause callee params before after events (fault.FieldName k) = BlamesMembers callee.params params (fault.FieldName k)
+FaultCause callee params before after events (fault.LengthMismatch k) = BlamesMembers callee.params params (fault.LengthMismatch k)
+FaultCause callee params before after events (fault.ReallocMisaligned a) =
+    Each IsNoStart events × EndsIn (IsAnswer (λ c answer. (answer ≡ a) × ¬ (a % c.align ≡ 0))) events
+FaultCause callee params before after events (fault.ReallocOutOfBounds a) =
+    Each IsNoStart events × EndsIn (IsAnswer (λ c answer. (answer ≡ a) × ¬ (a + c.new_size ≤ length after.bytes))) events
+FaultCause callee params before after events fault.GuestTrap = Rose before.guest.traps after.guest.traps × EndsIn IsTrap events
+FaultCause callee params before after events (fault.PointerMisaligned at) = EndsIn (IsReturn (HasFault callee misaligned at)) events
+FaultCause callee params before after events (fault.PointerOutOfBounds at) = EndsIn (IsReturn (HasFault callee out_of_bounds at)) events
+FaultCause callee params before after events (fault.InvalidChar at) = EndsIn (IsReturn (HasFault callee no_scalar at)) events
+FaultCause callee params before after events fault.OutOfMemory = ⊤
+
+-- why a call was refused with this error, which isn't one of those before the guest is entered
+abbrev pub Cause : Callee → List Val → Moment → Moment → List Event → Error → Type 0
+Cause callee params before after events (error.Fault f) = FaultCause callee params before after events f
+Cause callee params before after events error.WrongWords = EndsIn (IsReturn (λ words m. ¬ (length words ≡ result_words callee.results))) events
+Cause callee params before after events (error.UnknownImport n) = EndsIn (AsksFor n) events
+Cause callee params before after events error.WrongCount = ⊥
+Cause callee params before after events error.AsyncLifted = ⊥
+Cause callee params before after events error.CannotEnterComponent = ⊥
+
+-- ---- the whole
+
+-- What may become of memory after the return: a post-return, where there is one, leaves it so; without one it stays.
+abbrev pub Left : (List ℕ → List ℕ → Type 0) → Option ℕ → List ℕ → List ℕ → Type 0
+Left PostLeaves None memory after = after ≡ memory
+Left PostLeaves (Some func) memory after = PostLeaves memory after
+
+-- A call that wasn't refused before the guest was entered, by its callee, its parameters, the moments before and after, its
+-- answer, the results that it leaves and the events that it adds to a told journal.
+pub record IsCall (PostLeaves : List ℕ → List ℕ → Type 0) (callee : Callee) (params : List Val) (before after : Moment) (answer : Result (Unit {0}) Error) (results : List Val) (events : List Event) : Type 0 where
+  -- The guest made one run; of a refused call the events are a front of one.
+  pub one_run : OnOk answer (IsOneRun callee.func callee.post events)
+  pub front : IsFrontOfRun callee.func callee.post (length before.bytes) events
+  -- Blocks were asked for before the start alone, as the parameters want them; each answer has its mark.
+  pub answers : List Answer
+  pub trap : Option Trap
+  pub later : List Event
+  pub in_parts : events ≡ events_of answers trap ++ later
+  pub no_more : Each IsNoRequest later
+  pub marks : after.guest.marks ≡ before.guest.marks ++ marks_of answers
+  pub requested : (ts : Trees) → HaveTrees callee.params params ts → MetFirst (params_requests false callee.encoding callee.params ts) answers trap later
+  pub start : Each (OnStart (IsStart callee params before.bytes answers)) events
+  -- The results are the only values that the returned words and memory represent; that memory is left, as far as a
+  -- post-return leaves it.
+  pub only_results : OnOk answer (Each (OnReturn (λ words m. AreResults callee.encoding (narrow m) callee.results words results)) events)
+  pub leaves : OnOk answer (Each (OnReturn (λ words m. Left PostLeaves callee.post m after.bytes)) events)
+  pub cause : IfErr answer (Cause callee params before after events)
+  -- A valid call answers Ok or want of memory: the parameters are of their types, `realloc` kept its law, the guest doesn't
+  -- trap and asks for no import, and what it returns represents results.
+  pub valid : (ts : Trees) → HaveTrees callee.params params ts → AllLawful answers → ¬ EndsIn IsTrap events → Each IsNoAsk events
+      → Each (OnReturn (λ words m. (us : Trees) × RepResults false callee.encoding (narrow m) words callee.results us)) events
+      → IsOkUnless answer (error.Fault fault.OutOfMemory)
+
+-- a fact for every answer but want of memory
+abbrev pub OnAnswered : {T : Type 0} → Result T Error → Type 0 → Type 0
+OnAnswered (Ok x) P = P
+OnAnswered (Err (error.Fault fault.OutOfMemory)) P = ⊤
+OnAnswered (Err _) P = P
+
+-- From one moment to another the guest's journal, where it is told, got these events, of which this is so; then the guest
+-- moved by them.
+pub record Adding (before after : Moment) (Moves IsSo : List Event → Type 0) : Type 0 where
+  pub events : List Event
+  pub added : Adds before.guest.journal after.guest.journal events
+  pub moves : IsSome before.guest.journal → Moves events
+  pub so : IsSo events

@@ -1,0 +1,126 @@
+-- The events of a run of a guest.
+use Rattle.std.specs.Prelude.{List, None, Option, Some, [], length, ℕ, ⊤, ◌++◌, ◌∷◌, ◌≡◌, ◌≤◌}
+use Rattle.canon_model.specs.Requests.{Call}
+use Rattle.canon_memory.specs.declared.event.Event.{Event}
+use Rattle.canon_memory.specs.declared.event.Event.TheVariants as event
+use Rattle.canon_memory.specs.Realloc.{call}
+
+-- ---- properties of events
+
+-- each event has this property
+abbrev pub Each : (Event → Type 0) → List Event → Type 0
+Each P [] = ⊤
+Each P (e ∷ events) = P e × Each P events
+
+-- the last event has it
+abbrev pub EndsIn : (Event → Type 0) → List Event → Type 0
+EndsIn P [] = ⊥
+EndsIn P (e ∷ []) = P e
+EndsIn P (e ∷ f ∷ events) = EndsIn P (f ∷ events)
+
+-- where the event is a start: of its words and its memory
+abbrev pub OnStart : (List ℕ → List ℕ → Type 0) → Event → Type 0
+OnStart P (event.Start func words memory) = P words memory
+OnStart P _ = ⊤
+
+-- where it is a return: of these
+abbrev pub OnReturn : (List ℕ → List ℕ → Type 0) → Event → Type 0
+OnReturn P (event.Return words memory) = P words memory
+OnReturn P _ = ⊤
+
+-- it is a return of such words and such a memory
+abbrev pub IsReturn : (List ℕ → List ℕ → Type 0) → Event → Type 0
+IsReturn P (event.Return words memory) = P words memory
+IsReturn P _ = ⊥
+
+-- it is an answer of `realloc`, to such a request, at such an address
+abbrev pub IsAnswer : (Call → ℕ → Type 0) → Event → Type 0
+IsAnswer P (event.Realloc old old_size align new_size answer) = P (call old old_size align new_size) answer
+IsAnswer P _ = ⊥
+
+abbrev pub IsRealloc : Event → Type 0
+IsRealloc (event.Realloc old old_size align new_size answer) = ⊤
+IsRealloc _ = ⊥
+
+abbrev pub IsTrap : Event → Type 0
+IsTrap (event.Trap asked len) = ⊤
+IsTrap _ = ⊥
+
+-- it asks for the import of this number
+abbrev pub AsksFor : ℕ → Event → Type 0
+AsksFor n (event.Ask index words memory) = index ≡ n
+AsksFor n _ = ⊥
+
+abbrev pub IsNoStart : Event → Type 0
+IsNoStart (event.Start func words memory) = ⊥
+IsNoStart _ = ⊤
+
+abbrev pub IsNoAsk : Event → Type 0
+IsNoAsk (event.Ask index words memory) = ⊥
+IsNoAsk _ = ⊤
+
+-- it is no request for a block, neither one that was answered nor one that trapped
+abbrev pub IsNoRequest : Event → Type 0
+IsNoRequest (event.Realloc old old_size align new_size answer) = ⊥
+IsNoRequest (event.Trap (Some asked) len) = ⊥
+IsNoRequest _ = ⊤
+
+-- ---- one run
+
+-- an import that was asked for, the blocks that were asked for meanwhile, and how the guest went on
+pub record Turn : Type 0 where
+  pub index : ℕ
+  pub words : List ℕ
+  pub memory : List ℕ
+  pub reallocs : List Event
+  pub only_reallocs : Each IsRealloc reallocs
+  pub resumed_words : List ℕ
+  pub resumed_memory : List ℕ
+
+abbrev pub events_in : List Turn → List Event
+events_in [] = []
+events_in (t ∷ turns) = event.Ask t.index t.words t.memory ∷ t.reallocs ++ event.Resume t.resumed_words t.resumed_memory ∷ events_in turns
+
+-- post-return with the words that were returned, where there is one
+abbrev pub posts : Option ℕ → List ℕ → List Event
+posts None returned = []
+posts (Some func) returned = event.Post func returned ∷ []
+
+-- One run of a core function: blocks were asked for; it was started with these words in this memory; it asked for imports; it
+-- returned these words and left this memory; and then post-return.
+pub record IsRun (func : ℕ) (post : Option ℕ) (words memory returned after : List ℕ) (events : List Event) : Type 0 where
+  pub reallocs : List Event
+  pub only_reallocs : Each IsRealloc reallocs
+  pub turns : List Turn
+  pub is : events ≡ reallocs ++ event.Start func words memory ∷ events_in turns ++ event.Return returned after ∷ posts post returned
+
+abbrev pub IsOneRun : ℕ → Option ℕ → List Event → Type 0
+IsOneRun func post events = (words memory returned after : List ℕ) × IsRun func post words memory returned after events
+
+-- ---- a front of one run
+
+-- the length of the last memory among these events, or of memory before them
+abbrev pub last_len : ℕ → List Event → ℕ
+last_len len [] = len
+last_len len (event.Start func words memory ∷ events) = last_len (length memory) events
+last_len len (event.Ask index words memory ∷ events) = last_len (length memory) events
+last_len len (event.Resume words memory ∷ events) = last_len (length memory) events
+last_len len (event.Return words memory ∷ events) = last_len (length memory) events
+last_len len (_ ∷ events) = last_len len events
+
+-- nothing, or a trap in a memory of at least this length
+abbrev pub MayTrap : ℕ → List Event → Type 0
+MayTrap len [] = ⊤
+MayTrap len (event.Trap asked at ∷ []) = len ≤ at
+MayTrap len _ = ⊥
+
+-- A front of one run, perhaps followed by a trap; `len` is the length of memory before it.
+pub record IsFrontOfRun (func : ℕ) (post : Option ℕ) (len : ℕ) (events : List Event) : Type 0 where
+  pub run : List Event
+  pub one_run : IsOneRun func post run
+  pub front : List Event
+  pub rest : List Event
+  pub trap : List Event
+  pub begins : run ≡ front ++ rest
+  pub events_are : events ≡ front ++ trap
+  pub may_trap : MayTrap (last_len len front) trap

@@ -1,0 +1,121 @@
+-- The steps of a call.
+use Rattle.std.specs.Prelude.{Err, IfErr, IfOk, IsOkUnless, List, None, Ok, OnOk, Option, Result, Some, Vec, [], false, length, ℕ, ⊤, ◌++◌, ◌∷◌, ◌≡◌, ◌⊎◌}
+use Rattle.std.specs.declared.alloc.Global.{Global}
+use Rattle.canon_model.specs.Flat.{RepResults}
+use Rattle.canon_model.specs.Reach.{misaligned, no_scalar, out_of_bounds}
+use Rattle.canon_model.specs.Shape.{member_count}
+use Rattle.canon_model.specs.Tree.{Trees}
+use Rattle.canon_memory.specs.declared.event.Event.{Event}
+use Rattle.canon_memory.specs.declared.event.Event.TheVariants as event
+use Rattle.canon_memory.specs.Counts.{Rose}
+use Rattle.canon_memory.specs.Guest.{Goes, Moment}
+use Rattle.canon_memory.specs.Journal.{trap_event}
+use Rattle.canon_lowering.specs.Args.{ArgsLowering}
+use Rattle.canon_lowering.specs.Lowering.{done, events_of}
+use Rattle.canon_lowering.specs.Storing.{narrow}
+use Rattle.canon_value.specs.Fails.{BlamesMembers}
+use Rattle.canon_value.specs.Lifts.{AreResults}
+use Rattle.canon_value.specs.Lowers.{fault_ending}
+use Rattle.canon_value.specs.Value.{HaveTrees}
+use Rattle.canon_value.specs.declared.fault.Fault.{Fault}
+use Rattle.canon_value.specs.declared.fault.Fault.TheVariants as fault
+use Rattle.canon_value.specs.declared.val.Val.{Val}
+use Rattle.canon_func.specs.Call.{HasFault, IsCall, Left, refused_by, result_words}
+use Rattle.canon_func.specs.Runs.{AsksFor, Each, EndsIn, IsFrontOfRun, IsNoAsk, IsNoRequest, IsOneRun, IsReturn, IsTrap, OnReturn, OnStart, posts}
+use Rattle.canon_func.specs.Stores.{Callee}
+use Rattle.canon_func.specs.declared.error.Error.{Error}
+use Rattle.canon_func.specs.declared.error.Error.TheVariants as error
+
+-- From one moment to another without an answer of `realloc`: these events were added, which the guest did, and of which
+-- this is so.
+pub record Does (before after : Moment) (Moves IsSo : List Event → Type 0) : Type 0 where
+  pub events : List Event
+  pub goes : Goes before after [] events
+  pub moves : Moves events
+  pub so : IsSo events
+
+-- ---- lowering
+
+-- The parameters were lowered into these words, or why not; these are the events. Where memory ran out before, nothing was
+-- done.
+abbrev pub Lowered : Callee → List Val → Moment → Moment → Result (Vec ℕ Global) Error → List Event → Type 0
+Lowered callee params before after (Ok words) events =
+    (low : ArgsLowering before after callee.encoding callee.params (HaveTrees callee.params params) words.items done) × (events ≡ events_of low.answers low.trap)
+Lowered callee params before after (Err (error.Fault f)) events =
+    ((f ≡ fault.OutOfMemory) × (after ≡ before) × (events ≡ []))
+    ⊎ ((words : List ℕ) × (low : ArgsLowering before after callee.encoding callee.params (HaveTrees callee.params params) words (fault_ending f))
+    × BlamesMembers callee.params params f × (events ≡ events_of low.answers low.trap))
+Lowered callee params before after (Err _) events = ⊥
+
+-- ---- the start
+
+-- A core function was started, and these are the events: it returned these words, or why not.
+abbrev pub Started : ℕ → List ℕ → Moment → Moment → Result (List ℕ) Error → List Event → Type 0
+Started func words before after (Ok returned) events = events ≡ event.Start func words before.bytes ∷ event.Return returned after.bytes ∷ []
+Started func words before after (Err (error.UnknownImport n)) events = (asked : List ℕ) × (events ≡ event.Start func words before.bytes ∷ event.Ask n asked after.bytes ∷ [])
+Started func words before after (Err (error.Fault fault.GuestTrap)) events =
+    Rose before.guest.traps after.guest.traps × (events ≡ event.Start func words before.bytes ∷ trap_event (length before.bytes) ∷ [])
+Started func words before after (Err (error.Fault fault.OutOfMemory)) events = events ≡ []
+Started func words before after (Err _) events = ⊥
+
+-- ---- after the return
+
+-- the values of returned words, or why there are none
+abbrev pub Lifted : Callee → List ℕ → List ℕ → Result (Vec Val Global) Error → Type 0
+Lifted callee words memory (Ok vals) = AreResults callee.encoding (narrow memory) callee.results words vals.items
+Lifted callee words memory (Err error.WrongWords) = ¬ (length words ≡ result_words callee.results)
+Lifted callee words memory (Err (error.Fault (fault.PointerMisaligned at))) = HasFault callee misaligned at words memory
+Lifted callee words memory (Err (error.Fault (fault.PointerOutOfBounds at))) = HasFault callee out_of_bounds at words memory
+Lifted callee words memory (Err (error.Fault (fault.InvalidChar at))) = HasFault callee no_scalar at words memory
+Lifted callee words memory (Err (error.Fault fault.OutOfMemory)) = ⊤
+Lifted callee words memory (Err _) = ⊥
+
+-- post-return was told these words, where the callee has one
+abbrev pub Posted : (List ℕ → List ℕ → Type 0) → Callee → List ℕ → Moment → Moment → Result (Unit {0}) Error → List Event → Type 0
+Posted PostLeaves callee words before after (Ok x) events = (events ≡ posts callee.post words) × Left PostLeaves callee.post before.bytes after.bytes
+Posted PostLeaves callee words before after (Err (error.Fault fault.GuestTrap)) events = Rose before.guest.traps after.guest.traps
+    × ((p : ℕ) × (callee.post ≡ Some p) × (events ≡ event.Post p words ∷ trap_event (length before.bytes) ∷ []))
+Posted PostLeaves callee words before after (Err (error.Fault fault.OutOfMemory)) events = events ≡ []
+Posted PostLeaves callee words before after (Err _) events = ⊥
+
+-- both, one after the other
+abbrev pub Concluded : (List ℕ → List ℕ → Type 0) → Callee → List ℕ → Moment → Moment → Result (Vec Val Global) Error → List Event → Type 0
+Concluded PostLeaves callee words before after (Ok vals) events = Lifted callee words before.bytes (Ok vals) × Posted PostLeaves callee words before after (Ok tt) events
+Concluded PostLeaves callee words before after (Err (error.Fault fault.GuestTrap)) events = Posted PostLeaves callee words before after (Err (error.Fault fault.GuestTrap)) events
+Concluded PostLeaves callee words before after (Err e) events = Lifted callee words before.bytes (Err e) × (events ≡ [])
+
+-- ---- from the start on
+
+-- why it wasn't done
+abbrev pub RestCause : Callee → Moment → Moment → List Event → Error → Type 0
+RestCause callee before after events error.WrongWords = EndsIn (IsReturn (λ words m. ¬ (length words ≡ result_words callee.results))) events
+RestCause callee before after events (error.UnknownImport n) = EndsIn (AsksFor n) events
+RestCause callee before after events (error.Fault fault.GuestTrap) = Rose before.guest.traps after.guest.traps × EndsIn IsTrap events
+RestCause callee before after events (error.Fault (fault.PointerMisaligned at)) = EndsIn (IsReturn (HasFault callee misaligned at)) events
+RestCause callee before after events (error.Fault (fault.PointerOutOfBounds at)) = EndsIn (IsReturn (HasFault callee out_of_bounds at)) events
+RestCause callee before after events (error.Fault (fault.InvalidChar at)) = EndsIn (IsReturn (HasFault callee no_scalar at)) events
+RestCause callee before after events (error.Fault fault.OutOfMemory) = ⊤
+RestCause callee before after events _ = ⊥
+
+-- A callee was started with these words at the moment `before`, what it returned was lifted, and post-return was told.
+pub record IsRest (PostLeaves : List ℕ → List ℕ → Type 0) (callee : Callee) (words : List ℕ) (before after : Moment) (answer : Result (Vec Val Global) Error) (events : List Event) : Type 0 where
+  pub one_run : OnOk answer (IsOneRun callee.func callee.post events)
+  pub front : (len : ℕ) → IsFrontOfRun callee.func callee.post len events
+  pub no_more : Each IsNoRequest events
+  pub start : Each (OnStart (λ ws m. (ws ≡ words) × (m ≡ before.bytes))) events
+  pub only_results : IfOk answer (λ vals. Each (OnReturn (λ ws m. AreResults callee.encoding (narrow m) callee.results ws vals.items)) events)
+  pub count : IfOk answer (λ vals. length vals.items ≡ member_count callee.results)
+  pub leaves : OnOk answer (Each (OnReturn (λ ws m. Left PostLeaves callee.post m after.bytes)) events)
+  pub cause : IfErr answer (RestCause callee before after events)
+  pub valid : ¬ EndsIn IsTrap events → Each IsNoAsk events → Each (OnReturn (λ ws m. (us : Trees) × RepResults false callee.encoding (narrow m) ws callee.results us)) events
+      → IsOkUnless answer (error.Fault fault.OutOfMemory)
+
+-- ---- the whole, before the results are written
+
+abbrev pub CoreCall : (List ℕ → List ℕ → Type 0) → Callee → List Val → Moment → Moment → Result (Vec Val Global) Error → List Event → Type 0
+CoreCall PostLeaves callee params before after (Ok vals) events = IsCall PostLeaves callee params before after (Ok tt) vals.items events
+CoreCall PostLeaves callee params before after (Err e) events = (results : List Val) → IsCall PostLeaves callee params before after (Err e) results events
+
+-- it isn't a refusal before the guest is entered
+abbrev pub IsLate : Error → Type 0
+IsLate e = refused_by (Err e) ≡ None

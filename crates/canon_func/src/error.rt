@@ -1,0 +1,39 @@
+ghost use Rattle.std.specs.Prelude.{◌≡◌};
+ghost use Rattle.canon_value.specs.declared.fault.Fault.TheVariants as fault;
+ghost use Rattle.canon_func.specs.declared.error.Error.TheVariants as error;
+
+use canon_value::Fault;
+use std::alloc::AllocError;
+
+/// Why a call isn't answered.
+#[derive(Clone, Copy, Debug, PartialEq, Eq)]
+pub enum Error {
+    /// A parameter isn't lowered, a result isn't lifted, or the guest doesn't go on.
+    Fault(Fault),
+    /// There are more or fewer parameters or results than those of the function's type.
+    WrongCount,
+    /// The function's options are async.
+    AsyncLifted,
+    /// An earlier call trapped the store.
+    CannotEnterComponent,
+    /// The guest returned another number of words than the function's results take.
+    WrongWords,
+    /// The guest asked for an import of this number, which the component doesn't have.
+    UnknownImport(u32),
+}
+
+impl From<Fault> for Error {
+    ghost from_gives = { λ f e. e ≡ error.Fault f };
+
+    fn from(fault: Fault) -> Self {
+        Error::Fault(fault)
+    }
+}
+
+impl From<AllocError> for Error {
+    ghost from_gives = { λ _ e. e ≡ error.Fault fault.OutOfMemory };
+
+    fn from(_: AllocError) -> Self {
+        Error::Fault(Fault::OutOfMemory)
+    }
+}

@@ -1,0 +1,155 @@
+ghost use Rattle.std.specs.Prelude.{◌≡◌, ◌↔◌, Err, Ok, Some, IfSome, IsNone, IsTrue, OnErr, OnOk, length, slice_get, true};
+ghost use Rattle.canon_table.specs.Table.{IsOver};
+ghost use Rattle.canon_value.specs.Component.{IsInside};
+ghost use Rattle.canon_value.specs.Core.{moment_of, types_of};
+ghost use Rattle.canon_func.specs.Call.{Adding, IsCall, OnAnswered, refusal, refused_by};
+ghost use Rattle.canon_func.specs.Stores.{IsCallable, IsOwned, Named, callee_of, type_of};
+
+use crate::steps::{call_core, has_counts, has_values, options_of};
+use crate::{Error, Store};
+use canon_memory::Guest;
+use canon_table::{ExportIndex, StoreId, TypeFunc};
+use canon_value::{Export, Val};
+use std::alloc::Global;
+use std::marker::Model;
+
+/// A function of a store's component. Contracts see the store's number and that of the export.
+#[derive(Clone, Copy, Debug, PartialEq, Eq)]
+pub struct Func {
+    store: StoreId,
+    export: ExportIndex,
+}
+
+impl Model for Func {
+    ghost Value = { Named };
+
+    ghost view = { λ f. record { store = f.store; export = f.export } };
+
+    ghost inverse = { λ n. record { store = n.store; export = n.export } };
+}
+
+impl Func {
+    pub(crate) fn of(store: StoreId, export: ExportIndex) -> Self
+        ensures { result ≡ record { store = store; export = export } }
+    {
+        Func { store, export }
+    }
+
+    /// The number that was given to `Store::func`.
+    pub fn export(&self) -> ExportIndex
+        ensures { result ≡ self.now.export }
+    {
+        self.export
+    }
+
+    pub(crate) fn store_id(&self) -> StoreId
+        ensures { result ≡ self.now.store }
+    {
+        self.store
+    }
+
+    /// The function's type.
+    pub fn ty<'a, T, G>(&self, store: &'a Store<T, G>) -> &'a TypeFunc
+        requires { IsOwned store.now self.now }
+        ensures found { type_of store.now self.now ≡ Some result.now }
+        ensures known { IsOver (types_of store.now.core) result.now }
+    {
+        let export = self.export_in(store);
+        store.core().component().types.types().func(export.ty)
+    }
+
+    /// Whether there are values of all of the function's types so far: a condition of `call`.
+    pub fn is_callable<T, G>(&self, store: &Store<T, G>) -> bool
+        requires { IsOwned store.now self.now }
+        ensures { IsTrue result ↔ IsCallable (callee_of store.now self.now) }
+    {
+        let types = store.core().component().types.types();
+        let ty = self.ty(store);
+        has_values(types, ty.params) && has_values(types, ty.results)
+    }
+
+    /// Does nothing, since `call` has told the guest that its words were read.
+    pub fn post_return<T, G>(&self, store: &mut Store<T, G>) -> Result<(), Error>
+        requires { IsOwned store.old self.now }
+        ensures answers { result ≡ Ok tt }
+        ensures same { store.new ≡ store.old }
+    {
+        Ok(())
+    }
+
+    // The export that the function is.
+    fn export_in<T, G>(&self, store: &Store<T, G>) -> Export
+        requires { IsOwned store.now self.now }
+        ensures found { slice_get store.now.core.component.exports.items self.now.export ≡ Some result }
+        ensures inside { IsInside store.now.core.component result }
+    {
+        store.core().component().exports[self.export.as_u32() as usize]
+    }
+
+    // Why a call with so many parameters and results is refused before the guest is entered, if it is.
+    fn refusal<T, G>(&self, store: &Store<T, G>, params: usize, results: usize) -> Option<Error>
+        requires { IsOwned store.now self.now }
+        ensures { result ≡ refusal (callee_of store.now self.now) params results store.now.trapped }
+    {
+        let component = store.core().component();
+        let export = self.export_in(store);
+        if !has_counts(component.types.types(), &export, params, results) {
+            return Some(Error::WrongCount);
+        }
+        if options_of(component, &export).async_ {
+            return Some(Error::AsyncLifted);
+        }
+        if store.is_trapped() {
+            return Some(Error::CannotEnterComponent);
+        }
+        None
+    }
+
+    /// Calls the function, as CanonicalABI.md's "canon_lift": lowers the parameters, starts the guest, lifts what it
+    /// returns, and then tells the guest that its words were read. `results` are written together, last.
+    ///
+    /// Answers `WrongCount`, `AsyncLifted` and `CannotEnterComponent`, in this order, before anything is done. Any later
+    /// refusal, want of memory included, traps the store and leaves `results`: the faults of a parameter, of the guest's
+    /// `realloc` and of a result; `GuestTrap`; `UnknownImport` where the guest asks for an import; `WrongWords` where it
+    /// returns another number of words than the results take.
+    pub fn call<T, G: Guest>(
+        &self,
+        alloc: Global,
+        store: &mut Store<T, G>,
+        params: &[Val],
+        results: &mut [Val],
+    ) -> Result<(), Error>
+        requires owned { IsOwned store.old self.now }
+        requires callable { IsCallable (callee_of store.old self.now) }
+
+        // Before the guest is entered.
+        ensures refused { refused_by result ≡ refusal (callee_of store.old self.now) (length params.now) (length results.old) store.old.trapped }
+        ensures unchanged { IfSome (refused_by result) (λ e. store.new ≡ store.old) }
+
+        // From then on.
+        ensures call { IsNone (refused_by result) → Adding (moment_of G.seen store.old.core) (moment_of G.seen store.new.core)
+            (λ events. OnAnswered result (G.moves store.old.core.guest events store.new.core.guest))
+            (λ events. IsCall G.post_leaves (callee_of store.old self.now) params.now (moment_of G.seen store.old.core) (moment_of G.seen store.new.core) result results.new events) }
+        ensures trapped { IsNone (refused_by result) → OnErr result (store.new.trapped ≡ true) }
+
+        // What it leaves.
+        ensures runs { OnOk result (store.new.trapped ≡ store.old.trapped) }
+        ensures left { OnErr result (results.new ≡ results.old) }
+        ensures same { store.new.core ≡ record store.old.core { guest = store.new.core.guest; memory = store.new.core.memory } }
+    {
+        if let Some(error) = self.refusal(store, params.len(), results.len()) {
+            return Err(error);
+        }
+        let export = self.export_in(store);
+        match call_core(alloc, store.core_mut(), &export, params) {
+            Ok(mut values) => {
+                results.swap_with_slice(&mut values);
+                Ok(())
+            }
+            Err(error) => {
+                store.trap();
+                Err(error)
+            }
+        }
+    }
+}

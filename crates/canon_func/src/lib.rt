@@ -1,0 +1,13 @@
+//! Functions that a component exports, the store that they belong to, and how they are called.
+#![tactic(auto)]
+
+mod error;
+mod func;
+mod steps;
+mod store;
+#[cfg(test)]
+mod tests;
+
+pub use error::Error;
+pub use func::Func;
+pub use store::Store;

@@ -1,0 +1,84 @@
+ghost use Rattle.std.specs.Prelude.{◌≡◌, ◌<◌, ◌↔◌, length, false, IsTrue, IfSome, IsSome};
+ghost use Rattle.canon_func.specs.Stores.{IsOwned, Stored};
+
+use crate::Func;
+use canon_table::ExportIndex;
+use canon_value::Core;
+use std::marker::Model;
+
+/// A core, and whether a call trapped it. Contracts see both.
+#[derive(Drop)]
+pub struct Store<T, G> {
+    core: Core<T, G>,
+    trapped: bool,
+}
+
+impl<T, G> Model for Store<T, G> {
+    ghost Value = { Stored T G };
+
+    ghost view = { λ s. record { core = s.core; trapped = s.trapped } };
+}
+
+impl<T, G> Store<T, G> {
+    ghost use Rattle.std.specs.Prelude.{◌≡◌, ◌<◌, ◌↔◌, length, false, true, IsTrue, IfSome, IsSome};
+    ghost use Rattle.std.specs.Borrow.{Lends, sem};
+    ghost use Rattle.canon_func.specs.Stores.{IsOwned};
+    ghost use Rattle.canon_func.specs.contracts.store.Store.{the_row};
+    ghost use Rattle.canon_value.specs.contracts.core_data.Core as core_type;
+
+    /// A store that no call has trapped.
+    pub fn new(core: Core<T, G>) -> Self
+        ensures { result ≡ record { core = core; trapped = false } }
+    {
+        Store {
+            core,
+            trapped: false,
+        }
+    }
+
+    pub fn core(&self) -> &Core<T, G>
+        ensures { result.now ≡ self.now.core }
+    {
+        &self.core
+    }
+
+    pub fn core_mut(&mut self) -> &mut Core<T, G>
+        ensures* writes_back { sem 𝓛 (Lends (the_row T.row G.row) (core_type.the_row T.row G.row) self.entry result (λ c. record self.old { core = c })) }
+        ensures value { result.now ≡ self.old.core }
+    {
+        &mut self.core
+    }
+
+    /// Whether a call was refused after it entered the guest; no call enters it any more.
+    pub fn is_trapped(&self) -> bool
+        ensures { result ≡ self.now.trapped }
+    {
+        self.trapped
+    }
+
+    pub(crate) fn trap(&mut self)
+        ensures { self.new ≡ record self.old { trapped = true } }
+    {
+        self.trapped = true;
+    }
+
+    /// The function of an export, where there is one.
+    pub fn func(&self, i: ExportIndex) -> Option<Func>
+        ensures found { IsSome result ↔ (i < length self.now.core.component.exports.items) }
+        ensures func { IfSome result (λ f. f ≡ record { store = self.now.core.id; export = i }) }
+    {
+        if (i.as_u32() as usize) < self.core.component().exports.len() {
+            Some(Func::of(self.core.id(), i))
+        } else {
+            None
+        }
+    }
+
+    /// Whether the function is one of this store, as `func` gives it.
+    pub fn owns(&self, f: &Func) -> bool
+        ensures { IsTrue result ↔ IsOwned self.now f.now }
+    {
+        f.store_id() == self.core.id()
+            && (f.export().as_u32() as usize) < self.core.component().exports.len()
+    }
+}

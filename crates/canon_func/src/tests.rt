@@ -1,0 +1,232 @@
+//! Calls of a small guest: what each refusal is, and what it leaves.
+
+use super::*;
+use canon_memory::{Guest, GuestFault, Memory, Step, ValRaw, Words};
+use canon_table::{
+    CanonicalOptions, ExportIndex, InstanceType, InterfaceType, OptionsIndex, RuntimeInstance,
+    StoreId, StringEncoding, TypeBuilder,
+};
+use canon_value::{At, Component, Core, Export, Fault, Val};
+use std::alloc::Global;
+use std::test::Fail;
+
+/// What a guest does once it is started.
+#[derive(Clone, Copy)]
+enum Deed {
+    Return(u32),
+    ReturnNothing,
+    Ask(u32),
+    Trap,
+}
+
+/// A guest that does one deed when it is started, traps at every request, and may trap at post-return.
+#[derive(Drop)]
+struct Doer {
+    alloc: Global,
+    deed: Deed,
+    post_traps: bool,
+    traps: u64,
+    shortages: u64,
+}
+
+impl Doer {
+    fn trap(&mut self) -> GuestFault {
+        self.traps = self.traps.saturating_add(1);
+        GuestFault::Trap
+    }
+}
+
+impl Guest for Doer {
+    ghost seen = { λ g. record { journal = None; marks = []; live = []; traps = g.traps; shortages = g.shortages } };
+
+    ghost moves = { λ _ _ _. Unit {0} };
+
+    ghost stays = { λ _. record {} };
+
+    ghost goes_on = { λ _ _ _ _ _ _ _. record {} };
+
+    fn start(
+        &mut self,
+        _memory: &mut Memory,
+        _func: u32,
+        _words: &[ValRaw],
+    ) -> Result<Step, GuestFault> {
+        let mut words = Words::new(self.alloc);
+        match self.deed {
+            Deed::Trap => Err(self.trap()),
+            Deed::Ask(index) => Ok(Step::Import { index, words }),
+            Deed::ReturnNothing => Ok(Step::Return(words)),
+            Deed::Return(word) => match words.push(ValRaw::u32(word)) {
+                Ok(()) => Ok(Step::Return(words)),
+                Err(_) => {
+                    self.shortages = self.shortages.saturating_add(1);
+                    Err(GuestFault::OutOfMemory)
+                }
+            },
+        }
+    }
+
+    fn resume(&mut self, _memory: &mut Memory, _words: &[ValRaw]) -> Result<Step, GuestFault> {
+        Err(self.trap())
+    }
+
+    fn realloc(
+        &mut self,
+        _memory: &mut Memory,
+        _old: u64,
+        _old_size: u64,
+        _align: u32,
+        _new_size: u64,
+    ) -> Result<u64, GuestFault> {
+        Err(self.trap())
+    }
+
+    fn post_return(
+        &mut self,
+        _memory: &mut Memory,
+        _func: u32,
+        _words: &[ValRaw],
+    ) -> Result<(), GuestFault> {
+        if self.post_traps {
+            return Err(self.trap());
+        }
+        Ok(())
+    }
+
+    fn dtor(&mut self, _memory: &mut Memory, _func: u32, _rep: u32) -> Result<(), GuestFault> {
+        Ok(())
+    }
+}
+
+/// A store of one function, which is core function 7 with post-return 8, and of a guest that does this deed.
+fn store_of(
+    alloc: Global,
+    params: &[InterfaceType],
+    results: &[InterfaceType],
+    async_: bool,
+    deed: Deed,
+    post_traps: bool,
+) -> Result<Store<(), Doer>, Fail> {
+    let mut builder = TypeBuilder::new(alloc);
+    let ty = builder.add_func(params.to_vec(alloc)?, results.to_vec(alloc)?, async_)?;
+    let id = StoreId::from_u64(1);
+    let mut options = Vec::new(alloc);
+    options.push(CanonicalOptions {
+        instance: RuntimeInstance::from_u32(0),
+        string_encoding: StringEncoding::Utf8,
+        async_,
+        post_return: Some(8),
+    })?;
+    let mut exports = Vec::new(alloc);
+    exports.push(Export {
+        ty,
+        func: 7,
+        options: OptionsIndex::from_u32(0),
+    })?;
+    let component = Component {
+        types: InstanceType::new(builder.finish(), id),
+        options,
+        exports,
+    };
+    if !component.check() {
+        return Err(Fail::from("an index is outside its table"));
+    }
+    let guest = Doer {
+        alloc,
+        deed,
+        post_traps,
+        traps: 0,
+        shortages: 0,
+    };
+    let memory = Memory::new(alloc, 65_536)?;
+    Ok(Store::new(Core::new(alloc, id, (), guest, memory, component)?))
+}
+
+/// Calls the store's function, where it can be called.
+fn call(
+    alloc: Global,
+    store: &mut Store<(), Doer>,
+    params: &[Val],
+    results: &mut [Val],
+) -> Option<Result<(), Error>> {
+    let f = store.func(ExportIndex::from_u32(0))?;
+    if !f.is_callable(store) {
+        return None;
+    }
+    Some(f.call(alloc, store, params, results))
+}
+
+#[test]
+fn a_call_lowers_its_parameters_and_lifts_its_results(rt: HostRuntime) -> Result<(), Fail> {
+    let alloc = rt.alloc();
+    let params = [InterfaceType::U32, InterfaceType::S8];
+    let mut store = store_of(alloc, &params, &[InterfaceType::Bool], false, Deed::Return(2), false)?;
+    let mut results = [Val::Bool(false)];
+    let answer = call(alloc, &mut store, &[Val::U32(7), Val::S8(-1)], &mut results);
+    assert_eq!(rt; answer, Some(Ok(())));
+    assert!(rt; matches!(&results, [Val::Bool(true)]), "{results:?}");
+    assert!(rt; !store.is_trapped());
+    Ok(())
+}
+
+#[test]
+fn a_refusal_before_the_guest_is_entered_changes_nothing(rt: HostRuntime) -> Result<(), Fail> {
+    let alloc = rt.alloc();
+    let mut store = store_of(alloc, &[], &[InterfaceType::Bool], true, Deed::Trap, false)?;
+    let counts = call(alloc, &mut store, &[Val::Bool(true)], &mut [Val::Bool(false)]);
+    assert_eq!(rt; counts, Some(Err(Error::WrongCount)));
+    let counts = call(alloc, &mut store, &[], &mut []);
+    assert_eq!(rt; counts, Some(Err(Error::WrongCount)));
+    let lifted = call(alloc, &mut store, &[], &mut [Val::Bool(false)]);
+    assert_eq!(rt; lifted, Some(Err(Error::AsyncLifted)));
+    assert!(rt; !store.is_trapped());
+    Ok(())
+}
+
+#[test]
+fn a_later_refusal_traps_the_store_and_leaves_the_results(rt: HostRuntime) -> Result<(), Fail> {
+    let alloc = rt.alloc();
+    let cases = [
+        (Deed::ReturnNothing, false, Error::WrongWords),
+        (Deed::Ask(6), false, Error::UnknownImport(6)),
+        (Deed::Trap, false, Error::Fault(Fault::GuestTrap)),
+        (Deed::Return(65), true, Error::Fault(Fault::GuestTrap)),
+        (Deed::Return(55_296), false, Error::Fault(Fault::InvalidChar(At::Word(0)))),
+    ];
+    for (deed, post_traps, error) in cases {
+        let mut store = store_of(alloc, &[], &[InterfaceType::Char], false, deed, post_traps)?;
+        let mut results = [Val::Bool(false)];
+        assert_eq!(rt; call(alloc, &mut store, &[], &mut results), Some(Err(error)));
+        assert!(rt; matches!(&results, [Val::Bool(false)]), "{results:?}");
+        let again = call(alloc, &mut store, &[], &mut results);
+        assert_eq!(rt; again, Some(Err(Error::CannotEnterComponent)));
+    }
+    Ok(())
+}
+
+#[test]
+fn a_parameter_of_another_type_is_refused_at_its_place(rt: HostRuntime) -> Result<(), Fail> {
+    let alloc = rt.alloc();
+    let params = [InterfaceType::U32, InterfaceType::S8];
+    let mut store = store_of(alloc, &params, &[], false, Deed::ReturnNothing, false)?;
+    let answer = call(alloc, &mut store, &[Val::U32(7), Val::U8(1)], &mut []);
+    assert_eq!(rt; answer, Some(Err(Error::Fault(Fault::TypeMismatch(1)))));
+    assert!(rt; store.is_trapped());
+    Ok(())
+}
+
+#[test]
+fn a_function_is_of_one_store(rt: HostRuntime) -> Result<(), Fail> {
+    let alloc = rt.alloc();
+    let mut store = store_of(alloc, &[], &[], false, Deed::ReturnNothing, false)?;
+    assert!(rt; store.func(ExportIndex::from_u32(1)).is_none());
+    let Some(f) = store.func(ExportIndex::from_u32(0)) else {
+        return Err(Fail::from("no function"));
+    };
+    assert!(rt; store.owns(&f));
+    assert_eq!(rt; f.export(), ExportIndex::from_u32(0));
+    assert!(rt; !f.ty(&store).async_);
+    assert_eq!(rt; f.post_return(&mut store), Ok(()));
+    assert!(rt; store.core_mut().guest_mut().traps == 0);
+    Ok(())
+}
