@@ -1,14 +1,14 @@
 -- How many values and words a callee takes, and the first refusal.
 use Rattle.std.proofs.Common.{Bool, List, None, Option, Some, [], ap, arith, false, length, refl, suc, sym, true, ℕ, ⊎_elim, ◌&&◌, ◌==◌, ◌∙◌, ◌∷◌, ◌≡◌, ◌≤◌, ◌<◌}
-use Rattle.std.specs.Prelude.{IsTrue, is_some, nat_eq, slice_get, unwrap_or, ◌≢◌, ◌↔◌}
+use Rattle.std.specs.Prelude.{nat_eq, slice_get, unwrap_or, ◌≢◌}
 use Rattle.std.specs.Option.{SomeIff}
-use Rattle.std.proofs.lemmas.Bool.{false≢true, cases_lt, le-leb, lt-leb}
+use Rattle.std.proofs.lemmas.Bool.{cases_lt, le-leb, lt-leb}
 use Rattle.std.proofs.lemmas.Bool.Decides.{nat_tests}
 use Rattle.canon_model.specs.Layout.{flat, members_flat}
 use Rattle.canon_model.specs.Shape.{Members, Shape, member_count, of_places, product}
 use Rattle.canon_table.specs.Table.{Table, members_of}
 use Rattle.canon_table.specs.declared.types.InterfaceType.{InterfaceType}
-use Rattle.canon_value.specs.Built.{AreBuilt, are_built, is_built}
+use Rattle.canon_value.specs.Built.{are_built, is_built}
 use Rattle.canon_value.specs.declared.component.Component.{Component}
 use Rattle.canon_value.specs.declared.component.Export.{Export}
 use Rattle.canon_func.specs.Call.{refusal, words_within}

@@ -1,5 +1,5 @@
 -- The steps of a call.
-use Rattle.std.specs.Prelude.{Err, IfErr, IfOk, IsOkUnless, List, None, Ok, OnOk, Option, Result, Some, Vec, [], false, length, ℕ, ⊤, ◌++◌, ◌∷◌, ◌≡◌, ◌⊎◌}
+use Rattle.std.specs.Prelude.{Err, IfErr, IfOk, IsOkUnless, List, None, Ok, OnOk, Result, Some, Vec, [], false, length, ℕ, ⊤, ◌∷◌, ◌≡◌, ◌⊎◌}
 use Rattle.std.specs.declared.alloc.Global.{Global}
 use Rattle.canon_model.specs.Flat.{RepResults}
 use Rattle.canon_model.specs.Reach.{misaligned, no_scalar, out_of_bounds}
@@ -17,7 +17,6 @@ use Rattle.canon_value.specs.Fails.{BlamesMembers}
 use Rattle.canon_value.specs.Lifts.{AreResults}
 use Rattle.canon_value.specs.Lowers.{fault_ending}
 use Rattle.canon_value.specs.Value.{HaveTrees}
-use Rattle.canon_value.specs.declared.fault.Fault.{Fault}
 use Rattle.canon_value.specs.declared.fault.Fault.TheVariants as fault
 use Rattle.canon_value.specs.declared.val.Val.{Val}
 use Rattle.canon_func.specs.Call.{HasFault, IsCall, Left, refused_by, result_words}

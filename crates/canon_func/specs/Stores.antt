@@ -1,5 +1,5 @@
 -- A store, and the functions of its component.
-use Rattle.std.specs.Prelude.{Bool, None, Option, Some, false, length, slice_get, ℕ, ◌<◌, ◌≡◌, ◌≤◌}
+use Rattle.std.specs.Prelude.{Bool, None, Option, Some, false, length, slice_get, ℕ, ◌<◌, ◌≡◌}
 use Rattle.canon_model.specs.Shape.{Members, no_members}
 use Rattle.canon_model.specs.Text.{Encoding, utf8}
 use Rattle.canon_types.specs.declared.options.CanonicalOptions.{CanonicalOptions}

@@ -12,6 +12,6 @@ returns c =
     let t = c.args.types.now in
     let ms = tuple_members t c.args.tuple in
     let s = shape_of t (ty.Tuple c.args.tuple) in
-    let is : s ≡ product of_places ms = c.tuple.ensures.entry.shape ∙ ap (λ ts. product of_places (members_of t ts)) c.tuple.ensures.types in
+    let is : s ≡ product of_places ms = c.tuple-tuple.ensures.entry.shape ∙ ap (λ ts. product of_places (members_of t ts)) c.tuple-tuple.ensures.types in
     let same : c.is_built.result ≡ are_built ms = product_built ms s c.is_built.result is c.is_built.ensures in
     (λ h. subst IsTrue same h, λ h. subst IsTrue (sym same) h)
