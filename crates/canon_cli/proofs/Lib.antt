@@ -1,6 +1,3 @@
-pub mod Callees
 pub mod Inputs
 pub mod Listed
-pub mod Outcomes
 pub mod Pieces
-pub mod Played

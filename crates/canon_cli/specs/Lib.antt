@@ -1,13 +1,5 @@
-pub mod Call
 pub mod Conversions
-pub mod Json
 pub mod Lines
-pub mod Play
 pub mod Program
-pub mod Runs
-pub mod Scripted
-pub mod Session
-pub mod Stores
 pub mod Streams
-pub mod Text
 pub mod TextCalls

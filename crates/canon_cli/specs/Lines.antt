@@ -12,7 +12,7 @@ use Rattle.canon_text.specs.declared.error.TextError.{TextError}
 use Rattle.canon_text.specs.declared.error.TextError.TheVariants.{InvalidUtf16, InvalidUtf8}
 use Rattle.canon_cli.specs.Conversions.{Job, destination}
 use Rattle.canon_cli.specs.TextCalls.{name_of}
-use Rattle.canon_cli.specs.Text.{end}
+use Rattle.canon_transcript.specs.Text.{end}
 use Rattle.canon_cli.specs.declared.conversion.TextCall.{TextCall}
 use Rattle.canon_cli.specs.declared.conversion.TextCall.TheVariants as call
 

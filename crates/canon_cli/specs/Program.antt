@@ -7,16 +7,15 @@ use Rattle.serde_json.specs.Data.{Data}
 use Rattle.serde_json.specs.Read.{read}
 use Rattle.canon_layout.specs.Asked.{Listed, layout_of}
 use Rattle.canon_layout.specs.Lines.{layout_text}
+use Rattle.canon_player.specs.Session.{Session}
+use Rattle.canon_script.specs.Script.{Play, script_of}
+use Rattle.canon_transcript.specs.Text.{transcript_text}
+use Rattle.canon_transcript.specs.declared.transcript.Record.{Record}
 use Rattle.canon_cli.specs.Conversions.{Job, conversions_of}
-use Rattle.canon_cli.specs.Json.{script_of}
 use Rattle.canon_cli.specs.Lines.{Lines}
-use Rattle.canon_cli.specs.Play.{Play}
-use Rattle.canon_cli.specs.Session.{Session}
-use Rattle.canon_cli.specs.Text.{transcript_text}
 use Rattle.canon_cli.specs.declared.command.Command.{Command}
 use Rattle.canon_cli.specs.declared.command.Command.TheVariants as command
 use Rattle.canon_cli.specs.declared.status.Status.{Status}
-use Rattle.canon_cli.specs.declared.transcript.Record.{Record}
 
 -- the command that the words are
 abbrev pub command_named : List ℕ → Option Command

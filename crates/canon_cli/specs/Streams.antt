@@ -1,7 +1,7 @@
 -- What reads and writes do to the bytes that are known, and why they fail.
 use Rattle.std.specs.Prelude.{ℕ, ◌+◌, ◌-◌, ◌^◌, ◌≤◌, ◌≡◌, min, List, length, take, Option, Result, OnErr}
 use Rattle.std.specs.Io.KnownBytes.{Appends, Consumes}
-use Rattle.canon_scalar_memory.specs.Counts.{Rose}
+use Rattle.canon_memory.specs.Counts.{Rose}
 
 -- the count of faults never falls, and a failure is told only where it rose
 pub record HasCause {T E : Type 0} (before now : ℕ) (result : Result T E) : Type 0 where

@@ -2,20 +2,20 @@ ghost use Rattle.std.specs.Prelude.{◌≡◌, ◌⊎◌, ◌≤◌, ◌<◌, �
 ghost use Rattle.std.specs.Io.KnownBytes.{Appends, Consumes, IsAtEnd};
 ghost use Rattle.serde_json.specs.Read.{read};
 ghost use Rattle.serde_json.specs.View.{view};
-ghost use Rattle.canon_scalar_memory.specs.Counts.{Rose};
-ghost use Rattle.canon_cli.specs.Json.{script_of};
-ghost use Rattle.canon_cli.specs.Play.{Play, play_of};
+ghost use Rattle.canon_memory.specs.Counts.{Rose};
+ghost use Rattle.canon_player.specs.Session.{Session};
+ghost use Rattle.canon_script.specs.Script.{Play, play_of, script_of};
+ghost use Rattle.canon_transcript.specs.Text.{transcript_text};
 ghost use Rattle.canon_cli.specs.Program.{AnswersInput, Done, IsJson, IsNoJson, IsRefusal, IsStatus, IsTask, OnTold, Performed, ReadsNoJson, ReadsNoTask, ReadsTask, ReadsTooMuch, Task, command_of, max_input, task_of};
-ghost use Rattle.canon_cli.specs.Session.{Session};
 ghost use Rattle.canon_cli.specs.Streams.{AppendsFront, TakesAtMost};
-ghost use Rattle.canon_cli.specs.Text.{transcript_text};
 ghost use Rattle.canon_json.specs.declared.error.ScriptError.TheVariants as refused;
 
 use crate::command::command_of;
-use crate::player::play;
-use crate::text::print;
-use crate::{Command, ScriptError, Sink, Source, Status, Transcript, script_of_json, text_lines};
+use crate::{Command, ScriptError, Sink, Source, Status, Transcript, text_lines};
 use canon_layout::layout_lines;
+use canon_player::play;
+use canon_script::script_of_json;
+use canon_transcript::transcript_text;
 use serde_json::Value;
 use std::alloc::Global;
 
@@ -185,7 +185,10 @@ fn perform_script(
     if play(alloc, script, transcript).is_err() {
         return Err(ScriptError::OutOfMemory);
     }
-    Ok(print(alloc, transcript)?)
+    match transcript_text(alloc, transcript) {
+        Ok(text) => Ok(text),
+        Err(_) => Err(ScriptError::OutOfMemory),
+    }
 }
 
 /// Plays the conversions of a JSON value, and prints their lines.

@@ -1,10 +1,4 @@
 use super::*;
-use canon_scalar_memory::Memory;
-use canon_scalars::{
-    CanonicalOptions, ExportIndex, InstanceType, InterfaceType, OptionsIndex, RuntimeInstance,
-    StoreId, StringEncoding, TypeBuilder,
-};
-use canon_scalar_value::{Component, Core, Export};
 use std::alloc::Global;
 use std::test::Fail;
 
@@ -69,7 +63,9 @@ fn what_is_no_script_has_its_status(rt: HostRuntime) -> Result<(), Fail> {
         ("[1", 7),
         ("", 7),
         ("[]", 8),
-        (r#"{"funcs":[],"items":[]}"#, 8),
+        (r#"{"fuel":1}"#, 8),
+        (r#"{"funcs":[{"params":["string"],"results":[]}]}"#, 8),
+        (r#"{"memory":16}"#, 8),
     ];
     for (script, want) in cases {
         let (status, text) = answer(rt.alloc(), script, 0, 1000, 0)?;
@@ -132,53 +128,5 @@ fn a_std_reader_and_writer_are_a_source_and_a_sink(rt: HostRuntime) -> Result<()
     assert_eq!(rt; bytes.as_slice(), ONE_CALL.as_bytes());
     let mut sink = StdSink::new(Vec::new(alloc));
     assert_eq!(rt; write_all(&mut sink, b"text"), Ok(()));
-    Ok(())
-}
-
-// A component with one export, of a function from a u32 to a bool.
-fn component(alloc: Global) -> Result<Component, Fail> {
-    let mut types = TypeBuilder::new(alloc);
-    let params = vec![in alloc; InterfaceType::U32]?;
-    let results = vec![in alloc; InterfaceType::Bool]?;
-    let ty = types
-        .add_func(params, results, false)
-        .map_err(|_| "no type")?;
-    let options = CanonicalOptions {
-        instance: RuntimeInstance::from_u32(0),
-        string_encoding: StringEncoding::Utf8,
-        async_: false,
-        post_return: None,
-    };
-    let export = Export {
-        ty,
-        func: 5,
-        options: OptionsIndex::from_u32(0),
-    };
-    Ok(Component {
-        types: InstanceType::new(types.finish(), StoreId::from_u64(3)),
-        options: vec![in alloc; options]?,
-        exports: vec![in alloc; export]?,
-    })
-}
-
-#[test]
-fn a_store_gives_its_exports_and_owns_no_others(rt: HostRuntime) -> Result<(), Fail> {
-    let alloc = rt.alloc();
-    let component = component(alloc)?;
-    assert!(rt; component.check());
-    let memory = Memory::new(alloc, 16).map_err(|_| "no memory")?;
-    let guest = ScriptedGuest::new(alloc);
-    let core = Core::new(alloc, StoreId::from_u64(3), (), guest, memory, component).map_err(
-        |_| "no core",
-    )?;
-    let mut store = Store::new(core);
-    assert!(rt; store.func(ExportIndex::from_u32(1)).is_none());
-    let f = store.func(ExportIndex::from_u32(0)).ok_or("no export")?;
-    assert!(rt; store.owns(&f));
-    assert_eq!(rt; f.export(), ExportIndex::from_u32(0));
-    assert!(rt; !store.owns(&Func::of(StoreId::from_u64(4), ExportIndex::from_u32(0))));
-    assert!(rt; !store.is_trapped());
-    store.core_mut().guest_mut().load(Vec::new(alloc));
-    assert_eq!(rt; store.core().id(), StoreId::from_u64(3));
     Ok(())
 }

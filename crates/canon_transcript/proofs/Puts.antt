@@ -50,9 +50,6 @@ place start size i new bs e =
       is = put_first start size new bs ∙ (ap (λ k. take k bs ++ (new ++ drop (suc k) bs)) at.0 ∙ ap (λ k. take i bs ++ (new ++ drop k bs)) more);
     }
 
-pub inside : (start size i : ℕ) (bs : List Block) → position (is_at start size) bs ≡ Some i → i < length bs
-inside start size i bs e = (place start size i [] bs e).inside
-
 answered_some : (b : Block) (t : Bool) → 0 < b.size → eqb b.size 0 ≡ t → cond t [] (b ∷ []) ≡ b ∷ []
 answered_some b true h e = absurd (omega (arith, eqb-true b.size 0 e))
 answered_some b false h e = refl

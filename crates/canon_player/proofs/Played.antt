@@ -1,0 +1,214 @@
+-- The record of a call, from what the call ensures.
+use Rattle.std.proofs.Common.{◌≡◌, ◌≢◌, ◌+◌, ◌++◌, ◌∷◌, ◌∙◌, Bool, Err, List, None, Ok, Result, Some, [], ap, false, length, refl, subst, sym, true, true≢false, ℕ}
+use Rattle.std.specs.Prelude.{IfSome, IsNone, OnErr, OnOk, Vec, is_err, unwrap_or}
+use Rattle.std.specs.Vec.{with_items}
+use Rattle.std.specs.declared.alloc.Global.{Global}
+use Rattle.std.proofs.lemmas.List.{length-map, with_items_is}
+use Rattle.std.proofs.lemmas.Option.{none-some}
+use Rattle.canon_memory.specs.declared.event.Event.{Event}
+use Rattle.canon_memory.specs.Guest.{Moment, Recorded, Seen}
+use Rattle.canon_scripted.specs.Scripted.{Does, Doing, Moves, seen_of}
+use Rattle.canon_value.specs.Core.{Parts, moment_of}
+use Rattle.canon_value.specs.declared.fault.Fault.{Fault}
+use Rattle.canon_value.specs.declared.fault.Fault.TheVariants as fault
+use Rattle.canon_value.specs.declared.val.Val.{Val}
+use Rattle.canon_func.specs.Call.{Adding, IsCall, OnAnswered, first_error, refusal, refused_by}
+use Rattle.canon_func.specs.Stores.{Callee, Named, callee_of}
+use Rattle.canon_func.specs.declared.error.Error.{Error}
+use Rattle.canon_func.specs.declared.error.Error.TheVariants as error
+use Rattle.canon_script.specs.Literals.{literal_view, literals_view}
+use Rattle.canon_script.specs.Script.{Call}
+use Rattle.canon_transcript.specs.declared.transcript.Answer.{Answer}
+use Rattle.canon_transcript.specs.declared.transcript.Answer.TheVariants as answer
+use Rattle.canon_transcript.specs.declared.transcript.Head.TheVariants as head
+use Rattle.canon_transcript.specs.declared.transcript.Record.{Record}
+use Rattle.canon_player.specs.Session.{Happened, IsPlayed, State, Stays, WasCalled, outcome, plan_of, values_of}
+use Rattle.canon_player.specs.Session as session
+use Rattle.canon_player.specs.Stores.{ScriptStore, callee_at, state_of, with_plan}
+
+-- ---- refusals
+
+always_refused : (x y : Bool) → first_error ((x, error.WrongCount) ∷ (y, error.AsyncLifted) ∷ (true, error.CannotEnterComponent) ∷ []) ≡ None → ⊥
+always_refused true y e = none-some error.WrongCount (sym e)
+always_refused false true e = none-some error.AsyncLifted (sym e)
+always_refused false false e = none-some error.CannotEnterComponent (sym e)
+
+-- what isn't refused finds the store not trapped
+not_trapped : (callee : Callee) (params results : ℕ) (trapped : Bool) → refusal callee params results trapped ≡ None → trapped ≡ false
+not_trapped callee params results false e = refl
+not_trapped callee params results true e = absurd (always_refused _ _ e)
+
+error_in : Result (Unit {0}) Error → Error → Error
+error_in (Ok x) other = other
+error_in (Err e) other = e
+
+answers_error : (a : Answer) (e : Error) → outcome a ≡ Err e → a ≡ answer.Err e
+unfolding error_in
+answers_error (answer.Ok vals) e h = absurd (true≢false (sym (ap is_err h)))
+answers_error (answer.Err x) e h = ap (λ o. answer.Err (error_in o x)) h
+
+-- ---- a call
+
+-- it isn't want of memory
+abbrev IsOther : Result (Unit {0}) Error → Type 0
+IsOther called = called ≢ Err (error.Fault fault.OutOfMemory)
+
+on_answered : (called : Result (Unit {0}) Error) (P : Type 0) → called ≢ Err (error.Fault fault.OutOfMemory) → OnAnswered called P → P
+on_answered (Ok x) P n p = p
+on_answered (Err error.WrongCount) P n p = p
+on_answered (Err error.AsyncLifted) P n p = p
+on_answered (Err error.CannotEnterComponent) P n p = p
+on_answered (Err error.WrongWords) P n p = p
+on_answered (Err (error.UnknownImport k)) P n p = p
+on_answered (Err (error.Fault f)) P n p = by f n p
+  where
+    by : (f : Fault) → IsOther (Err (error.Fault f)) → OnAnswered {T = Unit {0}} (Err (error.Fault f)) P → P
+    by fault.OutOfMemory n p = absurd (n refl)
+    by (fault.TypeMismatch k) n p = p
+    by (fault.FieldName k) n p = p
+    by (fault.LengthMismatch k) n p = p
+    by (fault.ReallocMisaligned a) n p = p
+    by (fault.ReallocOutOfBounds a) n p = p
+    by fault.GuestTrap n p = p
+    by (fault.PointerMisaligned a) n p = p
+    by (fault.PointerOutOfBounds a) n p = p
+    by (fault.InvalidChar a) n p = p
+
+-- the same call, with its results said another way
+recalled : (callee : Callee) (params : List Val) (before after : Moment) (called : Result (Unit {0}) Error) (results others : List Val) (events : List Event) →
+    OnOk called (others ≡ results) → IsCall Stays callee params before after called results events → IsCall Stays callee params before after called others events
+recalled callee params before after (Ok x) results others events e h = subst (λ (vs : List Val). IsCall Stays callee params before after (Ok x) vs events) (sym e) h
+recalled callee params before after (Err x) results others events e h = record {
+  one_run = h.one_run;
+  front = h.front;
+  answers = h.answers;
+  trap = h.trap;
+  later = h.later;
+  in_parts = h.in_parts;
+  no_more = h.no_more;
+  marks = h.marks;
+  requested = h.requested;
+  start = h.start;
+  only_results = tt;
+  leaves = tt;
+  cause = h.cause;
+  valid = h.valid;
+}
+
+trapped_by : (called : Result (Unit {0}) Error) (before after : Bool) → before ≡ false → OnOk called (after ≡ before) → OnErr called (after ≡ true) → after ≡ is_err called
+trapped_by (Ok x) before after free runs traps = runs ∙ free
+trapped_by (Err e) before after free runs traps = traps
+
+-- how a journaled guest is seen
+abbrev pub journaled : Recorded Doing → Seen
+journaled j = record (seen_of j.guest) { journal = Some j.events; shortages = (seen_of j.guest).shortages + j.shortages }
+
+-- what the call ensures once the guest was entered
+abbrev pub Entered : Callee → List Val → ScriptStore → ScriptStore → Result (Unit {0}) Error → List Val → Type 0
+Entered callee params loaded left called results = Adding (moment_of journaled loaded.core) (moment_of journaled left.core)
+    (λ events. OnAnswered called (Moves loaded.core.guest.guest events left.core.guest.guest))
+    (λ events. IsCall Stays callee params (moment_of journaled loaded.core) (moment_of journaled left.core) called results events)
+
+module _ (callee : Callee) (call : Call) (r : Record) (s left : ScriptStore) (params results : List Val) (called : Result (Unit {0}) Error)
+    (empty : s.core.guest.events ≡ []) (events : r.events ≡ left.core.guest.events)
+    (out : outcome r.answer ≡ called) (vals : OnOk called (values_of r.answer ≡ results)) (short : called ≢ Err (error.Fault fault.OutOfMemory))
+    (their : literals_view params ≡ call.params) where
+  abbrev pub loaded : ScriptStore
+  loaded = with_plan s (plan_of call s.core.guest.guest.plan.allocator)
+
+  was_called : refusal callee (length call.params) call.slots s.trapped ≡ None → Entered callee params loaded left called results
+      → OnOk called (left.trapped ≡ s.trapped) → OnErr called (left.trapped ≡ true) → WasCalled callee call (state_of s) (state_of left) r
+  was_called free entered runs traps =
+      let before = state_of s in
+      let after = state_of left in
+      let gained : left.core.guest.events ≡ s.core.guest.events ++ entered.events = ap (λ o. unwrap_or o []) entered.added in
+      let all : r.events ≡ entered.events = events ∙ (gained ∙ ap (λ (es : List Event). es ++ entered.events) empty) in
+      let one : IsCall Stays callee params (session.moment_of before []) (session.moment_of after left.core.guest.events) called results entered.events =
+      subst (λ (es : List Event). IsCall Stays callee params (session.moment_of before es) (session.moment_of after left.core.guest.events) called results entered.events) empty entered.so in
+      let two : IsCall Stays callee params (session.moment_of before []) (session.moment_of after r.events) called results entered.events =
+      subst (λ (es : List Event). IsCall Stays callee params (session.moment_of before []) (session.moment_of after es) called results entered.events) (sym events) one in
+      let three : IsCall Stays callee params (session.moment_of before []) (session.moment_of after r.events) called results r.events =
+      subst (λ (es : List Event). IsCall Stays callee params (session.moment_of before []) (session.moment_of after r.events) called results es) (sym all) two in
+      let four : IsCall Stays callee params (session.moment_of before []) (session.moment_of after r.events) called (values_of r.answer) r.events =
+      recalled callee params (session.moment_of before []) (session.moment_of after r.events) called results (values_of r.answer) r.events vals three in
+      let moved : Moves loaded.core.guest.guest entered.events left.core.guest.guest = on_answered called _ short (entered.moves refl) in
+      record {
+        params = params;
+        params_are = their;
+        called = subst (λ (a : Result (Unit {0}) Error). IsCall Stays callee params (session.moment_of before []) (session.moment_of after r.events) a (values_of r.answer) r.events) (sym out) four;
+        left = left.core.guest.guest.plan;
+        new_marks = moved.new_marks;
+        does = subst (λ (es : List Event). Does (plan_of call before.allocator) es moved.new_marks left.core.guest.guest.plan) (sym all) moved.does;
+        allocator = refl;
+        marks = moved.marks;
+        trapped = trapped_by called s.trapped left.trapped (not_trapped callee (length call.params) call.slots s.trapped free) runs traps ∙ ap is_err (sym out);
+        sufficed = λ e. short (sym out ∙ ap outcome e);
+      }
+
+  was_refused : (e : Error) → called ≡ Err e → left ≡ loaded → Happened callee call (state_of s) (state_of left) r (Some e)
+  was_refused e h same = (answers_error r.answer e (out ∙ h), events ∙ (ap (λ (k : ScriptStore). k.core.guest.events) same ∙ empty), ap state_of same)
+
+  abbrev Refused : Result (Unit {0}) Error → Type 0
+  Refused c = IfSome (refused_by c) (λ e. left ≡ loaded)
+
+  happened : (c : Result (Unit {0}) Error) → called ≡ c → refused_by c ≡ refusal callee (length call.params) call.slots s.trapped → Refused c
+      → (IsNone (refused_by c) → Entered callee params loaded left called results) → OnOk called (left.trapped ≡ s.trapped) → (IsNone (refused_by c) → OnErr called (left.trapped ≡ true))
+      → Happened callee call (state_of s) (state_of left) r (refused_by c)
+  happened (Ok x) h why same entered runs traps = was_called (sym why) (entered refl) runs (traps refl)
+  happened (Err error.WrongCount) h why same entered runs traps = was_refused error.WrongCount h same
+  happened (Err error.AsyncLifted) h why same entered runs traps = was_refused error.AsyncLifted h same
+  happened (Err error.CannotEnterComponent) h why same entered runs traps = was_refused error.CannotEnterComponent h same
+  happened (Err error.WrongWords) h why same entered runs traps = was_called (sym why) (entered refl) runs (traps refl)
+  happened (Err (error.UnknownImport n)) h why same entered runs traps = was_called (sym why) (entered refl) runs (traps refl)
+  happened (Err (error.Fault f)) h why same entered runs traps = was_called (sym why) (entered refl) runs (traps refl)
+
+  played : (before : ScriptStore) (count : ℕ) → r.head ≡ head.Call call.func → r.live ≡ 0 → before ≡ loaded → count ≡ call.slots
+      → refused_by called ≡ refusal callee (length params) count before.trapped → IfSome (refused_by called) (λ e. left ≡ before)
+      → (IsNone (refused_by called) → Entered callee params before left called results) → OnOk called (left.trapped ≡ before.trapped) → (IsNone (refused_by called) → OnErr called (left.trapped ≡ true))
+      → IsPlayed callee call (state_of s) (state_of left) r
+  played before count hd lv is slots why same entered runs traps =
+      let many : length params ≡ length call.params = sym (length-map params literal_view) ∙ ap length their in
+      let why2 : refused_by called ≡ refusal callee (length call.params) call.slots s.trapped =
+      why ∙ (ap (λ n. refusal callee n count before.trapped) many ∙ (ap (λ n. refusal callee (length call.params) n before.trapped) slots ∙ ap (λ (k : ScriptStore). refusal callee (length call.params) call.slots k.trapped) is)) in
+      let all : Happened callee call (state_of s) (state_of left) r (refused_by called) = happened called refl why2
+      (subst (λ (k : ScriptStore). IfSome (refused_by called) (λ e. left ≡ k)) is same)
+      (λ none. subst (λ (k : ScriptStore). Entered callee params k left called results) is (entered none))
+      (subst (λ (k : ScriptStore). OnOk called (left.trapped ≡ k.trapped)) is runs)
+      traps in
+      record {
+        head = hd;
+        happened = subst (λ o. Happened callee call (state_of s) (state_of left) r o) why2 all;
+        live = lv;
+      }
+
+-- results in a vector that was lent as a slice
+kept_results : (called : Result (Unit {0}) Error) (v : Vec Val Global) (ws vs : List Val) → length ws ≡ v.len → OnOk called (vs ≡ (with_items v ws).items) → OnOk called (vs ≡ ws)
+kept_results (Ok x) v ws vs e h = h ∙ with_items_is v ws e
+kept_results (Err x) v ws vs e h = tt
+
+-- the store with the guest loaded
+pub loaded_is : (call : Call) (s : ScriptStore) (core : Parts (Unit {0}) (Recorded Doing)) (told : Recorded Doing) (guest after : Doing) → core ≡ s.core → told ≡ core.guest → guest ≡ told.guest
+    → after ≡ record guest { plan = plan_of call guest.plan.allocator }
+    → record { core = record core { guest = record told { guest = after } }; trapped = s.trapped } ≡ with_plan s (plan_of call s.core.guest.guest.plan.allocator)
+loaded_is call s core told guest after a b c d = simp (d, c, b, a)
+
+-- the store without its journal
+pub taken_is : (left : ScriptStore) (core : Parts (Unit {0}) (Recorded Doing)) (told after : Recorded Doing) → core ≡ left.core → told ≡ core.guest → after ≡ record told { events = [] }
+    → state_of (record { core = record core { guest = after }; trapped = left.trapped }) ≡ state_of left
+taken_is left core told after a b c = simp (c, b, a)
+
+-- The store is `s` before the guest is loaded, `before` when the function is called, `left` as the call leaves it, and `final` once
+-- the journal is taken.
+module _ (call : Call) (r : Record) (s before left final : ScriptStore) (f : Named) (params results : List Val) (slots : Vec Val Global) (called : Result (Unit {0}) Error) where
+  pub record_is : s.core.guest.events ≡ [] → before ≡ with_plan s (plan_of call s.core.guest.guest.plan.allocator) → f.export ≡ call.func → state_of final ≡ state_of left
+      → literals_view params ≡ call.params → length slots.items ≡ call.slots
+      → refused_by called ≡ refusal (callee_of before f) (length params) (length slots.items) before.trapped → IfSome (refused_by called) (λ e. left ≡ before)
+      → (IsNone (refused_by called) → Entered (callee_of before f) params before left called results) → OnOk called (left.trapped ≡ before.trapped) → (IsNone (refused_by called) → OnErr called (left.trapped ≡ true))
+      → r.head ≡ head.Call call.func → r.live ≡ 0 → r.events ≡ left.core.guest.events → outcome r.answer ≡ called
+      → length results ≡ slots.len → OnOk called (values_of r.answer ≡ (with_items slots results).items) → called ≢ Err (error.Fault fault.OutOfMemory)
+      → IsPlayed (callee_at s.core.component call.func) call (state_of s) (state_of final) r
+  record_is empty is export end their count why same entered runs traps hd lv events out many vals short =
+      let it : callee_of before f ≡ callee_at s.core.component call.func = ap (λ (k : ScriptStore). callee_of k f) is ∙ ap (λ n. callee_at s.core.component n) export in
+      let one : IsPlayed (callee_of before f) call (state_of s) (state_of left) r =
+      played (callee_of before f) call r s left params results called empty events out (kept_results called slots results (values_of r.answer) many vals) short their before (length slots.items) hd lv is count why same entered runs traps in
+      subst (λ (d : Callee). IsPlayed d call (state_of s) (state_of final) r) it (subst (λ (k : State). IsPlayed (callee_of before f) call (state_of s) k r) (sym end) one)

@@ -1,0 +1,128 @@
+-- What a script, played, leaves: one record for each call, in order, and the store between them.
+use Rattle.std.specs.Prelude.{Bool, Err, List, None, Ok, Option, Result, Some, [], false, if◌then◌else◌, is_err, length, replicate, slice_get, ℕ, ⊤, ◌++◌, ◌∷◌, ◌≡◌, ◌≢◌}
+use Rattle.canon_model.specs.Shape.{no_members}
+use Rattle.canon_model.specs.Text.{utf8}
+use Rattle.canon_table.specs.Table.{param_members, result_members}
+use Rattle.canon_table.specs.declared.types.TypeFunc.{TypeFunc}
+use Rattle.canon_memory.specs.declared.event.Event.{Event}
+use Rattle.canon_memory.specs.Guest.{Mark, Moment, moment}
+use Rattle.canon_scripted.specs.Allocator.{Allocator}
+use Rattle.canon_scripted.specs.Scripted.{Does, Plan}
+use Rattle.canon_value.specs.declared.fault.Fault.TheVariants as fault
+use Rattle.canon_value.specs.declared.val.Val.{Val}
+use Rattle.canon_func.specs.Call.{IsCall, refusal}
+use Rattle.canon_func.specs.Stores.{Callee}
+use Rattle.canon_func.specs.declared.error.Error.{Error}
+use Rattle.canon_func.specs.declared.error.Error.TheVariants as error
+use Rattle.canon_script.specs.Literals.{literals_view}
+use Rattle.canon_script.specs.Script.{Call, Play}
+use Rattle.canon_transcript.specs.declared.transcript.Answer.{Answer}
+use Rattle.canon_transcript.specs.declared.transcript.Answer.TheVariants as answer
+use Rattle.canon_transcript.specs.declared.transcript.Head.TheVariants as head
+use Rattle.canon_transcript.specs.declared.transcript.Record.{Record}
+
+-- ---- the functions of a script
+
+-- the core function that runs after a call of function i, where there is one: it has the same number
+abbrev pub post_of : ℕ → Option Bool → Option ℕ
+post_of i None = None
+post_of i (Some has_post) = if has_post then Some i else None
+
+abbrev pub callee_with : Play → ℕ → Option TypeFunc → Callee
+callee_with play i None = record { func = i; params = no_members; results = no_members; encoding = utf8; post = None; async_ = false }
+callee_with play i (Some f) = record {
+  func = i;
+  params = param_members play.types f;
+  results = result_members play.types f;
+  encoding = utf8;
+  post = post_of i (slice_get play.posts i);
+  async_ = f.async_;
+}
+
+-- function i of the script: its core function has the same number
+abbrev pub callee_of : Play → ℕ → Callee
+callee_of play i = callee_with play i (slice_get play.types.funcs i)
+
+-- ---- the store between two calls
+
+-- whether it is trapped, its memory, and of its guest the allocator, a mark for each answer of `realloc` so far, and how often
+-- it trapped and answered want of memory
+pub record State : Type 0 where
+  pub trapped : Bool
+  pub memory : List ℕ
+  pub allocator : Allocator
+  pub marks : List Mark
+  pub traps : ℕ
+  pub shortages : ℕ
+
+-- at first memory is zeros, and the allocator begins at `heap`
+abbrev pub at_first : Play → State
+at_first play = record {
+  trapped = false;
+  memory = replicate play.memory 0;
+  allocator = record { top = play.heap; live = [] };
+  marks = [];
+  traps = 0;
+  shortages = 0;
+}
+
+-- as a call sees it that has added these events
+abbrev pub moment_of : State → List Event → Moment
+moment_of s events = moment (record { journal = Some events; marks = s.marks; live = s.allocator.live; traps = s.traps; shortages = s.shortages }) s.memory
+
+-- what the guest is to do in a call
+abbrev pub plan_of : Call → Allocator → Plan
+plan_of call allocator = record { actions = call.guest; reallocs = call.reallocs; post_trap = call.post_trap; dtor_trap = false; allocator = allocator }
+
+-- ---- a call
+
+-- how it ended, and the results that it left
+abbrev pub outcome : Answer → Result (Unit {0}) Error
+outcome (answer.Ok results) = Ok tt
+outcome (answer.Err e) = Err e
+
+abbrev pub values_of : Answer → List Val
+values_of (answer.Ok results) = results.items
+values_of (answer.Err e) = []
+
+-- a scripted post-return leaves memory as it was
+abbrev pub Stays : List ℕ → List ℕ → Type 0
+Stays memory after = after ≡ memory
+
+-- The guest was entered, and acted by its plan; the store is trapped where the call was refused. After an answer that is Ok,
+-- memory is that of the return. The memory that the run has sufficed.
+pub record WasCalled (callee : Callee) (call : Call) (before after : State) (r : Record) : Type 0 where
+  pub params : List Val
+  pub params_are : literals_view params ≡ call.params
+  pub called : IsCall Stays callee params (moment_of before []) (moment_of after r.events) (outcome r.answer) (values_of r.answer) r.events
+  pub left : Plan
+  pub new_marks : List Mark
+  pub does : Does (plan_of call before.allocator) r.events new_marks left
+  pub allocator : after.allocator ≡ left.allocator
+  pub marks : after.marks ≡ before.marks ++ new_marks
+  pub trapped : after.trapped ≡ is_err (outcome r.answer)
+  pub sufficed : r.answer ≢ answer.Err (error.Fault fault.OutOfMemory)
+
+-- It was refused before the guest was entered, which leaves everything as it was; else it was called.
+abbrev pub Happened : Callee → Call → State → State → Record → Option Error → Type 0
+Happened callee call before after r (Some e) = (r.answer ≡ answer.Err e) × (r.events ≡ []) × (after ≡ before)
+Happened callee call before after r None = WasCalled callee call before after r
+
+-- The record of a call of this callee, with the store before and after it. No handle lives.
+pub record IsPlayed (callee : Callee) (call : Call) (before after : State) (r : Record) : Type 0 where
+  pub head : r.head ≡ head.Call call.func
+  pub happened : Happened callee call before after r (refusal callee (length call.params) call.slots before.trapped)
+  pub live : r.live ≡ 0
+
+-- ---- all calls
+
+-- one record for each call of one of these callees, in order, from one state of the store on
+abbrev pub Plays : (ℕ → Callee) → List Call → State → List Record → Type 0
+Plays callees [] before [] = ⊤
+Plays callees (call ∷ calls) before (r ∷ records) = (after : State) × IsPlayed (callees call.func) call before after r × Plays callees calls after records
+Plays callees [] before (r ∷ records) = ⊥
+Plays callees (call ∷ calls) before [] = ⊥
+
+-- what a script's session leaves in the transcript
+abbrev pub Session : Play → List Record → Type 0
+Session play records = Plays (callee_of play) play.calls (at_first play) records

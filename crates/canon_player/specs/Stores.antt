@@ -1,0 +1,96 @@
+-- The store of a script, and how it is kept.
+use Rattle.std.specs.Prelude.{Bool, List, None, Option, Some, [], length, replicate, slice_get, false, ℕ, ◌+◌, ◌<◌, ◌∷◌, ◌≡◌}
+use Rattle.canon_memory.specs.Guest.{Recorded}
+use Rattle.canon_types.specs.declared.options.CanonicalOptions.{CanonicalOptions}
+use Rattle.canon_types.specs.declared.options.StringEncoding.TheVariants.{Utf8}
+use Rattle.canon_table.specs.Table.{Table}
+use Rattle.canon_table.specs.declared.types.TypeFunc.{TypeFunc}
+use Rattle.canon_scripted.specs.Orders.{AreNarrow}
+use Rattle.canon_scripted.specs.Scripted.{Doing, Plan}
+use Rattle.canon_value.specs.Built.{AreBuilt}
+use Rattle.canon_value.specs.declared.component.Component.{Component}
+use Rattle.canon_value.specs.declared.component.Export.{Export}
+use Rattle.canon_func.specs.Stores.{Callee, Stored, callee_in}
+use Rattle.canon_script.specs.Script.{Call}
+use Rattle.canon_player.specs.Session.{State, post_of}
+
+-- ---- its component
+
+-- whether a function is async
+abbrev pub is_async : Option TypeFunc → Bool
+is_async None = false
+is_async (Some f) = f.async_
+
+-- the options and the export of function i, which has a post-return function or not
+abbrev pub options_for : Table → ℕ → Bool → CanonicalOptions
+options_for t i has_post = record { instance = 0; string_encoding = Utf8; async_ = is_async (slice_get t.funcs i); post_return = post_of i (Some has_post) }
+
+abbrev pub export_for : ℕ → Export
+export_for i = record { ty = i; func = i; options = i }
+
+-- of the functions from number i on
+abbrev pub options_from : Table → ℕ → List Bool → List CanonicalOptions
+options_from t i [] = []
+options_from t i (has_post ∷ posts) = options_for t i has_post ∷ options_from t (i + 1) posts
+
+abbrev pub exports_from : ℕ → List Bool → List Export
+exports_from i [] = []
+exports_from i (has_post ∷ posts) = export_for i ∷ exports_from (i + 1) posts
+
+-- one export for each function of the table, each with its own options
+pub record IsScripted (t : Table) (posts : List Bool) (component : Component) : Type 0 where
+  pub table : component.types.types ≡ t
+  pub options : component.options.items ≡ options_from t 0 posts
+  pub exports : component.exports.items ≡ exports_from 0 posts
+
+-- the callee of export i
+abbrev pub callee_at : Component → ℕ → Callee
+callee_at component i = callee_in component (slice_get component.exports.items i)
+
+-- The call is one of a function that takes and gives values of which there are some so far; ordered answers are below 2 ^ 32.
+pub record IsCallable (component : Component) (call : Call) : Type 0 where
+  pub export : call.func < length component.exports.items
+  pub params : AreBuilt (callee_at component call.func).params
+  pub results : AreBuilt (callee_at component call.func).results
+  pub reallocs : AreNarrow call.reallocs
+
+-- ---- its state
+
+abbrev pub ScriptStore : Type 0
+ScriptStore = Stored (Unit {0}) (Recorded Doing)
+
+-- no call was made
+abbrev pub fresh_store : ℕ → ℕ → Component → ScriptStore
+fresh_store memory heap component = record {
+  core = record {
+    id = 0;
+    state = tt;
+    guest = record {
+      guest = record {
+        plan = record { actions = []; reallocs = []; post_trap = false; dtor_trap = false; allocator = record { top = heap; live = [] } };
+        marks = [];
+        traps = 0;
+        shortages = 0;
+      };
+      events = [];
+      shortages = 0;
+    };
+    memory = replicate memory 0;
+    component = component;
+  };
+  trapped = false;
+}
+
+abbrev pub state_of : ScriptStore → State
+state_of s = record {
+  trapped = s.trapped;
+  memory = s.core.memory;
+  allocator = s.core.guest.guest.plan.allocator;
+  marks = s.core.guest.guest.marks;
+  traps = s.core.guest.guest.traps;
+  shortages = s.core.guest.guest.shortages + s.core.guest.shortages;
+}
+
+-- the store with this plan in the place of what its guest was still to do
+abbrev pub with_plan : ScriptStore → Plan → ScriptStore
+with_plan s plan = record s { core = record s.core { guest = record s.core.guest { guest = record s.core.guest.guest { plan = plan } } } }

@@ -1,0 +1,85 @@
+//! The component and the store of a script.
+
+ghost use Rattle.std.specs.Prelude.{◌≡◌, ◌≤◌, length, IfOk};
+ghost use Rattle.canon_table.specs.Table.{HasFunc};
+ghost use Rattle.canon_value.specs.Component.{IsSound};
+ghost use Rattle.canon_player.specs.Stores.{IsScripted, fresh_store, options_for};
+
+use canon_func::Store;
+use canon_memory::{Journaled, Memory};
+use canon_scripted::ScriptedGuest;
+use canon_table::{
+    CanonicalOptions, ComponentTypes, InstanceType, OptionsIndex, OutOfMemory, RuntimeInstance,
+    StoreId, StringEncoding, TypeFuncIndex,
+};
+use canon_value::{Component, Core, Export};
+use std::alloc::Global;
+
+/// The store of a script, by its number.
+const SCRIPT_STORE: u64 = 0;
+
+/// A store whose guest follows a script.
+pub(crate) type ScriptStore = Store<(), Journaled<ScriptedGuest>>;
+
+/// A component that exports each function of the table, each with its own options: its core function and, where it has
+/// one, its post-return function have the function's number.
+pub(crate) fn component_of(
+    alloc: Global,
+    types: ComponentTypes,
+    posts: &[bool],
+) -> Result<Component, OutOfMemory>
+    requires told { length posts.now ≡ length types.funcs }
+    requires few { length types.funcs ≤ 1048576 }
+    ensures sound { IfOk result IsSound }
+    ensures scripted { IfOk result (IsScripted types posts.now) }
+{
+    let mut options = Vec::new(alloc);
+    let mut exports = Vec::new(alloc);
+    for (i, has_post) in posts.iter().enumerate() {
+        let i = i as u32;
+        options.push(options_of(&types, i, *has_post))?;
+        exports.push(Export {
+            ty: TypeFuncIndex::from_u32(i),
+            func: i,
+            options: OptionsIndex::from_u32(i),
+        })?;
+    }
+    Ok(Component {
+        types: InstanceType::new(types, StoreId::from_u64(SCRIPT_STORE)),
+        options,
+        exports,
+    })
+}
+
+/// The options of a function.
+fn options_of(types: &ComponentTypes, i: u32, has_post: bool) -> CanonicalOptions
+    requires { HasFunc types.now i }
+    ensures { result ≡ options_for types.now i has_post }
+{
+    CanonicalOptions {
+        instance: RuntimeInstance::from_u32(0),
+        string_encoding: StringEncoding::Utf8,
+        async_: types.func(TypeFuncIndex::from_u32(i)).async_,
+        post_return: if has_post { Some(i) } else { None },
+    }
+}
+
+/// A store of a component in which no call was made, with this memory of zeros, where the guest's allocator begins at
+/// `heap`.
+pub(crate) fn store_of(
+    alloc: Global,
+    component: Component,
+    memory: u64,
+    heap: u64,
+) -> Result<ScriptStore, OutOfMemory>
+    requires { IsSound component }
+    ensures { IfOk result (λ store. store ≡ fresh_store memory heap component) }
+{
+    let Ok(memory) = Memory::new(alloc, memory) else {
+        return Err(OutOfMemory);
+    };
+    let guest = Journaled::new(alloc, ScriptedGuest::new(alloc, heap));
+    let id = StoreId::from_u64(SCRIPT_STORE);
+    let core = Core::new(alloc, id, (), guest, memory, component)?;
+    Ok(Store::new(core))
+}

@@ -1,4 +1,0 @@
-pub mod Counts
-pub mod Guest
-pub mod Journal
-pub mod Memory

@@ -1,2 +1,0 @@
-pub mod Instance
-pub mod Table

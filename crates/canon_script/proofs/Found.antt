@@ -1,0 +1,54 @@
+-- What is known where a reading found something.
+use Rattle.std.proofs.Common.{◌≡◌, ℕ, zero, suc, ◌<◌, ◌&&◌, List, [], ◌∷◌, ◌++◌, length, slice_get, Bool, true, false, IsTrue, if◌then◌else◌, Option, None, Some, refl, subst, arith, option_map, option_and_then}
+use Rattle.std.specs.List.{AllByRecursion}
+use Rattle.serde_json.specs.Data.{Data, Items, item, no_items}
+use Rattle.canon_json.specs.Json.{each, onward}
+
+pub some_is : {A : Type 0} (a b : A) → Some a ≡ Some b → a ≡ b
+some_is a b e = cc
+
+pub by_some : {A B : Type 0} (f : A → Option B) (o : Option A) (b : B) (P : Type 0) → option_and_then f o ≡ Some b → ((a : A) → o ≡ Some a → f a ≡ Some b → P) → P
+by_some f None b P e go = absurd (cc)
+by_some f (Some a) b P e go = go a refl e
+
+pub by_map : {A B : Type 0} (f : A → B) (o : Option A) (b : B) (P : Type 0) → option_map f o ≡ Some b → ((a : A) → o ≡ Some a → f a ≡ b → P) → P
+by_map f None b P e go = absurd (cc)
+by_map f (Some a) b P e go = go a refl (some_is (f a) b e)
+
+-- where a test came to something, it passed
+pub by_test : {A : Type 0} (b : Bool) (o : Option A) (x : A) (P : Type 0) → (if b then o else None) ≡ Some x → (IsTrue b → o ≡ Some x → P) → P
+by_test true o x P e go = go refl e
+by_test false o x P e go = absurd (cc)
+
+pub and_left : (a b : Bool) → IsTrue (a && b) → IsTrue a
+and_left true b e = refl
+and_left false b e = absurd (cc)
+
+pub and_right : (a b : Bool) → IsTrue (a && b) → IsTrue b
+and_right true b e = e
+and_right false b e = absurd (cc)
+
+pub and_both : (a b : Bool) → IsTrue a → IsTrue b → IsTrue (a && b)
+and_both true b e f = f
+and_both false b e f = absurd (cc)
+
+pub some_lt : {A : Type 0} (xs : List A) (n : ℕ) (x : A) → slice_get xs n ≡ Some x → n < length xs
+some_lt [] n x e = absurd (cc)
+some_lt (y ∷ xs) zero x e = omega arith
+some_lt (y ∷ xs) (suc n) x e = omega (arith, some_lt xs n x e)
+
+-- what is so of each item that is read, is so of all
+pub each_all : {A : Type 0} (P : A → Type 0) (read : Data → Option A) → ((d : Data) (a : A) → read d ≡ Some a → P a) → (ds : Items) (xs : List A) → each read ds ≡ Some xs → AllByRecursion P xs
+each_all P read so no_items xs e = subst (AllByRecursion P) (some_is [] xs e) tt
+each_all {A} P read so (item d ds) xs e =
+    by_some (λ x. option_map (λ ys. x ∷ ys) (each read ds)) (read d) xs (AllByRecursion P xs) e (λ x s more.
+    by_map (λ ys. x ∷ ys) (each read ds) xs (AllByRecursion P xs) more (λ ys made is. subst (AllByRecursion P) is (so d x s, each_all P read so ds ys made)))
+
+-- what each step keeps, all keep
+pub onward_keeps : {A : Type 0} (P : A → Type 0) (step : A → Data → Option A) → ((a b : A) (d : Data) → P a → step a d ≡ Some b → P b) → (a b : A) (ds : Items) → P a → onward step a ds ≡ Some b → P b
+onward_keeps P step keeps a b no_items p e = subst P (some_is a b e) p
+onward_keeps P step keeps a b (item d ds) p e = by_some (λ c. onward step c ds) (step a d) b (P b) e (λ c s more. onward_keeps P step keeps c b ds (keeps a c d p s) more)
+
+pub all_append : {A : Type 0} (P : A → Type 0) (xs ys : List A) → AllByRecursion P xs → AllByRecursion P ys → AllByRecursion P (xs ++ ys)
+all_append P [] ys h g = g
+all_append P (x ∷ xs) ys h g = (h.0, all_append P xs ys h.1 g)

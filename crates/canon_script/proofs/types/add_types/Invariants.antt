@@ -1,0 +1,10 @@
+use Rattle.std.proofs.Common.{◌≡◌, [], drop}
+use Rattle.serde_json.specs.View.{items_view}
+use Rattle.canon_json.specs.Json.{onward}
+use Rattle.canon_layout.specs.Asked.{so_far}
+use Rattle.canon_script.specs.Types as spec
+use Rattle.canon_script.proofs.types.add_types.Given as goal
+
+-- the entries that are left take the types so far to those of all
+abbrev pub invariant-loop-item : goal.invariant-loop-item
+invariant-loop-item l = onward spec.add_type (so_far l.builder l.types.items) (items_view (drop l.item-index l.items)) ≡ onward spec.add_type (so_far l.fn.builder []) (items_view l.items)

@@ -1,0 +1,63 @@
+-- A value apart from how it is kept: a vector and a text are the list of their items.
+use Rattle.std.specs.Prelude.{ℕ, ℤ, Bool, List, [], ◌∷◌, map, String, string_bytes}
+use Rattle.std.specs.declared.alloc.Global.{Global}
+use Rattle.canon_model.specs.Shape.{Name}
+use Rattle.canon_value.specs.declared.val.Val.{Val, fold-Val}
+use Rattle.canon_value.specs.declared.val.Val.TheOpen.{Val-F}
+
+mutual
+  pub data Literal : Type 0 where
+    bool : Bool → Literal
+    s8 s16 s32 s64 : ℤ → Literal
+    u8 u16 u32 u64 : ℕ → Literal
+    -- the bits of a float
+    f32 f64 : ℕ → Literal
+    char : ℕ → Literal
+    tuple : Literals → Literal
+    fields : Fields → Literal
+
+  pub data Literals : Type 0 where
+    no_literals : Literals
+    literal : Literal → Literals → Literals
+
+  -- the fields of a record, each with its name
+  pub data Fields : Type 0 where
+    no_fields : Fields
+    field : Name → Literal → Fields → Fields
+
+abbrev pub literals_of : List Literal → Literals
+literals_of [] = no_literals
+literals_of (x ∷ xs) = literal x (literals_of xs)
+
+abbrev pub fields_of : List (Name × Literal) → Fields
+fields_of [] = no_fields
+fields_of (f ∷ fs) = field f.0 f.1 (fields_of fs)
+
+abbrev pub named : List (String Global × Literal) → List (Name × Literal)
+named fs = map (λ f. (string_bytes f.0, f.1)) fs
+
+-- one level, with each value inside already seen as its literal
+abbrev pub literal_step : Val-F Literal → Literal
+literal_step (Val-F.Bool b) = bool b
+literal_step (Val-F.S8 z) = s8 z
+literal_step (Val-F.U8 n) = u8 n
+literal_step (Val-F.S16 z) = s16 z
+literal_step (Val-F.U16 n) = u16 n
+literal_step (Val-F.S32 z) = s32 z
+literal_step (Val-F.U32 n) = u32 n
+literal_step (Val-F.S64 z) = s64 z
+literal_step (Val-F.U64 n) = u64 n
+literal_step (Val-F.Float32 n) = f32 n
+literal_step (Val-F.Float64 n) = f64 n
+literal_step (Val-F.Char c) = char c
+literal_step (Val-F.Record members) = fields (fields_of (named members.items))
+literal_step (Val-F.Tuple members) = tuple (literals_of members.items)
+
+abbrev pub literal_view : Val → Literal
+literal_view = fold-Val Literal literal_step
+
+abbrev pub literals_view : List Val → List Literal
+literals_view vs = map literal_view vs
+
+abbrev pub fields_view : List (String Global × Val) → List (Name × Literal)
+fields_view fs = named (map (λ f. (f.0, literal_view f.1)) fs)

@@ -1,0 +1,112 @@
+-- The value that a JSON value stands for: an object whose one member names its kind.
+use Rattle.std.specs.Prelude.{ℕ, ◌^◌, List, [], ◌∷◌, codes, nat_eq, Option, None, Some, option_map, option_and_then}
+use Rattle.std.specs.List.{find}
+use Rattle.std.specs.Str.{chars}
+use lib.Pointwise.{pointwise}
+use Rattle.serde_json.specs.Data.{Data, null, boolean, number, string, array, object, Items, no_items, item, Members, no_members, member}
+use Rattle.serde_json.specs.Find.{as_bool, as_str}
+use Rattle.canon_json.specs.Json.{u32_of, word_of}
+use Rattle.canon_model.specs.Shape.{Name}
+use Rattle.canon_script.specs.Literals.{Literal, bool, char, f32, f64, fields, fields_of, literals_of, s16, s32, s64, s8, tuple, u16, u32, u64, u8}
+use Rattle.canon_script.specs.Numbers.{integer_of, integer_within, number_below}
+use Rattle.canon_script.specs.declared.kinds.ValueKind.{ValueKind}
+use Rattle.canon_script.specs.declared.kinds.ValueKind.TheVariants as kind
+
+-- the member of a value of this kind
+abbrev pub kind_word : ValueKind → List ℕ
+kind_word kind.Bool = codes "bool"
+kind_word kind.S8 = codes "s8"
+kind_word kind.U8 = codes "u8"
+kind_word kind.S16 = codes "s16"
+kind_word kind.U16 = codes "u16"
+kind_word kind.S32 = codes "s32"
+kind_word kind.U32 = codes "u32"
+kind_word kind.S64 = codes "s64"
+kind_word kind.U64 = codes "u64"
+kind_word kind.Float32 = codes "f32"
+kind_word kind.Float64 = codes "f64"
+kind_word kind.Char = codes "char"
+kind_word kind.Tuple = codes "tuple"
+kind_word kind.Record = codes "record"
+
+abbrev pub kinds : List ValueKind
+kinds = kind.Bool ∷ kind.S8 ∷ kind.U8 ∷ kind.S16 ∷ kind.U16 ∷ kind.S32 ∷ kind.U32 ∷ kind.S64 ∷ kind.U64 ∷ kind.Float32 ∷ kind.Float64 ∷ kind.Char ∷ kind.Tuple ∷ kind.Record ∷ []
+
+abbrev pub kind_named : List ℕ → Option ValueKind
+kind_named name = find (λ k. pointwise nat_eq name (kind_word k)) kinds
+
+-- ---- scalars
+
+abbrev pub only_char : List ℕ → Option ℕ
+only_char [] = None
+only_char (c ∷ []) = Some c
+only_char (c ∷ d ∷ cs) = None
+
+-- a text of one character
+abbrev pub char_of : Data → Option ℕ
+char_of d = option_and_then (λ text. only_char (chars text)) (as_str d)
+
+abbrev pub scalar_by : ValueKind → Data → Option Literal
+scalar_by kind.Bool d = option_map bool (as_bool d)
+scalar_by kind.S8 d = option_map s8 (integer_within (2 ^ 7) d)
+scalar_by kind.U8 d = option_map u8 (number_below (2 ^ 8) d)
+scalar_by kind.S16 d = option_map s16 (integer_within (2 ^ 15) d)
+scalar_by kind.U16 d = option_map u16 (number_below (2 ^ 16) d)
+scalar_by kind.S32 d = option_map s32 (integer_within (2 ^ 31) d)
+scalar_by kind.U32 d = option_map u32 (u32_of d)
+scalar_by kind.S64 d = option_map s64 (integer_of d)
+scalar_by kind.U64 d = option_map u64 (word_of d)
+scalar_by kind.Float32 d = option_map f32 (u32_of d)
+scalar_by kind.Float64 d = option_map f64 (word_of d)
+scalar_by kind.Char d = option_map char (char_of d)
+scalar_by kind.Tuple d = None
+scalar_by kind.Record d = None
+
+-- ---- values
+
+abbrev mutual
+  -- an object of one member
+  pub value_of : Data → Option Literal
+  value_of null = None
+  value_of (boolean b) = None
+  value_of (number n) = None
+  value_of (string s) = None
+  value_of (array ds) = None
+  value_of (object ms) = value_in ms
+
+  pub value_in : Members → Option Literal
+  value_in no_members = None
+  value_in (member name d no_members) = option_and_then (value_by d) (kind_named name)
+  value_in (member name d (member other e ms)) = None
+
+  -- by its kind
+  pub value_by : Data → ValueKind → Option Literal
+  value_by (array ds) kind.Tuple = option_map (λ xs. tuple (literals_of xs)) (values_of ds)
+  value_by (array ds) kind.Record = option_map (λ fs. fields (fields_of fs)) (fields_in ds)
+  value_by d k = scalar_by k d
+
+  pub values_of : Items → Option (List Literal)
+  values_of no_items = Some []
+  values_of (item d ds) = option_and_then (λ x. option_map (λ xs. x ∷ xs) (values_of ds)) (value_of d)
+
+  pub fields_in : Items → Option (List (Name × Literal))
+  fields_in no_items = Some []
+  fields_in (item d ds) = option_and_then (λ f. option_map (λ fs. f ∷ fs) (fields_in ds)) (field_of d)
+
+  -- an array of a name and a value
+  pub field_of : Data → Option (Name × Literal)
+  field_of null = None
+  field_of (boolean b) = None
+  field_of (number n) = None
+  field_of (string s) = None
+  field_of (array ds) = named_value ds
+  field_of (object ms) = None
+
+  pub named_value : Items → Option (Name × Literal)
+  named_value no_items = None
+  named_value (item name rest) = option_and_then (λ n. option_map (λ x. (n, x)) (only_value rest)) (as_str name)
+
+  pub only_value : Items → Option Literal
+  only_value no_items = None
+  only_value (item d no_items) = value_of d
+  only_value (item d (item e ds)) = None

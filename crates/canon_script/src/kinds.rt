@@ -1,0 +1,69 @@
+ghost use Rattle.std.specs.Prelude.{◌≡◌};
+ghost use Rattle.canon_script.specs.Values as spec;
+
+/// The kinds of values.
+#[derive(Clone, Copy, Debug, PartialEq, Eq)]
+pub enum ValueKind {
+    Bool,
+    S8,
+    U8,
+    S16,
+    U16,
+    S32,
+    U32,
+    S64,
+    U64,
+    Float32,
+    Float64,
+    Char,
+    Tuple,
+    Record,
+}
+
+/// All of them.
+const KINDS: [ValueKind; 14] = [
+    ValueKind::Bool,
+    ValueKind::S8,
+    ValueKind::U8,
+    ValueKind::S16,
+    ValueKind::U16,
+    ValueKind::S32,
+    ValueKind::U32,
+    ValueKind::S64,
+    ValueKind::U64,
+    ValueKind::Float32,
+    ValueKind::Float64,
+    ValueKind::Char,
+    ValueKind::Tuple,
+    ValueKind::Record,
+];
+
+impl ValueKind {
+    /// The member of a value.
+    pub fn word(self) -> &'static str
+        ensures { result.now ≡ spec.kind_word self }
+    {
+        match self {
+            ValueKind::Bool => "bool",
+            ValueKind::S8 => "s8",
+            ValueKind::U8 => "u8",
+            ValueKind::S16 => "s16",
+            ValueKind::U16 => "u16",
+            ValueKind::S32 => "s32",
+            ValueKind::U32 => "u32",
+            ValueKind::S64 => "s64",
+            ValueKind::U64 => "u64",
+            ValueKind::Float32 => "f32",
+            ValueKind::Float64 => "f64",
+            ValueKind::Char => "char",
+            ValueKind::Tuple => "tuple",
+            ValueKind::Record => "record",
+        }
+    }
+}
+
+pub(crate) fn kind_named(name: &str) -> Option<ValueKind>
+    ensures { result ≡ spec.kind_named name.now }
+{
+    KINDS.iter().copied().find(|kind| name == kind.word())
+}

@@ -1,0 +1,47 @@
+//! The script that a JSON value stands for: a guest with functions, and what is done with it. It is an object of these
+//! members, each of which may be missing.
+//!
+//! | Member | Form | Default |
+//! |---|---|---|
+//! | `memory` | the bytes of memory, at most 67,108,864 | 65536 |
+//! | `heap` | where the allocator begins, at most `memory` | 1024 |
+//! | `types` | entries | `[]` |
+//! | `funcs` | functions | `[]` |
+//! | `items` | calls | `[]` |
+//!
+//! - A reference is the name of a scalar (`bool`, `s8` .. `u64`, `f32`, `f64`, `char`) or the number of an entry; in an
+//!   entry, of one before it.
+//! - An entry is `{"record": [[name, reference], ..]}` or `{"tuple": [reference, ..]}`.
+//! - A function is `{"params": [reference, ..], "results": [reference, ..]}`, and may have `async` and `post`, which are
+//!   false where they are missing. `post` says that it has a post-return function.
+//! - A call is `{"call": number, "params": [value, ..], "guest": [action, ..]}`, and may have `slots` (how many results
+//!   there is room for, at most 1,000; where it is missing, the number of the function's results), `reallocs` (how
+//!   `realloc` is answered, call by call: a number below 2^32, `"trap"`, or `null` for the allocator's answer) and
+//!   `post_trap` (whether the post-return function traps).
+//! - An action is `{"write": [address, hex]}`, `{"grow": bytes}`, `{"return": [word, ..]}`, `{"ask": import, "words":
+//!   [word, ..]}` or `{"trap": true}`. Addresses, bytes and words are any `u64`.
+//! - A value is an object of one member, which names its kind: `{"u8": 7}`, `{"f32": bits}`, `{"char": "a"}`,
+//!   `{"tuple": [value, ..]}`, `{"record": [[name, value], ..]}`. It needn't be of its parameter's type.
+//!
+//! Memory with all that the actions add is at most 67,108,864 bytes, and twice that, times the number of calls and `ask`
+//! actions, at most 1,073,741,824. Numbers are those that `serde_json` reads as a `u64`, or as an `i64` where they may be
+//! negative.
+#![tactic(auto)]
+
+mod actions;
+mod funcs;
+mod items;
+mod kinds;
+mod limits;
+mod reading;
+mod script;
+mod types;
+mod values;
+
+pub use actions::{actions_of_json, bytes_of_hex};
+pub use reading::script_of_json;
+pub use script::{CallItem, Item, Script};
+pub use values::value_of_json;
+
+#[cfg(test)]
+mod tests;

@@ -1,0 +1,111 @@
+ghost use Rattle.std.specs.Prelude.{◌≡◌, IfOk, option_map};
+ghost use Rattle.serde_json.specs.View.{view, items_view};
+ghost use Rattle.canon_json.specs.Json.{Gives};
+ghost use Rattle.canon_script.specs.Script as spec;
+ghost use Rattle.canon_script.specs.Types.{funcs_of, funcs_so_far};
+
+use crate::funcs::add_funcs;
+use crate::items::Items;
+use crate::limits::{MAX_MEMORY, fits};
+use crate::script::Script;
+use crate::types::add_types;
+use canon_json::{ScriptError, each, has_len, items_of, there};
+use canon_table::{ComponentTypes, TypeBuilder};
+use serde_json::Value;
+use std::alloc::Global;
+
+/// The script that a JSON value stands for. `BadScript` says that there is none.
+pub fn script_of_json(alloc: Global, v: &Value) -> Result<Script, ScriptError>
+    ensures script { Gives spec.play_of result (spec.script_of (view v.now)) }
+    ensures sound { IfOk result (λ s. spec.IsSound (spec.play_of s)) }
+{
+    if !has_len(v, members_there(v)) {
+        return Err(ScriptError::BadScript);
+    }
+    let Some(memory) = memory_of(v.get("memory")) else {
+        return Err(ScriptError::BadScript);
+    };
+    let Some(heap) = heap_of(memory, v.get("heap")) else {
+        return Err(ScriptError::BadScript);
+    };
+    let Some(types) = items_of(v.get("types")) else {
+        return Err(ScriptError::BadScript);
+    };
+    let Some(funcs) = items_of(v.get("funcs")) else {
+        return Err(ScriptError::BadScript);
+    };
+    let Some(items) = items_of(v.get("items")) else {
+        return Err(ScriptError::BadScript);
+    };
+    played(alloc, memory, heap, types, funcs, items)
+}
+
+/// How many of its members there are.
+fn members_there(v: &Value) -> usize
+    ensures { result ≡ spec.members_there (view v.now) }
+{
+    there(v.get("memory"))
+        + (there(v.get("heap"))
+            + (there(v.get("types")) + (there(v.get("funcs")) + there(v.get("items")))))
+}
+
+fn memory_of(v: Option<&Value>) -> Option<u64>
+    ensures { result ≡ spec.memory_of (option_map (λ x. view x.now) v.entry) }
+{
+    let Some(v) = v else {
+        return Some(65536);
+    };
+    match v.as_u64() {
+        Some(memory) if memory <= MAX_MEMORY => Some(memory),
+        _ => None,
+    }
+}
+
+fn heap_of(memory: u64, v: Option<&Value>) -> Option<u64>
+    ensures { result ≡ spec.heap_of memory (option_map (λ x. view x.now) v.entry) }
+{
+    let heap = match v {
+        Some(v) => v.as_u64()?,
+        None => 1024,
+    };
+    if heap <= memory { Some(heap) } else { None }
+}
+
+/// The functions over their types, and the calls of these functions.
+fn played(
+    alloc: Global,
+    memory: u64,
+    heap: u64,
+    types: &[Value],
+    funcs: &[Value],
+    items: &[Value],
+) -> Result<Script, ScriptError>
+    ensures { Gives spec.play_of result (spec.played memory heap (items_view types.now) (items_view funcs.now) (items_view items.now)) }
+{
+    let (types, posts) = funcs_of_json(alloc, types, funcs)?;
+    let items = each(alloc, &Items { types: &types }, items)?;
+    if !fits(memory, &items) {
+        return Err(ScriptError::BadScript);
+    }
+    Ok(Script {
+        memory,
+        heap,
+        types,
+        posts,
+        items,
+    })
+}
+
+/// The table of these types and functions, and for each function whether it has a post-return function.
+fn funcs_of_json(
+    alloc: Global,
+    types: &[Value],
+    funcs: &[Value],
+) -> Result<(ComponentTypes, Vec<bool>), ScriptError>
+    ensures { Gives (λ p. funcs_so_far p.0 p.1.items) result (funcs_of (items_view types.now) (items_view funcs.now)) }
+{
+    let mut builder = TypeBuilder::new(alloc);
+    let types = add_types(alloc, &mut builder, types)?;
+    let posts = add_funcs(alloc, &mut builder, &types, funcs)?;
+    Ok((builder.finish(), posts))
+}

@@ -1,0 +1,288 @@
+//! Values, actions and scripts, as they are read and as they are refused.
+
+use crate::{Item, Script, actions_of_json, bytes_of_hex, script_of_json, value_of_json};
+use canon_json::ScriptError;
+use canon_memory::ValRaw;
+use canon_scripted::{Action, Ordered};
+use canon_types::TypeFuncIndex;
+use canon_value::Val;
+use serde_json::Value;
+use std::alloc::Global;
+use std::test::Fail;
+
+/// The value that a text stands for.
+fn value(alloc: Global, text: &str) -> Result<Result<Val, ScriptError>, Fail> {
+    let tree = Value::from_str(alloc, text)?;
+    Ok(value_of_json(alloc, &tree))
+}
+
+/// The script that a text stands for.
+fn script(alloc: Global, text: &str) -> Result<Result<Script, ScriptError>, Fail> {
+    let tree = Value::from_str(alloc, text)?;
+    Ok(script_of_json(alloc, &tree))
+}
+
+#[test]
+fn each_scalar_is_read(rt: HostRuntime) -> Result<(), Fail> {
+    let alloc = rt.alloc();
+    assert!(rt; matches!(value(alloc, r#"{"bool":true}"#)?, Ok(Val::Bool(true))));
+    assert!(rt; matches!(value(alloc, r#"{"s8":-128}"#)?, Ok(Val::S8(-128))));
+    assert!(rt; matches!(value(alloc, r#"{"u8":255}"#)?, Ok(Val::U8(255))));
+    assert!(rt; matches!(value(alloc, r#"{"s16":32767}"#)?, Ok(Val::S16(32767))));
+    assert!(rt; matches!(value(alloc, r#"{"u16":65535}"#)?, Ok(Val::U16(65535))));
+    assert!(rt;
+        matches!(
+            value(alloc, r#"{"s32":-2147483648}"#)?,
+            Ok(Val::S32(i32::MIN))
+        )
+    );
+    assert!(rt;
+        matches!(
+            value(alloc, r#"{"u32":4294967295}"#)?,
+            Ok(Val::U32(u32::MAX))
+        )
+    );
+    assert!(rt;
+        matches!(
+            value(alloc, r#"{"s64":-9223372036854775808}"#)?,
+            Ok(Val::S64(i64::MIN))
+        )
+    );
+    assert!(rt;
+        matches!(
+            value(alloc, r#"{"u64":18446744073709551615}"#)?,
+            Ok(Val::U64(u64::MAX))
+        )
+    );
+    assert!(rt;
+        matches!(
+            value(alloc, r#"{"f32":2143289344}"#)?,
+            Ok(Val::Float32(0x7fc0_0000))
+        )
+    );
+    assert!(rt;
+        matches!(
+            value(alloc, r#"{"f64":4607182418800017408}"#)?,
+            Ok(Val::Float64(0x3ff0_0000_0000_0000))
+        )
+    );
+    assert!(rt;
+        matches!(
+            value(alloc, r#"{"char":"\ud83d\ude00"}"#)?,
+            Ok(Val::Char('\u{1f600}'))
+        )
+    );
+    Ok(())
+}
+
+#[test]
+fn tuples_and_records_are_read(rt: HostRuntime) -> Result<(), Fail> {
+    let text = r#"{"tuple":[{"u8":1},{"record":[["a",{"bool":false}],["é",{"tuple":[]}]]}]}"#;
+    let Ok(Val::Tuple(members)) = value(rt.alloc(), text)? else {
+        return Err(Fail::new("a tuple"));
+    };
+    let [Val::U8(1), Val::Record(fields)] = members.as_slice() else {
+        return Err(Fail::new("a number and a record"));
+    };
+    let [(first, Val::Bool(false)), (second, Val::Tuple(none))] = fields.as_slice() else {
+        return Err(Fail::new("two fields"));
+    };
+    assert_eq!(rt; (first.as_str(), second.as_str()), ("a", "é"));
+    assert!(rt; none.is_empty());
+    Ok(())
+}
+
+#[test]
+fn what_is_no_value_is_refused(rt: HostRuntime) -> Result<(), Fail> {
+    let texts = [
+        r#"{"s8":-129}"#,
+        r#"{"s8":128}"#,
+        r#"{"u8":256}"#,
+        r#"{"u8":-1}"#,
+        r#"{"s16":-0}"#,
+        r#"{"u32":1.0}"#,
+        r#"{"u32":4294967296}"#,
+        r#"{"s64":9223372036854775808}"#,
+        r#"{"u64":18446744073709551616}"#,
+        r#"{"f32":4294967296}"#,
+        r#"{"bool":1}"#,
+        r#"{"char":"ab"}"#,
+        r#"{"char":""}"#,
+        r#"{"tuple":{}}"#,
+        r#"{"tuple":[1]}"#,
+        r#"{"record":[["a"]]}"#,
+        r#"{"record":[["a",{"u8":1},{"u8":2}]]}"#,
+        r#"{"record":[[1,{"u8":1}]]}"#,
+        r#"{"string":"a"}"#,
+        r#"{"u8":1,"u16":1}"#,
+        r#"{}"#,
+        r#"5"#,
+    ];
+    for text in texts {
+        assert!(rt;
+            value(rt.alloc(), text)?.is_err_and(|e| e == ScriptError::BadScript),
+            "{text}"
+        );
+    }
+    Ok(())
+}
+
+#[test]
+fn actions_are_read_in_order(rt: HostRuntime) -> Result<(), Fail> {
+    let text =
+        r#"[{"write":[8,"00ff"]},{"grow":16},{"ask":3,"words":[18446744073709551615]},{"return":[7,0]},{"trap":true}]"#;
+    let tree = Value::from_str(rt.alloc(), text)?;
+    let actions = actions_of_json(rt.alloc(), &tree)?;
+    let [
+        Action::Write(8, bytes),
+        Action::Grow(16),
+        Action::Ask(3, words),
+        Action::Return(returned),
+        Action::Trap,
+    ] = actions.as_slice()
+    else {
+        return Err(Fail::new("five actions"));
+    };
+    assert_eq!(rt; bytes.as_slice(), [0, 255].as_slice());
+    assert_eq!(rt; words.as_slice(), [ValRaw::u64(u64::MAX)].as_slice());
+    assert_eq!(rt;
+        returned.as_slice(),
+        [ValRaw::u64(7), ValRaw::u64(0)].as_slice()
+    );
+    Ok(())
+}
+
+#[test]
+fn what_is_no_action_is_refused(rt: HostRuntime) -> Result<(), Fail> {
+    let texts = [
+        r#"[{"write":[8,"0"]}]"#,
+        r#"[{"write":[8,"FF"]}]"#,
+        r#"[{"write":[-8,"ff"]}]"#,
+        r#"[{"write":[8]}]"#,
+        r#"[{"grow":-1}]"#,
+        r#"[{"ask":4294967296,"words":[]}]"#,
+        r#"[{"ask":3}]"#,
+        r#"[{"return":7}]"#,
+        r#"[{"return":[1.5]}]"#,
+        r#"[{"trap":false}]"#,
+        r#"[{"stop":true}]"#,
+        r#"{"trap":true}"#,
+    ];
+    for text in texts {
+        let tree = Value::from_str(rt.alloc(), text)?;
+        let refused = actions_of_json(rt.alloc(), &tree);
+        assert!(rt;
+            refused.is_err_and(|e| e == ScriptError::BadScript),
+            "{text}"
+        );
+    }
+    Ok(())
+}
+
+#[test]
+fn hex_is_in_small_letters(rt: HostRuntime) -> Result<(), Fail> {
+    let bytes = bytes_of_hex(rt.alloc(), "00ff1a")?;
+    assert_eq!(rt; bytes.as_slice(), [0, 255, 26].as_slice());
+    for text in ["0", "0g", "1A"] {
+        let refused = bytes_of_hex(rt.alloc(), text);
+        assert!(rt;
+            refused.is_err_and(|e| e == ScriptError::BadScript),
+            "{text}"
+        );
+    }
+    Ok(())
+}
+
+#[test]
+fn a_whole_script_is_read(rt: HostRuntime) -> Result<(), Fail> {
+    let text =
+        r#"{"memory":131072,"heap":2048,"types":[{"record":[["a","u8"],["b","char"]]},{"tuple":[0,"f64"]}],"funcs":[{"params":[1,"s16"],"results":[0,"u32"],"post":true},{"params":[],"results":[],"async":true}],"items":[{"call":0,"params":[{"u8":1}],"guest":[],"reallocs":[4294967295,"trap",null],"post_trap":true},{"call":1,"params":[],"guest":[{"trap":true}],"slots":1000}]}"#;
+    let script = script(rt.alloc(), text)?.expect(&rt, "a script");
+    assert_eq!(rt; (script.memory, script.heap), (131_072, 2048));
+    assert_eq!(rt; script.posts.as_slice(), [true, false].as_slice());
+    let late = TypeFuncIndex::from_u32(1);
+    assert!(rt; script.types.contains_func(late) && script.types.func(late).async_);
+    let [Item::Call(first), Item::Call(second)] = script.items.as_slice() else {
+        return Err(Fail::new("two calls"));
+    };
+    assert_eq!(rt;
+        (
+            first.func,
+            first.params.len(),
+            first.guest.len(),
+            first.slots
+        ),
+        (0, 1, 0, 2)
+    );
+    let orders = [Ordered::Answer(4_294_967_295), Ordered::Trap, Ordered::Free];
+    assert_eq!(rt; first.reallocs.as_slice(), orders.as_slice());
+    assert!(rt; first.post_trap);
+    assert_eq!(rt;
+        (second.func, second.guest.len(), second.slots),
+        (1, 1, 1000)
+    );
+    assert!(rt; second.reallocs.is_empty() && !second.post_trap);
+    Ok(())
+}
+
+#[test]
+fn what_is_missing_has_its_default(rt: HostRuntime) -> Result<(), Fail> {
+    let script = script(rt.alloc(), "{}")?.expect(&rt, "a script");
+    assert_eq!(rt; (script.memory, script.heap), (65536, 1024));
+    assert!(rt; script.posts.is_empty() && script.items.is_empty());
+    Ok(())
+}
+
+#[test]
+fn scripts_keep_their_limits(rt: HostRuntime) -> Result<(), Fail> {
+    let kept = [
+        r#"{"memory":67108864}"#,
+        r#"{"memory":1023,"heap":1023}"#,
+        r#"{"memory":67108863,"funcs":[{"params":[],"results":[]}],"items":[{"call":0,"params":[],"guest":[{"grow":1}]}]}"#,
+        r#"{"memory":67108864,"funcs":[{"params":[],"results":[]}],"items":[{"call":0,"params":[],"guest":[{"ask":0,"words":[]},{"ask":0,"words":[]},{"ask":0,"words":[]},{"ask":0,"words":[]},{"ask":0,"words":[]},{"ask":0,"words":[]},{"ask":0,"words":[]}]}]}"#,
+    ];
+    for text in kept {
+        assert!(rt; script(rt.alloc(), text)?.is_ok(), "{text}");
+    }
+    let broken = [
+        r#"{"memory":67108865}"#,
+        r#"{"memory":1023}"#,
+        r#"{"memory":4096,"heap":4097}"#,
+        r#"{"memory":67108863,"funcs":[{"params":[],"results":[]}],"items":[{"call":0,"params":[],"guest":[{"grow":1},{"grow":1}]}]}"#,
+        r#"{"memory":67108864,"funcs":[{"params":[],"results":[]}],"items":[{"call":0,"params":[],"guest":[{"ask":0,"words":[]},{"ask":0,"words":[]},{"ask":0,"words":[]},{"ask":0,"words":[]},{"ask":0,"words":[]},{"ask":0,"words":[]},{"ask":0,"words":[]},{"ask":0,"words":[]}]}]}"#,
+    ];
+    for text in broken {
+        assert!(rt;
+            script(rt.alloc(), text)?.is_err_and(|e| e == ScriptError::BadScript),
+            "{text}"
+        );
+    }
+    Ok(())
+}
+
+#[test]
+fn what_is_no_script_is_refused(rt: HostRuntime) -> Result<(), Fail> {
+    let texts = [
+        r#"[]"#,
+        r#"{"fuel":1000000}"#,
+        r#"{"types":[{"list":"u8"}]}"#,
+        r#"{"types":[{"tuple":["string"]}]}"#,
+        r#"{"types":[{"tuple":[0]}]}"#,
+        r#"{"types":[{"record":[]}]}"#,
+        r#"{"types":[{"record":[["a","u8"],["a","u8"]]}]}"#,
+        r#"{"funcs":[{"params":["string"],"results":[]}]}"#,
+        r#"{"funcs":[{"params":[]}]}"#,
+        r#"{"items":[{"call":0,"params":[],"guest":[]}]}"#,
+        r#"{"items":[{"new":0,"rep":0}]}"#,
+        r#"{"funcs":[{"params":[],"results":[]}],"items":[{"call":0,"params":[],"guest":[],"slots":1001}]}"#,
+        r#"{"funcs":[{"params":[],"results":[]}],"items":[{"call":0,"params":[],"guest":[],"reallocs":[4294967296]}]}"#,
+        r#"{"funcs":[{"params":[],"results":[]}],"items":[{"call":0,"params":[],"guest":[],"typed":1}]}"#,
+    ];
+    for text in texts {
+        assert!(rt;
+            script(rt.alloc(), text)?.is_err_and(|e| e == ScriptError::BadScript),
+            "{text}"
+        );
+    }
+    Ok(())
+}
