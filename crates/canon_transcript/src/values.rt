@@ -102,7 +102,7 @@ fn print_f64(text: &mut String, bits: u64) -> Result<(), AllocError>
 }
 
 fn print_char(text: &mut String, c: char) -> Result<(), AllocError>
-    ensures { OnOk result (string_bytes text.new ≡ string_bytes text.old ++ codes "'" ++ spec.escaped c ++ codes "'") }
+    ensures { OnOk result (string_bytes text.new ≡ string_bytes text.old ++ (codes "'" ++ spec.escaped c ++ codes "'")) }
 {
     text.push_str("'")?;
     print_escaped(text, c)?;

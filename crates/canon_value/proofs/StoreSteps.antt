@@ -161,7 +161,6 @@ same_types {T} {G} a b e = ap (λ (x : Parts T G). types_of x) e
 
 module _ {T G : Type 0} (seen : G → Seen) (moves : G → List Event → G → Type 0) (stays : (g : G) → moves g [] g)
     (goes_on : (g h k : G) (xs ys : List Event) → moves g xs h → moves h ys k → moves g (xs ++ ys) k) (options : ℕ) where
-
   -- ---- a value refused for its own fault
 
   pub value_refused : (a : Parts T G) (s : Shape) (at : ℕ) (v : Val) (from : ℕ) (e : Fault) → length a.memory ≤ 2 ^ 32 → fault_ending e ≡ refused → Blames (λ how k. FailsAt how s v k) from e
@@ -255,8 +254,10 @@ module _ {T G : Type 0} (seen : G → Seen) (moves : G → List Event → G → 
   product_stores a c place k ms at names vs v r room few p count h = record {
     storing = product_stored (moment_of seen a) (moment_of seen c) (encoding_by a options) k ms at (Named ms names vs) (HasTree (product k ms) v) (ending_of r) room
         (λ ts (same, have). (vs, ts, subst (λ (xs : List Name). IsProduct k xs vs v) same p, refl, have))
-        (λ t (ws, ts, q, et, have). (product_names k names (member_names ms) vs ws v p q,
-        subst (λ (u : Tree). HaveTrees ms vs (trees_of u)) (sym et) (subst (λ (xs : List Val). HaveTrees ms xs ts) (product_values k (member_names ms) names ws vs v q p) have))) h.storing;
+        (λ t (ws, ts, q, et, have). (
+          product_names k names (member_names ms) vs ws v p q,
+          subst (λ (u : Tree). HaveTrees ms vs (trees_of u)) (sym et) (subst (λ (xs : List Val). HaveTrees ms xs ts) (product_values k (member_names ms) names ws vs v q p) have),
+        )) h.storing;
     counted = product_counts place k ms names vs v r few p count h.counted;
     moved = h.moved;
     same = h.same;

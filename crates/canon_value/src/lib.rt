@@ -16,6 +16,10 @@ mod scalar_bytes;
 mod store;
 #[cfg(test)]
 mod tests_load;
+#[cfg(test)]
+mod tests_store;
+#[cfg(test)]
+mod tests_words;
 mod val;
 
 pub use args::lower_args;

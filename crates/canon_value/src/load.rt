@@ -6,10 +6,11 @@ ghost use Rattle.canon_model.specs.Reach.{MemberFault, StoredFault};
 ghost use Rattle.canon_model.specs.Text.{Encoding};
 ghost use Rattle.canon_table.specs.Keeps.{field_members, fields_type};
 ghost use Rattle.canon_table.specs.Table.{Knows, members_of, parts, shape_of};
-ghost use Rattle.canon_value.specs.Built.{AreBuilt, IsBuilt};
+ghost use Rattle.canon_value.specs.Built.{AreBuilt, IsBuilt, IsScalarType};
 ghost use Rattle.canon_lowering.specs.Storing.{narrow};
 ghost use Rattle.canon_value.specs.Core.{encoding_by, types_of};
 ghost use Rattle.canon_value.specs.Loads.{AreLoaded, IsLoaded, LiftBlames};
+ghost use Rattle.canon_value.specs.declared.fault.At.TheVariants as place;
 ghost use Rattle.canon_value.specs.Value.{member_names, names_in, values_in};
 
 use crate::lift::keep;
@@ -20,7 +21,7 @@ use std::alloc::Global;
 
 impl Val {
     /// Loads the value of a built type at an address, where it is aligned and inside memory (CanonicalABI.md, "load"):
-    /// `InvalidChar` where a char's number is no Unicode scalar value. A scalar takes no memory of the host.
+    /// `InvalidChar` where a char's number is no Unicode scalar value. Only a record or a tuple takes memory of the host.
     pub fn load<T, G>(
         alloc: Global,
         cx: &mut LiftContext<'_, T, G>,
@@ -35,6 +36,7 @@ impl Val {
             (shape_of (types_of cx.old.core.now) ty) at v) }
         ensures err { IfErr result (λ e. LiftBlames (λ k x. StoredFault (encoding_by cx.old.core.now cx.old.options)
             (narrow cx.old.core.now.memory) (shape_of (types_of cx.old.core.now) ty) at k x) e) }
+        ensures scalar { IsScalarType ty → IfErr result (λ e. e ≡ Fault.InvalidChar (place.Address at)) }
         ensures same_reference { cx.new.core.ghost_name ≡ cx.old.core.ghost_name }
         ensures same_core { cx.new.core.now ≡ cx.old.core.now }
         ensures same_options { cx.new.options ≡ cx.old.options }
@@ -58,6 +60,7 @@ fn load_value(
     requires inside { at + size false (shape_of types.now ty.now) ≤ length memory.now }
     ensures ok { (enc : Encoding) → IfOk result (λ v. IsLoaded enc (narrow memory.now) (shape_of types.now ty.now) at v) }
     ensures err { (enc : Encoding) → IfErr result (λ e. LiftBlames (λ k x. StoredFault enc (narrow memory.now) (shape_of types.now ty.now) at k x) e) }
+    ensures scalar { IsScalarType ty.now → IfErr result (λ e. e ≡ Fault.InvalidChar (place.Address at)) }
 {
     match ty {
         InterfaceType::Record(i) => {
@@ -94,7 +97,7 @@ fn load_record(
     for field in fields {
         let start = types.canonical_abi(&field.ty).next_field32_size(&mut end);
         let value = load_value(alloc, types, memory, &field.ty, at + start)?;
-        keep_field(&mut values, &field.name, value)?;
+        keep_field(&mut values, field, value)?;
     }
     Ok(values)
 }
@@ -125,12 +128,12 @@ pub(crate) fn load_tuple(
     Ok(values)
 }
 
-/// Adds a field at the end, under this name.
-fn keep_field(fields: &mut Vec<(String, Val)>, name: &String, value: Val) -> Result<(), Fault>
-    ensures names { OnOk result (names_in fields.new.items ≡ names_in fields.old.items ++ string_bytes name.now ∷ []) }
-    ensures values { OnOk result (values_in fields.new.items ≡ values_in fields.old.items ++ value ∷ []) }
+/// Adds the value of a field at the end, under the field's name.
+fn keep_field(values: &mut Vec<(String, Val)>, field: &RecordField, value: Val) -> Result<(), Fault>
+    ensures names { OnOk result (names_in values.new.items ≡ names_in values.old.items ++ string_bytes field.now.name ∷ []) }
+    ensures values { OnOk result (values_in values.new.items ≡ values_in values.old.items ++ value ∷ []) }
     ensures err { IfErr result (λ e. e ≡ Fault.OutOfMemory) }
 {
-    let name = name.clone()?;
-    keep(fields, (name, value))
+    let name = field.name.clone()?;
+    keep(values, (name, value))
 }

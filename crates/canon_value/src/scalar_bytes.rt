@@ -20,6 +20,7 @@ pub(crate) fn load_scalar(memory: &[u8], ty: &InterfaceType, at: u64) -> Result<
     requires inside { (k : Scalar) → scalar_type ty.now ≡ Some k → at + scalar_size k ≤ length memory.now }
     ensures ok { (k : Scalar) (enc : Encoding) → scalar_type ty.now ≡ Some k → IfOk result (λ v. IsLoaded enc (narrow memory.now) (scalar k) at v) }
     ensures err { (k : Scalar) (enc : Encoding) → scalar_type ty.now ≡ Some k → IfErr result (λ e. LiftBlames (λ j x. StoredFault enc (narrow memory.now) (scalar k) at j x) e) }
+    ensures only_char { IfErr result (λ e. e ≡ Fault.InvalidChar (At.Address at)) }
 {
     match ty {
         InterfaceType::Bool => Ok(Val::Bool(load_u8(memory, at) != 0)),

@@ -2,6 +2,24 @@ use Rattle.std.specs.Prelude.{codes, string_bytes}
 use Rattle.canon_transcript.proofs.Pushed.{pushed}
 use Rattle.canon_transcript.proofs.errors.print_fault.Goals as goal
 
+pub returns-in-TypeMismatch : goal.returns-in-TypeMismatch
+returns-in-TypeMismatch c = rw c.in-TypeMismatch.is c.write.ensures.bytes
+
+pub returns-in-FieldName : goal.returns-in-FieldName
+returns-in-FieldName c = rw c.in-FieldName.is c.write-in-FieldName.ensures.bytes
+
+pub returns-in-LengthMismatch : goal.returns-in-LengthMismatch
+returns-in-LengthMismatch c = rw c.in-LengthMismatch.is c.write-in-LengthMismatch.ensures.bytes
+
+pub returns-in-ReallocMisaligned : goal.returns-in-ReallocMisaligned
+returns-in-ReallocMisaligned c = rw c.in-ReallocMisaligned.is c.write-in-ReallocMisaligned.ensures.bytes
+
+pub returns-in-ReallocOutOfBounds : goal.returns-in-ReallocOutOfBounds
+returns-in-ReallocOutOfBounds c = rw c.in-ReallocOutOfBounds.is c.write-in-ReallocOutOfBounds.ensures.bytes
+
+pub returns-in-GuestTrap : goal.returns-in-GuestTrap
+returns-in-GuestTrap c = rw c.in-GuestTrap.is (pushed c.push_str.result (string_bytes c.args.text.now) (string_bytes c.push_str.new.self) (codes "GuestTrap") c.push_str.ensures.bytes)
+
 pub returns-in-PointerMisaligned : goal.returns-in-PointerMisaligned
 returns-in-PointerMisaligned c = rw c.in-PointerMisaligned.is c.print_at.ensures
 

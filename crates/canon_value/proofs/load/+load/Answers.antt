@@ -124,4 +124,4 @@ pub load_value-returns-in_default : goal.load_value-returns-in_default
 load_value-returns-in_default t c =
     let (k, e) = built_scalar c.args.types.now c.args.ty.now c.requires.known c.requires.built c.in_default.not-Record c.in_default.not-Tuple in
     let shape = scalar_shape c.args.types.now c.args.ty.now k e in
-    record { ok = λ enc. rw shape (c.load_scalar.ensures.ok k enc e); err = λ enc. rw shape (c.load_scalar.ensures.err k enc e) }
+    record { ok = λ enc. rw shape (c.load_scalar.ensures.ok k enc e); err = λ enc. rw shape (c.load_scalar.ensures.err k enc e); scalar = λ s. c.load_scalar.ensures.only_char }

@@ -297,7 +297,7 @@ store_record-returns-in_default g t0 c =
     let shape : shape_of t (ty.Record a.i) ≡ product of_fields ms = record_shape_of t c.types.result.now a.i fields.items c.types.ensures c.record.ensures.entry in
     record {
       stores = subst (λ (s : Shape). StoresTo g.G.Guest.seen g.G.Guest.moves a.cx.now.options core core s a.at a.value.now a.place (Err (fault.TypeMismatch a.place))) (sym shape)
-        (value_refused g.G.Guest.seen g.G.Guest.moves g.met.G.Guest.stays g.met.G.Guest.goes_on a.cx.now.options core (product of_fields ms) a.at a.value.now a.place (fault.TypeMismatch a.place) c.requires.small refl (0, omega arith, inl (refl, λ names vs p. c.in_default.not-Record p.0 p.1)));
+          (value_refused g.G.Guest.seen g.G.Guest.moves g.met.G.Guest.stays g.met.G.Guest.goes_on a.cx.now.options core (product of_fields ms) a.at a.value.now a.place (fault.TypeMismatch a.place) c.requires.small refl (0, omega arith, inl (refl, λ names vs p. c.in_default.not-Record p.0 p.1)));
       same_reference = refl;
       same_options = refl;
     }
@@ -314,7 +314,7 @@ store_record-returns-then-len-count-clause-stores g t0 c =
     let counts : member_count ms ≡ c.len-count.result = ap member_count (record_members t c.types.result.now a.i fields.items c.types.ensures c.record.ensures.entry) ∙ (count_fields t fields.items ∙ (sym fields.ok.0 ∙ sym c.len-count.ensures)) in
     let other : ¬ (length (values_in values.items) ≡ member_count ms) = λ e. c.if-len-count.true (omega (arith, e, counts, count_values values.items, c.len.ensures, values.ok.0)) in
     subst (λ (s : Shape). StoresTo g.G.Guest.seen g.G.Guest.moves a.cx.now.options core core s a.at a.value.now a.place (Err (fault.LengthMismatch a.place))) (sym shape)
-        (value_refused g.G.Guest.seen g.G.Guest.moves g.met.G.Guest.stays g.met.G.Guest.goes_on a.cx.now.options core (product of_fields ms) a.at a.value.now a.place (fault.LengthMismatch a.place) c.requires.small refl (0, omega arith, inl (refl, (names_in values.items, values_in values.items, (values, c.in-Record.is, refl, refl), other))))
+    (value_refused g.G.Guest.seen g.G.Guest.moves g.met.G.Guest.stays g.met.G.Guest.goes_on a.cx.now.options core (product of_fields ms) a.at a.value.now a.place (fault.LengthMismatch a.place) c.requires.small refl (0, omega arith, inl (refl, (names_in values.items, values_in values.items, (values, c.in-Record.is, refl, refl), other))))
 
 pub store_record-store_fields-requires : goal.store_record-store_fields-requires
 store_record-store_fields-requires g t0 c =
@@ -358,7 +358,7 @@ store_tuple-returns-in_default g t0 c =
     let shape : shape_of t (ty.Tuple a.i) ≡ product of_places ms = tuple_shape_of t c.types.result.now a.i types.items c.types.ensures c.tuple.ensures.entry c.tuple.ensures.types in
     record {
       stores = subst (λ (s : Shape). StoresTo g.G.Guest.seen g.G.Guest.moves a.cx.now.options core core s a.at a.value.now a.place (Err (fault.TypeMismatch a.place))) (sym shape)
-        (value_refused g.G.Guest.seen g.G.Guest.moves g.met.G.Guest.stays g.met.G.Guest.goes_on a.cx.now.options core (product of_places ms) a.at a.value.now a.place (fault.TypeMismatch a.place) c.requires.small refl (0, omega arith, inl (refl, λ names vs p. c.in_default.not-Tuple p.0 p.1)));
+          (value_refused g.G.Guest.seen g.G.Guest.moves g.met.G.Guest.stays g.met.G.Guest.goes_on a.cx.now.options core (product of_places ms) a.at a.value.now a.place (fault.TypeMismatch a.place) c.requires.small refl (0, omega arith, inl (refl, λ names vs p. c.in_default.not-Tuple p.0 p.1)));
       same_reference = refl;
       same_options = refl;
     }
@@ -375,7 +375,7 @@ store_tuple-returns-then-len-count-clause-stores g t0 c =
     let counts : length (tuple_types_of t a.i) ≡ c.len-count.result = ap length (sym (c.tuple.ensures.types ∙ ap (λ (x : Table). tuple_types_of x a.i) c.types.ensures)) ∙ (sym types.ok.0 ∙ sym c.len-count.ensures) in
     let other : ¬ (length values.items ≡ member_count ms) = λ e. c.if-len-count.true (omega (arith, e, counts, count_members t (tuple_types_of t a.i), c.len.ensures, values.ok.0)) in
     subst (λ (s : Shape). StoresTo g.G.Guest.seen g.G.Guest.moves a.cx.now.options core core s a.at a.value.now a.place (Err (fault.LengthMismatch a.place))) (sym shape)
-        (value_refused g.G.Guest.seen g.G.Guest.moves g.met.G.Guest.stays g.met.G.Guest.goes_on a.cx.now.options core (product of_places ms) a.at a.value.now a.place (fault.LengthMismatch a.place) c.requires.small refl (0, omega arith, inl (refl, (no_names values.items, values.items, (values, c.in-Tuple.is, refl, refl), other))))
+    (value_refused g.G.Guest.seen g.G.Guest.moves g.met.G.Guest.stays g.met.G.Guest.goes_on a.cx.now.options core (product of_places ms) a.at a.value.now a.place (fault.LengthMismatch a.place) c.requires.small refl (0, omega arith, inl (refl, (no_names values.items, values.items, (values, c.in-Tuple.is, refl, refl), other))))
 
 pub store_tuple-store_members-requires : goal.store_tuple-store_members-requires
 store_tuple-store_members-requires g t0 c =
