@@ -18,7 +18,8 @@ use Rattle.canon_memory.specs.Journal.{trap_event}
 use Rattle.canon_lowering.specs.Storing.{narrow}
 use Rattle.canon_value.proofs.Values.{have_count}
 use Rattle.canon_value.specs.Lifts.{AreResults}
-use Rattle.canon_value.specs.declared.fault.At as told
+use Rattle.canon_value.specs.declared.fault.At.{At}
+use Rattle.canon_value.specs.Loads.{place_of}
 use Rattle.canon_value.specs.declared.fault.Fault.TheVariants as fault
 use Rattle.canon_value.specs.declared.val.Val.{Val}
 use Rattle.canon_func.specs.Call.{HasFault, Left, result_words}
@@ -117,9 +118,9 @@ module _ (PostLeaves : List ℕ → List ℕ → Type 0) (callee : Callee) (word
     }
 
     -- of a fault of the words
-    excludes : (e : Error) (k : Kind) (at : told.At) → HasFault callee k at returned memory
+    excludes : (e : Error) (k : Kind) (at : At) → HasFault callee k at returned memory
         → (us : Trees) → RepResults false callee.encoding (narrow memory) returned callee.results us → e ≡ error.Fault fault.OutOfMemory
-    excludes e k at (x, is, f) us r = absurd (fault_excludes.values max_results false callee.encoding (narrow memory) returned callee.results us k x f r)
+    excludes e k at f us r = absurd (fault_excludes.values max_results false callee.encoding (narrow memory) returned callee.results us k (place_of at) f r)
 
     lifted_made : (e : Error) → (e ≡ error.Fault fault.GuestTrap → ⊥) → Lifted callee returned memory (Err e) → IsRest PostLeaves callee words before after (Err e) (event.Start callee.func words before.bytes ∷ event.Return returned memory ∷ [])
     lifted_made error.WrongWords n h = returned_made error.WrongWords h (λ us r. absurd (h (words_of_results callee.encoding (narrow memory) returned callee.results us r)))

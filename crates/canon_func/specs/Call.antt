@@ -1,10 +1,10 @@
 -- What a call did.
-use Rattle.std.specs.Prelude.{Bool, Err, IfErr, IsOkUnless, IsSome, List, None, Ok, OnOk, Option, Result, Some, [], false, if◌then◌else◌, length, min, nat_le, not, slice_index, true, ℕ, ⊤, ◌%◌, ◌&&◌, ◌++◌, ◌+◌, ◌-◌, ◌<◌, ◌==◌, ◌^◌, ◌∷◌, ◌≡◌, ◌≤◌}
+use Rattle.std.specs.Prelude.{Bool, Err, IfErr, IsOkUnless, IsSome, List, None, Ok, OnOk, Option, Result, Some, [], false, if◌then◌else◌, length, nat_le, not, slice_index, true, ℕ, ⊤, ◌%◌, ◌&&◌, ◌++◌, ◌+◌, ◌<◌, ◌==◌, ◌∷◌, ◌≡◌, ◌≤◌}
 use Rattle.canon_model.specs.Flat.{RepArgs, RepResults, max_results}
 use Rattle.canon_model.specs.Homes.{ParamsHome, PointsTo}
 use Rattle.canon_model.specs.Layout.{members_flat}
 use Rattle.canon_model.specs.Memory.{InBlocks}
-use Rattle.canon_model.specs.Reach.{At, Kind, ValuesFault, address, misaligned, no_scalar, out_of_bounds, word}
+use Rattle.canon_model.specs.Reach.{Kind, ValuesFault, misaligned, no_scalar, out_of_bounds}
 use Rattle.canon_model.specs.Requests.{Request, params_requests}
 use Rattle.canon_model.specs.Shape.{Members, member_count}
 use Rattle.canon_model.specs.Tree.{Trees}
@@ -17,9 +17,9 @@ use Rattle.canon_lowering.specs.Args.{Anywhere}
 use Rattle.canon_lowering.specs.Storing.{narrow}
 use Rattle.canon_value.specs.Fails.{BlamesMembers}
 use Rattle.canon_value.specs.Lifts.{AreResults}
+use Rattle.canon_value.specs.Loads.{place_of}
 use Rattle.canon_value.specs.Value.{HaveTrees}
-use Rattle.canon_value.specs.declared.fault.At.TheVariants as place
-use Rattle.canon_value.specs.declared.fault.At as told
+use Rattle.canon_value.specs.declared.fault.At.{At}
 use Rattle.canon_value.specs.declared.fault.Fault.{Fault}
 use Rattle.canon_value.specs.declared.fault.Fault.TheVariants as fault
 use Rattle.canon_value.specs.declared.val.Val.{Val}
@@ -83,15 +83,9 @@ words_within most ms = if nat_le (members_flat ms) most then members_flat ms els
 abbrev pub result_words : Members → ℕ
 result_words ms = words_within max_results ms
 
--- where a fault stands, as it is told: the index of a word stays at the last number of a `u32`
-abbrev pub IsPlace : told.At → At → Type 0
-IsPlace (place.Word k) (word i) = k ≡ min i (2 ^ 32 - 1)
-IsPlace (place.Address a) (address b) = a ≡ b
-IsPlace _ _ = ⊥
-
 -- the words and the memory that were returned have a fault of this kind there
-abbrev pub HasFault : Callee → Kind → told.At → List ℕ → List ℕ → Type 0
-HasFault callee kind at words memory = (x : At) × IsPlace at x × ValuesFault callee.encoding (narrow memory) words max_results callee.results kind x
+abbrev pub HasFault : Callee → Kind → At → List ℕ → List ℕ → Type 0
+HasFault callee kind at words memory = ValuesFault callee.encoding (narrow memory) words max_results callee.results kind (place_of at)
 
 -- why a call was refused with this fault
 abbrev pub FaultCause : Callee → List Val → Moment → Moment → List Event → Fault → Type 0

@@ -1,5 +1,7 @@
 //! Calls of a small guest: what each refusal is, and what it leaves.
 
+ghost use Rattle.std.specs.Prelude.{◌≡◌, [], None};
+
 use super::*;
 use canon_memory::{Guest, GuestFault, Memory, Step, ValRaw, Words};
 use canon_table::{
@@ -40,6 +42,8 @@ impl Guest for Doer {
     ghost seen = { λ g. record { journal = None; marks = []; live = []; traps = g.traps; shortages = g.shortages } };
 
     ghost moves = { λ _ _ _. Unit {0} };
+
+    ghost post_leaves = { λ before after. after ≡ before };
 
     ghost stays = { λ _. record {} };
 
@@ -160,7 +164,14 @@ fn call(
 fn a_call_lowers_its_parameters_and_lifts_its_results(rt: HostRuntime) -> Result<(), Fail> {
     let alloc = rt.alloc();
     let params = [InterfaceType::U32, InterfaceType::S8];
-    let mut store = store_of(alloc, &params, &[InterfaceType::Bool], false, Deed::Return(2), false)?;
+    let mut store = store_of(
+        alloc,
+        &params,
+        &[InterfaceType::Bool],
+        false,
+        Deed::Return(2),
+        false,
+    )?;
     let mut results = [Val::Bool(false)];
     let answer = call(alloc, &mut store, &[Val::U32(7), Val::S8(-1)], &mut results);
     assert_eq!(rt; answer, Some(Ok(())));
@@ -173,7 +184,12 @@ fn a_call_lowers_its_parameters_and_lifts_its_results(rt: HostRuntime) -> Result
 fn a_refusal_before_the_guest_is_entered_changes_nothing(rt: HostRuntime) -> Result<(), Fail> {
     let alloc = rt.alloc();
     let mut store = store_of(alloc, &[], &[InterfaceType::Bool], true, Deed::Trap, false)?;
-    let counts = call(alloc, &mut store, &[Val::Bool(true)], &mut [Val::Bool(false)]);
+    let counts = call(
+        alloc,
+        &mut store,
+        &[Val::Bool(true)],
+        &mut [Val::Bool(false)],
+    );
     assert_eq!(rt; counts, Some(Err(Error::WrongCount)));
     let counts = call(alloc, &mut store, &[], &mut []);
     assert_eq!(rt; counts, Some(Err(Error::WrongCount)));
@@ -191,12 +207,19 @@ fn a_later_refusal_traps_the_store_and_leaves_the_results(rt: HostRuntime) -> Re
         (Deed::Ask(6), false, Error::UnknownImport(6)),
         (Deed::Trap, false, Error::Fault(Fault::GuestTrap)),
         (Deed::Return(65), true, Error::Fault(Fault::GuestTrap)),
-        (Deed::Return(55_296), false, Error::Fault(Fault::InvalidChar(At::Word(0)))),
+        (
+            Deed::Return(55_296),
+            false,
+            Error::Fault(Fault::InvalidChar(At::Word(0))),
+        ),
     ];
     for (deed, post_traps, error) in cases {
         let mut store = store_of(alloc, &[], &[InterfaceType::Char], false, deed, post_traps)?;
         let mut results = [Val::Bool(false)];
-        assert_eq!(rt; call(alloc, &mut store, &[], &mut results), Some(Err(error)));
+        assert_eq!(rt;
+            call(alloc, &mut store, &[], &mut results),
+            Some(Err(error))
+        );
         assert!(rt; matches!(&results, [Val::Bool(false)]), "{results:?}");
         let again = call(alloc, &mut store, &[], &mut results);
         assert_eq!(rt; again, Some(Err(Error::CannotEnterComponent)));

@@ -5,14 +5,13 @@ use Rattle.std.specs.Prelude.{Some, slice_get, slice_index_or}
 use Rattle.std.proofs.lemmas.Option.{get_or_from_slice_get}
 use Rattle.canon_table.specs.Table.{HasFunc}
 use Rattle.canon_table.specs.declared.types.TypeFunc.{TypeFunc}
-use Rattle.canon_value.specs.Built.{AreBuilt}
 use Rattle.canon_value.specs.declared.component.Component.{Component}
-use Rattle.canon_func.specs.Stores.{Callee}
+use Rattle.canon_func.specs.Stores.{Callee, IsCallable}
 use Rattle.canon_script.specs.Script.{Call, IsBuilt, IsSound, Play, item_view}
 use Rattle.canon_script.specs.declared.script.Item.{Item}
 use Rattle.canon_transcript.specs.declared.transcript.Record.{Record}
 use Rattle.canon_player.specs.Session.{IsPlayed, Plays, Session, State, at_first, callee_of}
-use Rattle.canon_player.specs.Stores.{IsCallable, IsScripted, ScriptStore, callee_at, fresh_store, state_of}
+use Rattle.canon_player.specs.Stores.{IsPlayable, IsScripted, ScriptStore, callee_at, fresh_store, state_of}
 use Rattle.canon_player.proofs.Components.{export_count, found, scripted_callee}
 
 -- ---- on one store
@@ -21,21 +20,21 @@ use Rattle.canon_player.proofs.Components.{export_count, found, scripted_callee}
 pub record IsPlaying (first : ScriptStore) (items : List Item) (now : ScriptStore) (left : List Item) (records : List Record) : Type 0 where
   pub fresh : now.core.guest.events ≡ []
   pub same : now.core.component ≡ first.core.component
-  callable : All (IsCallable first.core.component) (map item_view left)
+  playable : All (IsPlayable first.core.component) (map item_view left)
   pub rest : (more : List Record) → Plays (callee_at first.core.component) (map item_view left) (state_of now) more
       → Plays (callee_at first.core.component) (map item_view items) (state_of first) (records ++ more)
 
-pub playing_first : (first : ScriptStore) (items left : List Item) (records : List Record) → left ≡ items → records ≡ [] → first.core.guest.events ≡ [] → All (IsCallable first.core.component) (map item_view items)
+pub playing_first : (first : ScriptStore) (items left : List Item) (records : List Record) → left ≡ items → records ≡ [] → first.core.guest.events ≡ [] → All (IsPlayable first.core.component) (map item_view items)
     → IsPlaying first items first left records
-playing_first first items left records e none fresh callable =
-    subst (λ (xs : List Item). IsPlaying first items first xs records) (sym e) (subst (λ (rs : List Record). IsPlaying first items first items rs) (sym none) (record { fresh = fresh; same = refl; callable = callable; rest = λ more h. h }))
+playing_first first items left records e none fresh playable =
+    subst (λ (xs : List Item). IsPlaying first items first xs records) (sym e) (subst (λ (rs : List Record). IsPlaying first items first items rs) (sym none) (record { fresh = fresh; same = refl; playable = playable; rest = λ more h. h }))
 
 module _ (first : ScriptStore) (items : List Item) (now : ScriptStore) (all left : List Item) (item : Item) (records : List Record) (next : all ≡ item ∷ left) (h : IsPlaying first items now all records) where
   before : IsPlaying first items now (item ∷ left) records
   before = subst (λ (xs : List Item). IsPlaying first items now xs records) next h
 
-  pub playing_callable : IsCallable now.core.component (item_view item)
-  playing_callable = subst (λ (c : Component). IsCallable c (item_view item)) (sym h.same) (before.callable 0 (item_view item) (omega arith))
+  pub playing_playable : IsPlayable now.core.component (item_view item)
+  playing_playable = subst (λ (c : Component). IsPlayable c (item_view item)) (sym h.same) (before.playable 0 (item_view item) (omega arith))
 
   pub playing_next : (after : ScriptStore) (r : Record) (more : List Record) → after.core.guest.events ≡ [] → after.core.component ≡ now.core.component
       → IsPlayed (callee_at now.core.component (item_view item).func) (item_view item) (state_of now) (state_of after) r → more ≡ records ++ r ∷ []
@@ -43,7 +42,7 @@ module _ (first : ScriptStore) (items : List Item) (now : ScriptStore) (all left
   playing_next after r more fresh same played e = subst (λ (rs : List Record). IsPlaying first items after left rs) (sym e) (record {
     fresh = fresh;
     same = same ∙ h.same;
-    callable = All-tail (IsCallable first.core.component) (item_view item) (map item_view left) before.callable;
+    playable = All-tail (IsPlayable first.core.component) (item_view item) (map item_view left) before.playable;
     rest = λ others g. subst (λ (rs : List Record). Plays (callee_at first.core.component) (map item_view items) (state_of first) rs) (sym (append_assoc records (r ∷ []) others))
         (before.rest (r ∷ others) (state_of after, subst (λ (c : Component). IsPlayed (callee_at c (item_view item).func) (item_view item) (state_of now) (state_of after) r) h.same played, g));
   })
@@ -80,24 +79,22 @@ module _ (play : Play) (c : Component) (store : ScriptStore) (posts : List Bool)
   built : (i : ℕ) (f : TypeFunc) → slice_get play.types.funcs i ≡ Some f → HasFunc play.types i → IsBuilt play.types f
   built i f e there = subst (IsBuilt play.types) (get_or_from_slice_get play.types.funcs i f f e) (sound.funcs_built i f there)
 
-  callable : All (IsCallable c) play.calls
-  callable k d lt =
+  playable : All (IsPlayable c) play.calls
+  playable k d lt =
       let call = slice_index_or play.calls k d in
       let there : HasFunc play.types call.func = sound.calls_known k d lt in
       let (f, func) = found play.types.funcs call.func there in
       let b : IsBuilt play.types f = built call.func f func there in
       let it = known call there in
-      let params : AreBuilt (callee_of play call.func).params = rw func b.params in
-      let results : AreBuilt (callee_of play call.func).results = rw func b.results in
+      let can : IsCallable (callee_of play call.func) = rw func (record { params = b.params; results = b.results }) in
       record {
         export = omega (arith, there, sound.posts_told, export_count play.types play.posts c h);
-        params = subst (λ (e : Callee). AreBuilt e.params) (sym it) params;
-        results = subst (λ (e : Callee). AreBuilt e.results) (sym it) results;
-        reallocs = sound.reallocs_narrow k d lt;
+        callee = subst IsCallable (sym it) can;
+        orders = sound.orders_narrow k d lt;
       }
 
-  pub script_callable : All (IsCallable store.core.component) play.calls
-  script_callable = subst (λ (s : ScriptStore). All (IsCallable s.core.component) play.calls) (sym fresh) callable
+  pub script_playable : All (IsPlayable store.core.component) play.calls
+  script_playable = subst (λ (s : ScriptStore). All (IsPlayable s.core.component) play.calls) (sym fresh) playable
 
   pub script_session : (records : List Record) → Plays (callee_at store.core.component) play.calls (state_of store) records → Session play records
   script_session records p = session (at_first play) records (subst (λ (s : ScriptStore). Plays (callee_at s.core.component) play.calls (state_of s) records) fresh p)

@@ -7,10 +7,9 @@ use Rattle.canon_table.specs.Table.{Table}
 use Rattle.canon_table.specs.declared.types.TypeFunc.{TypeFunc}
 use Rattle.canon_scripted.specs.Orders.{AreNarrow}
 use Rattle.canon_scripted.specs.Scripted.{Doing, Plan}
-use Rattle.canon_value.specs.Built.{AreBuilt}
 use Rattle.canon_value.specs.declared.component.Component.{Component}
 use Rattle.canon_value.specs.declared.component.Export.{Export}
-use Rattle.canon_func.specs.Stores.{Callee, Stored, callee_in}
+use Rattle.canon_func.specs.Stores.{Callee, IsCallable, Stored, callee_in}
 use Rattle.canon_script.specs.Script.{Call}
 use Rattle.canon_player.specs.Session.{State, post_of}
 
@@ -47,12 +46,11 @@ pub record IsScripted (t : Table) (posts : List Bool) (component : Component) : 
 abbrev pub callee_at : Component → ℕ → Callee
 callee_at component i = callee_in component (slice_get component.exports.items i)
 
--- The call is one of a function that takes and gives values of which there are some so far; ordered answers are below 2 ^ 32.
-pub record IsCallable (component : Component) (call : Call) : Type 0 where
+-- The call is one of a function that can be called so far; each ordered answer is below 2 ^ 32.
+pub record IsPlayable (component : Component) (call : Call) : Type 0 where
   pub export : call.func < length component.exports.items
-  pub params : AreBuilt (callee_at component call.func).params
-  pub results : AreBuilt (callee_at component call.func).results
-  pub reallocs : AreNarrow call.reallocs
+  pub callee : IsCallable (callee_at component call.func)
+  pub orders : AreNarrow call.reallocs
 
 -- ---- its state
 

@@ -1,7 +1,7 @@
 ghost use Rattle.std.specs.Prelude.{◌≡◌, ◌≢◌, [], All, Err, IfOk, OnErr, OnOk, length, map};
 ghost use Rattle.canon_script.specs.Script.{IsSound, call_item_view, item_view, play_of};
 ghost use Rattle.canon_player.specs.Session.{IsPlayed, Plays, Session, outcome, values_of};
-ghost use Rattle.canon_player.specs.Stores.{IsCallable, callee_at, state_of, with_plan};
+ghost use Rattle.canon_player.specs.Stores.{IsPlayable, callee_at, state_of, with_plan};
 
 use crate::component::{ScriptStore, component_of, store_of};
 use canon_func::Error;
@@ -38,7 +38,7 @@ fn play_items(
     items: Vec<Item>,
 ) -> Result<Transcript, OutOfMemory>
     requires fresh { store.core.guest.events ≡ [] }
-    requires callable { All (IsCallable store.core.component) (map item_view items.items) }
+    requires playable { All (IsPlayable store.core.component) (map item_view items.items) }
     ensures { IfOk result (λ records. Plays (callee_at store.core.component) (map item_view items.items) (state_of store) records) }
 {
     let mut store = store;
@@ -53,7 +53,7 @@ fn play_items(
 /// Plays an item, and gives its record.
 fn play_item(alloc: Global, store: &mut ScriptStore, item: Item) -> Result<Record, OutOfMemory>
     requires fresh { store.old.core.guest.events ≡ [] }
-    requires callable { IsCallable store.old.core.component (item_view item) }
+    requires playable { IsPlayable store.old.core.component (item_view item) }
     ensures played { IfOk result (IsPlayed (callee_at store.old.core.component (item_view item).func) (item_view item) (state_of store.old) (state_of store.new)) }
     ensures fresh { store.new.core.guest.events ≡ [] }
     ensures same { store.new.core.component ≡ store.old.core.component }
@@ -66,7 +66,7 @@ fn play_item(alloc: Global, store: &mut ScriptStore, item: Item) -> Result<Recor
 /// Calls a function of the store, and gives the record of the call.
 fn play_call(alloc: Global, store: &mut ScriptStore, call: CallItem) -> Result<Record, OutOfMemory>
     requires fresh { store.old.core.guest.events ≡ [] }
-    requires callable { IsCallable store.old.core.component (call_item_view call) }
+    requires playable { IsPlayable store.old.core.component (call_item_view call) }
     ensures played { IfOk result (IsPlayed (callee_at store.old.core.component call.func) (call_item_view call) (state_of store.old) (state_of store.new)) }
     ensures fresh { store.new.core.guest.events ≡ [] }
     ensures same { store.new.core.component ≡ store.old.core.component }

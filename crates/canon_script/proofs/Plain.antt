@@ -7,7 +7,7 @@ use Rattle.canon_table.specs.Table.{Definition, EnumType, FixedListType, FlagsTy
 use Rattle.canon_table.specs.declared.types.InterfaceType.{InterfaceType}
 use Rattle.canon_table.specs.declared.types.InterfaceType.TheVariants as ty
 use Rattle.canon_table.specs.declared.types.TypeFunc.{TypeFunc}
-use Rattle.canon_script.specs.Built.{are_built, is_built}
+use Rattle.canon_value.specs.Built.{are_built, is_built}
 use Rattle.canon_script.specs.Script.{IsBuilt}
 use Rattle.canon_script.specs.Types.{is_plain}
 use Rattle.canon_script.proofs.Found.{all_append, and_both}

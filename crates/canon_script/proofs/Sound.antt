@@ -1,6 +1,6 @@
 -- A script that is read is sound.
-use Rattle.std.proofs.Common.{◌≡◌, ℕ, ◌<◌, ◌≤◌, ◌+◌, ◌*◌, ◌^◌, ◌++◌, List, [], ◌∷◌, All, length, length-append, slice_get, slice_index_or, Bool, true, false, nat_eq, nat_le, nat_lt, IsTrue, if◌then◌else◌, codes, Option, None, Some, Result, Ok, Err, IfOk, refl, sym, subst, arith, option_map, option_and_then}
-use Rattle.std.proofs.lemmas.Bool.{leb-true, ltb-true}
+use Rattle.std.proofs.Common.{◌≡◌, ℕ, ◌<◌, ◌≤◌, ◌+◌, ◌*◌, ◌^◌, ◌++◌, List, [], ◌∷◌, All, length, length-append, slice_get, slice_index_or, Bool, true, false, nat_eq, nat_le, nat_lt, IsTrue, if◌then◌else◌, max, codes, Option, None, Some, Result, Ok, Err, IfOk, refl, sym, subst, arith, option_map, option_and_then}
+use Rattle.std.proofs.lemmas.Bool.{leb-true, ltb-false, ltb-true}
 use Rattle.std.proofs.lemmas.List.Elements.{All-from_recursion}
 use Rattle.std.specs.List.{AllByRecursion}
 use Rattle.std.specs.Option.{option_map_or}
@@ -9,17 +9,20 @@ use Rattle.serde_json.specs.Data.{Data, Items, array, boolean, null, number, obj
 use Rattle.serde_json.specs.Find.{as_array, as_bool, as_object, as_str, get}
 use Rattle.canon_json.specs.Json.{Gives, each, each_of, has_len, only_member, there, two, u32_of, word_of}
 use Rattle.canon_json.specs.declared.error.ScriptError.{ScriptError}
-use Rattle.canon_model.specs.Shape.{Name}
-use Rattle.canon_table.specs.Refusal.{empty_table, func_refusal, refusal, with_definition, with_func}
-use Rattle.canon_table.specs.Table.{Definition, HasFunc, RecordType, Table, TupleType}
+use Rattle.canon_model.specs.Layout.{size}
+use Rattle.canon_model.specs.Shape.{Name, Shape, of_places, product}
+use Rattle.canon_table.specs.Depth.{depth, has_borrow}
+use Rattle.canon_table.specs.Refusal.{empty_table, entry_count, first_error, func_parts_refusal, func_refusal, is_full_for, or_else, refusal, with_definition, with_func}
+use Rattle.canon_table.specs.Table.{Definition, HasFunc, RecordType, Table, TupleType, members_of}
 use Rattle.canon_table.specs.declared.error.TypeError.{TypeError}
+use Rattle.canon_table.specs.declared.error.TypeError.TheVariants as refusing
 use Rattle.canon_table.specs.declared.types.InterfaceType.{InterfaceType}
 use Rattle.canon_layout.specs.Asked.{Listed, grown, so_far, type_at, unless, with_entry}
 use Rattle.canon_layout.specs.Entries.{both, defines, type_of}
 use Rattle.canon_script.specs.Actions.{action_of, ordered_of}
-use Rattle.canon_scripted.specs.declared.actions.Ordered.{Ordered}
-use Rattle.canon_scripted.specs.declared.actions.Ordered.TheVariants as order
-use Rattle.canon_script.specs.Narrow.{AreNarrow, IsNarrow}
+use Rattle.canon_scripted.specs.declared.orders.Ordered.{Ordered}
+use Rattle.canon_scripted.specs.declared.orders.Ordered.TheVariants as order
+use Rattle.canon_scripted.specs.Orders.{AreNarrow, IsNarrow}
 use Rattle.canon_script.specs.Script.{Call, IsSound, Play, call_of, call_of_func, call_with, final_memory, fits, heap_of, if_fits, max_memory, max_work, optional_members, play_of, play_with, played, reallocs_of, result_count, slots_of, turns}
 use Rattle.canon_script.specs.Types.{FuncParts, Funcs, add_func, add_type, definition_by, definition_of, field_of, func_of, func_with, funcs_of, funcs_over, funcs_so_far, if_plain, is_plain, reference_of, types_of, with_parts}
 use Rattle.canon_script.specs.Values.{value_of}
@@ -61,6 +64,10 @@ accepted_is : {A : Type 0} (o : Option TypeError) (a b : A) → unless o a ≡ S
 accepted_is None a b e = some_is a b e
 accepted_is (Some e) a b h = absurd (cc)
 
+not_refused : {A : Type 0} (o : Option TypeError) (a b : A) → unless o a ≡ Some b → o ≡ None
+not_refused None a b e = refl
+not_refused (Some e) a b h = absurd (cc)
+
 -- plain definitions, and no functions yet
 record Begun (t : Table) : Type 0 where
   plain : DefinesPlain t.definitions
@@ -73,7 +80,26 @@ keeps_type l m d begun e = by_some (λ def. with_entry l (defines def)) (definit
 
 -- ---- functions
 
+-- the last of four tests, where none applied
+last_fails : (o : Option TypeError) (a b c d : Bool) (w x y z : TypeError) → or_else o (first_error ((a, w) ∷ (b, x) ∷ (c, y) ∷ (d, z) ∷ [])) ≡ None → d ≡ false
+last_fails (Some e) a b c d w x y z h = absurd (cc)
+last_fails None true b c d w x y z h = absurd (cc)
+last_fails None false true c d w x y z h = absurd (cc)
+last_fails None false false true d w x y z h = absurd (cc)
+last_fails None false false false true w x y z h = absurd (cc)
+last_fails None false false false false w x y z h = refl
+
+-- a table that takes a function more isn't full
+has_room : (t : Table) (params results : List InterfaceType) → func_refusal t params results ≡ None → length t.funcs + 1 ≤ 1048576
+has_room t params results h =
+    let ps : Shape = product of_places (members_of t params) in
+    let rs : Shape = product of_places (members_of t results) in
+    let full : is_full_for 3 t ≡ false = last_fails (func_parts_refusal t params results) (nat_lt 100 (max (depth ps) (depth rs))) (nat_lt 4294967295 (max (size false ps) (size false rs))) (has_borrow rs) (is_full_for 3 t)
+        refusing.TooDeep refusing.SizeTooLarge refusing.BorrowInResult refusing.TooManyTypes h in
+    omega (arith, ltb-false 1048576 (entry_count t + 3) full)
+
 record Told (fs : Funcs) : Type 0 where
+  few : length fs.table.funcs ≤ 1048576
   plain : DefinesPlain fs.table.definitions
   posts : length fs.posts ≡ length fs.table.funcs
 
@@ -99,7 +125,9 @@ keeps_func types fs gs d told e = by_some (with_parts fs) (func_of types d) gs (
     let t = fs.table in
     let plain = parts_plain types d f s in
     let is : funcs_so_far (with_func t f.params f.results f.async) (fs.posts ++ f.post ∷ []) ≡ gs = accepted_is (func_refusal t f.params f.results) _ gs h in
+    let room = has_room t f.params f.results (not_refused (func_refusal t f.params f.results) _ gs h) in
     subst Told is (record {
+      few = omega (arith, room, length-append t.funcs (record { params = length t.definitions; results = length t.definitions + 1; async_ = f.async } ∷ []));
       plain = all_append IsPlainDefinition (t.definitions ++ TupleType f.params ∷ []) (TupleType f.results ∷ []) (all_append IsPlainDefinition t.definitions (TupleType f.params ∷ []) told.plain (plain.params, tt)) (plain.results, tt);
       posts = omega (arith, told.posts, length-append fs.posts (f.post ∷ []), length-append t.funcs (record { params = length t.definitions; results = length t.definitions + 1; async_ = f.async } ∷ []));
     }))
@@ -107,7 +135,7 @@ keeps_func types fs gs d told e = by_some (with_parts fs) (func_of types d) gs (
 funcs_told : (types funcs : Items) (fs : Funcs) → funcs_of types funcs ≡ Some fs → Told fs
 funcs_told types funcs fs e = by_some (funcs_over funcs) (types_of types) fs (Told fs) e (λ l s h.
     let begun : Begun l.table = onward_keeps (λ m. Begun m.table) add_type keeps_type (so_far empty_table []) l types (record { plain = tt; none = refl }) s in
-    onward_keeps Told (add_func l.types) (keeps_func l.types) (funcs_so_far l.table []) fs funcs (record { plain = begun.plain; posts = sym begun.none }) h)
+    onward_keeps Told (add_func l.types) (keeps_func l.types) (funcs_so_far l.table []) fs funcs (record { few = omega (arith, begun.none); plain = begun.plain; posts = sym begun.none }) h)
 
 -- ---- calls
 
@@ -170,6 +198,7 @@ fits_sound memory heap fs calls inside told stand fit =
       memory_fits = leb-true last max_memory (and_left (nat_le last max_memory) (nat_le (last * 2 * turns calls) max_work) fit);
       work_fits = leb-true (last * 2 * turns calls) max_work (and_right (nat_le last max_memory) (nat_le (last * 2 * turns calls) max_work) fit);
       posts_told = told.posts;
+      funcs_few = told.few;
       funcs_built = λ k d lt. func_built fs.table (slice_index_or fs.table.funcs k d) told.plain;
       calls_known = λ k d lt. (all k d lt).known;
       orders_narrow = λ k d lt. (all k d lt).narrow;

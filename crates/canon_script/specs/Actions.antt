@@ -9,8 +9,8 @@ use Rattle.canon_json.specs.Json.{each_of, has_len, only_member, u32_of, word_of
 use Rattle.canon_layout.specs.Entries.{pair_of}
 use Rattle.canon_scripted.specs.declared.actions.Action.{Action}
 use Rattle.canon_scripted.specs.declared.actions.Action.TheVariants as action
-use Rattle.canon_scripted.specs.declared.actions.Ordered.{Ordered}
-use Rattle.canon_scripted.specs.declared.actions.Ordered.TheVariants as order
+use Rattle.canon_scripted.specs.declared.orders.Ordered.{Ordered}
+use Rattle.canon_scripted.specs.declared.orders.Ordered.TheVariants as order
 
 -- ---- hex
 

@@ -1,7 +1,5 @@
 pub mod Actions
-pub mod Built
 pub mod Literals
-pub mod Narrow
 pub mod Numbers
 pub mod Script
 pub mod Types

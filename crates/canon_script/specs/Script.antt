@@ -7,11 +7,11 @@ use Rattle.canon_json.specs.Json.{each, each_of, has_len, items_of, there, u32_o
 use Rattle.canon_table.specs.Table.{HasFunc, Table, param_members, result_members, types_of}
 use Rattle.canon_table.specs.declared.types.TypeFunc.{TypeFunc}
 use Rattle.canon_scripted.specs.declared.actions.Action.{Action}
-use Rattle.canon_scripted.specs.declared.actions.Ordered.{Ordered}
+use Rattle.canon_scripted.specs.Orders.{AreNarrow}
+use Rattle.canon_scripted.specs.declared.orders.Ordered.{Ordered}
+use Rattle.canon_value.specs.Built.{AreBuilt}
 use Rattle.canon_script.specs.Actions.{action_of, ask_count, growth, ordered_of}
-use Rattle.canon_script.specs.Built.{AreBuilt}
 use Rattle.canon_script.specs.Literals.{Literal, literals_view}
-use Rattle.canon_script.specs.Narrow.{AreNarrow}
 use Rattle.canon_script.specs.Numbers.{number_to}
 use Rattle.canon_script.specs.Types.{Funcs, funcs_of}
 use Rattle.canon_script.specs.Values.{value_of}
@@ -147,12 +147,13 @@ pub record IsBuilt (t : Table) (f : TypeFunc) : Type 0 where
   pub results : AreBuilt (result_members t f)
 
 -- It keeps the limits, each function takes and gives scalars, records and tuples, each call is one of a function, and
--- each ordered answer of `realloc` is below 2 ^ 32.
+-- each ordered answer of `realloc` is below 2 ^ 32. A table has at most 2 ^ 20 entries.
 pub record IsSound (p : Play) : Type 0 where
   pub heap_inside : p.heap ≤ p.memory
   pub memory_fits : final_memory p.memory p.calls ≤ max_memory
   pub work_fits : final_memory p.memory p.calls * 2 * turns p.calls ≤ max_work
   pub posts_told : length p.posts ≡ length p.types.funcs
+  pub funcs_few : length p.types.funcs ≤ 1048576
   pub funcs_built : All (IsBuilt p.types) p.types.funcs
   pub calls_known : All (λ c. HasFunc p.types c.func) p.calls
   pub orders_narrow : All (λ c. AreNarrow c.reallocs) p.calls

@@ -6,7 +6,7 @@ ghost use Rattle.canon_json.specs.Json.{Gives, each_of, word_of};
 ghost use Rattle.canon_layout.specs.Entries.{pair_of};
 ghost use Rattle.canon_memory.specs.declared.val_raw.ValRaw.{ValRaw};
 ghost use Rattle.canon_scripted.specs.declared.actions.Action.{Action};
-ghost use Rattle.canon_scripted.specs.declared.actions.Ordered.{Ordered};
+ghost use Rattle.canon_scripted.specs.declared.orders.Ordered.{Ordered};
 ghost use Rattle.canon_script.specs.Actions as spec;
 
 use canon_json::{Reader, ScriptError, each_of, has_len, only_member, two, u32_of};

@@ -1,17 +1,17 @@
 use Rattle.std.proofs.Common.{sym, ◌∙◌}
 use Rattle.std.proofs.lemmas.List.{nil_from_length}
 use Rattle.std.specs.Vec.Iter.{into_iter_items}
-use Rattle.canon_player.proofs.Playing.{playing_callable, playing_first, playing_last, playing_next}
+use Rattle.canon_player.proofs.Playing.{playing_playable, playing_first, playing_last, playing_next}
 use Rattle.canon_player.proofs.player.play_items.Goals as goal
 
 pub loop-item-init : goal.loop-item-init
-loop-item-init c = record { next = tt; ends = tt; playing = playing_first c.args.store c.args.items.items (into_iter_items c.into_iter-item-iterator.result) c.new-records.result c.into_iter-item-iterator.ensures.into_iter_gives.0 c.new-records.ensures c.requires.fresh c.requires.callable }
+loop-item-init c = record { next = tt; ends = tt; playing = playing_first c.args.store c.args.items.items (into_iter_items c.into_iter-item-iterator.result) c.new-records.result c.into_iter-item-iterator.ensures.into_iter_gives.0 c.new-records.ensures c.requires.fresh c.requires.playable }
 
 pub play_item-requires-clause-fresh : goal.play_item-requires-clause-fresh
 play_item-requires-clause-fresh c = c.loop-item.invariant.playing.fresh
 
-pub play_item-requires-clause-callable : goal.play_item-requires-clause-callable
-play_item-requires-clause-callable c = playing_callable c.args.store c.args.items.items c.loop-item.store (into_iter_items c.loop-item.item-iterator) (into_iter_items c.next.new.self) c.in-Some.item c.loop-item.records c.in-Some.ensures.steps.0 c.loop-item.invariant.playing
+pub play_item-requires-clause-playable : goal.play_item-requires-clause-playable
+play_item-requires-clause-playable c = playing_playable c.args.store c.args.items.items c.loop-item.store (into_iter_items c.loop-item.item-iterator) (into_iter_items c.next.new.self) c.in-Some.item c.loop-item.records c.in-Some.ensures.steps.0 c.loop-item.invariant.playing
 
 pub loop-item-preserved : goal.loop-item-preserved
 loop-item-preserved c = record {
