@@ -31,13 +31,6 @@ struct Doer {
     shortages: u64,
 }
 
-impl Doer {
-    fn trap(&mut self) -> GuestFault {
-        self.traps = self.traps.saturating_add(1);
-        GuestFault::Trap
-    }
-}
-
 impl Guest for Doer {
     ghost seen = { λ g. record { journal = None; marks = []; live = []; traps = g.traps; shortages = g.shortages } };
 
@@ -57,7 +50,10 @@ impl Guest for Doer {
     ) -> Result<Step, GuestFault> {
         let mut words = Words::new(self.alloc);
         match self.deed {
-            Deed::Trap => Err(self.trap()),
+            Deed::Trap => {
+                self.traps = self.traps.saturating_add(1);
+                Err(GuestFault::Trap)
+            }
             Deed::Ask(index) => Ok(Step::Import { index, words }),
             Deed::ReturnNothing => Ok(Step::Return(words)),
             Deed::Return(word) => match words.push(ValRaw::u32(word)) {
@@ -71,7 +67,8 @@ impl Guest for Doer {
     }
 
     fn resume(&mut self, _memory: &mut Memory, _words: &[ValRaw]) -> Result<Step, GuestFault> {
-        Err(self.trap())
+        self.traps = self.traps.saturating_add(1);
+        Err(GuestFault::Trap)
     }
 
     fn realloc(
@@ -82,7 +79,8 @@ impl Guest for Doer {
         _align: u32,
         _new_size: u64,
     ) -> Result<u64, GuestFault> {
-        Err(self.trap())
+        self.traps = self.traps.saturating_add(1);
+        Err(GuestFault::Trap)
     }
 
     fn post_return(
@@ -92,7 +90,8 @@ impl Guest for Doer {
         _words: &[ValRaw],
     ) -> Result<(), GuestFault> {
         if self.post_traps {
-            return Err(self.trap());
+            self.traps = self.traps.saturating_add(1);
+            return Err(GuestFault::Trap);
         }
         Ok(())
     }
@@ -235,6 +234,29 @@ fn a_parameter_of_another_type_is_refused_at_its_place(rt: HostRuntime) -> Resul
     let answer = call(alloc, &mut store, &[Val::U32(7), Val::U8(1)], &mut []);
     assert_eq!(rt; answer, Some(Err(Error::Fault(Fault::TypeMismatch(1)))));
     assert!(rt; store.is_trapped());
+    Ok(())
+}
+
+#[test]
+fn parameters_and_results_past_their_words_go_by_a_pointer(rt: HostRuntime) -> Result<(), Fail> {
+    let alloc = rt.alloc();
+    let params = [InterfaceType::U8; 17];
+    let mut store = store_of(alloc, &params, &[], false, Deed::ReturnNothing, false)?;
+    let mut given = Vec::new(alloc);
+    for i in 0..17 {
+        given.push(Val::U8(i))?;
+    }
+    let asked = call(alloc, &mut store, &given, &mut []);
+    assert_eq!(rt; asked, Some(Err(Error::Fault(Fault::GuestTrap))));
+    let two = [InterfaceType::U8; 2];
+    let mut store = store_of(alloc, &[], &two, false, Deed::Return(65_535), false)?;
+    let mut results = [Val::Bool(false), Val::Bool(false)];
+    let past = call(alloc, &mut store, &[], &mut results);
+    let fault = Fault::PointerOutOfBounds(At::Word(0));
+    assert_eq!(rt; past, Some(Err(Error::Fault(fault))));
+    let mut store = store_of(alloc, &[], &two, false, Deed::Return(65_534), false)?;
+    assert_eq!(rt; call(alloc, &mut store, &[], &mut results), Some(Ok(())));
+    assert!(rt; matches!(&results, [Val::U8(0), Val::U8(0)]), "{results:?}");
     Ok(())
 }
 

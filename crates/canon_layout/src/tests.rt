@@ -1,6 +1,7 @@
 //! What the command `layout` prints, and which inputs it refuses.
 
-use crate::{Kind, layout_lines, listing_of_json, type_of_json, type_word, types_of_json};
+use crate::words::{Kind, type_word};
+use crate::{layout_lines, listing_of_json, type_of_json, types_of_json};
 use canon_json::ScriptError;
 use canon_table::InterfaceType;
 use serde_json::Value;

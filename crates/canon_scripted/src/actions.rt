@@ -2,7 +2,6 @@ ghost use Rattle.std.specs.Prelude.{◌≡◌, ◌≤◌, ◌<◌, ◌+◌, List
 ghost use Rattle.std.specs.Vec.Iter.{into_iter_items};
 ghost use Rattle.canon_memory.specs.Guest.{OnAnswer};
 
-use crate::grow::grow;
 use canon_memory::{Bytes, GuestFault, Memory, MemoryError, Step, Words};
 use std::alloc::Global;
 use std::marker::Model;
@@ -52,16 +51,12 @@ impl Actions {
     }
 
     /// Carries out actions up to and with the first return, ask or trap.
-    pub(crate) fn carry_out(
-        &mut self,
-        alloc: Global,
-        memory: &mut Memory,
-    ) -> Result<Step, GuestFault>
+    pub(crate) fn carry_out(&mut self, memory: &mut Memory) -> Result<Step, GuestFault>
         ensures turn { OnAnswer result (carry_out self.old memory.old ≡ turn memory.new result self.new) }
         ensures no_shorter { length memory.old ≤ length memory.new }
     {
         while let Some(action) = self.left.next() {
-            match act(alloc, action, memory) {
+            match act(action, memory) {
                 Ok(None) => {}
                 Ok(Some(step)) => return Ok(step),
                 Err(fault) => return Err(fault),
@@ -75,7 +70,7 @@ ghost use Rattle.canon_scripted.specs.Actions.{acted, carry_out, written};
 ghost use Rattle.canon_scripted.specs.declared.actions.Action.{Action};
 
 /// Carries out one action. The next one follows where it answers None.
-fn act(alloc: Global, action: Action, memory: &mut Memory) -> Result<Option<Step>, GuestFault>
+fn act(action: Action, memory: &mut Memory) -> Result<Option<Step>, GuestFault>
     ensures acts { OnAnswer result ((left : List Action) → carry_out (action ∷ left) memory.old ≡ acted memory.new result left) }
     ensures no_shorter { length memory.old ≤ length memory.new }
 {
@@ -84,7 +79,7 @@ fn act(alloc: Global, action: Action, memory: &mut Memory) -> Result<Option<Step
             Ok(()) => Ok(None),
             Err(fault) => Err(fault),
         },
-        Action::Grow(by) => match grow(alloc, memory, by) {
+        Action::Grow(by) => match memory.grow(by) {
             Ok(()) => Ok(None),
             Err(MemoryError::TooLarge) => Err(GuestFault::Trap),
             Err(MemoryError::OutOfMemory) => Err(GuestFault::OutOfMemory),

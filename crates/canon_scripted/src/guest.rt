@@ -15,7 +15,6 @@ use std::marker::Model;
 /// for each answer of `realloc` in its life, and how often it trapped and answered want of memory.
 #[derive(Drop)]
 pub struct ScriptedGuest {
-    alloc: Global,
     actions: Actions,
     orders: Orders,
     post_trap: bool,
@@ -59,7 +58,6 @@ impl ScriptedGuest {
         } }
     {
         ScriptedGuest {
-            alloc,
             actions: Actions::new(Vec::new(alloc)),
             orders: Orders::new(Vec::new(alloc)),
             post_trap: false,
@@ -115,7 +113,7 @@ impl ScriptedGuest {
         ensures later { (self.old.traps ≤ self.new.traps) × (self.old.shortages ≤ self.new.shortages) }
         ensures no_shorter { length memory.old ≤ length memory.new }
     {
-        match self.actions.carry_out(self.alloc, memory) {
+        match self.actions.carry_out(memory) {
             Ok(step) => Ok(step),
             Err(fault) => Err(self.count(fault)),
         }

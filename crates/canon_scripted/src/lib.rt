@@ -3,7 +3,6 @@
 
 mod actions;
 mod allocator;
-mod grow;
 mod guest;
 mod orders;
 #[cfg(test)]
