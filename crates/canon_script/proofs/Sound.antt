@@ -95,7 +95,7 @@ has_room t params results h =
     let ps : Shape = product of_places (members_of t params) in
     let rs : Shape = product of_places (members_of t results) in
     let full : is_full_for 3 t ≡ false = last_fails (func_parts_refusal t params results) (nat_lt 100 (max (depth ps) (depth rs))) (nat_lt 4294967295 (max (size false ps) (size false rs))) (has_borrow rs) (is_full_for 3 t)
-        refusing.TooDeep refusing.SizeTooLarge refusing.BorrowInResult refusing.TooManyTypes h in
+    refusing.TooDeep refusing.SizeTooLarge refusing.BorrowInResult refusing.TooManyTypes h in
     omega (arith, ltb-false 1048576 (entry_count t + 3) full)
 
 record Told (fs : Funcs) : Type 0 where
