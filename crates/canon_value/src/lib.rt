@@ -18,8 +18,6 @@ mod store;
 mod tests_load;
 #[cfg(test)]
 mod tests_store;
-#[cfg(test)]
-mod tests_words;
 mod val;
 
 pub use args::lower_args;
