@@ -1,0 +1,5 @@
+//! Tests of values, cores and contexts.
+#![tactic(auto)]
+
+#[cfg(test)]
+mod tests;
