@@ -4,6 +4,7 @@ pub mod Component
 pub mod Core
 pub mod Fails
 pub mod Faults
+pub mod Fuel
 pub mod Laws
 pub mod Lifts
 pub mod Loads

@@ -1,15 +1,17 @@
 -- How values are stored one after another: each at its place of memory, and its fault, if it fails, at its place among the
 -- values. A core goes from one to another.
-use Rattle.std.specs.Prelude.{◌≡◌, ◌+◌, ◌⊎◌, Err, List, Ok, Result, ℕ}
-use Rattle.canon_lowering.specs.Storing.{MembersStoring, Storing}
+use Rattle.std.specs.Prelude.{◌≡◌, ◌+◌, ◌<◌, ◌^◌, ◌⊎◌, Err, IfOk, List, Ok, Result, [], ◌∷◌, length, ℕ}
+use Rattle.canon_lowering.specs.Args.{Lowered}
+use Rattle.canon_lowering.specs.Storing.{MembersStoring, RowStoring, Storing}
 use Rattle.canon_memory.specs.Guest.{Seen}
 use Rattle.canon_memory.specs.declared.event.Event.{Event}
 use Rattle.canon_model.specs.Shape.{Members, Name, Shape}
 use Rattle.canon_value.specs.Core.{Parts, encoding_by, moment_of}
-use Rattle.canon_value.specs.Fails.{Blames, Failure, FailsAt, MemberFails}
+use Rattle.canon_value.specs.Fails.{Blames, Failure, FailsAt, MemberFails, SomeFails}
 use Rattle.canon_value.specs.Lowers.{ending_of}
 use Rattle.canon_value.specs.Moves.{Moves}
-use Rattle.canon_value.specs.Value.{HasTree, HaveTrees, all_places, cap, member_names, places}
+use Rattle.canon_value.specs.Value.{EachHas, HasTree, HaveTrees, all_places, cap, member_names, places}
+use Rattle.canon_value.specs.declared.blocks.Placed.{Placed}
 use Rattle.canon_value.specs.declared.fault.Fault.{Fault}
 use Rattle.canon_value.specs.declared.fault.Fault.TheVariants as fault
 use Rattle.canon_value.specs.declared.val.Val.{Val}
@@ -27,6 +29,15 @@ FieldsCount place ms names vs from (Err e) = ((e ≡ fault.FieldName place) × �
 -- only the guest and its memory may differ
 abbrev pub SameBut : {T G : Type 0} → Parts T G → Parts T G → Type 0
 SameBut before after = after ≡ record before { guest = after.guest; memory = after.memory }
+
+-- the two words of a block, and the place after what stands there
+abbrev pub placed_words : Result Placed Fault → List ℕ
+placed_words (Ok b) = b.pointer ∷ b.length ∷ []
+placed_words (Err e) = []
+
+abbrev pub placed_next : Result Placed Fault → Result ℕ Fault
+placed_next (Ok b) = Ok b.next
+placed_next (Err e) = Err e
 
 module _ {T G : Type 0} (seen : G → Seen) (moves : G → List Event → G → Type 0) (options : ℕ) (before after : Parts T G) where
   -- a value of the shape s at the address `at`
@@ -47,5 +58,20 @@ module _ {T G : Type 0} (seen : G → Seen) (moves : G → List Event → G → 
   pub record FieldsStoreTo (place : ℕ) (ms : Members) (o at : ℕ) (names : List Name) (vs : List Val) (from : ℕ) (result : Result ℕ Fault) : Type 0 where
     pub storing : MembersStoring (moment_of seen before) (moment_of seen after) (encoding_by before options) ms o at (λ ts. (names ≡ member_names ms) × HaveTrees ms vs ts) (ending_of result)
     pub counted : FieldsCount place ms names vs from result
+    pub moved : Moves seen moves before.guest after.guest (ending_of result)
+    pub same : SameBut before after
+
+  -- values of one type in a row
+  pub record RowStoresTo (s : Shape) (at : ℕ) (vs : List Val) (from : ℕ) (result : Result ℕ Fault) : Type 0 where
+    pub storing : RowStoring (moment_of seen before) (moment_of seen after) (encoding_by before options) s at (length vs) (EachHas (λ v t. HasTree s v t) vs) (ending_of result)
+    pub counted : Counts (λ how k. SomeFails (λ v i. FailsAt how s v i) vs k) from (all_places vs) result
+    pub moved : Moves seen moves before.guest after.guest (ending_of result)
+    pub same : SameBut before after
+
+  -- a text or a list in a block of its own, which a pointer and a length tell
+  pub record PlacesTo (s : Shape) (v : Val) (from : ℕ) (result : Result Placed Fault) : Type 0 where
+    pub lowered : Lowered (moment_of seen before) (moment_of seen after) (encoding_by before options) s (HasTree s v) (placed_words result) (ending_of result)
+    pub narrow : IfOk result (λ b. (b.pointer < 2 ^ 32) × (b.length < 2 ^ 32))
+    pub counted : Counts (λ how k. FailsAt how s v k) from (places v) (placed_next result)
     pub moved : Moves seen moves before.guest after.guest (ending_of result)
     pub same : SameBut before after

@@ -1,24 +1,28 @@
 -- How words are written one after another: each value's from its first word on, and its fault, if it fails, at its place.
-use Rattle.std.specs.Prelude.{◌≡◌, ◌+◌, ◌<◌, ◌%◌, ◌^◌, ◌⊎◌, Err, List, Ok, Result, Some, [], slice_index, true, ℕ}
-use Rattle.canon_lowering.specs.Lowering.{refused}
-use Rattle.canon_model.specs.Flat.{IsLeastWord, MembersFlat, RepFlatIn, flat_bits}
+-- A core goes from one to another.
+use Rattle.std.specs.Prelude.{◌≡◌, ◌+◌, ◌*◌, ◌<◌, ◌%◌, ◌^◌, ◌⊎◌, Err, List, Ok, OnOk, Result, Some, length, slice_index, ℕ}
+use Rattle.canon_lowering.specs.Args.{Lowered, MembersLowered, RowLowered}
+use Rattle.canon_memory.specs.Guest.{Seen}
+use Rattle.canon_memory.specs.declared.event.Event.{Event}
+use Rattle.canon_model.specs.Flat.{IsLeastWord, SameWords, flat_bits}
 use Rattle.canon_model.specs.Layout.{flat, members_flat}
-use Rattle.canon_model.specs.Memory.{InsideBlocks, Memory}
 use Rattle.canon_model.specs.Rep.{ScalarIs}
 use Rattle.canon_model.specs.Shape.{Members, Name, Scalar, Shape}
-use Rattle.canon_model.specs.Text.{Encoding}
-use Rattle.canon_model.specs.Tree.{Tree, Trees}
+use Rattle.canon_model.specs.Tree.{Tree}
 use Rattle.canon_table.specs.declared.types.InterfaceType.{InterfaceType}
 use Rattle.canon_value.specs.Built.{scalar_type}
-use Rattle.canon_value.specs.Fails.{Blames, Failure, FailsAt, IsOtherScalar, MemberFails}
-use Rattle.canon_value.specs.Lowers.{fault_ending}
-use Rattle.canon_value.specs.Value.{HasScalar, HasTree, HaveTrees, all_places, cap, member_names, places}
+use Rattle.canon_value.specs.Core.{Parts, encoding_by, moment_of}
+use Rattle.canon_value.specs.Fails.{Blames, Failure, FailsAt, IsOtherScalar, MemberFails, SomeFails}
+use Rattle.canon_value.specs.Lowers.{ending_of}
+use Rattle.canon_value.specs.Moves.{Moves}
+use Rattle.canon_value.specs.Stores.{SameBut}
+use Rattle.canon_value.specs.Value.{EachHas, HasScalar, HasTree, HaveTrees, all_places, cap, member_names, places}
 use Rattle.canon_value.specs.declared.fault.Fault.{Fault}
 use Rattle.canon_value.specs.declared.fault.Fault.TheVariants as fault
 use Rattle.canon_value.specs.declared.lower.Spot.{Spot}
 use Rattle.canon_value.specs.declared.val.Val.{Val}
 
--- the first member of a record or a tuple that stands there
+-- the first member of a value that has members and stands there
 abbrev pub inside : Spot → Spot
 inside from = record { word = from.word; place = cap (from.place + 1) }
 
@@ -30,37 +34,58 @@ IsWordOf type v w = (k : Scalar) × (t : Tree) × (scalar_type type ≡ Some k) 
 abbrev pub IsNoneOf : InterfaceType → Val → Type 0
 IsNoneOf type v = (k : Scalar) → scalar_type type ≡ Some k → IsOtherScalar k v
 
--- The words from one spot to another strictly represent the value, whatever memory holds; the words before them stay.
-pub record IsLowered (s : Shape) (v : Val) (before after : List ℕ) (from to : Spot) : Type 0 where
-  pub its_tree : Tree
-  pub has : HasTree s v its_tree
-  pub rep : (enc : Encoding) (m : Memory) → RepFlatIn [] true enc m after from.word s its_tree
-  pub kept : (p : ℕ) → p < from.word → slice_index after p ≡ slice_index before p
-  pub words : to.word ≡ from.word + flat s
-  pub counted : to.place ≡ cap (from.place + places v)
+-- The words stand from word i on; those before it, and how many there are, stay.
+pub record Puts (i : ℕ) (words dst dst2 : List ℕ) : Type 0 where
+  pub same_length : length dst2 ≡ length dst
+  pub before : (p : ℕ) → p < i → slice_index dst2 p ≡ slice_index dst p
+  pub there : SameWords words 0 dst2 i (length words)
 
--- values in a row
-pub record AreLowered (ms : Members) (vs : List Val) (before after : List ℕ) (from to : Spot) : Type 0 where
-  pub its_trees : Trees
-  pub have : HaveTrees ms vs its_trees
-  pub rep : (enc : Encoding) (m : Memory) → MembersFlat (InsideBlocks [] m) true enc m after ms from.word its_trees
-  pub kept : (p : ℕ) → p < from.word → slice_index after p ≡ slice_index before p
-  pub words : to.word ≡ from.word + members_flat ms
-  pub counted : to.place ≡ cap (from.place + all_places vs)
-
--- the value is to blame, and nothing else
-abbrev pub BlamesAlone : (Failure → ℕ → Type 0) → ℕ → Fault → Type 0
-BlamesAlone F start e = Blames F start e × (fault_ending e ≡ refused)
-
-abbrev pub LowersTo : Shape → Val → List ℕ → List ℕ → Spot → Result Spot Fault → Type 0
-LowersTo s v before after from (Ok to) = IsLowered s v before after from to
-LowersTo s v before after from (Err e) = BlamesAlone (λ how k. FailsAt how s v k) from.place e
-
-abbrev pub MembersLowerTo : Members → List Val → List ℕ → List ℕ → Spot → Result Spot Fault → Type 0
-MembersLowerTo ms vs before after from (Ok to) = AreLowered ms vs before after from to
-MembersLowerTo ms vs before after from (Err e) = BlamesAlone (λ how k. MemberFails how ms vs k) from.place e
+-- so many words were written and so many places counted, or the fault is told at its place
+abbrev pub SpotCounts : (Failure → ℕ → Type 0) → Spot → ℕ → ℕ → Result Spot Fault → Type 0
+SpotCounts F from words n (Ok to) = (to.word ≡ from.word + words) × (to.place ≡ cap (from.place + n))
+SpotCounts F from words n (Err e) = Blames F from.place e
 
 -- the same of the fields of a record that has this place, with their names
-abbrev pub FieldsLowerTo : ℕ → Members → List Name → List Val → List ℕ → List ℕ → Spot → Result Spot Fault → Type 0
-FieldsLowerTo place ms names vs before after from (Ok to) = (names ≡ member_names ms) × AreLowered ms vs before after from to
-FieldsLowerTo place ms names vs before after from (Err e) = ((e ≡ fault.FieldName place) × ¬ (names ≡ member_names ms)) ⊎ BlamesAlone (λ how k. MemberFails how ms vs k) from.place e
+abbrev pub FieldsSpotCount : ℕ → Members → List Name → List Val → Spot → Result Spot Fault → Type 0
+FieldsSpotCount place ms names vs from (Ok to) = (names ≡ member_names ms) × (to.word ≡ from.word + members_flat ms) × (to.place ≡ cap (from.place + all_places vs))
+FieldsSpotCount place ms names vs from (Err e) = ((e ≡ fault.FieldName place) × ¬ (names ≡ member_names ms)) ⊎ Blames (λ how k. MemberFails how ms vs k) from.place e
+
+-- the words before word i, and how many there are, stay
+pub record Stays (i : ℕ) (dst dst2 : List ℕ) : Type 0 where
+  pub same_length : length dst2 ≡ length dst
+  pub before : (p : ℕ) → p < i → slice_index dst2 p ≡ slice_index dst p
+
+module _ {T G : Type 0} (seen : G → Seen) (moves : G → List Event → G → Type 0) (options : ℕ) (before after : Parts T G) (dst dst2 : List ℕ) (from : Spot) (result : Result Spot Fault) where
+  -- a value of the shape s
+  pub record LowersTo (s : Shape) (v : Val) : Type 0 where
+    pub words : List ℕ
+    pub lowered : Lowered (moment_of seen before) (moment_of seen after) (encoding_by before options) s (HasTree s v) words (ending_of result)
+    pub puts : OnOk result (Puts from.word words dst dst2)
+    pub stays : Stays from.word dst dst2
+    pub counted : SpotCounts (λ how k. FailsAt how s v k) from (flat s) (places v) result
+    pub moved : Moves seen moves before.guest after.guest (ending_of result)
+    pub same : SameBut before after
+
+  -- values in a row
+  pub record MembersLowerTo (ms : Members) (vs : List Val) : Type 0 where
+    pub lowered : MembersLowered (moment_of seen before) (moment_of seen after) (encoding_by before options) ms from.word (HaveTrees ms vs) dst2 (ending_of result)
+    pub stays : Stays from.word dst dst2
+    pub counted : SpotCounts (λ how k. MemberFails how ms vs k) from (members_flat ms) (all_places vs) result
+    pub moved : Moves seen moves before.guest after.guest (ending_of result)
+    pub same : SameBut before after
+
+  -- the fields of a record that has this place, with their names
+  pub record FieldsLowerTo (place : ℕ) (ms : Members) (names : List Name) (vs : List Val) : Type 0 where
+    pub lowered : MembersLowered (moment_of seen before) (moment_of seen after) (encoding_by before options) ms from.word (λ ts. (names ≡ member_names ms) × HaveTrees ms vs ts) dst2 (ending_of result)
+    pub stays : Stays from.word dst dst2
+    pub counted : FieldsSpotCount place ms names vs from result
+    pub moved : Moves seen moves before.guest after.guest (ending_of result)
+    pub same : SameBut before after
+
+  -- values of one type in a row
+  pub record RowLowersTo (s : Shape) (vs : List Val) : Type 0 where
+    pub lowered : RowLowered (moment_of seen before) (moment_of seen after) (encoding_by before options) s from.word (EachHas (λ v t. HasTree s v t) vs) dst2 (ending_of result)
+    pub stays : Stays from.word dst dst2
+    pub counted : SpotCounts (λ how k. SomeFails (λ v i. FailsAt how s v i) vs k) from (length vs * flat s) (all_places vs) result
+    pub moved : Moves seen moves before.guest after.guest (ending_of result)
+    pub same : SameBut before after

@@ -2,11 +2,13 @@
 #![tactic(auto)]
 
 mod args;
+mod blocks;
 mod built;
 mod component;
 mod context;
 mod core_data;
 mod fault;
+mod fuel;
 pub mod laws;
 mod lift;
 mod load;

@@ -1,20 +1,27 @@
-ghost use Rattle.std.specs.Prelude.{◌≡◌, ◌≤◌, ◌<◌, ◌+◌, All, IfErr, IfSome, IsNone, length};
+ghost use Rattle.std.specs.Prelude.{◌≡◌, ◌≤◌, ◌<◌, ◌+◌, ◌*◌, ◌^◌, ◌∷◌, [], IfErr, IfSome, IsNone, length};
 ghost use Rattle.canon_lowering.specs.Args.{ArgsLowering, Lowered};
 ghost use Rattle.canon_model.specs.Flat.{max_params};
 ghost use Rattle.canon_model.specs.Layout.{flat, members_flat};
-ghost use Rattle.canon_model.specs.Shape.{member_count};
-ghost use Rattle.canon_table.specs.Keeps.{field_members, fields_type};
-ghost use Rattle.canon_table.specs.Table.{HasTuple, Knows, members_of, parts, plain_shape, shape_of, tuple_members};
+ghost use Rattle.canon_model.specs.Shape.{member_count, string};
+ghost use Rattle.canon_table.specs.Depth.{product_members};
+ghost use Rattle.canon_table.specs.Table.{HasTuple, Knows, plain_shape, shape_of, tuple_members};
+ghost use Rattle.canon_table.specs.Table.{types_of as member_types};
 ghost use Rattle.canon_value.specs.Built.{AreBuilt, IsBuilt, IsScalarType};
 ghost use Rattle.canon_value.specs.Core.{encoding_by, moment_of, types_of};
 ghost use Rattle.canon_value.specs.Fails.{BlamesMembers, BlamesValue};
 ghost use Rattle.canon_value.specs.Lowers.{ending_of};
+ghost use Rattle.canon_value.specs.Moves.{Moves};
+ghost use Rattle.canon_value.specs.Stores.{SameBut};
 ghost use Rattle.canon_value.specs.Value.{HasTree, HaveTrees, names_in, values_in};
-ghost use Rattle.canon_value.specs.Words.{FieldsLowerTo, IsNoneOf, IsWordOf, LowersTo, MembersLowerTo, inside};
+ghost use Rattle.canon_value.specs.Words.{FieldsLowerTo, IsNoneOf, IsWordOf, LowersTo, MembersLowerTo, Puts, RowLowersTo, inside};
 
+use crate::blocks::{Placed, place_text};
+use crate::store::place_list;
 use crate::{Fault, LowerContext, Val};
 use canon_memory::{Guest, ValRaw};
-use canon_table::{ComponentTypes, InterfaceType, RecordField, TypeRecordIndex, TypeTupleIndex};
+use canon_table::{
+    InterfaceType, TypeFixedLengthListIndex, TypeListIndex, TypeRecordIndex, TypeTupleIndex,
+};
 
 /// Where a value stands: its first word, and its place among the values.
 #[derive(Clone, Copy)]
@@ -37,7 +44,8 @@ impl Spot {
 
 impl Val {
     /// Lowers the value into the words of its type (CanonicalABI.md, "lower_flat"). Answers `TypeMismatch`,
-    /// `LengthMismatch` or `FieldName` where the value isn't of the type. At an error `dst` may have changed.
+    /// `LengthMismatch` or `FieldName` where the value isn't of the type, `StringTooLong` or `SizeOverflow` where a block would
+    /// be too large, and the faults of `LowerContext::realloc`. At an error `dst` and the blocks may have changed.
     pub fn lower<T, G: Guest>(
         &self,
         cx: &mut LowerContext<'_, T, G>,
@@ -50,12 +58,13 @@ impl Val {
         ensures lowered { Lowered (moment_of G.seen cx.old.core.now) (moment_of G.seen cx.new.core.now) (encoding_by cx.old.core.now cx.old.options)
             (shape_of (types_of cx.old.core.now) ty) (HasTree (shape_of (types_of cx.old.core.now) ty) self.now) dst.new (ending_of result) }
         ensures cause { IfErr result (BlamesValue (shape_of (types_of cx.old.core.now) ty) self.now) }
-        ensures same_core { cx.new.core.now ≡ cx.old.core.now }
+        ensures moves { Moves G.seen G.moves cx.old.core.now.guest cx.new.core.now.guest (ending_of result) }
+        ensures same_core { SameBut cx.old.core.now cx.new.core.now }
         ensures same_reference { cx.new.core.ghost_name ≡ cx.old.core.ghost_name }
         ensures same_options { cx.new.options ≡ cx.old.options }
     {
         let _memory = cx.core.memory();
-        match lower_value(cx.types(), self, &ty, dst, Spot { word: 0, place: 0 }) {
+        match lower_value(cx, self, ty, dst, Spot { word: 0, place: 0 }) {
             Ok(_) => Ok(()),
             Err(fault) => Err(fault),
         }
@@ -63,7 +72,7 @@ impl Val {
 }
 
 /// Lowers a function's parameters into words in a row (CanonicalABI.md, "lower_flat_values"), up to MAX_FLAT_PARAMS words.
-/// At an error `dst` may have changed.
+/// At an error `dst` and the blocks may have changed.
 pub(crate) fn lower_args_near<T, G: Guest>(
     cx: &mut LowerContext<'_, T, G>,
     args: &[Val],
@@ -78,14 +87,13 @@ pub(crate) fn lower_args_near<T, G: Guest>(
     ensures lowered { ArgsLowering (moment_of G.seen cx.old.core.now) (moment_of G.seen cx.new.core.now) (encoding_by cx.old.core.now cx.old.options)
         (tuple_members (types_of cx.old.core.now) ty) (HaveTrees (tuple_members (types_of cx.old.core.now) ty) args.now) dst.new (ending_of result) }
     ensures cause { IfErr result (BlamesMembers (tuple_members (types_of cx.old.core.now) ty) args.now) }
-    ensures same_core { cx.new.core.now ≡ cx.old.core.now }
+    ensures moves { Moves G.seen G.moves cx.old.core.now.guest cx.new.core.now.guest (ending_of result) }
+    ensures same_core { SameBut cx.old.core.now cx.new.core.now }
     ensures same_reference { cx.new.core.ghost_name ≡ cx.old.core.ghost_name }
     ensures same_options { cx.new.options ≡ cx.old.options }
 {
     let _memory = cx.core.memory();
-    let types = cx.types();
-    let members = &types.tuple(ty).types;
-    match lower_members(types, args, members, dst, Spot { word: 0, place: 0 }) {
+    match lower_members(cx, args, ty, dst, Spot { word: 0, place: 0 }) {
         Ok(_) => Ok(()),
         Err(fault) => Err(fault),
     }
@@ -93,36 +101,46 @@ pub(crate) fn lower_args_near<T, G: Guest>(
 
 /// Lowers a value into words from a spot on, and answers where the next one stands.
 #[cycle(lower)]
-fn lower_value(
-    types: &ComponentTypes,
+fn lower_value<T, G: Guest>(
+    cx: &mut LowerContext<'_, T, G>,
     value: &Val,
-    ty: &InterfaceType,
+    ty: InterfaceType,
     dst: &mut [ValRaw],
     from: Spot,
 ) -> Result<Spot, Fault>
-    requires known { Knows types.now ty.now }
-    requires built { IsBuilt (shape_of types.now ty.now) }
-    requires room { from.word + flat (shape_of types.now ty.now) ≤ length dst.old }
-    ensures { LowersTo (shape_of types.now ty.now) value.now dst.old dst.new from result }
+    requires known { Knows (types_of cx.old.core.now) ty }
+    requires built { IsBuilt (shape_of (types_of cx.old.core.now) ty) }
+    requires small { length cx.old.core.now.memory ≤ 2 ^ 32 }
+    requires room { from.word + flat (shape_of (types_of cx.old.core.now) ty) ≤ length dst.old }
+    ensures lowers { LowersTo G.seen G.moves cx.old.options cx.old.core.now cx.new.core.now dst.old dst.new from result (shape_of (types_of cx.old.core.now) ty) value.now }
+    ensures same_reference { cx.new.core.ghost_name ≡ cx.old.core.ghost_name }
+    ensures same_options { cx.new.options ≡ cx.old.options }
 {
     match ty {
-        InterfaceType::Record(i) => lower_record(types, value, *i, dst, from),
-        InterfaceType::Tuple(i) => lower_tuple(types, value, *i, dst, from),
-        _ => lower_scalar(value, ty, dst, from),
+        InterfaceType::Record(i) => lower_record(cx, value, i, dst, from),
+        InterfaceType::Tuple(i) => lower_tuple(cx, value, i, dst, from),
+        InterfaceType::String => lower_text(cx, value, dst, from),
+        InterfaceType::List(i) => lower_list(cx, value, i, dst, from),
+        InterfaceType::FixedLengthList(i) => lower_fixed(cx, value, i, dst, from),
+        _ => lower_scalar(cx, value, ty, dst, from),
     }
 }
 
-fn lower_scalar(
+fn lower_scalar<T, G: Guest>(
+    cx: &mut LowerContext<'_, T, G>,
     value: &Val,
-    ty: &InterfaceType,
+    ty: InterfaceType,
     dst: &mut [ValRaw],
     from: Spot,
 ) -> Result<Spot, Fault>
-    requires scalar { IsScalarType ty.now }
+    requires scalar { IsScalarType ty }
+    requires small { length cx.old.core.now.memory ≤ 2 ^ 32 }
     requires room { from.word < length dst.old }
-    ensures { LowersTo (plain_shape ty.now) value.now dst.old dst.new from result }
+    ensures lowers { LowersTo G.seen G.moves cx.old.options cx.old.core.now cx.new.core.now dst.old dst.new from result (plain_shape ty) value.now }
+    ensures same_reference { cx.new.core.ghost_name ≡ cx.old.core.ghost_name }
+    ensures same_options { cx.new.options ≡ cx.old.options }
 {
-    match scalar_word(value, ty) {
+    match scalar_word(value, &ty) {
         Some(word) => {
             dst[from.word] = word;
             Ok(Spot {
@@ -158,51 +176,59 @@ pub(crate) fn scalar_word(value: &Val, ty: &InterfaceType) -> Option<ValRaw>
 }
 
 #[cycle(lower)]
-fn lower_record(
-    types: &ComponentTypes,
+fn lower_record<T, G: Guest>(
+    cx: &mut LowerContext<'_, T, G>,
     value: &Val,
     i: TypeRecordIndex,
     dst: &mut [ValRaw],
     from: Spot,
 ) -> Result<Spot, Fault>
-    requires known { Knows types.now (InterfaceType.Record i) }
-    requires built { IsBuilt (shape_of types.now (InterfaceType.Record i)) }
-    requires room { from.word + flat (shape_of types.now (InterfaceType.Record i)) ≤ length dst.old }
-    ensures { LowersTo (shape_of types.now (InterfaceType.Record i)) value.now dst.old dst.new from result }
+    requires known { Knows (types_of cx.old.core.now) (InterfaceType.Record i) }
+    requires built { IsBuilt (shape_of (types_of cx.old.core.now) (InterfaceType.Record i)) }
+    requires small { length cx.old.core.now.memory ≤ 2 ^ 32 }
+    requires room { from.word + flat (shape_of (types_of cx.old.core.now) (InterfaceType.Record i)) ≤ length dst.old }
+    ensures lowers { LowersTo G.seen G.moves cx.old.options cx.old.core.now cx.new.core.now dst.old dst.new from result (shape_of (types_of cx.old.core.now) (InterfaceType.Record i)) value.now }
+    ensures same_reference { cx.new.core.ghost_name ≡ cx.old.core.ghost_name }
+    ensures same_options { cx.new.options ≡ cx.old.options }
 {
-    let fields = &types.record(i).fields;
+    let count = cx.types().record(i).fields.len();
     let Val::Record(values) = value else {
         return Err(Fault::TypeMismatch(from.place));
     };
-    if values.len() != fields.len() {
+    if values.len() != count {
         return Err(Fault::LengthMismatch(from.place));
     }
-    lower_fields(types, values, fields, dst, from)
+    lower_fields(cx, values, i, dst, from)
 }
 
 /// Lowers the fields of a record that stands at a spot. The name of each is tested just before it.
 #[cycle(lower)]
-fn lower_fields(
-    types: &ComponentTypes,
+fn lower_fields<T, G: Guest>(
+    cx: &mut LowerContext<'_, T, G>,
     values: &[(String, Val)],
-    fields: &[RecordField],
+    i: TypeRecordIndex,
     dst: &mut [ValRaw],
     from: Spot,
 ) -> Result<Spot, Fault>
-    requires known { All (Knows types.now) (parts (fields_type fields.now)) }
-    requires built { AreBuilt (field_members types.now fields.now) }
-    requires count { length values.now ≡ length fields.now }
-    requires room { from.word + members_flat (field_members types.now fields.now) ≤ length dst.old }
-    ensures { FieldsLowerTo from.place (field_members types.now fields.now) (names_in values.now) (values_in values.now) dst.old dst.new (inside from) result }
+    requires known { Knows (types_of cx.old.core.now) (InterfaceType.Record i) }
+    requires built { AreBuilt (product_members (shape_of (types_of cx.old.core.now) (InterfaceType.Record i))) }
+    requires count { length values.now ≡ member_count (product_members (shape_of (types_of cx.old.core.now) (InterfaceType.Record i))) }
+    requires small { length cx.old.core.now.memory ≤ 2 ^ 32 }
+    requires room { from.word + members_flat (product_members (shape_of (types_of cx.old.core.now) (InterfaceType.Record i))) ≤ length dst.old }
+    ensures lowers { FieldsLowerTo G.seen G.moves cx.old.options cx.old.core.now cx.new.core.now dst.old dst.new (inside from) result from.place
+        (product_members (shape_of (types_of cx.old.core.now) (InterfaceType.Record i))) (names_in values.now) (values_in values.now) }
+    ensures same_reference { cx.new.core.ghost_name ≡ cx.old.core.ghost_name }
+    ensures same_options { cx.new.options ≡ cx.old.options }
 {
     let mut next = from.inside();
-    for i in 0..fields.len() {
-        let field = &fields[i];
-        let (name, value) = &values[i];
+    for k in 0..values.len() {
+        let (name, value) = &values[k];
+        let field = &cx.types().record(i).fields[k];
         if *name != field.name {
             return Err(Fault::FieldName(from.place));
         }
-        match lower_value(types, value, &field.ty, dst, next) {
+        let ty = field.ty;
+        match lower_value(cx, value, ty, dst, next) {
             Ok(after) => next = after,
             Err(fault) => return Err(fault),
         }
@@ -211,46 +237,169 @@ fn lower_fields(
 }
 
 #[cycle(lower)]
-fn lower_tuple(
-    types: &ComponentTypes,
+fn lower_tuple<T, G: Guest>(
+    cx: &mut LowerContext<'_, T, G>,
     value: &Val,
     i: TypeTupleIndex,
     dst: &mut [ValRaw],
     from: Spot,
 ) -> Result<Spot, Fault>
-    requires known { Knows types.now (InterfaceType.Tuple i) }
-    requires built { IsBuilt (shape_of types.now (InterfaceType.Tuple i)) }
-    requires room { from.word + flat (shape_of types.now (InterfaceType.Tuple i)) ≤ length dst.old }
-    ensures { LowersTo (shape_of types.now (InterfaceType.Tuple i)) value.now dst.old dst.new from result }
+    requires known { Knows (types_of cx.old.core.now) (InterfaceType.Tuple i) }
+    requires built { IsBuilt (shape_of (types_of cx.old.core.now) (InterfaceType.Tuple i)) }
+    requires small { length cx.old.core.now.memory ≤ 2 ^ 32 }
+    requires room { from.word + flat (shape_of (types_of cx.old.core.now) (InterfaceType.Tuple i)) ≤ length dst.old }
+    ensures lowers { LowersTo G.seen G.moves cx.old.options cx.old.core.now cx.new.core.now dst.old dst.new from result (shape_of (types_of cx.old.core.now) (InterfaceType.Tuple i)) value.now }
+    ensures same_reference { cx.new.core.ghost_name ≡ cx.old.core.ghost_name }
+    ensures same_options { cx.new.options ≡ cx.old.options }
 {
-    let members = &types.tuple(i).types;
+    let count = cx.types().tuple(i).types.len();
     let Val::Tuple(values) = value else {
         return Err(Fault::TypeMismatch(from.place));
     };
-    if values.len() != members.len() {
+    if values.len() != count {
         return Err(Fault::LengthMismatch(from.place));
     }
-    lower_members(types, values, members, dst, from.inside())
+    lower_members(cx, values, i, dst, from.inside())
 }
 
 /// Lowers values in a row, as a tuple's members or a function's parameters.
 #[cycle(lower)]
-fn lower_members(
-    types: &ComponentTypes,
+fn lower_members<T, G: Guest>(
+    cx: &mut LowerContext<'_, T, G>,
     values: &[Val],
-    members: &[InterfaceType],
+    i: TypeTupleIndex,
     dst: &mut [ValRaw],
     from: Spot,
 ) -> Result<Spot, Fault>
-    requires known { All (Knows types.now) members.now }
-    requires built { AreBuilt (members_of types.now members.now) }
-    requires count { length values.now ≡ length members.now }
-    requires room { from.word + members_flat (members_of types.now members.now) ≤ length dst.old }
-    ensures { MembersLowerTo (members_of types.now members.now) values.now dst.old dst.new from result }
+    requires known { HasTuple (types_of cx.old.core.now) i }
+    requires built { AreBuilt (tuple_members (types_of cx.old.core.now) i) }
+    requires count { length values.now ≡ length (member_types (types_of cx.old.core.now) i) }
+    requires small { length cx.old.core.now.memory ≤ 2 ^ 32 }
+    requires room { from.word + members_flat (tuple_members (types_of cx.old.core.now) i) ≤ length dst.old }
+    ensures lowers { MembersLowerTo G.seen G.moves cx.old.options cx.old.core.now cx.new.core.now dst.old dst.new from result (tuple_members (types_of cx.old.core.now) i) values.now }
+    ensures same_reference { cx.new.core.ghost_name ≡ cx.old.core.ghost_name }
+    ensures same_options { cx.new.options ≡ cx.old.options }
 {
     let mut next = from;
-    for i in 0..members.len() {
-        match lower_value(types, &values[i], &members[i], dst, next) {
+    for k in 0..values.len() {
+        let ty = cx.types().tuple(i).types[k];
+        match lower_value(cx, &values[k], ty, dst, next) {
+            Ok(after) => next = after,
+            Err(fault) => return Err(fault),
+        }
+    }
+    Ok(next)
+}
+
+fn lower_text<T, G: Guest>(
+    cx: &mut LowerContext<'_, T, G>,
+    value: &Val,
+    dst: &mut [ValRaw],
+    from: Spot,
+) -> Result<Spot, Fault>
+    requires small { length cx.old.core.now.memory ≤ 2 ^ 32 }
+    requires room { from.word + 2 ≤ length dst.old }
+    ensures lowers { LowersTo G.seen G.moves cx.old.options cx.old.core.now cx.new.core.now dst.old dst.new from result string value.now }
+    ensures same_reference { cx.new.core.ghost_name ≡ cx.old.core.ghost_name }
+    ensures same_options { cx.new.options ≡ cx.old.options }
+{
+    let Val::String(text) = value else {
+        return Err(Fault::TypeMismatch(from.place));
+    };
+    match place_text(cx, text, from.place) {
+        Ok(block) => Ok(put_words(dst, from, block)),
+        Err(fault) => Err(fault),
+    }
+}
+
+/// Writes the pointer and the length of a block from a spot on.
+fn put_words(dst: &mut [ValRaw], from: Spot, block: Placed) -> Spot
+    requires narrow { block.pointer < 2 ^ 32 }
+    requires narrow_length { block.length < 2 ^ 32 }
+    requires room { from.word + 2 ≤ length dst.old }
+    ensures puts { Puts from.word (block.pointer ∷ block.length ∷ []) dst.old dst.new }
+    ensures spot { result ≡ record { word = from.word + 2; place = block.next } }
+{
+    dst[from.word] = ValRaw::u32(block.pointer as u32);
+    dst[from.word + 1] = ValRaw::u32(block.length as u32);
+    Spot {
+        word: from.word + 2,
+        place: block.next,
+    }
+}
+
+fn lower_list<T, G: Guest>(
+    cx: &mut LowerContext<'_, T, G>,
+    value: &Val,
+    i: TypeListIndex,
+    dst: &mut [ValRaw],
+    from: Spot,
+) -> Result<Spot, Fault>
+    requires known { Knows (types_of cx.old.core.now) (InterfaceType.List i) }
+    requires built { IsBuilt (shape_of (types_of cx.old.core.now) (InterfaceType.List i)) }
+    requires small { length cx.old.core.now.memory ≤ 2 ^ 32 }
+    requires room { from.word + flat (shape_of (types_of cx.old.core.now) (InterfaceType.List i)) ≤ length dst.old }
+    ensures lowers { LowersTo G.seen G.moves cx.old.options cx.old.core.now cx.new.core.now dst.old dst.new from result (shape_of (types_of cx.old.core.now) (InterfaceType.List i)) value.now }
+    ensures same_reference { cx.new.core.ghost_name ≡ cx.old.core.ghost_name }
+    ensures same_options { cx.new.options ≡ cx.old.options }
+{
+    let element = cx.types().list(i).element;
+    let Val::List(items) = value else {
+        return Err(Fault::TypeMismatch(from.place));
+    };
+    match place_list(cx, items, &element, from.place) {
+        Ok(block) => Ok(put_words(dst, from, block)),
+        Err(fault) => Err(fault),
+    }
+}
+
+#[cycle(lower)]
+fn lower_fixed<T, G: Guest>(
+    cx: &mut LowerContext<'_, T, G>,
+    value: &Val,
+    i: TypeFixedLengthListIndex,
+    dst: &mut [ValRaw],
+    from: Spot,
+) -> Result<Spot, Fault>
+    requires known { Knows (types_of cx.old.core.now) (InterfaceType.FixedLengthList i) }
+    requires built { IsBuilt (shape_of (types_of cx.old.core.now) (InterfaceType.FixedLengthList i)) }
+    requires small { length cx.old.core.now.memory ≤ 2 ^ 32 }
+    requires room { from.word + flat (shape_of (types_of cx.old.core.now) (InterfaceType.FixedLengthList i)) ≤ length dst.old }
+    ensures lowers { LowersTo G.seen G.moves cx.old.options cx.old.core.now cx.new.core.now dst.old dst.new from result (shape_of (types_of cx.old.core.now) (InterfaceType.FixedLengthList i)) value.now }
+    ensures same_reference { cx.new.core.ghost_name ≡ cx.old.core.ghost_name }
+    ensures same_options { cx.new.options ≡ cx.old.options }
+{
+    let list = cx.types().fixed_length_list(i);
+    let (element, count) = (list.element, list.size);
+    let Val::FixedLengthList(values) = value else {
+        return Err(Fault::TypeMismatch(from.place));
+    };
+    if values.len() as u64 != u64::from(count) {
+        return Err(Fault::LengthMismatch(from.place));
+    }
+    lower_row(cx, values, &element, dst, from.inside())
+}
+
+/// Lowers values of one type in a row.
+#[cycle(lower)]
+fn lower_row<T, G: Guest>(
+    cx: &mut LowerContext<'_, T, G>,
+    values: &[Val],
+    element: &InterfaceType,
+    dst: &mut [ValRaw],
+    from: Spot,
+) -> Result<Spot, Fault>
+    requires known { Knows (types_of cx.old.core.now) element.now }
+    requires built { IsBuilt (shape_of (types_of cx.old.core.now) element.now) }
+    requires small { length cx.old.core.now.memory ≤ 2 ^ 32 }
+    requires room { from.word + length values.now * flat (shape_of (types_of cx.old.core.now) element.now) ≤ length dst.old }
+    ensures lowers { RowLowersTo G.seen G.moves cx.old.options cx.old.core.now cx.new.core.now dst.old dst.new from result (shape_of (types_of cx.old.core.now) element.now) values.now }
+    ensures same_reference { cx.new.core.ghost_name ≡ cx.old.core.ghost_name }
+    ensures same_options { cx.new.options ≡ cx.old.options }
+{
+    let mut next = from;
+    for k in 0..values.len() {
+        match lower_value(cx, &values[k], *element, dst, next) {
             Ok(after) => next = after,
             Err(fault) => return Err(fault),
         }

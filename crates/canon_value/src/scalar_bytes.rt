@@ -1,6 +1,6 @@
 //! Scalars in memory.
 
-ghost use Rattle.std.specs.Prelude.{◌≡◌, ◌≤◌, ◌+◌, IfErr, IfOk, Some, length};
+ghost use Rattle.std.specs.Prelude.{ℕ, ◌≡◌, ◌≤◌, ◌+◌, IfErr, IfOk, Some, length};
 ghost use Rattle.canon_model.specs.Layout.{scalar_size};
 ghost use Rattle.canon_model.specs.Memory.{num};
 ghost use Rattle.canon_model.specs.Reach.{StoredFault};
@@ -8,7 +8,7 @@ ghost use Rattle.canon_model.specs.Shape.{Scalar, scalar};
 ghost use Rattle.canon_model.specs.Text.{Encoding};
 ghost use Rattle.canon_value.specs.Built.{IsScalarType, scalar_type};
 ghost use Rattle.canon_lowering.specs.Storing.{narrow};
-ghost use Rattle.canon_value.specs.Loads.{IsLoaded, LiftBlames};
+ghost use Rattle.canon_value.specs.Loads.{Exactly, IsLoaded, LiftBlames};
 
 use crate::{At, Fault, Val};
 use canon_table::InterfaceType;
@@ -18,8 +18,8 @@ use canon_table::InterfaceType;
 pub(crate) fn load_scalar(memory: &[u8], ty: &InterfaceType, at: u64) -> Result<Val, Fault>
     requires scalar { IsScalarType ty.now }
     requires inside { (k : Scalar) → scalar_type ty.now ≡ Some k → at + scalar_size k ≤ length memory.now }
-    ensures ok { (k : Scalar) (enc : Encoding) → scalar_type ty.now ≡ Some k → IfOk result (λ v. IsLoaded enc (narrow memory.now) (scalar k) at v) }
-    ensures err { (k : Scalar) (enc : Encoding) → scalar_type ty.now ≡ Some k → IfErr result (λ e. LiftBlames (λ j x. StoredFault enc (narrow memory.now) (scalar k) at j x) e) }
+    ensures ok { (k : Scalar) (enc : Encoding) (fuel : ℕ) → scalar_type ty.now ≡ Some k → IfOk result (IsLoaded enc (narrow memory.now) (scalar k) at fuel fuel) }
+    ensures err { (k : Scalar) (enc : Encoding) (Low : Type 0) → scalar_type ty.now ≡ Some k → IfErr result (LiftBlames (Exactly (StoredFault enc (narrow memory.now) (scalar k) at)) Low) }
     ensures only_char { IfErr result (λ e. e ≡ Fault.InvalidChar (At.Address at)) }
 {
     match ty {
@@ -62,7 +62,7 @@ fn load_u16(memory: &[u8], at: u64) -> u16
 }
 
 /// The number in the 4 bytes at an address.
-fn load_u32(memory: &[u8], at: u64) -> u32
+pub(crate) fn load_u32(memory: &[u8], at: u64) -> u32
     requires { at + 4 ≤ length memory.now }
     ensures { result ≡ num (narrow memory.now) at 4 }
 {

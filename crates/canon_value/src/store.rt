@@ -1,10 +1,10 @@
-ghost use Rattle.std.specs.Prelude.{◌≡◌, ◌≤◌, ◌<◌, ◌+◌, ◌%◌, ◌^◌, false, IfErr, length};
+ghost use Rattle.std.specs.Prelude.{◌≡◌, ◌≤◌, ◌<◌, ◌+◌, ◌*◌, ◌%◌, ◌^◌, false, IfErr, length};
 ghost use Rattle.canon_lowering.specs.Steps.{Writes};
-ghost use Rattle.canon_lowering.specs.Storing.{Storing, narrow};
+ghost use Rattle.canon_lowering.specs.Storing.{IsPair, Storing, narrow};
 ghost use Rattle.canon_memory.specs.Realloc.{block};
 ghost use Rattle.canon_model.specs.Layout.{align, members_end, size};
 ghost use Rattle.canon_model.specs.Memory.{num};
-ghost use Rattle.canon_model.specs.Shape.{member_count};
+ghost use Rattle.canon_model.specs.Shape.{list, member_count, of_items, string};
 ghost use Rattle.canon_table.specs.Depth.{product_members};
 ghost use Rattle.canon_table.specs.Table.{HasTuple, Knows, shape_of, tuple_members, types_of as member_types};
 ghost use Rattle.canon_value.specs.Built.{AreBuilt, IsBuilt, IsScalarType};
@@ -12,17 +12,22 @@ ghost use Rattle.canon_value.specs.Core.{encoding_by, moment_of, types_of};
 ghost use Rattle.canon_value.specs.Fails.{BlamesValue};
 ghost use Rattle.canon_value.specs.Lowers.{ending_of};
 ghost use Rattle.canon_value.specs.Moves.{Moves};
-ghost use Rattle.canon_value.specs.Stores.{FieldsStoreTo, MembersStoreTo, SameBut, StoresTo};
+ghost use Rattle.canon_value.specs.Stores.{FieldsStoreTo, MembersStoreTo, PlacesTo, RowStoresTo, SameBut, StoresTo};
+ghost use Rattle.canon_value.specs.declared.val.Val.TheVariants as val;
 ghost use Rattle.canon_value.specs.Value.{HasTree, cap, names_in, values_in};
 
+use crate::blocks::{Placed, block_size, place_text};
 use crate::lower::scalar_word;
 use crate::{Fault, LowerContext, Val};
 use canon_memory::Guest;
-use canon_table::{InterfaceType, TypeRecordIndex, TypeTupleIndex};
+use canon_table::{
+    InterfaceType, TypeFixedLengthListIndex, TypeListIndex, TypeRecordIndex, TypeTupleIndex,
+};
 
 impl Val {
     /// Stores the value at an address of the guest's memory (CanonicalABI.md, "store"). Answers `TypeMismatch`,
-    /// `LengthMismatch` or `FieldName` where the value isn't of the type. At an error its place may have changed.
+    /// `LengthMismatch` or `FieldName` where the value isn't of the type, `StringTooLong` or `SizeOverflow` where a block would
+    /// be too large, and the faults of `LowerContext::realloc`. At an error its place and its blocks may have changed.
     pub fn store<T, G: Guest>(
         &self,
         cx: &mut LowerContext<'_, T, G>,
@@ -51,7 +56,7 @@ impl Val {
 
 /// Stores a value that has this place among the values, and answers the next one's place.
 #[cycle(store)]
-fn store_value<T, G: Guest>(
+pub(crate) fn store_value<T, G: Guest>(
     cx: &mut LowerContext<'_, T, G>,
     value: &Val,
     ty: InterfaceType,
@@ -69,8 +74,133 @@ fn store_value<T, G: Guest>(
     match ty {
         InterfaceType::Record(i) => store_record(cx, value, i, at, place),
         InterfaceType::Tuple(i) => store_tuple(cx, value, i, at, place),
+        InterfaceType::String => store_text(cx, value, at, place),
+        InterfaceType::List(i) => store_list(cx, value, i, at, place),
+        InterfaceType::FixedLengthList(i) => store_fixed(cx, value, i, at, place),
         _ => store_scalar(cx, value, ty, at, place),
     }
+}
+
+fn store_text<T, G: Guest>(
+    cx: &mut LowerContext<'_, T, G>,
+    value: &Val,
+    at: u64,
+    place: u64,
+) -> Result<u64, Fault>
+    requires small { length cx.old.core.now.memory ≤ 2 ^ 32 }
+    requires room { at + 8 ≤ length cx.old.core.now.memory }
+    ensures stores { StoresTo G.seen G.moves cx.old.options cx.old.core.now cx.new.core.now string at value.now place result }
+    ensures same_reference { cx.new.core.ghost_name ≡ cx.old.core.ghost_name }
+    ensures same_options { cx.new.options ≡ cx.old.options }
+{
+    let Val::String(text) = value else {
+        return Err(Fault::TypeMismatch(place));
+    };
+    match place_text(cx, text, place) {
+        Ok(block) => {
+            put_pair(cx.core.as_slice_mut(), at, block.pointer, block.length);
+            Ok(block.next)
+        }
+        Err(fault) => Err(fault),
+    }
+}
+
+#[cycle(store)]
+fn store_list<T, G: Guest>(
+    cx: &mut LowerContext<'_, T, G>,
+    value: &Val,
+    i: TypeListIndex,
+    at: u64,
+    place: u64,
+) -> Result<u64, Fault>
+    requires known { Knows (types_of cx.old.core.now) (InterfaceType.List i) }
+    requires built { IsBuilt (shape_of (types_of cx.old.core.now) (InterfaceType.List i)) }
+    requires small { length cx.old.core.now.memory ≤ 2 ^ 32 }
+    requires room { at + 8 ≤ length cx.old.core.now.memory }
+    ensures stores { StoresTo G.seen G.moves cx.old.options cx.old.core.now cx.new.core.now (shape_of (types_of cx.old.core.now) (InterfaceType.List i)) at value.now place result }
+    ensures same_reference { cx.new.core.ghost_name ≡ cx.old.core.ghost_name }
+    ensures same_options { cx.new.options ≡ cx.old.options }
+{
+    let element = cx.types().list(i).element;
+    let Val::List(items) = value else {
+        return Err(Fault::TypeMismatch(place));
+    };
+    match place_list(cx, items, &element, place) {
+        Ok(block) => {
+            put_pair(cx.core.as_slice_mut(), at, block.pointer, block.length);
+            Ok(block.next)
+        }
+        Err(fault) => Err(fault),
+    }
+}
+
+/// Asks for the block of a list that has this place, and stores its items there (CanonicalABI.md, "store_list").
+#[cycle(store)]
+pub(crate) fn place_list<T, G: Guest>(
+    cx: &mut LowerContext<'_, T, G>,
+    items: &Vec<Val>,
+    element: &InterfaceType,
+    place: u64,
+) -> Result<Placed, Fault>
+    requires known { Knows (types_of cx.old.core.now) element.now }
+    requires built { IsBuilt (shape_of (types_of cx.old.core.now) element.now) }
+    requires small { length cx.old.core.now.memory ≤ 2 ^ 32 }
+    ensures places { PlacesTo G.seen G.moves cx.old.options cx.old.core.now cx.new.core.now (list of_items (shape_of (types_of cx.old.core.now) element.now)) (val.List items.now) place result }
+    ensures same_reference { cx.new.core.ghost_name ≡ cx.old.core.ghost_name }
+    ensures same_options { cx.new.options ≡ cx.old.options }
+{
+    let abi = *cx.types().canonical_abi(element);
+    let length = items.len() as u64;
+    let Some(bytes) = block_size(length, abi.size32) else {
+        return Err(Fault::SizeOverflow(length));
+    };
+    let pointer = cx.realloc(0, 0, abi.align32, bytes)?;
+    match store_row(cx, items, element, pointer, place.saturating_add(1)) {
+        Ok(next) => Ok(Placed {
+            pointer,
+            length,
+            next,
+        }),
+        Err(fault) => Err(fault),
+    }
+}
+
+/// Writes a pointer and the length after it.
+fn put_pair(memory: &mut [u8], at: u64, pointer: u64, length: u64)
+    requires narrow { pointer < 2 ^ 32 }
+    requires narrow_length { length < 2 ^ 32 }
+    requires room { at + 8 ≤ length memory.old }
+    ensures { IsPair memory.old memory.new at pointer length }
+{
+    put_low_bytes(memory, at, pointer, 4);
+    put_low_bytes(memory, at + 4, length, 4);
+}
+
+#[cycle(store)]
+fn store_fixed<T, G: Guest>(
+    cx: &mut LowerContext<'_, T, G>,
+    value: &Val,
+    i: TypeFixedLengthListIndex,
+    at: u64,
+    place: u64,
+) -> Result<u64, Fault>
+    requires known { Knows (types_of cx.old.core.now) (InterfaceType.FixedLengthList i) }
+    requires built { IsBuilt (shape_of (types_of cx.old.core.now) (InterfaceType.FixedLengthList i)) }
+    requires small { length cx.old.core.now.memory ≤ 2 ^ 32 }
+    requires room { at + size false (shape_of (types_of cx.old.core.now) (InterfaceType.FixedLengthList i)) ≤ length cx.old.core.now.memory }
+    ensures stores { StoresTo G.seen G.moves cx.old.options cx.old.core.now cx.new.core.now (shape_of (types_of cx.old.core.now) (InterfaceType.FixedLengthList i)) at value.now place result }
+    ensures same_reference { cx.new.core.ghost_name ≡ cx.old.core.ghost_name }
+    ensures same_options { cx.new.options ≡ cx.old.options }
+{
+    let list = cx.types().fixed_length_list(i);
+    let (element, count) = (list.element, list.size);
+    let Val::FixedLengthList(values) = value else {
+        return Err(Fault::TypeMismatch(place));
+    };
+    if values.len() as u64 != u64::from(count) {
+        return Err(Fault::LengthMismatch(place));
+    }
+    store_row(cx, values, &element, at, place.saturating_add(1))
 }
 
 fn store_scalar<T, G: Guest>(
@@ -224,6 +354,34 @@ pub(crate) fn store_members<T, G: Guest>(
         let ty = types.tuple(i).types[k];
         let start = types.canonical_abi(&ty).next_field32_size(&mut end);
         match store_value(cx, &values[k], ty, at + start, next) {
+            Ok(after) => next = after,
+            Err(fault) => return Err(fault),
+        }
+    }
+    Ok(next)
+}
+
+/// Stores values of one type in a row from an address on. The first place is that of the first value.
+#[cycle(store)]
+pub(crate) fn store_row<T, G: Guest>(
+    cx: &mut LowerContext<'_, T, G>,
+    values: &[Val],
+    element: &InterfaceType,
+    at: u64,
+    place: u64,
+) -> Result<u64, Fault>
+    requires known { Knows (types_of cx.old.core.now) element.now }
+    requires built { IsBuilt (shape_of (types_of cx.old.core.now) element.now) }
+    requires small { length cx.old.core.now.memory ≤ 2 ^ 32 }
+    requires room { at + length values.now * size false (shape_of (types_of cx.old.core.now) element.now) ≤ length cx.old.core.now.memory }
+    ensures stores { RowStoresTo G.seen G.moves cx.old.options cx.old.core.now cx.new.core.now (shape_of (types_of cx.old.core.now) element.now) at values.now place result }
+    ensures same_reference { cx.new.core.ghost_name ≡ cx.old.core.ghost_name }
+    ensures same_options { cx.new.options ≡ cx.old.options }
+{
+    let size = u64::from(cx.types().canonical_abi(element).size32);
+    let mut next = place;
+    for k in 0..values.len() {
+        match store_value(cx, &values[k], *element, at + k as u64 * size, next) {
             Ok(after) => next = after,
             Err(fault) => return Err(fault),
         }
