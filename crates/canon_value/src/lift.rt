@@ -49,7 +49,7 @@ impl Val {
     {
         let mut next = at as usize;
         let mut fuel = cx.fuel;
-        let answer = lift_value(alloc, cx.source(), &mut fuel, &ty, src, &mut next);
+        let answer = lift_value(alloc, &cx.source(), &mut fuel, &ty, src, &mut next);
         cx.fuel = fuel;
         answer
     }
@@ -80,7 +80,7 @@ pub(crate) fn lift_results_near<T, G>(
     let members = &source.types.tuple(ty).types;
     let mut next = 0;
     let mut fuel = cx.fuel;
-    let answer = lift_members(alloc, source, &mut fuel, members, src, &mut next);
+    let answer = lift_members(alloc, &source, &mut fuel, members, src, &mut next);
     cx.fuel = fuel;
     answer
 }
@@ -89,16 +89,16 @@ pub(crate) fn lift_results_near<T, G>(
 #[cycle(lift)]
 fn lift_value(
     alloc: Global,
-    source: Source<'_>,
+    source: &Source<'_>,
     fuel: &mut u64,
     ty: &InterfaceType,
     src: &[ValRaw],
     at: &mut usize,
 ) -> Result<Val, Fault>
-    requires known { Knows source.types.now ty.now }
-    requires built { IsBuilt (shape_of source.types.now ty.now) }
-    requires room { at.old + flat (shape_of source.types.now ty.now) ≤ length src.now }
-    ensures lifts { LiftsTo (encoding_of source.encoding) (narrow source.memory.now) src.now at.old at.new fuel.old fuel.new (shape_of source.types.now ty.now) result }
+    requires known { Knows source.now.types.now ty.now }
+    requires built { IsBuilt (shape_of source.now.types.now ty.now) }
+    requires room { at.old + flat (shape_of source.now.types.now ty.now) ≤ length src.now }
+    ensures lifts { LiftsTo (encoding_of source.now.encoding) (narrow source.now.memory.now) src.now at.old at.new fuel.old fuel.new (shape_of source.now.types.now ty.now) result }
     ensures falls { fuel.new ≤ fuel.old }
 {
     match ty {
@@ -168,16 +168,16 @@ fn char_of(word: &ValRaw) -> Option<Val>
 #[cycle(lift)]
 fn lift_record(
     alloc: Global,
-    source: Source<'_>,
+    source: &Source<'_>,
     fuel: &mut u64,
     i: TypeRecordIndex,
     src: &[ValRaw],
     at: &mut usize,
 ) -> Result<Val, Fault>
-    requires known { Knows source.types.now (InterfaceType.Record i) }
-    requires built { IsBuilt (shape_of source.types.now (InterfaceType.Record i)) }
-    requires room { at.old + flat (shape_of source.types.now (InterfaceType.Record i)) ≤ length src.now }
-    ensures lifts { LiftsTo (encoding_of source.encoding) (narrow source.memory.now) src.now at.old at.new fuel.old fuel.new (shape_of source.types.now (InterfaceType.Record i)) result }
+    requires known { Knows source.now.types.now (InterfaceType.Record i) }
+    requires built { IsBuilt (shape_of source.now.types.now (InterfaceType.Record i)) }
+    requires room { at.old + flat (shape_of source.now.types.now (InterfaceType.Record i)) ≤ length src.now }
+    ensures lifts { LiftsTo (encoding_of source.now.encoding) (narrow source.now.memory.now) src.now at.old at.new fuel.old fuel.new (shape_of source.now.types.now (InterfaceType.Record i)) result }
     ensures falls { fuel.new ≤ fuel.old }
 {
     let fields = &source.types.record(i).fields;
@@ -192,16 +192,16 @@ fn lift_record(
 #[cycle(lift)]
 fn lift_fields(
     alloc: Global,
-    source: Source<'_>,
+    source: &Source<'_>,
     fuel: &mut u64,
     fields: &[RecordField],
     src: &[ValRaw],
     at: &mut usize,
 ) -> Result<Vec<(String, Val)>, Fault>
-    requires known { All (Knows source.types.now) (parts (fields_type fields.now)) }
-    requires built { AreBuilt (field_members source.types.now fields.now) }
-    requires room { at.old + members_flat (field_members source.types.now fields.now) ≤ length src.now }
-    ensures lifts { FieldsLiftTo (encoding_of source.encoding) (narrow source.memory.now) src.now at.old at.new fuel.old fuel.new (field_members source.types.now fields.now) result }
+    requires known { All (Knows source.now.types.now) (parts (fields_type fields.now)) }
+    requires built { AreBuilt (field_members source.now.types.now fields.now) }
+    requires room { at.old + members_flat (field_members source.now.types.now fields.now) ≤ length src.now }
+    ensures lifts { FieldsLiftTo (encoding_of source.now.encoding) (narrow source.now.memory.now) src.now at.old at.new fuel.old fuel.new (field_members source.now.types.now fields.now) result }
     ensures falls { fuel.new ≤ fuel.old }
 {
     let mut values = Vec::new(alloc);
@@ -223,16 +223,16 @@ fn lift_fields(
 #[cycle(lift)]
 fn lift_tuple(
     alloc: Global,
-    source: Source<'_>,
+    source: &Source<'_>,
     fuel: &mut u64,
     i: TypeTupleIndex,
     src: &[ValRaw],
     at: &mut usize,
 ) -> Result<Val, Fault>
-    requires known { Knows source.types.now (InterfaceType.Tuple i) }
-    requires built { IsBuilt (shape_of source.types.now (InterfaceType.Tuple i)) }
-    requires room { at.old + flat (shape_of source.types.now (InterfaceType.Tuple i)) ≤ length src.now }
-    ensures lifts { LiftsTo (encoding_of source.encoding) (narrow source.memory.now) src.now at.old at.new fuel.old fuel.new (shape_of source.types.now (InterfaceType.Tuple i)) result }
+    requires known { Knows source.now.types.now (InterfaceType.Tuple i) }
+    requires built { IsBuilt (shape_of source.now.types.now (InterfaceType.Tuple i)) }
+    requires room { at.old + flat (shape_of source.now.types.now (InterfaceType.Tuple i)) ≤ length src.now }
+    ensures lifts { LiftsTo (encoding_of source.now.encoding) (narrow source.now.memory.now) src.now at.old at.new fuel.old fuel.new (shape_of source.now.types.now (InterfaceType.Tuple i)) result }
     ensures falls { fuel.new ≤ fuel.old }
 {
     let members = &source.types.tuple(i).types;
@@ -247,16 +247,16 @@ fn lift_tuple(
 #[cycle(lift)]
 fn lift_members(
     alloc: Global,
-    source: Source<'_>,
+    source: &Source<'_>,
     fuel: &mut u64,
     members: &[InterfaceType],
     src: &[ValRaw],
     at: &mut usize,
 ) -> Result<Vec<Val>, Fault>
-    requires known { All (Knows source.types.now) members.now }
-    requires built { AreBuilt (members_of source.types.now members.now) }
-    requires room { at.old + members_flat (members_of source.types.now members.now) ≤ length src.now }
-    ensures lifts { MembersLiftTo (encoding_of source.encoding) (narrow source.memory.now) src.now at.old at.new fuel.old fuel.new (members_of source.types.now members.now) result }
+    requires known { All (Knows source.now.types.now) members.now }
+    requires built { AreBuilt (members_of source.now.types.now members.now) }
+    requires room { at.old + members_flat (members_of source.now.types.now members.now) ≤ length src.now }
+    ensures lifts { MembersLiftTo (encoding_of source.now.encoding) (narrow source.now.memory.now) src.now at.old at.new fuel.old fuel.new (members_of source.now.types.now members.now) result }
     ensures falls { fuel.new ≤ fuel.old }
 {
     let mut values = Vec::new(alloc);
@@ -272,13 +272,13 @@ fn lift_members(
 /// Lifts a text by the two words of its pointer and its length.
 fn lift_string(
     alloc: Global,
-    source: Source<'_>,
+    source: &Source<'_>,
     fuel: &mut u64,
     src: &[ValRaw],
     at: &mut usize,
 ) -> Result<Val, Fault>
     requires room { at.old + 2 ≤ length src.now }
-    ensures lifts { LiftsTo (encoding_of source.encoding) (narrow source.memory.now) src.now at.old at.new fuel.old fuel.new string result }
+    ensures lifts { LiftsTo (encoding_of source.now.encoding) (narrow source.now.memory.now) src.now at.old at.new fuel.old fuel.new string result }
     ensures falls { fuel.new ≤ fuel.old }
 {
     let index = *at;
@@ -294,16 +294,16 @@ fn lift_string(
 /// Lifts a list by the two words of its pointer and its length.
 fn lift_list(
     alloc: Global,
-    source: Source<'_>,
+    source: &Source<'_>,
     fuel: &mut u64,
     i: TypeListIndex,
     src: &[ValRaw],
     at: &mut usize,
 ) -> Result<Val, Fault>
-    requires known { Knows source.types.now (InterfaceType.List i) }
-    requires built { IsBuilt (shape_of source.types.now (InterfaceType.List i)) }
+    requires known { Knows source.now.types.now (InterfaceType.List i) }
+    requires built { IsBuilt (shape_of source.now.types.now (InterfaceType.List i)) }
     requires room { at.old + 2 ≤ length src.now }
-    ensures lifts { LiftsTo (encoding_of source.encoding) (narrow source.memory.now) src.now at.old at.new fuel.old fuel.new (shape_of source.types.now (InterfaceType.List i)) result }
+    ensures lifts { LiftsTo (encoding_of source.now.encoding) (narrow source.now.memory.now) src.now at.old at.new fuel.old fuel.new (shape_of source.now.types.now (InterfaceType.List i)) result }
     ensures falls { fuel.new ≤ fuel.old }
 {
     let index = *at;
@@ -329,16 +329,16 @@ fn lift_list(
 #[cycle(lift)]
 fn lift_fixed(
     alloc: Global,
-    source: Source<'_>,
+    source: &Source<'_>,
     fuel: &mut u64,
     i: TypeFixedLengthListIndex,
     src: &[ValRaw],
     at: &mut usize,
 ) -> Result<Val, Fault>
-    requires known { Knows source.types.now (InterfaceType.FixedLengthList i) }
-    requires built { IsBuilt (shape_of source.types.now (InterfaceType.FixedLengthList i)) }
-    requires room { at.old + flat (shape_of source.types.now (InterfaceType.FixedLengthList i)) ≤ length src.now }
-    ensures lifts { LiftsTo (encoding_of source.encoding) (narrow source.memory.now) src.now at.old at.new fuel.old fuel.new (shape_of source.types.now (InterfaceType.FixedLengthList i)) result }
+    requires known { Knows source.now.types.now (InterfaceType.FixedLengthList i) }
+    requires built { IsBuilt (shape_of source.now.types.now (InterfaceType.FixedLengthList i)) }
+    requires room { at.old + flat (shape_of source.now.types.now (InterfaceType.FixedLengthList i)) ≤ length src.now }
+    ensures lifts { LiftsTo (encoding_of source.now.encoding) (narrow source.now.memory.now) src.now at.old at.new fuel.old fuel.new (shape_of source.now.types.now (InterfaceType.FixedLengthList i)) result }
     ensures falls { fuel.new ≤ fuel.old }
 {
     let list = source.types.fixed_length_list(i);
@@ -354,17 +354,17 @@ fn lift_fixed(
 #[cycle(lift)]
 fn lift_row(
     alloc: Global,
-    source: Source<'_>,
+    source: &Source<'_>,
     fuel: &mut u64,
     element: &InterfaceType,
     count: u64,
     src: &[ValRaw],
     at: &mut usize,
 ) -> Result<Vec<Val>, Fault>
-    requires known { Knows source.types.now element.now }
-    requires built { IsBuilt (shape_of source.types.now element.now) }
-    requires room { at.old + count * flat (shape_of source.types.now element.now) ≤ length src.now }
-    ensures lifts { RowLiftsTo (encoding_of source.encoding) (narrow source.memory.now) src.now at.old at.new fuel.old fuel.new (shape_of source.types.now element.now) count result }
+    requires known { Knows source.now.types.now element.now }
+    requires built { IsBuilt (shape_of source.now.types.now element.now) }
+    requires room { at.old + count * flat (shape_of source.now.types.now element.now) ≤ length src.now }
+    ensures lifts { RowLiftsTo (encoding_of source.now.encoding) (narrow source.now.memory.now) src.now at.old at.new fuel.old fuel.new (shape_of source.now.types.now element.now) count result }
     ensures falls { fuel.new ≤ fuel.old }
 {
     let mut values = Vec::with_capacity(alloc, count as usize)?;

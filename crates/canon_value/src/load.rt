@@ -60,7 +60,7 @@ impl Val {
         ensures same_options { cx.new.options ≡ cx.old.options }
     {
         let mut fuel = cx.fuel;
-        let answer = load_value(alloc, cx.source(), &mut fuel, &ty, at);
+        let answer = load_value(alloc, &cx.source(), &mut fuel, &ty, at);
         cx.fuel = fuel;
         answer
     }
@@ -70,18 +70,18 @@ impl Val {
 #[cycle(load)]
 pub(crate) fn load_value(
     alloc: Global,
-    source: Source<'_>,
+    source: &Source<'_>,
     fuel: &mut u64,
     ty: &InterfaceType,
     at: u64,
 ) -> Result<Val, Fault>
-    requires known { Knows source.types.now ty.now }
-    requires built { IsBuilt (shape_of source.types.now ty.now) }
-    requires aligned { at % align false (shape_of source.types.now ty.now) ≡ 0 }
-    requires inside { at + size false (shape_of source.types.now ty.now) ≤ length source.memory.now }
-    ensures ok { IfOk result (IsLoaded (encoding_of source.encoding) (narrow source.memory.now) (shape_of source.types.now ty.now) at fuel.old fuel.new) }
-    ensures err { IfErr result (LiftBlames (Exactly (StoredFault (encoding_of source.encoding) (narrow source.memory.now) (shape_of source.types.now ty.now) at))
-        (fuel.old < reach_cost (encoding_of source.encoding) (narrow source.memory.now) (shape_of source.types.now ty.now) at)) }
+    requires known { Knows source.now.types.now ty.now }
+    requires built { IsBuilt (shape_of source.now.types.now ty.now) }
+    requires aligned { at % align false (shape_of source.now.types.now ty.now) ≡ 0 }
+    requires inside { at + size false (shape_of source.now.types.now ty.now) ≤ length source.now.memory.now }
+    ensures ok { IfOk result (IsLoaded (encoding_of source.now.encoding) (narrow source.now.memory.now) (shape_of source.now.types.now ty.now) at fuel.old fuel.new) }
+    ensures err { IfErr result (LiftBlames (Exactly (StoredFault (encoding_of source.now.encoding) (narrow source.now.memory.now) (shape_of source.now.types.now ty.now) at))
+        (fuel.old < reach_cost (encoding_of source.now.encoding) (narrow source.now.memory.now) (shape_of source.now.types.now ty.now) at)) }
     ensures scalar { IsScalarType ty.now → IfErr result (λ e. e ≡ Fault.InvalidChar (place.Address at)) }
     ensures falls { fuel.new ≤ fuel.old }
 {
@@ -99,18 +99,18 @@ pub(crate) fn load_value(
 #[cycle(load)]
 fn load_record(
     alloc: Global,
-    source: Source<'_>,
+    source: &Source<'_>,
     fuel: &mut u64,
     i: TypeRecordIndex,
     at: u64,
 ) -> Result<Val, Fault>
-    requires known { Knows source.types.now (InterfaceType.Record i) }
-    requires built { IsBuilt (shape_of source.types.now (InterfaceType.Record i)) }
-    requires aligned { at % align false (shape_of source.types.now (InterfaceType.Record i)) ≡ 0 }
-    requires inside { at + size false (shape_of source.types.now (InterfaceType.Record i)) ≤ length source.memory.now }
-    ensures ok { IfOk result (IsLoaded (encoding_of source.encoding) (narrow source.memory.now) (shape_of source.types.now (InterfaceType.Record i)) at fuel.old fuel.new) }
-    ensures err { IfErr result (LiftBlames (Exactly (StoredFault (encoding_of source.encoding) (narrow source.memory.now) (shape_of source.types.now (InterfaceType.Record i)) at))
-        (fuel.old < reach_cost (encoding_of source.encoding) (narrow source.memory.now) (shape_of source.types.now (InterfaceType.Record i)) at)) }
+    requires known { Knows source.now.types.now (InterfaceType.Record i) }
+    requires built { IsBuilt (shape_of source.now.types.now (InterfaceType.Record i)) }
+    requires aligned { at % align false (shape_of source.now.types.now (InterfaceType.Record i)) ≡ 0 }
+    requires inside { at + size false (shape_of source.now.types.now (InterfaceType.Record i)) ≤ length source.now.memory.now }
+    ensures ok { IfOk result (IsLoaded (encoding_of source.now.encoding) (narrow source.now.memory.now) (shape_of source.now.types.now (InterfaceType.Record i)) at fuel.old fuel.new) }
+    ensures err { IfErr result (LiftBlames (Exactly (StoredFault (encoding_of source.now.encoding) (narrow source.now.memory.now) (shape_of source.now.types.now (InterfaceType.Record i)) at))
+        (fuel.old < reach_cost (encoding_of source.now.encoding) (narrow source.now.memory.now) (shape_of source.now.types.now (InterfaceType.Record i)) at)) }
     ensures falls { fuel.new ≤ fuel.old }
 {
     let fields = &source.types.record(i).fields;
@@ -125,19 +125,19 @@ fn load_record(
 #[cycle(load)]
 fn load_fields(
     alloc: Global,
-    source: Source<'_>,
+    source: &Source<'_>,
     fuel: &mut u64,
     fields: &[RecordField],
     at: u64,
 ) -> Result<Vec<(String, Val)>, Fault>
-    requires known { All (Knows source.types.now) (parts (fields_type fields.now)) }
-    requires built { AreBuilt (field_members source.types.now fields.now) }
-    requires aligned { at % members_align false (field_members source.types.now fields.now) ≡ 0 }
-    requires inside { at + members_end false 0 (field_members source.types.now fields.now) ≤ length source.memory.now }
-    ensures ok { IfOk result (λ vs. AreFieldsLoaded (encoding_of source.encoding) (narrow source.memory.now) (field_members source.types.now fields.now) 0 at fuel.old fuel.new
+    requires known { All (Knows source.now.types.now) (parts (fields_type fields.now)) }
+    requires built { AreBuilt (field_members source.now.types.now fields.now) }
+    requires aligned { at % members_align false (field_members source.now.types.now fields.now) ≡ 0 }
+    requires inside { at + members_end false 0 (field_members source.now.types.now fields.now) ≤ length source.now.memory.now }
+    ensures ok { IfOk result (λ vs. AreFieldsLoaded (encoding_of source.now.encoding) (narrow source.now.memory.now) (field_members source.now.types.now fields.now) 0 at fuel.old fuel.new
         (names_in vs.items) (values_in vs.items)) }
-    ensures err { IfErr result (LiftBlames (Exactly (MemberFault (encoding_of source.encoding) (narrow source.memory.now) (field_members source.types.now fields.now) 0 at))
-        (fuel.old < names_length (field_members source.types.now fields.now) + members_reach (encoding_of source.encoding) (narrow source.memory.now) (field_members source.types.now fields.now) 0 at)) }
+    ensures err { IfErr result (LiftBlames (Exactly (MemberFault (encoding_of source.now.encoding) (narrow source.now.memory.now) (field_members source.now.types.now fields.now) 0 at))
+        (fuel.old < names_length (field_members source.now.types.now fields.now) + members_reach (encoding_of source.now.encoding) (narrow source.now.memory.now) (field_members source.now.types.now fields.now) 0 at)) }
     ensures falls { fuel.new ≤ fuel.old }
 {
     let mut values = Vec::new(alloc);
@@ -158,18 +158,18 @@ fn load_fields(
 #[cycle(load)]
 fn load_tuple(
     alloc: Global,
-    source: Source<'_>,
+    source: &Source<'_>,
     fuel: &mut u64,
     i: TypeTupleIndex,
     at: u64,
 ) -> Result<Val, Fault>
-    requires known { Knows source.types.now (InterfaceType.Tuple i) }
-    requires built { IsBuilt (shape_of source.types.now (InterfaceType.Tuple i)) }
-    requires aligned { at % align false (shape_of source.types.now (InterfaceType.Tuple i)) ≡ 0 }
-    requires inside { at + size false (shape_of source.types.now (InterfaceType.Tuple i)) ≤ length source.memory.now }
-    ensures ok { IfOk result (IsLoaded (encoding_of source.encoding) (narrow source.memory.now) (shape_of source.types.now (InterfaceType.Tuple i)) at fuel.old fuel.new) }
-    ensures err { IfErr result (LiftBlames (Exactly (StoredFault (encoding_of source.encoding) (narrow source.memory.now) (shape_of source.types.now (InterfaceType.Tuple i)) at))
-        (fuel.old < reach_cost (encoding_of source.encoding) (narrow source.memory.now) (shape_of source.types.now (InterfaceType.Tuple i)) at)) }
+    requires known { Knows source.now.types.now (InterfaceType.Tuple i) }
+    requires built { IsBuilt (shape_of source.now.types.now (InterfaceType.Tuple i)) }
+    requires aligned { at % align false (shape_of source.now.types.now (InterfaceType.Tuple i)) ≡ 0 }
+    requires inside { at + size false (shape_of source.now.types.now (InterfaceType.Tuple i)) ≤ length source.now.memory.now }
+    ensures ok { IfOk result (IsLoaded (encoding_of source.now.encoding) (narrow source.now.memory.now) (shape_of source.now.types.now (InterfaceType.Tuple i)) at fuel.old fuel.new) }
+    ensures err { IfErr result (LiftBlames (Exactly (StoredFault (encoding_of source.now.encoding) (narrow source.now.memory.now) (shape_of source.now.types.now (InterfaceType.Tuple i)) at))
+        (fuel.old < reach_cost (encoding_of source.now.encoding) (narrow source.now.memory.now) (shape_of source.now.types.now (InterfaceType.Tuple i)) at)) }
     ensures falls { fuel.new ≤ fuel.old }
 {
     let members = &source.types.tuple(i).types;
@@ -184,18 +184,18 @@ fn load_tuple(
 #[cycle(load)]
 pub(crate) fn load_members(
     alloc: Global,
-    source: Source<'_>,
+    source: &Source<'_>,
     fuel: &mut u64,
     members: &[InterfaceType],
     at: u64,
 ) -> Result<Vec<Val>, Fault>
-    requires known { All (Knows source.types.now) members.now }
-    requires built { AreBuilt (members_of source.types.now members.now) }
-    requires aligned { at % members_align false (members_of source.types.now members.now) ≡ 0 }
-    requires inside { at + members_end false 0 (members_of source.types.now members.now) ≤ length source.memory.now }
-    ensures ok { IfOk result (λ vs. AreLoaded (encoding_of source.encoding) (narrow source.memory.now) (members_of source.types.now members.now) 0 at fuel.old fuel.new vs.items) }
-    ensures err { IfErr result (LiftBlames (Exactly (MemberFault (encoding_of source.encoding) (narrow source.memory.now) (members_of source.types.now members.now) 0 at))
-        (fuel.old < members_reach (encoding_of source.encoding) (narrow source.memory.now) (members_of source.types.now members.now) 0 at)) }
+    requires known { All (Knows source.now.types.now) members.now }
+    requires built { AreBuilt (members_of source.now.types.now members.now) }
+    requires aligned { at % members_align false (members_of source.now.types.now members.now) ≡ 0 }
+    requires inside { at + members_end false 0 (members_of source.now.types.now members.now) ≤ length source.now.memory.now }
+    ensures ok { IfOk result (λ vs. AreLoaded (encoding_of source.now.encoding) (narrow source.now.memory.now) (members_of source.now.types.now members.now) 0 at fuel.old fuel.new vs.items) }
+    ensures err { IfErr result (LiftBlames (Exactly (MemberFault (encoding_of source.now.encoding) (narrow source.now.memory.now) (members_of source.now.types.now members.now) 0 at))
+        (fuel.old < members_reach (encoding_of source.now.encoding) (narrow source.now.memory.now) (members_of source.now.types.now members.now) 0 at)) }
     ensures falls { fuel.new ≤ fuel.old }
 {
     let mut values = Vec::new(alloc);
@@ -212,11 +212,11 @@ pub(crate) fn load_members(
 }
 
 /// The text whose pointer and length stand at an address (CanonicalABI.md, "load_string").
-fn load_string(alloc: Global, source: Source<'_>, fuel: &mut u64, at: u64) -> Result<Val, Fault>
-    requires inside { at + 8 ≤ length source.memory.now }
-    ensures ok { IfOk result (IsLoaded (encoding_of source.encoding) (narrow source.memory.now) string at fuel.old fuel.new) }
-    ensures err { IfErr result (LiftBlames (Exactly (StoredFault (encoding_of source.encoding) (narrow source.memory.now) string at))
-        (fuel.old < reach_cost (encoding_of source.encoding) (narrow source.memory.now) string at)) }
+fn load_string(alloc: Global, source: &Source<'_>, fuel: &mut u64, at: u64) -> Result<Val, Fault>
+    requires inside { at + 8 ≤ length source.now.memory.now }
+    ensures ok { IfOk result (IsLoaded (encoding_of source.now.encoding) (narrow source.now.memory.now) string at fuel.old fuel.new) }
+    ensures err { IfErr result (LiftBlames (Exactly (StoredFault (encoding_of source.now.encoding) (narrow source.now.memory.now) string at))
+        (fuel.old < reach_cost (encoding_of source.now.encoding) (narrow source.now.memory.now) string at)) }
     ensures falls { fuel.new ≤ fuel.old }
 {
     let pointer = u64::from(load_u32(source.memory, at));
@@ -231,7 +231,7 @@ fn load_string(alloc: Global, source: Source<'_>, fuel: &mut u64, at: u64) -> Re
 /// that it ends inside memory, then its bytes are charged, and then their spelling is tested.
 pub(crate) fn load_text(
     alloc: Global,
-    source: Source<'_>,
+    source: &Source<'_>,
     fuel: &mut u64,
     pointer: u64,
     length: u64,
@@ -239,9 +239,9 @@ pub(crate) fn load_text(
 ) -> Result<String, Fault>
     requires narrow { pointer < 2 ^ 32 }
     requires narrow_length { length < 2 ^ 32 }
-    ensures ok { IfOk result (IsTextLoaded (encoding_of source.encoding) (narrow source.memory.now) pointer length fuel.old fuel.new) }
-    ensures err { IfErr result (LiftBlames (Exactly (TextFault (encoding_of source.encoding) (narrow source.memory.now) (place_of at) pointer length))
-        (fuel.old < text_reach (encoding_of source.encoding) (narrow source.memory.now) pointer length)) }
+    ensures ok { IfOk result (IsTextLoaded (encoding_of source.now.encoding) (narrow source.now.memory.now) pointer length fuel.old fuel.new) }
+    ensures err { IfErr result (LiftBlames (Exactly (TextFault (encoding_of source.now.encoding) (narrow source.now.memory.now) (place_of at) pointer length))
+        (fuel.old < text_reach (encoding_of source.now.encoding) (narrow source.now.memory.now) pointer length)) }
     ensures falls { fuel.new ≤ fuel.old }
 {
     match source.encoding {
@@ -280,17 +280,17 @@ fn load_utf8(
 #[cycle(load)]
 fn load_list(
     alloc: Global,
-    source: Source<'_>,
+    source: &Source<'_>,
     fuel: &mut u64,
     i: TypeListIndex,
     at: u64,
 ) -> Result<Val, Fault>
-    requires known { Knows source.types.now (InterfaceType.List i) }
-    requires built { IsBuilt (shape_of source.types.now (InterfaceType.List i)) }
-    requires inside { at + 8 ≤ length source.memory.now }
-    ensures ok { IfOk result (IsLoaded (encoding_of source.encoding) (narrow source.memory.now) (shape_of source.types.now (InterfaceType.List i)) at fuel.old fuel.new) }
-    ensures err { IfErr result (LiftBlames (Exactly (StoredFault (encoding_of source.encoding) (narrow source.memory.now) (shape_of source.types.now (InterfaceType.List i)) at))
-        (fuel.old < reach_cost (encoding_of source.encoding) (narrow source.memory.now) (shape_of source.types.now (InterfaceType.List i)) at)) }
+    requires known { Knows source.now.types.now (InterfaceType.List i) }
+    requires built { IsBuilt (shape_of source.now.types.now (InterfaceType.List i)) }
+    requires inside { at + 8 ≤ length source.now.memory.now }
+    ensures ok { IfOk result (IsLoaded (encoding_of source.now.encoding) (narrow source.now.memory.now) (shape_of source.now.types.now (InterfaceType.List i)) at fuel.old fuel.new) }
+    ensures err { IfErr result (LiftBlames (Exactly (StoredFault (encoding_of source.now.encoding) (narrow source.now.memory.now) (shape_of source.now.types.now (InterfaceType.List i)) at))
+        (fuel.old < reach_cost (encoding_of source.now.encoding) (narrow source.now.memory.now) (shape_of source.now.types.now (InterfaceType.List i)) at)) }
     ensures falls { fuel.new ≤ fuel.old }
 {
     let pointer = u64::from(load_u32(source.memory, at));
@@ -315,23 +315,23 @@ fn load_list(
 #[cycle(load)]
 pub(crate) fn load_items(
     alloc: Global,
-    source: Source<'_>,
+    source: &Source<'_>,
     fuel: &mut u64,
     element: &InterfaceType,
     pointer: u64,
     length: u64,
     at: At,
 ) -> Result<Vec<Val>, Fault>
-    requires known { Knows source.types.now element.now }
-    requires built { IsBuilt (shape_of source.types.now element.now) }
+    requires known { Knows source.now.types.now element.now }
+    requires built { IsBuilt (shape_of source.now.types.now element.now) }
     requires narrow { pointer < 2 ^ 32 }
     requires narrow_length { length < 2 ^ 32 }
-    ensures ok { IfOk result (λ vs. IsListLoaded (encoding_of source.encoding) (narrow source.memory.now) (shape_of source.types.now element.now) pointer length fuel.old fuel.new vs.items) }
-    ensures err { IfErr result (LiftBlames (Exactly (ListFault (encoding_of source.encoding) (narrow source.memory.now)
-        (λ b k x. StoredFault (encoding_of source.encoding) (narrow source.memory.now) (shape_of source.types.now element.now) b k x)
-        (shape_of source.types.now element.now) (place_of at) pointer length))
-        (fuel.old < list_reach (encoding_of source.encoding) (narrow source.memory.now)
-        (λ b. reach_cost (encoding_of source.encoding) (narrow source.memory.now) (shape_of source.types.now element.now) b) val_cost (shape_of source.types.now element.now) pointer length)) }
+    ensures ok { IfOk result (λ vs. IsListLoaded (encoding_of source.now.encoding) (narrow source.now.memory.now) (shape_of source.now.types.now element.now) pointer length fuel.old fuel.new vs.items) }
+    ensures err { IfErr result (LiftBlames (Exactly (ListFault (encoding_of source.now.encoding) (narrow source.now.memory.now)
+        (λ b k x. StoredFault (encoding_of source.now.encoding) (narrow source.now.memory.now) (shape_of source.now.types.now element.now) b k x)
+        (shape_of source.now.types.now element.now) (place_of at) pointer length))
+        (fuel.old < list_reach (encoding_of source.now.encoding) (narrow source.now.memory.now)
+        (λ b. reach_cost (encoding_of source.now.encoding) (narrow source.now.memory.now) (shape_of source.now.types.now element.now) b) val_cost (shape_of source.now.types.now element.now) pointer length)) }
     ensures falls { fuel.new ≤ fuel.old }
 {
     let abi = source.types.canonical_abi(element);
@@ -349,18 +349,18 @@ pub(crate) fn load_items(
 #[cycle(load)]
 fn load_fixed(
     alloc: Global,
-    source: Source<'_>,
+    source: &Source<'_>,
     fuel: &mut u64,
     i: TypeFixedLengthListIndex,
     at: u64,
 ) -> Result<Val, Fault>
-    requires known { Knows source.types.now (InterfaceType.FixedLengthList i) }
-    requires built { IsBuilt (shape_of source.types.now (InterfaceType.FixedLengthList i)) }
-    requires aligned { at % align false (shape_of source.types.now (InterfaceType.FixedLengthList i)) ≡ 0 }
-    requires inside { at + size false (shape_of source.types.now (InterfaceType.FixedLengthList i)) ≤ length source.memory.now }
-    ensures ok { IfOk result (IsLoaded (encoding_of source.encoding) (narrow source.memory.now) (shape_of source.types.now (InterfaceType.FixedLengthList i)) at fuel.old fuel.new) }
-    ensures err { IfErr result (LiftBlames (Exactly (StoredFault (encoding_of source.encoding) (narrow source.memory.now) (shape_of source.types.now (InterfaceType.FixedLengthList i)) at))
-        (fuel.old < reach_cost (encoding_of source.encoding) (narrow source.memory.now) (shape_of source.types.now (InterfaceType.FixedLengthList i)) at)) }
+    requires known { Knows source.now.types.now (InterfaceType.FixedLengthList i) }
+    requires built { IsBuilt (shape_of source.now.types.now (InterfaceType.FixedLengthList i)) }
+    requires aligned { at % align false (shape_of source.now.types.now (InterfaceType.FixedLengthList i)) ≡ 0 }
+    requires inside { at + size false (shape_of source.now.types.now (InterfaceType.FixedLengthList i)) ≤ length source.now.memory.now }
+    ensures ok { IfOk result (IsLoaded (encoding_of source.now.encoding) (narrow source.now.memory.now) (shape_of source.now.types.now (InterfaceType.FixedLengthList i)) at fuel.old fuel.new) }
+    ensures err { IfErr result (LiftBlames (Exactly (StoredFault (encoding_of source.now.encoding) (narrow source.now.memory.now) (shape_of source.now.types.now (InterfaceType.FixedLengthList i)) at))
+        (fuel.old < reach_cost (encoding_of source.now.encoding) (narrow source.now.memory.now) (shape_of source.now.types.now (InterfaceType.FixedLengthList i)) at)) }
     ensures falls { fuel.new ≤ fuel.old }
 {
     let list = source.types.fixed_length_list(i);
@@ -376,22 +376,22 @@ fn load_fixed(
 #[cycle(load)]
 fn load_row(
     alloc: Global,
-    source: Source<'_>,
+    source: &Source<'_>,
     fuel: &mut u64,
     element: &InterfaceType,
     at: u64,
     count: u64,
 ) -> Result<Vec<Val>, Fault>
-    requires known { Knows source.types.now element.now }
-    requires built { IsBuilt (shape_of source.types.now element.now) }
-    requires aligned { at % align false (shape_of source.types.now element.now) ≡ 0 }
-    requires inside { at + count * size false (shape_of source.types.now element.now) ≤ length source.memory.now }
-    ensures ok { IfOk result (λ vs. IsRowLoaded (encoding_of source.encoding) (narrow source.memory.now) (shape_of source.types.now element.now) at count fuel.old fuel.new vs.items) }
+    requires known { Knows source.now.types.now element.now }
+    requires built { IsBuilt (shape_of source.now.types.now element.now) }
+    requires aligned { at % align false (shape_of source.now.types.now element.now) ≡ 0 }
+    requires inside { at + count * size false (shape_of source.now.types.now element.now) ≤ length source.now.memory.now }
+    ensures ok { IfOk result (λ vs. IsRowLoaded (encoding_of source.now.encoding) (narrow source.now.memory.now) (shape_of source.now.types.now element.now) at count fuel.old fuel.new vs.items) }
     ensures err { IfErr result (LiftBlames (Exactly (SomeElement
-        (λ b k x. StoredFault (encoding_of source.encoding) (narrow source.memory.now) (shape_of source.types.now element.now) b k x)
-        (size false (shape_of source.types.now element.now)) at count))
-        (fuel.old < sum_at (λ b. reach_cost (encoding_of source.encoding) (narrow source.memory.now) (shape_of source.types.now element.now) b)
-        (size false (shape_of source.types.now element.now)) at count)) }
+        (λ b k x. StoredFault (encoding_of source.now.encoding) (narrow source.now.memory.now) (shape_of source.now.types.now element.now) b k x)
+        (size false (shape_of source.now.types.now element.now)) at count))
+        (fuel.old < sum_at (λ b. reach_cost (encoding_of source.now.encoding) (narrow source.now.memory.now) (shape_of source.now.types.now element.now) b)
+        (size false (shape_of source.now.types.now element.now)) at count)) }
     ensures falls { fuel.new ≤ fuel.old }
 {
     let size = u64::from(source.types.canonical_abi(element).size32);

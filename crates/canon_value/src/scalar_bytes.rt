@@ -1,6 +1,6 @@
 //! Scalars in memory.
 
-ghost use Rattle.std.specs.Prelude.{ℕ, ◌≡◌, ◌≤◌, ◌+◌, IfErr, IfOk, Some, length};
+ghost use Rattle.std.specs.Prelude.{ℕ, ⊥, ◌≡◌, ◌≤◌, ◌+◌, IfErr, IfOk, Some, length};
 ghost use Rattle.canon_model.specs.Layout.{scalar_size};
 ghost use Rattle.canon_model.specs.Memory.{num};
 ghost use Rattle.canon_model.specs.Reach.{StoredFault};
@@ -19,7 +19,7 @@ pub(crate) fn load_scalar(memory: &[u8], ty: &InterfaceType, at: u64) -> Result<
     requires scalar { IsScalarType ty.now }
     requires inside { (k : Scalar) → scalar_type ty.now ≡ Some k → at + scalar_size k ≤ length memory.now }
     ensures ok { (k : Scalar) (enc : Encoding) (fuel : ℕ) → scalar_type ty.now ≡ Some k → IfOk result (IsLoaded enc (narrow memory.now) (scalar k) at fuel fuel) }
-    ensures err { (k : Scalar) (enc : Encoding) (Low : Type 0) → scalar_type ty.now ≡ Some k → IfErr result (LiftBlames (Exactly (StoredFault enc (narrow memory.now) (scalar k) at)) Low) }
+    ensures err { (k : Scalar) (enc : Encoding) → scalar_type ty.now ≡ Some k → IfErr result (LiftBlames (Exactly (StoredFault enc (narrow memory.now) (scalar k) at)) ⊥) }
     ensures only_char { IfErr result (λ e. e ≡ Fault.InvalidChar (At.Address at)) }
 {
     match ty {
