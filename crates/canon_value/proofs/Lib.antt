@@ -1,3 +1,4 @@
+pub mod EachItem
 pub mod Far
 pub mod LiftLoops
 pub mod LiftSteps
@@ -13,6 +14,9 @@ pub mod Steps
 pub mod StoreLoops
 pub mod StoreSteps
 pub mod StoredBytes
-pub mod Tops
 pub mod Unbuilt
 pub mod Values
+pub mod WordFits
+pub mod WordLoops
+pub mod WordMoves
+pub mod WordSteps
