@@ -154,7 +154,12 @@ pub(crate) fn place_list<T, G: Guest>(
     let Some(bytes) = block_size(length, abi.size32) else {
         return Err(Fault::SizeOverflow(length));
     };
-    let pointer = cx.realloc(0, 0, abi.align32, bytes)?;
+    let answer = cx.realloc(0, 0, abi.align32, bytes);
+    let _memory = cx.core.memory();
+    let pointer = match answer {
+        Ok(pointer) => pointer,
+        Err(fault) => return Err(fault),
+    };
     match store_row(cx, items, element, pointer, place.saturating_add(1)) {
         Ok(next) => Ok(Placed {
             pointer,
@@ -166,14 +171,14 @@ pub(crate) fn place_list<T, G: Guest>(
 }
 
 /// Writes a pointer and the length after it.
-fn put_pair(memory: &mut [u8], at: u64, pointer: u64, length: u64)
+fn put_pair(memory: &mut [u8], at: u64, pointer: u64, count: u64)
     requires narrow { pointer < 2 ^ 32 }
-    requires narrow_length { length < 2 ^ 32 }
+    requires narrow_count { count < 2 ^ 32 }
     requires room { at + 8 ≤ length memory.old }
-    ensures { IsPair memory.old memory.new at pointer length }
+    ensures { IsPair memory.old memory.new at pointer count }
 {
     put_low_bytes(memory, at, pointer, 4);
-    put_low_bytes(memory, at + 4, length, 4);
+    put_low_bytes(memory, at + 4, count, 4);
 }
 
 #[cycle(store)]
