@@ -12,7 +12,7 @@ use Rattle.canon_memory.specs.Guest.{Seen}
 use Rattle.canon_memory.specs.declared.event.Event.{Event}
 use Rattle.canon_model.specs.Flat.{SameWords}
 use Rattle.canon_model.specs.Layout.{flat, members_flat}
-use Rattle.canon_model.specs.Shape.{Members, Name, ProductKind, Shape, fixed, member, member_count, no_members, product, scalar}
+use Rattle.canon_model.specs.Shape.{ListKind, Members, Name, ProductKind, Shape, fixed, list, member, member_count, no_members, product, scalar, string}
 use Rattle.canon_model.specs.Text.{Encoding}
 use Rattle.canon_model.specs.Tree.{Tree, Trees, trees_of}
 use Rattle.canon_table.specs.Table.{plain_shape}
@@ -30,13 +30,14 @@ use Rattle.canon_value.specs.declared.fault.Fault.TheVariants as fault
 use Rattle.canon_value.specs.declared.lower.Spot.{Spot}
 use Rattle.canon_value.specs.declared.val.Val.{Val, the_lemmas}
 use Rattle.canon_value.specs.declared.val.Val.TheVariants as val
+use Rattle.canon_value.proofs.Contents.{each_count, places_fixed}
 use Rattle.canon_value.proofs.Moves.{moves_none, moves_then}
 use Rattle.canon_value.proofs.Scalars.{scalar_places}
 use Rattle.canon_value.proofs.Steps.{blames_first, blames_later, places_product}
 use Rattle.canon_value.proofs.StoreSteps.{Named, heads, named_join, named_split, not_done, same_encoding, same_then, tails}
 use Rattle.canon_value.proofs.Unbuilt.{plain_scalar}
 use Rattle.canon_value.proofs.Values.{fixed_values, product_names, product_values}
-use Rattle.canon_value.proofs.WordFits.{each_count, each_fits, has_fits, have_fit}
+use Rattle.canon_value.proofs.WordFits.{each_fits, has_fits, have_fit}
 use Rattle.canon_value.proofs.WordMoves.{count_words, members_moved, row_moved, words_at, words_here, words_there}
 
 -- ---- words put in their places
@@ -84,6 +85,23 @@ puts_words i n dst dst2 room h = record {
   there = λ p q l u is. words_here dst2 i n p q l (omega (arith, u, count_words dst2 i n room)) is;
 }
 
+-- how many words there are
+pub product_words : (k : ProductKind) (ms : Members) → flat (product k ms) ≡ members_flat ms
+unfolding flat
+product_words k ms = refl
+
+pub fixed_words : (n : ℕ) (s : Shape) → flat (fixed n s) ≡ n * flat s
+unfolding flat
+fixed_words n s = refl
+
+pub text_words : flat string ≡ 2
+unfolding flat
+text_words = refl
+
+pub list_words : (k : ListKind) (s : Shape) → flat (list k s) ≡ 2
+unfolding flat
+list_words k s = refl
+
 where_done : (r : Result Spot Fault) (P : Type 0) → P → OnOk r P
 where_done (Ok to) P h = h
 where_done (Err e) P h = tt
@@ -126,16 +144,14 @@ row_count s v vs from mid (Ok to) ew em (words, e) = (omega (arith, words, ew, s
 row_count s v vs from mid (Err e) ew em b =
     blames_later (λ how k. SomeFails (λ w i. FailsAt how s w i) vs k) (λ how k. SomeFails (λ w i. FailsAt how s w i) (v ∷ vs) k) (places v) from.place mid.place e em (λ how j f. inr (j, refl, f)) b
 
-places_fixed : (vs : List Val) (v : Val) → IsFixed vs v → places v ≡ 1 + all_places vs
-places_fixed vs v (xs, e, ev) =
-    let whole : places (val.FixedLengthList xs) ≡ 1 + all_places xs.items = search (rules, the_lemmas) in
-    ap places e ∙ (whole ∙ ap (λ (ys : List Val). 1 + all_places ys) (sym ev))
+fixed_places : (vs : List Val) (v : Val) → IsFixed vs v → places v ≡ 1 + all_places vs
+fixed_places vs v (xs, e, ev) = ap places e ∙ (places_fixed xs ∙ ap (λ (ys : List Val). 1 + all_places ys) (sym ev))
 
 fixed_counts : (n : ℕ) (s : Shape) (vs : List Val) (v : Val) (from : Spot) (r : Result Spot Fault) → IsFixed vs v → length vs ≡ n
     → SpotCounts (λ how k. SomeFails (λ w i. FailsAt how s w i) vs k) (inside from) (length vs * flat s) (all_places vs) r
     → SpotCounts (λ how j. FailsAt how (fixed n s) v j) from (flat (fixed n s)) (places v) r
 unfolding flat
-fixed_counts n s vs v from (Ok to) p count (words, e) = (words ∙ ap (λ k. from.word + k * flat s) count, omega (arith, e, places_fixed vs v p))
+fixed_counts n s vs v from (Ok to) p count (words, e) = (words ∙ ap (λ k. from.word + k * flat s) count, omega (arith, e, fixed_places vs v p))
 fixed_counts n s vs v from (Err e) p count b =
     blames_later (λ how k. SomeFails (λ w i. FailsAt how s w i) vs k) (λ how j. FailsAt how (fixed n s) v j) 1 from.place (cap (from.place + 1)) e refl (λ how j f. inr (vs, j, p, count, refl, f)) b
 
