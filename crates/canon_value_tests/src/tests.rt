@@ -135,7 +135,7 @@ fn core_of(alloc: Global, builder: TypeBuilder, answer: u32) -> Result<Core<u32,
         traps: 0,
     };
     let memory = Memory::new(alloc, 16)?;
-    Ok(Core::new(alloc, id, 5, guest, memory, component)?)
+    Ok(Core::new(alloc, id, 5, guest, memory, component, 1 << 20)?)
 }
 
 /// Lowers a value, where the conditions hold.
