@@ -147,7 +147,7 @@ fn lowered(
     dst: &mut [ValRaw],
 ) -> Result<Result<(), Fault>, Fail>
     requires options { length core.old.component.options.items ≡ 1 }
-    ensures same { core.new ≡ core.old }
+    ensures same { core.new.component ≡ core.old.component }
 {
     let mut cx = LowerContext::new(core, OptionsIndex::from_u32(0));
     let types = cx.types();
