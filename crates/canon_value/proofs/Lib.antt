@@ -1,3 +1,4 @@
+pub mod EachItem
 pub mod Far
 pub mod LiftLoops
 pub mod LiftSteps
