@@ -112,8 +112,8 @@ store_fields-store_value-requires g t0 c =
     let start : c.next_field32_size-start.result ≡ begins false c.loop-k.end s = c.next_field32_size-start.ensures.start ∙ begins_here t c.types-types.result.now f.ty c.canonical_abi.result.now c.loop-k.end e c.canonical_abi.ensures in
     let fit = stored_fits g.G.Guest.seen g.G.Guest.moves a.cx.now.options a.place ms (names_in a.values.now) (values_in a.values.now) core a.at (cap (a.place + 1)) c.loop-k.cx.core.now c.loop-k.next c.loop-k.end c.loop-k.k (string_bytes f.name) s here c.loop-k.invariant.stored in
     let known = subst (λ (x : Table). Knows x f.ty) c.types-types.ensures (field_is_known c.types-types.result.now a.i c.loop-k.k fields f f c.record.ensures.entry c.index-field.ensures lt) in
-    let falls : 3 * depth (shape_of (types_of c.loop-k.cx.core.now) f.ty) + 2 < 3 * depth (shape_of t (ty.Record a.i)) =
-    subst (λ (x : Table). 3 * depth (shape_of x f.ty) + 2 < 3 * depth (shape_of t (ty.Record a.i))) (sym eN) (field_falls t c.types-types.result.now a.i c.loop-k.k fields f f e c.record.ensures.entry c.index-field.ensures lt) in
+    let falls : 4 * depth (shape_of (types_of c.loop-k.cx.core.now) f.ty) + 3 < 4 * depth (shape_of t (ty.Record a.i)) =
+    subst (λ (x : Table). 4 * depth (shape_of x f.ty) + 3 < 4 * depth (shape_of t (ty.Record a.i))) (sym eN) (field_falls t c.types-types.result.now a.i c.loop-k.k fields f f e c.record.ensures.entry c.index-field.ensures lt) in
     let wants = value_wants g.G.Guest.seen g.G.Guest.moves a.cx.now.options a.place ms (names_in a.values.now) (values_in a.values.now) core a.at (cap (a.place + 1)) c.loop-k.cx.core.now f.ty c.loop-k.end c.next_field32_size-start.result eN known start fit in
     λ κs sub. (search (rules, the_lemmas, falls), (sub.0, (sub.1, wants)))
 
@@ -222,8 +222,8 @@ store_members-store_value-requires g t0 c =
     let eN : types_of c.loop-k.cx.core.now ≡ t = same_types core c.loop-k.cx.core.now c.loop-k.invariant.stored.same in
     let start : c.next_field32_size-start.result ≡ begins false c.loop-k.end s = c.next_field32_size-start.ensures.start ∙ begins_here t c.types-types.result.now type c.canonical_abi.result.now c.loop-k.end e c.canonical_abi.ensures in
     let known = subst (λ (x : Table). Knows x type) c.types-types.ensures (subst (λ (y : InterfaceType). Knows c.types-types.result.now y) (sym c.index.ensures) (c.tuple.ensures.entry.known c.loop-k.k type lt)) in
-    let falls : 3 * depth (shape_of (types_of c.loop-k.cx.core.now) type) + 2 < 3 * depth (shape_of t (ty.Tuple a.i)) =
-    subst (λ (x : Table). 3 * depth (shape_of x type) + 2 < 3 * depth (shape_of t (ty.Tuple a.i))) (sym eN) (tuple_falls t c.types-types.result.now a.i c.loop-k.k types type type e c.tuple.ensures.entry c.tuple.ensures.types c.index.ensures lt) in
+    let falls : 4 * depth (shape_of (types_of c.loop-k.cx.core.now) type) + 3 < 4 * depth (shape_of t (ty.Tuple a.i)) =
+    subst (λ (x : Table). 4 * depth (shape_of x type) + 3 < 4 * depth (shape_of t (ty.Tuple a.i))) (sym eN) (tuple_falls t c.types-types.result.now a.i c.loop-k.k types type type e c.tuple.ensures.entry c.tuple.ensures.types c.index.ensures lt) in
     let wants = value_wants g.G.Guest.seen g.G.Guest.moves a.cx.now.options 0 ms (no_names a.values.now) a.values.now core a.at a.place c.loop-k.cx.core.now type c.loop-k.end c.next_field32_size-start.result eN known start fit in
     λ κs sub. (search (rules, the_lemmas, falls), (sub.0, (sub.1, wants)))
 
@@ -415,4 +415,4 @@ store_tuple-returns-clause-stores g t0 c =
 
 pub store_value-store_scalar-requires : goal.store_value-store_scalar-requires
 store_value-store_scalar-requires g t c =
-    record { known = c.requires.known; scalar = built_scalar (types_of c.args.cx.now.core.now) c.args.ty c.requires.known c.requires.built c.in_default.not-Record c.in_default.not-Tuple; small = c.requires.small; room = c.requires.room }
+    record { known = c.requires.known; scalar = built_scalar (types_of c.args.cx.now.core.now) c.args.ty c.requires.known c.requires.built c.in_default.not-Record c.in_default.not-Tuple c.in_default.not-String c.in_default.not-List c.in_default.not-FixedLengthList; small = c.requires.small; room = c.requires.room }
