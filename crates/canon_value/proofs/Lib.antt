@@ -8,7 +8,7 @@ pub mod Loading
 pub mod Loops
 pub mod Moves
 pub mod NearFaults
-pub mod PlacedTexts
+pub mod Placing
 pub mod Pointed
 pub mod Row
 pub mod Scalars

@@ -33,7 +33,7 @@ use Rattle.canon_value.specs.declared.val.Val.{Val}
 use Rattle.canon_value.specs.declared.val.Val.TheVariants as val
 use Rattle.canon_value.proofs.Contents.{each_count, fixed_trees, list_trees, places_fixed, places_list}
 use Rattle.canon_value.proofs.Moves.{moves_none, moves_then}
-use Rattle.canon_value.proofs.PlacedTexts.{asked_blames, unplaced}
+use Rattle.canon_value.proofs.Placing.{asked_blames, unplaced}
 use Rattle.canon_value.proofs.Row.{drop_all}
 use Rattle.canon_value.proofs.Steps.{blames_first, blames_later}
 use Rattle.canon_value.proofs.StoreSteps.{not_done, same_encoding, same_then, value_refused}

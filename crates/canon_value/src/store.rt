@@ -126,9 +126,9 @@ fn store_list<T, G: Guest>(
         return Err(Fault::TypeMismatch(place));
     };
     match place_list(cx, items, &element, place) {
-        Ok(block) => {
-            put_pair(cx.core.as_slice_mut(), at, block.pointer, block.length);
-            Ok(block.next)
+        Ok(list) => {
+            put_pair(cx.core.as_slice_mut(), at, list.pointer, list.length);
+            Ok(list.next)
         }
         Err(fault) => Err(fault),
     }

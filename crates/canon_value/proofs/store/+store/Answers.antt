@@ -22,7 +22,7 @@ use Rattle.canon_value.specs.declared.val.Val.{Val, the_lemmas}
 use Rattle.canon_value.specs.declared.fault.Fault.TheVariants as fault
 use Rattle.canon_value.proofs.Loops.{other_name, same_name}
 use Rattle.canon_value.proofs.Moves.{moves_asked}
-use Rattle.canon_value.proofs.PlacedTexts.{list_told, placed_stop}
+use Rattle.canon_value.proofs.Placing.{list_told, placed_stop}
 use Rattle.canon_value.proofs.Row.{count_fields, count_members, count_values, drop_at, member_names-members_of}
 use Rattle.canon_value.proofs.StoreLists.{fixed_bytes, fixed_falls, fixed_known, fixed_shape, fixed_stores, item_size, item_stood, items_call, list_broken, list_bytes, list_falls, list_known, list_placed, list_shape, list_too_large, list_ungiven, row_begin, row_broken, row_end, row_go_on, row_stood}
 use Rattle.canon_value.proofs.StoreLoops.{begins_here, count_names, count_no_names, drop_members, ends_here, field_falls, field_is_known, field_member, in_fields, in_types, names_at, no_names_at, record_members, record_shape_of, stored_end, stored_fits, stored_go_on, stored_named, stored_stop, tuple_falls, tuple_member, tuple_shape_of, value_stood, value_wants, values_at}
@@ -475,7 +475,7 @@ place_list-returns-in-Ok-store_row-clause-places g t0 c =
     let granted : Granted (moment_of g.G.Guest.seen core) (moment_of g.G.Guest.seen asked) (list_call s n) p = subst (λ (x : Call). Granted (moment_of g.G.Guest.seen core) (moment_of g.G.Guest.seen asked) x p) wanted c.in-Ok.ensures.does in
     let moved = moves_asked g.G.Guest.seen g.G.Guest.moves core.guest asked.guest core.memory asked.memory (call 0 0 abi.align32 bytes) (Ok p) c.in-Ok.ensures.does c.in-Ok.ensures.moves in
     let there = row_stood g.G.Guest.seen g.G.Guest.moves g.met.G.Guest.stays g.met.G.Guest.goes_on a.cx.now.options t asked c.store_row.new.cx.core.now c.realloc-answer.new.self.options type p a.items.now.items c.deref.result.now (cap (a.place + 1)) c.saturating_add.result (Ok c.in-Ok-store_row.next) c.in-Ok.ensures.same_options
-        (same_types core asked c.in-Ok.ensures.same) c.deref.ensures.value c.saturating_add.ensures c.in-Ok-store_row.ensures.stores in
+    (same_types core asked c.in-Ok.ensures.same) c.deref.ensures.value c.saturating_add.ensures c.in-Ok-store_row.ensures.stores in
     list_placed g.G.Guest.seen g.G.Guest.moves g.met.G.Guest.stays g.met.G.Guest.goes_on a.cx.now.options core asked c.store_row.new.cx.core.now s a.items.now a.place n p is c.in-Some.ensures.some.1 c.memory-memory.ensures.small c.in-Ok.ensures.same granted moved c.in-Ok-store_row.next there
 
 pub place_list-returns-in-Err-store_row-clause-places : goal.place_list-returns-in-Err-store_row-clause-places
@@ -495,7 +495,7 @@ place_list-returns-in-Err-store_row-clause-places g t0 c =
     let granted : Granted (moment_of g.G.Guest.seen core) (moment_of g.G.Guest.seen asked) (list_call s n) p = subst (λ (x : Call). Granted (moment_of g.G.Guest.seen core) (moment_of g.G.Guest.seen asked) x p) wanted c.in-Ok.ensures.does in
     let moved = moves_asked g.G.Guest.seen g.G.Guest.moves core.guest asked.guest core.memory asked.memory (call 0 0 abi.align32 bytes) (Ok p) c.in-Ok.ensures.does c.in-Ok.ensures.moves in
     let there = row_stood g.G.Guest.seen g.G.Guest.moves g.met.G.Guest.stays g.met.G.Guest.goes_on a.cx.now.options t asked c.store_row.new.cx.core.now c.realloc-answer.new.self.options type p a.items.now.items c.deref.result.now (cap (a.place + 1)) c.saturating_add.result (Err c.in-Err-store_row.fault) c.in-Ok.ensures.same_options
-        (same_types core asked c.in-Ok.ensures.same) c.deref.ensures.value c.saturating_add.ensures c.in-Err-store_row.ensures.stores in
+    (same_types core asked c.in-Ok.ensures.same) c.deref.ensures.value c.saturating_add.ensures c.in-Err-store_row.ensures.stores in
     list_broken g.G.Guest.seen g.G.Guest.moves g.met.G.Guest.stays g.met.G.Guest.goes_on a.cx.now.options core asked c.store_row.new.cx.core.now s a.items.now a.place n p is c.in-Some.ensures.some.1 c.memory-memory.ensures.small c.in-Ok.ensures.same granted moved c.in-Err-store_row.fault there
 
 pub store_fixed-returns-in_default : goal.store_fixed-returns-in_default
@@ -555,7 +555,7 @@ store_fixed-returns-clause-stores g t0 c =
     let count : length values.items ≡ list.size = omega (arith, c.if-len-from.false, c.len.ensures, values.ok.0, c.from.ensures) in
     let room : a.at + size false (fixed list.size s) ≤ length core.memory = subst (λ (x : Shape). a.at + size false x ≤ length core.memory) shape c.requires.room in
     let there = row_stood g.G.Guest.seen g.G.Guest.moves g.met.G.Guest.stays g.met.G.Guest.goes_on a.cx.now.options t core c.store_row.new.cx.core.now a.cx.now.options list.element a.at values.items c.deref.result.now (cap (a.place + 1)) c.saturating_add.result c.store_row.result refl refl c.deref.ensures.value
-        c.saturating_add.ensures c.store_row.ensures.stores in
+    c.saturating_add.ensures c.store_row.ensures.stores in
     subst (λ (x : Shape). StoresTo g.G.Guest.seen g.G.Guest.moves a.cx.now.options core c.store_row.new.cx.core.now x a.at a.value.now a.place c.store_row.result) (sym shape)
     (subst (λ (v : Val). StoresTo g.G.Guest.seen g.G.Guest.moves a.cx.now.options core c.store_row.new.cx.core.now (fixed list.size s) a.at v a.place c.store_row.result) (sym c.in-FixedLengthList.is)
     (fixed_stores g.G.Guest.seen g.G.Guest.moves g.met.G.Guest.stays g.met.G.Guest.goes_on a.cx.now.options core c.store_row.new.cx.core.now list.size s a.at values a.place c.store_row.result room count there))
@@ -597,7 +597,7 @@ store_list-returns-in-Ok-clause-stores g t0 c =
     let s = shape_of t element in
     let shape : shape_of t (ty.List a.i) ≡ list of_items s = list_shape t c.types.result.now a.i element c.types.ensures c.list.ensures.entry in
     let placed = c.place_list.new.cx.core.now in
-    let b = c.in-Ok.block in
+    let b = c.in-Ok.list in
     let there : PlacesTo g.G.Guest.seen g.G.Guest.moves a.cx.now.options core placed (list of_items s) a.value.now a.place (Ok b) = subst (λ (v : Val). PlacesTo g.G.Guest.seen g.G.Guest.moves a.cx.now.options core placed (list of_items s) v a.place (Ok b)) (sym c.in-List.is) c.in-Ok.ensures.places in
     let pair : IsPair placed.memory c.put_pair.new.memory a.at b.pointer b.length = subst (λ (xs : List ℕ). IsPair xs c.put_pair.new.memory a.at b.pointer b.length) c.as_slice_mut.ensures.value c.put_pair.ensures in
     let room : a.at + 8 ≤ length core.memory = omega (arith, list_bytes t c.types.result.now a.i element c.types.ensures c.list.ensures.entry, c.requires.room) in
@@ -643,7 +643,7 @@ store_row-returns-in-Err-clause-stores g t0 c =
     let here = drop_at a.values.now c.loop-k.k x x c.index-values-k.is c.loop-k-test.true in
     let bytes : c.from-size.result ≡ size false s = c.from-size.ensures ∙ item_size t c.types.result.now type c.canonical_abi.result.now c.types.ensures c.canonical_abi.ensures in
     let one = item_stood g.G.Guest.seen g.G.Guest.moves g.met.G.Guest.stays g.met.G.Guest.goes_on a.cx.now.options t now c.store_value.new.cx.core.now c.loop-k.cx.options type a.at c.loop-k.k c.from-size.result x c.loop-k.next (Err c.in-Err.fault) c.loop-k.invariant.options
-        (same_types core now c.loop-k.invariant.stored.same) bytes c.in-Err.ensures.stores in
+    (same_types core now c.loop-k.invariant.stored.same) bytes c.in-Err.ensures.stores in
     row_broken g.G.Guest.seen g.G.Guest.moves g.met.G.Guest.stays g.met.G.Guest.goes_on a.cx.now.options s a.values.now core a.at a.place now c.store_value.new.cx.core.now c.loop-k.next c.loop-k.k x c.in-Err.fault here one c.loop-k.invariant.stored
 
 pub store_row-loop-k-preserved : goal.store_row-loop-k-preserved
@@ -658,7 +658,7 @@ store_row-loop-k-preserved g t0 c =
     let here = drop_at a.values.now c.loop-k.k x x c.index-values-k.is c.loop-k-test.true in
     let bytes : c.from-size.result ≡ size false s = c.from-size.ensures ∙ item_size t c.types.result.now type c.canonical_abi.result.now c.types.ensures c.canonical_abi.ensures in
     let one = item_stood g.G.Guest.seen g.G.Guest.moves g.met.G.Guest.stays g.met.G.Guest.goes_on a.cx.now.options t now c.store_value.new.cx.core.now c.loop-k.cx.options type a.at c.loop-k.k c.from-size.result x c.loop-k.next (Ok c.in-Ok.after) c.loop-k.invariant.options
-        (same_types core now c.loop-k.invariant.stored.same) bytes c.in-Ok.ensures.stores in
+    (same_types core now c.loop-k.invariant.stored.same) bytes c.in-Ok.ensures.stores in
     record {
       stored = row_go_on g.G.Guest.seen g.G.Guest.moves g.met.G.Guest.stays g.met.G.Guest.goes_on a.cx.now.options s a.values.now core a.at a.place now c.store_value.new.cx.core.now c.loop-k.next c.in-Ok.after c.loop-k.k x here (omega (arith, one.counted)) one c.loop-k.invariant.stored;
       options = c.in-Ok.ensures.same_options ∙ c.loop-k.invariant.options;

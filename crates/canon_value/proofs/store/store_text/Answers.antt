@@ -4,7 +4,7 @@ use Rattle.canon_model.specs.Shape.{string}
 use Rattle.canon_value.specs.Stores.{PlacesTo}
 use Rattle.canon_value.specs.declared.fault.Fault.TheVariants as fault
 use Rattle.canon_value.specs.declared.val.Val.{Val}
-use Rattle.canon_value.proofs.PlacedTexts.{placed_stop, text_told}
+use Rattle.canon_value.proofs.Placing.{placed_stop, text_told}
 use Rattle.canon_value.proofs.StoreSteps.{value_refused}
 use Rattle.canon_value.proofs.store.store_text.Goals as goal
 
