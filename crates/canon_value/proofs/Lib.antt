@@ -1,3 +1,4 @@
+pub mod Contents
 pub mod EachItem
 pub mod Far
 pub mod LiftLoops
@@ -7,10 +8,12 @@ pub mod Loading
 pub mod Loops
 pub mod Moves
 pub mod NearFaults
+pub mod Placing
 pub mod Pointed
 pub mod Row
 pub mod Scalars
 pub mod Steps
+pub mod StoreLists
 pub mod StoreLoops
 pub mod StoreSteps
 pub mod StoredBytes

@@ -48,7 +48,11 @@ not_done (fault.ReallocOutOfBounds a) = tt
 not_done fault.GuestTrap = tt
 not_done (fault.PointerMisaligned at) = tt
 not_done (fault.PointerOutOfBounds at) = tt
+not_done (fault.StringTooLong n) = tt
+not_done (fault.SizeOverflow n) = tt
+not_done (fault.InvalidUtf8 at) = tt
 not_done (fault.InvalidChar at) = tt
+not_done fault.HostcallFuelExhausted = tt
 not_done fault.OutOfMemory = tt
 
 -- ---- memory

@@ -116,7 +116,7 @@ fn store_list<T, G: Guest>(
     requires known { Knows (types_of cx.old.core.now) (InterfaceType.List i) }
     requires built { IsBuilt (shape_of (types_of cx.old.core.now) (InterfaceType.List i)) }
     requires small { length cx.old.core.now.memory ≤ 2 ^ 32 }
-    requires room { at + 8 ≤ length cx.old.core.now.memory }
+    requires room { at + size false (shape_of (types_of cx.old.core.now) (InterfaceType.List i)) ≤ length cx.old.core.now.memory }
     ensures stores { StoresTo G.seen G.moves cx.old.options cx.old.core.now cx.new.core.now (shape_of (types_of cx.old.core.now) (InterfaceType.List i)) at value.now place result }
     ensures same_reference { cx.new.core.ghost_name ≡ cx.old.core.ghost_name }
     ensures same_options { cx.new.options ≡ cx.old.options }
@@ -126,9 +126,9 @@ fn store_list<T, G: Guest>(
         return Err(Fault::TypeMismatch(place));
     };
     match place_list(cx, items, &element, place) {
-        Ok(block) => {
-            put_pair(cx.core.as_slice_mut(), at, block.pointer, block.length);
-            Ok(block.next)
+        Ok(list) => {
+            put_pair(cx.core.as_slice_mut(), at, list.pointer, list.length);
+            Ok(list.next)
         }
         Err(fault) => Err(fault),
     }
@@ -154,7 +154,12 @@ pub(crate) fn place_list<T, G: Guest>(
     let Some(bytes) = block_size(length, abi.size32) else {
         return Err(Fault::SizeOverflow(length));
     };
-    let pointer = cx.realloc(0, 0, abi.align32, bytes)?;
+    let answer = cx.realloc(0, 0, abi.align32, bytes);
+    let _memory = cx.core.memory();
+    let pointer = match answer {
+        Ok(pointer) => pointer,
+        Err(fault) => return Err(fault),
+    };
     match store_row(cx, items, element, pointer, place.saturating_add(1)) {
         Ok(next) => Ok(Placed {
             pointer,
@@ -166,14 +171,14 @@ pub(crate) fn place_list<T, G: Guest>(
 }
 
 /// Writes a pointer and the length after it.
-fn put_pair(memory: &mut [u8], at: u64, pointer: u64, length: u64)
+fn put_pair(memory: &mut [u8], at: u64, pointer: u64, count: u64)
     requires narrow { pointer < 2 ^ 32 }
-    requires narrow_length { length < 2 ^ 32 }
+    requires narrow_count { count < 2 ^ 32 }
     requires room { at + 8 ≤ length memory.old }
-    ensures { IsPair memory.old memory.new at pointer length }
+    ensures { IsPair memory.old memory.new at pointer count }
 {
     put_low_bytes(memory, at, pointer, 4);
-    put_low_bytes(memory, at + 4, length, 4);
+    put_low_bytes(memory, at + 4, count, 4);
 }
 
 #[cycle(store)]
