@@ -2,6 +2,7 @@ pub mod Far
 pub mod LiftLoops
 pub mod LiftSteps
 pub mod LoadedBytes
+pub mod LoadedTexts
 pub mod Loading
 pub mod Loops
 pub mod Moves
