@@ -4,6 +4,7 @@ pub mod LiftSteps
 pub mod LoadedBytes
 pub mod LoadedTexts
 pub mod Loading
+pub mod LoadingRows
 pub mod Loops
 pub mod Moves
 pub mod NearFaults

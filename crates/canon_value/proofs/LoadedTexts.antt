@@ -1,12 +1,17 @@
 -- Texts in memory.
-use Rattle.std.proofs.Common.{◌≡◌, ◌≤◌, ◌+◌, ◌-◌, ◌∙◌, IsUtf8, List, String, ap, arith, chars, drop, inr, length, refl, string_bytes, subst, sym, take, ℕ}
+use Rattle.std.proofs.Common.{◌≡◌, ◌≤◌, ◌<◌, ◌+◌, ◌-◌, ◌∙◌, IsUtf8, List, String, ap, arith, chars, drop, inr, length, refl, string_bytes, subst, sym, take, ℕ}
 use Rattle.std.specs.declared.alloc.Global.{Global}
-use Rattle.canon_model.specs.Memory.{bytes_at}
-use Rattle.canon_model.specs.Reach.{At, TextFault, badly_spelled}
-use Rattle.canon_model.specs.Text.{Spells, in_utf8, utf8}
+use Rattle.canon_model.specs.Cost.{cost}
+use Rattle.canon_model.specs.Memory.{bytes_at, length_at, pointer_at}
+use Rattle.canon_model.specs.Reach.{At, StoredFault, TextFault, address, badly_spelled, reach_cost, text_reach}
+use Rattle.canon_model.specs.Shape.{string}
+use Rattle.canon_model.specs.Text.{Encoding, Spells, in_utf8, utf8}
+use Rattle.canon_model.specs.Tree.{text}
 use Rattle.canon_model.proofs.Texts.{spells_chars, spells_is_utf8}
 use Rattle.canon_lowering.specs.Storing.{narrow}
-use Rattle.canon_value.specs.Loads.{IsTextLoaded}
+use Rattle.canon_value.specs.Loads.{Exactly, IsLoaded, IsTextLoaded, LiftBlames}
+use Rattle.canon_value.specs.declared.fault.Fault.{Fault}
+use Rattle.canon_value.specs.declared.val.Val.TheVariants as val
 
 module _ (bytes : List ℕ) (p n : ℕ) (inside : p + n ≤ length bytes) where
   read_there : take (p + n - p) (drop p bytes) ≡ bytes_at (narrow bytes) p n
@@ -29,3 +34,16 @@ module _ (bytes : List ℕ) (p n : ℕ) (inside : p + n ≤ length bytes) where
   -- bytes that are no text
   pub text_blamed : (x : At) → (IsUtf8 (take (p + n - p) (drop p bytes)) → ⊥) → TextFault utf8 (narrow bytes) x p n (badly_spelled in_utf8) x
   text_blamed x wrong = inr (record { kind_is = refl; at_is = refl }, (omega arith, inside), λ cs spelled. wrong (subst IsUtf8 (sym read_there) (spells_is_utf8 (bytes_at (narrow bytes) p n) cs spelled)))
+
+-- the text that stands at an address
+module _ (enc : Encoding) (bytes : List ℕ) (a before : ℕ) where
+  pub string_loaded : (after : ℕ) (s : String Global) → a + 8 ≤ length bytes → IsTextLoaded enc (narrow bytes) (pointer_at (narrow bytes) a) (length_at (narrow bytes) a) before after s
+      → IsLoaded enc (narrow bytes) string a before after (val.String s)
+  unfolding cost
+  string_loaded after s inside (cs, n, stored, spelled, spent) = (text cs n, (inside, stored), (cs, n, (s, refl, spelled), refl), spent)
+
+  pub string_refused : (e : Fault) → LiftBlames (Exactly (TextFault enc (narrow bytes) (address a) (pointer_at (narrow bytes) a) (length_at (narrow bytes) a)))
+      (before < text_reach enc (narrow bytes) (pointer_at (narrow bytes) a) (length_at (narrow bytes) a)) e
+      → LiftBlames (Exactly (StoredFault enc (narrow bytes) string a)) (before < reach_cost enc (narrow bytes) string a) e
+  unfolding reach_cost
+  string_refused e h = h
