@@ -35,15 +35,17 @@ module _ (bytes : List ℕ) (p n : ℕ) (inside : p + n ≤ length bytes) where
   pub text_blamed : (x : At) → (IsUtf8 (take (p + n - p) (drop p bytes)) → ⊥) → TextFault utf8 (narrow bytes) x p n (badly_spelled in_utf8) x
   text_blamed x wrong = inr (record { kind_is = refl; at_is = refl }, (omega arith, inside), λ cs spelled. wrong (subst IsUtf8 (sym read_there) (spells_is_utf8 (bytes_at (narrow bytes) p n) cs spelled)))
 
--- the text that stands at an address
-module _ (enc : Encoding) (bytes : List ℕ) (a before : ℕ) where
-  pub string_loaded : (after : ℕ) (s : String Global) → a + 8 ≤ length bytes → IsTextLoaded enc (narrow bytes) (pointer_at (narrow bytes) a) (length_at (narrow bytes) a) before after s
-      → IsLoaded enc (narrow bytes) string a before after (val.String s)
+-- the text of length n at p that stands at an address
+module _ (enc : Encoding) (bytes : List ℕ) (a p n before : ℕ) (pointer : p ≡ pointer_at (narrow bytes) a) (long : n ≡ length_at (narrow bytes) a) where
+  pub string_loaded : (after : ℕ) (s : String Global) → a + 8 ≤ length bytes → IsTextLoaded enc (narrow bytes) p n before after s → IsLoaded enc (narrow bytes) string a before after (val.String s)
   unfolding cost
-  string_loaded after s inside (cs, n, stored, spelled, spent) = (text cs n, (inside, stored), (cs, n, (s, refl, spelled), refl), spent)
+  string_loaded after s inside h =
+      let (cs, k, stored, spelled, spent) = subst (λ q. IsTextLoaded enc (narrow bytes) q (length_at (narrow bytes) a) before after s) pointer (subst (λ j. IsTextLoaded enc (narrow bytes) p j before after s) long h) in
+      (text cs k, (inside, stored), (cs, k, (s, refl, spelled), refl), spent)
 
-  pub string_refused : (e : Fault) → LiftBlames (Exactly (TextFault enc (narrow bytes) (address a) (pointer_at (narrow bytes) a) (length_at (narrow bytes) a)))
-      (before < text_reach enc (narrow bytes) (pointer_at (narrow bytes) a) (length_at (narrow bytes) a)) e
+  pub string_refused : (e : Fault) → LiftBlames (Exactly (TextFault enc (narrow bytes) (address a) p n)) (before < text_reach enc (narrow bytes) p n) e
       → LiftBlames (Exactly (StoredFault enc (narrow bytes) string a)) (before < reach_cost enc (narrow bytes) string a) e
   unfolding reach_cost
-  string_refused e h = h
+  string_refused e h =
+      subst (λ q. LiftBlames (Exactly (TextFault enc (narrow bytes) (address a) q (length_at (narrow bytes) a))) (before < text_reach enc (narrow bytes) q (length_at (narrow bytes) a)) e) pointer
+      (subst (λ j. LiftBlames (Exactly (TextFault enc (narrow bytes) (address a) p j)) (before < text_reach enc (narrow bytes) p j) e) long h)

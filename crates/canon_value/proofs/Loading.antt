@@ -12,7 +12,7 @@ use Rattle.canon_model.specs.Layout.{align, align_to, begins, ends, members_alig
 use Rattle.canon_model.specs.Memory.{Inside, Memory}
 use Rattle.canon_model.specs.Reach.{At, Kind, MemberFault, StoredFault, members_reach, reach_cost}
 use Rattle.canon_model.specs.Rep.{MembersStored}
-use Rattle.canon_model.specs.Shape.{Members, Name, ProductKind, Shape, member, member_count, no_members, of_fields, of_places, product}
+use Rattle.canon_model.specs.Shape.{Members, Name, ProductKind, Scalar, Shape, member, member_count, no_members, of_fields, of_places, product, scalar}
 use Rattle.canon_model.specs.Text.{Encoding}
 use Rattle.canon_model.specs.Tree.{Tree, Trees, no_trees, parts, tree}
 use Rattle.canon_model.proofs.Layouts.{align-dvd-align, align_to-dvd, alignment, members_alignment, members_end-le, members_end-le-size}
@@ -73,13 +73,14 @@ pub handed_on : {X : Type 0} (r : Result X Fault) (e : Fault) (Q : Fault → Typ
 handed_on (Ok y) e Q h q = tt
 handed_on (Err x) e Q h q = subst Q (sym h.1) q
 
--- only memory was wanting
-pub unblamed : (F : Kind → Place → Type 0) (Low : Type 0) (e : Fault) → e ≡ fault.OutOfMemory → LiftBlames F Low e
-unblamed F Low e h = subst (λ x. LiftBlames F Low x) (sym h) tt
-
 -- the fuel was too low
-pub exhausted : (F : Kind → Place → Type 0) (Low : Type 0) (e : Fault) → e ≡ fault.HostcallFuelExhausted → Low → LiftBlames F Low e
-exhausted F Low e h low = subst (λ x. LiftBlames F Low x) (sym h) low
+pub exhausted : {X : Type 0} (r : Result X Fault) (e : Fault) (F : Kind → Place → Type 0) (Low : Type 0) → IsErr r × IsErrAnd r (λ x. x ≡ e) → e ≡ fault.HostcallFuelExhausted → Low → IfErr r (LiftBlames F Low)
+exhausted r e F Low h is low = handed_on r e (LiftBlames F Low) h (subst (λ x. LiftBlames F Low x) (sym is) low)
+
+-- of an error, what follows
+pub on_err : {X : Type 0} (r : Result X Fault) (P Q : Fault → Type 0) → ((e : Fault) → P e → Q e) → IfErr r P → IfErr r Q
+on_err (Ok y) P Q f h = tt
+on_err (Err x) P Q f h = f x h
 
 -- ---- the walk
 
@@ -209,6 +210,18 @@ pub names_next : (ms rest more : Members) (name : Name) (s : Shape) (done now : 
     → now ++ member_names more ≡ member_names ms
 names_next ms rest more name s done now split e h =
     ap (λ (xs : List Name). xs ++ member_names more) e ∙ (append_assoc done (name ∷ []) (member_names more) ∙ (ap (λ (r : Members). done ++ member_names r) (sym split) ∙ h))
+
+pub names_end : (ms rest : Members) (done : List Name) → rest ≡ no_members → done ++ member_names rest ≡ member_names ms → done ≡ member_names ms
+names_end ms rest done none h = sym (append-nil done) ∙ (ap (λ (r : Members). done ++ member_names r) (sym none) ∙ h)
+
+-- ---- scalars
+
+-- a scalar is free
+pub scalar_refused : {X : Type 0} (enc : Encoding) (bytes : List ℕ) (k : Scalar) (a before : ℕ) (r : Result X Fault) → IfErr r (LiftBlames (Exactly (StoredFault enc (narrow bytes) (scalar k) a)) ⊥)
+    → IfErr r (LiftBlames (Exactly (StoredFault enc (narrow bytes) (scalar k) a)) (before < reach_cost enc (narrow bytes) (scalar k) a))
+scalar_refused enc bytes k a before r h =
+    on_err r (LiftBlames (Exactly (StoredFault enc (narrow bytes) (scalar k) a)) ⊥) (LiftBlames (Exactly (StoredFault enc (narrow bytes) (scalar k) a)) (before < reach_cost enc (narrow bytes) (scalar k) a))
+    (λ e g. blamed_by (Exactly (StoredFault enc (narrow bytes) (scalar k) a)) (Exactly (StoredFault enc (narrow bytes) (scalar k) a)) ⊥ (before < reach_cost enc (narrow bytes) (scalar k) a) (λ j x f. f) (λ (no : ⊥). absurd no) e g) h
 
 -- ---- members of a tuple, whose names are empty
 

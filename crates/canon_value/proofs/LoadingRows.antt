@@ -10,10 +10,12 @@ use Rattle.canon_model.specs.Memory.{Memory, length_at, pointer_at}
 use Rattle.canon_model.specs.Reach.{At, Kind, address, ListFault, SomeElement, StoredFault, list_reach, misaligned, out_of_bounds, reach_cost, sum_at}
 use Rattle.canon_model.specs.Shape.{Shape, fixed, list, of_items}
 use Rattle.canon_model.specs.Text.{Encoding}
-use Rattle.canon_model.specs.Tree.{Tree, Trees, items, no_trees, parts, tree, tree_count}
+use Rattle.canon_model.specs.Tree.{Tree, Trees, items, no_trees, parts, sum_of, tree, tree_count}
 use Rattle.canon_model.proofs.Layouts.{elements_fit}
 use Rattle.canon_model.proofs.Reached.{reach_is_the_cost}
+use Rattle.canon_table.specs.Depth.{depth}
 use Rattle.canon_lowering.specs.Storing.{narrow}
+use Rattle.canon_value.specs.Built.{IsBuilt}
 use Rattle.canon_value.specs.Loads.{Exactly, IsListLoaded, IsLoaded, IsRowLoaded, LiftBlames, place_of}
 use Rattle.canon_value.specs.Value.{EachHas, HasTree}
 use Rattle.canon_value.specs.declared.fault.Fault.{Fault}
@@ -134,20 +136,25 @@ module _ (enc : Encoding) (bytes : List ℕ) (s : Shape) (p n before : ℕ) wher
 -- ---- values that hold a row
 
 module _ (enc : Encoding) (bytes : List ℕ) (whole s : Shape) (a before : ℕ) where
-  module _ (is : whole ≡ list of_items s) where
-    pub list_refused : (e : Fault) → LiftBlames (Exactly (ItemsFault enc bytes s (pointer_at (narrow bytes) a) (length_at (narrow bytes) a) before (address a))) (before < items_reach enc bytes s (pointer_at (narrow bytes) a) (length_at (narrow bytes) a) before) e
+  -- the list of n items at p that stands there
+  module _ (p n : ℕ) (is : whole ≡ list of_items s) (pointer : p ≡ pointer_at (narrow bytes) a) (long : n ≡ length_at (narrow bytes) a) where
+    pub list_refused : (e : Fault) → LiftBlames (Exactly (ItemsFault enc bytes s p n before (address a))) (before < items_reach enc bytes s p n before) e
         → LiftBlames (Exactly (StoredFault enc (narrow bytes) whole a)) (before < reach_cost enc (narrow bytes) whole a) e
     unfolding reach_cost
-    list_refused e h = subst (λ x. LiftBlames (Exactly (StoredFault enc (narrow bytes) x a)) (before < reach_cost enc (narrow bytes) x a) e) (sym is) h
+    list_refused e h =
+        subst (λ x. LiftBlames (Exactly (StoredFault enc (narrow bytes) x a)) (before < reach_cost enc (narrow bytes) x a) e) (sym is)
+        (subst (λ q. LiftBlames (Exactly (ItemsFault enc bytes s q (length_at (narrow bytes) a) before (address a))) (before < items_reach enc bytes s q (length_at (narrow bytes) a) before) e) pointer
+        (subst (λ j. LiftBlames (Exactly (ItemsFault enc bytes s p j before (address a))) (before < items_reach enc bytes s p j before) e) long h))
 
-    pub list_loaded : (after : ℕ) (vs : Vec Val Global) → a + 8 ≤ length bytes → IsListLoaded enc (narrow bytes) s (pointer_at (narrow bytes) a) (length_at (narrow bytes) a) before after vs.items
-        → IsLoaded enc (narrow bytes) whole a before after (val.List vs)
+    pub list_loaded : (after : ℕ) (vs : Vec Val Global) → a + 8 ≤ length bytes → IsListLoaded enc (narrow bytes) s p n before after vs.items → IsLoaded enc (narrow bytes) whole a before after (val.List vs)
     unfolding cost
-    list_loaded after vs inside (ts, h, have, spent) =
+    list_loaded after vs inside loaded =
+        let (ts, h, have, spent) = subst (λ q. IsListLoaded enc (narrow bytes) s q (length_at (narrow bytes) a) before after vs.items) pointer (subst (λ j. IsListLoaded enc (narrow bytes) s p j before after vs.items) long loaded) in
         let same : items ts ≡ items h.trees = h.is in
         let those : ts ≡ h.trees = cc in
+        let count : tree_count ts ≡ length_at (narrow bytes) a = ap tree_count those ∙ h.count in
         subst (λ x. IsLoaded enc (narrow bytes) x a before after (val.List vs)) (sym is)
-        (items ts, (inside, h), (vs.items, ts, (vs, refl, refl), refl, have), omega (arith, spent, h.count, ap tree_count those))
+        (items ts, (inside, h), (vs.items, ts, (vs, refl, refl), refl, have), spent ∙ ap (λ k. after + (k * val_cost + sum_of (λ t. cost s t) ts)) (sym count))
 
   module _ (n mid : ℕ) (is : whole ≡ fixed n s) where
     pub fixed_short : before < n * val_cost → before < reach_cost enc (narrow bytes) whole a
@@ -167,3 +174,20 @@ module _ (enc : Encoding) (bytes : List ℕ) (whole s : Shape) (a before : ℕ) 
       fixed_loaded after vs inside (ts, count, stored, have, spent) =
           subst (λ x. IsLoaded enc (narrow bytes) x a before after (val.FixedLengthList vs)) (sym is)
           (parts ts, (subst (λ x. a + size false x ≤ length bytes) is inside, record { trees = ts; is = refl; count = count; each = stored }), (vs.items, ts, (vs, refl, refl), has_count (λ v t. HasTree s v t) vs.items ts have ∙ count, refl, have), omega (arith, charged, spent))
+
+-- ---- types with elements
+
+pub record HasElements (bytes : List ℕ) (s element : Shape) (a n : ℕ) : Type 0 where
+  pub built : IsBuilt element
+  pub aligned : a % align false element ≡ 0
+  pub inside : a + n * size false element ≤ length bytes
+  pub deep : depth s ≡ 1 + depth element
+
+pub has_elements : (bytes : List ℕ) (s element : Shape) (a n : ℕ) → s ≡ fixed n element → IsBuilt s → a % align false s ≡ 0 → a + size false s ≤ length bytes → HasElements bytes s element a n
+unfolding align size
+has_elements bytes s element a n e built aligned inside = record {
+  built = subst IsBuilt e built;
+  aligned = subst (λ x. a % align false x ≡ 0) e aligned;
+  inside = subst (λ x. a + size false x ≤ length bytes) e inside;
+  deep = ap depth e;
+}
