@@ -191,3 +191,8 @@ has_elements bytes s element a n e built aligned inside = record {
   inside = subst (λ x. a + size false x ≤ length bytes) e inside;
   deep = ap depth e;
 }
+
+-- where a list stands, 8 bytes are inside
+pub list_room : (bytes : List ℕ) (s element : Shape) (a : ℕ) → s ≡ list of_items element → a + size false s ≤ length bytes → a + 8 ≤ length bytes
+unfolding size
+list_room bytes s element a e h = subst (λ x. a + size false x ≤ length bytes) e h

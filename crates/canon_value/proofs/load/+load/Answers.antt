@@ -18,7 +18,7 @@ use Rattle.canon_value.specs.Value.{member_names, names_in, values_in}
 use Rattle.canon_value.specs.declared.val.Val.{Val}
 use Rattle.canon_value.proofs.LoadedBytes.{scalar_room}
 use Rattle.canon_value.proofs.Loading.{IsLoading, charged_reach, exhausted, handed_on, has_members, loading_begins, loading_ends, members_loaded, members_refused, names_end, names_next, next_aligned, next_built, next_fits, next_loaded, next_refused, next_room, next_unnamed, record_loaded, record_refused, record_short, scalar_refused, tuple_loaded, tuple_refused, tuple_short}
-use Rattle.canon_value.proofs.LoadingRows.{IsRowLoading, RowFault, element_aligned, element_inside, fixed_loaded, fixed_refused, fixed_short, has_elements, list_loaded, list_refused, row_begins, row_ends, row_loaded, row_reach, row_refused}
+use Rattle.canon_value.proofs.LoadingRows.{IsRowLoading, RowFault, element_aligned, element_inside, fixed_loaded, fixed_refused, fixed_short, has_elements, list_loaded, list_refused, list_room, row_begins, row_ends, row_loaded, row_reach, row_refused}
 use Rattle.canon_value.proofs.Row.{count_fields, count_members, drop_all, field_at, field_depth, field_known, member_at, member_depth}
 use Rattle.canon_value.proofs.Unbuilt.{built_scalar, scalar_shape}
 use Rattle.canon_value.proofs.load.+load.Goals as goal
@@ -201,8 +201,20 @@ load_fixed-returns-in-Err-clause-err t c =
 
 pub load_items-load_row-requires : goal.load_items-load_row-requires
 load_items-load_row-requires t c =
-    let inside : c.args.pointer + c.args.length * size false (shape_of c.args.source.now.types.now c.args.element.now) ≤ length c.args.source.now.memory.now = ? in
-    (omega arith, (c.requires.known, (c.requires.built, (?, inside))))
+    let size_is : c.from.result ≡ size false (shape_of c.args.source.now.types.now c.args.element.now) = c.from.ensures ∙ c.canonical_abi-abi.ensures.size in
+    let align_is : c.from-2.result ≡ align false (shape_of c.args.source.now.types.now c.args.element.now) = c.from-2.ensures ∙ c.canonical_abi-abi.ensures.align in
+    let inside : c.args.pointer + c.args.length * size false (shape_of c.args.source.now.types.now c.args.element.now) ≤ length c.args.source.now.memory.now = subst (λ k. c.args.pointer + c.args.length * k ≤ length c.args.source.now.memory.now) size_is (omega arith) in
+    (omega arith, (c.requires.known, (c.requires.built, (subst (λ k. c.args.pointer % k ≡ 0) align_is c.if-pointer-from-ne0.false, inside))))
+
+pub load_list-load_u32-requires : goal.load_list-load_u32-requires
+load_list-load_u32-requires t c =
+    let room = (list_room c.args.source.now.memory.now (shape_of c.args.source.now.types.now (ty.List c.args.i)) (shape_of c.args.source.now.types.now c.list.result.now.element) c.args.at c.list.ensures.entry.shape c.requires.inside) in
+    omega (arith, room)
+
+pub load_list-load_u32-requires-2 : goal.load_list-load_u32-requires-2
+load_list-load_u32-requires-2 t c =
+    let room = (list_room c.args.source.now.memory.now (shape_of c.args.source.now.types.now (ty.List c.args.i)) (shape_of c.args.source.now.types.now c.list.result.now.element) c.args.at c.list.ensures.entry.shape c.requires.inside) in
+    omega (arith, room)
 
 pub load_list-load_items-requires : goal.load_list-load_items-requires
 load_list-load_items-requires t c =
@@ -210,7 +222,7 @@ load_list-load_items-requires t c =
     (omega (arith, ap depth shape), (c.list.ensures.entry.known 0 c.list.result.now.element (omega arith), (subst IsBuilt shape c.requires.built, (omega arith, omega arith))))
 
 pub load_list-returns-in-Ok-clause-ok : goal.load_list-returns-in-Ok-clause-ok
-load_list-returns-in-Ok-clause-ok t c = list_loaded (encoding_of c.args.source.now.encoding) c.args.source.now.memory.now (shape_of c.args.source.now.types.now (ty.List c.args.i)) (shape_of c.args.source.now.types.now c.list.result.now.element) c.args.at c.args.fuel.now c.from-pointer.result c.from-length.result c.list.ensures.entry.shape (c.from-pointer.ensures ∙ c.load_u32.ensures) (c.from-length.ensures ∙ c.load_u32-2.ensures) c.load_items.new.fuel c.in-Ok.items c.requires.inside c.in-Ok.ensures.ok
+load_list-returns-in-Ok-clause-ok t c = list_loaded (encoding_of c.args.source.now.encoding) c.args.source.now.memory.now (shape_of c.args.source.now.types.now (ty.List c.args.i)) (shape_of c.args.source.now.types.now c.list.result.now.element) c.args.at c.args.fuel.now c.from-pointer.result c.from-length.result c.list.ensures.entry.shape (c.from-pointer.ensures ∙ c.load_u32.ensures) (c.from-length.ensures ∙ c.load_u32-2.ensures) c.load_items.new.fuel c.in-Ok.items (list_room c.args.source.now.memory.now (shape_of c.args.source.now.types.now (ty.List c.args.i)) (shape_of c.args.source.now.types.now c.list.result.now.element) c.args.at c.list.ensures.entry.shape c.requires.inside) c.in-Ok.ensures.ok
 
 pub load_list-returns-in-Err-clause-err : goal.load_list-returns-in-Err-clause-err
 load_list-returns-in-Err-clause-err t c = list_refused (encoding_of c.args.source.now.encoding) c.args.source.now.memory.now (shape_of c.args.source.now.types.now (ty.List c.args.i)) (shape_of c.args.source.now.types.now c.list.result.now.element) c.args.at c.args.fuel.now c.from-pointer.result c.from-length.result c.list.ensures.entry.shape (c.from-pointer.ensures ∙ c.load_u32.ensures) (c.from-length.ensures ∙ c.load_u32-2.ensures) c.in-Err.fault c.in-Err.ensures.err
@@ -218,7 +230,7 @@ load_list-returns-in-Err-clause-err t c = list_refused (encoding_of c.args.sourc
 pub load_record-returns-in_err-charge_each-clause-err : goal.load_record-returns-in_err-charge_each-clause-err
 load_record-returns-in_err-charge_each-clause-err t c =
     let shape : shape_of c.args.source.now.types.now (ty.Record c.args.i) ≡ product of_fields (field_members c.args.source.now.types.now c.record.result.now.fields.items) = c.record.ensures.entry.shape in
-    let short : c.args.fuel.now < member_count (field_members c.args.source.now.types.now c.record.result.now.fields.items) * val_cost = ? in
+    let short : c.args.fuel.now < member_count (field_members c.args.source.now.types.now c.record.result.now.fields.items) * val_cost = omega (arith, count_fields c.args.source.now.types.now c.record.result.now.fields.items, c.len.ensures, c.in_err-charge_each.ensures.1) in
     exhausted c.from_residual.result c.in_err-charge_each.field-0.0 (Exactly (StoredFault (encoding_of c.args.source.now.encoding) (narrow c.args.source.now.memory.now) (shape_of c.args.source.now.types.now (ty.Record c.args.i)) c.args.at)) (c.args.fuel.now < reach_cost (encoding_of c.args.source.now.encoding) (narrow c.args.source.now.memory.now) (shape_of c.args.source.now.types.now (ty.Record c.args.i)) c.args.at)
     c.from_residual.ensures c.in_err-charge_each.ensures.0 (record_short (encoding_of c.args.source.now.encoding) c.args.source.now.memory.now (shape_of c.args.source.now.types.now (ty.Record c.args.i)) (field_members c.args.source.now.types.now c.record.result.now.fields.items) c.args.at c.args.fuel.now c.charge_each.new.fuel c.requires.inside shape short)
 
@@ -231,19 +243,19 @@ load_record-load_fields-requires t c =
 pub load_record-returns-in-Ok-clause-ok : goal.load_record-returns-in-Ok-clause-ok
 load_record-returns-in-Ok-clause-ok t c =
     let shape : shape_of c.args.source.now.types.now (ty.Record c.args.i) ≡ product of_fields (field_members c.args.source.now.types.now c.deref.result.now) = c.record.ensures.entry.shape ∙ ap (λ (xs : List RecordField). product of_fields (field_members c.args.source.now.types.now xs)) (sym c.deref.ensures.value) in
-    let charged : c.args.fuel.now ≡ c.charge_each.new.fuel + member_count (field_members c.args.source.now.types.now c.deref.result.now) * val_cost = ? in
+    let charged : c.args.fuel.now ≡ c.charge_each.new.fuel + member_count (field_members c.args.source.now.types.now c.deref.result.now) * val_cost = omega (arith, count_fields c.args.source.now.types.now c.deref.result.now, ap length c.deref.ensures.value, c.len.ensures, c.in_ok-charge_each.ensures) in
     record_loaded (encoding_of c.args.source.now.encoding) c.args.source.now.memory.now (shape_of c.args.source.now.types.now (ty.Record c.args.i)) (field_members c.args.source.now.types.now c.deref.result.now) c.args.at c.args.fuel.now c.charge_each.new.fuel c.requires.inside shape c.load_fields.new.fuel c.in-Ok.values charged c.in-Ok.ensures.ok
 
 pub load_record-returns-in-Err-clause-err : goal.load_record-returns-in-Err-clause-err
 load_record-returns-in-Err-clause-err t c =
     let shape : shape_of c.args.source.now.types.now (ty.Record c.args.i) ≡ product of_fields (field_members c.args.source.now.types.now c.deref.result.now) = c.record.ensures.entry.shape ∙ ap (λ (xs : List RecordField). product of_fields (field_members c.args.source.now.types.now xs)) (sym c.deref.ensures.value) in
-    let charged : c.args.fuel.now ≡ c.charge_each.new.fuel + member_count (field_members c.args.source.now.types.now c.deref.result.now) * val_cost = ? in
+    let charged : c.args.fuel.now ≡ c.charge_each.new.fuel + member_count (field_members c.args.source.now.types.now c.deref.result.now) * val_cost = omega (arith, count_fields c.args.source.now.types.now c.deref.result.now, ap length c.deref.ensures.value, c.len.ensures, c.in_ok-charge_each.ensures) in
     record_refused (encoding_of c.args.source.now.encoding) c.args.source.now.memory.now (shape_of c.args.source.now.types.now (ty.Record c.args.i)) (field_members c.args.source.now.types.now c.deref.result.now) c.args.at c.args.fuel.now c.charge_each.new.fuel c.requires.inside shape charged c.in-Err.fault c.in-Err.ensures.err
 
 pub load_tuple-returns-in_err-charge_each-clause-err : goal.load_tuple-returns-in_err-charge_each-clause-err
 load_tuple-returns-in_err-charge_each-clause-err t c =
     let shape : shape_of c.args.source.now.types.now (ty.Tuple c.args.i) ≡ product of_places (members_of c.args.source.now.types.now c.tuple.result.now.types.items) = c.tuple.ensures.entry.shape in
-    let short : c.args.fuel.now < member_count (members_of c.args.source.now.types.now c.tuple.result.now.types.items) * val_cost = ? in
+    let short : c.args.fuel.now < member_count (members_of c.args.source.now.types.now c.tuple.result.now.types.items) * val_cost = omega (arith, count_members c.args.source.now.types.now c.tuple.result.now.types.items, c.len.ensures, c.in_err-charge_each.ensures.1) in
     exhausted c.from_residual.result c.in_err-charge_each.field-0.0 (Exactly (StoredFault (encoding_of c.args.source.now.encoding) (narrow c.args.source.now.memory.now) (shape_of c.args.source.now.types.now (ty.Tuple c.args.i)) c.args.at)) (c.args.fuel.now < reach_cost (encoding_of c.args.source.now.encoding) (narrow c.args.source.now.memory.now) (shape_of c.args.source.now.types.now (ty.Tuple c.args.i)) c.args.at)
     c.from_residual.ensures c.in_err-charge_each.ensures.0 (tuple_short (encoding_of c.args.source.now.encoding) c.args.source.now.memory.now (shape_of c.args.source.now.types.now (ty.Tuple c.args.i)) (members_of c.args.source.now.types.now c.tuple.result.now.types.items) c.args.at c.args.fuel.now c.charge_each.new.fuel c.requires.inside c.args.source.now.types.now c.tuple.result.now.types.items refl shape short)
 
@@ -256,13 +268,13 @@ load_tuple-load_members-requires t c =
 pub load_tuple-returns-in-Ok-clause-ok : goal.load_tuple-returns-in-Ok-clause-ok
 load_tuple-returns-in-Ok-clause-ok t c =
     let shape : shape_of c.args.source.now.types.now (ty.Tuple c.args.i) ≡ product of_places (members_of c.args.source.now.types.now c.deref.result.now) = c.tuple.ensures.entry.shape ∙ ap (λ (xs : List InterfaceType). product of_places (members_of c.args.source.now.types.now xs)) (sym c.deref.ensures.value) in
-    let charged : c.args.fuel.now ≡ c.charge_each.new.fuel + member_count (members_of c.args.source.now.types.now c.deref.result.now) * val_cost = ? in
+    let charged : c.args.fuel.now ≡ c.charge_each.new.fuel + member_count (members_of c.args.source.now.types.now c.deref.result.now) * val_cost = omega (arith, count_members c.args.source.now.types.now c.deref.result.now, ap length c.deref.ensures.value, c.len.ensures, c.in_ok-charge_each.ensures) in
     tuple_loaded (encoding_of c.args.source.now.encoding) c.args.source.now.memory.now (shape_of c.args.source.now.types.now (ty.Tuple c.args.i)) (members_of c.args.source.now.types.now c.deref.result.now) c.args.at c.args.fuel.now c.charge_each.new.fuel c.requires.inside c.args.source.now.types.now c.deref.result.now refl shape c.load_members.new.fuel c.in-Ok.values charged c.in-Ok.ensures.ok
 
 pub load_tuple-returns-in-Err-clause-err : goal.load_tuple-returns-in-Err-clause-err
 load_tuple-returns-in-Err-clause-err t c =
     let shape : shape_of c.args.source.now.types.now (ty.Tuple c.args.i) ≡ product of_places (members_of c.args.source.now.types.now c.deref.result.now) = c.tuple.ensures.entry.shape ∙ ap (λ (xs : List InterfaceType). product of_places (members_of c.args.source.now.types.now xs)) (sym c.deref.ensures.value) in
-    let charged : c.args.fuel.now ≡ c.charge_each.new.fuel + member_count (members_of c.args.source.now.types.now c.deref.result.now) * val_cost = ? in
+    let charged : c.args.fuel.now ≡ c.charge_each.new.fuel + member_count (members_of c.args.source.now.types.now c.deref.result.now) * val_cost = omega (arith, count_members c.args.source.now.types.now c.deref.result.now, ap length c.deref.ensures.value, c.len.ensures, c.in_ok-charge_each.ensures) in
     tuple_refused (encoding_of c.args.source.now.encoding) c.args.source.now.memory.now (shape_of c.args.source.now.types.now (ty.Tuple c.args.i)) (members_of c.args.source.now.types.now c.deref.result.now) c.args.at c.args.fuel.now c.charge_each.new.fuel c.requires.inside c.args.source.now.types.now c.deref.result.now refl shape charged c.in-Err.fault c.in-Err.ensures.err
 
 pub load_value-load_record-requires : goal.load_value-load_record-requires
@@ -278,7 +290,7 @@ load_value-load_tuple-requires t c =
 pub load_value-load_list-requires : goal.load_value-load_list-requires
 load_value-load_list-requires t c =
     let deep : depth (shape_of c.args.source.now.types.now c.args.ty.now) ≡ depth (shape_of c.args.source.now.types.now (ty.List c.in-List.i)) = ap (λ (x : InterfaceType). depth (shape_of c.args.source.now.types.now x)) c.in-List.is in
-    (omega (arith, deep), (subst (λ (x : InterfaceType). Knows c.args.source.now.types.now x) c.in-List.is c.requires.known, (subst (λ (x : InterfaceType). IsBuilt (shape_of c.args.source.now.types.now x)) c.in-List.is c.requires.built, ?)))
+    (omega (arith, deep), (subst (λ (x : InterfaceType). Knows c.args.source.now.types.now x) c.in-List.is c.requires.known, (subst (λ (x : InterfaceType). IsBuilt (shape_of c.args.source.now.types.now x)) c.in-List.is c.requires.built, subst (λ (x : InterfaceType). c.args.at + size false (shape_of c.args.source.now.types.now x) ≤ length c.args.source.now.memory.now) c.in-List.is c.requires.inside)))
 
 pub load_value-load_fixed-requires : goal.load_value-load_fixed-requires
 load_value-load_fixed-requires t c =
@@ -286,7 +298,8 @@ load_value-load_fixed-requires t c =
     (omega (arith, deep), (subst (λ (x : InterfaceType). Knows c.args.source.now.types.now x) c.in-FixedLengthList.is c.requires.known, (subst (λ (x : InterfaceType). IsBuilt (shape_of c.args.source.now.types.now x)) c.in-FixedLengthList.is c.requires.built, (subst (λ (x : InterfaceType). c.args.at % align false (shape_of c.args.source.now.types.now x) ≡ 0) c.in-FixedLengthList.is c.requires.aligned, subst (λ (x : InterfaceType). c.args.at + size false (shape_of c.args.source.now.types.now x) ≤ length c.args.source.now.memory.now) c.in-FixedLengthList.is c.requires.inside))))
 
 pub load_value-load_string-requires : goal.load_value-load_string-requires
-load_value-load_string-requires t c = ?
+unfolding size
+load_value-load_string-requires t c = record { inside = subst (λ (x : InterfaceType). c.args.at + size false (shape_of c.args.source.now.types.now x) ≤ length c.args.source.now.memory.now) c.in-String.is c.requires.inside }
 
 pub load_value-returns-in-String-clause-err : goal.load_value-returns-in-String-clause-err
 load_value-returns-in-String-clause-err t c =
