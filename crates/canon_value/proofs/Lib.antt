@@ -1,3 +1,5 @@
+pub mod Blames
+pub mod EachItem
 pub mod Far
 pub mod LiftLoops
 pub mod LiftSteps
