@@ -1,5 +1,6 @@
 -- Steps of lifting from words, over plain variables.
-use Rattle.std.proofs.Common.{◌≡◌, ◌≤◌, ◌<◌, ◌%◌, ◌*◌, ◌+◌, ◌^◌, ◌∙◌, Err, List, Ok, String, Vec, [], ◌∷◌, ap, ap₂, arith, false, inl, inr, length, refl, string_bytes, subst, suc, sym, ℕ}
+use Rattle.std.proofs.Common.{◌≡◌, ◌≤◌, ◌<◌, ◌%◌, ◌*◌, ◌+◌, ◌^◌, ◌∙◌, Err, List, Ok, String, Vec, [], ◌∷◌, ap, ap₂, arith, false, inl, inr, length, refl, string_bytes, subst, suc, sym, ℕ, IfErr, IfOk, Result, le-leb, nat_le}
+use Rattle.std.proofs.lemmas.Bool.{cond-true}
 use Rattle.std.proofs.lemmas.List.{get_or_default}
 use Rattle.std.specs.Prelude.{get_or, slice_index}
 use Rattle.std.specs.declared.alloc.Global.{Global}
@@ -272,3 +273,29 @@ module _ (enc : Encoding) (m : Memory) (ws : List ℕ) where
   results_lifted ms to before after vs near count (ts, rep, have, spent, words) =
       let all : RepResults false enc m ws ms ts = record { near = λ _. (count, rep); far = λ far. absurd (omega (arith, near, far)) } in
       record { its_trees = ts; represented = all; no_other = λ others other. one_tree.values max_results false enc m ws ms others ts other all; have = have; spent = spent }
+
+  results_refused : (ms : Members) (before : ℕ) (e : Fault) → members_flat ms ≤ max_results → MembersLiftTo enc m ws 0 0 before before ms (Err e)
+      → LiftBlames (Told (ValuesFault enc m ws max_results ms)) (before < values_reach enc m ws max_results ms) e
+  results_refused ms before e near h =
+      let reach : values_reach enc m ws max_results ms ≡ members_flat_reach enc m ws ms 0 = cond-true (nat_le (members_flat ms) max_results) _ _ (le-leb _ _ near) in
+      told_by (MemberFlatFault enc m ws ms 0) (ValuesFault enc m ws max_results ms) _ _ (λ k x f. inl (near, f)) (λ low. omega (arith, low, reach)) e h
+
+  pub results_ok : (ms : Members) (to before after : ℕ) (r : Result (Vec Val Global) Fault) → members_flat ms ≤ max_results → length ws ≡ members_flat ms → MembersLiftTo enc m ws 0 to before after ms r
+      → IfOk r (λ values. AreResults enc m ms ws before after values.items)
+  results_ok ms to before after (Ok values) near count h = results_lifted ms to before after values.items near count h
+  results_ok ms to before after (Err e) near count h = tt
+
+  pub results_err : (ms : Members) (to before after : ℕ) (r : Result (Vec Val Global) Fault) → members_flat ms ≤ max_results → MembersLiftTo enc m ws 0 to before after ms r
+      → IfErr r (LiftBlames (Told (ValuesFault enc m ws max_results ms)) (before < values_reach enc m ws max_results ms))
+  results_err ms to before after (Ok values) near h = tt
+  results_err ms to before after (Err e) near h = results_refused ms before e near h
+
+  -- ---- the answer
+
+  pub lift_ok : (s : Shape) (from to before after : ℕ) (r : Result Val Fault) → LiftsTo enc m ws from to before after s r → IfOk r (IsOfWords enc m s ws from before after)
+  lift_ok s from to before after (Ok v) h = h.0
+  lift_ok s from to before after (Err e) h = tt
+
+  pub lift_err : (s : Shape) (from to before after : ℕ) (r : Result Val Fault) → LiftsTo enc m ws from to before after s r → IfErr r (LiftBlames (Told (FlatFault enc m ws s from)) (before < flat_reach enc m ws s from))
+  lift_err s from to before after (Ok v) h = tt
+  lift_err s from to before after (Err e) h = h
