@@ -4,7 +4,9 @@ pub mod Far
 pub mod LiftLoops
 pub mod LiftSteps
 pub mod LoadedBytes
+pub mod LoadedTexts
 pub mod Loading
+pub mod LoadingRows
 pub mod Loops
 pub mod Moves
 pub mod NearFaults

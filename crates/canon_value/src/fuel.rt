@@ -25,8 +25,12 @@ pub(crate) fn charge(fuel: &mut u64, amount: u64) -> Result<(), Fault>
 pub(crate) fn charge_each(fuel: &mut u64, count: u64, each: u64) -> Result<(), Fault>
     ensures { Charged (count * each) fuel.old fuel.new result }
 {
+    let available = *fuel;
     match count.checked_mul(each) {
-        Some(amount) => charge(fuel, amount),
-        None => Err(Fault::HostcallFuelExhausted),
+        Some(amount) if amount <= available => {
+            *fuel = available - amount;
+            Ok(())
+        }
+        _ => Err(Fault::HostcallFuelExhausted),
     }
 }
