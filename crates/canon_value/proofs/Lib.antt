@@ -1,4 +1,5 @@
 pub mod Contents
+pub mod Blames
 pub mod EachItem
 pub mod Far
 pub mod LiftLoops

@@ -302,15 +302,15 @@ fn lift_list(
 ) -> Result<Val, Fault>
     requires known { Knows source.now.types.now (InterfaceType.List i) }
     requires built { IsBuilt (shape_of source.now.types.now (InterfaceType.List i)) }
-    requires room { at.old + 2 ≤ length src.now }
+    requires room { at.old + flat (shape_of source.now.types.now (InterfaceType.List i)) ≤ length src.now }
     ensures lifts { LiftsTo (encoding_of source.now.encoding) (narrow source.now.memory.now) src.now at.old at.new fuel.old fuel.new (shape_of source.now.types.now (InterfaceType.List i)) result }
     ensures falls { fuel.new ≤ fuel.old }
 {
+    let element = &source.types.list(i).element;
     let index = *at;
     *at += 2;
     let pointer = u64::from(src[index].get_u32());
     let length = u64::from(src[index + 1].get_u32());
-    let element = &source.types.list(i).element;
     match load_items(
         alloc,
         source,
