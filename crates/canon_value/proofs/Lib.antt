@@ -1,5 +1,5 @@
-pub mod Contents
 pub mod Blames
+pub mod Contents
 pub mod EachItem
 pub mod Far
 pub mod LiftLoops
@@ -20,6 +20,9 @@ pub mod StoreLists
 pub mod StoreLoops
 pub mod StoreSteps
 pub mod StoredBytes
-pub mod Tops
 pub mod Unbuilt
 pub mod Values
+pub mod WordFits
+pub mod WordLoops
+pub mod WordMoves
+pub mod WordSteps

@@ -101,20 +101,20 @@ scalar_type_bytes t type (k, e) = subst (λ (s : Shape). size false s ≤ 8) (sy
 
 -- ---- names
 
-heads : (n m : Name) (ns ms : List Name) → n ∷ ns ≡ m ∷ ms → n ≡ m
+pub heads : (n m : Name) (ns ms : List Name) → n ∷ ns ≡ m ∷ ms → n ≡ m
 heads n m ns ms e = cc
 
-tails : (n m : Name) (ns ms : List Name) → n ∷ ns ≡ m ∷ ms → ns ≡ ms
+pub tails : (n m : Name) (ns ms : List Name) → n ∷ ns ≡ m ∷ ms → ns ≡ ms
 tails n m ns ms e = cc
 
 -- the names are the members', and the values are of their types
 abbrev pub Named : Members → List Name → List Val → Trees → Type 0
 Named ms names vs ts = (names ≡ member_names ms) × HaveTrees ms vs ts
 
-named_join : (name named : Name) (s : Shape) (ms : Members) (names : List Name) (v : Val) (vs : List Val) → named ≡ name → (ts : Trees) → FirstAnd (HasTree s v) (Named ms names vs) ts → Named (member name s ms) (named ∷ names) (v ∷ vs) ts
+pub named_join : (name named : Name) (s : Shape) (ms : Members) (names : List Name) (v : Val) (vs : List Val) → named ≡ name → (ts : Trees) → FirstAnd (HasTree s v) (Named ms names vs) ts → Named (member name s ms) (named ∷ names) (v ∷ vs) ts
 named_join name named s ms names v vs en ts (t, rest, is, has, (same, have)) = (ap₂ (λ x xs. x ∷ xs) en same, (v, vs, t, rest, refl, is, has, have))
 
-named_split : (name named : Name) (s : Shape) (ms : Members) (names : List Name) (v : Val) (vs : List Val) → (ts : Trees) → Named (member name s ms) (named ∷ names) (v ∷ vs) ts → FirstAnd (HasTree s v) (Named ms names vs) ts
+pub named_split : (name named : Name) (s : Shape) (ms : Members) (names : List Name) (v : Val) (vs : List Val) → (ts : Trees) → Named (member name s ms) (named ∷ names) (v ∷ vs) ts → FirstAnd (HasTree s v) (Named ms names vs) ts
 named_split name named s ms names v vs ts (same, (w, others, t, rest, ev, et, has, have)) =
     let first : w ≡ v = cc in
     let tail : others ≡ vs = cc in
