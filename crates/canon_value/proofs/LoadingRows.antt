@@ -87,7 +87,7 @@ module _ (enc : Encoding) (bytes : List ℕ) (s : Shape) where
         }
 
 -- as many values as trees
-has_count : (Has : Val → Tree → Type 0) (vs : List Val) (ts : Trees) → EachHas Has vs ts → length vs ≡ tree_count ts
+pub has_count : (Has : Val → Tree → Type 0) (vs : List Val) (ts : Trees) → EachHas Has vs ts → length vs ≡ tree_count ts
 has_count Has [] ts h = ap tree_count (sym h)
 has_count Has (v ∷ vs) ts (t, rest, e, has, have) = ap suc (has_count Has vs rest have) ∙ ap tree_count (sym e)
 

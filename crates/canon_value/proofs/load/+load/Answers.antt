@@ -146,10 +146,16 @@ load_row-load_value-requires t c =
     let there : c.args.at + c.loop-i.i * size false (shape_of c.args.source.now.types.now c.args.element.now) ≡ c.args.at + c.loop-i.i * c.from-size.result = ap (λ k. c.args.at + c.loop-i.i * k) (sym size_is) in
     let inside : c.args.at + c.loop-i.i * size false (shape_of c.args.source.now.types.now c.args.element.now) + size false (shape_of c.args.source.now.types.now c.args.element.now) ≤ length c.args.source.now.memory.now = omega (arith, c.requires.inside, element_inside (shape_of c.args.source.now.types.now c.args.element.now) c.args.at c.args.count c.loop-i.i c.loop-i-test.true) in (
       omega arith,
-      (c.requires.known, (c.requires.built, (
-        subst (λ n. n % align false (shape_of c.args.source.now.types.now c.args.element.now) ≡ 0) there (element_aligned (shape_of c.args.source.now.types.now c.args.element.now) c.args.at c.args.count c.loop-i.i c.requires.aligned),
-        subst (λ n. n + size false (shape_of c.args.source.now.types.now c.args.element.now) ≤ length c.args.source.now.memory.now) there inside,
-      ))),
+      (
+        c.requires.known,
+        (
+          c.requires.built,
+          (
+            subst (λ n. n % align false (shape_of c.args.source.now.types.now c.args.element.now) ≡ 0) there (element_aligned (shape_of c.args.source.now.types.now c.args.element.now) c.args.at c.args.count c.loop-i.i c.requires.aligned),
+            subst (λ n. n + size false (shape_of c.args.source.now.types.now c.args.element.now) ≤ length c.args.source.now.memory.now) there inside,
+          ),
+        ),
+      ),
     )
 
 pub load_row-returns-in_err-value-clause-err : goal.load_row-returns-in_err-value-clause-err
