@@ -6,21 +6,21 @@ use Rattle.std.specs.Prelude.{get_or, slice_index}
 use Rattle.std.specs.declared.alloc.Global.{Global}
 use Rattle.canon_model.proofs.Reached.{reach_is_the_cost}
 use Rattle.canon_model.proofs.Unique.{one_tree}
-use Rattle.canon_model.specs.Cost.{cost, members_cost, names_length, product_cost, val_cost}
+use Rattle.canon_model.specs.Cost.{cost, val_cost}
 use Rattle.canon_model.specs.Flat.{Flat, MembersFlat, RepResults, flat_bits, max_results}
 use Rattle.canon_model.specs.Layout.{flat, members_flat}
 use Rattle.canon_model.specs.Memory.{Inside, Memory, ptr}
 use Rattle.canon_model.specs.Reach.{FlatFault, ListFault, MemberFlatFault, SomeElement, StoredFault, TextFault, ValuesFault, flat_reach, list_reach, members_flat_reach, reach_cost, sum_at, text_reach, values_reach, word}
 use Rattle.canon_model.specs.Rep.{IsList, IsText, ScalarIs, Stored}
-use Rattle.canon_model.specs.Shape.{Members, Name, ProductKind, Shape, fixed, list, member, member_count, no_members, of_fields, of_items, of_places, product, string}
+use Rattle.canon_model.specs.Shape.{Members, Name, Shape, fixed, list, member, member_count, no_members, of_fields, of_items, of_places, product, string}
 use Rattle.canon_model.specs.Text.{Encoding}
-use Rattle.canon_model.specs.Tree.{EachAt, Tree, Trees, items, no_trees, parts, sum_of, text, tree, tree_count, trees_of}
+use Rattle.canon_model.specs.Tree.{EachAt, items, no_trees, parts, sum_of, text, tree, tree_count, trees_of}
 use Rattle.canon_table.specs.declared.types.InterfaceType.{InterfaceType}
 use Rattle.canon_table.specs.declared.types.InterfaceType.TheVariants as ty
 use Rattle.canon_table.specs.Table.{Table, plain_shape, shape_of}
 use Rattle.canon_value.specs.Lifts.{AreFieldsLifted, AreLifted, AreResults, FieldsLiftTo, IsOfWord, IsOfWords, IsRowLifted, LiftsTo, MembersLiftTo, RowLiftsTo}
 use Rattle.canon_value.specs.Loads.{Exactly, IsListLoaded, IsPlace, IsTextLoaded, LiftBlames, Told, place_of}
-use Rattle.canon_value.specs.Value.{EachHas, HasTree, HaveTrees, IsProduct, member_names, no_names, values_in}
+use Rattle.canon_value.specs.Value.{HasTree, member_names, no_names, values_in}
 use Rattle.canon_value.specs.declared.fault.At.{At}
 use Rattle.canon_value.specs.declared.fault.Fault.{Fault}
 use Rattle.canon_value.specs.declared.fault.Fault.TheVariants as fault
