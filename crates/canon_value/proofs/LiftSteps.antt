@@ -6,33 +6,30 @@ use Rattle.std.specs.Prelude.{get_or, slice_index}
 use Rattle.std.specs.declared.alloc.Global.{Global}
 use Rattle.canon_model.proofs.Reached.{reach_is_the_cost}
 use Rattle.canon_model.proofs.Unique.{one_tree}
-use Rattle.canon_model.specs.Cost.{cost, members_cost, names_length, product_cost, val_cost}
+use Rattle.canon_model.specs.Cost.{cost, val_cost}
 use Rattle.canon_model.specs.Flat.{Flat, MembersFlat, RepResults, flat_bits, max_results}
 use Rattle.canon_model.specs.Layout.{flat, members_flat}
 use Rattle.canon_model.specs.Memory.{Inside, Memory, ptr}
 use Rattle.canon_model.specs.Reach.{FlatFault, ListFault, MemberFlatFault, SomeElement, StoredFault, TextFault, ValuesFault, flat_reach, list_reach, members_flat_reach, reach_cost, sum_at, text_reach, values_reach, word}
 use Rattle.canon_model.specs.Rep.{IsList, IsText, ScalarIs, Stored}
-use Rattle.canon_model.specs.Shape.{Members, Name, ProductKind, Shape, fixed, list, member, member_count, no_members, of_fields, of_items, of_places, product, string}
+use Rattle.canon_model.specs.Shape.{Members, Name, Shape, fixed, list, member, member_count, no_members, of_fields, of_items, of_places, product, string}
 use Rattle.canon_model.specs.Text.{Encoding}
-use Rattle.canon_model.specs.Tree.{EachAt, Tree, Trees, items, no_trees, parts, sum_of, text, tree, tree_count, trees_of}
+use Rattle.canon_model.specs.Tree.{EachAt, items, no_trees, parts, sum_of, text, tree, tree_count, trees_of}
 use Rattle.canon_table.specs.declared.types.InterfaceType.{InterfaceType}
 use Rattle.canon_table.specs.declared.types.InterfaceType.TheVariants as ty
 use Rattle.canon_table.specs.Table.{Table, plain_shape, shape_of}
 use Rattle.canon_value.specs.Lifts.{AreFieldsLifted, AreLifted, AreResults, FieldsLiftTo, IsOfWord, IsOfWords, IsRowLifted, LiftsTo, MembersLiftTo, RowLiftsTo}
 use Rattle.canon_value.specs.Loads.{Exactly, IsListLoaded, IsPlace, IsTextLoaded, LiftBlames, Told, place_of}
-use Rattle.canon_value.specs.Value.{EachHas, HasTree, HaveTrees, IsProduct, member_names, no_names, values_in}
+use Rattle.canon_value.specs.Value.{HasTree, member_names, no_names, values_in}
 use Rattle.canon_value.specs.declared.fault.At.{At}
 use Rattle.canon_value.specs.declared.fault.Fault.{Fault}
 use Rattle.canon_value.specs.declared.fault.Fault.TheVariants as fault
 use Rattle.canon_value.specs.declared.val.Val.{Val}
 use Rattle.canon_value.specs.declared.val.Val.TheVariants as val
-use Rattle.canon_value.proofs.Blames.{blames_by, list_told, text_told, told_by}
+use Rattle.canon_value.proofs.Blames.{list_told, text_told, told_by}
+use Rattle.canon_value.proofs.Loading.{blamed_by}
+use Rattle.canon_value.proofs.LoadingRows.{has_count}
 use Rattle.canon_value.proofs.Unbuilt.{plain_scalar}
-
--- as many values as trees
-pub each_count : (Has : Val → Tree → Type 0) (vs : List Val) (ts : Trees) → EachHas Has vs ts → length vs ≡ tree_count ts
-each_count Has [] ts h = ap tree_count (sym h)
-each_count Has (v ∷ vs) ts (t, rest, e, has, have) = ap suc (each_count Has vs rest have) ∙ ap tree_count (sym e)
 
 -- the word at an index
 pub word_found : (ws : List ℕ) (i w : ℕ) → w ≡ get_or ws i w → i < length ws → w ≡ slice_index ws i
@@ -75,7 +72,7 @@ module _ (enc : Encoding) (m : Memory) (ws : List ℕ) where
         → LiftBlames (Told (FlatFault enc m ws string i)) (before < flat_reach enc m ws string i) e
     unfolding flat_reach
     string_refused before at e is h =
-        let told : LiftBlames (Told (TextFault enc m (word i) p n)) (before < text_reach enc m p n) e = blames_by _ _ _ _ (text_told at (word i) is enc m p n) (λ low. low) e h in
+        let told : LiftBlames (Told (TextFault enc m (word i) p n)) (before < text_reach enc m p n) e = blamed_by _ _ _ _ (text_told at (word i) is enc m p n) (λ low. low) e h in
         let here : LiftBlames (Told (TextFault enc m (word i) p (ptr m (slice_index ws (i + 1))))) (before < text_reach enc m p (ptr m (slice_index ws (i + 1)))) e =
         subst (λ (l : ℕ). LiftBlames (Told (TextFault enc m (word i) p l)) (before < text_reach enc m p l) e) count told in
         subst (λ (q : ℕ). LiftBlames (Told (TextFault enc m (word i) q (ptr m (slice_index ws (i + 1))))) (before < text_reach enc m q (ptr m (slice_index ws (i + 1)))) e) pointer here
@@ -97,7 +94,7 @@ module _ (enc : Encoding) (m : Memory) (ws : List ℕ) where
     unfolding flat_reach
     list_refused s before at e is h =
         let told : LiftBlames (Told (ListFault enc m (StoredFault enc m s) s (word i) p n)) (before < list_reach enc m (reach_cost enc m s) val_cost s p n) e =
-        blames_by _ _ _ _ (list_told at (word i) is enc m (StoredFault enc m s) s p n) (λ low. low) e h in
+        blamed_by _ _ _ _ (list_told at (word i) is enc m (StoredFault enc m s) s p n) (λ low. low) e h in
         let here : LiftBlames (Told (ListFault enc m (StoredFault enc m s) s (word i) p (ptr m (slice_index ws (i + 1))))) (before < list_reach enc m (reach_cost enc m s) val_cost s p (ptr m (slice_index ws (i + 1)))) e =
         subst (λ (l : ℕ). LiftBlames (Told (ListFault enc m (StoredFault enc m s) s (word i) p l)) (before < list_reach enc m (reach_cost enc m s) val_cost s p l) e) count told in
         subst (λ (q : ℕ). LiftBlames (Told (ListFault enc m (StoredFault enc m s) s (word i) q (ptr m (slice_index ws (i + 1))))) (before < list_reach enc m (reach_cost enc m s) val_cost s q (ptr m (slice_index ws (i + 1)))) e) pointer here
@@ -251,7 +248,7 @@ module _ (enc : Encoding) (m : Memory) (ws : List ℕ) where
       pub fixed_lifted : (to after : ℕ) (values : Vec Val Global) → IsRowLifted enc m ws from to left after s n values.items → LiftsTo enc m ws from to before after (fixed n s) (Ok (val.FixedLengthList values))
       unfolding flat cost
       fixed_lifted to after values (ts, many, reps, have, spent, words) =
-          let count : length values.items ≡ n = each_count (λ v t. HasTree s v t) values.items ts have ∙ many in (
+          let count : length values.items ≡ n = has_count (λ v t. HasTree s v t) values.items ts have ∙ many in (
             (
               parts ts,
               record { trees = ts; is = refl; count = many; each = reps },
