@@ -1,11 +1,11 @@
 -- Steps of lowering to words, over plain variables.
 use Rattle.std.proofs.Common.{◌≡◌, ◌≤◌, ◌<◌, ◌+◌, ◌*◌, ◌++◌, ◌^◌, ◌∙◌, Err, List, Ok, Result, Vec, [], ◌∷◌, ap, ap₂, arith, inl, inr, length, refl, rules, set, subst, suc, suc-mul, sym, zero, ℕ}
-use Rattle.std.proofs.lemmas.List.{get_or-set_other, get_or-set_same, length-set}
+use Rattle.std.proofs.lemmas.List.{ext_get_or, get_or-set_other, get_or-set_same, length-set}
 use Rattle.std.specs.Prelude.{OnOk, slice_index}
 use Rattle.std.specs.declared.alloc.Global.{Global}
 use Rattle.canon_lowering.proofs.Storings.{FirstAnd}
 use Rattle.canon_lowering.proofs.WordRows.{fixed_lowered, row_lowered_cons, row_lowered_none, row_lowered_stop}
-use Rattle.canon_lowering.proofs.Words.{members_lowered_as, members_lowered_cons, members_lowered_none, members_lowered_refused, members_lowered_stop, product_lowered, refused_lowered, scalar_lowered}
+use Rattle.canon_lowering.proofs.Words.{lowered_other, members_lowered_as, members_lowered_cons, members_lowered_none, members_lowered_refused, members_lowered_stop, product_lowered, refused_lowered, scalar_lowered}
 use Rattle.canon_lowering.specs.Args.{Lowered, MembersLowered, RowLowered}
 use Rattle.canon_lowering.specs.Lowering.{Ending, done, refused}
 use Rattle.canon_memory.specs.Guest.{Seen}
@@ -154,6 +154,18 @@ unfolding flat
 fixed_counts n s vs v from (Ok to) p count (words, e) = (words ∙ ap (λ k. from.word + k * flat s) count, omega (arith, e, fixed_places vs v p))
 fixed_counts n s vs v from (Err e) p count b =
     blames_later (λ how k. SomeFails (λ w i. FailsAt how s w i) vs k) (λ how j. FailsAt how (fixed n s) v j) 1 from.place (cap (from.place + 1)) e refl (λ how j f. inr (vs, j, p, count, refl, f)) b
+
+-- ---- a value whose words are all there are
+
+pub whole_lowered : {T G : Type 0} → (seen : G → Seen) (moves : G → List Event → G → Type 0) (options : ℕ) (a c : Parts T G) (dst dst2 : List ℕ) (to : Spot) (s : Shape) (v : Val) → length dst ≡ flat s
+    → LowersTo seen moves options a c dst dst2 (record { word = 0; place = 0 }) (Ok to) s v → Lowered (moment_of seen a) (moment_of seen c) (encoding_by a options) s (HasTree s v) dst2 done
+whole_lowered {T} {G} seen moves options a c dst dst2 to s v whole h =
+    let same : h.words ≡ dst2 = ext_get_or 0 h.words dst2 (h.lowered.says.count ∙ (sym whole ∙ sym h.stays.same_length)) (λ i lt. h.puts.there i i (omega arith) (omega (arith, lt)) refl) in
+    subst (λ (ws : List ℕ). Lowered (moment_of seen a) (moment_of seen c) (encoding_by a options) s (HasTree s v) ws done) same h.lowered
+
+pub whole_refused : {T G : Type 0} → (seen : G → Seen) (moves : G → List Event → G → Type 0) (options : ℕ) (a c : Parts T G) (dst dst2 : List ℕ) (from : Spot) (s : Shape) (v : Val) (e : Fault)
+    → LowersTo seen moves options a c dst dst2 from (Err e) s v → Lowered (moment_of seen a) (moment_of seen c) (encoding_by a options) s (HasTree s v) dst2 (fault_ending e)
+whole_refused {T} {G} seen moves options a c dst dst2 from s v e h = lowered_other (moment_of seen a) (moment_of seen c) (encoding_by a options) s (HasTree s v) h.words dst2 (fault_ending e) (not_done e) h.lowered
 
 -- each value has its tree
 abbrev Each : Shape → List Val → Trees → Type 0
