@@ -16,7 +16,7 @@ use Rattle.canon_value.specs.declared.fault.Fault.TheVariants as fault
 use Rattle.canon_value.specs.declared.val.Val.{Val}
 use Rattle.canon_func.specs.Call.{Adding, IsCall, Left, OnAnswered}
 use Rattle.canon_func.specs.Runs.{posts}
-use Rattle.canon_func.specs.Steps.{Concluded, CoreCall, Does, IsLate, IsRest, Lowered, Posted, RestCause, Started}
+use Rattle.canon_func.specs.Steps.{Concluded, CoreCall, Does, IsLate, IsRest, Lifted, Lowered, Posted, RestCause, Started}
 use Rattle.canon_func.specs.Stores.{Callee}
 use Rattle.canon_func.specs.declared.error.Error.{Error}
 use Rattle.canon_func.specs.declared.error.Error.TheVariants as error
@@ -29,26 +29,49 @@ answered (Ok x) P Q f h = f h
 answered (Err (error.Fault fault.OutOfMemory)) P Q f h = tt
 answered (Err e) P Q f h = f h
 
+pub answers : {T : Type 0} (r : Result T Error) (P : Type 0) → P → OnAnswered r P
+answers (Ok x) P p = p
+answers (Err (error.Fault fault.OutOfMemory)) P p = tt
+answers (Err e) P p = p
+
 other : guest.OutOfMemory ≡ guest.Trap → ⊥
 other e = cc
 
-module _ (PostLeaves : List ℕ → List ℕ → Type 0) (callee : Callee) (words : List ℕ) where
+module _ (PostLeaves : List ℕ → List ℕ → Type 0) (callee : Callee) (fuel : ℕ) (words : List ℕ) where
   -- the guest returned
   pub run_returned : (a b c : Moment) (returned : List ℕ) (answer : Result (Vec Val Global) Error) (M N O : List Event → Type 0) → ((xs ys : List Event) → M xs → N ys → O (xs ++ ys))
-      → Does a b M (Started callee.func words a b (Ok returned)) → Does b c N (Concluded PostLeaves callee returned b c answer) → Does a c O (IsRest PostLeaves callee words a c answer)
+      → Does a b M (Started callee.func words a b (Ok returned)) → Does b c N (Concluded PostLeaves callee fuel returned b c answer) → Does a c O (IsRest PostLeaves callee fuel words a c answer)
   run_returned a b c returned answer M N O f first second = record {
     events = first.events ++ second.events;
     goes = goes_then a b c [] [] first.events second.events first.goes second.goes;
     moves = f first.events second.events first.moves second.moves;
-    so = subst (λ es. IsRest PostLeaves callee words a c answer (es ++ second.events)) (sym first.so) (rest_of_return PostLeaves callee words a b c returned answer second.events first.goes.traps_later second.so);
+    so = subst (λ es. IsRest PostLeaves callee fuel words a c answer (es ++ second.events)) (sym first.so) (rest_of_return PostLeaves callee fuel words a b c returned answer second.events first.goes.traps_later second.so);
   }
 
   -- it didn't
-  pub run_refused : (a b : Moment) (e : Error) (M : List Event → Type 0) → Does a b M (Started callee.func words a b (Err e)) → Does a b M (IsRest PostLeaves callee words a b (Err e))
-  run_refused a b e M first = record { events = first.events; goes = first.goes; moves = first.moves; so = rest_of_start PostLeaves callee words a b e first.events first.so }
+  pub run_refused : (a b : Moment) (e : Error) (M : List Event → Type 0) → Does a b M (Started callee.func words a b (Err e)) → Does a b M (IsRest PostLeaves callee fuel words a b (Err e))
+  run_refused a b e M first = record { events = first.events; goes = first.goes; moves = first.moves; so = rest_of_start PostLeaves callee fuel words a b e first.events first.so }
 
-  -- ---- post-return
+  -- ---- after the return
 
+  -- no fault of lifting is a trap
+  refused_so : (a : Moment) (e : Error) → Lifted callee fuel words a.bytes (Err e) → Concluded PostLeaves callee fuel words a a (Err e) []
+  refused_so a (error.Fault fault.GuestTrap) h = absurd h
+  refused_so a e h = (h, refl)
+
+  -- the words weren't lifted
+  pub conclude_refused : (s : Seen) (bytes : List ℕ) (e : Error) (M : List Event → Type 0) → Lifted callee fuel words bytes (Err e) → M []
+      → Does (moment s bytes) (moment s bytes) M (Concluded PostLeaves callee fuel words (moment s bytes) (moment s bytes) (Err e))
+  conclude_refused s bytes e M h stays = record {
+    events = [];
+    goes = goes_none s bytes bytes (omega arith);
+    moves = stays;
+    so = refused_so (moment s bytes) e h;
+  }
+
+-- ---- post-return
+
+module _ (PostLeaves : List ℕ → List ℕ → Type 0) (callee : Callee) (words : List ℕ) where
   pub posted_none : (s : Seen) (bytes : List ℕ) (M : List Event → Type 0) → callee.post ≡ None → M [] → Does (moment s bytes) (moment s bytes) M (Posted PostLeaves callee words (moment s bytes) (moment s bytes) (Ok tt))
   posted_none s bytes M none stays = record {
     events = [];
@@ -78,14 +101,14 @@ module _ (PostLeaves : List ℕ → List ℕ → Type 0) (callee : Callee) (word
 -- ---- the whole
 
 -- none of the refusals before the guest is entered
-pub rest_is_late : (callee : Callee) (a b : Moment) (es : List Event) (r : Result (Vec Val Global) Error) → IfErr r (RestCause callee a b es) → IfErr r IsLate
-rest_is_late callee a b es (Ok vals) h = tt
-rest_is_late callee a b es (Err error.WrongCount) h = absurd h
-rest_is_late callee a b es (Err error.AsyncLifted) h = absurd h
-rest_is_late callee a b es (Err error.CannotEnterComponent) h = absurd h
-rest_is_late callee a b es (Err error.WrongWords) h = refl
-rest_is_late callee a b es (Err (error.UnknownImport n)) h = refl
-rest_is_late callee a b es (Err (error.Fault f)) h = refl
+pub rest_is_late : (callee : Callee) (fuel : ℕ) (a b : Moment) (es : List Event) (r : Result (Vec Val Global) Error) → IfErr r (RestCause callee fuel a b es) → IfErr r IsLate
+rest_is_late callee fuel a b es (Ok vals) h = tt
+rest_is_late callee fuel a b es (Err error.WrongCount) h = absurd h
+rest_is_late callee fuel a b es (Err error.AsyncLifted) h = absurd h
+rest_is_late callee fuel a b es (Err error.CannotEnterComponent) h = absurd h
+rest_is_late callee fuel a b es (Err error.WrongWords) h = refl
+rest_is_late callee fuel a b es (Err (error.UnknownImport n)) h = refl
+rest_is_late callee fuel a b es (Err (error.Fault f)) h = refl
 
 pub lowered_is_late : (callee : Callee) (params : List Val) (a b : Moment) (es : List Event) (e : Error) → Lowered callee params a b (Err e) es → IsLate e
 lowered_is_late callee params a b es (error.Fault f) h = refl
@@ -95,11 +118,11 @@ lowered_is_late callee params a b es error.CannotEnterComponent h = absurd h
 lowered_is_late callee params a b es error.WrongWords h = absurd h
 lowered_is_late callee params a b es (error.UnknownImport n) h = absurd h
 
-module _ (PostLeaves : List ℕ → List ℕ → Type 0) (callee : Callee) (params : List Val) where
-  core_refused : (a b : Moment) (e : Error) (es : List Event) → Lowered callee params a b (Err e) es → CoreCall PostLeaves callee params a b (Err e) es
-  core_refused a b (error.Fault f) es (inl (short, same, none)) = subst (λ fs. CoreCall PostLeaves callee params a b (Err (error.Fault f)) fs) (sym none)
-      (subst (λ g. CoreCall PostLeaves callee params a b (Err (error.Fault g)) []) (sym short) (short_call PostLeaves callee params a b same))
-  core_refused a b (error.Fault f) es (inr (words, low, blames, is)) = subst (λ fs. CoreCall PostLeaves callee params a b (Err (error.Fault f)) fs) (sym is) (refused_call PostLeaves callee params a b f words low blames)
+module _ (PostLeaves : List ℕ → List ℕ → Type 0) (callee : Callee) (fuel : ℕ) (params : List Val) where
+  core_refused : (a b : Moment) (e : Error) (es : List Event) → Lowered callee params a b (Err e) es → CoreCall PostLeaves callee fuel params a b (Err e) es
+  core_refused a b (error.Fault f) es (inl (short, same, none)) = subst (λ fs. CoreCall PostLeaves callee fuel params a b (Err (error.Fault f)) fs) (sym none)
+      (subst (λ g. CoreCall PostLeaves callee fuel params a b (Err (error.Fault g)) []) (sym short) (short_call PostLeaves callee fuel params a b same))
+  core_refused a b (error.Fault f) es (inr (words, low, blames, is)) = subst (λ fs. CoreCall PostLeaves callee fuel params a b (Err (error.Fault f)) fs) (sym is) (refused_call PostLeaves callee fuel params a b f words low blames)
   core_refused a b error.WrongCount es h = absurd h
   core_refused a b error.AsyncLifted es h = absurd h
   core_refused a b error.CannotEnterComponent es h = absurd h
@@ -108,7 +131,7 @@ module _ (PostLeaves : List ℕ → List ℕ → Type 0) (callee : Callee) (para
 
   -- the parameters were lowered
   pub call_started : (a b c : Moment) (words : Vec ℕ Global) (answer : Result (Vec Val Global) Error) (M N O : List Event → Type 0) → ((xs ys : List Event) → M xs → N ys → O (xs ++ ys))
-      → Adding a b M (Lowered callee params a b (Ok words)) → Does b c N (IsRest PostLeaves callee words.items b c answer) → Adding a c O (CoreCall PostLeaves callee params a c answer)
+      → Adding a b M (Lowered callee params a b (Ok words)) → Does b c N (IsRest PostLeaves callee fuel words.items b c answer) → Adding a c O (CoreCall PostLeaves callee fuel params a c answer)
   call_started a b c words answer M N O f first second =
       let low : ArgsLowering a b callee.encoding callee.params (HaveTrees callee.params params) words.items done = first.so.0 in
       let xs : List Event = events_of low.answers low.trap in
@@ -117,14 +140,14 @@ module _ (PostLeaves : List ℕ → List ℕ → Type 0) (callee : Callee) (para
         events = xs ++ ys;
         added = (goes_then a b c (marks_of low.answers) [] xs ys low.lowering.goes second.goes).events;
         moves = λ there. f xs ys (subst M first.so.1 (first.moves there)) second.moves;
-        so = subst (λ o. CoreCall PostLeaves callee params a c answer (events_of low.answers o ++ ys)) (sym low.lowering.cause)
-            (joined PostLeaves callee params a b c words.items low.answers ys answer (ready callee params a b words.items low) low.lowering.goes.traps_later (second.goes.marks ∙ append-nil b.guest.marks) second.so);
+        so = subst (λ o. CoreCall PostLeaves callee fuel params a c answer (events_of low.answers o ++ ys)) (sym low.lowering.cause)
+            (joined PostLeaves callee fuel params a b c words.items low.answers ys answer (ready callee params a b words.items low) low.lowering.goes.traps_later (second.goes.marks ∙ append-nil b.guest.marks) second.so);
       }
 
   -- they weren't
-  pub call_refused : (a b : Moment) (e : Error) (M : List Event → Type 0) → Adding a b M (Lowered callee params a b (Err e)) → Adding a b M (CoreCall PostLeaves callee params a b (Err e))
+  pub call_refused : (a b : Moment) (e : Error) (M : List Event → Type 0) → Adding a b M (Lowered callee params a b (Err e)) → Adding a b M (CoreCall PostLeaves callee fuel params a b (Err e))
   call_refused a b e M low = record { events = low.events; added = low.added; moves = low.moves; so = core_refused a b e low.events low.so }
 
   -- it is refused, whatever the results
-  pub call_left : (a b : Moment) (e : Error) (results : List Val) (M : List Event → Type 0) → Adding a b M (CoreCall PostLeaves callee params a b (Err e)) → Adding a b M (IsCall PostLeaves callee params a b (Err e) results)
+  pub call_left : (a b : Moment) (e : Error) (results : List Val) (M : List Event → Type 0) → Adding a b M (CoreCall PostLeaves callee fuel params a b (Err e)) → Adding a b M (IsCall PostLeaves callee fuel params a b (Err e) results)
   call_left a b e results M h = record { events = h.events; added = h.added; moves = h.moves; so = h.so results }

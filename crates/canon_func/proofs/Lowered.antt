@@ -37,12 +37,16 @@ refused_moves V seen moves g h fault.OutOfMemory m l es p q = tt
 refused_moves V seen moves g h (fault.TypeMismatch k) m l es p q = m l es p q
 refused_moves V seen moves g h (fault.FieldName k) m l es p q = m l es p q
 refused_moves V seen moves g h (fault.LengthMismatch k) m l es p q = m l es p q
+refused_moves V seen moves g h (fault.StringTooLong n) m l es p q = m l es p q
+refused_moves V seen moves g h (fault.SizeOverflow n) m l es p q = m l es p q
 refused_moves V seen moves g h (fault.ReallocMisaligned k) m l es p q = m l es p q
 refused_moves V seen moves g h (fault.ReallocOutOfBounds k) m l es p q = m l es p q
 refused_moves V seen moves g h fault.GuestTrap m l es p q = m l es p q
 refused_moves V seen moves g h (fault.PointerMisaligned at) m l es p q = m l es p q
 refused_moves V seen moves g h (fault.PointerOutOfBounds at) m l es p q = m l es p q
+refused_moves V seen moves g h (fault.InvalidUtf8 at) m l es p q = m l es p q
 refused_moves V seen moves g h (fault.InvalidChar at) m l es p q = m l es p q
+refused_moves V seen moves g h fault.HostcallFuelExhausted m l es p q = m l es p q
 
 module _ (a b : Moment) (enc : Encoding) (ms ns : Members) (params : List Val) (is : ms ≡ ns) where
   pub lowered_done : (words dst : List ℕ) (M : List Event → Type 0) → words ≡ dst → ArgsLowering a b enc ms (HaveTrees ms params) dst done

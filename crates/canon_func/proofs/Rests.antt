@@ -1,7 +1,8 @@
 -- What the events from the start on say.
-use Rattle.std.proofs.Common.{Err, List, None, Ok, Option, Result, Some, Vec, Global, [], arith, length, refl, subst, sym, ℕ, ⊎_elim, ◌∷◌, ◌≡◌, ◌≤◌}
+use Rattle.std.proofs.Common.{Err, List, None, Ok, Option, Result, Some, Vec, Global, [], arith, length, refl, subst, sym, ℕ, ⊎_elim, ◌∷◌, ◌≡◌, ◌≤◌, ◌<◌}
 use Rattle.std.specs.Prelude.{false}
 use Rattle.std.proofs.lemmas.Bool.{cases_lt, le-leb, lt-leb}
+use Rattle.canon_model.specs.Cost.{members_cost}
 use Rattle.canon_model.specs.Flat.{RepResults, max_results}
 use Rattle.canon_model.specs.Layout.{members_flat}
 use Rattle.canon_model.specs.Memory.{Memory}
@@ -10,6 +11,7 @@ use Rattle.canon_model.specs.Shape.{Members}
 use Rattle.canon_model.specs.Text.{Encoding}
 use Rattle.canon_model.specs.Tree.{Trees}
 use Rattle.canon_model.proofs.Faults.{fault_excludes}
+use Rattle.canon_model.proofs.Reached.{reach_is_the_cost}
 use Rattle.canon_memory.specs.declared.event.Event.{Event}
 use Rattle.canon_memory.specs.declared.event.Event.TheVariants as event
 use Rattle.canon_memory.specs.Counts.{Rose}
@@ -34,14 +36,18 @@ use Rattle.canon_func.proofs.Fronts.{front_all, front_asked, front_none, front_p
 pub words_of_results : (enc : Encoding) (m : Memory) (ws : List ℕ) (ms : Members) (ts : Trees) → RepResults false enc m ws ms ts → length ws ≡ result_words ms
 words_of_results enc m ws ms ts h = ⊎_elim (λ far. rw (lt-leb (members_flat ms) max_results far) (h.far far).0) (λ near. rw (le-leb (members_flat ms) max_results near) (h.near near).0) (cases_lt max_results (members_flat ms))
 
+-- what costs more than the fuel doesn't cost so little
+past_cost : (fuel reach cost : ℕ) → fuel < reach → reach ≡ cost → cost ≤ fuel → ⊥
+past_cost fuel reach cost h e few = omega (arith, h, e, few)
+
 each_post : (P : Event → Type 0) → ((p : ℕ) (ws : List ℕ) → P (event.Post p ws)) → (post : Option ℕ) (ws : List ℕ) → Each P (posts post ws)
 each_post P f None ws = tt
 each_post P f (Some p) ws = (f p ws, tt)
 
-module _ (PostLeaves : List ℕ → List ℕ → Type 0) (callee : Callee) (words : List ℕ) (before after : Moment) where
+module _ (PostLeaves : List ℕ → List ℕ → Type 0) (callee : Callee) (fuel : ℕ) (words : List ℕ) (before after : Moment) where
   -- ---- the guest didn't return
 
-  none_made : IsRest PostLeaves callee words before after (Err (error.Fault fault.OutOfMemory)) []
+  none_made : IsRest PostLeaves callee fuel words before after (Err (error.Fault fault.OutOfMemory)) []
   none_made = record {
     one_run = tt;
     front = front_none callee.func callee.post;
@@ -54,7 +60,7 @@ module _ (PostLeaves : List ℕ → List ℕ → Type 0) (callee : Callee) (word
     valid = λ calm quiet right. refl;
   }
 
-  asked_made : (n : ℕ) (asked : List ℕ) → IsRest PostLeaves callee words before after (Err (error.UnknownImport n)) (event.Start callee.func words before.bytes ∷ event.Ask n asked after.bytes ∷ [])
+  asked_made : (n : ℕ) (asked : List ℕ) → IsRest PostLeaves callee fuel words before after (Err (error.UnknownImport n)) (event.Start callee.func words before.bytes ∷ event.Ask n asked after.bytes ∷ [])
   asked_made n asked = record {
     one_run = tt;
     front = λ len. front_asked callee.func callee.post len words before.bytes n asked after.bytes;
@@ -67,7 +73,7 @@ module _ (PostLeaves : List ℕ → List ℕ → Type 0) (callee : Callee) (word
     valid = λ calm quiet right. absurd quiet.1.0;
   }
 
-  trapped_made : Rose before.guest.traps after.guest.traps → IsRest PostLeaves callee words before after (Err (error.Fault fault.GuestTrap)) (event.Start callee.func words before.bytes ∷ trap_event (length before.bytes) ∷ [])
+  trapped_made : Rose before.guest.traps after.guest.traps → IsRest PostLeaves callee fuel words before after (Err (error.Fault fault.GuestTrap)) (event.Start callee.func words before.bytes ∷ trap_event (length before.bytes) ∷ [])
   trapped_made rose = record {
     one_run = tt;
     front = λ len. front_trapped callee.func callee.post len words before.bytes;
@@ -80,10 +86,10 @@ module _ (PostLeaves : List ℕ → List ℕ → Type 0) (callee : Callee) (word
     valid = λ calm quiet right. absurd (calm tt);
   }
 
-  pub rest_of_start : (e : Error) (events : List Event) → Started callee.func words before after (Err e) events → IsRest PostLeaves callee words before after (Err e) events
-  rest_of_start (error.UnknownImport n) events h = subst (λ es. IsRest PostLeaves callee words before after (Err (error.UnknownImport n)) es) (sym h.1) (asked_made n h.0)
-  rest_of_start (error.Fault fault.GuestTrap) events h = subst (λ es. IsRest PostLeaves callee words before after (Err (error.Fault fault.GuestTrap)) es) (sym h.1) (trapped_made h.0)
-  rest_of_start (error.Fault fault.OutOfMemory) events h = subst (λ es. IsRest PostLeaves callee words before after (Err (error.Fault fault.OutOfMemory)) es) (sym h) none_made
+  pub rest_of_start : (e : Error) (events : List Event) → Started callee.func words before after (Err e) events → IsRest PostLeaves callee fuel words before after (Err e) events
+  rest_of_start (error.UnknownImport n) events h = subst (λ es. IsRest PostLeaves callee fuel words before after (Err (error.UnknownImport n)) es) (sym h.1) (asked_made n h.0)
+  rest_of_start (error.Fault fault.GuestTrap) events h = subst (λ es. IsRest PostLeaves callee fuel words before after (Err (error.Fault fault.GuestTrap)) es) (sym h.1) (trapped_made h.0)
+  rest_of_start (error.Fault fault.OutOfMemory) events h = subst (λ es. IsRest PostLeaves callee fuel words before after (Err (error.Fault fault.OutOfMemory)) es) (sym h) none_made
   rest_of_start error.WrongCount events h = absurd h
   rest_of_start error.AsyncLifted events h = absurd h
   rest_of_start error.CannotEnterComponent events h = absurd h
@@ -91,20 +97,24 @@ module _ (PostLeaves : List ℕ → List ℕ → Type 0) (callee : Callee) (word
   rest_of_start (error.Fault (fault.TypeMismatch k)) events h = absurd h
   rest_of_start (error.Fault (fault.FieldName k)) events h = absurd h
   rest_of_start (error.Fault (fault.LengthMismatch k)) events h = absurd h
+  rest_of_start (error.Fault (fault.StringTooLong n)) events h = absurd h
+  rest_of_start (error.Fault (fault.SizeOverflow n)) events h = absurd h
   rest_of_start (error.Fault (fault.ReallocMisaligned a)) events h = absurd h
   rest_of_start (error.Fault (fault.ReallocOutOfBounds a)) events h = absurd h
   rest_of_start (error.Fault (fault.PointerMisaligned at)) events h = absurd h
   rest_of_start (error.Fault (fault.PointerOutOfBounds at)) events h = absurd h
+  rest_of_start (error.Fault (fault.InvalidUtf8 at)) events h = absurd h
   rest_of_start (error.Fault (fault.InvalidChar at)) events h = absurd h
+  rest_of_start (error.Fault fault.HostcallFuelExhausted) events h = absurd h
 
   -- ---- it returned
 
   module _ (returned memory : List ℕ) where
     -- and then nothing was told to it
     returned_made : (e : Error)
-        → RestCause callee before after (event.Start callee.func words before.bytes ∷ event.Return returned memory ∷ []) e
-        → ((us : Trees) → RepResults false callee.encoding (narrow memory) returned callee.results us → e ≡ error.Fault fault.OutOfMemory)
-        → IsRest PostLeaves callee words before after (Err e) (event.Start callee.func words before.bytes ∷ event.Return returned memory ∷ [])
+        → RestCause callee fuel before after (event.Start callee.func words before.bytes ∷ event.Return returned memory ∷ []) e
+        → ((us : Trees) → RepResults false callee.encoding (narrow memory) returned callee.results us → members_cost callee.results us ≤ fuel → e ≡ error.Fault fault.OutOfMemory)
+        → IsRest PostLeaves callee fuel words before after (Err e) (event.Start callee.func words before.bytes ∷ event.Return returned memory ∷ [])
     returned_made e cause excluded = record {
       one_run = tt;
       front = λ len. front_returned callee.func callee.post len words before.bytes returned memory;
@@ -114,20 +124,23 @@ module _ (PostLeaves : List ℕ → List ℕ → Type 0) (callee : Callee) (word
       count = tt;
       leaves = tt;
       cause = cause;
-      valid = λ calm quiet right. excluded right.1.0.0 right.1.0.1;
+      valid = λ calm quiet right. excluded right.1.0.0 right.1.0.1 right.1.0.2;
     }
 
     -- of a fault of the words
     excludes : (e : Error) (k : Kind) (at : At) → HasFault callee k at returned memory
-        → (us : Trees) → RepResults false callee.encoding (narrow memory) returned callee.results us → e ≡ error.Fault fault.OutOfMemory
-    excludes e k at f us r = absurd (fault_excludes.values max_results false callee.encoding (narrow memory) returned callee.results us k (place_of at) f r)
+        → (us : Trees) → RepResults false callee.encoding (narrow memory) returned callee.results us → members_cost callee.results us ≤ fuel → e ≡ error.Fault fault.OutOfMemory
+    excludes e k at f us r few = absurd (fault_excludes.values max_results false callee.encoding (narrow memory) returned callee.results us k (place_of at) f r)
 
-    lifted_made : (e : Error) → (e ≡ error.Fault fault.GuestTrap → ⊥) → Lifted callee returned memory (Err e) → IsRest PostLeaves callee words before after (Err e) (event.Start callee.func words before.bytes ∷ event.Return returned memory ∷ [])
-    lifted_made error.WrongWords n h = returned_made error.WrongWords h (λ us r. absurd (h (words_of_results callee.encoding (narrow memory) returned callee.results us r)))
+    lifted_made : (e : Error) → (e ≡ error.Fault fault.GuestTrap → ⊥) → Lifted callee fuel returned memory (Err e) → IsRest PostLeaves callee fuel words before after (Err e) (event.Start callee.func words before.bytes ∷ event.Return returned memory ∷ [])
+    lifted_made error.WrongWords n h = returned_made error.WrongWords h (λ us r few. absurd (h (words_of_results callee.encoding (narrow memory) returned callee.results us r)))
     lifted_made (error.Fault (fault.PointerMisaligned at)) n h = returned_made (error.Fault (fault.PointerMisaligned at)) h (excludes (error.Fault (fault.PointerMisaligned at)) _ _ h)
     lifted_made (error.Fault (fault.PointerOutOfBounds at)) n h = returned_made (error.Fault (fault.PointerOutOfBounds at)) h (excludes (error.Fault (fault.PointerOutOfBounds at)) _ _ h)
+    lifted_made (error.Fault (fault.InvalidUtf8 at)) n h = returned_made (error.Fault (fault.InvalidUtf8 at)) h (excludes (error.Fault (fault.InvalidUtf8 at)) _ _ h)
     lifted_made (error.Fault (fault.InvalidChar at)) n h = returned_made (error.Fault (fault.InvalidChar at)) h (excludes (error.Fault (fault.InvalidChar at)) _ _ h)
-    lifted_made (error.Fault fault.OutOfMemory) n h = returned_made (error.Fault fault.OutOfMemory) tt (λ us r. refl)
+    lifted_made (error.Fault fault.HostcallFuelExhausted) n h = returned_made (error.Fault fault.HostcallFuelExhausted) h
+        (λ us r few. absurd (past_cost fuel _ _ h (reach_is_the_cost.values max_results false callee.encoding (narrow memory) returned callee.results us r) few))
+    lifted_made (error.Fault fault.OutOfMemory) n h = returned_made (error.Fault fault.OutOfMemory) tt (λ us r few. refl)
     lifted_made (error.UnknownImport i) n h = absurd h
     lifted_made error.WrongCount n h = absurd h
     lifted_made error.AsyncLifted n h = absurd h
@@ -135,19 +148,21 @@ module _ (PostLeaves : List ℕ → List ℕ → Type 0) (callee : Callee) (word
     lifted_made (error.Fault (fault.TypeMismatch k)) n h = absurd h
     lifted_made (error.Fault (fault.FieldName k)) n h = absurd h
     lifted_made (error.Fault (fault.LengthMismatch k)) n h = absurd h
+    lifted_made (error.Fault (fault.StringTooLong i)) n h = absurd h
+    lifted_made (error.Fault (fault.SizeOverflow i)) n h = absurd h
     lifted_made (error.Fault (fault.ReallocMisaligned a)) n h = absurd h
     lifted_made (error.Fault (fault.ReallocOutOfBounds a)) n h = absurd h
     lifted_made (error.Fault fault.GuestTrap) n h = absurd h
 
     -- the whole was done
-    done_made : (vals : Vec Val Global) → AreResults callee.encoding (narrow memory) callee.results returned vals.items → Left PostLeaves callee.post memory after.bytes
-        → IsRest PostLeaves callee words before after (Ok vals) (event.Start callee.func words before.bytes ∷ event.Return returned memory ∷ posts callee.post returned)
-    done_made vals results kept = record {
+    done_made : (vals : Vec Val Global) → (left : ℕ) × AreResults callee.encoding (narrow memory) callee.results returned fuel left vals.items → Left PostLeaves callee.post memory after.bytes
+        → IsRest PostLeaves callee fuel words before after (Ok vals) (event.Start callee.func words before.bytes ∷ event.Return returned memory ∷ posts callee.post returned)
+    done_made vals (left, results) kept = record {
       one_run = plain_run callee.func callee.post words before.bytes returned memory;
       front = λ len. front_all callee.func callee.post len words before.bytes returned memory;
       no_more = (tt, (tt, each_post IsNoRequest (λ p ws. tt) callee.post returned));
       start = ((refl, refl), (tt, each_post (OnStart (λ ws m. (ws ≡ words) × (m ≡ before.bytes))) (λ p ws. tt) callee.post returned));
-      only_results = (tt, (results, each_post (OnReturn (λ ws m. AreResults callee.encoding (narrow m) callee.results ws vals.items)) (λ p ws. tt) callee.post returned));
+      only_results = (tt, ((left, results), each_post (OnReturn (λ ws m. (rest : ℕ) × AreResults callee.encoding (narrow m) callee.results ws fuel rest vals.items)) (λ p ws. tt) callee.post returned));
       count = have_count callee.results vals.items results.its_trees results.have;
       leaves = (tt, (kept, each_post (OnReturn (λ ws m. Left PostLeaves callee.post m after.bytes)) (λ p ws. tt) callee.post returned));
       cause = tt;
@@ -155,9 +170,9 @@ module _ (PostLeaves : List ℕ → List ℕ → Type 0) (callee : Callee) (word
     }
 
 -- post-return trapped
-post_trapped_made : (PostLeaves : List ℕ → List ℕ → Type 0) (callee : Callee) (words : List ℕ) (before after : Moment) (returned memory : List ℕ) (p : ℕ) → callee.post ≡ Some p → Rose before.guest.traps after.guest.traps
-    → IsRest PostLeaves callee words before after (Err (error.Fault fault.GuestTrap)) (event.Start callee.func words before.bytes ∷ event.Return returned memory ∷ event.Post p returned ∷ trap_event (length memory) ∷ [])
-post_trapped_made PostLeaves callee words before after returned memory p e rose = record {
+post_trapped_made : (PostLeaves : List ℕ → List ℕ → Type 0) (callee : Callee) (fuel : ℕ) (words : List ℕ) (before after : Moment) (returned memory : List ℕ) (p : ℕ) → callee.post ≡ Some p → Rose before.guest.traps after.guest.traps
+    → IsRest PostLeaves callee fuel words before after (Err (error.Fault fault.GuestTrap)) (event.Start callee.func words before.bytes ∷ event.Return returned memory ∷ event.Post p returned ∷ trap_event (length memory) ∷ [])
+post_trapped_made PostLeaves callee fuel words before after returned memory p e rose = record {
   one_run = tt;
   front = λ len. subst (λ o. IsFrontOfRun callee.func o len (event.Start callee.func words before.bytes ∷ event.Return returned memory ∷ event.Post p returned ∷ trap_event (length memory) ∷ [])) (sym e)
       (front_post_trapped callee.func len p words before.bytes returned memory);
@@ -170,15 +185,15 @@ post_trapped_made PostLeaves callee words before after returned memory p e rose 
   valid = λ calm quiet right. absurd (calm tt);
 }
 
-module _ (PostLeaves : List ℕ → List ℕ → Type 0) (callee : Callee) (words : List ℕ) (before mid after : Moment) (returned : List ℕ) where
-  pub rest_of_return : (answer : Result (Vec Val Global) Error) (later : List Event) → before.guest.traps ≤ mid.guest.traps → Concluded PostLeaves callee returned mid after answer later
-      → IsRest PostLeaves callee words before after answer (event.Start callee.func words before.bytes ∷ event.Return returned mid.bytes ∷ later)
+module _ (PostLeaves : List ℕ → List ℕ → Type 0) (callee : Callee) (fuel : ℕ) (words : List ℕ) (before mid after : Moment) (returned : List ℕ) where
+  pub rest_of_return : (answer : Result (Vec Val Global) Error) (later : List Event) → before.guest.traps ≤ mid.guest.traps → Concluded PostLeaves callee fuel returned mid after answer later
+      → IsRest PostLeaves callee fuel words before after answer (event.Start callee.func words before.bytes ∷ event.Return returned mid.bytes ∷ later)
   rest_of_return (Ok vals) later grown h =
-      subst (λ es. IsRest PostLeaves callee words before after (Ok vals) (event.Start callee.func words before.bytes ∷ event.Return returned mid.bytes ∷ es)) (sym h.1.0)
-      (done_made PostLeaves callee words before after returned mid.bytes vals h.0 h.1.1)
+      subst (λ es. IsRest PostLeaves callee fuel words before after (Ok vals) (event.Start callee.func words before.bytes ∷ event.Return returned mid.bytes ∷ es)) (sym h.1.0)
+      (done_made PostLeaves callee fuel words before after returned mid.bytes vals h.0 h.1.1)
   rest_of_return (Err (error.Fault fault.GuestTrap)) later grown (rose, (p, is, e)) =
-      subst (λ es. IsRest PostLeaves callee words before after (Err (error.Fault fault.GuestTrap)) (event.Start callee.func words before.bytes ∷ event.Return returned mid.bytes ∷ es)) (sym e)
-      (post_trapped_made PostLeaves callee words before after returned mid.bytes p is (omega arith))
+      subst (λ es. IsRest PostLeaves callee fuel words before after (Err (error.Fault fault.GuestTrap)) (event.Start callee.func words before.bytes ∷ event.Return returned mid.bytes ∷ es)) (sym e)
+      (post_trapped_made PostLeaves callee fuel words before after returned mid.bytes p is (omega arith))
   rest_of_return (Err e) later grown h =
-      subst (λ es. IsRest PostLeaves callee words before after (Err e) (event.Start callee.func words before.bytes ∷ event.Return returned mid.bytes ∷ es)) (sym h.1)
-      (lifted_made PostLeaves callee words before after returned mid.bytes e (λ q. cc) h.0)
+      subst (λ es. IsRest PostLeaves callee fuel words before after (Err e) (event.Start callee.func words before.bytes ∷ event.Return returned mid.bytes ∷ es)) (sym h.1)
+      (lifted_made PostLeaves callee fuel words before after returned mid.bytes e (λ q. cc) h.0)

@@ -1,12 +1,14 @@
 -- What a call did.
 use Rattle.std.specs.Prelude.{Bool, Err, IfErr, IsOkUnless, IsSome, List, None, Ok, OnOk, Option, Result, Some, [], false, if◌then◌else◌, length, nat_le, not, slice_index, true, ℕ, ⊤, ◌%◌, ◌&&◌, ◌++◌, ◌+◌, ◌<◌, ◌==◌, ◌∷◌, ◌≡◌, ◌≤◌}
+use Rattle.canon_model.specs.Cost.{members_cost}
 use Rattle.canon_model.specs.Flat.{RepArgs, RepResults, max_results}
 use Rattle.canon_model.specs.Homes.{ParamsHome, PointsTo}
 use Rattle.canon_model.specs.Layout.{members_flat}
 use Rattle.canon_model.specs.Memory.{InBlocks}
-use Rattle.canon_model.specs.Reach.{Kind, ValuesFault, misaligned, no_scalar, out_of_bounds}
+use Rattle.canon_model.specs.Reach.{Kind, ValuesFault, badly_spelled, misaligned, no_scalar, out_of_bounds, values_reach}
 use Rattle.canon_model.specs.Requests.{Request, params_requests}
 use Rattle.canon_model.specs.Shape.{Members, member_count}
+use Rattle.canon_model.specs.Text.{in_utf8}
 use Rattle.canon_model.specs.Tree.{Trees}
 use Rattle.canon_memory.specs.declared.event.Event.{Event}
 use Rattle.canon_memory.specs.Counts.{Rose}
@@ -15,7 +17,7 @@ use Rattle.canon_memory.specs.Journal.{Adds}
 use Rattle.canon_lowering.specs.Lowering.{AllLawful, AllTidy, Answer, Meets, Trap, addresses_of, blocks_of, events_of, marks_of}
 use Rattle.canon_lowering.specs.Args.{Anywhere}
 use Rattle.canon_lowering.specs.Storing.{narrow}
-use Rattle.canon_value.specs.Fails.{BlamesMembers}
+use Rattle.canon_value.specs.Fails.{AreSmall, BlamesMembers}
 use Rattle.canon_value.specs.Lifts.{AreResults}
 use Rattle.canon_value.specs.Loads.{place_of}
 use Rattle.canon_value.specs.Value.{HaveTrees}
@@ -87,29 +89,37 @@ result_words ms = words_within max_results ms
 abbrev pub HasFault : Callee → Kind → At → List ℕ → List ℕ → Type 0
 HasFault callee kind at words memory = ValuesFault callee.encoding (narrow memory) words max_results callee.results kind (place_of at)
 
+-- what they stand for, as far as it was reached, costs more than this fuel
+abbrev pub IsPastFuel : Callee → ℕ → List ℕ → List ℕ → Type 0
+IsPastFuel callee fuel words memory = fuel < values_reach callee.encoding (narrow memory) words max_results callee.results
+
 -- why a call was refused with this fault
-abbrev pub FaultCause : Callee → List Val → Moment → Moment → List Event → Fault → Type 0
-FaultCause callee params before after events (fault.TypeMismatch k) = BlamesMembers callee.params params (fault.TypeMismatch k)
-FaultCause callee params before after events (fault.FieldName k) = BlamesMembers callee.params params (fault.FieldName k)
-FaultCause callee params before after events (fault.LengthMismatch k) = BlamesMembers callee.params params (fault.LengthMismatch k)
-FaultCause callee params before after events (fault.ReallocMisaligned a) =
+abbrev pub FaultCause : Callee → ℕ → List Val → Moment → Moment → List Event → Fault → Type 0
+FaultCause callee fuel params before after events (fault.TypeMismatch k) = BlamesMembers callee.params params (fault.TypeMismatch k)
+FaultCause callee fuel params before after events (fault.FieldName k) = BlamesMembers callee.params params (fault.FieldName k)
+FaultCause callee fuel params before after events (fault.LengthMismatch k) = BlamesMembers callee.params params (fault.LengthMismatch k)
+FaultCause callee fuel params before after events (fault.StringTooLong n) = BlamesMembers callee.params params (fault.StringTooLong n)
+FaultCause callee fuel params before after events (fault.SizeOverflow n) = BlamesMembers callee.params params (fault.SizeOverflow n)
+FaultCause callee fuel params before after events (fault.ReallocMisaligned a) =
     Each IsNoStart events × EndsIn (IsAnswer (λ c answer. (answer ≡ a) × ¬ (a % c.align ≡ 0))) events
-FaultCause callee params before after events (fault.ReallocOutOfBounds a) =
+FaultCause callee fuel params before after events (fault.ReallocOutOfBounds a) =
     Each IsNoStart events × EndsIn (IsAnswer (λ c answer. (answer ≡ a) × ¬ (a + c.new_size ≤ length after.bytes))) events
-FaultCause callee params before after events fault.GuestTrap = Rose before.guest.traps after.guest.traps × EndsIn IsTrap events
-FaultCause callee params before after events (fault.PointerMisaligned at) = EndsIn (IsReturn (HasFault callee misaligned at)) events
-FaultCause callee params before after events (fault.PointerOutOfBounds at) = EndsIn (IsReturn (HasFault callee out_of_bounds at)) events
-FaultCause callee params before after events (fault.InvalidChar at) = EndsIn (IsReturn (HasFault callee no_scalar at)) events
-FaultCause callee params before after events fault.OutOfMemory = ⊤
+FaultCause callee fuel params before after events fault.GuestTrap = Rose before.guest.traps after.guest.traps × EndsIn IsTrap events
+FaultCause callee fuel params before after events (fault.PointerMisaligned at) = EndsIn (IsReturn (HasFault callee misaligned at)) events
+FaultCause callee fuel params before after events (fault.PointerOutOfBounds at) = EndsIn (IsReturn (HasFault callee out_of_bounds at)) events
+FaultCause callee fuel params before after events (fault.InvalidUtf8 at) = EndsIn (IsReturn (HasFault callee (badly_spelled in_utf8) at)) events
+FaultCause callee fuel params before after events (fault.InvalidChar at) = EndsIn (IsReturn (HasFault callee no_scalar at)) events
+FaultCause callee fuel params before after events fault.HostcallFuelExhausted = EndsIn (IsReturn (IsPastFuel callee fuel)) events
+FaultCause callee fuel params before after events fault.OutOfMemory = ⊤
 
 -- why a call was refused with this error, which isn't one of those before the guest is entered
-abbrev pub Cause : Callee → List Val → Moment → Moment → List Event → Error → Type 0
-Cause callee params before after events (error.Fault f) = FaultCause callee params before after events f
-Cause callee params before after events error.WrongWords = EndsIn (IsReturn (λ words m. ¬ (length words ≡ result_words callee.results))) events
-Cause callee params before after events (error.UnknownImport n) = EndsIn (AsksFor n) events
-Cause callee params before after events error.WrongCount = ⊥
-Cause callee params before after events error.AsyncLifted = ⊥
-Cause callee params before after events error.CannotEnterComponent = ⊥
+abbrev pub Cause : Callee → ℕ → List Val → Moment → Moment → List Event → Error → Type 0
+Cause callee fuel params before after events (error.Fault f) = FaultCause callee fuel params before after events f
+Cause callee fuel params before after events error.WrongWords = EndsIn (IsReturn (λ words m. ¬ (length words ≡ result_words callee.results))) events
+Cause callee fuel params before after events (error.UnknownImport n) = EndsIn (AsksFor n) events
+Cause callee fuel params before after events error.WrongCount = ⊥
+Cause callee fuel params before after events error.AsyncLifted = ⊥
+Cause callee fuel params before after events error.CannotEnterComponent = ⊥
 
 -- ---- the whole
 
@@ -118,9 +128,9 @@ abbrev pub Left : (List ℕ → List ℕ → Type 0) → Option ℕ → List ℕ
 Left PostLeaves None memory after = after ≡ memory
 Left PostLeaves (Some func) memory after = PostLeaves memory after
 
--- A call that wasn't refused before the guest was entered, by its callee, its parameters, the moments before and after, its
--- answer, the results that it leaves and the events that it adds to a told journal.
-pub record IsCall (PostLeaves : List ℕ → List ℕ → Type 0) (callee : Callee) (params : List Val) (before after : Moment) (answer : Result (Unit {0}) Error) (results : List Val) (events : List Event) : Type 0 where
+-- A call that wasn't refused before the guest was entered, by its callee, the fuel of lifting, its parameters, the moments
+-- before and after, its answer, the results that it leaves and the events that it adds to a told journal.
+pub record IsCall (PostLeaves : List ℕ → List ℕ → Type 0) (callee : Callee) (fuel : ℕ) (params : List Val) (before after : Moment) (answer : Result (Unit {0}) Error) (results : List Val) (events : List Event) : Type 0 where
   -- The guest made one run; of a refused call the events are a front of one.
   pub one_run : OnOk answer (IsOneRun callee.func callee.post events)
   pub front : IsFrontOfRun callee.func callee.post (length before.bytes) events
@@ -133,15 +143,16 @@ pub record IsCall (PostLeaves : List ℕ → List ℕ → Type 0) (callee : Call
   pub marks : after.guest.marks ≡ before.guest.marks ++ marks_of answers
   pub requested : (ts : Trees) → HaveTrees callee.params params ts → MetFirst (params_requests false callee.encoding callee.params ts) answers trap later
   pub start : Each (OnStart (IsStart callee params before.bytes answers)) events
-  -- The results are the only values that the returned words and memory represent; that memory is left, as far as a
-  -- post-return leaves it.
-  pub only_results : OnOk answer (Each (OnReturn (λ words m. AreResults callee.encoding (narrow m) callee.results words results)) events)
+  -- The results are the only values that the returned words and memory represent, and cost no more than the fuel; that
+  -- memory is left, as far as a post-return leaves it.
+  pub only_results : OnOk answer (Each (OnReturn (λ words m. (left : ℕ) × AreResults callee.encoding (narrow m) callee.results words fuel left results)) events)
   pub leaves : OnOk answer (Each (OnReturn (λ words m. Left PostLeaves callee.post m after.bytes)) events)
-  pub cause : IfErr answer (Cause callee params before after events)
-  -- A valid call answers Ok or want of memory: the parameters are of their types, `realloc` kept its law, the guest doesn't
-  -- trap and asks for no import, and what it returns represents results.
-  pub valid : (ts : Trees) → HaveTrees callee.params params ts → AllLawful answers → ¬ EndsIn IsTrap events → Each IsNoAsk events
-      → Each (OnReturn (λ words m. (us : Trees) × RepResults false callee.encoding (narrow m) words callee.results us)) events
+  pub cause : IfErr answer (Cause callee fuel params before after events)
+  -- A valid call answers Ok or want of memory: the parameters are of their types, no text among them is too long and no
+  -- list too large, `realloc` kept its law, the guest doesn't trap and asks for no import, and what it returns represents
+  -- results that cost no more than the fuel.
+  pub valid : (ts : Trees) → HaveTrees callee.params params ts → AreSmall callee.params params → AllLawful answers → ¬ EndsIn IsTrap events → Each IsNoAsk events
+      → Each (OnReturn (λ words m. (us : Trees) × RepResults false callee.encoding (narrow m) words callee.results us × (members_cost callee.results us ≤ fuel))) events
       → IsOkUnless answer (error.Fault fault.OutOfMemory)
 
 -- a fact for every answer but want of memory

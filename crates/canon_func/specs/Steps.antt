@@ -1,9 +1,11 @@
 -- The steps of a call.
-use Rattle.std.specs.Prelude.{Err, IfErr, IfOk, IsOkUnless, List, None, Ok, OnOk, Result, Some, Vec, [], false, length, ℕ, ⊤, ◌∷◌, ◌≡◌, ◌⊎◌}
+use Rattle.std.specs.Prelude.{Err, IfErr, IfOk, IsOkUnless, List, None, Ok, OnOk, Result, Some, Vec, [], false, length, ℕ, ⊤, ◌∷◌, ◌≡◌, ◌⊎◌, ◌≤◌}
 use Rattle.std.specs.declared.alloc.Global.{Global}
-use Rattle.canon_model.specs.Flat.{RepResults}
-use Rattle.canon_model.specs.Reach.{misaligned, no_scalar, out_of_bounds}
+use Rattle.canon_model.specs.Cost.{members_cost}
+use Rattle.canon_model.specs.Flat.{RepResults, max_results}
+use Rattle.canon_model.specs.Reach.{ValuesFault, badly_spelled, misaligned, no_scalar, out_of_bounds}
 use Rattle.canon_model.specs.Shape.{member_count}
+use Rattle.canon_model.specs.Text.{in_utf8}
 use Rattle.canon_model.specs.Tree.{Trees}
 use Rattle.canon_memory.specs.declared.event.Event.{Event}
 use Rattle.canon_memory.specs.declared.event.Event.TheVariants as event
@@ -15,11 +17,12 @@ use Rattle.canon_lowering.specs.Lowering.{done, events_of}
 use Rattle.canon_lowering.specs.Storing.{narrow}
 use Rattle.canon_value.specs.Fails.{BlamesMembers}
 use Rattle.canon_value.specs.Lifts.{AreResults}
+use Rattle.canon_value.specs.Loads.{Exactly, LiftBlames}
 use Rattle.canon_value.specs.Lowers.{fault_ending}
 use Rattle.canon_value.specs.Value.{HaveTrees}
 use Rattle.canon_value.specs.declared.fault.Fault.TheVariants as fault
 use Rattle.canon_value.specs.declared.val.Val.{Val}
-use Rattle.canon_func.specs.Call.{HasFault, IsCall, Left, refused_by, result_words}
+use Rattle.canon_func.specs.Call.{HasFault, IsCall, IsPastFuel, Left, refused_by, result_words}
 use Rattle.canon_func.specs.Runs.{AsksFor, Each, EndsIn, IsFrontOfRun, IsNoAsk, IsNoRequest, IsOneRun, IsReturn, IsTrap, OnReturn, OnStart, posts}
 use Rattle.canon_func.specs.Stores.{Callee}
 use Rattle.canon_func.specs.declared.error.Error.{Error}
@@ -59,15 +62,12 @@ Started func words before after (Err _) events = ⊥
 
 -- ---- after the return
 
--- the values of returned words, or why there are none
-abbrev pub Lifted : Callee → List ℕ → List ℕ → Result (Vec Val Global) Error → Type 0
-Lifted callee words memory (Ok vals) = AreResults callee.encoding (narrow memory) callee.results words vals.items
-Lifted callee words memory (Err error.WrongWords) = ¬ (length words ≡ result_words callee.results)
-Lifted callee words memory (Err (error.Fault (fault.PointerMisaligned at))) = HasFault callee misaligned at words memory
-Lifted callee words memory (Err (error.Fault (fault.PointerOutOfBounds at))) = HasFault callee out_of_bounds at words memory
-Lifted callee words memory (Err (error.Fault (fault.InvalidChar at))) = HasFault callee no_scalar at words memory
-Lifted callee words memory (Err (error.Fault fault.OutOfMemory)) = ⊤
-Lifted callee words memory (Err _) = ⊥
+-- the values of returned words, whose cost was taken from the fuel, or why there are none
+abbrev pub Lifted : Callee → ℕ → List ℕ → List ℕ → Result (Vec Val Global) Error → Type 0
+Lifted callee fuel words memory (Ok vals) = (left : ℕ) × AreResults callee.encoding (narrow memory) callee.results words fuel left vals.items
+Lifted callee fuel words memory (Err error.WrongWords) = ¬ (length words ≡ result_words callee.results)
+Lifted callee fuel words memory (Err (error.Fault f)) = LiftBlames (Exactly (ValuesFault callee.encoding (narrow memory) words max_results callee.results)) (IsPastFuel callee fuel words memory) f
+Lifted callee fuel words memory (Err _) = ⊥
 
 -- post-return was told these words, where the callee has one
 abbrev pub Posted : (List ℕ → List ℕ → Type 0) → Callee → List ℕ → Moment → Moment → Result (Unit {0}) Error → List Event → Type 0
@@ -78,42 +78,46 @@ Posted PostLeaves callee words before after (Err (error.Fault fault.OutOfMemory)
 Posted PostLeaves callee words before after (Err _) events = ⊥
 
 -- both, one after the other
-abbrev pub Concluded : (List ℕ → List ℕ → Type 0) → Callee → List ℕ → Moment → Moment → Result (Vec Val Global) Error → List Event → Type 0
-Concluded PostLeaves callee words before after (Ok vals) events = Lifted callee words before.bytes (Ok vals) × Posted PostLeaves callee words before after (Ok tt) events
-Concluded PostLeaves callee words before after (Err (error.Fault fault.GuestTrap)) events = Posted PostLeaves callee words before after (Err (error.Fault fault.GuestTrap)) events
-Concluded PostLeaves callee words before after (Err e) events = Lifted callee words before.bytes (Err e) × (events ≡ [])
+abbrev pub Concluded : (List ℕ → List ℕ → Type 0) → Callee → ℕ → List ℕ → Moment → Moment → Result (Vec Val Global) Error → List Event → Type 0
+Concluded PostLeaves callee fuel words before after (Ok vals) events = Lifted callee fuel words before.bytes (Ok vals) × Posted PostLeaves callee words before after (Ok tt) events
+Concluded PostLeaves callee fuel words before after (Err (error.Fault fault.GuestTrap)) events = Posted PostLeaves callee words before after (Err (error.Fault fault.GuestTrap)) events
+Concluded PostLeaves callee fuel words before after (Err e) events = Lifted callee fuel words before.bytes (Err e) × (events ≡ [])
 
 -- ---- from the start on
 
 -- why it wasn't done
-abbrev pub RestCause : Callee → Moment → Moment → List Event → Error → Type 0
-RestCause callee before after events error.WrongWords = EndsIn (IsReturn (λ words m. ¬ (length words ≡ result_words callee.results))) events
-RestCause callee before after events (error.UnknownImport n) = EndsIn (AsksFor n) events
-RestCause callee before after events (error.Fault fault.GuestTrap) = Rose before.guest.traps after.guest.traps × EndsIn IsTrap events
-RestCause callee before after events (error.Fault (fault.PointerMisaligned at)) = EndsIn (IsReturn (HasFault callee misaligned at)) events
-RestCause callee before after events (error.Fault (fault.PointerOutOfBounds at)) = EndsIn (IsReturn (HasFault callee out_of_bounds at)) events
-RestCause callee before after events (error.Fault (fault.InvalidChar at)) = EndsIn (IsReturn (HasFault callee no_scalar at)) events
-RestCause callee before after events (error.Fault fault.OutOfMemory) = ⊤
-RestCause callee before after events _ = ⊥
+abbrev pub RestCause : Callee → ℕ → Moment → Moment → List Event → Error → Type 0
+RestCause callee fuel before after events error.WrongWords = EndsIn (IsReturn (λ words m. ¬ (length words ≡ result_words callee.results))) events
+RestCause callee fuel before after events (error.UnknownImport n) = EndsIn (AsksFor n) events
+RestCause callee fuel before after events (error.Fault fault.GuestTrap) = Rose before.guest.traps after.guest.traps × EndsIn IsTrap events
+RestCause callee fuel before after events (error.Fault (fault.PointerMisaligned at)) = EndsIn (IsReturn (HasFault callee misaligned at)) events
+RestCause callee fuel before after events (error.Fault (fault.PointerOutOfBounds at)) = EndsIn (IsReturn (HasFault callee out_of_bounds at)) events
+RestCause callee fuel before after events (error.Fault (fault.InvalidUtf8 at)) = EndsIn (IsReturn (HasFault callee (badly_spelled in_utf8) at)) events
+RestCause callee fuel before after events (error.Fault (fault.InvalidChar at)) = EndsIn (IsReturn (HasFault callee no_scalar at)) events
+RestCause callee fuel before after events (error.Fault fault.HostcallFuelExhausted) = EndsIn (IsReturn (IsPastFuel callee fuel)) events
+RestCause callee fuel before after events (error.Fault fault.OutOfMemory) = ⊤
+RestCause callee fuel before after events _ = ⊥
 
--- A callee was started with these words at the moment `before`, what it returned was lifted, and post-return was told.
-pub record IsRest (PostLeaves : List ℕ → List ℕ → Type 0) (callee : Callee) (words : List ℕ) (before after : Moment) (answer : Result (Vec Val Global) Error) (events : List Event) : Type 0 where
+-- A callee was started with these words at the moment `before`, what it returned was lifted with this fuel, and post-return
+-- was told.
+pub record IsRest (PostLeaves : List ℕ → List ℕ → Type 0) (callee : Callee) (fuel : ℕ) (words : List ℕ) (before after : Moment) (answer : Result (Vec Val Global) Error) (events : List Event) : Type 0 where
   pub one_run : OnOk answer (IsOneRun callee.func callee.post events)
   pub front : (len : ℕ) → IsFrontOfRun callee.func callee.post len events
   pub no_more : Each IsNoRequest events
   pub start : Each (OnStart (λ ws m. (ws ≡ words) × (m ≡ before.bytes))) events
-  pub only_results : IfOk answer (λ vals. Each (OnReturn (λ ws m. AreResults callee.encoding (narrow m) callee.results ws vals.items)) events)
+  pub only_results : IfOk answer (λ vals. Each (OnReturn (λ ws m. (left : ℕ) × AreResults callee.encoding (narrow m) callee.results ws fuel left vals.items)) events)
   pub count : IfOk answer (λ vals. length vals.items ≡ member_count callee.results)
   pub leaves : OnOk answer (Each (OnReturn (λ ws m. Left PostLeaves callee.post m after.bytes)) events)
-  pub cause : IfErr answer (RestCause callee before after events)
-  pub valid : ¬ EndsIn IsTrap events → Each IsNoAsk events → Each (OnReturn (λ ws m. (us : Trees) × RepResults false callee.encoding (narrow m) ws callee.results us)) events
+  pub cause : IfErr answer (RestCause callee fuel before after events)
+  pub valid : ¬ EndsIn IsTrap events → Each IsNoAsk events
+      → Each (OnReturn (λ ws m. (us : Trees) × RepResults false callee.encoding (narrow m) ws callee.results us × (members_cost callee.results us ≤ fuel))) events
       → IsOkUnless answer (error.Fault fault.OutOfMemory)
 
 -- ---- the whole, before the results are written
 
-abbrev pub CoreCall : (List ℕ → List ℕ → Type 0) → Callee → List Val → Moment → Moment → Result (Vec Val Global) Error → List Event → Type 0
-CoreCall PostLeaves callee params before after (Ok vals) events = IsCall PostLeaves callee params before after (Ok tt) vals.items events
-CoreCall PostLeaves callee params before after (Err e) events = (results : List Val) → IsCall PostLeaves callee params before after (Err e) results events
+abbrev pub CoreCall : (List ℕ → List ℕ → Type 0) → Callee → ℕ → List Val → Moment → Moment → Result (Vec Val Global) Error → List Event → Type 0
+CoreCall PostLeaves callee fuel params before after (Ok vals) events = IsCall PostLeaves callee fuel params before after (Ok tt) vals.items events
+CoreCall PostLeaves callee fuel params before after (Err e) events = (results : List Val) → IsCall PostLeaves callee fuel params before after (Err e) results events
 
 -- it isn't a refusal before the guest is entered
 abbrev pub IsLate : Error → Type 0

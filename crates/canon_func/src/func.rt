@@ -111,7 +111,8 @@ impl Func {
     /// Answers `WrongCount`, `AsyncLifted` and `CannotEnterComponent`, in this order, before anything is done. Any later
     /// refusal, want of memory included, traps the store and leaves `results`: the faults of a parameter, of the guest's
     /// `realloc` and of a result; `GuestTrap`; `UnknownImport` where the guest asks for an import; `WrongWords` where it
-    /// returns another number of words than the results take.
+    /// returns another number of words than the results take; `HostcallFuelExhausted` where the results cost more than
+    /// the store's fuel, which each call has anew.
     pub fn call<T, G: Guest>(
         &self,
         alloc: Global,
@@ -129,7 +130,7 @@ impl Func {
         // From then on.
         ensures call { IsNone (refused_by result) → Adding (moment_of G.seen store.old.core) (moment_of G.seen store.new.core)
             (λ events. OnAnswered result (G.moves store.old.core.guest events store.new.core.guest))
-            (λ events. IsCall G.post_leaves (callee_of store.old self.now) params.now (moment_of G.seen store.old.core) (moment_of G.seen store.new.core) result results.new events) }
+            (λ events. IsCall G.post_leaves (callee_of store.old self.now) store.old.core.fuel params.now (moment_of G.seen store.old.core) (moment_of G.seen store.new.core) result results.new events) }
         ensures trapped { IsNone (refused_by result) → OnErr result (store.new.trapped ≡ true) }
 
         // What it leaves.

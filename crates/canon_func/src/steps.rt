@@ -75,7 +75,7 @@ pub(crate) fn call_core<T, G: Guest>(
     requires callable { IsCallable (export_callee core.old.component export.now) }
     ensures call { Adding (moment_of G.seen core.old) (moment_of G.seen core.new)
         (λ events. OnAnswered result (G.moves core.old.guest events core.new.guest))
-        (λ events. CoreCall G.post_leaves (export_callee core.old.component export.now) params.now (moment_of G.seen core.old) (moment_of G.seen core.new) result events) }
+        (λ events. CoreCall G.post_leaves (export_callee core.old.component export.now) core.old.fuel params.now (moment_of G.seen core.old) (moment_of G.seen core.new) result events) }
     ensures late { IfErr result IsLate }
     ensures count { IfOk result (λ vals. length vals.items ≡ member_count (export_callee core.old.component export.now).results) }
     ensures same { core.new ≡ record core.old { guest = core.new.guest; memory = core.new.memory } }
@@ -157,7 +157,7 @@ fn run<T, G: Guest>(
     requires callable { IsCallable (export_callee core.old.component export.now) }
     ensures did { Does (moment_of G.seen core.old) (moment_of G.seen core.new)
         (λ events. OnAnswered result (G.moves core.old.guest events core.new.guest))
-        (λ events. IsRest G.post_leaves (export_callee core.old.component export.now) words.now (moment_of G.seen core.old) (moment_of G.seen core.new) result events) }
+        (λ events. IsRest G.post_leaves (export_callee core.old.component export.now) core.old.fuel words.now (moment_of G.seen core.old) (moment_of G.seen core.new) result events) }
     ensures same { core.new ≡ record core.old { guest = core.new.guest; memory = core.new.memory } }
 {
     match start(core, export.func, words) {
@@ -192,7 +192,7 @@ fn conclude<T, G: Guest>(
     requires callable { IsCallable (export_callee core.old.component export.now) }
     ensures did { Does (moment_of G.seen core.old) (moment_of G.seen core.new)
         (λ events. OnAnswered result (G.moves core.old.guest events core.new.guest))
-        (λ events. Concluded G.post_leaves (export_callee core.old.component export.now) words.now (moment_of G.seen core.old) (moment_of G.seen core.new) result events) }
+        (λ events. Concluded G.post_leaves (export_callee core.old.component export.now) core.old.fuel words.now (moment_of G.seen core.old) (moment_of G.seen core.new) result events) }
     ensures same { core.new ≡ record core.old { guest = core.new.guest; memory = core.new.memory } }
 {
     let values = match lift_returned(alloc, core, export, words) {
@@ -205,7 +205,7 @@ fn conclude<T, G: Guest>(
     }
 }
 
-/// The values of the words that the guest returned.
+/// The values of the words that the guest returned. The core's fuel bounds their cost.
 fn lift_returned<T, G: Guest>(
     alloc: Global,
     core: &mut Core<T, G>,
@@ -214,7 +214,7 @@ fn lift_returned<T, G: Guest>(
 ) -> Result<Vec<Val>, Error>
     requires inside { IsInside core.old.component export.now }
     requires callable { IsCallable (export_callee core.old.component export.now) }
-    ensures lifted { Lifted (export_callee core.old.component export.now) words.now core.old.memory result }
+    ensures lifted { Lifted (export_callee core.old.component export.now) core.old.fuel words.now core.old.memory result }
     ensures same { core.new ≡ core.old }
 {
     let types = core.component().types.types();

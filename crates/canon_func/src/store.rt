@@ -49,6 +49,19 @@ impl<T, G> Store<T, G> {
         &mut self.core
     }
 
+    /// The fuel that each call has for lifting its results.
+    pub fn fuel(&self) -> u64
+        ensures { result ≡ self.now.core.fuel }
+    {
+        self.core.fuel()
+    }
+
+    pub fn set_fuel(&mut self, v: u64)
+        ensures { self.new ≡ record self.old { core = record self.old.core { fuel = v } } }
+    {
+        self.core.set_fuel(v);
+    }
+
     /// Whether a call was refused after it entered the guest; no call enters it any more.
     pub fn is_trapped(&self) -> bool
         ensures { result ≡ self.now.trapped }

@@ -5,8 +5,8 @@ ghost use Rattle.std.specs.Prelude.{◌≡◌, [], None};
 use super::*;
 use canon_memory::{Guest, GuestFault, Memory, Step, ValRaw, Words};
 use canon_table::{
-    CanonicalOptions, ExportIndex, InstanceType, InterfaceType, OptionsIndex, RuntimeInstance,
-    StoreId, StringEncoding, TypeBuilder,
+    CanonicalOptions, ComponentTypes, ExportIndex, InstanceType, InterfaceType, OptionsIndex,
+    RuntimeInstance, StoreId, StringEncoding, TypeBuilder, TypeFuncIndex,
 };
 use canon_value::{At, Component, Core, Export, Fault, Val};
 use std::alloc::Global;
@@ -101,17 +101,15 @@ impl Guest for Doer {
     }
 }
 
-/// A store of one function, which is core function 7 with post-return 8, and of a guest that does this deed.
+/// A store of one function of this type, which is core function 7 with post-return 8, and of a guest that does this deed.
 fn store_of(
     alloc: Global,
-    params: &[InterfaceType],
-    results: &[InterfaceType],
+    types: ComponentTypes,
+    ty: TypeFuncIndex,
     async_: bool,
     deed: Deed,
     post_traps: bool,
 ) -> Result<Store<(), Doer>, Fail> {
-    let mut builder = TypeBuilder::new(alloc);
-    let ty = builder.add_func(params.to_vec(alloc)?, results.to_vec(alloc)?, async_)?;
     let id = StoreId::from_u64(1);
     let mut options = Vec::new(alloc);
     options.push(CanonicalOptions {
@@ -127,7 +125,7 @@ fn store_of(
         options: OptionsIndex::from_u32(0),
     })?;
     let component = Component {
-        types: InstanceType::new(builder.finish(), id),
+        types: InstanceType::new(types, id),
         options,
         exports,
     };
@@ -142,7 +140,29 @@ fn store_of(
         shortages: 0,
     };
     let memory = Memory::new(alloc, 65_536)?;
-    Ok(Store::new(Core::new(alloc, id, (), guest, memory, component)?))
+    Ok(Store::new(Core::new(alloc, id, (), guest, memory, component, 1_000_000)?))
+}
+
+/// The same, of a function with these parameters and results.
+fn store_with(
+    alloc: Global,
+    params: &[InterfaceType],
+    results: &[InterfaceType],
+    async_: bool,
+    deed: Deed,
+    post_traps: bool,
+) -> Result<Store<(), Doer>, Fail> {
+    let mut builder = TypeBuilder::new(alloc);
+    let ty = builder.add_func(params.to_vec(alloc)?, results.to_vec(alloc)?, async_)?;
+    store_of(alloc, builder.finish(), ty, async_, deed, post_traps)
+}
+
+/// The same, of a function without parameters that returns a tuple of one `u8`.
+fn store_of_tuple(alloc: Global) -> Result<Store<(), Doer>, Fail> {
+    let mut builder = TypeBuilder::new(alloc);
+    let tuple = builder.add_tuple([InterfaceType::U8].to_vec(alloc)?)?;
+    let ty = builder.add_func(Vec::new(alloc), [tuple].to_vec(alloc)?, false)?;
+    store_of(alloc, builder.finish(), ty, false, Deed::Return(2), false)
 }
 
 /// Calls the store's function, where it can be called.
@@ -163,7 +183,7 @@ fn call(
 fn a_call_lowers_its_parameters_and_lifts_its_results(rt: HostRuntime) -> Result<(), Fail> {
     let alloc = rt.alloc();
     let params = [InterfaceType::U32, InterfaceType::S8];
-    let mut store = store_of(
+    let mut store = store_with(
         alloc,
         &params,
         &[InterfaceType::Bool],
@@ -182,7 +202,7 @@ fn a_call_lowers_its_parameters_and_lifts_its_results(rt: HostRuntime) -> Result
 #[test]
 fn a_refusal_before_the_guest_is_entered_changes_nothing(rt: HostRuntime) -> Result<(), Fail> {
     let alloc = rt.alloc();
-    let mut store = store_of(alloc, &[], &[InterfaceType::Bool], true, Deed::Trap, false)?;
+    let mut store = store_with(alloc, &[], &[InterfaceType::Bool], true, Deed::Trap, false)?;
     let counts = call(
         alloc,
         &mut store,
@@ -213,7 +233,7 @@ fn a_later_refusal_traps_the_store_and_leaves_the_results(rt: HostRuntime) -> Re
         ),
     ];
     for (deed, post_traps, error) in cases {
-        let mut store = store_of(alloc, &[], &[InterfaceType::Char], false, deed, post_traps)?;
+        let mut store = store_with(alloc, &[], &[InterfaceType::Char], false, deed, post_traps)?;
         let mut results = [Val::Bool(false)];
         assert_eq!(rt;
             call(alloc, &mut store, &[], &mut results),
@@ -230,7 +250,7 @@ fn a_later_refusal_traps_the_store_and_leaves_the_results(rt: HostRuntime) -> Re
 fn a_parameter_of_another_type_is_refused_at_its_place(rt: HostRuntime) -> Result<(), Fail> {
     let alloc = rt.alloc();
     let params = [InterfaceType::U32, InterfaceType::S8];
-    let mut store = store_of(alloc, &params, &[], false, Deed::ReturnNothing, false)?;
+    let mut store = store_with(alloc, &params, &[], false, Deed::ReturnNothing, false)?;
     let answer = call(alloc, &mut store, &[Val::U32(7), Val::U8(1)], &mut []);
     assert_eq!(rt; answer, Some(Err(Error::Fault(Fault::TypeMismatch(1)))));
     assert!(rt; store.is_trapped());
@@ -241,7 +261,7 @@ fn a_parameter_of_another_type_is_refused_at_its_place(rt: HostRuntime) -> Resul
 fn parameters_and_results_past_their_words_go_by_a_pointer(rt: HostRuntime) -> Result<(), Fail> {
     let alloc = rt.alloc();
     let params = [InterfaceType::U8; 17];
-    let mut store = store_of(alloc, &params, &[], false, Deed::ReturnNothing, false)?;
+    let mut store = store_with(alloc, &params, &[], false, Deed::ReturnNothing, false)?;
     let mut given = Vec::new(alloc);
     for i in 0..17 {
         given.push(Val::U8(i))?;
@@ -249,21 +269,50 @@ fn parameters_and_results_past_their_words_go_by_a_pointer(rt: HostRuntime) -> R
     let asked = call(alloc, &mut store, &given, &mut []);
     assert_eq!(rt; asked, Some(Err(Error::Fault(Fault::GuestTrap))));
     let two = [InterfaceType::U8; 2];
-    let mut store = store_of(alloc, &[], &two, false, Deed::Return(65_535), false)?;
+    let mut store = store_with(alloc, &[], &two, false, Deed::Return(65_535), false)?;
     let mut results = [Val::Bool(false), Val::Bool(false)];
     let past = call(alloc, &mut store, &[], &mut results);
     let fault = Fault::PointerOutOfBounds(At::Word(0));
     assert_eq!(rt; past, Some(Err(Error::Fault(fault))));
-    let mut store = store_of(alloc, &[], &two, false, Deed::Return(65_534), false)?;
+    let mut store = store_with(alloc, &[], &two, false, Deed::Return(65_534), false)?;
     assert_eq!(rt; call(alloc, &mut store, &[], &mut results), Some(Ok(())));
     assert!(rt; matches!(&results, [Val::U8(0), Val::U8(0)]), "{results:?}");
     Ok(())
 }
 
 #[test]
+fn each_call_has_the_whole_fuel(rt: HostRuntime) -> Result<(), Fail> {
+    let alloc = rt.alloc();
+    let mut store = store_of_tuple(alloc)?;
+    assert_eq!(rt; store.fuel(), 1_000_000);
+    store.set_fuel(32);
+    for _ in 0..2 {
+        let mut results = [Val::Bool(false)];
+        assert_eq!(rt; call(alloc, &mut store, &[], &mut results), Some(Ok(())));
+        assert!(rt; matches!(&results, [Val::Tuple(_)]), "{results:?}");
+        assert_eq!(rt; store.fuel(), 32);
+    }
+    Ok(())
+}
+
+#[test]
+fn results_past_the_fuel_are_refused(rt: HostRuntime) -> Result<(), Fail> {
+    let alloc = rt.alloc();
+    let mut store = store_of_tuple(alloc)?;
+    store.set_fuel(31);
+    let mut results = [Val::Bool(false)];
+    let past = call(alloc, &mut store, &[], &mut results);
+    assert_eq!(rt; past, Some(Err(Error::Fault(Fault::HostcallFuelExhausted))));
+    assert!(rt; matches!(&results, [Val::Bool(false)]), "{results:?}");
+    assert!(rt; store.is_trapped());
+    assert_eq!(rt; store.fuel(), 31);
+    Ok(())
+}
+
+#[test]
 fn a_function_is_of_one_store(rt: HostRuntime) -> Result<(), Fail> {
     let alloc = rt.alloc();
-    let mut store = store_of(alloc, &[], &[], false, Deed::ReturnNothing, false)?;
+    let mut store = store_with(alloc, &[], &[], false, Deed::ReturnNothing, false)?;
     assert!(rt; store.func(ExportIndex::from_u32(1)).is_none());
     let Some(f) = store.func(ExportIndex::from_u32(0)) else {
         return Err(Fail::from("no function"));

@@ -21,7 +21,7 @@ use Rattle.canon_table.specs.Depth.{depth}
 use Rattle.canon_table.specs.Table.{FixedListType, IsDefined, Knows, ListType, Table, shape_of}
 use Rattle.canon_table.specs.declared.types.InterfaceType.{InterfaceType}
 use Rattle.canon_table.specs.declared.types.InterfaceType.TheVariants as ty
-use Rattle.canon_value.specs.Core.{Parts, encoding_by, moment_of}
+use Rattle.canon_value.specs.Core.{Parts, encoding_by, moment_of, types_of}
 use Rattle.canon_value.specs.Fails.{Failure, FailsAt, SomeFails}
 use Rattle.canon_value.specs.Lowers.{ending_of, fault_ending}
 use Rattle.canon_value.specs.Moves.{Moves}
@@ -33,7 +33,7 @@ use Rattle.canon_value.specs.declared.val.Val.{Val}
 use Rattle.canon_value.specs.declared.val.Val.TheVariants as val
 use Rattle.canon_value.proofs.Contents.{each_count, fixed_trees, list_trees, places_fixed, places_list}
 use Rattle.canon_value.proofs.Moves.{moves_none, moves_then}
-use Rattle.canon_value.proofs.PlacedTexts.{asked_blames, unplaced}
+use Rattle.canon_value.proofs.Placing.{asked_blames, unplaced}
 use Rattle.canon_value.proofs.Row.{drop_all}
 use Rattle.canon_value.proofs.Steps.{blames_first, blames_later}
 use Rattle.canon_value.proofs.StoreSteps.{not_done, same_encoding, same_then, value_refused}
@@ -61,6 +61,25 @@ items_call t t2 type abi n bytes e h is =
     let a : abi.align32 ≡ align false (shape_of t type) = h.align ∙ ap (λ (x : Table). align false (shape_of x type)) e in
     let b : bytes ≡ n * size false (shape_of t type) = is ∙ ap (λ (k : ℕ). n * k) (item_size t t2 type abi e h) in
     ap (λ (x : ℕ). call 0 0 x bytes) a ∙ ap (λ (x : ℕ). call 0 0 (align false (shape_of t type)) x) b
+
+-- the words of a list, and the items of one of fixed length
+pub list_bytes : (t t2 : Table) (j : ℕ) (element : InterfaceType) → t2 ≡ t → IsDefined t2 (ty.List j) (ListType element) → size false (shape_of t (ty.List j)) ≡ 8
+unfolding size
+list_bytes t t2 j element e h = ap (size false) (list_shape t t2 j element e h)
+
+pub fixed_bytes : (t t2 : Table) (j n : ℕ) (element : InterfaceType) → t2 ≡ t → IsDefined t2 (ty.FixedLengthList j) (FixedListType element n) → size false (shape_of t (ty.FixedLengthList j)) ≡ n * size false (shape_of t element)
+unfolding size
+fixed_bytes t t2 j n element e h = ap (size false) (fixed_shape t t2 j n element e h)
+
+pub list_falls : (t t2 : Table) (j : ℕ) (element : InterfaceType) → t2 ≡ t → IsDefined t2 (ty.List j) (ListType element) → 4 * depth (shape_of t element) + 5 < 4 * depth (shape_of t (ty.List j)) + 2
+list_falls t t2 j element e h =
+    let whole : depth (shape_of t (ty.List j)) ≡ 1 + depth (shape_of t element) = ap depth (list_shape t t2 j element e h) in
+    omega (arith, whole)
+
+pub fixed_falls : (t t2 : Table) (j n : ℕ) (element : InterfaceType) → t2 ≡ t → IsDefined t2 (ty.FixedLengthList j) (FixedListType element n) → 4 * depth (shape_of t element) + 4 < 4 * depth (shape_of t (ty.FixedLengthList j)) + 2
+fixed_falls t t2 j n element e h =
+    let whole : depth (shape_of t (ty.FixedLengthList j)) ≡ 1 + depth (shape_of t element) = ap depth (fixed_shape t t2 j n element e h) in
+    omega (arith, whole)
 
 -- ---- counting
 
@@ -157,6 +176,23 @@ module _ {T G : Type 0} (seen : G → Seen) (moves : G → List Event → G → 
     pub row_end : (now : Parts T G) (next i : ℕ) → i ≡ length vs → RowIsStored now next i → RowStoresTo seen moves options start now s at vs from (Ok next)
     row_end now next i all h = h.rest now (Ok next) (subst (λ (xs : List Val). RowStoresTo seen moves options now now s (at + i * size false s) xs next (Ok next)) (sym (drop_all vs i all))
         (row_nothing now s (at + i * size false s) next h.small h.counted))
+
+  -- what the storing of an item left, said of the table of the start
+  pub item_stood : (t : Table) (now now2 : Parts T G) (options2 : ℕ) (type : InterfaceType) (at i size2 : ℕ) (v : Val) (next : ℕ) (r : Result ℕ Fault) → options2 ≡ options → types_of now ≡ t → size2 ≡ size false (shape_of t type)
+      → StoresTo seen moves options2 now now2 (shape_of (types_of now) type) (at + i * size2) v next r → StoresTo seen moves options now now2 (shape_of t type) (at + i * size false (shape_of t type)) v next r
+  item_stood t now now2 options2 type at i size2 v next r eo et is h =
+      subst (λ (n : ℕ). StoresTo seen moves options now now2 (shape_of t type) (at + i * n) v next r) is
+      (subst (λ (x : Table). StoresTo seen moves options now now2 (shape_of x type) (at + i * size2) v next r) et
+      (subst (λ (n : ℕ). StoresTo seen moves n now now2 (shape_of (types_of now) type) (at + i * size2) v next r) eo h))
+
+  -- what the storing of all of them left, likewise
+  pub row_stood : (t : Table) (b c : Parts T G) (options2 : ℕ) (type : InterfaceType) (at : ℕ) (vs ws : List Val) (from from2 : ℕ) (r : Result ℕ Fault) → options2 ≡ options → types_of b ≡ t → ws ≡ vs → from2 ≡ from
+      → RowStoresTo seen moves options2 b c (shape_of (types_of b) type) at ws from2 r → RowStoresTo seen moves options b c (shape_of t type) at vs from r
+  row_stood t b c options2 type at vs ws from from2 r eo et ev ef h =
+      subst (λ (n : ℕ). RowStoresTo seen moves options b c (shape_of t type) at vs n r) ef
+      (subst (λ (xs : List Val). RowStoresTo seen moves options b c (shape_of t type) at xs from2 r) ev
+      (subst (λ (x : Table). RowStoresTo seen moves options b c (shape_of x type) at ws from2 r) et
+      (subst (λ (n : ℕ). RowStoresTo seen moves n b c (shape_of (types_of b) type) at ws from2 r) eo h)))
 
   -- ---- a list in a block of its own
 

@@ -66,7 +66,7 @@ pub field_member : (t t2 : Table) (j i : ℕ) (fields : List RecordField) (d f :
 field_member t t2 j i fields d f e h is lt = field_here t (product_members (shape_of t (ty.Record j))) fields i d f (record_members t t2 j fields e h) is lt
 
 pub field_falls : (t t2 : Table) (j i : ℕ) (fields : List RecordField) (d f : RecordField) → t2 ≡ t → IsDefined t2 (ty.Record j) (fields_type fields) → f ≡ get_or fields i d → i < length fields
-    → 3 * depth (shape_of t f.ty) + 2 < 3 * depth (shape_of t (ty.Record j))
+    → 4 * depth (shape_of t f.ty) + 3 < 4 * depth (shape_of t (ty.Record j))
 field_falls t t2 j i fields d f e h is lt =
     let whole : depth (shape_of t (ty.Record j)) ≡ 1 + deepest (field_members t fields) = ap depth (record_shape_of t t2 j fields e h ∙ ap (product of_fields) (record_members t t2 j fields e h)) in
     let part : depth (shape_of t f.ty) ≡ depth (shape_of t (get_or fields i d).ty) = ap (λ (x : RecordField). depth (shape_of t x.ty)) is in
@@ -88,7 +88,7 @@ tuple_member t t2 j i types d type e is at lt =
     subst (λ (xs : List InterfaceType). drop_members i (members_of t xs) ≡ member [] (shape_of t type) (drop_members (i + 1) (members_of t xs))) same (type_here t types i d type at lt)
 
 pub tuple_falls : (t t2 : Table) (j i : ℕ) (types : List InterfaceType) (d type : InterfaceType) → t2 ≡ t → IsDefined t2 (ty.Tuple j) (TupleType types) → types ≡ tuple_types_of t2 j → type ≡ get_or types i d → i < length types
-    → 3 * depth (shape_of t type) + 2 < 3 * depth (shape_of t (ty.Tuple j))
+    → 4 * depth (shape_of t type) + 3 < 4 * depth (shape_of t (ty.Tuple j))
 tuple_falls t t2 j i types d type e h is at lt =
     let same : types ≡ tuple_types_of t j = is ∙ ap (λ (x : Table). tuple_types_of x j) e in
     let whole : depth (shape_of t (ty.Tuple j)) ≡ 1 + deepest (members_of t types) = ap depth (tuple_shape_of t t2 j types e h is) ∙ ap (λ (xs : List InterfaceType). 1 + deepest (members_of t xs)) (sym same) in

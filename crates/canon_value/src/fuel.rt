@@ -4,6 +4,14 @@ ghost use Rattle.std.specs.Prelude.{◌≡◌, ◌*◌};
 ghost use Rattle.canon_value.specs.Fuel.{Charged};
 
 use crate::Fault;
+use thiserror::Error;
+
+/// The error that a caller is given where values cost more than the fuel that was left.
+#[derive(Clone, Copy, Debug, PartialEq, Eq, Error)]
+#[error(
+    "too much data is being copied between the host and the guest: fuel allocated for hostcalls has been exhausted"
+)]
+pub struct HostcallFuelExhausted;
 
 /// What a list of n items and a product or list of fixed length of n members cost for each of these.
 pub(crate) const VAL_COST: u64 = 32;
@@ -25,8 +33,12 @@ pub(crate) fn charge(fuel: &mut u64, amount: u64) -> Result<(), Fault>
 pub(crate) fn charge_each(fuel: &mut u64, count: u64, each: u64) -> Result<(), Fault>
     ensures { Charged (count * each) fuel.old fuel.new result }
 {
+    let available = *fuel;
     match count.checked_mul(each) {
-        Some(amount) => charge(fuel, amount),
-        None => Err(Fault::HostcallFuelExhausted),
+        Some(amount) if amount <= available => {
+            *fuel = available - amount;
+            Ok(())
+        }
+        _ => Err(Fault::HostcallFuelExhausted),
     }
 }

@@ -28,5 +28,6 @@ pub use component::{Component, Export};
 pub use context::{LiftContext, LowerContext};
 pub use core_data::Core;
 pub use fault::{At, Fault};
+pub use fuel::HostcallFuelExhausted;
 pub use results::lift_results;
 pub use val::Val;

@@ -287,15 +287,15 @@ fn load_list(
 ) -> Result<Val, Fault>
     requires known { Knows source.now.types.now (InterfaceType.List i) }
     requires built { IsBuilt (shape_of source.now.types.now (InterfaceType.List i)) }
-    requires inside { at + 8 ≤ length source.now.memory.now }
+    requires inside { at + size false (shape_of source.now.types.now (InterfaceType.List i)) ≤ length source.now.memory.now }
     ensures ok { IfOk result (IsLoaded (encoding_of source.now.encoding) (narrow source.now.memory.now) (shape_of source.now.types.now (InterfaceType.List i)) at fuel.old fuel.new) }
     ensures err { IfErr result (LiftBlames (Exactly (StoredFault (encoding_of source.now.encoding) (narrow source.now.memory.now) (shape_of source.now.types.now (InterfaceType.List i)) at))
         (fuel.old < reach_cost (encoding_of source.now.encoding) (narrow source.now.memory.now) (shape_of source.now.types.now (InterfaceType.List i)) at)) }
     ensures falls { fuel.new ≤ fuel.old }
 {
+    let element = &source.types.list(i).element;
     let pointer = u64::from(load_u32(source.memory, at));
     let length = u64::from(load_u32(source.memory, at + 4));
-    let element = &source.types.list(i).element;
     match load_items(
         alloc,
         source,

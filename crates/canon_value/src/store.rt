@@ -116,7 +116,7 @@ fn store_list<T, G: Guest>(
     requires known { Knows (types_of cx.old.core.now) (InterfaceType.List i) }
     requires built { IsBuilt (shape_of (types_of cx.old.core.now) (InterfaceType.List i)) }
     requires small { length cx.old.core.now.memory ≤ 2 ^ 32 }
-    requires room { at + 8 ≤ length cx.old.core.now.memory }
+    requires room { at + size false (shape_of (types_of cx.old.core.now) (InterfaceType.List i)) ≤ length cx.old.core.now.memory }
     ensures stores { StoresTo G.seen G.moves cx.old.options cx.old.core.now cx.new.core.now (shape_of (types_of cx.old.core.now) (InterfaceType.List i)) at value.now place result }
     ensures same_reference { cx.new.core.ghost_name ≡ cx.old.core.ghost_name }
     ensures same_options { cx.new.options ≡ cx.old.options }
@@ -126,9 +126,9 @@ fn store_list<T, G: Guest>(
         return Err(Fault::TypeMismatch(place));
     };
     match place_list(cx, items, &element, place) {
-        Ok(block) => {
-            put_pair(cx.core.as_slice_mut(), at, block.pointer, block.length);
-            Ok(block.next)
+        Ok(list) => {
+            put_pair(cx.core.as_slice_mut(), at, list.pointer, list.length);
+            Ok(list.next)
         }
         Err(fault) => Err(fault),
     }

@@ -2,4 +2,10 @@
 #![tactic(auto)]
 
 #[cfg(test)]
+mod fuel;
+#[cfg(test)]
+mod lists_lifted;
+#[cfg(test)]
+mod lists_lowered;
+#[cfg(test)]
 mod tests;

@@ -135,7 +135,7 @@ fn core_of(alloc: Global, builder: TypeBuilder, answer: u32) -> Result<Core<u32,
         traps: 0,
     };
     let memory = Memory::new(alloc, 16)?;
-    Ok(Core::new(alloc, id, 5, guest, memory, component)?)
+    Ok(Core::new(alloc, id, 5, guest, memory, component, 1 << 20)?)
 }
 
 /// Lowers a value, where the conditions hold.
@@ -147,7 +147,7 @@ fn lowered(
     dst: &mut [ValRaw],
 ) -> Result<Result<(), Fault>, Fail>
     requires options { length core.old.component.options.items ≡ 1 }
-    ensures same { core.new ≡ core.old }
+    ensures same { core.new.component ≡ core.old.component }
 {
     let mut cx = LowerContext::new(core, OptionsIndex::from_u32(0));
     let types = cx.types();

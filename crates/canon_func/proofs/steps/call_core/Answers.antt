@@ -18,12 +18,12 @@ returns-in-Ok-clause-call g c =
     let callee = export_callee before.component c.args.export.now in
     let result = c.run.result in
     let words = c.in-Ok.words in
-    let second : Does (moment_of seen mid) (moment_of seen after) (λ es. OnAnswered result (moves mid.guest es after.guest)) (λ es. IsRest g.G.Guest.post_leaves callee words.items (moment_of seen mid) (moment_of seen after) result es) =
-    subst (λ comp. Does (moment_of seen mid) (moment_of seen after) (λ es. OnAnswered result (moves mid.guest es after.guest)) (λ es. IsRest g.G.Guest.post_leaves (export_callee comp c.args.export.now) words.items (moment_of seen mid) (moment_of seen after) result es))
-    (ap (λ k. k.component) c.lower_params.ensures.same)
-    (subst (λ ws. Does (moment_of seen mid) (moment_of seen after) (λ es. OnAnswered result (moves mid.guest es after.guest)) (λ es. IsRest g.G.Guest.post_leaves (export_callee mid.component c.args.export.now) ws (moment_of seen mid) (moment_of seen after) result es))
+    let second : Does (moment_of seen mid) (moment_of seen after) (λ es. OnAnswered result (moves mid.guest es after.guest)) (λ es. IsRest g.G.Guest.post_leaves callee before.fuel words.items (moment_of seen mid) (moment_of seen after) result es) =
+    subst (λ k. Does (moment_of seen mid) (moment_of seen after) (λ es. OnAnswered result (moves mid.guest es after.guest)) (λ es. IsRest g.G.Guest.post_leaves (export_callee k.component c.args.export.now) k.fuel words.items (moment_of seen mid) (moment_of seen after) result es))
+    c.lower_params.ensures.same
+    (subst (λ ws. Does (moment_of seen mid) (moment_of seen after) (λ es. OnAnswered result (moves mid.guest es after.guest)) (λ es. IsRest g.G.Guest.post_leaves (export_callee mid.component c.args.export.now) mid.fuel ws (moment_of seen mid) (moment_of seen after) result es))
     c.deref.ensures.value c.run.ensures.did) in
-    call_started g.G.Guest.post_leaves callee c.args.params.now (moment_of seen before) (moment_of seen mid) (moment_of seen after) words result
+    call_started g.G.Guest.post_leaves callee before.fuel c.args.params.now (moment_of seen before) (moment_of seen mid) (moment_of seen after) words result
     (λ es. moves before.guest es mid.guest) (λ es. OnAnswered result (moves mid.guest es after.guest)) (λ es. OnAnswered result (moves before.guest es after.guest))
     (λ xs ys p q. answered result (moves mid.guest ys after.guest) (moves before.guest (xs ++ ys) after.guest) (λ r. g.met.G.Guest.goes_on before.guest mid.guest after.guest xs ys p r) q)
     c.in-Ok.ensures.lowered second
@@ -33,7 +33,7 @@ returns-in-Ok-clause-late g c =
     let seen = g.G.Guest.seen in
     let mid = c.lower_params.new.core in
     let after = c.run.new.core in
-    rest_is_late (export_callee mid.component c.args.export.now) (moment_of seen mid) (moment_of seen after) c.run.ensures.did.events c.run.result c.run.ensures.did.so.cause
+    rest_is_late (export_callee mid.component c.args.export.now) mid.fuel (moment_of seen mid) (moment_of seen after) c.run.ensures.did.events c.run.result c.run.ensures.did.so.cause
 
 pub returns-in-Ok-clause-count : goal.returns-in-Ok-clause-count
 returns-in-Ok-clause-count g c =
@@ -45,7 +45,7 @@ returns-in-Err-clause-call g c =
     let seen = g.G.Guest.seen in
     let before = c.args.core.now in
     let after = c.lower_params.new.core in
-    call_refused g.G.Guest.post_leaves (export_callee before.component c.args.export.now) c.args.params.now (moment_of seen before) (moment_of seen after) c.in-Err.error _ c.in-Err.ensures.lowered
+    call_refused g.G.Guest.post_leaves (export_callee before.component c.args.export.now) before.fuel c.args.params.now (moment_of seen before) (moment_of seen after) c.in-Err.error _ c.in-Err.ensures.lowered
 
 pub returns-in-Err-clause-late : goal.returns-in-Err-clause-late
 returns-in-Err-clause-late g c =

@@ -1,4 +1,4 @@
-use Rattle.std.proofs.Common.{ap, subst, ◌++◌}
+use Rattle.std.proofs.Common.{subst, ◌++◌}
 use Rattle.canon_value.specs.Core.{moment_of}
 use Rattle.canon_func.specs.Call.{OnAnswered}
 use Rattle.canon_func.specs.Steps.{Concluded, Does}
@@ -15,12 +15,12 @@ returns-in-Ok-clause-did g c =
     let after = c.conclude.new.core in
     let callee = export_callee before.component c.args.export.now in
     let result = c.conclude.result in
-    let second : Does (moment_of seen mid) (moment_of seen after) (λ es. OnAnswered result (moves mid.guest es after.guest)) (λ es. Concluded g.G.Guest.post_leaves callee c.in-Ok.returned (moment_of seen mid) (moment_of seen after) result es) =
-    subst (λ comp. Does (moment_of seen mid) (moment_of seen after) (λ es. OnAnswered result (moves mid.guest es after.guest)) (λ es. Concluded g.G.Guest.post_leaves (export_callee comp c.args.export.now) c.in-Ok.returned (moment_of seen mid) (moment_of seen after) result es))
-    (ap (λ k. k.component) c.start.ensures.same)
-    (subst (λ ws. Does (moment_of seen mid) (moment_of seen after) (λ es. OnAnswered result (moves mid.guest es after.guest)) (λ es. Concluded g.G.Guest.post_leaves (export_callee mid.component c.args.export.now) ws (moment_of seen mid) (moment_of seen after) result es))
+    let second : Does (moment_of seen mid) (moment_of seen after) (λ es. OnAnswered result (moves mid.guest es after.guest)) (λ es. Concluded g.G.Guest.post_leaves callee before.fuel c.in-Ok.returned (moment_of seen mid) (moment_of seen after) result es) =
+    subst (λ k. Does (moment_of seen mid) (moment_of seen after) (λ es. OnAnswered result (moves mid.guest es after.guest)) (λ es. Concluded g.G.Guest.post_leaves (export_callee k.component c.args.export.now) k.fuel c.in-Ok.returned (moment_of seen mid) (moment_of seen after) result es))
+    c.start.ensures.same
+    (subst (λ ws. Does (moment_of seen mid) (moment_of seen after) (λ es. OnAnswered result (moves mid.guest es after.guest)) (λ es. Concluded g.G.Guest.post_leaves (export_callee mid.component c.args.export.now) mid.fuel ws (moment_of seen mid) (moment_of seen after) result es))
     c.as_slice.ensures c.conclude.ensures.did) in
-    run_returned g.G.Guest.post_leaves callee c.args.words.now (moment_of seen before) (moment_of seen mid) (moment_of seen after) c.in-Ok.returned result
+    run_returned g.G.Guest.post_leaves callee before.fuel c.args.words.now (moment_of seen before) (moment_of seen mid) (moment_of seen after) c.in-Ok.returned result
     (λ es. moves before.guest es mid.guest) (λ es. OnAnswered result (moves mid.guest es after.guest)) (λ es. OnAnswered result (moves before.guest es after.guest))
     (λ xs ys p q. answered result (moves mid.guest ys after.guest) (moves before.guest (xs ++ ys) after.guest) (λ r. g.met.G.Guest.goes_on before.guest mid.guest after.guest xs ys p r) q)
     c.in-Ok.ensures.did second
@@ -30,4 +30,4 @@ returns-in-Err-clause-did g c =
     let seen = g.G.Guest.seen in
     let before = c.args.core.now in
     let after = c.start.new.core in
-    run_refused g.G.Guest.post_leaves (export_callee before.component c.args.export.now) c.args.words.now (moment_of seen before) (moment_of seen after) c.in-Err.error _ c.in-Err.ensures.did
+    run_refused g.G.Guest.post_leaves (export_callee before.component c.args.export.now) before.fuel c.args.words.now (moment_of seen before) (moment_of seen after) c.in-Err.error _ c.in-Err.ensures.did
