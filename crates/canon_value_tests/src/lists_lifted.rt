@@ -252,14 +252,29 @@ fn an_item_has_its_own_place_and_faults(rt: HostRuntime) -> Result<(), Fail> {
         "Ok(List([String(\"a\"), String(\"\")]))"
     );
     assert_eq!(rt; answer.1, 0);
-    let words = [28, 1].map(|word| ValRaw::u32(word));
-    let answer = lifted(&rt, alloc, &mut core, chars, &words)?;
+    let answer = lifted(
+        &rt,
+        alloc,
+        &mut core,
+        chars,
+        &[ValRaw::u32(28), ValRaw::u32(1)],
+    )?;
     assert_eq!(rt; answer.as_str(), "Ok(List([Char('b')]))");
-    let words = [28, 2].map(|word| ValRaw::u32(word));
-    let answer = lifted(&rt, alloc, &mut core, chars, &words)?;
+    let answer = lifted(
+        &rt,
+        alloc,
+        &mut core,
+        chars,
+        &[ValRaw::u32(28), ValRaw::u32(2)],
+    )?;
     assert_eq!(rt; answer.as_str(), "Err(InvalidChar(Address(32)))");
-    let words = [8, 1].map(|word| ValRaw::u32(word));
-    let answer = lifted(&rt, alloc, &mut core, texts, &words)?;
+    let answer = lifted(
+        &rt,
+        alloc,
+        &mut core,
+        texts,
+        &[ValRaw::u32(8), ValRaw::u32(1)],
+    )?;
     assert_eq!(rt; answer.as_str(), "Ok(List([String(\"a\")]))");
     core.set_fuel(64);
     let answer = loaded(&rt, alloc, &mut core, texts, 0)?;
