@@ -235,35 +235,41 @@ fn faults_in_words_are_told_at_the_pointer(rt: HostRuntime) -> Result<(), Fail> 
 }
 
 #[test]
-fn an_item_has_its_own_place_and_faults(rt: HostRuntime) -> Result<(), Fail> {
+fn a_list_of_texts_costs_its_items_and_their_bytes(rt: HostRuntime) -> Result<(), Fail> {
+    let alloc = rt.alloc();
+    // At 0 two texts at 8, of which the first is "a" at 24 and the second is empty.
+    let bytes = [
+        8, 0, 0, 0, 2, 0, 0, 0, 24, 0, 0, 0, 1, 0, 0, 0, 25, 0, 0, 0, 0, 0, 0, 0, b'a',
+    ];
+    for (fuel, want) in [
+        (65, "Ok(List([String(\"a\"), String(\"\")]))"),
+        (64, "Err(HostcallFuelExhausted)"),
+        (63, "Err(HostcallFuelExhausted)"),
+    ] {
+        let mut builder = TypeBuilder::new(alloc);
+        let ty = builder.add_list(InterfaceType::String)?;
+        let mut core = core_of(alloc, builder, &bytes, fuel)?;
+        let (answer, _) = loaded(&rt, alloc, &mut core, ty, 0)?;
+        assert_eq!(rt; answer.as_str(), want, "with fuel {fuel}");
+    }
+    Ok(())
+}
+
+#[test]
+fn an_item_is_told_at_its_own_address(rt: HostRuntime) -> Result<(), Fail> {
     let alloc = rt.alloc();
     let mut builder = TypeBuilder::new(alloc);
-    let texts = builder.add_list(InterfaceType::String)?;
-    let chars = builder.add_list(InterfaceType::Char)?;
-    // At 0 two texts at 8, of which the first is "a" at 24 and the second is empty; at 28 two chars.
-    let bytes = [
-        8, 0, 0, 0, 2, 0, 0, 0, 24, 0, 0, 0, 1, 0, 0, 0, 25, 0, 0, 0, 0, 0, 0, 0, b'a', 0xff, 0, 0,
-        b'b', 0, 0, 0, 0, 0xd8, 0, 0,
-    ];
-    let mut core = core_of(alloc, builder, &bytes, 65)?;
-    let answer = loaded(&rt, alloc, &mut core, texts, 0)?;
-    assert_eq!(rt;
-        answer.0.as_str(),
-        "Ok(List([String(\"a\"), String(\"\")]))"
-    );
-    assert_eq!(rt; answer.1, 0);
-    let words = [28, 1].map(|word| ValRaw::u32(word));
-    let answer = lifted(&rt, alloc, &mut core, chars, &words)?;
-    assert_eq!(rt; answer.as_str(), "Ok(List([Char('b')]))");
-    let words = [28, 2].map(|word| ValRaw::u32(word));
-    let answer = lifted(&rt, alloc, &mut core, chars, &words)?;
-    assert_eq!(rt; answer.as_str(), "Err(InvalidChar(Address(32)))");
-    let words = [8, 1].map(|word| ValRaw::u32(word));
-    let answer = lifted(&rt, alloc, &mut core, texts, &words)?;
-    assert_eq!(rt; answer.as_str(), "Ok(List([String(\"a\")]))");
-    core.set_fuel(64);
-    let answer = loaded(&rt, alloc, &mut core, texts, 0)?;
-    assert_eq!(rt; answer.0.as_str(), "Err(HostcallFuelExhausted)");
+    let ty = builder.add_list(InterfaceType::Char)?;
+    let bytes = [9, 9, 9, 9, b'b', 0, 0, 0, 0, 0xd8, 0, 0];
+    let mut core = core_of(alloc, builder, &bytes, 64)?;
+    for (length, want) in [
+        (1, "Ok(List([Char('b')]))"),
+        (2, "Err(InvalidChar(Address(8)))"),
+    ] {
+        let words = [4, length].map(|word| ValRaw::u32(word));
+        let answer = lifted(&rt, alloc, &mut core, ty, &words)?;
+        assert_eq!(rt; answer.as_str(), want);
+    }
     Ok(())
 }
 
