@@ -1,5 +1,5 @@
 -- A walk over the members of a product in memory.
-use Rattle.std.proofs.Common.{◌≡◌, ◌≤◌, ◌<◌, ◌+◌, ◌*◌, ◌%◌, ◌^◌, ◌∙◌, ◌++◌, Err, IfErr, List, Ok, Result, String, Vec, [], ◌∷◌, ap, append_assoc, append-nil, arith, false, inl, inr, length, max, refl, subst, sym, ℕ}
+use Rattle.std.proofs.Common.{◌≡◌, ◌≤◌, ◌<◌, ◌+◌, ◌*◌, ◌%◌, ◌^◌, ◌∙◌, ◌++◌, Err, IfErr, IfOk, List, Ok, Result, String, Vec, [], ◌∷◌, ap, append_assoc, append-nil, arith, false, inl, inr, length, max, refl, subst, sym, ℕ}
 use Rattle.std.proofs.Math.Nat.{dvd-add}
 use Rattle.std.proofs.lemmas.Nat.Gcd.{dvd_of_mod-eq-zero, dvd_trans, mod-eq-zero_of_dvd}
 use Rattle.std.specs.Result.{IsErr, IsErrAnd}
@@ -77,7 +77,11 @@ handed_on (Err x) e Q h q = subst Q (sym h.1) q
 pub exhausted : {X : Type 0} (r : Result X Fault) (e : Fault) (F : Kind → Place → Type 0) (Low : Type 0) → IsErr r × IsErrAnd r (λ x. x ≡ e) → e ≡ fault.HostcallFuelExhausted → Low → IfErr r (LiftBlames F Low)
 exhausted r e F Low h is low = handed_on r e (LiftBlames F Low) h (subst (λ x. LiftBlames F Low x) (sym is) low)
 
--- of an error, what follows
+-- of a result, what follows
+pub on_ok : {X : Type 0} (r : Result X Fault) (P Q : X → Type 0) → ((x : X) → P x → Q x) → IfOk r P → IfOk r Q
+on_ok (Ok y) P Q f h = f y h
+on_ok (Err x) P Q f h = tt
+
 pub on_err : {X : Type 0} (r : Result X Fault) (P Q : Fault → Type 0) → ((e : Fault) → P e → Q e) → IfErr r P → IfErr r Q
 on_err (Ok y) P Q f h = tt
 on_err (Err x) P Q f h = f x h
