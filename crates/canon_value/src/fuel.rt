@@ -8,9 +8,7 @@ use thiserror::Error;
 
 /// The error that a caller is given where values cost more than the fuel that was left.
 #[derive(Clone, Copy, Debug, PartialEq, Eq, Error)]
-#[error(
-    "too much data is being copied between the host and the guest: fuel allocated for hostcalls has been exhausted"
-)]
+#[error("too much data is being copied between the host and the guest: fuel allocated for hostcalls has been exhausted")]
 pub struct HostcallFuelExhausted;
 
 /// What a list of n items and a product or list of fixed length of n members cost for each of these.

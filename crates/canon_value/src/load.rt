@@ -4,6 +4,7 @@ ghost use Rattle.std.specs.Prelude.{◌≡◌, ◌≤◌, ◌<◌, ◌+◌, ◌*
 ghost use Rattle.canon_lowering.specs.Storing.{narrow};
 ghost use Rattle.canon_model.specs.Cost.{members_cost, names_length, val_cost};
 ghost use Rattle.canon_model.specs.Layout.{align, members_align, members_end, size};
+ghost use Rattle.canon_model.specs.Memory.{Inside};
 ghost use Rattle.canon_model.specs.Reach.{ListFault, MemberFault, SomeElement, StoredFault, TextFault, list_reach, members_reach, reach_cost, sum_at, text_reach};
 ghost use Rattle.canon_model.specs.Shape.{string};
 ghost use Rattle.canon_model.specs.Text.{utf8};
@@ -311,7 +312,8 @@ fn load_list(
 }
 
 /// The items of the list of this length at this pointer, which stands at `at` (CanonicalABI.md, "load_list_from_range"): it
-/// is tested that they end inside memory, then the list is charged, and then the alignment is tested.
+/// is tested that they end inside memory, then the list is charged, and then the alignment is tested. Room for the items is made
+/// after that alone: want of memory comes only where they are inside memory and paid for.
 #[cycle(load)]
 pub(crate) fn load_items(
     alloc: Global,
@@ -332,6 +334,8 @@ pub(crate) fn load_items(
         (shape_of source.now.types.now element.now) (place_of at) pointer length))
         (fuel.old < list_reach (encoding_of source.now.encoding) (narrow source.now.memory.now)
         (λ b. reach_cost (encoding_of source.now.encoding) (narrow source.now.memory.now) (shape_of source.now.types.now element.now) b) val_cost (shape_of source.now.types.now element.now) pointer length)) }
+    ensures room { IfErr result (λ e. e ≡ Fault.OutOfMemory → Inside (narrow source.now.memory.now) pointer (length * size false (shape_of source.now.types.now element.now))
+        × (length * val_cost ≤ fuel.old)) }
     ensures falls { fuel.new ≤ fuel.old }
 {
     let abi = source.types.canonical_abi(element);
