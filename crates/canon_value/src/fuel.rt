@@ -1,6 +1,6 @@
 //! The fuel of lifting.
 
-ghost use Rattle.std.specs.Prelude.{◌≡◌, ◌*◌};
+ghost use Rattle.std.specs.Prelude.{◌*◌};
 ghost use Rattle.canon_value.specs.Fuel.{Charged};
 
 use crate::Fault;

@@ -2,7 +2,7 @@
 
 ghost use Rattle.std.specs.Prelude.{◌≡◌, ◌≤◌, ◌<◌, ◌+◌, ◌*◌, ◌%◌, ◌^◌, ◌∷◌, ◌++◌, [], All, IfErr, IfOk, OnOk, false, length, string_bytes};
 ghost use Rattle.canon_lowering.specs.Storing.{narrow};
-ghost use Rattle.canon_model.specs.Cost.{members_cost, names_length, val_cost};
+ghost use Rattle.canon_model.specs.Cost.{names_length, val_cost};
 ghost use Rattle.canon_model.specs.Layout.{align, members_align, members_end, size};
 ghost use Rattle.canon_model.specs.Reach.{ListFault, MemberFault, SomeElement, StoredFault, TextFault, list_reach, members_reach, reach_cost, sum_at, text_reach};
 ghost use Rattle.canon_model.specs.Shape.{string};
@@ -14,7 +14,7 @@ ghost use Rattle.canon_value.specs.Built.{AreBuilt, IsBuilt, IsScalarType};
 ghost use Rattle.canon_value.specs.Core.{encoding_by, types_of};
 ghost use Rattle.canon_value.specs.Loads.{AreFieldsLoaded, AreLoaded, Exactly, IsListLoaded, IsLoaded, IsRowLoaded, IsTextLoaded, LiftBlames, place_of};
 ghost use Rattle.canon_value.specs.declared.fault.At.TheVariants as place;
-ghost use Rattle.canon_value.specs.Value.{member_names, names_in, values_in};
+ghost use Rattle.canon_value.specs.Value.{names_in, values_in};
 
 use crate::fuel::{VAL_COST, charge, charge_each};
 use crate::lift::keep;
