@@ -1,8 +1,7 @@
 -- Steps of lowering to words, over plain variables.
-use Rattle.std.proofs.Common.{◌≡◌, ◌≤◌, ◌<◌, ◌+◌, ◌*◌, ◌++◌, ◌^◌, ◌∙◌, Err, List, Ok, Result, Vec, [], ◌∷◌, ap, ap₂, arith, inl, inr, length, refl, rules, set, subst, suc-mul, sym, ℕ}
+use Rattle.std.proofs.Common.{◌≡◌, ◌≤◌, ◌<◌, ◌+◌, ◌*◌, ◌++◌, ◌^◌, ◌∙◌, Err, List, Ok, Result, [], ◌∷◌, ap, ap₂, arith, inl, inr, length, refl, set, subst, suc-mul, sym, ℕ}
 use Rattle.std.proofs.lemmas.List.{ext_get_or, get_or-set_other, get_or-set_same, length-set}
 use Rattle.std.specs.Prelude.{OnOk, slice_index}
-use Rattle.std.specs.declared.alloc.Global.{Global}
 use Rattle.canon_lowering.proofs.Storings.{FirstAnd}
 use Rattle.canon_lowering.proofs.WordRows.{fixed_lowered, row_lowered_cons, row_lowered_none, row_lowered_stop}
 use Rattle.canon_lowering.proofs.Words.{lowered_other, members_lowered_as, members_lowered_cons, members_lowered_none, members_lowered_refused, members_lowered_stop, product_lowered, refused_lowered, scalar_lowered}
@@ -21,15 +20,12 @@ use Rattle.canon_value.specs.Built.{IsScalarType}
 use Rattle.canon_value.specs.Core.{Parts, encoding_by, moment_of}
 use Rattle.canon_value.specs.Fails.{Blames, FailsAt, MemberFails, SomeFails}
 use Rattle.canon_value.specs.Lowers.{ending_of, fault_ending}
-use Rattle.canon_value.specs.Stores.{PlacesTo}
 use Rattle.canon_value.specs.Value.{EachHas, HasTree, HaveTrees, IsFixed, IsProduct, all_places, cap, member_names, places}
 use Rattle.canon_value.specs.Words.{FieldsLowerTo, FieldsSpotCount, IsNoneOf, IsWordOf, LowersTo, MembersLowerTo, Puts, RowLowersTo, SpotCounts, Stays, inside}
-use Rattle.canon_value.specs.declared.blocks.Placed.{Placed}
 use Rattle.canon_value.specs.declared.fault.Fault.{Fault}
 use Rattle.canon_value.specs.declared.fault.Fault.TheVariants as fault
 use Rattle.canon_value.specs.declared.lower.Spot.{Spot}
-use Rattle.canon_value.specs.declared.val.Val.{Val, the_lemmas}
-use Rattle.canon_value.specs.declared.val.Val.TheVariants as val
+use Rattle.canon_value.specs.declared.val.Val.{Val}
 use Rattle.canon_value.proofs.Contents.{each_count, places_fixed}
 use Rattle.canon_value.proofs.Moves.{moves_none, moves_then}
 use Rattle.canon_value.proofs.Scalars.{scalar_places}
@@ -42,7 +38,7 @@ use Rattle.canon_value.proofs.WordMoves.{count_words, members_moved, row_moved, 
 
 -- ---- words put in their places
 
-pub puts_one : (dst : List ℕ) (i w : ℕ) → i < length dst → Puts i (w ∷ []) dst (set dst i w)
+puts_one : (dst : List ℕ) (i w : ℕ) → i < length dst → Puts i (w ∷ []) dst (set dst i w)
 puts_one dst i w room = record {
   same_length = length-set dst i w;
   before = λ p l. get_or-set_other dst i p w 0 (omega (arith, l));
@@ -188,23 +184,6 @@ module _ {T G : Type 0} (seen : G → Seen) (moves : G → List Event → G → 
   scalar_refused a dst from type v small few (k, e) none =
       subst (λ (s : Shape). LowersTo seen moves options a a dst dst from (Err (fault.TypeMismatch from.place)) s v) (sym (plain_scalar type k e))
       (value_refused a dst from (scalar k) v (fault.TypeMismatch from.place) small refl (0, omega (arith, few), (refl, none k e)))
-
-  -- ---- a text or a list, by a pointer and a length
-
-  pub placed_lowers : (a c : Parts T G) (dst dst2 : List ℕ) (from : Spot) (s : Shape) (v : Val) (b : Placed) → flat s ≡ 2 → Puts from.word (b.pointer ∷ b.length ∷ []) dst dst2 → PlacesTo seen moves options a c s v from.place (Ok b)
-      → LowersTo seen moves options a c dst dst2 from (Ok (record { word = from.word + 2; place = b.next })) s v
-  placed_lowers a c dst dst2 from s v b two put h = record {
-    words = b.pointer ∷ b.length ∷ [];
-    lowered = h.lowered;
-    puts = put;
-    stays = puts_stays from.word (b.pointer ∷ b.length ∷ []) dst dst2 put;
-    counted = (omega (arith, two), h.counted);
-    moved = h.moved;
-    same = h.same;
-  }
-
-  pub placed_refused : (a c : Parts T G) (dst : List ℕ) (from : Spot) (s : Shape) (v : Val) (e : Fault) → PlacesTo seen moves options a c s v from.place (Err e) → LowersTo seen moves options a c dst dst from (Err e) s v
-  placed_refused a c dst from s v e h = record { words = []; lowered = h.lowered; puts = tt; stays = stays_none from.word dst; counted = h.counted; moved = h.moved; same = h.same }
 
   -- a value's words stay where the rest of the words are written
   words_stay : (a b c : Parts T G) (dst dst2 dst3 : List ℕ) (from mid : Spot) (s : Shape) (v : Val) (h : LowersTo seen moves options a b dst dst2 from (Ok mid) s v) → Stays mid.word dst2 dst3 → SameWords h.words 0 dst3 from.word (flat s)
