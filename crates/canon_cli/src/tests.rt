@@ -14,6 +14,12 @@ const TRAPS: &str =
 const MISTYPED: &str =
     r#"{"funcs":[{"params":["u32","s8"],"results":["bool"]}],"items":[{"call":0,"params":[{"bool":true},{"s8":-1}],"guest":[{"return":[2]}]}]}"#;
 
+const ECHO: &str =
+    r#"{"fuel":3,"types":[{"list":"string"}],"funcs":[{"params":[0],"results":["string"]}],"items":[{"call":0,"params":[{"list":[{"string":"a b"}]}],"guest":[{"return":[1024]}]}]}"#;
+
+const ECHO_TEXT: &str =
+    "call 0\nrealloc 0 0 4 8 = 1024\nrealloc 0 0 1 3 = 1032\nstart 0 1024 1\nblock 1024 0804000003000000\nblock 1032 612062\nreturn 1024\nok \"a b\"\nlive 0\n";
+
 const ONE_CALL_TEXT: &str = "call 0\nstart 0 7 4294967295\nreturn 2\nok true\nlive 0\n";
 
 // What a run of the command `run` answers and writes, with these failing calls of the source and of the sink.
@@ -48,6 +54,7 @@ fn scripts_are_played_and_printed(rt: HostRuntime) -> Result<(), Fail> {
             "call 0\nstart 0 7 4294967295\ntrap\nerror GuestTrap\nlive 0\n",
         ),
         (MISTYPED, "call 0\nerror TypeMismatch 0\nlive 0\n"),
+        (ECHO, ECHO_TEXT),
     ];
     for (script, want) in cases {
         let (status, text) = answer(rt.alloc(), script, 0, 1000, 0)?;
@@ -63,8 +70,9 @@ fn what_is_no_script_has_its_status(rt: HostRuntime) -> Result<(), Fail> {
         ("[1", 7),
         ("", 7),
         ("[]", 8),
-        (r#"{"fuel":1}"#, 8),
-        (r#"{"funcs":[{"params":["string"],"results":[]}]}"#, 8),
+        (r#"{"fuel":-1}"#, 8),
+        (r#"{"types":[{"flags":["a"]}]}"#, 8),
+        (r#"{"types":[{"fixed":["u8",0]}]}"#, 8),
         (r#"{"memory":16}"#, 8),
     ];
     for (script, want) in cases {

@@ -67,18 +67,22 @@ on_answered (Err (error.Fault f)) P n p = by f n p
     by (fault.TypeMismatch k) n p = p
     by (fault.FieldName k) n p = p
     by (fault.LengthMismatch k) n p = p
+    by (fault.StringTooLong k) n p = p
+    by (fault.SizeOverflow k) n p = p
     by (fault.ReallocMisaligned a) n p = p
     by (fault.ReallocOutOfBounds a) n p = p
     by fault.GuestTrap n p = p
     by (fault.PointerMisaligned a) n p = p
     by (fault.PointerOutOfBounds a) n p = p
+    by (fault.InvalidUtf8 a) n p = p
     by (fault.InvalidChar a) n p = p
+    by fault.HostcallFuelExhausted n p = p
 
 -- the same call, with its results said another way
-recalled : (callee : Callee) (params : List Val) (before after : Moment) (called : Result (Unit {0}) Error) (results others : List Val) (events : List Event) →
-    OnOk called (others ≡ results) → IsCall Stays callee params before after called results events → IsCall Stays callee params before after called others events
-recalled callee params before after (Ok x) results others events e h = subst (λ (vs : List Val). IsCall Stays callee params before after (Ok x) vs events) (sym e) h
-recalled callee params before after (Err x) results others events e h = record {
+recalled : (callee : Callee) (fuel : ℕ) (params : List Val) (before after : Moment) (called : Result (Unit {0}) Error) (results others : List Val) (events : List Event) →
+    OnOk called (others ≡ results) → IsCall Stays callee fuel params before after called results events → IsCall Stays callee fuel params before after called others events
+recalled callee fuel params before after (Ok x) results others events e h = subst (λ (vs : List Val). IsCall Stays callee fuel params before after (Ok x) vs events) (sym e) h
+recalled callee fuel params before after (Err x) results others events e h = record {
   one_run = h.one_run;
   front = h.front;
   answers = h.answers;
@@ -107,7 +111,7 @@ journaled j = record (seen_of j.guest) { journal = Some j.events; shortages = (s
 abbrev pub Entered : Callee → List Val → ScriptStore → ScriptStore → Result (Unit {0}) Error → List Val → Type 0
 Entered callee params loaded left called results = Adding (moment_of journaled loaded.core) (moment_of journaled left.core)
     (λ events. OnAnswered called (Moves loaded.core.guest.guest events left.core.guest.guest))
-    (λ events. IsCall Stays callee params (moment_of journaled loaded.core) (moment_of journaled left.core) called results events)
+    (λ events. IsCall Stays callee loaded.core.fuel params (moment_of journaled loaded.core) (moment_of journaled left.core) called results events)
 
 module _ (callee : Callee) (call : Call) (r : Record) (s left : ScriptStore) (params results : List Val) (called : Result (Unit {0}) Error)
     (empty : s.core.guest.events ≡ []) (events : r.events ≡ left.core.guest.events)
@@ -117,25 +121,26 @@ module _ (callee : Callee) (call : Call) (r : Record) (s left : ScriptStore) (pa
   loaded = with_plan s (plan_of call s.core.guest.guest.plan.allocator)
 
   was_called : refusal callee (length call.params) call.slots s.trapped ≡ None → Entered callee params loaded left called results
-      → OnOk called (left.trapped ≡ s.trapped) → OnErr called (left.trapped ≡ true) → WasCalled callee call (state_of s) (state_of left) r
+      → OnOk called (left.trapped ≡ s.trapped) → OnErr called (left.trapped ≡ true) → WasCalled callee s.core.fuel call (state_of s) (state_of left) r
   was_called free entered runs traps =
       let before = state_of s in
       let after = state_of left in
+      let fuel = s.core.fuel in
       let gained : left.core.guest.events ≡ s.core.guest.events ++ entered.events = ap (λ o. unwrap_or o []) entered.added in
       let all : r.events ≡ entered.events = events ∙ (gained ∙ ap (λ (es : List Event). es ++ entered.events) empty) in
-      let one : IsCall Stays callee params (session.moment_of before []) (session.moment_of after left.core.guest.events) called results entered.events =
-      subst (λ (es : List Event). IsCall Stays callee params (session.moment_of before es) (session.moment_of after left.core.guest.events) called results entered.events) empty entered.so in
-      let two : IsCall Stays callee params (session.moment_of before []) (session.moment_of after r.events) called results entered.events =
-      subst (λ (es : List Event). IsCall Stays callee params (session.moment_of before []) (session.moment_of after es) called results entered.events) (sym events) one in
-      let three : IsCall Stays callee params (session.moment_of before []) (session.moment_of after r.events) called results r.events =
-      subst (λ (es : List Event). IsCall Stays callee params (session.moment_of before []) (session.moment_of after r.events) called results es) (sym all) two in
-      let four : IsCall Stays callee params (session.moment_of before []) (session.moment_of after r.events) called (values_of r.answer) r.events =
-      recalled callee params (session.moment_of before []) (session.moment_of after r.events) called results (values_of r.answer) r.events vals three in
+      let one : IsCall Stays callee fuel params (session.moment_of before []) (session.moment_of after left.core.guest.events) called results entered.events =
+      subst (λ (es : List Event). IsCall Stays callee fuel params (session.moment_of before es) (session.moment_of after left.core.guest.events) called results entered.events) empty entered.so in
+      let two : IsCall Stays callee fuel params (session.moment_of before []) (session.moment_of after r.events) called results entered.events =
+      subst (λ (es : List Event). IsCall Stays callee fuel params (session.moment_of before []) (session.moment_of after es) called results entered.events) (sym events) one in
+      let three : IsCall Stays callee fuel params (session.moment_of before []) (session.moment_of after r.events) called results r.events =
+      subst (λ (es : List Event). IsCall Stays callee fuel params (session.moment_of before []) (session.moment_of after r.events) called results es) (sym all) two in
+      let four : IsCall Stays callee fuel params (session.moment_of before []) (session.moment_of after r.events) called (values_of r.answer) r.events =
+      recalled callee fuel params (session.moment_of before []) (session.moment_of after r.events) called results (values_of r.answer) r.events vals three in
       let moved : Moves loaded.core.guest.guest entered.events left.core.guest.guest = on_answered called _ short (entered.moves refl) in
       record {
         params = params;
         params_are = their;
-        called = subst (λ (a : Result (Unit {0}) Error). IsCall Stays callee params (session.moment_of before []) (session.moment_of after r.events) a (values_of r.answer) r.events) (sym out) four;
+        called = subst (λ (a : Result (Unit {0}) Error). IsCall Stays callee fuel params (session.moment_of before []) (session.moment_of after r.events) a (values_of r.answer) r.events) (sym out) four;
         left = left.core.guest.guest.plan;
         new_marks = moved.new_marks;
         does = subst (λ (es : List Event). Does (plan_of call before.allocator) es moved.new_marks left.core.guest.guest.plan) (sym all) moved.does;
@@ -145,7 +150,7 @@ module _ (callee : Callee) (call : Call) (r : Record) (s left : ScriptStore) (pa
         sufficed = λ e. short (sym out ∙ ap outcome e);
       }
 
-  was_refused : (e : Error) → called ≡ Err e → left ≡ loaded → Happened callee call (state_of s) (state_of left) r (Some e)
+  was_refused : (e : Error) → called ≡ Err e → left ≡ loaded → Happened callee s.core.fuel call (state_of s) (state_of left) r (Some e)
   was_refused e h same = (answers_error r.answer e (out ∙ h), events ∙ (ap (λ (k : ScriptStore). k.core.guest.events) same ∙ empty), ap state_of same)
 
   abbrev Refused : Result (Unit {0}) Error → Type 0
@@ -153,7 +158,7 @@ module _ (callee : Callee) (call : Call) (r : Record) (s left : ScriptStore) (pa
 
   happened : (c : Result (Unit {0}) Error) → called ≡ c → refused_by c ≡ refusal callee (length call.params) call.slots s.trapped → Refused c
       → (IsNone (refused_by c) → Entered callee params loaded left called results) → OnOk called (left.trapped ≡ s.trapped) → (IsNone (refused_by c) → OnErr called (left.trapped ≡ true))
-      → Happened callee call (state_of s) (state_of left) r (refused_by c)
+      → Happened callee s.core.fuel call (state_of s) (state_of left) r (refused_by c)
   happened (Ok x) h why same entered runs traps = was_called (sym why) (entered refl) runs (traps refl)
   happened (Err error.WrongCount) h why same entered runs traps = was_refused error.WrongCount h same
   happened (Err error.AsyncLifted) h why same entered runs traps = was_refused error.AsyncLifted h same
@@ -165,19 +170,19 @@ module _ (callee : Callee) (call : Call) (r : Record) (s left : ScriptStore) (pa
   played : (before : ScriptStore) (count : ℕ) → r.head ≡ head.Call call.func → r.live ≡ 0 → before ≡ loaded → count ≡ call.slots
       → refused_by called ≡ refusal callee (length params) count before.trapped → IfSome (refused_by called) (λ e. left ≡ before)
       → (IsNone (refused_by called) → Entered callee params before left called results) → OnOk called (left.trapped ≡ before.trapped) → (IsNone (refused_by called) → OnErr called (left.trapped ≡ true))
-      → IsPlayed callee call (state_of s) (state_of left) r
+      → IsPlayed callee s.core.fuel call (state_of s) (state_of left) r
   played before count hd lv is slots why same entered runs traps =
       let many : length params ≡ length call.params = sym (length-map params literal_view) ∙ ap length their in
       let why2 : refused_by called ≡ refusal callee (length call.params) call.slots s.trapped =
       why ∙ (ap (λ n. refusal callee n count before.trapped) many ∙ (ap (λ n. refusal callee (length call.params) n before.trapped) slots ∙ ap (λ (k : ScriptStore). refusal callee (length call.params) call.slots k.trapped) is)) in
-      let all : Happened callee call (state_of s) (state_of left) r (refused_by called) = happened called refl why2
+      let all : Happened callee s.core.fuel call (state_of s) (state_of left) r (refused_by called) = happened called refl why2
       (subst (λ (k : ScriptStore). IfSome (refused_by called) (λ e. left ≡ k)) is same)
       (λ none. subst (λ (k : ScriptStore). Entered callee params k left called results) is (entered none))
       (subst (λ (k : ScriptStore). OnOk called (left.trapped ≡ k.trapped)) is runs)
       traps in
       record {
         head = hd;
-        happened = subst (λ o. Happened callee call (state_of s) (state_of left) r o) why2 all;
+        happened = subst (λ o. Happened callee s.core.fuel call (state_of s) (state_of left) r o) why2 all;
         live = lv;
       }
 
@@ -206,9 +211,9 @@ module _ (call : Call) (r : Record) (s before left final : ScriptStore) (f : Nam
       → (IsNone (refused_by called) → Entered (callee_of before f) params before left called results) → OnOk called (left.trapped ≡ before.trapped) → (IsNone (refused_by called) → OnErr called (left.trapped ≡ true))
       → r.head ≡ head.Call call.func → r.live ≡ 0 → r.events ≡ left.core.guest.events → outcome r.answer ≡ called
       → length results ≡ slots.len → OnOk called (values_of r.answer ≡ (with_items slots results).items) → called ≢ Err (error.Fault fault.OutOfMemory)
-      → IsPlayed (callee_at s.core.component call.func) call (state_of s) (state_of final) r
+      → IsPlayed (callee_at s.core.component call.func) s.core.fuel call (state_of s) (state_of final) r
   record_is empty is export end their count why same entered runs traps hd lv events out many vals short =
       let it : callee_of before f ≡ callee_at s.core.component call.func = ap (λ (k : ScriptStore). callee_of k f) is ∙ ap (λ n. callee_at s.core.component n) export in
-      let one : IsPlayed (callee_of before f) call (state_of s) (state_of left) r =
+      let one : IsPlayed (callee_of before f) s.core.fuel call (state_of s) (state_of left) r =
       played (callee_of before f) call r s left params results called empty events out (kept_results called slots results (values_of r.answer) many vals) short their before (length slots.items) hd lv is count why same entered runs traps in
-      subst (λ (d : Callee). IsPlayed d call (state_of s) (state_of final) r) it (subst (λ (k : State). IsPlayed (callee_of before f) call (state_of s) k r) (sym end) one)
+      subst (λ (d : Callee). IsPlayed d s.core.fuel call (state_of s) (state_of final) r) it (subst (λ (k : State). IsPlayed (callee_of before f) s.core.fuel call (state_of s) k r) (sym end) one)

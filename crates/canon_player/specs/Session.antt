@@ -89,12 +89,12 @@ values_of (answer.Err e) = []
 abbrev pub Stays : List ℕ → List ℕ → Type 0
 Stays memory after = after ≡ memory
 
--- The guest was entered, and acted by its plan; the store is trapped where the call was refused. After an answer that is Ok,
--- memory is that of the return. The memory that the run has sufficed.
-pub record WasCalled (callee : Callee) (call : Call) (before after : State) (r : Record) : Type 0 where
+-- The guest was entered, and acted by its plan; the results were lifted with this fuel; the store is trapped where the call
+-- was refused. After an answer that is Ok, memory is that of the return. The memory that the run has sufficed.
+pub record WasCalled (callee : Callee) (fuel : ℕ) (call : Call) (before after : State) (r : Record) : Type 0 where
   pub params : List Val
   pub params_are : literals_view params ≡ call.params
-  pub called : IsCall Stays callee params (moment_of before []) (moment_of after r.events) (outcome r.answer) (values_of r.answer) r.events
+  pub called : IsCall Stays callee fuel params (moment_of before []) (moment_of after r.events) (outcome r.answer) (values_of r.answer) r.events
   pub left : Plan
   pub new_marks : List Mark
   pub does : Does (plan_of call before.allocator) r.events new_marks left
@@ -104,25 +104,25 @@ pub record WasCalled (callee : Callee) (call : Call) (before after : State) (r :
   pub sufficed : r.answer ≢ answer.Err (error.Fault fault.OutOfMemory)
 
 -- It was refused before the guest was entered, which leaves everything as it was; else it was called.
-abbrev pub Happened : Callee → Call → State → State → Record → Option Error → Type 0
-Happened callee call before after r (Some e) = (r.answer ≡ answer.Err e) × (r.events ≡ []) × (after ≡ before)
-Happened callee call before after r None = WasCalled callee call before after r
+abbrev pub Happened : Callee → ℕ → Call → State → State → Record → Option Error → Type 0
+Happened callee fuel call before after r (Some e) = (r.answer ≡ answer.Err e) × (r.events ≡ []) × (after ≡ before)
+Happened callee fuel call before after r None = WasCalled callee fuel call before after r
 
--- The record of a call of this callee, with the store before and after it. No handle lives.
-pub record IsPlayed (callee : Callee) (call : Call) (before after : State) (r : Record) : Type 0 where
+-- The record of a call of this callee with this fuel, and the store before and after it. No handle lives.
+pub record IsPlayed (callee : Callee) (fuel : ℕ) (call : Call) (before after : State) (r : Record) : Type 0 where
   pub head : r.head ≡ head.Call call.func
-  pub happened : Happened callee call before after r (refusal callee (length call.params) call.slots before.trapped)
+  pub happened : Happened callee fuel call before after r (refusal callee (length call.params) call.slots before.trapped)
   pub live : r.live ≡ 0
 
 -- ---- all calls
 
--- one record for each call of one of these callees, in order, from one state of the store on
-abbrev pub Plays : (ℕ → Callee) → List Call → State → List Record → Type 0
-Plays callees [] before [] = ⊤
-Plays callees (call ∷ calls) before (r ∷ records) = (after : State) × IsPlayed (callees call.func) call before after r × Plays callees calls after records
-Plays callees [] before (r ∷ records) = ⊥
-Plays callees (call ∷ calls) before [] = ⊥
+-- one record for each call of one of these callees, in order, from one state of the store on; each call has this fuel anew
+abbrev pub Plays : (ℕ → Callee) → ℕ → List Call → State → List Record → Type 0
+Plays callees fuel [] before [] = ⊤
+Plays callees fuel (call ∷ calls) before (r ∷ records) = (after : State) × IsPlayed (callees call.func) fuel call before after r × Plays callees fuel calls after records
+Plays callees fuel [] before (r ∷ records) = ⊥
+Plays callees fuel (call ∷ calls) before [] = ⊥
 
 -- what a script's session leaves in the transcript
 abbrev pub Session : Play → List Record → Type 0
-Session play records = Plays (callee_of play) play.calls (at_first play) records
+Session play records = Plays (callee_of play) play.fuel play.calls (at_first play) records

@@ -58,8 +58,8 @@ abbrev pub ScriptStore : Type 0
 ScriptStore = Stored (Unit {0}) (Recorded Doing)
 
 -- no call was made
-abbrev pub fresh_store : ℕ → ℕ → Component → ScriptStore
-fresh_store memory heap component = record {
+abbrev pub fresh_store : ℕ → ℕ → ℕ → Component → ScriptStore
+fresh_store memory heap fuel component = record {
   core = record {
     id = 0;
     state = tt;
@@ -75,6 +75,7 @@ fresh_store memory heap component = record {
     };
     memory = replicate memory 0;
     component = component;
+    fuel = fuel;
   };
   trapped = false;
 }

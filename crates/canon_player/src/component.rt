@@ -64,22 +64,23 @@ fn options_of(types: &ComponentTypes, i: u32, has_post: bool) -> CanonicalOption
     }
 }
 
-/// A store of a component in which no call was made, with this memory of zeros, where the guest's allocator begins at
-/// `heap`.
+/// A store of a component in which no call was made, with this memory of zeros and this fuel for each call, where the
+/// guest's allocator begins at `heap`.
 pub(crate) fn store_of(
     alloc: Global,
     component: Component,
     memory: u64,
     heap: u64,
+    fuel: u64,
 ) -> Result<ScriptStore, OutOfMemory>
     requires { IsSound component }
-    ensures { IfOk result (λ store. store ≡ fresh_store memory heap component) }
+    ensures { IfOk result (λ store. store ≡ fresh_store memory heap fuel component) }
 {
     let Ok(memory) = Memory::new(alloc, memory) else {
         return Err(OutOfMemory);
     };
     let guest = Journaled::new(alloc, ScriptedGuest::new(alloc, heap));
     let id = StoreId::from_u64(SCRIPT_STORE);
-    let core = Core::new(alloc, id, (), guest, memory, component)?;
+    let core = Core::new(alloc, id, (), guest, memory, component, fuel)?;
     Ok(Store::new(core))
 }

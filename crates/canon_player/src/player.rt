@@ -21,12 +21,13 @@ pub fn play(alloc: Global, script: Script, transcript: &mut Transcript) -> Resul
     let Script {
         memory,
         heap,
+        fuel,
         types,
         posts,
         items,
     } = script;
     let component = component_of(alloc, types, &posts)?;
-    let store = store_of(alloc, component, memory, heap)?;
+    let store = store_of(alloc, component, memory, heap, fuel)?;
     *transcript = play_items(alloc, store, items)?;
     Ok(())
 }
@@ -39,7 +40,7 @@ fn play_items(
 ) -> Result<Transcript, OutOfMemory>
     requires fresh { store.core.guest.events ≡ [] }
     requires playable { All (IsPlayable store.core.component) (map item_view items.items) }
-    ensures { IfOk result (λ records. Plays (callee_at store.core.component) (map item_view items.items) (state_of store) records) }
+    ensures { IfOk result (λ records. Plays (callee_at store.core.component) store.core.fuel (map item_view items.items) (state_of store) records) }
 {
     let mut store = store;
     let mut records = Transcript::new(alloc);
@@ -54,9 +55,10 @@ fn play_items(
 fn play_item(alloc: Global, store: &mut ScriptStore, item: Item) -> Result<Record, OutOfMemory>
     requires fresh { store.old.core.guest.events ≡ [] }
     requires playable { IsPlayable store.old.core.component (item_view item) }
-    ensures played { IfOk result (IsPlayed (callee_at store.old.core.component (item_view item).func) (item_view item) (state_of store.old) (state_of store.new)) }
+    ensures played { IfOk result (IsPlayed (callee_at store.old.core.component (item_view item).func) store.old.core.fuel (item_view item) (state_of store.old) (state_of store.new)) }
     ensures fresh { store.new.core.guest.events ≡ [] }
     ensures same { store.new.core.component ≡ store.old.core.component }
+    ensures fuel { store.new.core.fuel ≡ store.old.core.fuel }
 {
     match item {
         Item::Call(call) => play_call(alloc, store, call),
@@ -67,9 +69,10 @@ fn play_item(alloc: Global, store: &mut ScriptStore, item: Item) -> Result<Recor
 fn play_call(alloc: Global, store: &mut ScriptStore, call: CallItem) -> Result<Record, OutOfMemory>
     requires fresh { store.old.core.guest.events ≡ [] }
     requires playable { IsPlayable store.old.core.component (call_item_view call) }
-    ensures played { IfOk result (IsPlayed (callee_at store.old.core.component call.func) (call_item_view call) (state_of store.old) (state_of store.new)) }
+    ensures played { IfOk result (IsPlayed (callee_at store.old.core.component call.func) store.old.core.fuel (call_item_view call) (state_of store.old) (state_of store.new)) }
     ensures fresh { store.new.core.guest.events ≡ [] }
     ensures same { store.new.core.component ≡ store.old.core.component }
+    ensures fuel { store.new.core.fuel ≡ store.old.core.fuel }
 {
     let CallItem {
         func,

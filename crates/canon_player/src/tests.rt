@@ -71,3 +71,59 @@ fn a_post_return_has_the_functions_number(rt: HostRuntime) -> Result<(), Fail> {
     );
     Ok(())
 }
+
+#[test]
+fn texts_and_lists_lie_in_blocks_of_their_own(rt: HostRuntime) -> Result<(), Fail> {
+    let text = played(
+        rt.alloc(),
+        r#"{"types":[{"list":"u16"}],"funcs":[{"params":["string",0],"results":["string"]}],"items":[
+            {"call":0,"params":[{"string":"\u00e9"},{"list":[{"u16":1},{"u16":258}]}],
+             "guest":[{"write":[2048,"0010000003000000"]},{"write":[4096,"c3a922"]},{"return":[2048]}]}]}"#,
+    )?;
+    assert_eq!(rt;
+        text.as_str(),
+        "call 0\nrealloc 0 0 1 2 = 1024\nrealloc 0 0 2 4 = 1026\n\
+         start 0 1024 2 1026 2\nblock 1024 c3a9\nblock 1026 01000201\nreturn 2048\n\
+         ok \"\\u{e9}\\u{22}\"\nlive 0\n"
+    );
+    Ok(())
+}
+
+#[test]
+fn each_call_has_the_scripts_fuel_anew(rt: HostRuntime) -> Result<(), Fail> {
+    let enough = played(
+        rt.alloc(),
+        r#"{"fuel":96,"types":[{"fixed":["u16",3]}],"funcs":[{"params":[0],"results":[0]}],"items":[
+            {"call":0,"params":[{"fixed":[{"u16":1},{"u16":2},{"u16":3}]}],"guest":[{"return":[2048]}]},
+            {"call":0,"params":[{"fixed":[{"u16":4},{"u16":5},{"u16":6}]}],"guest":[{"return":[2048]}]}]}"#,
+    )?;
+    assert_eq!(rt;
+        enough.as_str(),
+        "call 0\nstart 0 1 2 3\nreturn 2048\nok [0,0,0]\nlive 0\n\
+         call 0\nstart 0 4 5 6\nreturn 2048\nok [0,0,0]\nlive 0\n"
+    );
+    let short = played(
+        rt.alloc(),
+        r#"{"fuel":95,"types":[{"fixed":["u16",3]}],"funcs":[{"params":[0],"results":[0]}],"items":[
+            {"call":0,"params":[{"fixed":[{"u16":1},{"u16":2},{"u16":3}]}],"guest":[{"return":[2048]}]}]}"#,
+    )?;
+    assert_eq!(rt;
+        short.as_str(),
+        "call 0\nstart 0 1 2 3\nreturn 2048\nerror HostcallFuelExhausted\nlive 0\n"
+    );
+    Ok(())
+}
+
+#[test]
+fn a_result_that_is_no_text_has_its_place(rt: HostRuntime) -> Result<(), Fail> {
+    let text = played(
+        rt.alloc(),
+        r#"{"funcs":[{"params":[],"results":["string"]}],"items":[
+            {"call":0,"params":[],"guest":[{"write":[2048,"0010000001000000"]},{"write":[4096,"ff"]},{"return":[2048]}]}]}"#,
+    )?;
+    assert_eq!(rt;
+        text.as_str(),
+        "call 0\nstart 0\nreturn 2048\nerror InvalidUtf8 @2048\nlive 0\n"
+    );
+    Ok(())
+}

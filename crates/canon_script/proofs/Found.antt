@@ -1,6 +1,6 @@
 -- What is known where a reading found something.
-use Rattle.std.proofs.Common.{◌≡◌, ℕ, zero, suc, ◌<◌, ◌&&◌, List, [], ◌∷◌, ◌++◌, length, slice_get, Bool, true, false, IsTrue, if◌then◌else◌, Option, None, Some, refl, subst, arith, option_map, option_and_then}
-use Rattle.std.specs.List.{AllByRecursion}
+use Rattle.std.proofs.Common.{◌≡◌, ℕ, zero, suc, ◌<◌, ◌&&◌, List, [], ◌∷◌, ◌++◌, length, slice_get, Bool, true, false, cond, IsTrue, if◌then◌else◌, Option, None, Some, refl, subst, arith, option_map, option_and_then}
+use Rattle.std.specs.List.{AllByRecursion, find}
 use Rattle.serde_json.specs.Data.{Data, Items, item, no_items}
 use Rattle.canon_json.specs.Json.{each, onward}
 
@@ -36,6 +36,21 @@ pub some_lt : {A : Type 0} (xs : List A) (n : ℕ) (x : A) → slice_get xs n �
 some_lt [] n x e = absurd (cc)
 some_lt (y ∷ xs) zero x e = omega arith
 some_lt (y ∷ xs) (suc n) x e = omega (arith, some_lt xs n x e)
+
+-- what is so of all, is so of the one of a number
+pub nth_so : {A : Type 0} (P : A → Type 0) (xs : List A) (n : ℕ) (x : A) → AllByRecursion P xs → slice_get xs n ≡ Some x → P x
+nth_so P [] n x h e = absurd (cc)
+nth_so P (y ∷ ys) zero x h e = subst P (some_is y x e) h.0
+nth_so P (y ∷ ys) (suc n) x h e = nth_so P ys n x h.1 e
+
+picked_so : {A : Type 0} (P : A → Type 0) (b : Bool) (y : A) (rest : Option A) (x : A) → P y → (rest ≡ Some x → P x) → cond b (Some y) rest ≡ Some x → P x
+picked_so P true y rest x h more e = subst P (some_is y x e) h
+picked_so P false y rest x h more e = more e
+
+-- and of the one that is found
+pub found_so : {A : Type 0} (P : A → Type 0) (test : A → Bool) (xs : List A) (x : A) → AllByRecursion P xs → find test xs ≡ Some x → P x
+found_so P test [] x h e = absurd (cc)
+found_so P test (y ∷ ys) x h e = picked_so P (test y) y (find test ys) x h.0 (λ more. found_so P test ys x h.1 more) e
 
 -- what is so of each item that is read, is so of all
 pub each_all : {A : Type 0} (P : A → Type 0) (read : Data → Option A) → ((d : Data) (a : A) → read d ≡ Some a → P a) → (ds : Items) (xs : List A) → each read ds ≡ Some xs → AllByRecursion P xs

@@ -1,6 +1,6 @@
 pub mod Found
 pub mod Members
-pub mod Plain
+pub mod Ready
 pub mod Sound
 pub mod Views
 pub mod Work

@@ -1,5 +1,5 @@
 -- Values are read member by member.
-use Rattle.std.proofs.Common.{◌≡◌, ◌<◌, ◌≤◌, ◌+◌, ◌++◌, ℕ, zero, suc, List, [], ◌∷◌, length, drop, None, Some, Option, Err, slice_get, option_map, option_and_then, refl, sym, ap, ◌∙◌, arith, append_assoc, append-nil}
+use Rattle.std.proofs.Common.{◌≡◌, ◌<◌, ◌≤◌, ◌+◌, ◌++◌, ℕ, zero, suc, List, [], ◌∷◌, length, drop, None, Some, Option, Err, slice_get, option_map, option_and_then, Result, Ok, MatchResult, IsOkAnd, Vec, Global, refl, sym, ap, subst, ◌∙◌, arith, append_assoc, append-nil}
 use Rattle.std.proofs.Math.ListN.{drop_of_length-le, get_or}
 use Rattle.std.proofs.lemmas.List.{at_drop_more}
 use Rattle.serde_json.specs.Data.{Data, null, boolean, number, string, array, object, Items, no_items, item, no_members, member, depth, items_depth}
@@ -11,7 +11,7 @@ use Rattle.canon_json.specs.declared.error.ScriptError.{ScriptError}
 use Rattle.canon_json.specs.declared.error.ScriptError.TheVariants as refused
 use Rattle.canon_model.specs.Shape.{Name}
 use Rattle.canon_value.specs.declared.val.Val.{Val}
-use Rattle.canon_script.specs.Literals.{Literal, fields, fields_of, literal_view, literals_of, tuple}
+use Rattle.canon_script.specs.Literals.{Literal, Literals, fields, fields_of, fixed, list, literal_view, literals_of, literals_view, tuple}
 use Rattle.canon_script.specs.Values.{field_of, fields_in, kind_named, only_char, scalar_by, value_by, value_of, values_of}
 use Rattle.canon_script.specs.declared.kinds.ValueKind.{ValueKind}
 use Rattle.canon_script.specs.declared.kinds.ValueKind.TheVariants as kind
@@ -60,24 +60,19 @@ in_two (array (item f (item g no_items))) a b e = let same : (a, b) ≡ (f, g) =
 in_two (array (item f (item g (item h ds)))) a b e = absurd (cc)
 in_two (object ms) a b e = absurd (cc)
 
--- ---- tuples
+-- ---- arrays of values
 
 ends : {A : Type 0} (F : List Value → Option (List A)) (us : List Value) (k : ℕ) (done : List A) → F [] ≡ Some [] → length us ≤ k → option_map (λ xs. done ++ xs) (F (drop k us)) ≡ F us → Some done ≡ F us
 ends F us k done nil past inv =
     ap (λ xs. Some xs) (sym (append-nil done)) ∙ (ap (option_map (λ xs. done ++ xs)) (sym (ap F (drop_of_length-le us past) ∙ nil)) ∙ inv)
 
-tuple_by : (d : Data) (ds : Items) (o : Option (List Literal)) → Some ds ≡ as_array d → values_of ds ≡ o → value_by d kind.Tuple ≡ option_map (λ xs. tuple (literals_of xs)) o
-tuple_by null ds o e is = absurd (cc)
-tuple_by (boolean b) ds o e is = absurd (cc)
-tuple_by (number n) ds o e is = absurd (cc)
-tuple_by (string s) ds o e is = absurd (cc)
-tuple_by (array es) ds o e is = ap (option_map (λ xs. tuple (literals_of xs))) (ap values_of (sym (items_are ds es e)) ∙ is)
-tuple_by (object ms) ds o e is = absurd (cc)
+values_by : (d : Data) (ds : Items) (o : Option (List Literal)) → Some ds ≡ as_array d → values_of ds ≡ o → option_and_then values_of (as_array d) ≡ o
+values_by d ds o e is = ap (option_and_then values_of) (sym e) ∙ is
 
-pub tuple_end : (d : Data) (vs us : List Value) (k : ℕ) (done : List Literal) → Some (items_view vs) ≡ as_array d → us ≡ vs → length us ≤ k
-    → option_map (λ xs. done ++ xs) (values_of (items_view (drop k us))) ≡ values_of (items_view us) → value_by d kind.Tuple ≡ Some (tuple (literals_of done))
-tuple_end d vs us k done e same past inv =
-    tuple_by d (items_view vs) (Some done) e (ap (λ ws. values_of (items_view ws)) (sym same) ∙ sym (ends (λ ws. values_of (items_view ws)) us k done refl past inv))
+pub values_end : (d : Data) (vs us : List Value) (k : ℕ) (done : List Literal) → Some (items_view vs) ≡ as_array d → us ≡ vs → length us ≤ k
+    → option_map (λ xs. done ++ xs) (values_of (items_view (drop k us))) ≡ values_of (items_view us) → option_and_then values_of (as_array d) ≡ Some done
+values_end d vs us k done e same past inv =
+    values_by d (items_view vs) (Some done) e (ap (λ ws. values_of (items_view ws)) (sym same) ∙ sym (ends (λ ws. values_of (items_view ws)) us k done refl past inv))
 
 -- the next item has no value, so the array has none
 no_values : (us : List Value) (k : ℕ) (x : Value) (done : List Literal) → k < length us → x ≡ get_or us k x → value_of (view x) ≡ None
@@ -88,12 +83,40 @@ no_values us k x done lt at none inv =
     at_drop_more (λ ws. values_of (items_view ws)) us k x lt ∙ ap (option_and_then (λ y. option_map (λ ys. y ∷ ys) rest)) (ap (λ (y : Value). value_of (view y)) (sym at) ∙ none) in
     sym inv ∙ ap (option_map (λ xs. done ++ xs)) first
 
-pub tuple_refused : (e : ScriptError) (d : Data) (vs us : List Value) (k : ℕ) (x : Value) (done : List Literal) → Some (items_view vs) ≡ as_array d → us ≡ vs → k < length us → x ≡ get_or us k x
+pub values_refused : (e : ScriptError) (d : Data) (vs us : List Value) (k : ℕ) (x : Value) (done : List Literal) → Some (items_view vs) ≡ as_array d → us ≡ vs → k < length us → x ≡ get_or us k x
     → option_map (λ xs. done ++ xs) (values_of (items_view (drop k us))) ≡ values_of (items_view us)
-    → Gives {X = Val} literal_view (Err e) (value_of (view x)) → Gives {X = Val} literal_view (Err e) (value_by d kind.Tuple)
-tuple_refused refused.BadScript d vs us k x done is same lt at inv h =
-    tuple_by d (items_view vs) None is (ap (λ ws. values_of (items_view ws)) (sym same) ∙ no_values us k x done lt at h inv)
-tuple_refused refused.OutOfMemory d vs us k x done is same lt at inv h = tt
+    → Gives {X = Val} literal_view (Err e) (value_of (view x)) → Gives {X = Vec Val Global} (λ values. literals_view values.items) (Err e) (option_and_then values_of (as_array d))
+values_refused refused.BadScript d vs us k x done is same lt at inv h =
+    values_by d (items_view vs) None is (ap (λ ws. values_of (items_view ws)) (sym same) ∙ no_values us k x done lt at h inv)
+values_refused refused.OutOfMemory d vs us k x done is same lt at inv h = tt
+
+-- ---- lists and tuples
+
+same_refusal : (seen : Literals → Literal) (o : Option (List Literal)) (p : Option Literal) (e : ScriptError) → p ≡ option_map (λ xs. seen (literals_of xs)) o
+    → Gives {X = Vec Val Global} (λ values. literals_view values.items) (Err e) o → Gives {X = Val} literal_view (Err e) p
+same_refusal seen o p refused.BadScript is given = is ∙ ap (option_map (λ xs. seen (literals_of xs))) given
+same_refusal seen o p refused.OutOfMemory is given = tt
+
+-- a value is made of the values of an array, where there are any
+pub made_of : (make : Vec Val Global → Val) (seen : Literals → Literal) (o : Option (List Literal)) (p : Option Literal) (r : Result (Vec Val Global) ScriptError) (v : Result Val ScriptError)
+    → p ≡ option_map (λ xs. seen (literals_of xs)) o → ((values : Vec Val Global) → literal_view (make values) ≡ seen (literals_of (literals_view values.items)))
+    → Gives (λ values. literals_view values.items) r o → MatchResult r (λ values. IsOkAnd v (λ x. x ≡ make values)) (λ e. v ≡ Err e) → Gives literal_view v p
+made_of make seen o p (Ok values) (Ok x) is shown given made =
+    is ∙ (ap (option_map (λ xs. seen (literals_of xs))) given ∙ ap (λ y. Some y) (sym (ap literal_view made ∙ shown values)))
+made_of make seen o p (Ok values) (Err e) is shown given made = absurd made
+made_of make seen o p (Err e) v is shown given made = subst (λ (w : Result Val ScriptError). Gives literal_view w p) (sym made) (same_refusal seen o p e is given)
+
+pub list_by : (d : Data) → value_by d kind.List ≡ option_map (λ xs. list (literals_of xs)) (option_and_then values_of (as_array d))
+list_by (array ds) = refl
+list_by d = refl
+
+pub tuple_by : (d : Data) → value_by d kind.Tuple ≡ option_map (λ xs. tuple (literals_of xs)) (option_and_then values_of (as_array d))
+tuple_by (array ds) = refl
+tuple_by d = refl
+
+pub fixed_by : (d : Data) → value_by d kind.FixedLengthList ≡ option_map (λ xs. fixed (literals_of xs)) (option_and_then values_of (as_array d))
+fixed_by (array ds) = refl
+fixed_by d = refl
 
 -- ---- records
 
@@ -142,12 +165,15 @@ record_end d vs us k done e same past inv =
 
 -- ---- scalars
 
-by_scalar : (d : Data) (k : ValueKind) → ¬ (k ≡ kind.Tuple) → ¬ (k ≡ kind.Record) → value_by d k ≡ scalar_by k d
-by_scalar (array ds) kind.Tuple not_tuple not_record = absurd (not_tuple refl)
-by_scalar (array ds) kind.Record not_tuple not_record = absurd (not_record refl)
-by_scalar d k not_tuple not_record = refl
+by_scalar : (d : Data) (k : ValueKind) → ¬ (k ≡ kind.String) → ¬ (k ≡ kind.List) → ¬ (k ≡ kind.Record) → ¬ (k ≡ kind.Tuple) → ¬ (k ≡ kind.FixedLengthList) → value_by d k ≡ scalar_by k d
+by_scalar (string s) kind.String no_text no_list no_record no_tuple no_fixed = absurd (no_text refl)
+by_scalar (array ds) kind.List no_text no_list no_record no_tuple no_fixed = absurd (no_list refl)
+by_scalar (array ds) kind.Record no_text no_list no_record no_tuple no_fixed = absurd (no_record refl)
+by_scalar (array ds) kind.Tuple no_text no_list no_record no_tuple no_fixed = absurd (no_tuple refl)
+by_scalar (array ds) kind.FixedLengthList no_text no_list no_record no_tuple no_fixed = absurd (no_fixed refl)
+by_scalar d k no_text no_list no_record no_tuple no_fixed = refl
 
-value_is : (d f : Data) (name : List ℕ) (k : ValueKind) → Some (name, f) ≡ option_and_then only_member (as_object d) → Some k ≡ kind_named name → value_of d ≡ value_by f k
+pub value_is : (d f : Data) (name : List ℕ) (k : ValueKind) → Some (name, f) ≡ option_and_then only_member (as_object d) → Some k ≡ kind_named name → value_of d ≡ value_by f k
 value_is null f name k e is = absurd (cc)
 value_is (boolean b) f name k e is = absurd (cc)
 value_is (number n) f name k e is = absurd (cc)
@@ -162,5 +188,6 @@ value_is (object (member l d no_members)) f name k e is =
     member_is p q h = cc
 value_is (object (member l d (member m g ms))) f name k e is = absurd (cc)
 
-pub scalar_is : (d f : Data) (name : List ℕ) (k : ValueKind) → Some (name, f) ≡ option_and_then only_member (as_object d) → Some k ≡ kind_named name → ¬ (k ≡ kind.Tuple) → ¬ (k ≡ kind.Record) → scalar_by k f ≡ value_of d
-scalar_is d f name k e is not_tuple not_record = sym (value_is d f name k e is ∙ by_scalar f k not_tuple not_record)
+pub scalar_is : (d f : Data) (name : List ℕ) (k : ValueKind) → Some (name, f) ≡ option_and_then only_member (as_object d) → Some k ≡ kind_named name
+    → ¬ (k ≡ kind.String) → ¬ (k ≡ kind.List) → ¬ (k ≡ kind.Record) → ¬ (k ≡ kind.Tuple) → ¬ (k ≡ kind.FixedLengthList) → scalar_by k f ≡ value_of d
+scalar_is d f name k e is no_text no_list no_record no_tuple no_fixed = sym (value_is d f name k e is ∙ by_scalar f k no_text no_list no_record no_tuple no_fixed)

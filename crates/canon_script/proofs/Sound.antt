@@ -6,59 +6,94 @@ use Rattle.std.specs.List.{AllByRecursion}
 use Rattle.std.specs.Option.{option_map_or}
 use lib.Pointwise.{pointwise}
 use Rattle.serde_json.specs.Data.{Data, Items, array, boolean, null, number, object, string}
-use Rattle.serde_json.specs.Find.{as_array, as_bool, as_object, as_str, get}
+use Rattle.serde_json.specs.Find.{as_array, as_bool, as_object, as_str, as_u64, get}
 use Rattle.canon_json.specs.Json.{Gives, each, each_of, has_len, only_member, there, two, u32_of, word_of}
 use Rattle.canon_json.specs.declared.error.ScriptError.{ScriptError}
 use Rattle.canon_model.specs.Layout.{size}
 use Rattle.canon_model.specs.Shape.{Name, Shape, of_places, product}
 use Rattle.canon_table.specs.Depth.{depth, has_borrow}
 use Rattle.canon_table.specs.Refusal.{empty_table, entry_count, first_error, func_parts_refusal, func_refusal, is_full_for, or_else, refusal, with_definition, with_func}
-use Rattle.canon_table.specs.Table.{Definition, HasFunc, RecordType, Table, TupleType, members_of}
+use Rattle.canon_table.specs.Table.{Definition, EnumType, FixedListType, FlagsType, HasFunc, ListType, MapType, OptionType, RecordType, ResultType, Table, TupleType, VariantType, members_of}
 use Rattle.canon_table.specs.declared.error.TypeError.{TypeError}
 use Rattle.canon_table.specs.declared.error.TypeError.TheVariants as refusing
 use Rattle.canon_table.specs.declared.types.InterfaceType.{InterfaceType}
 use Rattle.canon_layout.specs.Asked.{Listed, grown, so_far, type_at, unless, with_entry}
-use Rattle.canon_layout.specs.Entries.{both, defines, type_of}
+use Rattle.canon_layout.specs.Entries.{Entry, both, defines, entry_by, field_of, handle, pair_of, plain_named, type_of}
+use Rattle.canon_layout.specs.Words.{plain_types, type_word}
+use Rattle.canon_layout.specs.declared.words.Kind.TheVariants as kind
 use Rattle.canon_script.specs.Actions.{action_of, ordered_of}
 use Rattle.canon_scripted.specs.declared.orders.Ordered.{Ordered}
 use Rattle.canon_scripted.specs.declared.orders.Ordered.TheVariants as order
 use Rattle.canon_scripted.specs.Orders.{AreNarrow, IsNarrow}
 use Rattle.canon_script.specs.Script.{Call, IsSound, Play, call_of, call_of_func, call_with, final_memory, fits, heap_of, if_fits, max_memory, max_work, optional_members, play_of, play_with, played, reallocs_of, result_count, slots_of, turns}
-use Rattle.canon_script.specs.Types.{FuncParts, Funcs, add_func, add_type, definition_by, definition_of, field_of, func_of, func_with, funcs_of, funcs_over, funcs_so_far, if_plain, is_plain, reference_of, types_of, with_parts}
+use Rattle.canon_script.specs.Types.{FuncParts, Funcs, add_func, add_type, entry_named, entry_of, func_of, func_with, funcs_of, funcs_over, funcs_so_far, types_of, with_parts}
 use Rattle.canon_script.specs.Values.{value_of}
 use Rattle.canon_script.specs.declared.script.Script.{Script}
-use Rattle.canon_script.proofs.Found.{all_append, and_left, and_right, by_map, by_some, by_test, each_all, onward_keeps, some_is, some_lt}
-use Rattle.canon_script.proofs.Plain.{ArePlain, DefinesPlain, FieldsPlain, IsPlainDefinition, func_built}
+use Rattle.canon_script.proofs.Found.{all_append, and_left, and_right, by_map, by_some, by_test, each_all, found_so, nth_so, onward_keeps, some_is, some_lt}
+use Rattle.canon_script.proofs.Ready.{AllDefineReady, AreReady, DefinesReady, FieldsReady, IsReady, func_built}
 
 -- ---- types
 
-reference_plain : (before : List InterfaceType) (d : Data) (t : InterfaceType) → reference_of before d ≡ Some t → IsTrue (is_plain t)
-reference_plain before d t e = by_some if_plain (type_of before d) t (IsTrue (is_plain t)) e (λ u s h.
-    by_test (is_plain u) (Some u) t (IsTrue (is_plain t)) h (λ p is. subst (λ x. IsTrue (is_plain x)) (some_is u t is) p))
+named_ready : (name : List ℕ) (t : InterfaceType) → plain_named name ≡ Some t → IsReady t
+named_ready name t e = found_so IsReady (λ u. pointwise nat_eq name (type_word u)) plain_types t (tt, (tt, (tt, (tt, (tt, (tt, (tt, (tt, (tt, (tt, (tt, (tt, (tt, tt))))))))))))) e
 
-references_plain : (before : List InterfaceType) (d : Data) (ts : List InterfaceType) → each_of (reference_of before) d ≡ Some ts → ArePlain ts
-references_plain before d ts e = by_some (each (reference_of before)) (as_array d) ts (ArePlain ts) e (λ ds s h.
-    each_all (λ t. IsTrue (is_plain t)) (reference_of before) (reference_plain before) ds ts h)
+type_ready : (before : List InterfaceType) (d : Data) (t : InterfaceType) → AreReady before → type_of before d ≡ Some t → IsReady t
+type_ready before null t ready e = absurd (cc)
+type_ready before (boolean b) t ready e = absurd (cc)
+type_ready before (number n) t ready e = by_some (slice_get before) (as_u64 n) t (IsReady t) e (λ i s h. nth_so IsReady before i t ready h)
+type_ready before (string s) t ready e = named_ready s t e
+type_ready before (array ds) t ready e = absurd (cc)
+type_ready before (object ms) t ready e = absurd (cc)
 
-field_plain : (before : List InterfaceType) (d : Data) (f : Name × InterfaceType) → field_of before d ≡ Some f → IsTrue (is_plain f.1)
-field_plain before d f e = by_some (both as_str (reference_of before)) (two d) f (IsTrue (is_plain f.1)) e (λ p s h.
-    by_some (λ a. option_map (λ b. (a, b)) (reference_of before p.1)) (as_str p.0) f (IsTrue (is_plain f.1)) h (λ name is more.
-    by_map (λ b. (name, b)) (reference_of before p.1) f (IsTrue (is_plain f.1)) more (λ t found same.
-    subst (λ (g : Name × InterfaceType). IsTrue (is_plain g.1)) same (reference_plain before p.1 t found))))
+types_ready : (before : List InterfaceType) (d : Data) (ts : List InterfaceType) → AreReady before → each_of (type_of before) d ≡ Some ts → AreReady ts
+types_ready before d ts ready e = by_some (each (type_of before)) (as_array d) ts (AreReady ts) e (λ ds s h.
+    each_all IsReady (type_of before) (λ x t so. type_ready before x t ready so) ds ts h)
 
-fields_plain : (before : List InterfaceType) (d : Data) (fs : List (Name × InterfaceType)) → each_of (field_of before) d ≡ Some fs → FieldsPlain fs
-fields_plain before d fs e = by_some (each (field_of before)) (as_array d) fs (FieldsPlain fs) e (λ ds s h.
-    each_all (λ f. IsTrue (is_plain f.1)) (field_of before) (field_plain before) ds fs h)
+field_ready : (before : List InterfaceType) (d : Data) (f : Name × InterfaceType) → AreReady before → field_of before d ≡ Some f → IsReady f.1
+field_ready before d f ready e = by_some (both as_str (type_of before)) (two d) f (IsReady f.1) e (λ p s h.
+    by_some (λ a. option_map (λ b. (a, b)) (type_of before p.1)) (as_str p.0) f (IsReady f.1) h (λ name is more.
+    by_map (λ b. (name, b)) (type_of before p.1) f (IsReady f.1) more (λ t found same.
+    subst (λ (g : Name × InterfaceType). IsReady g.1) same (type_ready before p.1 t ready found))))
 
-by_kind : (record_named tuple_named : Bool) (before : List InterfaceType) (d : Data) (def : Definition)
-    → (if record_named then option_map RecordType (each_of (field_of before) d) else (if tuple_named then option_map TupleType (each_of (reference_of before) d) else None)) ≡ Some def → IsPlainDefinition def
-by_kind true t before d def e = by_map RecordType (each_of (field_of before) d) def (IsPlainDefinition def) e (λ fs s is. subst IsPlainDefinition is (fields_plain before d fs s))
-by_kind false true before d def e = by_map TupleType (each_of (reference_of before) d) def (IsPlainDefinition def) e (λ ts s is. subst IsPlainDefinition is (references_plain before d ts s))
-by_kind false false before d def e = absurd (cc)
+fields_ready : (before : List InterfaceType) (d : Data) (fs : List (Name × InterfaceType)) → AreReady before → each_of (field_of before) d ≡ Some fs → FieldsReady fs
+fields_ready before d fs ready e = by_some (each (field_of before)) (as_array d) fs (FieldsReady fs) e (λ ds s h.
+    each_all (λ f. IsReady f.1) (field_of before) (λ x f so. field_ready before x f ready so) ds fs h)
 
-definition_plain : (before : List InterfaceType) (d : Data) (def : Definition) → definition_of before d ≡ Some def → IsPlainDefinition def
-definition_plain before d def e = by_some (λ m. definition_by m.0 before m.1) (option_and_then only_member (as_object d)) def (IsPlainDefinition def) e (λ m s h.
-    by_kind (pointwise nat_eq m.0 (codes "record")) (pointwise nat_eq m.0 (codes "tuple")) before m.1 def h)
+counted_ready : (before : List InterfaceType) (d : Data) (c : InterfaceType × ℕ) → AreReady before → pair_of (type_of before) u32_of d ≡ Some c → IsReady c.0
+counted_ready before d c ready e = by_some (both (type_of before) u32_of) (two d) c (IsReady c.0) e (λ p s h.
+    by_some (λ a. option_map (λ b. (a, b)) (u32_of p.1)) (type_of before p.0) c (IsReady c.0) h (λ t found more.
+    by_map (λ b. (t, b)) (u32_of p.1) c (IsReady c.0) more (λ n is same.
+    subst (λ (g : InterfaceType × ℕ). IsReady g.0) same (type_ready before p.0 t ready found))))
+
+abbrev EntryReady : Entry → Type 0
+EntryReady (defines def) = DefinesReady def
+EntryReady (handle t) = ⊥
+
+by_kind : (is_list is_record is_tuple is_fixed : Bool) (before : List InterfaceType) (d : Data) (x : Entry) → AreReady before
+    → (if is_list then entry_by kind.List before d else (if is_record then entry_by kind.Record before d else (if is_tuple then entry_by kind.Tuple before d else (if is_fixed then entry_by kind.Fixed before d else None)))) ≡ Some x → EntryReady x
+by_kind true r t f before d x ready e = by_map (λ t. defines (ListType t)) (type_of before d) x (EntryReady x) e (λ t s is. subst EntryReady is (type_ready before d t ready s))
+by_kind false true t f before d x ready e = by_map (λ fs. defines (RecordType fs)) (each_of (field_of before) d) x (EntryReady x) e (λ fs s is. subst EntryReady is (fields_ready before d fs ready s))
+by_kind false false true f before d x ready e = by_map (λ ts. defines (TupleType ts)) (each_of (type_of before) d) x (EntryReady x) e (λ ts s is. subst EntryReady is (types_ready before d ts ready s))
+by_kind false false false true before d x ready e = by_map (λ p. defines (FixedListType p.0 p.1)) (pair_of (type_of before) u32_of d) x (EntryReady x) e (λ p s is. subst EntryReady is (counted_ready before d p ready s))
+by_kind false false false false before d x ready e = absurd (cc)
+
+entry_ready : (before : List InterfaceType) (d : Data) (x : Entry) → AreReady before → entry_of before d ≡ Some x → EntryReady x
+unfolding entry_named
+entry_ready before d x ready e = by_some (λ m. entry_named m.0 before m.1) (option_and_then only_member (as_object d)) x (EntryReady x) e (λ m s h.
+    by_kind (pointwise nat_eq m.0 (codes "list")) (pointwise nat_eq m.0 (codes "record")) (pointwise nat_eq m.0 (codes "tuple")) (pointwise nat_eq m.0 (codes "fixed")) before m.1 x ready h)
+
+-- a ready definition defines a ready type
+defined_ready : (n : ℕ) (def : Definition) → DefinesReady def → IsReady (type_at n def)
+defined_ready n (ListType x) r = tt
+defined_ready n (RecordType fields) r = tt
+defined_ready n (TupleType types) r = tt
+defined_ready n (FixedListType x count) r = tt
+defined_ready n (MapType k v) r = absurd r
+defined_ready n (VariantType cs) r = absurd r
+defined_ready n (EnumType ns) r = absurd r
+defined_ready n (OptionType x) r = absurd r
+defined_ready n (ResultType ok error) r = absurd r
+defined_ready n (FlagsType ns) r = absurd r
 
 accepted_is : {A : Type 0} (o : Option TypeError) (a b : A) → unless o a ≡ Some b → a ≡ b
 accepted_is None a b e = some_is a b e
@@ -68,15 +103,25 @@ not_refused : {A : Type 0} (o : Option TypeError) (a b : A) → unless o a ≡ S
 not_refused None a b e = refl
 not_refused (Some e) a b h = absurd (cc)
 
--- plain definitions, and no functions yet
-record Begun (t : Table) : Type 0 where
-  plain : DefinesPlain t.definitions
-  none : length t.funcs ≡ 0
+-- ready types, and no functions yet
+record Begun (l : Listed) : Type 0 where
+  definitions : AllDefineReady l.table.definitions
+  ready : AreReady l.types
+  none : length l.table.funcs ≡ 0
 
-keeps_type : (l m : Listed) (d : Data) → Begun l.table → add_type l d ≡ Some m → Begun m.table
-keeps_type l m d begun e = by_some (λ def. with_entry l (defines def)) (definition_of l.types d) m (Begun m.table) e (λ def s h.
-    let is : grown (with_definition l.table def) l.types (type_at (length l.table.definitions) def) ≡ m = accepted_is (refusal l.table def) _ m h in
-    subst (λ (x : Listed). Begun x.table) is (record { plain = all_append IsPlainDefinition l.table.definitions (def ∷ []) begun.plain (definition_plain l.types d def s, tt); none = begun.none }))
+keeps_entry : (l m : Listed) (x : Entry) → Begun l → EntryReady x → with_entry l x ≡ Some m → Begun m
+keeps_entry l m (handle t) begun r h = absurd r
+keeps_entry l m (defines def) begun r h =
+    let n = length l.table.definitions in
+    let is : grown (with_definition l.table def) l.types (type_at n def) ≡ m = accepted_is (refusal l.table def) _ m h in
+    subst Begun is (record {
+      definitions = all_append DefinesReady l.table.definitions (def ∷ []) begun.definitions (r, tt);
+      ready = all_append IsReady l.types (type_at n def ∷ []) begun.ready (defined_ready n def r, tt);
+      none = begun.none;
+    })
+
+keeps_type : (l m : Listed) (d : Data) → Begun l → add_type l d ≡ Some m → Begun m
+keeps_type l m d begun e = by_some (with_entry l) (entry_of l.types d) m (Begun m) e (λ x s h. keeps_entry l m x begun (entry_ready l.types d x begun.ready s) h)
 
 -- ---- functions
 
@@ -100,42 +145,42 @@ has_room t params results h =
 
 record Told (fs : Funcs) : Type 0 where
   few : length fs.table.funcs ≤ 1048576
-  plain : DefinesPlain fs.table.definitions
+  ready : AllDefineReady fs.table.definitions
   posts : length fs.posts ≡ length fs.table.funcs
 
 record AreParts (f : FuncParts) : Type 0 where
-  params : ArePlain f.params
-  results : ArePlain f.results
+  params : AreReady f.params
+  results : AreReady f.results
 
-parts_plain : (types : List InterfaceType) (d : Data) (f : FuncParts) → func_of types d ≡ Some f → AreParts f
-parts_plain types d f e =
+parts_ready : (types : List InterfaceType) (d : Data) (f : FuncParts) → AreReady types → func_of types d ≡ Some f → AreParts f
+parts_ready types d f ready e =
     let async = get (codes "async") d in
     let post = get (codes "post") d in
     by_test (has_len (2 + (there async + there post)) (as_object d)) _ f (AreParts f) e (λ counted e1.
-    by_some _ (option_and_then (each_of (reference_of types)) (get (codes "params") d)) f (AreParts f) e1 (λ params s1 e2.
-    by_some _ (option_and_then (each_of (reference_of types)) (get (codes "results") d)) f (AreParts f) e2 (λ results s2 e3.
+    by_some _ (option_and_then (each_of (type_of types)) (get (codes "params") d)) f (AreParts f) e1 (λ params s1 e2.
+    by_some _ (option_and_then (each_of (type_of types)) (get (codes "results") d)) f (AreParts f) e2 (λ results s2 e3.
     by_some _ (option_map_or as_bool async (Some false)) f (AreParts f) e3 (λ a s3 e4.
     by_map (func_with params results a) (option_map_or as_bool post (Some false)) f (AreParts f) e4 (λ p s4 is.
-    by_some (each_of (reference_of types)) (get (codes "params") d) params (AreParts f) s1 (λ d1 g1 h1.
-    by_some (each_of (reference_of types)) (get (codes "results") d) results (AreParts f) s2 (λ d2 g2 h2.
-    subst AreParts is (record { params = references_plain types d1 params h1; results = references_plain types d2 results h2 }))))))))
+    by_some (each_of (type_of types)) (get (codes "params") d) params (AreParts f) s1 (λ d1 g1 h1.
+    by_some (each_of (type_of types)) (get (codes "results") d) results (AreParts f) s2 (λ d2 g2 h2.
+    subst AreParts is (record { params = types_ready types d1 params ready h1; results = types_ready types d2 results ready h2 }))))))))
 
-keeps_func : (types : List InterfaceType) (fs gs : Funcs) (d : Data) → Told fs → add_func types fs d ≡ Some gs → Told gs
-keeps_func types fs gs d told e = by_some (with_parts fs) (func_of types d) gs (Told gs) e (λ f s h.
+keeps_func : (types : List InterfaceType) → AreReady types → (fs gs : Funcs) (d : Data) → Told fs → add_func types fs d ≡ Some gs → Told gs
+keeps_func types ready fs gs d told e = by_some (with_parts fs) (func_of types d) gs (Told gs) e (λ f s h.
     let t = fs.table in
-    let plain = parts_plain types d f s in
+    let parts = parts_ready types d f ready s in
     let is : funcs_so_far (with_func t f.params f.results f.async) (fs.posts ++ f.post ∷ []) ≡ gs = accepted_is (func_refusal t f.params f.results) _ gs h in
     let room = has_room t f.params f.results (not_refused (func_refusal t f.params f.results) _ gs h) in
     subst Told is (record {
       few = omega (arith, room, length-append t.funcs (record { params = length t.definitions; results = length t.definitions + 1; async_ = f.async } ∷ []));
-      plain = all_append IsPlainDefinition (t.definitions ++ TupleType f.params ∷ []) (TupleType f.results ∷ []) (all_append IsPlainDefinition t.definitions (TupleType f.params ∷ []) told.plain (plain.params, tt)) (plain.results, tt);
+      ready = all_append DefinesReady (t.definitions ++ TupleType f.params ∷ []) (TupleType f.results ∷ []) (all_append DefinesReady t.definitions (TupleType f.params ∷ []) told.ready (parts.params, tt)) (parts.results, tt);
       posts = omega (arith, told.posts, length-append fs.posts (f.post ∷ []), length-append t.funcs (record { params = length t.definitions; results = length t.definitions + 1; async_ = f.async } ∷ []));
     }))
 
 funcs_told : (types funcs : Items) (fs : Funcs) → funcs_of types funcs ≡ Some fs → Told fs
 funcs_told types funcs fs e = by_some (funcs_over funcs) (types_of types) fs (Told fs) e (λ l s h.
-    let begun : Begun l.table = onward_keeps (λ m. Begun m.table) add_type keeps_type (so_far empty_table []) l types (record { plain = tt; none = refl }) s in
-    onward_keeps Told (add_func l.types) (keeps_func l.types) (funcs_so_far l.table []) fs funcs (record { few = omega (arith, begun.none); plain = begun.plain; posts = sym begun.none }) h)
+    let begun : Begun l = onward_keeps Begun add_type keeps_type (so_far empty_table []) l types (record { definitions = tt; ready = tt; none = refl }) s in
+    onward_keeps Told (add_func l.types) (keeps_func l.types begun.ready) (funcs_so_far l.table []) fs funcs (record { few = omega (arith, begun.none); ready = begun.definitions; posts = sym begun.none }) h)
 
 -- ---- calls
 
@@ -189,8 +234,8 @@ pub heap_is : (memory heap : ℕ) (d : Option Data) → heap_of memory d ≡ Som
 heap_is memory heap d e = by_some (λ h. if nat_le h memory then Some h else None) (option_map_or word_of d (Some 1024)) heap (heap ≤ memory) e (λ h s f.
     by_test (nat_le h memory) (Some h) heap (heap ≤ memory) f (λ le is. subst (λ (n : ℕ). n ≤ memory) (some_is h heap is) (leb-true h memory le)))
 
-fits_sound : (memory heap : ℕ) (fs : Funcs) (calls : List Call) → heap ≤ memory → Told fs → AllByRecursion (Stands fs.table) calls → IsTrue (fits memory calls) → IsSound (play_with memory heap fs calls)
-fits_sound memory heap fs calls inside told stand fit =
+fits_sound : (memory heap fuel : ℕ) (fs : Funcs) (calls : List Call) → heap ≤ memory → Told fs → AllByRecursion (Stands fs.table) calls → IsTrue (fits memory calls) → IsSound (play_with memory heap fuel fs calls)
+fits_sound memory heap fuel fs calls inside told stand fit =
     let last = final_memory memory calls in
     let all : All (Stands fs.table) calls = All-from_recursion (Stands fs.table) calls stand in
     record {
@@ -199,19 +244,19 @@ fits_sound memory heap fs calls inside told stand fit =
       work_fits = leb-true (last * 2 * turns calls) max_work (and_right (nat_le last max_memory) (nat_le (last * 2 * turns calls) max_work) fit);
       posts_told = told.posts;
       funcs_few = told.few;
-      funcs_built = λ k d lt. func_built fs.table (slice_index_or fs.table.funcs k d) told.plain;
+      funcs_built = λ k d lt. func_built fs.table (slice_index_or fs.table.funcs k d) told.ready;
       calls_known = λ k d lt. (all k d lt).known;
       orders_narrow = λ k d lt. (all k d lt).narrow;
     }
 
-played_sound : (memory heap : ℕ) (types funcs items : Items) (p : Play) → heap ≤ memory → played memory heap types funcs items ≡ Some p → IsSound p
-played_sound memory heap types funcs items p inside e =
-    by_some (λ fs. option_and_then (if_fits memory heap fs) (each (call_of fs.table) items)) (funcs_of types funcs) p (IsSound p) e (λ fs s1 e1.
-    by_some (if_fits memory heap fs) (each (call_of fs.table) items) p (IsSound p) e1 (λ calls s2 e2.
-    by_test (fits memory calls) (Some (play_with memory heap fs calls)) p (IsSound p) e2 (λ fit is.
-    subst IsSound (some_is (play_with memory heap fs calls) p is)
-    (fits_sound memory heap fs calls inside (funcs_told types funcs fs s1) (each_all (Stands fs.table) (call_of fs.table) (call_stands fs.table) items calls s2) fit))))
+played_sound : (memory heap fuel : ℕ) (types funcs items : Items) (p : Play) → heap ≤ memory → played memory heap fuel types funcs items ≡ Some p → IsSound p
+played_sound memory heap fuel types funcs items p inside e =
+    by_some (λ fs. option_and_then (if_fits memory heap fuel fs) (each (call_of fs.table) items)) (funcs_of types funcs) p (IsSound p) e (λ fs s1 e1.
+    by_some (if_fits memory heap fuel fs) (each (call_of fs.table) items) p (IsSound p) e1 (λ calls s2 e2.
+    by_test (fits memory calls) (Some (play_with memory heap fuel fs calls)) p (IsSound p) e2 (λ fit is.
+    subst IsSound (some_is (play_with memory heap fuel fs calls) p is)
+    (fits_sound memory heap fuel fs calls inside (funcs_told types funcs fs s1) (each_all (Stands fs.table) (call_of fs.table) (call_stands fs.table) items calls s2) fit))))
 
-pub reads_sound : (memory heap : ℕ) (types funcs items : Items) (r : Result Script ScriptError) → heap ≤ memory → Gives play_of r (played memory heap types funcs items) → IfOk r (λ s. IsSound (play_of s))
-reads_sound memory heap types funcs items (Ok s) inside h = played_sound memory heap types funcs items (play_of s) inside h
-reads_sound memory heap types funcs items (Err e) inside h = tt
+pub reads_sound : (memory heap fuel : ℕ) (types funcs items : Items) (r : Result Script ScriptError) → heap ≤ memory → Gives play_of r (played memory heap fuel types funcs items) → IfOk r (λ s. IsSound (play_of s))
+reads_sound memory heap fuel types funcs items (Ok s) inside h = played_sound memory heap fuel types funcs items (play_of s) inside h
+reads_sound memory heap fuel types funcs items (Err e) inside h = tt

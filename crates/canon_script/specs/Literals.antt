@@ -13,7 +13,10 @@ mutual
     -- the bits of a float
     f32 f64 : ℕ → Literal
     char : ℕ → Literal
-    tuple : Literals → Literal
+    -- the bytes of a text
+    text : Name → Literal
+    -- a list, a tuple and a list of fixed length
+    list tuple fixed : Literals → Literal
     fields : Fields → Literal
 
   pub data Literals : Type 0 where
@@ -50,8 +53,11 @@ literal_step (Val-F.U64 n) = u64 n
 literal_step (Val-F.Float32 n) = f32 n
 literal_step (Val-F.Float64 n) = f64 n
 literal_step (Val-F.Char c) = char c
+literal_step (Val-F.String s) = text (string_bytes s)
+literal_step (Val-F.List members) = list (literals_of members.items)
 literal_step (Val-F.Record members) = fields (fields_of (named members.items))
 literal_step (Val-F.Tuple members) = tuple (literals_of members.items)
+literal_step (Val-F.FixedLengthList members) = fixed (literals_of members.items)
 
 abbrev pub literal_view : Val → Literal
 literal_view = fold-Val Literal literal_step

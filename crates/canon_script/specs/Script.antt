@@ -93,16 +93,18 @@ pub record Play : Type 0 where
   -- memory's bytes, and where the allocator begins
   pub memory : ℕ
   pub heap : ℕ
+  -- the fuel that each lifting begins with
+  pub fuel : ℕ
   pub types : Table
   -- for each function whether it has a post-return function
   pub posts : List Bool
   pub calls : List Call
 
-abbrev pub play_with : ℕ → ℕ → Funcs → List Call → Play
-play_with memory heap funcs calls = record { memory = memory; heap = heap; types = funcs.table; posts = funcs.posts; calls = calls }
+abbrev pub play_with : ℕ → ℕ → ℕ → Funcs → List Call → Play
+play_with memory heap fuel funcs calls = record { memory = memory; heap = heap; fuel = fuel; types = funcs.table; posts = funcs.posts; calls = calls }
 
-abbrev pub if_fits : ℕ → ℕ → Funcs → List Call → Option Play
-if_fits memory heap funcs calls = if fits memory calls then Some (play_with memory heap funcs calls) else None
+abbrev pub if_fits : ℕ → ℕ → ℕ → Funcs → List Call → Option Play
+if_fits memory heap fuel funcs calls = if fits memory calls then Some (play_with memory heap fuel funcs calls) else None
 
 abbrev pub memory_of : Option Data → Option ℕ
 memory_of d = option_map_or (number_to max_memory) d (Some 65536)
@@ -111,21 +113,25 @@ memory_of d = option_map_or (number_to max_memory) d (Some 65536)
 abbrev pub heap_of : ℕ → Option Data → Option ℕ
 heap_of memory d = option_and_then (λ heap. if nat_le heap memory then Some heap else None) (option_map_or word_of d (Some 1024))
 
+abbrev pub fuel_of : Option Data → Option ℕ
+fuel_of d = option_map_or word_of d (Some 1000000)
+
 -- the functions over their types, and the calls of these functions
-abbrev pub played : ℕ → ℕ → Items → Items → Items → Option Play
-played memory heap types funcs items = option_and_then (λ fs. option_and_then (if_fits memory heap fs) (each (call_of fs.table) items)) (funcs_of types funcs)
+abbrev pub played : ℕ → ℕ → ℕ → Items → Items → Items → Option Play
+played memory heap fuel types funcs items = option_and_then (λ fs. option_and_then (if_fits memory heap fuel fs) (each (call_of fs.table) items)) (funcs_of types funcs)
 
 abbrev pub members_there : Data → ℕ
-members_there d = there (get (codes "memory") d) + (there (get (codes "heap") d) + (there (get (codes "types") d) + (there (get (codes "funcs") d) + there (get (codes "items") d))))
+members_there d = there (get (codes "memory") d) + (there (get (codes "heap") d) + (there (get (codes "fuel") d) + (there (get (codes "types") d) + (there (get (codes "funcs") d) + there (get (codes "items") d)))))
 
--- an object of these five members, each of which may be missing
+-- an object of these six members, each of which may be missing
 abbrev pub script_of : Data → Option Play
 script_of d =
     if has_len (members_there d) (as_object d)
-    then option_and_then (λ memory. option_and_then (λ heap. option_and_then (λ types. option_and_then (λ funcs. option_and_then (played memory heap types funcs)
+    then option_and_then (λ memory. option_and_then (λ heap. option_and_then (λ fuel. option_and_then (λ types. option_and_then (λ funcs. option_and_then (played memory heap fuel types funcs)
     (items_of (get (codes "items") d)))
     (items_of (get (codes "funcs") d)))
     (items_of (get (codes "types") d)))
+    (fuel_of (get (codes "fuel") d)))
     (heap_of memory (get (codes "heap") d)))
     (memory_of (get (codes "memory") d))
     else None
@@ -139,15 +145,15 @@ abbrev pub item_view : Item → Call
 item_view (item.Call c) = call_item_view c
 
 abbrev pub play_of : Script → Play
-play_of s = record { memory = s.memory; heap = s.heap; types = s.types; posts = s.posts.items; calls = map item_view s.items.items }
+play_of s = record { memory = s.memory; heap = s.heap; fuel = s.fuel; types = s.types; posts = s.posts.items; calls = map item_view s.items.items }
 
 -- values can be given to the function, and it can give values
 pub record IsBuilt (t : Table) (f : TypeFunc) : Type 0 where
   pub params : AreBuilt (param_members t f)
   pub results : AreBuilt (result_members t f)
 
--- It keeps the limits, each function takes and gives scalars, records and tuples, each call is one of a function, and
--- each ordered answer of `realloc` is below 2 ^ 32. A table has at most 2 ^ 20 entries.
+-- It keeps the limits, each function takes and gives scalars, texts, lists, records and tuples, each call is one of a
+-- function, and each ordered answer of `realloc` is below 2 ^ 32. A table has at most 2 ^ 20 entries.
 pub record IsSound (p : Play) : Type 0 where
   pub heap_inside : p.heap ≤ p.memory
   pub memory_fits : final_memory p.memory p.calls ≤ max_memory

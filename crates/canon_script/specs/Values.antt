@@ -7,7 +7,7 @@ use Rattle.serde_json.specs.Data.{Data, null, boolean, number, string, array, ob
 use Rattle.serde_json.specs.Find.{as_bool, as_str}
 use Rattle.canon_json.specs.Json.{u32_of, word_of}
 use Rattle.canon_model.specs.Shape.{Name}
-use Rattle.canon_script.specs.Literals.{Literal, bool, char, f32, f64, fields, fields_of, literals_of, s16, s32, s64, s8, tuple, u16, u32, u64, u8}
+use Rattle.canon_script.specs.Literals.{Literal, bool, char, f32, f64, fields, fields_of, fixed, list, literals_of, s16, s32, s64, s8, text, tuple, u16, u32, u64, u8}
 use Rattle.canon_script.specs.Numbers.{integer_of, integer_within, number_below}
 use Rattle.canon_script.specs.declared.kinds.ValueKind.{ValueKind}
 use Rattle.canon_script.specs.declared.kinds.ValueKind.TheVariants as kind
@@ -26,11 +26,14 @@ kind_word kind.U64 = codes "u64"
 kind_word kind.Float32 = codes "f32"
 kind_word kind.Float64 = codes "f64"
 kind_word kind.Char = codes "char"
-kind_word kind.Tuple = codes "tuple"
+kind_word kind.String = codes "string"
+kind_word kind.List = codes "list"
 kind_word kind.Record = codes "record"
+kind_word kind.Tuple = codes "tuple"
+kind_word kind.FixedLengthList = codes "fixed"
 
 abbrev pub kinds : List ValueKind
-kinds = kind.Bool ∷ kind.S8 ∷ kind.U8 ∷ kind.S16 ∷ kind.U16 ∷ kind.S32 ∷ kind.U32 ∷ kind.S64 ∷ kind.U64 ∷ kind.Float32 ∷ kind.Float64 ∷ kind.Char ∷ kind.Tuple ∷ kind.Record ∷ []
+kinds = kind.Bool ∷ kind.S8 ∷ kind.U8 ∷ kind.S16 ∷ kind.U16 ∷ kind.S32 ∷ kind.U32 ∷ kind.S64 ∷ kind.U64 ∷ kind.Float32 ∷ kind.Float64 ∷ kind.Char ∷ kind.String ∷ kind.List ∷ kind.Record ∷ kind.Tuple ∷ kind.FixedLengthList ∷ []
 
 abbrev pub kind_named : List ℕ → Option ValueKind
 kind_named name = find (λ k. pointwise nat_eq name (kind_word k)) kinds
@@ -44,7 +47,7 @@ only_char (c ∷ d ∷ cs) = None
 
 -- a text of one character
 abbrev pub char_of : Data → Option ℕ
-char_of d = option_and_then (λ text. only_char (chars text)) (as_str d)
+char_of d = option_and_then (λ s. only_char (chars s)) (as_str d)
 
 abbrev pub scalar_by : ValueKind → Data → Option Literal
 scalar_by kind.Bool d = option_map bool (as_bool d)
@@ -59,8 +62,11 @@ scalar_by kind.U64 d = option_map u64 (word_of d)
 scalar_by kind.Float32 d = option_map f32 (u32_of d)
 scalar_by kind.Float64 d = option_map f64 (word_of d)
 scalar_by kind.Char d = option_map char (char_of d)
-scalar_by kind.Tuple d = None
+scalar_by kind.String d = None
+scalar_by kind.List d = None
 scalar_by kind.Record d = None
+scalar_by kind.Tuple d = None
+scalar_by kind.FixedLengthList d = None
 
 -- ---- values
 
@@ -81,8 +87,11 @@ abbrev mutual
 
   -- by its kind
   pub value_by : Data → ValueKind → Option Literal
-  value_by (array ds) kind.Tuple = option_map (λ xs. tuple (literals_of xs)) (values_of ds)
+  value_by (string s) kind.String = Some (text s)
+  value_by (array ds) kind.List = option_map (λ xs. list (literals_of xs)) (values_of ds)
   value_by (array ds) kind.Record = option_map (λ fs. fields (fields_of fs)) (fields_in ds)
+  value_by (array ds) kind.Tuple = option_map (λ xs. tuple (literals_of xs)) (values_of ds)
+  value_by (array ds) kind.FixedLengthList = option_map (λ xs. fixed (literals_of xs)) (values_of ds)
   value_by d k = scalar_by k d
 
   pub values_of : Items → Option (List Literal)

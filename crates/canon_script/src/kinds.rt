@@ -16,12 +16,15 @@ pub enum ValueKind {
     Float32,
     Float64,
     Char,
-    Tuple,
+    String,
+    List,
     Record,
+    Tuple,
+    FixedLengthList,
 }
 
 /// All of them.
-const KINDS: [ValueKind; 14] = [
+const KINDS: [ValueKind; 17] = [
     ValueKind::Bool,
     ValueKind::S8,
     ValueKind::U8,
@@ -34,8 +37,11 @@ const KINDS: [ValueKind; 14] = [
     ValueKind::Float32,
     ValueKind::Float64,
     ValueKind::Char,
-    ValueKind::Tuple,
+    ValueKind::String,
+    ValueKind::List,
     ValueKind::Record,
+    ValueKind::Tuple,
+    ValueKind::FixedLengthList,
 ];
 
 impl ValueKind {
@@ -56,8 +62,11 @@ impl ValueKind {
             ValueKind::Float32 => "f32",
             ValueKind::Float64 => "f64",
             ValueKind::Char => "char",
-            ValueKind::Tuple => "tuple",
+            ValueKind::String => "string",
+            ValueKind::List => "list",
             ValueKind::Record => "record",
+            ValueKind::Tuple => "tuple",
+            ValueKind::FixedLengthList => "fixed",
         }
     }
 }

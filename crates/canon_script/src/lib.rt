@@ -5,13 +5,15 @@
 //! |---|---|---|
 //! | `memory` | the bytes of memory, at most 67,108,864 | 65536 |
 //! | `heap` | where the allocator begins, at most `memory` | 1024 |
+//! | `fuel` | what each lifting may cost, any `u64` | 1000000 |
 //! | `types` | entries | `[]` |
 //! | `funcs` | functions | `[]` |
 //! | `items` | calls | `[]` |
 //!
-//! - A reference is the name of a scalar (`bool`, `s8` .. `u64`, `f32`, `f64`, `char`) or the number of an entry; in an
-//!   entry, of one before it.
-//! - An entry is `{"record": [[name, reference], ..]}` or `{"tuple": [reference, ..]}`.
+//! - A reference is the name of a scalar (`bool`, `s8` .. `u64`, `f32`, `f64`, `char`), `string`, or the number of an entry;
+//!   in an entry, of one before it.
+//! - An entry is `{"list": reference}`, `{"record": [[name, reference], ..]}`, `{"tuple": [reference, ..]}` or `{"fixed":
+//!   [reference, length]}`.
 //! - A function is `{"params": [reference, ..], "results": [reference, ..]}`, and may have `async` and `post`, which are
 //!   false where they are missing. `post` says that it has a post-return function.
 //! - A call is `{"call": number, "params": [value, ..], "guest": [action, ..]}`, and may have `slots` (how many results
@@ -21,7 +23,8 @@
 //! - An action is `{"write": [address, hex]}`, `{"grow": bytes}`, `{"return": [word, ..]}`, `{"ask": import, "words":
 //!   [word, ..]}` or `{"trap": true}`. Addresses, bytes and words are any `u64`.
 //! - A value is an object of one member, which names its kind: `{"u8": 7}`, `{"f32": bits}`, `{"char": "a"}`,
-//!   `{"tuple": [value, ..]}`, `{"record": [[name, value], ..]}`. It needn't be of its parameter's type.
+//!   `{"string": "text"}`, `{"list": [value, ..]}`, `{"record": [[name, value], ..]}`, `{"tuple": [value, ..]}`,
+//!   `{"fixed": [value, ..]}`. It needn't be of its parameter's type.
 //!
 //! Memory with all that the actions add is at most 67,108,864 bytes, and twice that, times the number of calls and `ask`
 //! actions, at most 1,073,741,824. Numbers are those that `serde_json` reads as a `u64`, or as an `i64` where they may be

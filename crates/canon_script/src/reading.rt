@@ -28,6 +28,9 @@ pub fn script_of_json(alloc: Global, v: &Value) -> Result<Script, ScriptError>
     let Some(heap) = heap_of(memory, v.get("heap")) else {
         return Err(ScriptError::BadScript);
     };
+    let Some(fuel) = fuel_of(v.get("fuel")) else {
+        return Err(ScriptError::BadScript);
+    };
     let Some(types) = items_of(v.get("types")) else {
         return Err(ScriptError::BadScript);
     };
@@ -37,7 +40,7 @@ pub fn script_of_json(alloc: Global, v: &Value) -> Result<Script, ScriptError>
     let Some(items) = items_of(v.get("items")) else {
         return Err(ScriptError::BadScript);
     };
-    played(alloc, memory, heap, types, funcs, items)
+    played(alloc, memory, heap, fuel, types, funcs, items)
 }
 
 /// How many of its members there are.
@@ -46,7 +49,8 @@ fn members_there(v: &Value) -> usize
 {
     there(v.get("memory"))
         + (there(v.get("heap"))
-            + (there(v.get("types")) + (there(v.get("funcs")) + there(v.get("items")))))
+            + (there(v.get("fuel"))
+                + (there(v.get("types")) + (there(v.get("funcs")) + there(v.get("items"))))))
 }
 
 fn memory_of(v: Option<&Value>) -> Option<u64>
@@ -71,16 +75,26 @@ fn heap_of(memory: u64, v: Option<&Value>) -> Option<u64>
     if heap <= memory { Some(heap) } else { None }
 }
 
+fn fuel_of(v: Option<&Value>) -> Option<u64>
+    ensures { result ≡ spec.fuel_of (option_map (λ x. view x.now) v.entry) }
+{
+    match v {
+        Some(v) => v.as_u64(),
+        None => Some(1_000_000),
+    }
+}
+
 /// The functions over their types, and the calls of these functions.
 fn played(
     alloc: Global,
     memory: u64,
     heap: u64,
+    fuel: u64,
     types: &[Value],
     funcs: &[Value],
     items: &[Value],
 ) -> Result<Script, ScriptError>
-    ensures { Gives spec.play_of result (spec.played memory heap (items_view types.now) (items_view funcs.now) (items_view items.now)) }
+    ensures { Gives spec.play_of result (spec.played memory heap fuel (items_view types.now) (items_view funcs.now) (items_view items.now)) }
 {
     let (types, posts) = funcs_of_json(alloc, types, funcs)?;
     let items = each(alloc, &Items { types: &types }, items)?;
@@ -90,6 +104,7 @@ fn played(
     Ok(Script {
         memory,
         heap,
+        fuel,
         types,
         posts,
         items,

@@ -33,6 +33,8 @@ pub struct Script {
     pub memory: u64,
     /// Where the guest's allocator begins.
     pub heap: u64,
+    /// The fuel that each lifting begins with.
+    pub fuel: u64,
     /// The types and the functions, in the order of the script.
     pub types: ComponentTypes,
     /// For each function whether it has a post-return function.

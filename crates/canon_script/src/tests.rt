@@ -4,7 +4,8 @@ use crate::{Item, Script, actions_of_json, bytes_of_hex, script_of_json, value_o
 use canon_json::ScriptError;
 use canon_memory::ValRaw;
 use canon_scripted::{Action, Ordered};
-use canon_types::TypeFuncIndex;
+use canon_table::InterfaceType;
+use canon_types::{TypeFixedLengthListIndex, TypeFuncIndex, TypeListIndex};
 use canon_value::Val;
 use serde_json::Value;
 use std::alloc::Global;
@@ -93,6 +94,28 @@ fn tuples_and_records_are_read(rt: HostRuntime) -> Result<(), Fail> {
 }
 
 #[test]
+fn texts_and_lists_are_read(rt: HostRuntime) -> Result<(), Fail> {
+    let alloc = rt.alloc();
+    let Ok(Val::String(text)) = value(alloc, r#"{"string":"a\u0000é"}"#)? else {
+        return Err(Fail::new("a text"));
+    };
+    assert_eq!(rt; text.as_str(), "a\0é");
+    let list = r#"{"list":[{"u8":1},{"fixed":[{"list":[]},{"string":""}]},{"tuple":[]}]}"#;
+    let Ok(Val::List(items)) = value(alloc, list)? else {
+        return Err(Fail::new("a list"));
+    };
+    let [Val::U8(1), Val::FixedLengthList(fixed), Val::Tuple(members)] = items.as_slice() else {
+        return Err(Fail::new("a number, a fixed list and a tuple"));
+    };
+    assert!(rt; members.is_empty());
+    let [Val::List(none), Val::String(empty)] = fixed.as_slice() else {
+        return Err(Fail::new("a list and a text"));
+    };
+    assert!(rt; none.is_empty() && empty.is_empty());
+    Ok(())
+}
+
+#[test]
 fn what_is_no_value_is_refused(rt: HostRuntime) -> Result<(), Fail> {
     let texts = [
         r#"{"s8":-129}"#,
@@ -113,7 +136,14 @@ fn what_is_no_value_is_refused(rt: HostRuntime) -> Result<(), Fail> {
         r#"{"record":[["a"]]}"#,
         r#"{"record":[["a",{"u8":1},{"u8":2}]]}"#,
         r#"{"record":[[1,{"u8":1}]]}"#,
-        r#"{"string":"a"}"#,
+        r#"{"string":1}"#,
+        r#"{"string":["a"]}"#,
+        r#"{"list":{}}"#,
+        r#"{"list":"ab"}"#,
+        r#"{"list":[{"u8":1},2]}"#,
+        r#"{"fixed":null}"#,
+        r#"{"fixed":[["a"]]}"#,
+        r#"{"map":[]}"#,
         r#"{"u8":1,"u16":1}"#,
         r#"{}"#,
         r#"5"#,
@@ -226,9 +256,33 @@ fn a_whole_script_is_read(rt: HostRuntime) -> Result<(), Fail> {
 }
 
 #[test]
+fn texts_and_lists_are_types(rt: HostRuntime) -> Result<(), Fail> {
+    let text =
+        r#"{"fuel":18446744073709551615,"types":[{"list":"string"},{"fixed":[0,3]},{"record":[["a",1]]}],"funcs":[{"params":["string",0,1,2],"results":[1]}],"items":[{"call":0,"params":[{"string":"a"},{"list":[{"string":"b"}]}],"guest":[]}]}"#;
+    let script = script(rt.alloc(), text)?.expect(&rt, "a script");
+    assert_eq!(rt; script.fuel, u64::MAX);
+    let texts = TypeListIndex::from_u32(0);
+    assert!(rt;
+        script.types.contains(&InterfaceType::List(texts))
+            && script.types.list(texts).element == InterfaceType::String
+    );
+    let three = TypeFixedLengthListIndex::from_u32(1);
+    assert!(rt;
+        script
+            .types
+            .contains(&InterfaceType::FixedLengthList(three))
+            && script.types.fixed_length_list(three).size == 3
+    );
+    let two = TypeFixedLengthListIndex::from_u32(2);
+    assert!(rt; !script.types.contains(&InterfaceType::FixedLengthList(two)));
+    Ok(())
+}
+
+#[test]
 fn what_is_missing_has_its_default(rt: HostRuntime) -> Result<(), Fail> {
     let script = script(rt.alloc(), "{}")?.expect(&rt, "a script");
     assert_eq!(rt; (script.memory, script.heap), (65536, 1024));
+    assert_eq!(rt; script.fuel, 1_000_000);
     assert!(rt; script.posts.is_empty() && script.items.is_empty());
     Ok(())
 }
@@ -264,13 +318,22 @@ fn scripts_keep_their_limits(rt: HostRuntime) -> Result<(), Fail> {
 fn what_is_no_script_is_refused(rt: HostRuntime) -> Result<(), Fail> {
     let texts = [
         r#"[]"#,
-        r#"{"fuel":1000000}"#,
-        r#"{"types":[{"list":"u8"}]}"#,
-        r#"{"types":[{"tuple":["string"]}]}"#,
+        r#"{"fuel":-1}"#,
+        r#"{"fuel":18446744073709551616}"#,
+        r#"{"fuel":"1"}"#,
+        r#"{"turns":1}"#,
+        r#"{"types":[{"option":"u8"}]}"#,
+        r#"{"types":[{"list":0}]}"#,
+        r#"{"types":[{"list":["u8"]}]}"#,
+        r#"{"types":[{"fixed":["u8"]}]}"#,
+        r#"{"types":[{"fixed":["u8",0]}]}"#,
+        r#"{"types":[{"fixed":["u8",4294967296]}]}"#,
+        r#"{"types":[{"fixed":["u64",4294967295]}]}"#,
+        r#"{"types":[{"fixed":[3,"u8"]}]}"#,
         r#"{"types":[{"tuple":[0]}]}"#,
         r#"{"types":[{"record":[]}]}"#,
         r#"{"types":[{"record":[["a","u8"],["a","u8"]]}]}"#,
-        r#"{"funcs":[{"params":["string"],"results":[]}]}"#,
+        r#"{"funcs":[{"params":["text"],"results":[]}]}"#,
         r#"{"funcs":[{"params":[]}]}"#,
         r#"{"items":[{"call":0,"params":[],"guest":[]}]}"#,
         r#"{"items":[{"new":0,"rep":0}]}"#,

@@ -1,15 +1,15 @@
-ghost use Rattle.std.specs.Prelude.{◌≡◌, ◌≢◌, [], Err, Ok, IfOk, option_map, option_and_then, string_bytes};
+ghost use Rattle.std.specs.Prelude.{◌≡◌, ◌≢◌, [], Err, Ok, IfOk, option_and_then, string_bytes};
 ghost use Rattle.serde_json.specs.View.{view, items_view};
-ghost use Rattle.canon_json.specs.Json.{Gives, each_of, onward};
+ghost use Rattle.canon_json.specs.Json.{Gives, onward};
 ghost use Rattle.canon_json.specs.declared.error.ScriptError.TheVariants as refused;
 ghost use Rattle.canon_model.specs.Shape.{Name};
-ghost use Rattle.canon_table.specs.Table.{RecordType, TupleType};
 ghost use Rattle.canon_table.specs.declared.types.InterfaceType.{InterfaceType};
 ghost use Rattle.canon_layout.specs.Asked.{grown, so_far, with_entry};
-ghost use Rattle.canon_layout.specs.Entries.{defines};
+ghost use Rattle.canon_layout.specs.Entries.{entry_by, field_of, type_of};
+ghost use Rattle.canon_layout.specs.declared.words.Kind.TheVariants as kind;
 ghost use Rattle.canon_script.specs.Types as spec;
 
-use canon_json::{Reader, ScriptError, each_of, only_member, two};
+use canon_json::{Reader, ScriptError, each_of, only_member, two, u32_of};
 use canon_layout::type_of_json;
 use canon_table::{InterfaceType, RecordField, TypeBuilder, TypeError};
 use serde_json::Value;
@@ -31,6 +31,7 @@ pub(crate) fn add_types(
     Ok(types)
 }
 
+#[tactic(auto, unfolding(crate::specs::Types::entry_named))]
 /// Adds the type of an entry over those before it.
 fn add_type(
     alloc: Global,
@@ -43,13 +44,28 @@ fn add_type(
     let Some((name, form)) = only_member(v) else {
         return Err(ScriptError::BadScript);
     };
-    if name == "record" {
+    if name == "list" {
+        add_list(builder, before, form)
+    } else if name == "record" {
         add_record(alloc, builder, before, form)
     } else if name == "tuple" {
         add_tuple(alloc, builder, before, form)
+    } else if name == "fixed" {
+        add_fixed(builder, before, form)
     } else {
         Err(ScriptError::BadScript)
     }
+}
+
+fn add_list(
+    builder: &mut TypeBuilder,
+    before: &[InterfaceType],
+    form: &Value,
+) -> Result<InterfaceType, ScriptError>
+    ensures { Gives (grown builder.new before.now) result (option_and_then (with_entry (so_far builder.old before.now)) (entry_by kind.List before.now (view form.now))) }
+{
+    let element = type_of_json(form, before)?;
+    accepted(builder.add_list(element))
 }
 
 fn add_record(
@@ -58,7 +74,7 @@ fn add_record(
     before: &[InterfaceType],
     form: &Value,
 ) -> Result<InterfaceType, ScriptError>
-    ensures { Gives (grown builder.new before.now) result (option_and_then (λ d. with_entry (so_far builder.old before.now) (defines d)) (option_map RecordType (each_of (spec.field_of before.now) (view form.now)))) }
+    ensures { Gives (grown builder.new before.now) result (option_and_then (with_entry (so_far builder.old before.now)) (entry_by kind.Record before.now (view form.now))) }
 {
     let fields = each_of(alloc, &Fields { before }, Some(form))?;
     accepted(builder.add_record(fields))
@@ -70,10 +86,28 @@ fn add_tuple(
     before: &[InterfaceType],
     form: &Value,
 ) -> Result<InterfaceType, ScriptError>
-    ensures { Gives (grown builder.new before.now) result (option_and_then (λ d. with_entry (so_far builder.old before.now) (defines d)) (option_map TupleType (each_of (spec.reference_of before.now) (view form.now)))) }
+    ensures { Gives (grown builder.new before.now) result (option_and_then (with_entry (so_far builder.old before.now)) (entry_by kind.Tuple before.now (view form.now))) }
 {
     let types = each_of(alloc, &References { before }, Some(form))?;
     accepted(builder.add_tuple(types))
+}
+
+/// A list of fixed length: the type of its items, and how many there are.
+fn add_fixed(
+    builder: &mut TypeBuilder,
+    before: &[InterfaceType],
+    form: &Value,
+) -> Result<InterfaceType, ScriptError>
+    ensures { Gives (grown builder.new before.now) result (option_and_then (with_entry (so_far builder.old before.now)) (entry_by kind.Fixed before.now (view form.now))) }
+{
+    let Some((element, size)) = two(form) else {
+        return Err(ScriptError::BadScript);
+    };
+    let element = type_of_json(element, before)?;
+    let Some(size) = u32_of(size) else {
+        return Err(ScriptError::BadScript);
+    };
+    accepted(builder.add_fixed_length_list(element, size))
 }
 
 /// A builder's answer, where every refusal is the script's fault but want of memory.
@@ -88,7 +122,7 @@ pub(crate) fn accepted<T>(answer: Result<T, TypeError>) -> Result<T, ScriptError
     }
 }
 
-/// Reads references to scalars and to these entries.
+/// Reads references: names of types, and numbers of these entries.
 #[derive(Clone, Copy)]
 pub(crate) struct References<'a> {
     pub before: &'a [InterfaceType],
@@ -101,56 +135,10 @@ impl Reader for References<'_> {
 
     ghost seen = { λ t. t };
 
-    ghost reads = { λ r. spec.reference_of r.before.now };
+    ghost reads = { λ r. type_of r.before.now };
 
     fn read(&self, _: Global, v: &Value) -> Result<InterfaceType, ScriptError> {
-        reference_of(v, self.before)
-    }
-}
-
-fn reference_of(v: &Value, before: &[InterfaceType]) -> Result<InterfaceType, ScriptError>
-    ensures { Gives (λ t. t) result (spec.reference_of before.now (view v.now)) }
-{
-    let Ok(ty) = type_of_json(v, before) else {
-        return Err(ScriptError::BadScript);
-    };
-    if is_plain(&ty) {
-        Ok(ty)
-    } else {
-        Err(ScriptError::BadScript)
-    }
-}
-
-/// Whether it is a scalar, a record or a tuple.
-fn is_plain(ty: &InterfaceType) -> bool
-    ensures { result ≡ spec.is_plain ty.now }
-{
-    match ty {
-        InterfaceType::Bool
-        | InterfaceType::S8
-        | InterfaceType::U8
-        | InterfaceType::S16
-        | InterfaceType::U16
-        | InterfaceType::S32
-        | InterfaceType::U32
-        | InterfaceType::S64
-        | InterfaceType::U64
-        | InterfaceType::Float32
-        | InterfaceType::Float64
-        | InterfaceType::Char
-        | InterfaceType::Record(_)
-        | InterfaceType::Tuple(_) => true,
-        InterfaceType::String
-        | InterfaceType::List(_)
-        | InterfaceType::Map(_)
-        | InterfaceType::Variant(_)
-        | InterfaceType::Enum(_)
-        | InterfaceType::Option(_)
-        | InterfaceType::Result(_)
-        | InterfaceType::Flags(_)
-        | InterfaceType::FixedLengthList(_)
-        | InterfaceType::Own(_)
-        | InterfaceType::Borrow(_) => false,
+        type_of_json(v, self.before)
     }
 }
 
@@ -167,7 +155,7 @@ impl Reader for Fields<'_> {
 
     ghost seen = { λ f. (string_bytes f.name, f.ty) };
 
-    ghost reads = { λ r. spec.field_of r.before.now };
+    ghost reads = { λ r. field_of r.before.now };
 
     fn read(&self, alloc: Global, v: &Value) -> Result<RecordField, ScriptError> {
         let Some((name, ty)) = two(v) else {
@@ -176,7 +164,7 @@ impl Reader for Fields<'_> {
         let Some(name) = name.as_str() else {
             return Err(ScriptError::BadScript);
         };
-        let ty = reference_of(ty, self.before)?;
+        let ty = type_of_json(ty, self.before)?;
         let name = String::from_str(alloc, name)?;
         Ok(RecordField { name, ty })
     }

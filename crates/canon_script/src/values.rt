@@ -1,10 +1,10 @@
 ghost use Rattle.std.specs.Prelude.{◌≡◌, ◌^◌, ◌++◌, [], ◌∷◌, ℤ, Some, option_map, option_and_then, OnOk, IfErr};
 ghost use Rattle.std.specs.Str.{chars};
-ghost use Rattle.serde_json.specs.Find.{as_str};
+ghost use Rattle.serde_json.specs.Find.{as_array};
 ghost use Rattle.serde_json.specs.View.{view};
 ghost use Rattle.canon_json.specs.Json.{Gives};
 ghost use Rattle.canon_json.specs.declared.error.ScriptError.TheVariants as refused;
-ghost use Rattle.canon_script.specs.Literals.{Literal, fields_view, literal_view};
+ghost use Rattle.canon_script.specs.Literals.{Literal, fields_view, literal_view, literals_view};
 ghost use Rattle.canon_script.specs.Numbers as numbers;
 ghost use Rattle.canon_script.specs.Values as spec;
 
@@ -26,28 +26,31 @@ pub fn value_of_json(alloc: Global, v: &Value) -> Result<Val, ScriptError>
         return Err(ScriptError::BadScript);
     };
     match kind {
-        ValueKind::Tuple => tuple_of(alloc, form),
+        ValueKind::String => text_of(alloc, form),
+        ValueKind::List => values_of(alloc, form).map(Val::List),
         ValueKind::Record => record_of(alloc, form),
+        ValueKind::Tuple => values_of(alloc, form).map(Val::Tuple),
+        ValueKind::FixedLengthList => values_of(alloc, form).map(Val::FixedLengthList),
         _ => scalar_of(kind, form),
     }
 }
 
-/// A tuple: an array of values.
+/// An array of values.
 #[cycle(values)]
-fn tuple_of(alloc: Global, v: &Value) -> Result<Val, ScriptError>
-    ensures { Gives literal_view result (spec.value_by (view v.now) ValueKind.Tuple) }
+fn values_of(alloc: Global, v: &Value) -> Result<Vec<Val>, ScriptError>
+    ensures { Gives (λ values. literals_view values.items) result (option_and_then spec.values_of (as_array (view v.now))) }
 {
     let Some(items) = v.as_array() else {
         return Err(ScriptError::BadScript);
     };
-    let mut members = Vec::new(alloc);
+    let mut values = Vec::new(alloc);
     for item in items {
         match value_of_json(alloc, item) {
-            Ok(member) => keep(&mut members, member)?,
+            Ok(value) => keep(&mut values, value)?,
             Err(e) => return Err(e),
         }
     }
-    Ok(Val::Tuple(members))
+    Ok(values)
 }
 
 /// A record: an array of pairs, each a name and a value.
@@ -74,12 +77,12 @@ fn record_of(alloc: Global, v: &Value) -> Result<Val, ScriptError>
     Ok(Val::Record(fields))
 }
 
-/// One member more.
-fn keep(members: &mut Vec<Val>, member: Val) -> Result<(), ScriptError>
-    ensures ok { OnOk result (members.new.items ≡ members.old.items ++ member ∷ []) }
+/// One value more.
+fn keep(values: &mut Vec<Val>, value: Val) -> Result<(), ScriptError>
+    ensures ok { OnOk result (values.new.items ≡ values.old.items ++ value ∷ []) }
     ensures cause { IfErr result (λ e. e ≡ refused.OutOfMemory) }
 {
-    members.push(member)?;
+    values.push(value)?;
     Ok(())
 }
 
@@ -96,6 +99,17 @@ fn keep_field(
     let name = String::from_str(alloc, name)?;
     fields.push((name, value))?;
     Ok(())
+}
+
+/// A text.
+fn text_of(alloc: Global, v: &Value) -> Result<Val, ScriptError>
+    ensures { Gives literal_view result (spec.value_by (view v.now) ValueKind.String) }
+{
+    let Some(text) = v.as_str() else {
+        return Err(ScriptError::BadScript);
+    };
+    let text = String::from_str(alloc, text)?;
+    Ok(Val::String(text))
 }
 
 /// A scalar of this kind.
@@ -124,7 +138,11 @@ fn scalar_by(kind: ValueKind, v: &Value) -> Option<Val>
         ValueKind::Float32 => u32_of(v).map(Val::Float32),
         ValueKind::Float64 => v.as_u64().map(Val::Float64),
         ValueKind::Char => char_of(v).map(Val::Char),
-        ValueKind::Tuple | ValueKind::Record => None,
+        ValueKind::String
+        | ValueKind::List
+        | ValueKind::Record
+        | ValueKind::Tuple
+        | ValueKind::FixedLengthList => None,
     }
 }
 

@@ -1,5 +1,5 @@
 -- Texts in a row, with a comma between them.
-use Rattle.std.proofs.Common.{◌≡◌, ℕ, Bool, if◌then◌else◌, List, [], ◌∷◌, ◌++◌, map, refl, ap, sym, ◌∙◌, Vec, String, append-nil}
+use Rattle.std.proofs.Common.{◌≡◌, ℕ, Bool, if◌then◌else◌, List, [], ◌∷◌, ◌++◌, map, refl, ap, sym, ◌∙◌, Vec, String, append-nil, string_bytes}
 use Rattle.std.proofs.lemmas.Simd.{map-map}
 use Rattle.std.specs.Prelude.{codes}
 use Rattle.std.specs.declared.alloc.Global.{Global}
@@ -7,8 +7,8 @@ use Rattle.canon_value.specs.declared.val.Val.{Val}
 use Rattle.canon_value.specs.declared.val.Val.TheFolds.{fold-roll-Val}
 use Rattle.canon_value.specs.declared.val.Val.TheOpen.{Val-F}
 use Rattle.canon_value.specs.declared.val.Val.TheVariants as val
-use Rattle.canon_value.specs.declared.val.Val.TheVariants.{rolls-Record, rolls-Tuple}
-use Rattle.canon_transcript.specs.Text.{fields_text, joined, layer_text, named, parts_text, value_text}
+use Rattle.canon_value.specs.declared.val.Val.TheVariants.{rolls-FixedLengthList, rolls-List, rolls-Record, rolls-String, rolls-Tuple}
+use Rattle.canon_transcript.specs.Text.{fields_text, joined, layer_text, named, quoted, row_text, value_text}
 
 -- what stands before an element: nothing, or a comma
 abbrev pub lead : Bool → List ℕ
@@ -33,5 +33,14 @@ value_of_record fields =
     ap value_text (sym (rolls-Record fields)) ∙ (fold-roll-Val (List ℕ) layer_text (Val-F.Record fields)
     ∙ ap (λ texts. codes "{" ++ joined texts ++ codes "}") (map-map named (λ field. (field.0, value_text field.1)) fields.items))
 
-pub value_of_tuple : (parts : Vec Val Global) → value_text (val.Tuple parts) ≡ parts_text parts.items
+pub value_of_tuple : (parts : Vec Val Global) → value_text (val.Tuple parts) ≡ row_text (codes "(") parts.items (codes ")")
 value_of_tuple parts = ap value_text (sym (rolls-Tuple parts)) ∙ fold-roll-Val (List ℕ) layer_text (Val-F.Tuple parts)
+
+pub value_of_list : (items : Vec Val Global) → value_text (val.List items) ≡ row_text (codes "[") items.items (codes "]")
+value_of_list items = ap value_text (sym (rolls-List items)) ∙ fold-roll-Val (List ℕ) layer_text (Val-F.List items)
+
+pub value_of_fixed : (items : Vec Val Global) → value_text (val.FixedLengthList items) ≡ row_text (codes "[") items.items (codes "]")
+value_of_fixed items = ap value_text (sym (rolls-FixedLengthList items)) ∙ fold-roll-Val (List ℕ) layer_text (Val-F.FixedLengthList items)
+
+pub value_of_text : (text : String Global) → value_text (val.String text) ≡ quoted (string_bytes text)
+value_of_text text = ap value_text (sym (rolls-String text)) ∙ fold-roll-Val (List ℕ) layer_text (Val-F.String text)

@@ -49,6 +49,10 @@ escaped c = if is_plain c then c ∷ [] else codes "\\u{" ++ digits 16 false c +
 abbrev pub name_text : List ℕ → List ℕ
 name_text name = flat_map escaped (chars name)
 
+-- a text in double quotes
+abbrev pub quoted : List ℕ → List ℕ
+quoted text = codes "\"" ++ name_text text ++ codes "\""
+
 -- texts with a comma between them
 abbrev pub joined : List (List ℕ) → List ℕ
 joined texts = join_with_byte 0x2C texts
@@ -57,7 +61,7 @@ joined texts = join_with_byte 0x2C texts
 abbrev pub named : String Global × List ℕ → List ℕ
 named field = name_text (string_bytes field.0) ++ codes ":" ++ field.1
 
--- the text of one layer of a value, which has the texts of a record's and a tuple's members in their place
+-- the text of one layer of a value, which has the texts of its members in their place
 abbrev pub layer_text : Val-F (List ℕ) → List ℕ
 layer_text (Val-F.Bool b) = bool_text b
 layer_text (Val-F.S8 n) = signed_decimal n
@@ -71,21 +75,24 @@ layer_text (Val-F.U64 n) = decimal n
 layer_text (Val-F.Float32 bits) = codes "f32:" ++ hexadecimal 8 bits
 layer_text (Val-F.Float64 bits) = codes "f64:" ++ hexadecimal 16 bits
 layer_text (Val-F.Char c) = codes "'" ++ escaped c ++ codes "'"
+layer_text (Val-F.String s) = quoted (string_bytes s)
+layer_text (Val-F.List items) = codes "[" ++ joined items.items ++ codes "]"
 layer_text (Val-F.Record fields) = codes "{" ++ joined (map named fields.items) ++ codes "}"
 layer_text (Val-F.Tuple parts) = codes "(" ++ joined parts.items ++ codes ")"
+layer_text (Val-F.FixedLengthList items) = codes "[" ++ joined items.items ++ codes "]"
 
 abbrev pub value_text : Val → List ℕ
 value_text = fold-Val (List ℕ) layer_text
 
--- a field, and the texts of a record of these fields and of a tuple of these parts
+-- a field, and the texts of a record of these fields and of values in a row between these brackets
 abbrev pub field_text : String Global × Val → List ℕ
 field_text field = named (field.0, value_text field.1)
 
 abbrev pub fields_text : List (String Global × Val) → List ℕ
 fields_text fields = codes "{" ++ joined (map field_text fields) ++ codes "}"
 
-abbrev pub parts_text : List Val → List ℕ
-parts_text parts = codes "(" ++ joined (map value_text parts) ++ codes ")"
+abbrev pub row_text : List ℕ → List Val → List ℕ → List ℕ
+row_text before values after = before ++ joined (map value_text values) ++ after
 
 -- a value after a space
 abbrev pub spaced : Val → List ℕ
@@ -102,12 +109,16 @@ abbrev pub fault_text : Fault → List ℕ
 fault_text (fault.TypeMismatch place) = codes "TypeMismatch " ++ decimal place
 fault_text (fault.FieldName place) = codes "FieldName " ++ decimal place
 fault_text (fault.LengthMismatch place) = codes "LengthMismatch " ++ decimal place
+fault_text (fault.StringTooLong bytes) = codes "StringTooLong " ++ decimal bytes
+fault_text (fault.SizeOverflow count) = codes "SizeOverflow " ++ decimal count
 fault_text (fault.ReallocMisaligned address) = codes "ReallocMisaligned " ++ decimal address
 fault_text (fault.ReallocOutOfBounds address) = codes "ReallocOutOfBounds " ++ decimal address
 fault_text fault.GuestTrap = codes "GuestTrap"
 fault_text (fault.PointerMisaligned a) = codes "PointerMisaligned " ++ at_text a
 fault_text (fault.PointerOutOfBounds a) = codes "PointerOutOfBounds " ++ at_text a
+fault_text (fault.InvalidUtf8 a) = codes "InvalidUtf8 " ++ at_text a
 fault_text (fault.InvalidChar a) = codes "InvalidChar " ++ at_text a
+fault_text fault.HostcallFuelExhausted = codes "HostcallFuelExhausted"
 -- no transcript holds it: a script that wants memory ends without a record
 fault_text fault.OutOfMemory = codes "OutOfMemory"
 

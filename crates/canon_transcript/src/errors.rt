@@ -35,12 +35,16 @@ fn print_fault(text: &mut String, fault: Fault) -> Result<(), AllocError>
         Fault::TypeMismatch(place) => write!(text, "TypeMismatch {place}"),
         Fault::FieldName(place) => write!(text, "FieldName {place}"),
         Fault::LengthMismatch(place) => write!(text, "LengthMismatch {place}"),
+        Fault::StringTooLong(bytes) => write!(text, "StringTooLong {bytes}"),
+        Fault::SizeOverflow(count) => write!(text, "SizeOverflow {count}"),
         Fault::ReallocMisaligned(address) => write!(text, "ReallocMisaligned {address}"),
         Fault::ReallocOutOfBounds(address) => write!(text, "ReallocOutOfBounds {address}"),
         Fault::GuestTrap => text.push_str("GuestTrap"),
         Fault::PointerMisaligned(at) => print_at(text, "PointerMisaligned ", at),
         Fault::PointerOutOfBounds(at) => print_at(text, "PointerOutOfBounds ", at),
+        Fault::InvalidUtf8(at) => print_at(text, "InvalidUtf8 ", at),
         Fault::InvalidChar(at) => print_at(text, "InvalidChar ", at),
+        Fault::HostcallFuelExhausted => text.push_str("HostcallFuelExhausted"),
         Fault::OutOfMemory => text.push_str("OutOfMemory"),
     }
 }

@@ -28,7 +28,18 @@ fn each_value_prints_its_text(rt: HostRuntime) -> Result<(), Fail> {
         (Val::Char('\''), "'\\u{27}'"),
         (Val::Char('\u{e9}'), "'\\u{e9}'"),
         (Val::Char('\u{10ffff}'), "'\\u{10ffff}'"),
+        (Val::String(String::new(rt.alloc())), "\"\""),
+        (
+            Val::String(String::from_str(rt.alloc(), "a b'\n\\")?),
+            "\"a b\\u{27}\\u{a}\\u{5c}\"",
+        ),
+        (
+            Val::String(String::from_str(rt.alloc(), "\u{e9}\"")?),
+            "\"\\u{e9}\\u{22}\"",
+        ),
+        (Val::List(Vec::new(rt.alloc())), "[]"),
         (Val::Tuple(Vec::new(rt.alloc())), "()"),
+        (Val::FixedLengthList(zeros(rt.alloc())?), "[0,0]"),
     ];
     for (value, text) in &rows {
         let printed = value_text(rt.alloc(), value)?;
@@ -37,14 +48,21 @@ fn each_value_prints_its_text(rt: HostRuntime) -> Result<(), Fail> {
     Ok(())
 }
 
-/// A record of a number, of two zeros and of no fields.
-fn record(alloc: Global) -> Result<Val, Fail> {
+fn zeros(alloc: Global) -> Result<Vec<Val>, Fail> {
     let mut zeros = Vec::new(alloc);
     zeros.push(Val::U8(0))?;
     zeros.push(Val::U8(0))?;
+    Ok(zeros)
+}
+
+/// A record of a number, of two zeros and of no fields.
+fn record(alloc: Global) -> Result<Val, Fail> {
     let mut fields = Vec::new(alloc);
     fields.push((String::from_str(alloc, "a b")?, Val::S16(-1)))?;
-    fields.push((String::from_str(alloc, "\u{e9}\"")?, Val::Tuple(zeros)))?;
+    fields.push((
+        String::from_str(alloc, "\u{e9}\"")?,
+        Val::Tuple(zeros(alloc)?),
+    ))?;
     fields.push((String::from_str(alloc, "c")?, Val::Record(Vec::new(alloc))))?;
     Ok(Val::Record(fields))
 }
@@ -53,6 +71,20 @@ fn record(alloc: Global) -> Result<Val, Fail> {
 fn members_stand_in_a_row_and_names_are_escaped(rt: HostRuntime) -> Result<(), Fail> {
     let printed = value_text(rt.alloc(), &record(rt.alloc())?)?;
     assert_eq!(rt; printed.as_str(), "{a b:-1,\\u{e9}\\u{22}:(0,0),c:{}}");
+    Ok(())
+}
+
+#[test]
+fn lists_print_their_items_one_inside_another(rt: HostRuntime) -> Result<(), Fail> {
+    let mut pair = Vec::new(rt.alloc());
+    pair.push(Val::String(String::from_str(rt.alloc(), "a,b")?))?;
+    pair.push(Val::List(zeros(rt.alloc())?))?;
+    let mut items = Vec::new(rt.alloc());
+    items.push(Val::Tuple(pair))?;
+    items.push(Val::List(Vec::new(rt.alloc())))?;
+    items.push(Val::FixedLengthList(zeros(rt.alloc())?))?;
+    let printed = value_text(rt.alloc(), &Val::List(items))?;
+    assert_eq!(rt; printed.as_str(), "[(\"a,b\",[0,0]),[],[0,0]]");
     Ok(())
 }
 
@@ -68,6 +100,14 @@ fn each_error_prints_its_name_and_what_it_carries(rt: HostRuntime) -> Result<(),
         (Error::Fault(Fault::TypeMismatch(2)), "TypeMismatch 2"),
         (Error::Fault(Fault::FieldName(1)), "FieldName 1"),
         (Error::Fault(Fault::LengthMismatch(0)), "LengthMismatch 0"),
+        (
+            Error::Fault(Fault::StringTooLong(2147483648)),
+            "StringTooLong 2147483648",
+        ),
+        (
+            Error::Fault(Fault::SizeOverflow(4294967296)),
+            "SizeOverflow 4294967296",
+        ),
         (
             Error::Fault(Fault::ReallocMisaligned(1025)),
             "ReallocMisaligned 1025",
@@ -87,6 +127,14 @@ fn each_error_prints_its_name_and_what_it_carries(rt: HostRuntime) -> Result<(),
         (
             Error::Fault(Fault::InvalidChar(At::Address(1036))),
             "InvalidChar @1036",
+        ),
+        (
+            Error::Fault(Fault::InvalidUtf8(At::Address(2048))),
+            "InvalidUtf8 @2048",
+        ),
+        (
+            Error::Fault(Fault::HostcallFuelExhausted),
+            "HostcallFuelExhausted",
         ),
     ];
     for (error, text) in rows {

@@ -42,8 +42,11 @@ fn print_value(text: &mut String, value: &Val) -> Result<(), AllocError>
         Val::Float32(bits) => print_f32(text, *bits),
         Val::Float64(bits) => print_f64(text, *bits),
         Val::Char(c) => print_char(text, *c),
+        Val::String(content) => print_quoted(text, content),
+        Val::List(items) => print_row(text, "[", items, "]"),
         Val::Record(fields) => print_record(text, fields),
-        Val::Tuple(parts) => print_tuple(text, parts),
+        Val::Tuple(parts) => print_row(text, "(", parts, ")"),
+        Val::FixedLengthList(items) => print_row(text, "[", items, "]"),
     }
 }
 
@@ -63,18 +66,19 @@ fn print_record(text: &mut String, fields: &[(String, Val)]) -> Result<(), Alloc
     text.push_str("}")
 }
 
+/// Prints values between these brackets, with a comma between two of them.
 #[cycle(print)]
-fn print_tuple(text: &mut String, parts: &[Val]) -> Result<(), AllocError>
-    ensures { OnOk result (string_bytes text.new ≡ string_bytes text.old ++ spec.parts_text parts.now) }
+fn print_row(text: &mut String, before: &str, values: &[Val], after: &str) -> Result<(), AllocError>
+    ensures { OnOk result (string_bytes text.new ≡ string_bytes text.old ++ spec.row_text before.now values.now after.now) }
 {
-    text.push_str("(")?;
+    text.push_str(before)?;
     let mut is_first = true;
-    for part in parts {
+    for value in values {
         separate(text, is_first)?;
-        print_value(text, part)?;
+        print_value(text, value)?;
         is_first = false;
     }
-    text.push_str(")")
+    text.push_str(after)
 }
 
 /// Prints a comma, but before the first of a row.
@@ -107,6 +111,14 @@ fn print_char(text: &mut String, c: char) -> Result<(), AllocError>
     text.push_str("'")?;
     print_escaped(text, c)?;
     text.push_str("'")
+}
+
+fn print_quoted(text: &mut String, content: &str) -> Result<(), AllocError>
+    ensures { OnOk result (string_bytes text.new ≡ string_bytes text.old ++ spec.quoted content.now) }
+{
+    text.push_str("\"")?;
+    print_name(text, content)?;
+    text.push_str("\"")
 }
 
 fn print_name(text: &mut String, name: &str) -> Result<(), AllocError>

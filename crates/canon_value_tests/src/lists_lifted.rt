@@ -1,11 +1,12 @@
 //! Texts and lists that are loaded and lifted as the Canonical ABI says, and the fuel that they cost.
 
+use crate::tests::has_words;
 use canon_memory::{Memory, ValRaw};
 use canon_table::{
     CanonicalOptions, InstanceType, InterfaceType, OptionsIndex, RecordField, RuntimeInstance,
     StoreId, StringEncoding, TypeBuilder,
 };
-use canon_value::{Component, Core, LiftContext, Val, is_built, lift_results};
+use canon_value::{Component, Core, LiftContext, Val, is_built};
 use std::alloc::Global;
 use std::process::Abort;
 use std::test::Fail;
@@ -70,36 +71,9 @@ fn lifted(
     let types = cx.types();
     assert!(rt; types.contains(&ty));
     assert!(rt; is_built(types, &ty));
-    let Some(words) = types.canonical_abi(&ty).flat else {
-        panic!(rt; "more than 16 words");
-    };
-    assert!(rt; usize::from(words) <= src.len());
+    assert!(rt; has_words(types, &ty, src.len()));
     let answer = Val::lift(alloc, &mut cx, ty, src, 0);
     Ok(format!(in alloc; "{answer:?}")?)
-}
-
-/// What results of more than one word are lifted as, in words, where the word that was returned is this one, and the fuel
-/// that is left.
-fn results(
-    rt: &impl Abort,
-    alloc: Global,
-    core: &mut Core<(), ()>,
-    ty: InterfaceType,
-    pointer: u32,
-) -> Result<(String, u64), Fail> {
-    assert!(rt; !core.component().options.is_empty());
-    let mut cx = LiftContext::new(core, OptionsIndex::from_u32(0));
-    let types = cx.types();
-    let InterfaceType::Tuple(i) = ty else {
-        panic!(rt; "no tuple");
-    };
-    assert!(rt; types.contains(&ty));
-    assert!(rt; is_built(types, &ty));
-    if types.tuple(i).abi.flat_count(1).is_some() {
-        panic!(rt; "at most one word");
-    }
-    let answer = lift_results(alloc, &mut cx, i, &[ValRaw::u32(pointer)]);
-    Ok((format!(in alloc; "{answer:?}")?, cx.fuel()))
 }
 
 #[test]
@@ -235,59 +209,76 @@ fn faults_in_words_are_told_at_the_pointer(rt: HostRuntime) -> Result<(), Fail> 
 }
 
 #[test]
-fn an_item_has_its_own_place_and_faults(rt: HostRuntime) -> Result<(), Fail> {
+fn a_list_of_texts_costs_its_items_and_their_bytes(rt: HostRuntime) -> Result<(), Fail> {
+    let alloc = rt.alloc();
+    // At 0 two texts at 8, of which the first is "a" at 24 and the second is empty.
+    let bytes = [
+        8, 0, 0, 0, 2, 0, 0, 0, 24, 0, 0, 0, 1, 0, 0, 0, 25, 0, 0, 0, 0, 0, 0, 0, b'a',
+    ];
+    for (fuel, want) in [
+        (65, "Ok(List([String(\"a\"), String(\"\")]))"),
+        (64, "Err(HostcallFuelExhausted)"),
+        (63, "Err(HostcallFuelExhausted)"),
+    ] {
+        let mut builder = TypeBuilder::new(alloc);
+        let ty = builder.add_list(InterfaceType::String)?;
+        let mut core = core_of(alloc, builder, &bytes, fuel)?;
+        let (answer, _) = loaded(&rt, alloc, &mut core, ty, 0)?;
+        assert_eq!(rt; answer.as_str(), want, "with fuel {fuel}");
+    }
+    Ok(())
+}
+
+#[test]
+fn an_item_is_told_at_its_own_address(rt: HostRuntime) -> Result<(), Fail> {
     let alloc = rt.alloc();
     let mut builder = TypeBuilder::new(alloc);
-    let texts = builder.add_list(InterfaceType::String)?;
-    let chars = builder.add_list(InterfaceType::Char)?;
-    // At 0 two texts at 8, of which the first is "a" at 24 and the second is empty; at 28 two chars.
-    let bytes = [
-        8, 0, 0, 0, 2, 0, 0, 0, 24, 0, 0, 0, 1, 0, 0, 0, 25, 0, 0, 0, 0, 0, 0, 0, b'a', 0xff, 0, 0,
-        b'b', 0, 0, 0, 0, 0xd8, 0, 0,
-    ];
-    let mut core = core_of(alloc, builder, &bytes, 65)?;
-    let answer = loaded(&rt, alloc, &mut core, texts, 0)?;
-    assert_eq!(rt;
-        answer.0.as_str(),
-        "Ok(List([String(\"a\"), String(\"\")]))"
-    );
-    assert_eq!(rt; answer.1, 0);
-    let words = [28, 1].map(|word| ValRaw::u32(word));
-    let answer = lifted(&rt, alloc, &mut core, chars, &words)?;
-    assert_eq!(rt; answer.as_str(), "Ok(List([Char('b')]))");
-    let words = [28, 2].map(|word| ValRaw::u32(word));
-    let answer = lifted(&rt, alloc, &mut core, chars, &words)?;
-    assert_eq!(rt; answer.as_str(), "Err(InvalidChar(Address(32)))");
-    let words = [8, 1].map(|word| ValRaw::u32(word));
-    let answer = lifted(&rt, alloc, &mut core, texts, &words)?;
-    assert_eq!(rt; answer.as_str(), "Ok(List([String(\"a\")]))");
-    core.set_fuel(64);
-    let answer = loaded(&rt, alloc, &mut core, texts, 0)?;
-    assert_eq!(rt; answer.0.as_str(), "Err(HostcallFuelExhausted)");
+    let ty = builder.add_list(InterfaceType::Char)?;
+    let bytes = [9, 9, 9, 9, b'b', 0, 0, 0, 0, 0xd8, 0, 0];
+    let mut core = core_of(alloc, builder, &bytes, 64)?;
+    for (length, want) in [
+        (1, "Ok(List([Char('b')]))"),
+        (2, "Err(InvalidChar(Address(8)))"),
+    ] {
+        let words = [4, length].map(|word| ValRaw::u32(word));
+        let answer = lifted(&rt, alloc, &mut core, ty, &words)?;
+        assert_eq!(rt; answer.as_str(), want);
+    }
     Ok(())
 }
 
 #[test]
 fn a_list_of_fixed_length_costs_32_an_item(rt: HostRuntime) -> Result<(), Fail> {
     let alloc = rt.alloc();
-    for (fuel, want, left) in [
-        (95, "Err(HostcallFuelExhausted)", 95),
-        (96, "Ok([FixedLengthList([U16(1), U16(2), U16(65535)])])", 0),
-    ] {
+    let value = "Ok(FixedLengthList([U16(1), U16(2), U16(65535)]))";
+    let exhausted = "Err(HostcallFuelExhausted)";
+    for (fuel, want, left) in [(95, exhausted, 95), (96, value, 0), (97, value, 1)] {
         let mut builder = TypeBuilder::new(alloc);
-        let fixed = builder.add_fixed_length_list(InterfaceType::U16, 3)?;
-        let ty = builder.add_tuple(vec![in alloc; fixed]?)?;
+        let ty = builder.add_fixed_length_list(InterfaceType::U16, 3)?;
         let bytes = [9, 9, 1, 0, 2, 0, 0xff, 0xff];
         let mut core = core_of(alloc, builder, &bytes, fuel)?;
-        let answer = results(&rt, alloc, &mut core, ty, 2)?;
+        let answer = loaded(&rt, alloc, &mut core, ty, 2)?;
         assert_eq!(rt; answer.0.as_str(), want);
         assert_eq!(rt; answer.1, left);
         let words = [1, 2, 65_535].map(|word| ValRaw::u32(word));
-        let answer = lifted(&rt, alloc, &mut core, fixed, &words)?;
-        let as_before = answer.as_str() == "Ok(FixedLengthList([U16(1), U16(2), U16(65535)]))";
-        assert_eq!(rt; as_before, left == 0);
+        let answer = lifted(&rt, alloc, &mut core, ty, &words)?;
+        assert_eq!(rt; answer.as_str(), want);
     }
     Ok(())
+}
+
+/// The type of a list of records of `name`, a string, and of `score`, a u32.
+fn scores_type(alloc: Global, builder: &mut TypeBuilder) -> Result<InterfaceType, Fail> {
+    let name = RecordField {
+        name: String::from_str(alloc, "name")?,
+        ty: InterfaceType::String,
+    };
+    let score = RecordField {
+        name: String::from_str(alloc, "score")?,
+        ty: InterfaceType::U32,
+    };
+    let record = builder.add_record(vec![in alloc; name, score]?)?;
+    Ok(builder.add_list(record)?)
 }
 
 #[test]
@@ -297,32 +288,13 @@ fn a_record_costs_32_a_field_and_its_names(rt: HostRuntime) -> Result<(), Fail> 
     let bytes = [
         8, 0, 0, 0, 1, 0, 0, 0, 20, 0, 0, 0, 5, 0, 0, 0, 97, 0, 0, 0, b'c', b'r', b'a', b't', b'e',
     ];
-    let value = "List([Record([(\"name\", String(\"crate\")), (\"score\", U32(97))])])";
-    for fuel in [110, 109] {
+    let value = r#"Ok(List([Record([("name", String("crate")), ("score", U32(97))])]))"#;
+    for (fuel, want) in [(110, value), (109, "Err(HostcallFuelExhausted)")] {
         let mut builder = TypeBuilder::new(alloc);
-        let name = RecordField {
-            name: String::from_str(alloc, "name")?,
-            ty: InterfaceType::String,
-        };
-        let score = RecordField {
-            name: String::from_str(alloc, "score")?,
-            ty: InterfaceType::U32,
-        };
-        let record = builder.add_record(vec![in alloc; name, score]?)?;
-        let list = builder.add_list(record)?;
-        let ty = builder.add_tuple(vec![in alloc; list]?)?;
+        let ty = scores_type(alloc, &mut builder)?;
         let mut core = core_of(alloc, builder, &bytes, fuel)?;
-        let words = [8, 1].map(|word| ValRaw::u32(word));
-        let (far, left) = results(&rt, alloc, &mut core, ty, 0)?;
-        let near = lifted(&rt, alloc, &mut core, list, &words)?;
-        if fuel == 110 {
-            assert_eq!(rt; far, format!(in alloc; "Ok([{value}])")?);
-            assert_eq!(rt; near, format!(in alloc; "Ok({value})")?);
-            assert_eq!(rt; left, 0);
-        } else {
-            assert_eq!(rt; far.as_str(), "Err(HostcallFuelExhausted)");
-            assert_eq!(rt; near.as_str(), "Err(HostcallFuelExhausted)");
-        }
+        let (answer, _) = loaded(&rt, alloc, &mut core, ty, 0)?;
+        assert_eq!(rt; answer.as_str(), want);
     }
     Ok(())
 }

@@ -1,14 +1,13 @@
 //! Texts and lists that are lowered and stored as the Canonical ABI says, and what the guest is asked for.
 
-ghost use Rattle.std.specs.Prelude.{◌<◌, ◌≡◌, ◌^◌, length};
-
+use crate::tests::has_words;
 use canon_memory::{Event, Journaled, Memory, ValRaw};
 use canon_scripted::{Ordered, ScriptedGuest};
 use canon_table::{
     CanonicalOptions, InstanceType, InterfaceType, OptionsIndex, RuntimeInstance, StoreId,
     StringEncoding, TypeBuilder,
 };
-use canon_value::{Component, Core, Fault, LiftContext, LowerContext, Val, is_built, lower_args};
+use canon_value::{Component, Core, Fault, LiftContext, LowerContext, Val, is_built};
 use std::alloc::Global;
 use std::process::Abort;
 use std::test::Fail;
@@ -50,59 +49,8 @@ fn lower(
     let types = cx.types();
     assert!(rt; types.contains(&ty));
     assert!(rt; is_built(types, &ty));
-    let Some(words) = types.canonical_abi(&ty).flat else {
-        panic!(rt; "more than 16 words");
-    };
-    assert!(rt; usize::from(words) == dst.len());
+    assert!(rt; has_words(types, &ty, dst.len()));
     value.lower(&mut cx, ty, dst)
-}
-
-/// Stores a value at an address, where the conditions hold.
-fn store(
-    rt: &impl Abort,
-    core: &mut HeardCore,
-    value: &Val,
-    ty: InterfaceType,
-    at: u32,
-) -> Result<(), Fault> {
-    assert!(rt; !core.component().options.is_empty());
-    let mut cx = LowerContext::new(core, OptionsIndex::from_u32(0));
-    let types = cx.types();
-    assert!(rt; types.contains(&ty));
-    assert!(rt; is_built(types, &ty));
-    let abi = *types.canonical_abi(&ty);
-    let at = u64::from(at);
-    assert!(rt; at % u64::from(abi.align32) == 0);
-    assert!(rt; at + u64::from(abi.size32) <= cx.as_slice_mut().len() as u64);
-    value.store(&mut cx, ty, at)
-}
-
-/// Lowers parameters of more than 16 words into the word that points to them.
-fn lower_far(
-    rt: &impl Abort,
-    core: &mut HeardCore,
-    args: &[Val],
-    ty: InterfaceType,
-    dst: &mut [ValRaw],
-) -> Result<(), Fault>
-    requires { length dst.old ≡ 1 }
-{
-    assert!(rt; !core.component().options.is_empty());
-    let mut cx = LowerContext::new(core, OptionsIndex::from_u32(0));
-    let types = cx.types();
-    let InterfaceType::Tuple(i) = ty else {
-        panic!(rt; "no tuple");
-    };
-    assert!(rt; types.contains(&ty));
-    assert!(rt; is_built(types, &ty));
-    let tuple = types.tuple(i);
-    if args.len() != tuple.types.len() {
-        panic!(rt; "not as many parameters");
-    }
-    if tuple.abi.flat_count(16).is_some() {
-        panic!(rt; "at most 16 words");
-    }
-    lower_args(&mut cx, args, i, dst)
 }
 
 /// Tests that the guest was asked for exactly these blocks in order, each by alignment, size and answer.
@@ -186,9 +134,10 @@ fn texts_of_a_list_are_stored_in_order(rt: HostRuntime) -> Result<(), Fail> {
     let ty = builder.add_list(InterfaceType::String)?;
     let mut core = core_of(alloc, builder)?;
     let value = Val::List(vec![in alloc; text(alloc, "a")?, text(alloc, "")?]?);
-    assert_eq!(rt; store(&rt, &mut core, &value, ty, 8), Ok(()));
+    let mut dst = [ValRaw::u64(u64::MAX); 2];
+    assert_eq!(rt; lower(&rt, &mut core, &value, ty, &mut dst), Ok(()));
+    assert_eq!(rt; dst, [1024, 2].map(|word| ValRaw::u64(word)));
     assert_asked(&rt, &mut core, &[(4, 16, 1024), (1, 1, 1040), (1, 0, 1041)]);
-    assert_bytes(&rt, &mut core, 7, &[0, 0, 4, 0, 0, 2, 0, 0, 0, 0]);
     let want = [
         0x10, 4, 0, 0, 1, 0, 0, 0, 0x11, 4, 0, 0, 0, 0, 0, 0, b'a', 0,
     ];
@@ -228,15 +177,32 @@ fn a_list_of_fixed_length_has_no_block(rt: HostRuntime) -> Result<(), Fail> {
     let mut dst = [ValRaw::u64(u64::MAX); 3];
     assert_eq!(rt; lower(&rt, &mut core, &value, ty, &mut dst), Ok(()));
     assert_eq!(rt; dst, [1, 2, 65_535].map(|word| ValRaw::u64(word)));
-    assert_eq!(rt; store(&rt, &mut core, &value, ty, 2), Ok(()));
-    assert_bytes(&rt, &mut core, 1, &[0, 1, 0, 2, 0, 0xff, 0xff, 0]);
     let short = Val::FixedLengthList(u16s(alloc, &[1, 2])?);
     let answer = lower(&rt, &mut core, &short, ty, &mut dst);
     assert_eq!(rt; answer, Err(Fault::LengthMismatch(0)));
     let other = Val::List(u16s(alloc, &[1, 2, 3])?);
-    let answer = store(&rt, &mut core, &other, ty, 2);
+    let answer = lower(&rt, &mut core, &other, ty, &mut dst);
     assert_eq!(rt; answer, Err(Fault::TypeMismatch(0)));
     assert_asked(&rt, &mut core, &[]);
+    Ok(())
+}
+
+#[test]
+fn lists_of_fixed_length_are_stored_in_a_row(rt: HostRuntime) -> Result<(), Fail> {
+    let alloc = rt.alloc();
+    let mut builder = TypeBuilder::new(alloc);
+    let item = builder.add_fixed_length_list(InterfaceType::U16, 3)?;
+    let ty = builder.add_list(item)?;
+    let mut core = core_of(alloc, builder)?;
+    let first = Val::FixedLengthList(u16s(alloc, &[1, 2, 65_535])?);
+    let second = Val::FixedLengthList(u16s(alloc, &[4, 0x506, 7])?);
+    let value = Val::List(vec![in alloc; first, second]?);
+    let mut dst = [ValRaw::u64(u64::MAX); 2];
+    assert_eq!(rt; lower(&rt, &mut core, &value, ty, &mut dst), Ok(()));
+    assert_eq!(rt; dst, [1024, 2].map(|word| ValRaw::u64(word)));
+    assert_asked(&rt, &mut core, &[(2, 12, 1024)]);
+    let want = [0, 1, 0, 2, 0, 0xff, 0xff, 4, 0, 6, 5, 7, 0, 0];
+    assert_bytes(&rt, &mut core, 1023, &want);
     Ok(())
 }
 
@@ -296,32 +262,5 @@ fn a_list_too_large_for_memory_is_refused_before_its_items(rt: HostRuntime) -> R
     let answer = lower(&rt, &mut core, &value, ty, &mut dst);
     assert_eq!(rt; answer, Err(Fault::SizeOverflow(2)));
     assert_asked(&rt, &mut core, &[]);
-    Ok(())
-}
-
-#[test]
-fn the_block_of_parameters_is_asked_for_first(rt: HostRuntime) -> Result<(), Fail> {
-    let alloc = rt.alloc();
-    let mut builder = TypeBuilder::new(alloc);
-    let ty = builder.add_tuple(Vec::from_slice(alloc, &[InterfaceType::String; 9])?)?;
-    let mut core = core_of(alloc, builder)?;
-    let mut args = vec![in alloc; text(alloc, "ab")?]?;
-    for _ in 0..8 {
-        args.push(text(alloc, "")?)?;
-    }
-    let mut dst = [ValRaw::u64(u64::MAX)];
-    assert_eq!(rt; lower_far(&rt, &mut core, &args, ty, &mut dst), Ok(()));
-    assert_eq!(rt; dst, [ValRaw::u64(1024)]);
-    let mut want = [(1, 0, 1098); 10];
-    want[0] = (4, 72, 1024);
-    want[1] = (1, 2, 1096);
-    assert_asked(&rt, &mut core, &want);
-    assert_bytes(
-        &rt,
-        &mut core,
-        1024,
-        &[0x48, 4, 0, 0, 2, 0, 0, 0, 0x4a, 4, 0, 0, 0, 0, 0, 0],
-    );
-    assert_bytes(&rt, &mut core, 1096, b"ab");
     Ok(())
 }

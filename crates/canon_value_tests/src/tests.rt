@@ -178,7 +178,7 @@ fn lifted(
 }
 
 /// Whether a value of the type takes so many words, up to 16.
-fn has_words(types: &ComponentTypes, ty: &InterfaceType, count: usize) -> bool
+pub(crate) fn has_words(types: &ComponentTypes, ty: &InterfaceType, count: usize) -> bool
     requires { Knows types.now ty.now }
     ensures { IsTrue result → flat (shape_of types.now ty.now) ≡ count }
 {

@@ -18,7 +18,7 @@ loop-item-preserved c = record {
   next = tt;
   ends = tt;
   playing = playing_next c.args.store c.args.items.items c.loop-item.store (into_iter_items c.loop-item.item-iterator) (into_iter_items c.next.new.self) c.in-Some.item c.loop-item.records c.in-Some.ensures.steps.0 c.loop-item.invariant.playing
-      c.play_item.new.store c.in_ok-record.record c.push.new.self c.play_item.ensures.fresh c.play_item.ensures.same c.in_ok-record.ensures.played c.in_ok-push.ensures.ok;
+      c.play_item.new.store c.in_ok-record.record c.push.new.self c.play_item.ensures.fresh c.play_item.ensures.same c.play_item.ensures.fuel c.in_ok-record.ensures.played c.in_ok-push.ensures.ok;
 }
 
 pub returns : goal.returns

@@ -11,6 +11,12 @@ returns-in-FieldName c = rw c.in-FieldName.is c.write-in-FieldName.ensures.bytes
 pub returns-in-LengthMismatch : goal.returns-in-LengthMismatch
 returns-in-LengthMismatch c = rw c.in-LengthMismatch.is c.write-in-LengthMismatch.ensures.bytes
 
+pub returns-in-StringTooLong : goal.returns-in-StringTooLong
+returns-in-StringTooLong c = rw c.in-StringTooLong.is c.write-in-StringTooLong.ensures.bytes
+
+pub returns-in-SizeOverflow : goal.returns-in-SizeOverflow
+returns-in-SizeOverflow c = rw c.in-SizeOverflow.is c.write-in-SizeOverflow.ensures.bytes
+
 pub returns-in-ReallocMisaligned : goal.returns-in-ReallocMisaligned
 returns-in-ReallocMisaligned c = rw c.in-ReallocMisaligned.is c.write-in-ReallocMisaligned.ensures.bytes
 
@@ -26,8 +32,14 @@ returns-in-PointerMisaligned c = rw c.in-PointerMisaligned.is c.print_at.ensures
 pub returns-in-PointerOutOfBounds : goal.returns-in-PointerOutOfBounds
 returns-in-PointerOutOfBounds c = rw c.in-PointerOutOfBounds.is c.print_at-in-PointerOutOfBounds.ensures
 
+pub returns-in-InvalidUtf8 : goal.returns-in-InvalidUtf8
+returns-in-InvalidUtf8 c = rw c.in-InvalidUtf8.is c.print_at-in-InvalidUtf8.ensures
+
 pub returns-in-InvalidChar : goal.returns-in-InvalidChar
 returns-in-InvalidChar c = rw c.in-InvalidChar.is c.print_at-in-InvalidChar.ensures
+
+pub returns-in-HostcallFuelExhausted : goal.returns-in-HostcallFuelExhausted
+returns-in-HostcallFuelExhausted c = rw c.in-HostcallFuelExhausted.is (pushed c.push_str-in-HostcallFuelExhausted.result (string_bytes c.args.text.now) (string_bytes c.push_str-in-HostcallFuelExhausted.new.self) (codes "HostcallFuelExhausted") c.push_str-in-HostcallFuelExhausted.ensures.bytes)
 
 pub returns-in-OutOfMemory : goal.returns-in-OutOfMemory
 returns-in-OutOfMemory c = rw c.in-OutOfMemory.is (pushed c.push_str-in-OutOfMemory.result (string_bytes c.args.text.now) (string_bytes c.push_str-in-OutOfMemory.new.self) (codes "OutOfMemory") c.push_str-in-OutOfMemory.ensures.bytes)

@@ -8,5 +8,5 @@ use Rattle.canon_transcript.proofs.values.+print.Given as goal
 abbrev pub invariant-print_record-loop-name : goal.invariant-print_record-loop-name
 invariant-print_record-loop-name l = string_bytes l.text ++ row field_text (lead l.is_first) (drop l.name-index l.fields) ≡ string_bytes l.fn.text ++ codes "{" ++ joined (map field_text l.fields)
 
-abbrev pub invariant-print_tuple-loop-part : goal.invariant-print_tuple-loop-part
-invariant-print_tuple-loop-part l = string_bytes l.text ++ row value_text (lead l.is_first) (drop l.part-index l.parts) ≡ string_bytes l.fn.text ++ codes "(" ++ joined (map value_text l.parts)
+abbrev pub invariant-print_row-loop-value : goal.invariant-print_row-loop-value
+invariant-print_row-loop-value l = string_bytes l.text ++ row value_text (lead l.is_first) (drop l.value-index l.values) ≡ string_bytes l.fn.text ++ l.before ++ joined (map value_text l.values)
