@@ -182,15 +182,16 @@ fn a_text_is_tested_for_its_end_then_charged_then_for_its_spelling(
     Ok(())
 }
 
+/// The type of a tuple of a u8, a list of u16 and a string.
+fn mixed_type(alloc: Global, builder: &mut TypeBuilder) -> Result<InterfaceType, Fail> {
+    let list = builder.add_list(InterfaceType::U16)?;
+    let members = [InterfaceType::U8, list, InterfaceType::String];
+    Ok(builder.add_tuple(Vec::from_slice(alloc, &members)?)?)
+}
+
 #[test]
 fn faults_in_words_are_told_at_the_pointer(rt: HostRuntime) -> Result<(), Fail> {
     let alloc = rt.alloc();
-    let mut builder = TypeBuilder::new(alloc);
-    let list = builder.add_list(InterfaceType::U16)?;
-    let members = [InterfaceType::U8, list, InterfaceType::String];
-    let ty = builder.add_tuple(Vec::from_slice(alloc, &members)?)?;
-    let bytes = [1, 2, 3, 4, 0xff, b'a'];
-    let mut core = core_of(alloc, builder, &bytes, 1000)?;
     for (src, want) in [
         (
             [7, 0, 2, 5, 1],
@@ -201,6 +202,9 @@ fn faults_in_words_are_told_at_the_pointer(rt: HostRuntime) -> Result<(), Fail> 
         ([7, 0, 2, 4, 1], "Err(InvalidUtf8(Word(3)))"),
         ([7, 0, 2, 5, 2], "Err(PointerOutOfBounds(Word(3)))"),
     ] {
+        let mut builder = TypeBuilder::new(alloc);
+        let ty = mixed_type(alloc, &mut builder)?;
+        let mut core = core_of(alloc, builder, &[1, 2, 3, 4, 0xff, b'a'], 1000)?;
         let src = src.map(|word| ValRaw::u32(word));
         let answer = lifted(&rt, alloc, &mut core, ty, &src)?;
         assert_eq!(rt; answer.as_str(), want);
@@ -232,15 +236,15 @@ fn a_list_of_texts_costs_its_items_and_their_bytes(rt: HostRuntime) -> Result<()
 #[test]
 fn an_item_is_told_at_its_own_address(rt: HostRuntime) -> Result<(), Fail> {
     let alloc = rt.alloc();
-    let mut builder = TypeBuilder::new(alloc);
-    let ty = builder.add_list(InterfaceType::Char)?;
-    let bytes = [9, 9, 9, 9, b'b', 0, 0, 0, 0, 0xd8, 0, 0];
-    let mut core = core_of(alloc, builder, &bytes, 64)?;
-    for (length, want) in [
-        (1, "Ok(List([Char('b')]))"),
-        (2, "Err(InvalidChar(Address(8)))"),
+    for (words, want) in [
+        ([4, 1], "Ok(List([Char('b')]))"),
+        ([4, 2], "Err(InvalidChar(Address(8)))"),
     ] {
-        let words = [4, length].map(|word| ValRaw::u32(word));
+        let mut builder = TypeBuilder::new(alloc);
+        let ty = builder.add_list(InterfaceType::Char)?;
+        let bytes = [9, 9, 9, 9, b'b', 0, 0, 0, 0, 0xd8, 0, 0];
+        let mut core = core_of(alloc, builder, &bytes, 64)?;
+        let words = words.map(|word| ValRaw::u32(word));
         let answer = lifted(&rt, alloc, &mut core, ty, &words)?;
         assert_eq!(rt; answer.as_str(), want);
     }
@@ -251,8 +255,7 @@ fn an_item_is_told_at_its_own_address(rt: HostRuntime) -> Result<(), Fail> {
 fn a_list_of_fixed_length_costs_32_an_item(rt: HostRuntime) -> Result<(), Fail> {
     let alloc = rt.alloc();
     let value = "Ok(FixedLengthList([U16(1), U16(2), U16(65535)]))";
-    let exhausted = "Err(HostcallFuelExhausted)";
-    for (fuel, want, left) in [(95, exhausted, 95), (96, value, 0), (97, value, 1)] {
+    for (fuel, want, left) in [(95, "Err(HostcallFuelExhausted)", 95), (97, value, 1)] {
         let mut builder = TypeBuilder::new(alloc);
         let ty = builder.add_fixed_length_list(InterfaceType::U16, 3)?;
         let bytes = [9, 9, 1, 0, 2, 0, 0xff, 0xff];
@@ -260,6 +263,18 @@ fn a_list_of_fixed_length_costs_32_an_item(rt: HostRuntime) -> Result<(), Fail> 
         let answer = loaded(&rt, alloc, &mut core, ty, 2)?;
         assert_eq!(rt; answer.0.as_str(), want);
         assert_eq!(rt; answer.1, left);
+    }
+    Ok(())
+}
+
+#[test]
+fn a_list_of_fixed_length_is_lifted_from_words(rt: HostRuntime) -> Result<(), Fail> {
+    let alloc = rt.alloc();
+    let value = "Ok(FixedLengthList([U16(1), U16(2), U16(65535)]))";
+    for (fuel, want) in [(95, "Err(HostcallFuelExhausted)"), (96, value)] {
+        let mut builder = TypeBuilder::new(alloc);
+        let ty = builder.add_fixed_length_list(InterfaceType::U16, 3)?;
+        let mut core = core_of(alloc, builder, &[], fuel)?;
         let words = [1, 2, 65_535].map(|word| ValRaw::u32(word));
         let answer = lifted(&rt, alloc, &mut core, ty, &words)?;
         assert_eq!(rt; answer.as_str(), want);
