@@ -1,5 +1,5 @@
 -- Steps of lowering to words, over plain variables.
-use Rattle.std.proofs.Common.{◌≡◌, ◌≤◌, ◌<◌, ◌+◌, ◌*◌, ◌++◌, ◌^◌, ◌∙◌, Err, List, Ok, Result, Vec, [], ◌∷◌, ap, ap₂, arith, inl, inr, length, refl, rules, set, subst, suc, suc-mul, sym, zero, ℕ}
+use Rattle.std.proofs.Common.{◌≡◌, ◌≤◌, ◌<◌, ◌+◌, ◌*◌, ◌++◌, ◌^◌, ◌∙◌, Err, List, Ok, Result, Vec, [], ◌∷◌, ap, ap₂, arith, inl, inr, length, refl, rules, set, subst, suc-mul, sym, ℕ}
 use Rattle.std.proofs.lemmas.List.{ext_get_or, get_or-set_other, get_or-set_same, length-set}
 use Rattle.std.specs.Prelude.{OnOk, slice_index}
 use Rattle.std.specs.declared.alloc.Global.{Global}
@@ -12,7 +12,7 @@ use Rattle.canon_memory.specs.Guest.{Seen}
 use Rattle.canon_memory.specs.declared.event.Event.{Event}
 use Rattle.canon_model.specs.Flat.{SameWords}
 use Rattle.canon_model.specs.Layout.{flat, members_flat}
-use Rattle.canon_model.specs.Shape.{ListKind, Members, Name, ProductKind, Shape, fixed, list, member, member_count, no_members, product, scalar, string}
+use Rattle.canon_model.specs.Shape.{Members, Name, ProductKind, Shape, fixed, member, member_count, no_members, product, scalar, string}
 use Rattle.canon_model.specs.Text.{Encoding}
 use Rattle.canon_model.specs.Tree.{Tree, Trees, trees_of}
 use Rattle.canon_table.specs.Table.{plain_shape}
@@ -52,22 +52,6 @@ puts_one dst i w room = record {
       ap (slice_index (w ∷ [])) first ∙ sym (ap (slice_index (set dst i w)) here ∙ get_or-set_same dst i w 0 room);
 }
 
-two_there : (dst : List ℕ) (i x y : ℕ) → i + 2 ≤ length dst → SameWords (x ∷ y ∷ []) 0 (set (set dst i x) (i + 1) y) i 2
-two_there dst i x y room zero q l u is =
-    let here : q ≡ i = omega (arith, is) in
-    sym (ap (slice_index (set (set dst i x) (i + 1) y)) here ∙ (get_or-set_other (set dst i x) (i + 1) i y 0 (omega arith) ∙ get_or-set_same dst i x 0 (omega (arith, room))))
-two_there dst i x y room (suc zero) q l u is =
-    let here : q ≡ i + 1 = omega (arith, is) in
-    sym (ap (slice_index (set (set dst i x) (i + 1) y)) here ∙ get_or-set_same (set dst i x) (i + 1) y 0 (omega (arith, room, length-set dst i x)))
-two_there dst i x y room (suc (suc p)) q l u is = absurd (omega (arith, u))
-
-pub puts_two : (dst : List ℕ) (i x y : ℕ) → i + 2 ≤ length dst → Puts i (x ∷ y ∷ []) dst (set (set dst i x) (i + 1) y)
-puts_two dst i x y room = record {
-  same_length = length-set (set dst i x) (i + 1) y ∙ length-set dst i x;
-  before = λ p l. get_or-set_other (set dst i x) (i + 1) p y 0 (omega (arith, l)) ∙ get_or-set_other dst i p x 0 (omega (arith, l));
-  there = two_there dst i x y room;
-}
-
 puts_stays : (i : ℕ) (ws dst dst2 : List ℕ) → Puts i ws dst dst2 → Stays i dst dst2
 puts_stays i ws dst dst2 h = record { same_length = h.same_length; before = h.before }
 
@@ -97,10 +81,6 @@ fixed_words n s = refl
 pub text_words : flat string ≡ 2
 unfolding flat
 text_words = refl
-
-pub list_words : (k : ListKind) (s : Shape) → flat (list k s) ≡ 2
-unfolding flat
-list_words k s = refl
 
 where_done : (r : Result Spot Fault) (P : Type 0) → P → OnOk r P
 where_done (Ok to) P h = h
