@@ -110,6 +110,7 @@ module _ {T G : Type 0} (seen : G → Seen) (moves : G → List Event → G → 
     counted = omega (arith, few);
     moved = moves_none seen moves stays a.guest done;
     same = refl;
+    quiet = λ none. tt;
   }
 
   row_more : (a b c : Parts T G) (s : Shape) (at : ℕ) (v : Val) (vs : List Val) (from mid : ℕ) (r : Result ℕ Fault) → StoresTo seen moves options a b s at v from (Ok mid)
@@ -123,6 +124,7 @@ module _ {T G : Type 0} (seen : G → Seen) (moves : G → List Event → G → 
         counted = row_count (λ how w i. FailsAt how s w i) v vs from mid r h.counted k.counted;
         moved = moves_then seen moves goes_on a.guest b.guest c.guest (ending_of r) _ _ h.storing.lowering.goes.events rest.lowering.goes.events h.moved k.moved;
         same = same_then a b c h.same k.same;
+        quiet = k.quiet;
       }
 
   -- a first one ends it
@@ -132,6 +134,7 @@ module _ {T G : Type 0} (seen : G → Seen) (moves : G → List Event → G → 
     counted = blames_first (λ how k. FailsAt how s v k) (λ how k. SomeFails (λ w i. FailsAt how s w i) (v ∷ vs) k) from e (λ how j f. inl f) h.counted;
     moved = h.moved;
     same = h.same;
+    quiet = h.quiet;
   }
 
   -- ---- a walk over a row
@@ -261,4 +264,5 @@ module _ {T G : Type 0} (seen : G → Seen) (moves : G → List Event → G → 
     counted = fixed_counts n s xs place r count h.counted;
     moved = h.moved;
     same = h.same;
+    quiet = h.quiet;
   }
