@@ -1,5 +1,5 @@
 -- Steps of putting a text or a list into a block, and of storing the pointer and the length of one.
-use Rattle.std.proofs.Common.{◌≡◌, ◌≤◌, ◌<◌, ◌+◌, ◌++◌, ◌^◌, ◌∙◌, Err, List, Ok, Result, String, [], ◌∷◌, ap, arith, length, refl, string_bytes, subst, sym, true, ℕ}
+use Rattle.std.proofs.Common.{◌≡◌, ◌≤◌, ◌<◌, ◌+◌, ◌^◌, ◌∙◌, Err, List, Ok, Result, String, [], ◌∷◌, ap, arith, length, refl, string_bytes, subst, sym, true, ℕ}
 use Rattle.std.specs.declared.alloc.Global.{Global}
 use Rattle.canon_lowering.proofs.Lists.{list_stored, string_stored, words_stop}
 use Rattle.canon_lowering.proofs.TextSteps.{text_begin, text_begin_stop, text_end, text_write}
@@ -17,7 +17,6 @@ use Rattle.canon_model.specs.Requests.{Call, Request, anew, text_requests}
 use Rattle.canon_model.specs.Shape.{ListKind, Shape, list, string}
 use Rattle.canon_model.specs.Text.{Encoding, Spells, in_utf8, utf8}
 use Rattle.canon_model.specs.Tree.{Tree, scalars_of}
-use Rattle.std.specs.Str.{encode_utf8_all}
 use Rattle.canon_value.specs.Core.{Parts, encoding_by, moment_of}
 use Rattle.canon_value.specs.Fails.{Blames, Failure, FailsAt}
 use Rattle.canon_value.specs.Lowers.{fault_ending}

@@ -1,5 +1,5 @@
 -- Values of one type stored in a row, for lists and lists of fixed length.
-use Rattle.std.proofs.Common.{◌≡◌, ◌≤◌, ◌<◌, ◌+◌, ◌*◌, ◌++◌, ◌^◌, ◌∙◌, ◌⊎◌, Err, List, Ok, Result, Vec, [], ◌∷◌, add-one, add-mul, ap, arith, drop, false, inl, inr, length, one-mul, refl, subst, sym, ℕ}
+use Rattle.std.proofs.Common.{◌≡◌, ◌≤◌, ◌<◌, ◌+◌, ◌*◌, ◌++◌, ◌^◌, ◌∙◌, ◌⊎◌, Err, List, Ok, Result, Vec, [], ◌∷◌, add-mul, ap, arith, drop, false, inl, inr, length, one-mul, refl, subst, sym, ℕ}
 use Rattle.std.specs.declared.alloc.Global.{Global}
 use Rattle.canon_abi.specs.Abi.{HasLayout}
 use Rattle.canon_abi.specs.declared.abi.CanonicalAbiInfo.{CanonicalAbiInfo}
@@ -13,10 +13,8 @@ use Rattle.canon_memory.specs.Guest.{Seen}
 use Rattle.canon_memory.specs.Realloc.{call}
 use Rattle.canon_memory.specs.declared.event.Event.{Event}
 use Rattle.canon_model.specs.Layout.{align, size}
-use Rattle.canon_model.specs.Requests.{Call}
 use Rattle.canon_model.specs.Shape.{Shape, fixed, list, of_items}
 use Rattle.canon_model.specs.Text.{Encoding}
-use Rattle.canon_model.specs.Tree.{Tree}
 use Rattle.canon_table.specs.Depth.{depth}
 use Rattle.canon_table.specs.Table.{FixedListType, IsDefined, Knows, ListType, Table, shape_of}
 use Rattle.canon_table.specs.declared.types.InterfaceType.{InterfaceType}
@@ -36,7 +34,7 @@ use Rattle.canon_value.proofs.Moves.{moves_none, moves_then}
 use Rattle.canon_value.proofs.Placing.{asked_blames, unplaced}
 use Rattle.canon_value.proofs.Row.{drop_all}
 use Rattle.canon_value.proofs.Steps.{blames_first, blames_later}
-use Rattle.canon_value.proofs.StoreSteps.{not_done, same_encoding, same_then, value_refused}
+use Rattle.canon_value.proofs.StoreSteps.{not_done, same_encoding, same_then}
 
 -- ---- what a look-up gives, where the table is that of the start
 
