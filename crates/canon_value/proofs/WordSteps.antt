@@ -1,5 +1,5 @@
 -- Steps of lowering to words, over plain variables.
-use Rattle.std.proofs.Common.{◌≡◌, ◌≤◌, ◌<◌, ◌+◌, ◌*◌, ◌++◌, ◌^◌, ◌∙◌, Err, List, Ok, Result, Vec, [], ◌∷◌, ap, ap₂, arith, inl, inr, length, refl, rules, set, subst, suc-mul, sym, ℕ}
+use Rattle.std.proofs.Common.{◌≡◌, ◌≤◌, ◌<◌, ◌+◌, ◌*◌, ◌++◌, ◌^◌, ◌∙◌, Err, List, Ok, Result, Vec, [], ◌∷◌, ap, ap₂, arith, inl, inr, length, refl, rules, set, subst, suc-mul, sym, true, ℕ}
 use Rattle.std.proofs.lemmas.List.{ext_get_or, get_or-set_other, get_or-set_same, length-set}
 use Rattle.std.specs.Prelude.{OnOk, slice_index}
 use Rattle.std.specs.declared.alloc.Global.{Global}
@@ -21,6 +21,7 @@ use Rattle.canon_value.specs.Built.{IsScalarType}
 use Rattle.canon_value.specs.Core.{Parts, encoding_by, moment_of}
 use Rattle.canon_value.specs.Fails.{Blames, FailsAt, MemberFails, SomeFails}
 use Rattle.canon_value.specs.Lowers.{ending_of, fault_ending}
+use Rattle.canon_value.specs.Quiet.{has_block, have_block}
 use Rattle.canon_value.specs.Stores.{PlacesTo}
 use Rattle.canon_value.specs.Value.{EachHas, HasTree, HaveTrees, IsFixed, IsProduct, all_places, cap, member_names, places}
 use Rattle.canon_value.specs.Words.{FieldsLowerTo, FieldsSpotCount, IsNoneOf, IsWordOf, LowersTo, MembersLowerTo, Puts, RowLowersTo, SpotCounts, Stays, inside}
@@ -32,6 +33,7 @@ use Rattle.canon_value.specs.declared.val.Val.{Val, the_lemmas}
 use Rattle.canon_value.specs.declared.val.Val.TheVariants as val
 use Rattle.canon_value.proofs.Contents.{each_count, places_fixed}
 use Rattle.canon_value.proofs.Moves.{moves_none, moves_then}
+use Rattle.canon_value.proofs.Quiets.{blocks_none, no_first, no_later}
 use Rattle.canon_value.proofs.Scalars.{scalar_places}
 use Rattle.canon_value.proofs.Steps.{blames_first, blames_later, places_product}
 use Rattle.canon_value.proofs.StoreSteps.{Named, heads, named_join, named_split, not_done, same_encoding, same_then, tails}
@@ -165,6 +167,7 @@ module _ {T G : Type 0} (seen : G → Seen) (moves : G → List Event → G → 
     counted = b;
     moved = moves_none seen moves stays a.guest (fault_ending e);
     same = refl;
+    quiet = λ none. is;
   }
 
   -- ---- a scalar
@@ -181,6 +184,7 @@ module _ {T G : Type 0} (seen : G → Seen) (moves : G → List Event → G → 
         counted = (ew, omega (arith, ep, scalar_places k v t has));
         moved = moves_none seen moves stays a.guest done;
         same = refl;
+        quiet = λ none. tt;
       })
 
   pub scalar_refused : (a : Parts T G) (dst : List ℕ) (from : Spot) (type : InterfaceType) (v : Val) → length a.memory ≤ 2 ^ 32 → from.place < 2 ^ 64 → IsScalarType type → IsNoneOf type v
@@ -201,10 +205,20 @@ module _ {T G : Type 0} (seen : G → Seen) (moves : G → List Event → G → 
     counted = (omega (arith, two), h.counted);
     moved = h.moved;
     same = h.same;
+    quiet = λ none. tt;
   }
 
-  pub placed_refused : (a c : Parts T G) (dst : List ℕ) (from : Spot) (s : Shape) (v : Val) (e : Fault) → PlacesTo seen moves options a c s v from.place (Err e) → LowersTo seen moves options a c dst dst from (Err e) s v
-  placed_refused a c dst from s v e h = record { words = []; lowered = h.lowered; puts = tt; stays = stays_none from.word dst; counted = h.counted; moved = h.moved; same = h.same }
+  pub placed_refused : (a c : Parts T G) (dst : List ℕ) (from : Spot) (s : Shape) (v : Val) (e : Fault) → has_block s ≡ true → PlacesTo seen moves options a c s v from.place (Err e) → LowersTo seen moves options a c dst dst from (Err e) s v
+  placed_refused a c dst from s v e block h = record {
+    words = [];
+    lowered = h.lowered;
+    puts = tt;
+    stays = stays_none from.word dst;
+    counted = h.counted;
+    moved = h.moved;
+    same = h.same;
+    quiet = λ none. absurd (blocks_none (has_block s) block none);
+  }
 
   -- a value's words stay where the rest of the words are written
   words_stay : (a b c : Parts T G) (dst dst2 dst3 : List ℕ) (from mid : Spot) (s : Shape) (v : Val) (h : LowersTo seen moves options a b dst dst2 from (Ok mid) s v) → Stays mid.word dst2 dst3 → SameWords h.words 0 dst3 from.word (flat s)
@@ -220,6 +234,7 @@ module _ {T G : Type 0} (seen : G → Seen) (moves : G → List Event → G → 
     counted = (refl, omega arith, omega (arith, few));
     moved = moves_none seen moves stays a.guest done;
     same = refl;
+    quiet = λ none. tt;
   }
 
   pub fields_cons : (a b c : Parts T G) (dst dst2 dst3 : List ℕ) (place : ℕ) (name named : Name) (s : Shape) (ms : Members) (names : List Name) (v : Val) (vs : List Val) (from mid : Spot) (r : Result Spot Fault) → named ≡ name
@@ -238,6 +253,7 @@ module _ {T G : Type 0} (seen : G → Seen) (moves : G → List Event → G → 
         counted = fields_count place name named s ms names v vs from mid r en h.counted.0 h.counted.1 k.counted;
         moved = moves_then seen moves goes_on a.guest b.guest c.guest (ending_of r) _ _ h.lowered.lowering.goes.events rest.lowering.goes.events h.moved k.moved;
         same = same_then a b c h.same k.same;
+        quiet = λ none. k.quiet (no_later (has_block s) (have_block ms) none);
       }
 
   -- a first one ends it
@@ -251,6 +267,7 @@ module _ {T G : Type 0} (seen : G → Seen) (moves : G → List Event → G → 
     counted = inr (blames_first (λ how k. FailsAt how s v k) (λ how k. MemberFails how (member name s ms) (v ∷ vs) k) from.place e (λ how j f. inl f) h.counted);
     moved = h.moved;
     same = h.same;
+    quiet = λ none. h.quiet (no_first (has_block s) (have_block ms) none);
   }
 
   -- its name is another
@@ -262,6 +279,7 @@ module _ {T G : Type 0} (seen : G → Seen) (moves : G → List Event → G → 
     counted = inl (refl, λ same. other (heads named name names (member_names ms) same));
     moved = moves_none seen moves stays a.guest refused;
     same = refl;
+    quiet = λ none. refl;
   }
 
   -- ---- a record or a tuple
@@ -287,6 +305,7 @@ module _ {T G : Type 0} (seen : G → Seen) (moves : G → List Event → G → 
         counted = product_counts k ms names vs v from r few p count h.counted;
         moved = h.moved;
         same = h.same;
+        quiet = h.quiet;
       }
 
   -- values whose names are right, with and without them
@@ -298,6 +317,7 @@ module _ {T G : Type 0} (seen : G → Seen) (moves : G → List Event → G → 
     counted = count_members place ms names vs from r same h.counted;
     moved = h.moved;
     same = h.same;
+    quiet = h.quiet;
   }
 
   pub with_names : (a c : Parts T G) (dst dst2 : List ℕ) (place : ℕ) (ms : Members) (names : List Name) (vs : List Val) (from : Spot) (r : Result Spot Fault) → names ≡ member_names ms
@@ -308,6 +328,7 @@ module _ {T G : Type 0} (seen : G → Seen) (moves : G → List Event → G → 
     counted = count_named place ms names vs from r same h.counted;
     moved = h.moved;
     same = h.same;
+    quiet = h.quiet;
   }
 
   -- ---- a list of fixed length
@@ -319,6 +340,7 @@ module _ {T G : Type 0} (seen : G → Seen) (moves : G → List Event → G → 
     counted = (omega arith, omega (arith, few));
     moved = moves_none seen moves stays a.guest done;
     same = refl;
+    quiet = λ none. tt;
   }
 
   pub row_cons : (a b c : Parts T G) (dst dst2 dst3 : List ℕ) (s : Shape) (v : Val) (vs : List Val) (from mid : Spot) (r : Result Spot Fault) → LowersTo seen moves options a b dst dst2 from (Ok mid) s v
@@ -334,6 +356,7 @@ module _ {T G : Type 0} (seen : G → Seen) (moves : G → List Event → G → 
         counted = row_count s v vs from mid r h.counted.0 h.counted.1 k.counted;
         moved = moves_then seen moves goes_on a.guest b.guest c.guest (ending_of r) _ _ h.lowered.lowering.goes.events rest.lowering.goes.events h.moved k.moved;
         same = same_then a b c h.same k.same;
+        quiet = k.quiet;
       }
 
   pub row_stop : (a b : Parts T G) (dst dst2 : List ℕ) (s : Shape) (v : Val) (vs : List Val) (from : Spot) (e : Fault) → LowersTo seen moves options a b dst dst2 from (Err e) s v → RowLowersTo seen moves options a b dst dst2 from (Err e) s (v ∷ vs)
@@ -343,6 +366,7 @@ module _ {T G : Type 0} (seen : G → Seen) (moves : G → List Event → G → 
     counted = blames_first (λ how k. FailsAt how s v k) (λ how k. SomeFails (λ w i. FailsAt how s w i) (v ∷ vs) k) from.place e (λ how j f. inl f) h.counted;
     moved = h.moved;
     same = h.same;
+    quiet = h.quiet;
   }
 
   pub fixed_lowers : (a c : Parts T G) (dst dst2 : List ℕ) (from : Spot) (n : ℕ) (s : Shape) (vs : List Val) (v : Val) (r : Result Spot Fault) → from.word + flat (fixed n s) ≤ length dst → IsFixed vs v → length vs ≡ n
@@ -364,4 +388,5 @@ module _ {T G : Type 0} (seen : G → Seen) (moves : G → List Event → G → 
         counted = fixed_counts n s vs v from r p count h.counted;
         moved = h.moved;
         same = h.same;
+        quiet = h.quiet;
       }
