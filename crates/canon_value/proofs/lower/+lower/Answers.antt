@@ -3,7 +3,7 @@ use Rattle.std.specs.declared.alloc.Global.{Global}
 use Rattle.canon_model.specs.Layout.{flat, members_flat}
 use Rattle.canon_model.specs.Shape.{Shape, fixed, member, member_count, of_fields, of_places, product}
 use Rattle.canon_table.specs.Depth.{depth, product_members}
-use Rattle.canon_table.specs.Table.{Knows, Table, plain_shape, shape_of, tuple_members, types_of as tuple_types_of}
+use Rattle.canon_table.specs.Table.{Knows, Table, shape_of, tuple_members, types_of as tuple_types_of}
 use Rattle.canon_table.specs.declared.types.InterfaceType.{InterfaceType}
 use Rattle.canon_table.specs.declared.types.InterfaceType.TheVariants as ty
 use Rattle.canon_value.specs.Built.{AreBuilt, IsBuilt, IsScalarType}
