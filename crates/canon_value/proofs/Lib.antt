@@ -13,6 +13,7 @@ pub mod Moves
 pub mod NearFaults
 pub mod Placing
 pub mod Pointed
+pub mod Quiets
 pub mod Row
 pub mod Scalars
 pub mod Steps

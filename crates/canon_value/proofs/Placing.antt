@@ -1,5 +1,5 @@
 -- Steps of putting a text or a list into a block, and of storing the pointer and the length of one.
-use Rattle.std.proofs.Common.{◌≡◌, ◌≤◌, ◌<◌, ◌+◌, ◌++◌, ◌^◌, ◌∙◌, Err, List, Ok, Result, String, [], ◌∷◌, ap, arith, length, refl, string_bytes, subst, sym, ℕ}
+use Rattle.std.proofs.Common.{◌≡◌, ◌≤◌, ◌<◌, ◌+◌, ◌^◌, ◌∙◌, Err, List, Ok, Result, String, [], ◌∷◌, ap, arith, length, refl, string_bytes, subst, sym, true, ℕ}
 use Rattle.std.specs.declared.alloc.Global.{Global}
 use Rattle.canon_lowering.proofs.Lists.{list_stored, string_stored, words_stop}
 use Rattle.canon_lowering.proofs.TextSteps.{text_begin, text_begin_stop, text_end, text_write}
@@ -17,11 +17,11 @@ use Rattle.canon_model.specs.Requests.{Call, Request, anew, text_requests}
 use Rattle.canon_model.specs.Shape.{ListKind, Shape, list, string}
 use Rattle.canon_model.specs.Text.{Encoding, Spells, in_utf8, utf8}
 use Rattle.canon_model.specs.Tree.{Tree, scalars_of}
-use Rattle.std.specs.Str.{encode_utf8_all}
 use Rattle.canon_value.specs.Core.{Parts, encoding_by, moment_of}
 use Rattle.canon_value.specs.Fails.{Blames, Failure, FailsAt}
 use Rattle.canon_value.specs.Lowers.{fault_ending}
 use Rattle.canon_value.specs.Moves.{Moves}
+use Rattle.canon_value.specs.Quiet.{has_block}
 use Rattle.canon_value.specs.Stores.{PlacesTo, SameBut, StoresTo}
 use Rattle.canon_value.specs.Value.{HasTree, cap}
 use Rattle.canon_value.specs.declared.blocks.Placed.{Placed}
@@ -31,6 +31,7 @@ use Rattle.canon_value.specs.declared.val.Val.{Val}
 use Rattle.canon_value.specs.declared.val.Val.TheVariants as val
 use Rattle.canon_value.proofs.Contents.{places_text, spelled, text_scalars}
 use Rattle.canon_value.proofs.Moves.{moves_none}
+use Rattle.canon_value.proofs.Quiets.{blocks_none}
 use Rattle.canon_value.proofs.StoreSteps.{not_done, written_whole}
 
 -- ---- a block that isn't given: no value is to blame
@@ -130,12 +131,13 @@ module _ {T G : Type 0} (seen : G → Seen) (moves : G → List Event → G → 
 
   -- ---- where a pointer and a length tell it
 
-  pub placed_stop : (a b : Parts T G) (s : Shape) (at : ℕ) (v : Val) (place : ℕ) (e : Fault) → PlacesTo seen moves options a b s v place (Err e) → StoresTo seen moves options a b s at v place (Err e)
-  placed_stop a b s at v place e h = record {
+  pub placed_stop : (a b : Parts T G) (s : Shape) (at : ℕ) (v : Val) (place : ℕ) (e : Fault) → has_block s ≡ true → PlacesTo seen moves options a b s v place (Err e) → StoresTo seen moves options a b s at v place (Err e)
+  placed_stop a b s at v place e block h = record {
     storing = words_stop (moment_of seen a) (moment_of seen b) (encoding_by a options) s at (HasTree s v) [] (fault_ending e) (not_done e) h.lowered;
     counted = h.counted;
     moved = h.moved;
     same = h.same;
+    quiet = λ none. absurd (blocks_none (has_block s) block none);
   }
 
   module _ (a b : Parts T G) (m : List ℕ) (at : ℕ) (v : Val) (place : ℕ) (x : Placed) (room : at + 8 ≤ length a.memory) (w : IsPair b.memory m at x.pointer x.length) where
@@ -145,6 +147,7 @@ module _ {T G : Type 0} (seen : G → Seen) (moves : G → List Event → G → 
       counted = h.counted;
       moved = h.moved;
       same = ap (λ (y : Parts T G). record y { memory = m }) h.same;
+      quiet = λ none. tt;
     })
 
     pub list_told : (k : ListKind) (s : Shape) → PlacesTo seen moves options a b (list k s) v place (Ok x) → StoresTo seen moves options a (record b { memory = written_over b.memory m }) (list k s) at v place (Ok x.next)
@@ -153,4 +156,5 @@ module _ {T G : Type 0} (seen : G → Seen) (moves : G → List Event → G → 
       counted = h.counted;
       moved = h.moved;
       same = ap (λ (y : Parts T G). record y { memory = m }) h.same;
+      quiet = λ none. tt;
     })

@@ -1,5 +1,5 @@
 -- Values of one type stored in a row, for lists and lists of fixed length.
-use Rattle.std.proofs.Common.{◌≡◌, ◌≤◌, ◌<◌, ◌+◌, ◌*◌, ◌++◌, ◌^◌, ◌∙◌, ◌⊎◌, Err, List, Ok, Result, Vec, [], ◌∷◌, add-one, add-mul, ap, arith, drop, false, inl, inr, length, one-mul, refl, subst, sym, ℕ}
+use Rattle.std.proofs.Common.{◌≡◌, ◌≤◌, ◌<◌, ◌+◌, ◌*◌, ◌++◌, ◌^◌, ◌∙◌, ◌⊎◌, Err, List, Ok, Result, Vec, [], ◌∷◌, add-mul, ap, arith, drop, false, inl, inr, length, one-mul, refl, subst, sym, ℕ}
 use Rattle.std.specs.declared.alloc.Global.{Global}
 use Rattle.canon_abi.specs.Abi.{HasLayout}
 use Rattle.canon_abi.specs.declared.abi.CanonicalAbiInfo.{CanonicalAbiInfo}
@@ -13,10 +13,8 @@ use Rattle.canon_memory.specs.Guest.{Seen}
 use Rattle.canon_memory.specs.Realloc.{call}
 use Rattle.canon_memory.specs.declared.event.Event.{Event}
 use Rattle.canon_model.specs.Layout.{align, size}
-use Rattle.canon_model.specs.Requests.{Call}
 use Rattle.canon_model.specs.Shape.{Shape, fixed, list, of_items}
 use Rattle.canon_model.specs.Text.{Encoding}
-use Rattle.canon_model.specs.Tree.{Tree}
 use Rattle.canon_table.specs.Depth.{depth}
 use Rattle.canon_table.specs.Table.{FixedListType, IsDefined, Knows, ListType, Table, shape_of}
 use Rattle.canon_table.specs.declared.types.InterfaceType.{InterfaceType}
@@ -36,7 +34,7 @@ use Rattle.canon_value.proofs.Moves.{moves_none, moves_then}
 use Rattle.canon_value.proofs.Placing.{asked_blames, unplaced}
 use Rattle.canon_value.proofs.Row.{drop_all}
 use Rattle.canon_value.proofs.Steps.{blames_first, blames_later}
-use Rattle.canon_value.proofs.StoreSteps.{not_done, same_encoding, same_then, value_refused}
+use Rattle.canon_value.proofs.StoreSteps.{not_done, same_encoding, same_then}
 
 -- ---- what a look-up gives, where the table is that of the start
 
@@ -110,6 +108,7 @@ module _ {T G : Type 0} (seen : G → Seen) (moves : G → List Event → G → 
     counted = omega (arith, few);
     moved = moves_none seen moves stays a.guest done;
     same = refl;
+    quiet = λ none. tt;
   }
 
   row_more : (a b c : Parts T G) (s : Shape) (at : ℕ) (v : Val) (vs : List Val) (from mid : ℕ) (r : Result ℕ Fault) → StoresTo seen moves options a b s at v from (Ok mid)
@@ -123,6 +122,7 @@ module _ {T G : Type 0} (seen : G → Seen) (moves : G → List Event → G → 
         counted = row_count (λ how w i. FailsAt how s w i) v vs from mid r h.counted k.counted;
         moved = moves_then seen moves goes_on a.guest b.guest c.guest (ending_of r) _ _ h.storing.lowering.goes.events rest.lowering.goes.events h.moved k.moved;
         same = same_then a b c h.same k.same;
+        quiet = k.quiet;
       }
 
   -- a first one ends it
@@ -132,6 +132,7 @@ module _ {T G : Type 0} (seen : G → Seen) (moves : G → List Event → G → 
     counted = blames_first (λ how k. FailsAt how s v k) (λ how k. SomeFails (λ w i. FailsAt how s w i) (v ∷ vs) k) from e (λ how j f. inl f) h.counted;
     moved = h.moved;
     same = h.same;
+    quiet = h.quiet;
   }
 
   -- ---- a walk over a row
@@ -261,4 +262,5 @@ module _ {T G : Type 0} (seen : G → Seen) (moves : G → List Event → G → 
     counted = fixed_counts n s xs place r count h.counted;
     moved = h.moved;
     same = h.same;
+    quiet = h.quiet;
   }

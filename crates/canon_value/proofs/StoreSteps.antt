@@ -25,6 +25,7 @@ use Rattle.canon_value.specs.Built.{IsScalarType}
 use Rattle.canon_value.specs.Core.{Parts, encoding_by, moment_of, types_of}
 use Rattle.canon_value.specs.Fails.{Blames, FailsAt, MemberFails}
 use Rattle.canon_value.specs.Lowers.{ending_of, fault_ending}
+use Rattle.canon_value.specs.Quiet.{has_block, have_block}
 use Rattle.canon_value.specs.Stores.{Counts, FieldsCount, FieldsStoreTo, MembersStoreTo, SameBut, StoresTo}
 use Rattle.canon_value.specs.Value.{HasTree, HaveTrees, IsProduct, all_places, cap, member_names, places}
 use Rattle.canon_value.specs.Words.{IsNoneOf, IsWordOf}
@@ -32,6 +33,7 @@ use Rattle.canon_value.specs.declared.fault.Fault.{Fault}
 use Rattle.canon_value.specs.declared.fault.Fault.TheVariants as fault
 use Rattle.canon_value.specs.declared.val.Val.{Val}
 use Rattle.canon_value.proofs.Moves.{moves_none, moves_then}
+use Rattle.canon_value.proofs.Quiets.{no_first, no_later}
 use Rattle.canon_value.proofs.Scalars.{scalar_places}
 use Rattle.canon_value.proofs.Steps.{blames_first, blames_later, places_product}
 use Rattle.canon_value.proofs.Unbuilt.{scalar_shape}
@@ -174,6 +176,7 @@ module _ {T G : Type 0} (seen : G → Seen) (moves : G → List Event → G → 
     counted = b;
     moved = moves_none seen moves stays a.guest (fault_ending e);
     same = refl;
+    quiet = λ none. is;
   }
 
   pub scalar_refused : (a : Parts T G) (type : InterfaceType) (at : ℕ) (v : Val) (place : ℕ) → length a.memory ≤ 2 ^ 32 → place < 2 ^ 64 → IsScalarType type → IsNoneOf type v
@@ -200,6 +203,7 @@ module _ {T G : Type 0} (seen : G → Seen) (moves : G → List Event → G → 
         counted = omega (arith, counted, scalar_places k v t has);
         moved = moves_none seen moves stays a.guest done;
         same = refl;
+        quiet = λ none. tt;
       }))
 
   -- ---- members, one after another
@@ -210,6 +214,7 @@ module _ {T G : Type 0} (seen : G → Seen) (moves : G → List Event → G → 
     counted = (refl, omega (arith, few));
     moved = moves_none seen moves stays a.guest done;
     same = refl;
+    quiet = λ none. tt;
   }
 
   pub fields_cons : (a b c : Parts T G) (place : ℕ) (name named : Name) (s : Shape) (ms : Members) (o at : ℕ) (names : List Name) (v : Val) (vs : List Val) (from mid : ℕ) (r : Result ℕ Fault) → named ≡ name
@@ -226,6 +231,7 @@ module _ {T G : Type 0} (seen : G → Seen) (moves : G → List Event → G → 
         counted = fields_count place name named s ms names v vs from mid r en h.counted k.counted;
         moved = moves_then seen moves goes_on a.guest b.guest c.guest (ending_of r) _ _ h.storing.lowering.goes.events rest.lowering.goes.events h.moved k.moved;
         same = same_then a b c h.same k.same;
+        quiet = λ none. k.quiet (no_later (has_block s) (have_block ms) none);
       }
 
   -- a first one ends it
@@ -238,6 +244,7 @@ module _ {T G : Type 0} (seen : G → Seen) (moves : G → List Event → G → 
     counted = inr (blames_first (λ how k. FailsAt how s v k) (λ how k. MemberFails how (member name s ms) (v ∷ vs) k) from e (λ how j f. inl f) h.counted);
     moved = h.moved;
     same = h.same;
+    quiet = λ none. h.quiet (no_first (has_block s) (have_block ms) none);
   }
 
   -- its name is another
@@ -248,6 +255,7 @@ module _ {T G : Type 0} (seen : G → Seen) (moves : G → List Event → G → 
     counted = inl (refl, λ same. other (heads named name names (member_names ms) same));
     moved = moves_none seen moves stays a.guest refused;
     same = refl;
+    quiet = λ none. refl;
   }
 
   -- ---- a record or a tuple
@@ -265,6 +273,7 @@ module _ {T G : Type 0} (seen : G → Seen) (moves : G → List Event → G → 
     counted = product_counts place k ms names vs v r few p count h.counted;
     moved = h.moved;
     same = h.same;
+    quiet = h.quiet;
   }
 
   -- values whose names are right, with and without them
@@ -275,6 +284,7 @@ module _ {T G : Type 0} (seen : G → Seen) (moves : G → List Event → G → 
     counted = count_members place ms names vs from r same h.counted;
     moved = h.moved;
     same = h.same;
+    quiet = h.quiet;
   }
 
   pub with_names : (a c : Parts T G) (place : ℕ) (ms : Members) (o at : ℕ) (names : List Name) (vs : List Val) (from : ℕ) (r : Result ℕ Fault) → names ≡ member_names ms
@@ -284,4 +294,5 @@ module _ {T G : Type 0} (seen : G → Seen) (moves : G → List Event → G → 
     counted = count_named place ms names vs from r same h.counted;
     moved = h.moved;
     same = h.same;
+    quiet = h.quiet;
   }

@@ -10,6 +10,7 @@ pub mod Lifts
 pub mod Loads
 pub mod Lowers
 pub mod Moves
+pub mod Quiet
 pub mod Stores
 pub mod Value
 pub mod Words

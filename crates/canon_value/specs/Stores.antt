@@ -10,6 +10,7 @@ use Rattle.canon_value.specs.Core.{Parts, encoding_by, moment_of}
 use Rattle.canon_value.specs.Fails.{Blames, Failure, FailsAt, MemberFails, SomeFails}
 use Rattle.canon_value.specs.Lowers.{ending_of}
 use Rattle.canon_value.specs.Moves.{Moves}
+use Rattle.canon_value.specs.Quiet.{Quiet, has_block, have_block}
 use Rattle.canon_value.specs.Value.{EachHas, HasTree, HaveTrees, all_places, cap, member_names, places}
 use Rattle.canon_value.specs.declared.blocks.Placed.{Placed}
 use Rattle.canon_value.specs.declared.fault.Fault.{Fault}
@@ -46,6 +47,7 @@ module _ {T G : Type 0} (seen : G → Seen) (moves : G → List Event → G → 
     pub counted : Counts (λ how k. FailsAt how s v k) from (places v) result
     pub moved : Moves seen moves before.guest after.guest (ending_of result)
     pub same : SameBut before after
+    pub quiet : Quiet (has_block s) result
 
   -- values in a row as the members of a product at `at`, where the one before them ends at offset o
   pub record MembersStoreTo (ms : Members) (o at : ℕ) (vs : List Val) (from : ℕ) (result : Result ℕ Fault) : Type 0 where
@@ -53,6 +55,7 @@ module _ {T G : Type 0} (seen : G → Seen) (moves : G → List Event → G → 
     pub counted : Counts (λ how k. MemberFails how ms vs k) from (all_places vs) result
     pub moved : Moves seen moves before.guest after.guest (ending_of result)
     pub same : SameBut before after
+    pub quiet : Quiet (have_block ms) result
 
   -- the fields of a record that has this place
   pub record FieldsStoreTo (place : ℕ) (ms : Members) (o at : ℕ) (names : List Name) (vs : List Val) (from : ℕ) (result : Result ℕ Fault) : Type 0 where
@@ -60,6 +63,7 @@ module _ {T G : Type 0} (seen : G → Seen) (moves : G → List Event → G → 
     pub counted : FieldsCount place ms names vs from result
     pub moved : Moves seen moves before.guest after.guest (ending_of result)
     pub same : SameBut before after
+    pub quiet : Quiet (have_block ms) result
 
   -- values of one type in a row
   pub record RowStoresTo (s : Shape) (at : ℕ) (vs : List Val) (from : ℕ) (result : Result ℕ Fault) : Type 0 where
@@ -67,6 +71,7 @@ module _ {T G : Type 0} (seen : G → Seen) (moves : G → List Event → G → 
     pub counted : Counts (λ how k. SomeFails (λ v i. FailsAt how s v i) vs k) from (all_places vs) result
     pub moved : Moves seen moves before.guest after.guest (ending_of result)
     pub same : SameBut before after
+    pub quiet : Quiet (has_block s) result
 
   -- a text or a list in a block of its own, which a pointer and a length tell
   pub record PlacesTo (s : Shape) (v : Val) (from : ℕ) (result : Result Placed Fault) : Type 0 where

@@ -12,6 +12,7 @@ ghost use Rattle.canon_value.specs.Core.{encoding_by, moment_of, types_of};
 ghost use Rattle.canon_value.specs.Fails.{BlamesValue};
 ghost use Rattle.canon_value.specs.Lowers.{ending_of};
 ghost use Rattle.canon_value.specs.Moves.{Moves};
+ghost use Rattle.canon_value.specs.Quiet.{Quiet, has_block};
 ghost use Rattle.canon_value.specs.Stores.{FieldsStoreTo, MembersStoreTo, PlacesTo, RowStoresTo, SameBut, StoresTo};
 ghost use Rattle.canon_value.specs.declared.val.Val.TheVariants as val;
 ghost use Rattle.canon_value.specs.Value.{HasTree, cap, names_in, values_in};
@@ -27,7 +28,8 @@ use canon_table::{
 impl Val {
     /// Stores the value at an address of the guest's memory (CanonicalABI.md, "store"). Answers `TypeMismatch`,
     /// `LengthMismatch` or `FieldName` where the value isn't of the type, `StringTooLong` or `SizeOverflow` where a block would
-    /// be too large, and the faults of `LowerContext::realloc`. At an error its place and its blocks may have changed.
+    /// be too large, and the faults of `LowerContext::realloc`. A value of a type that reaches no text and no list asks the
+    /// guest for nothing. At an error its place and its blocks may have changed.
     pub fn store<T, G: Guest>(
         &self,
         cx: &mut LowerContext<'_, T, G>,
@@ -41,6 +43,7 @@ impl Val {
         ensures stored { Storing (moment_of G.seen cx.old.core.now) (moment_of G.seen cx.new.core.now) (encoding_by cx.old.core.now cx.old.options)
             (shape_of (types_of cx.old.core.now) ty) offset (HasTree (shape_of (types_of cx.old.core.now) ty) self.now) (ending_of result) }
         ensures cause { IfErr result (BlamesValue (shape_of (types_of cx.old.core.now) ty) self.now) }
+        ensures quiet { Quiet (has_block (shape_of (types_of cx.old.core.now) ty)) result }
         ensures moves { Moves G.seen G.moves cx.old.core.now.guest cx.new.core.now.guest (ending_of result) }
         ensures same_core { SameBut cx.old.core.now cx.new.core.now }
         ensures same_reference { cx.new.core.ghost_name ≡ cx.old.core.ghost_name }

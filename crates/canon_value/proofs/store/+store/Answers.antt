@@ -616,7 +616,7 @@ store_list-returns-in-Err-clause-stores g t0 c =
     let e = c.in-Err.fault in
     let there : PlacesTo g.G.Guest.seen g.G.Guest.moves a.cx.now.options core placed (list of_items s) a.value.now a.place (Err e) = subst (λ (v : Val). PlacesTo g.G.Guest.seen g.G.Guest.moves a.cx.now.options core placed (list of_items s) v a.place (Err e)) (sym c.in-List.is) c.in-Err.ensures.places in
     subst (λ (x : Shape). StoresTo g.G.Guest.seen g.G.Guest.moves a.cx.now.options core placed x a.at a.value.now a.place (Err e)) (sym shape)
-    (placed_stop g.G.Guest.seen g.G.Guest.moves g.met.G.Guest.stays a.cx.now.options core placed (list of_items s) a.at a.value.now a.place e there)
+    (placed_stop g.G.Guest.seen g.G.Guest.moves g.met.G.Guest.stays a.cx.now.options core placed (list of_items s) a.at a.value.now a.place e refl there)
 
 pub store_row-loop-k-init : goal.store_row-loop-k-init
 store_row-loop-k-init g t0 c =

@@ -36,4 +36,4 @@ returns-in-Err-clause-stores g c =
     let placed = c.place_text.new.cx.core.now in
     let there : PlacesTo g.G.Guest.seen g.G.Guest.moves a.cx.now.options core placed string a.value.now a.place (Err c.in-Err.fault) =
     subst (λ (v : Val). PlacesTo g.G.Guest.seen g.G.Guest.moves a.cx.now.options core placed string v a.place (Err c.in-Err.fault)) (sym c.in-String.is) c.in-Err.ensures.places in
-    placed_stop g.G.Guest.seen g.G.Guest.moves g.met.G.Guest.stays a.cx.now.options core placed string a.at a.value.now a.place c.in-Err.fault there
+    placed_stop g.G.Guest.seen g.G.Guest.moves g.met.G.Guest.stays a.cx.now.options core placed string a.at a.value.now a.place c.in-Err.fault refl there
