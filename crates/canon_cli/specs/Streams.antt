@@ -1,5 +1,5 @@
 -- What reads and writes do to the bytes that are known, and why they fail.
-use Rattle.std.specs.Prelude.{ℕ, ◌+◌, ◌-◌, ◌^◌, ◌≤◌, ◌≡◌, min, List, length, take, Option, Result, OnErr}
+use Rattle.std.specs.Prelude.{ℕ, ◌+◌, ◌-◌, ◌^◌, ◌≤◌, min, List, length, take, Option, Result, OnErr}
 use Rattle.std.specs.Io.KnownBytes.{Appends, Consumes}
 use Rattle.canon_memory.specs.Counts.{Rose}
 
