@@ -95,6 +95,22 @@ fn u16s(alloc: Global, numbers: &[u16]) -> Result<Vec<Val>, Fail> {
     Ok(values)
 }
 
+fn list_of_u16(alloc: Global, numbers: &[u16]) -> Result<Val, Fail> {
+    Ok(Val::List(u16s(alloc, numbers)?))
+}
+
+fn fixed_of_u16(alloc: Global, numbers: &[u16]) -> Result<Val, Fail> {
+    Ok(Val::FixedLengthList(u16s(alloc, numbers)?))
+}
+
+fn tuple_of(alloc: Global, first: Val, second: Val) -> Result<Val, Fail> {
+    Ok(Val::Tuple(vec![in alloc; first, second]?))
+}
+
+fn list_of(alloc: Global, first: Val, second: Val) -> Result<Val, Fail> {
+    Ok(Val::List(vec![in alloc; first, second]?))
+}
+
 #[test]
 fn an_empty_list_is_asked_for(rt: HostRuntime) -> Result<(), Fail> {
     let alloc = rt.alloc();
@@ -133,7 +149,7 @@ fn texts_of_a_list_are_stored_in_order(rt: HostRuntime) -> Result<(), Fail> {
     let mut builder = TypeBuilder::new(alloc);
     let ty = builder.add_list(InterfaceType::String)?;
     let mut core = core_of(alloc, builder)?;
-    let value = Val::List(vec![in alloc; text(alloc, "a")?, text(alloc, "")?]?);
+    let value = list_of(alloc, text(alloc, "a")?, text(alloc, "")?)?;
     let mut dst = [ValRaw::u64(u64::MAX); 2];
     assert_eq!(rt; lower(&rt, &mut core, &value, ty, &mut dst), Ok(()));
     assert_eq!(rt; dst, [1024, 2].map(|word| ValRaw::u64(word)));
@@ -153,9 +169,9 @@ fn lists_inside_a_list_stand_at_their_offsets(rt: HostRuntime) -> Result<(), Fai
     let pair = builder.add_tuple(vec![in alloc; InterfaceType::U8, inner]?)?;
     let ty = builder.add_list(pair)?;
     let mut core = core_of(alloc, builder)?;
-    let first = vec![in alloc; Val::U8(1), Val::List(u16s(alloc, &[2, 0x304])?)]?;
-    let second = vec![in alloc; Val::U8(5), Val::List(Vec::new(alloc))]?;
-    let value = Val::List(vec![in alloc; Val::Tuple(first), Val::Tuple(second)]?);
+    let first = tuple_of(alloc, Val::U8(1), list_of_u16(alloc, &[2, 0x304])?)?;
+    let second = tuple_of(alloc, Val::U8(5), list_of_u16(alloc, &[])?)?;
+    let value = list_of(alloc, first, second)?;
     let mut dst = [ValRaw::u32(0); 2];
     assert_eq!(rt; lower(&rt, &mut core, &value, ty, &mut dst), Ok(()));
     assert_eq!(rt; dst, [1024, 2].map(|word| ValRaw::u64(word)));
@@ -173,14 +189,14 @@ fn a_list_of_fixed_length_has_no_block(rt: HostRuntime) -> Result<(), Fail> {
     let mut builder = TypeBuilder::new(alloc);
     let ty = builder.add_fixed_length_list(InterfaceType::U16, 3)?;
     let mut core = core_of(alloc, builder)?;
-    let value = Val::FixedLengthList(u16s(alloc, &[1, 2, 65_535])?);
+    let value = fixed_of_u16(alloc, &[1, 2, 65_535])?;
     let mut dst = [ValRaw::u64(u64::MAX); 3];
     assert_eq!(rt; lower(&rt, &mut core, &value, ty, &mut dst), Ok(()));
     assert_eq!(rt; dst, [1, 2, 65_535].map(|word| ValRaw::u64(word)));
-    let short = Val::FixedLengthList(u16s(alloc, &[1, 2])?);
+    let short = fixed_of_u16(alloc, &[1, 2])?;
     let answer = lower(&rt, &mut core, &short, ty, &mut dst);
     assert_eq!(rt; answer, Err(Fault::LengthMismatch(0)));
-    let other = Val::List(u16s(alloc, &[1, 2, 3])?);
+    let other = list_of_u16(alloc, &[1, 2, 3])?;
     let answer = lower(&rt, &mut core, &other, ty, &mut dst);
     assert_eq!(rt; answer, Err(Fault::TypeMismatch(0)));
     assert_asked(&rt, &mut core, &[]);
@@ -194,9 +210,9 @@ fn lists_of_fixed_length_are_stored_in_a_row(rt: HostRuntime) -> Result<(), Fail
     let item = builder.add_fixed_length_list(InterfaceType::U16, 3)?;
     let ty = builder.add_list(item)?;
     let mut core = core_of(alloc, builder)?;
-    let first = Val::FixedLengthList(u16s(alloc, &[1, 2, 65_535])?);
-    let second = Val::FixedLengthList(u16s(alloc, &[4, 0x506, 7])?);
-    let value = Val::List(vec![in alloc; first, second]?);
+    let first = fixed_of_u16(alloc, &[1, 2, 65_535])?;
+    let second = fixed_of_u16(alloc, &[4, 0x506, 7])?;
+    let value = list_of(alloc, first, second)?;
     let mut dst = [ValRaw::u64(u64::MAX); 2];
     assert_eq!(rt; lower(&rt, &mut core, &value, ty, &mut dst), Ok(()));
     assert_eq!(rt; dst, [1024, 2].map(|word| ValRaw::u64(word)));
@@ -214,9 +230,9 @@ fn an_item_fails_at_its_place(rt: HostRuntime) -> Result<(), Fail> {
     let ty = builder.add_list(inner)?;
     let mut core = core_of(alloc, builder)?;
     let mut dst = [ValRaw::u32(0); 2];
-    let first = Val::List(u16s(alloc, &[1, 2])?);
-    let second = Val::List(vec![in alloc; Val::U16(3), Val::U8(4)]?);
-    let value = Val::List(vec![in alloc; first, second]?);
+    let first = list_of_u16(alloc, &[1, 2])?;
+    let second = list_of(alloc, Val::U16(3), Val::U8(4))?;
+    let value = list_of(alloc, first, second)?;
     // Places: 0 is the list, 1 to 3 the first item with its two, 4 the second, 5 and 6 its two.
     let answer = lower(&rt, &mut core, &value, ty, &mut dst);
     assert_eq!(rt; answer, Err(Fault::TypeMismatch(6)));
@@ -257,7 +273,7 @@ fn a_list_too_large_for_memory_is_refused_before_its_items(rt: HostRuntime) -> R
     let ty = builder.add_list(item)?;
     let mut core = core_of(alloc, builder)?;
     // The items would have 2^32 bytes. They are of another type, and that isn't reached.
-    let value = Val::List(vec![in alloc; Val::Bool(true), Val::Bool(true)]?);
+    let value = list_of(alloc, Val::Bool(true), Val::Bool(true))?;
     let mut dst = [ValRaw::u32(0); 2];
     let answer = lower(&rt, &mut core, &value, ty, &mut dst);
     assert_eq!(rt; answer, Err(Fault::SizeOverflow(2)));
