@@ -183,11 +183,16 @@ fn lists_inside_a_list_stand_at_their_offsets(rt: HostRuntime) -> Result<(), Fai
     Ok(())
 }
 
+/// The type of a list of three u16.
+fn three_type(builder: &mut TypeBuilder) -> Result<InterfaceType, Fail> {
+    Ok(builder.add_fixed_length_list(InterfaceType::U16, 3)?)
+}
+
 #[test]
 fn a_list_of_fixed_length_has_no_block(rt: HostRuntime) -> Result<(), Fail> {
     let alloc = rt.alloc();
     let mut builder = TypeBuilder::new(alloc);
-    let ty = builder.add_fixed_length_list(InterfaceType::U16, 3)?;
+    let ty = three_type(&mut builder)?;
     let mut core = core_of(alloc, builder)?;
     let value = fixed_of_u16(alloc, &[1, 2, 65_535])?;
     let mut dst = [ValRaw::u64(u64::MAX); 3];
@@ -222,12 +227,17 @@ fn lists_of_fixed_length_are_stored_in_a_row(rt: HostRuntime) -> Result<(), Fail
     Ok(())
 }
 
+/// The type of a list of lists of u16.
+fn nested_type(builder: &mut TypeBuilder) -> Result<InterfaceType, Fail> {
+    let inner = builder.add_list(InterfaceType::U16)?;
+    Ok(builder.add_list(inner)?)
+}
+
 #[test]
 fn an_item_fails_at_its_place(rt: HostRuntime) -> Result<(), Fail> {
     let alloc = rt.alloc();
     let mut builder = TypeBuilder::new(alloc);
-    let inner = builder.add_list(InterfaceType::U16)?;
-    let ty = builder.add_list(inner)?;
+    let ty = nested_type(&mut builder)?;
     let mut core = core_of(alloc, builder)?;
     let mut dst = [ValRaw::u32(0); 2];
     let first = list_of_u16(alloc, &[1, 2])?;
