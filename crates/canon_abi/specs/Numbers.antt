@@ -17,6 +17,11 @@ pub record Numbers : Type 0 where
 abbrev pub flat_within : ℕ → Option ℕ
 flat_within n = if nat_le n 16 then Some n else None
 
+-- a count that is told, where it is at most so many
+abbrev pub told_within : Option ℕ → ℕ → Option ℕ
+told_within None most = None
+told_within (Some n) most = if nat_le n most then Some n else None
+
 pub record AreTold (abi : CanonicalAbiInfo) (l : Numbers) : Type 0 where
   pub size : abi.size32 ≡ l.size
   pub align : abi.align32 ≡ l.align

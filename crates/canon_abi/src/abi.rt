@@ -36,7 +36,7 @@ impl CanonicalAbiInfo {
     ghost use Rattle.std.specs.Prelude.{◌≡◌, ◌+◌, ◌*◌, ◌^◌, Some, ◌<◌, ◌≤◌, List, length, map, max, unwrap_or, SomeIff};
     ghost use Rattle.canon_model.specs.Layout.{align_to, flag_words, flags_align, flags_size, flat, tag_size};
     ghost use Rattle.canon_model.specs.Shape.{Cases, Members, Name, ProductKind, Shape, VariantKind, bare_cases, fixed, flags, product, variant};
-    ghost use Rattle.canon_abi.specs.Numbers.{start_after, end_after, of_product, of_row, of_variant, TellsNumbers, TellsCases, numbers_of, case_numbers_of, flat_within};
+    ghost use Rattle.canon_abi.specs.Numbers.{start_after, end_after, of_product, of_row, of_variant, TellsNumbers, TellsCases, numbers_of, case_numbers_of, flat_within, told_within};
     ghost use Rattle.canon_abi.specs.Sizes.{tag_bytes};
     ghost use Rattle.canon_abi.specs.Abi.{HasInfo, HasLayout, TellsLayout, TellsVariant, AreOfMembers, AreOfCases};
 
@@ -100,7 +100,8 @@ impl CanonicalAbiInfo {
 
     /// The numbers of a record of such fields, or none where its size passes 2^32 - 1.
     pub fn record(fields: &[CanonicalAbiInfo]) -> Option<CanonicalAbiInfo>
-        ensures { (k : ProductKind) (ms : Members) → AreOfMembers fields.now ms → TellsLayout result (product k ms) }
+        ensures numbers { TellsNumbers result (of_product (map numbers_of fields.now)) }
+        ensures layout { (k : ProductKind) (ms : Members) → AreOfMembers fields.now ms → TellsLayout result (product k ms) }
     {
         Self::product_numbers(fields)
     }
@@ -109,21 +110,24 @@ impl CanonicalAbiInfo {
     pub fn variant(cases: &[Option<CanonicalAbiInfo>]) -> Option<(CanonicalAbiInfo, VariantInfo)>
         requires some { 1 ≤ length cases.now }
         requires few { length cases.now ≤ 2 ^ 32 }
-        ensures { (k : VariantKind) (cs : Cases) → AreOfCases cases.now cs → TellsVariant result k cs }
+        ensures numbers { TellsCases result (map case_numbers_of cases.now) }
+        ensures layout { (k : VariantKind) (cs : Cases) → AreOfCases cases.now cs → TellsVariant result k cs }
     {
         Self::variant_numbers(cases)
     }
 
     /// The numbers of a list of n elements, or none where its size passes 2^32 - 1.
     pub fn fixed_length_list(element: &CanonicalAbiInfo, n: u64) -> Option<CanonicalAbiInfo>
-        ensures { (s : Shape) → HasLayout element.now s → TellsLayout result (fixed n s) }
+        ensures numbers { TellsNumbers result (of_row (numbers_of element.now) n) }
+        ensures layout { (s : Shape) → HasLayout element.now s → TellsLayout result (fixed n s) }
     {
         Self::row_numbers(element, n)
     }
 
     /// The number of words, where it is at most `max` and 16.
     pub fn flat_count(&self, max: u64) -> Option<u64>
-        ensures { (s : Shape) → HasLayout self.now s → SomeIff result ((flat s ≤ max) × (flat s ≤ 16)) (flat s) }
+        ensures numbers { result ≡ told_within self.now.flat max }
+        ensures words { (s : Shape) → HasLayout self.now s → SomeIff result ((flat s ≤ max) × (flat s ≤ 16)) (flat s) }
     {
         let flat = u64::from(self.flat?);
         if flat <= max { Some(flat) } else { None }

@@ -42,10 +42,10 @@ task_of command.Text tree = option_map conversions (conversions_of tree)
 task_of command.Layout tree = option_map listing (layout_of tree)
 
 -- what a task leaves in the transcript, and its text: a script its session, conversions their lines, and so types
-abbrev pub Done : Task → List Record → List ℕ → Type 0
-Done (script play) records text = Session play records × (text ≡ transcript_text records)
-Done (conversions jobs) records text = (records ≡ []) × Lines jobs text
-Done (listing l) records text = (records ≡ []) × (text ≡ layout_text l)
+abbrev pub TaskLeaves : Task → List Record → List ℕ → Type 0
+TaskLeaves (script play) records text = Session play records × (text ≡ transcript_text records)
+TaskLeaves (conversions jobs) records text = (records ≡ []) × Lines jobs text
+TaskLeaves (listing l) records text = (records ≡ []) × (text ≡ layout_text l)
 
 -- the most bytes of an input
 abbrev pub max_input : ℕ
@@ -78,7 +78,7 @@ pub record ReadsTask (asked : Command) (left left' : Option (List ℕ)) (task : 
 pub record Performed (asked : Command) (left left' : Option (List ℕ)) (records : List Record) (text : List ℕ) : Type 0 where
   pub task : Task
   pub reads : ReadsTask asked left left' task
-  pub done : Done task records text
+  pub done : TaskLeaves task records text
 
 -- what was read is no JSON
 pub record ReadsNoJson (left left' : Option (List ℕ)) : Type 0 where

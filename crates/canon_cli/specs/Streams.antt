@@ -1,16 +1,16 @@
 -- What reads and writes do to the bytes that are known, and why they fail.
-use Rattle.std.specs.Prelude.{ℕ, ◌+◌, ◌-◌, ◌^◌, ◌≤◌, min, List, length, take, Option, Result, OnErr}
+use Rattle.std.specs.Prelude.{ℕ, ◌+◌, ◌-◌, ◌^◌, ◌≤◌, min, List, length, take, Option, Result, Ok, Err, ◌≡◌}
 use Rattle.std.specs.Io.KnownBytes.{Appends, Consumes}
 use Rattle.canon_memory.specs.Counts.{Rose}
 
--- the count of faults never falls, and a failure is told only where it rose
-pub record HasCause {T E : Type 0} (before now : ℕ) (result : Result T E) : Type 0 where
-  pub later : before ≤ now
-  pub failed : OnErr result (Rose before now)
+-- The count of faults stands still where nothing failed, and rises where something did.
+abbrev pub CountsFaults : {T E : Type 0} → ℕ → ℕ → Result T E → Type 0
+CountsFaults before now (Ok x) = now ≡ before
+CountsFaults before now (Err e) = (before ≤ now) × Rose before now
 
--- a front of the piece was taken
-abbrev pub AppendsFront : Option (List ℕ) → Option (List ℕ) → List ℕ → Type 0
-AppendsFront old new piece = (n : ℕ) × (n ≤ length piece) × Appends old new (take n piece)
+-- a prefix of the piece was taken
+abbrev pub AppendsPrefix : Option (List ℕ) → Option (List ℕ) → List ℕ → Type 0
+AppendsPrefix old new piece = (n : ℕ) × (n ≤ length piece) × Appends old new (take n piece)
 
 -- at most so many bytes were taken
 abbrev pub TakesAtMost : ℕ → Option (List ℕ) → Option (List ℕ) → Type 0

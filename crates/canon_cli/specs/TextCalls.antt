@@ -12,19 +12,19 @@ is_even n = n % 2 == 0
 
 -- Whether a call's condition holds for so many bytes of a source and of a destination. A source or a destination in
 -- UTF-16 has an even number of them, and half as many units.
-abbrev pub fits : TextCall → ℕ → ℕ → ℕ → Bool
-fits call.Utf8ToUtf8 src room so_far = src == room
-fits call.Utf16ToUtf16 src room so_far = is_even src && (src == room)
-fits call.Latin1ToLatin1 src room so_far = src == room
-fits call.Latin1ToUtf16 src room so_far = is_even room && (src == room / 2)
-fits call.Utf8ToUtf16 src room so_far = is_even room && nat_le src (room / 2)
-fits call.Utf16ToUtf8 src room so_far = is_even src
-fits call.Latin1ToUtf8 src room so_far = true
-fits call.Utf16ToCompactProbablyUtf16 src room so_far = is_even src && (src == room)
-fits call.Utf8ToLatin1 src room so_far = nat_le src room
-fits call.Utf16ToLatin1 src room so_far = is_even src && nat_le (src / 2) room
-fits call.Utf8ToCompactUtf16 src room so_far = is_even room && nat_le (so_far + src) (room / 2)
-fits call.Utf16ToCompactUtf16 src room so_far = is_even src && (is_even room && nat_le (so_far + src / 2) (room / 2))
+abbrev pub is_allowed : TextCall → ℕ → ℕ → ℕ → Bool
+is_allowed call.Utf8ToUtf8 src room so_far = src == room
+is_allowed call.Utf16ToUtf16 src room so_far = is_even src && (src == room)
+is_allowed call.Latin1ToLatin1 src room so_far = src == room
+is_allowed call.Latin1ToUtf16 src room so_far = is_even room && (src == room / 2)
+is_allowed call.Utf8ToUtf16 src room so_far = is_even room && nat_le src (room / 2)
+is_allowed call.Utf16ToUtf8 src room so_far = is_even src
+is_allowed call.Latin1ToUtf8 src room so_far = true
+is_allowed call.Utf16ToCompactProbablyUtf16 src room so_far = is_even src && (src == room)
+is_allowed call.Utf8ToLatin1 src room so_far = nat_le src room
+is_allowed call.Utf16ToLatin1 src room so_far = is_even src && nat_le (src / 2) room
+is_allowed call.Utf8ToCompactUtf16 src room so_far = is_even room && nat_le (so_far + src) (room / 2)
+is_allowed call.Utf16ToCompactUtf16 src room so_far = is_even src && (is_even room && nat_le (so_far + src / 2) (room / 2))
 
 -- the name of a call
 abbrev pub name_of : TextCall → List ℕ

@@ -78,7 +78,7 @@ fn play(
     dst: Vec<u8>,
 ) -> Result<Vec<u8>, AllocError>
     requires { dst.items ≡ destination (job_of c.now) }
-    ensures { IfOk result (λ new. (said : List ℕ) × spec.Says c.now.call c.now.src.items dst.items c.now.first c.now.so_far said new.items
+    ensures { IfOk result (λ new. (said : List ℕ) × spec.CallSays c.now.call c.now.src.items dst.items c.now.first c.now.so_far said new.items
         × (string_bytes text.new ≡ string_bytes text.old ++ said)) }
 {
     match c.call {
@@ -99,7 +99,7 @@ fn play(
 
 fn play_utf8_to_utf8(text: &mut String, src: &[u8], dst: Vec<u8>) -> Result<Vec<u8>, AllocError>
     requires room { length src.now ≡ vec_len dst }
-    ensures { IfOk result (λ new. (said : List ℕ) × spec.Says TextCall.Utf8ToUtf8 src.now dst.items false 0 said new.items × (string_bytes text.new ≡ string_bytes text.old ++ said)) }
+    ensures { IfOk result (λ new. (said : List ℕ) × spec.CallSays TextCall.Utf8ToUtf8 src.now dst.items false 0 said new.items × (string_bytes text.new ≡ string_bytes text.old ++ said)) }
 {
     let mut dst = dst;
     let answer = utf8_to_utf8(src, &mut dst);
@@ -115,7 +115,7 @@ fn play_utf16_to_utf16(
 ) -> Result<Vec<u8>, AllocError>
     requires even { length src.now % 2 ≡ 0 }
     requires room { length src.now ≡ length dst.now }
-    ensures { IfOk result (λ new. (said : List ℕ) × spec.Says TextCall.Utf16ToUtf16 src.now dst.now false 0 said new.items × (string_bytes text.new ≡ string_bytes text.old ++ said)) }
+    ensures { IfOk result (λ new. (said : List ℕ) × spec.CallSays TextCall.Utf16ToUtf16 src.now dst.now false 0 said new.items × (string_bytes text.new ≡ string_bytes text.old ++ said)) }
 {
     let src = units_of(alloc, src)?;
     let mut units = units_of(alloc, dst)?;
@@ -126,7 +126,7 @@ fn play_utf16_to_utf16(
 
 fn play_latin1_to_latin1(text: &mut String, src: &[u8], dst: Vec<u8>) -> Result<Vec<u8>, AllocError>
     requires room { length src.now ≡ vec_len dst }
-    ensures { IfOk result (λ new. (said : List ℕ) × spec.Says TextCall.Latin1ToLatin1 src.now dst.items false 0 said new.items × (string_bytes text.new ≡ string_bytes text.old ++ said)) }
+    ensures { IfOk result (λ new. (said : List ℕ) × spec.CallSays TextCall.Latin1ToLatin1 src.now dst.items false 0 said new.items × (string_bytes text.new ≡ string_bytes text.old ++ said)) }
 {
     let mut dst = dst;
     latin1_to_latin1(src, &mut dst);
@@ -141,7 +141,7 @@ fn play_latin1_to_utf16(
     dst: &[u8],
 ) -> Result<Vec<u8>, AllocError>
     requires room { length src.now ≡ length dst.now / 2 }
-    ensures { IfOk result (λ new. (said : List ℕ) × spec.Says TextCall.Latin1ToUtf16 src.now dst.now false 0 said new.items × (string_bytes text.new ≡ string_bytes text.old ++ said)) }
+    ensures { IfOk result (λ new. (said : List ℕ) × spec.CallSays TextCall.Latin1ToUtf16 src.now dst.now false 0 said new.items × (string_bytes text.new ≡ string_bytes text.old ++ said)) }
 {
     let mut units = units_of(alloc, dst)?;
     latin1_to_utf16(src, &mut units);
@@ -156,7 +156,7 @@ fn play_utf8_to_utf16(
     dst: &[u8],
 ) -> Result<Vec<u8>, AllocError>
     requires room { length src.now ≤ length dst.now / 2 }
-    ensures { IfOk result (λ new. (said : List ℕ) × spec.Says TextCall.Utf8ToUtf16 src.now dst.now false 0 said new.items × (string_bytes text.new ≡ string_bytes text.old ++ said)) }
+    ensures { IfOk result (λ new. (said : List ℕ) × spec.CallSays TextCall.Utf8ToUtf16 src.now dst.now false 0 said new.items × (string_bytes text.new ≡ string_bytes text.old ++ said)) }
 {
     let mut units = units_of(alloc, dst)?;
     let answer = utf8_to_utf16(src, &mut units);
@@ -171,7 +171,7 @@ fn play_utf16_to_utf8(
     dst: Vec<u8>,
     first: bool,
 ) -> Result<Vec<u8>, AllocError>
-    ensures { IfOk result (λ new. (said : List ℕ) × spec.Says TextCall.Utf16ToUtf8 src.now dst.items first 0 said new.items × (string_bytes text.new ≡ string_bytes text.old ++ said)) }
+    ensures { IfOk result (λ new. (said : List ℕ) × spec.CallSays TextCall.Utf16ToUtf8 src.now dst.items first 0 said new.items × (string_bytes text.new ≡ string_bytes text.old ++ said)) }
 {
     let src = units_of(alloc, src)?;
     let mut dst = dst;
@@ -186,7 +186,7 @@ fn play_latin1_to_utf8(
     dst: Vec<u8>,
     first: bool,
 ) -> Result<Vec<u8>, AllocError>
-    ensures { IfOk result (λ new. (said : List ℕ) × spec.Says TextCall.Latin1ToUtf8 src.now dst.items first 0 said new.items × (string_bytes text.new ≡ string_bytes text.old ++ said)) }
+    ensures { IfOk result (λ new. (said : List ℕ) × spec.CallSays TextCall.Latin1ToUtf8 src.now dst.items first 0 said new.items × (string_bytes text.new ≡ string_bytes text.old ++ said)) }
 {
     let mut dst = dst;
     let pair = latin1_to_utf8(src, &mut dst, first);
@@ -202,7 +202,7 @@ fn play_compact_probably(
 ) -> Result<Vec<u8>, AllocError>
     requires room { vec_len dst ≡ 2 * (length src.now / 2) }
     requires short { length src.now / 2 < 2 ^ 31 }
-    ensures { IfOk result (λ new. (said : List ℕ) × spec.Says TextCall.Utf16ToCompactProbablyUtf16 src.now dst.items false 0 said new.items × (string_bytes text.new ≡ string_bytes text.old ++ said)) }
+    ensures { IfOk result (λ new. (said : List ℕ) × spec.CallSays TextCall.Utf16ToCompactProbablyUtf16 src.now dst.items false 0 said new.items × (string_bytes text.new ≡ string_bytes text.old ++ said)) }
 {
     let src = units_of(alloc, src)?;
     let mut dst = dst;
@@ -213,7 +213,7 @@ fn play_compact_probably(
 
 fn play_utf8_to_latin1(text: &mut String, src: &[u8], dst: Vec<u8>) -> Result<Vec<u8>, AllocError>
     requires room { length src.now ≤ vec_len dst }
-    ensures { IfOk result (λ new. (said : List ℕ) × spec.Says TextCall.Utf8ToLatin1 src.now dst.items false 0 said new.items × (string_bytes text.new ≡ string_bytes text.old ++ said)) }
+    ensures { IfOk result (λ new. (said : List ℕ) × spec.CallSays TextCall.Utf8ToLatin1 src.now dst.items false 0 said new.items × (string_bytes text.new ≡ string_bytes text.old ++ said)) }
 {
     let mut dst = dst;
     let pair = utf8_to_latin1(src, &mut dst);
@@ -228,7 +228,7 @@ fn play_utf16_to_latin1(
     dst: Vec<u8>,
 ) -> Result<Vec<u8>, AllocError>
     requires room { length src.now / 2 ≤ vec_len dst }
-    ensures { IfOk result (λ new. (said : List ℕ) × spec.Says TextCall.Utf16ToLatin1 src.now dst.items false 0 said new.items × (string_bytes text.new ≡ string_bytes text.old ++ said)) }
+    ensures { IfOk result (λ new. (said : List ℕ) × spec.CallSays TextCall.Utf16ToLatin1 src.now dst.items false 0 said new.items × (string_bytes text.new ≡ string_bytes text.old ++ said)) }
 {
     let src = units_of(alloc, src)?;
     let mut dst = dst;
@@ -245,7 +245,7 @@ fn play_utf8_to_compact(
 ) -> Result<Vec<u8>, AllocError>
     requires room { 2 * (so_far + length src.now) ≤ vec_len dst }
     requires even { vec_len dst % 2 ≡ 0 }
-    ensures { IfOk result (λ new. (said : List ℕ) × spec.Says TextCall.Utf8ToCompactUtf16 src.now dst.items false so_far said new.items × (string_bytes text.new ≡ string_bytes text.old ++ said)) }
+    ensures { IfOk result (λ new. (said : List ℕ) × spec.CallSays TextCall.Utf8ToCompactUtf16 src.now dst.items false so_far said new.items × (string_bytes text.new ≡ string_bytes text.old ++ said)) }
 {
     let mut dst = dst;
     let answer = utf8_to_compact_utf16(src, &mut dst, so_far);
@@ -262,7 +262,7 @@ fn play_utf16_to_compact(
 ) -> Result<Vec<u8>, AllocError>
     requires room { 2 * (so_far + length src.now / 2) ≤ vec_len dst }
     requires even { vec_len dst % 2 ≡ 0 }
-    ensures { IfOk result (λ new. (said : List ℕ) × spec.Says TextCall.Utf16ToCompactUtf16 src.now dst.items false so_far said new.items × (string_bytes text.new ≡ string_bytes text.old ++ said)) }
+    ensures { IfOk result (λ new. (said : List ℕ) × spec.CallSays TextCall.Utf16ToCompactUtf16 src.now dst.items false so_far said new.items × (string_bytes text.new ≡ string_bytes text.old ++ said)) }
 {
     let src = units_of(alloc, src)?;
     let mut dst = dst;
@@ -342,7 +342,7 @@ fn print_pair(text: &mut String, pair: SizePair) -> Result<(), AllocError>
 }
 
 fn print_fault(text: &mut String, error: TextError) -> Result<(), AllocError>
-    ensures { OnOk result (string_bytes text.new ≡ string_bytes text.old ++ spec.fault_text error) }
+    ensures { OnOk result (string_bytes text.new ≡ string_bytes text.old ++ spec.text_fault_text error) }
 {
     match error {
         TextError::InvalidUtf8(place) => write!(text, " InvalidUtf8 {place}"),

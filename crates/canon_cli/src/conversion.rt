@@ -47,7 +47,7 @@ pub(crate) struct Conversion {
     pub so_far: u64,
     ghost small: { room ≤ spec.max_room },
     ghost front: { vec_len dst ≤ room },
-    ghost fits: { spec.fits call (vec_len src) room so_far ≡ true },
+    ghost allowed: { spec.is_allowed call (vec_len src) room so_far ≡ true },
 }
 
 impl TextCall {
@@ -78,8 +78,8 @@ impl TextCall {
     }
 
     /// Whether the call's condition holds for so many bytes of a source and of a destination.
-    pub(crate) fn fits(self, src: u64, room: u64, so_far: u64) -> bool
-        ensures { result ≡ spec.fits self src room so_far }
+    pub(crate) fn is_allowed(self, src: u64, room: u64, so_far: u64) -> bool
+        ensures { result ≡ spec.is_allowed self src room so_far }
     {
         match self {
             TextCall::Utf8ToUtf8 | TextCall::Latin1ToLatin1 => src == room,

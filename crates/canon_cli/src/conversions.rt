@@ -1,15 +1,14 @@
 ghost use Rattle.std.specs.Prelude.{◌≡◌, ◌≤◌, ◌++◌, [], map, false, codes, Some, option_map};
 ghost use Rattle.std.specs.Option.{option_map_or};
-ghost use Rattle.hex.specs.Hex.{decode_of, encode_lower};
 ghost use Rattle.serde_json.specs.Find.{as_bool, get};
 ghost use Rattle.serde_json.specs.View.{view, items_view};
 ghost use Rattle.canon_cli.specs.Conversions as spec;
+ghost use Rattle.canon_json.specs.Hex.{bytes_of};
 ghost use Rattle.canon_json.specs.Json.{Gives, word_of};
 
 use crate::ScriptError;
 use crate::conversion::{CALLS, Conversion, TextCall};
-use canon_json::{Reader, bool_or, each_of, has_len, there};
-use hex::FromHexError;
+use canon_json::{Reader, bool_or, bytes_of_json, each_of, has_len, there};
 use serde_json::Value;
 use std::alloc::Global;
 
@@ -46,10 +45,10 @@ impl Reader for Conversions {
 fn conversion_of(alloc: Global, v: &Value) -> Result<Conversion, ScriptError>
     ensures { Gives spec.job_of result (spec.conversion_of (view v.now)) }
 {
-    if !has_len(v, 3 + optional_members(v)) {
+    if !has_len(v, 3 + optional_conversion_members(v)) {
         return Err(ScriptError::BadScript);
     }
-    let Some(call) = v.get("fn").and_then(call_of) else {
+    let Some(call) = v.get("fn").and_then(text_call_of) else {
         return Err(ScriptError::BadScript);
     };
     let Some(room) = v.get("room").and_then(Value::as_u64) else {
@@ -64,8 +63,8 @@ fn conversion_of(alloc: Global, v: &Value) -> Result<Conversion, ScriptError>
     with_bytes(alloc, v, call, room, first, so_far)
 }
 
-fn optional_members(v: &Value) -> usize
-    ensures { result ≡ spec.optional_members (view v.now) }
+fn optional_conversion_members(v: &Value) -> usize
+    ensures { result ≡ spec.optional_conversion_members (view v.now) }
 {
     there(v.get("dst")) + (there(v.get("first")) + there(v.get("so_far")))
 }
@@ -93,10 +92,10 @@ fn with_bytes(
     let Some(src) = v.get("src") else {
         return Err(ScriptError::BadScript);
     };
-    let src = bytes_of(alloc, src)?;
+    let src = bytes_of_json(alloc, src)?;
     let dst = dst_of(alloc, v)?;
     let len = dst.len() as u64;
-    if room <= MAX_ROOM && len <= room && call.fits(src.len() as u64, room, so_far) {
+    if room <= MAX_ROOM && len <= room && call.is_allowed(src.len() as u64, room, so_far) {
         Ok(Conversion {
             call,
             src,
@@ -111,16 +110,16 @@ fn with_bytes(
 }
 
 fn dst_of(alloc: Global, v: &Value) -> Result<Vec<u8>, ScriptError>
-    ensures { Gives (λ bytes. bytes.items) result (option_map_or spec.bytes_of (get (codes "dst") (view v.now)) (Some [])) }
+    ensures { Gives (λ bytes. bytes.items) result (option_map_or bytes_of (get (codes "dst") (view v.now)) (Some [])) }
 {
     match v.get("dst") {
-        Some(dst) => bytes_of(alloc, dst),
+        Some(dst) => bytes_of_json(alloc, dst),
         None => Ok(Vec::new(alloc)),
     }
 }
 
-fn call_of(v: &Value) -> Option<TextCall>
-    ensures { result ≡ spec.call_of (view v.now) }
+fn text_call_of(v: &Value) -> Option<TextCall>
+    ensures { result ≡ spec.text_call_of (view v.now) }
 {
     call_among(&CALLS, v.as_str()?)
 }
@@ -135,30 +134,4 @@ fn call_among(calls: &[TextCall], name: &str) -> Option<TextCall>
         }
     }
     None
-}
-
-fn bytes_of(alloc: Global, v: &Value) -> Result<Vec<u8>, ScriptError>
-    ensures { Gives (λ bytes. bytes.items) result (spec.bytes_of (view v.now)) }
-{
-    match v.as_str() {
-        Some(text) => bytes_spelled(alloc, text),
-        None => Err(ScriptError::BadScript),
-    }
-}
-
-// The bytes whose hex, in small letters, a text is.
-fn bytes_spelled(alloc: Global, text: &str) -> Result<Vec<u8>, ScriptError>
-    ensures { Gives (λ bytes. bytes.items) result (spec.hex_bytes text.now) }
-{
-    let bytes = match hex::decode(alloc, text) {
-        Ok(bytes) => bytes,
-        Err(FromHexError::OutOfMemory) => return Err(ScriptError::OutOfMemory),
-        Err(_) => return Err(ScriptError::BadScript),
-    };
-    let small = hex::encode(alloc, bytes.as_slice())?;
-    if small.as_str() == text {
-        Ok(bytes)
-    } else {
-        Err(ScriptError::BadScript)
-    }
 }

@@ -6,8 +6,8 @@ ghost use Rattle.canon_memory.specs.Counts.{Rose};
 ghost use Rattle.canon_player.specs.Session.{Session};
 ghost use Rattle.canon_script.specs.Script.{Play, play_of, script_of};
 ghost use Rattle.canon_transcript.specs.Text.{transcript_text};
-ghost use Rattle.canon_cli.specs.Program.{AnswersInput, Done, IsJson, IsNoJson, IsRefusal, IsStatus, IsTask, OnTold, Performed, ReadsNoJson, ReadsNoTask, ReadsTask, ReadsTooMuch, Task, command_of, max_input, task_of};
-ghost use Rattle.canon_cli.specs.Streams.{AppendsFront, TakesAtMost};
+ghost use Rattle.canon_cli.specs.Program.{AnswersInput, TaskLeaves, IsJson, IsNoJson, IsRefusal, IsStatus, IsTask, OnTold, Performed, ReadsNoJson, ReadsNoTask, ReadsTask, ReadsTooMuch, Task, command_of, max_input, task_of};
+ghost use Rattle.canon_cli.specs.Streams.{AppendsPrefix, TakesAtMost};
 ghost use Rattle.canon_json.specs.declared.error.ScriptError.TheVariants as refused;
 
 use crate::command::command_of;
@@ -39,21 +39,24 @@ pub fn run<S: Source, K: Sink>(
     ensures unread { result ≡ Status.USAGE → source.new ≡ source.old }
 
     // At 0 the source was read to its end, what was read is a script, conversions or types, as the command asks, a
-    // script's session is in the transcript, which the others leave empty, and the sink took its text; at 4 a front of
+    // script's session is in the transcript, which the others leave empty, and the sink took its text; at 4 a prefix of
     // it.
     ensures done { result ≡ Status.DONE → IfSome (command_of words.now) (λ asked. (text : List ℕ)
         × Performed asked (S.left source.old) (S.left source.new) transcript.new text × Appends (K.taken sink.old) (K.taken sink.new) text) }
     ensures write_fault { result ≡ Status.WRITE_FAULT → IfSome (command_of words.now) (λ asked. (text : List ℕ)
-        × Performed asked (S.left source.old) (S.left source.new) transcript.new text × AppendsFront (K.taken sink.old) (K.taken sink.new) text
+        × Performed asked (S.left source.old) (S.left source.new) transcript.new text × AppendsPrefix (K.taken sink.old) (K.taken sink.new) text
         × Rose (K.faults sink.old) (K.faults sink.new)) }
 
     // At 5 nothing was written, and the transcript is empty or what the task leaves.
     ensures memory { result ≡ Status.MEMORY → IfSome (command_of words.now) (λ asked. (sink.new ≡ sink.old) × ((transcript.new ≡ [])
         ⊎ ((text : List ℕ) × Performed asked (S.left source.old) (S.left source.new) transcript.new text))) }
 
-    // The other refusals, each with its cause. They leave the sink and the transcript as they were.
+    // The other refusals, each with its cause. They leave the sink and the transcript as they were. 3 and 4 come exactly
+    // where the source or the sink failed: at every other status their counts of faults stand still.
     ensures refused { IsRefusal result → (sink.new ≡ sink.old) × (transcript.new ≡ []) }
     ensures read_fault { result ≡ Status.READ_FAULT → Rose (S.faults source.old) (S.faults source.new) }
+    ensures no_read_fault { ¬ (result ≡ Status.READ_FAULT) → S.faults source.new ≡ S.faults source.old }
+    ensures no_write_fault { ¬ (result ≡ Status.WRITE_FAULT) → K.faults sink.new ≡ K.faults sink.old }
     ensures too_long { result ≡ Status.TOO_LONG → ReadsTooMuch (S.left source.old) (S.left source.new) }
     ensures not_json { result ≡ Status.NOT_JSON → ReadsNoJson (S.left source.old) (S.left source.new) }
     ensures bad_script { result ≡ Status.BAD_SCRIPT → IfSome (command_of words.now) (λ asked. ReadsNoTask asked (S.left source.old) (S.left source.new)) }
@@ -84,11 +87,11 @@ fn run_command<S: Source, K: Sink>(
     transcript: &mut Transcript,
 ) -> Status
     requires { transcript.old ≡ [] }
-    // At 0 the source was read to its end, what was read is a task, and the sink took its text; at 4 a front of it.
+    // At 0 the source was read to its end, what was read is a task, and the sink took its text; at 4 a prefix of it.
     ensures done { result ≡ Status.DONE → (text : List ℕ)
         × Performed asked (S.left source.old) (S.left source.new) transcript.new text × Appends (K.taken sink.old) (K.taken sink.new) text }
     ensures write_fault { result ≡ Status.WRITE_FAULT → (text : List ℕ)
-        × Performed asked (S.left source.old) (S.left source.new) transcript.new text × AppendsFront (K.taken sink.old) (K.taken sink.new) text
+        × Performed asked (S.left source.old) (S.left source.new) transcript.new text × AppendsPrefix (K.taken sink.old) (K.taken sink.new) text
         × Rose (K.faults sink.old) (K.faults sink.new) }
 
     // At 5 nothing was written, and the transcript is empty or what the task leaves.
@@ -98,6 +101,8 @@ fn run_command<S: Source, K: Sink>(
     // The other refusals, each with its cause. They leave the sink and the transcript as they were.
     ensures refused { IsRefusal result → (sink.new ≡ sink.old) × (transcript.new ≡ []) }
     ensures read_fault { result ≡ Status.READ_FAULT → Rose (S.faults source.old) (S.faults source.new) }
+    ensures no_read_fault { ¬ (result ≡ Status.READ_FAULT) → S.faults source.new ≡ S.faults source.old }
+    ensures no_write_fault { ¬ (result ≡ Status.WRITE_FAULT) → K.faults sink.new ≡ K.faults sink.old }
     ensures too_long { result ≡ Status.TOO_LONG → ReadsTooMuch (S.left source.old) (S.left source.new) }
     ensures not_json { result ≡ Status.NOT_JSON → ReadsNoJson (S.left source.old) (S.left source.new) }
     ensures bad_script { result ≡ Status.BAD_SCRIPT → ReadsNoTask asked (S.left source.old) (S.left source.new) }
@@ -128,6 +133,7 @@ fn perform_input<S: Source>(
         ⊎ ((text : List ℕ) × Performed asked (S.left source.old) (S.left source.new) transcript.new text) }
     ensures refused { IfErr result (λ s. ¬ (s ≡ Status.MEMORY) → transcript.new ≡ []) }
     ensures read_fault { result ≡ Err Status.READ_FAULT → Rose (S.faults source.old) (S.faults source.new) }
+    ensures no_read_fault { ¬ (result ≡ Err Status.READ_FAULT) → S.faults source.new ≡ S.faults source.old }
     ensures too_long { result ≡ Err Status.TOO_LONG → ReadsTooMuch (S.left source.old) (S.left source.new) }
     ensures not_json { result ≡ Err Status.NOT_JSON → ReadsNoJson (S.left source.old) (S.left source.new) }
     ensures bad_script { result ≡ Err Status.BAD_SCRIPT → ReadsNoTask asked (S.left source.old) (S.left source.new) }
@@ -157,9 +163,9 @@ fn perform(
     transcript: &mut Transcript,
 ) -> Result<String, ScriptError>
     requires { transcript.old ≡ [] }
-    ensures done { IfOk result (λ text. (task : Task) × (task_of asked (view tree.now) ≡ Some task) × Done task transcript.new (string_bytes text)) }
+    ensures done { IfOk result (λ text. (task : Task) × (task_of asked (view tree.now) ≡ Some task) × TaskLeaves task transcript.new (string_bytes text)) }
     ensures memory { result ≡ Err refused.OutOfMemory → (transcript.new ≡ [])
-        ⊎ ((task : Task) × (text : List ℕ) × (task_of asked (view tree.now) ≡ Some task) × Done task transcript.new text) }
+        ⊎ ((task : Task) × (text : List ℕ) × (task_of asked (view tree.now) ≡ Some task) × TaskLeaves task transcript.new text) }
     ensures bad_script { result ≡ Err refused.BadScript → (task_of asked (view tree.now) ≡ None) × (transcript.new ≡ []) }
 {
     match asked {
@@ -176,9 +182,9 @@ fn perform_script(
     transcript: &mut Transcript,
 ) -> Result<String, ScriptError>
     requires { transcript.old ≡ [] }
-    ensures done { IfOk result (λ text. (task : Task) × (task_of Command.Run (view tree.now) ≡ Some task) × Done task transcript.new (string_bytes text)) }
+    ensures done { IfOk result (λ text. (task : Task) × (task_of Command.Run (view tree.now) ≡ Some task) × TaskLeaves task transcript.new (string_bytes text)) }
     ensures memory { result ≡ Err refused.OutOfMemory → (transcript.new ≡ [])
-        ⊎ ((task : Task) × (text : List ℕ) × (task_of Command.Run (view tree.now) ≡ Some task) × Done task transcript.new text) }
+        ⊎ ((task : Task) × (text : List ℕ) × (task_of Command.Run (view tree.now) ≡ Some task) × TaskLeaves task transcript.new text) }
     ensures bad_script { result ≡ Err refused.BadScript → (task_of Command.Run (view tree.now) ≡ None) × (transcript.new ≡ []) }
 {
     let script = script_of_json(alloc, tree)?;
@@ -193,7 +199,7 @@ fn perform_script(
 
 /// Plays the conversions of a JSON value, and prints their lines.
 fn perform_conversions(alloc: Global, tree: &Value) -> Result<String, ScriptError>
-    ensures done { IfOk result (λ text. (task : Task) × (task_of Command.Text (view tree.now) ≡ Some task) × Done task [] (string_bytes text)) }
+    ensures done { IfOk result (λ text. (task : Task) × (task_of Command.Text (view tree.now) ≡ Some task) × TaskLeaves task [] (string_bytes text)) }
     ensures bad_script { result ≡ Err refused.BadScript → task_of Command.Text (view tree.now) ≡ None }
 {
     match text_lines(alloc, tree) {
@@ -204,7 +210,7 @@ fn perform_conversions(alloc: Global, tree: &Value) -> Result<String, ScriptErro
 
 /// Builds the types of a JSON value, and prints their lines.
 fn perform_layout(alloc: Global, tree: &Value) -> Result<String, ScriptError>
-    ensures done { IfOk result (λ text. (task : Task) × (task_of Command.Layout (view tree.now) ≡ Some task) × Done task [] (string_bytes text)) }
+    ensures done { IfOk result (λ text. (task : Task) × (task_of Command.Layout (view tree.now) ≡ Some task) × TaskLeaves task [] (string_bytes text)) }
     ensures bad_script { result ≡ Err refused.BadScript → task_of Command.Layout (view tree.now) ≡ None }
 {
     match layout_lines(alloc, tree) {
@@ -236,6 +242,7 @@ pub fn read_all<S: Source>(alloc: Global, source: &mut S) -> Result<Vec<u8>, Sta
     ensures short { IfOk result (λ bytes. length bytes.items ≤ max_input) }
     ensures taken { result ≡ Err Status.READ_FAULT → TakesAtMost max_input (S.left source.old) (S.left source.new) }
     ensures read_fault { result ≡ Err Status.READ_FAULT → Rose (S.faults source.old) (S.faults source.new) }
+    ensures no_read_fault { ¬ (result ≡ Err Status.READ_FAULT) → S.faults source.new ≡ S.faults source.old }
     ensures later { S.faults source.old ≤ S.faults source.new }
     ensures too_long { result ≡ Err Status.TOO_LONG → ReadsTooMuch (S.left source.old) (S.left source.new) }
     ensures no_other { IfErr result (λ s. (s ≡ Status.READ_FAULT) ⊎ ((s ≡ Status.MEMORY) ⊎ (s ≡ Status.TOO_LONG))) }
@@ -257,11 +264,12 @@ pub fn read_all<S: Source>(alloc: Global, source: &mut S) -> Result<Vec<u8>, Sta
     Err(Status::TOO_LONG)
 }
 
-/// Writes a piece, all of it. Answers WRITE_FAULT where the sink fails, which then took a front of it.
+/// Writes a piece, all of it. Answers WRITE_FAULT where the sink fails, which then took a prefix of it.
 pub fn write_all<K: Sink>(sink: &mut K, piece: &[u8]) -> Result<(), Status>
     ensures ok { OnOk result (Appends (K.taken sink.old) (K.taken sink.new) piece.now) }
-    ensures err { OnErr result (AppendsFront (K.taken sink.old) (K.taken sink.new) piece.now) }
+    ensures err { OnErr result (AppendsPrefix (K.taken sink.old) (K.taken sink.new) piece.now) }
     ensures write_fault { OnErr result (Rose (K.faults sink.old) (K.faults sink.new)) }
+    ensures no_write_fault { OnOk result (K.faults sink.new ≡ K.faults sink.old) }
     ensures only { IfErr result (λ s. s ≡ Status.WRITE_FAULT) }
     ensures later { K.faults sink.old ≤ K.faults sink.new }
 {

@@ -1,7 +1,7 @@
 ghost use Rattle.std.specs.Prelude.{◌≡◌, [], ◌+◌, ◌-◌, ◌^◌, ◌≤◌, ◌<◌, min, length, Some, None, Option, List, ℕ, Contains, IfOk, IsErr};
 ghost use Rattle.std.specs.Io.{WritesAtMost};
 ghost use Rattle.std.specs.Io.KnownBytes.{WriteAppends};
-ghost use Rattle.canon_cli.specs.Streams.{Counted, HasCause, Taking, next_call};
+ghost use Rattle.canon_cli.specs.Streams.{Counted, CountsFaults, Taking, next_call};
 
 use crate::Failed;
 use std::alloc::Global;
@@ -16,12 +16,12 @@ pub trait Sink {
     /// How often a write failed.
     ghost faults: { Self → ℕ };
 
-    /// Takes a front of the piece, and says how many bytes: at least one of a piece that isn't empty.
+    /// Takes a prefix of the piece, and says how many bytes: at least one of a piece that isn't empty.
     fn write(&mut self, piece: &[u8]) -> Result<usize, Failed>
         ensures bound { WritesAtMost result piece.now }
         ensures goes_on { IfOk result (λ n. 0 < length piece.now → 0 < n) }
         ensures bytes { WriteAppends (taken self.old) (taken self.new) result piece.now }
-        ensures cause { HasCause (faults self.old) (faults self.new) result };
+        ensures cause { CountsFaults (faults self.old) (faults self.new) result };
 }
 
 /// A sink in memory, which takes bytes in pieces. Contracts see the bytes that it took, and its counts.
@@ -75,7 +75,7 @@ impl Sink for MemorySink {
         ensures bound { WritesAtMost result piece.now }
         ensures goes_on { IfOk result (λ n. 0 < length piece.now → 0 < n) }
         ensures bytes { WriteAppends (Some self.old.taken) (Some self.new.taken) result piece.now }
-        ensures cause { HasCause self.old.faults self.new.faults result }
+        ensures cause { CountsFaults self.old.faults self.new.faults result }
         ensures fails { Contains self.old.fails (next_call self.old.calls) → IsErr result }
         ensures given { IfOk result (λ n. n ≡ min (length piece.now) self.old.chunk) }
         ensures counted { self.new.calls ≡ next_call self.old.calls }

@@ -1,7 +1,7 @@
 ghost use Rattle.std.specs.Prelude.{◌≡◌, ◌+◌, ◌-◌, ◌^◌, ◌≤◌, ◌<◌, min, drop, take, length, Some, None, Option, List, ℕ, Contains, IfOk, IsErr, ◌↔◌};
 ghost use Rattle.std.specs.Io.{ReadsAtMost};
 ghost use Rattle.std.specs.Io.KnownBytes.{ReadConsumes};
-ghost use Rattle.canon_cli.specs.Streams.{Counted, Feeding, HasCause, next_call};
+ghost use Rattle.canon_cli.specs.Streams.{Counted, Feeding, CountsFaults, next_call};
 
 use std::io::Read;
 use std::marker::Model;
@@ -22,7 +22,7 @@ pub trait Source {
     fn read(&mut self, buf: &mut [u8]) -> Result<usize, Failed>
         ensures bound { ReadsAtMost result buf.new }
         ensures bytes { ReadConsumes (left self.old) (left self.new) result buf.new }
-        ensures cause { HasCause (faults self.old) (faults self.new) result };
+        ensures cause { CountsFaults (faults self.old) (faults self.new) result };
 }
 
 /// A source in memory, which gives its bytes in pieces. Contracts see the bytes that are left, and its counts.
@@ -69,7 +69,7 @@ impl Source for MemorySource {
     fn read(&mut self, buf: &mut [u8]) -> Result<usize, Failed>
         ensures bound { ReadsAtMost result buf.new }
         ensures bytes { ReadConsumes (Some self.old.left) (Some self.new.left) result buf.new }
-        ensures cause { HasCause self.old.faults self.new.faults result }
+        ensures cause { CountsFaults self.old.faults self.new.faults result }
         ensures fails { IsErr result ↔ Contains self.old.fails (next_call self.old.calls) }
         ensures given { IfOk result (λ n. n ≡ min (min (length self.old.left) (length buf.old)) self.old.chunk) }
         ensures counted { self.new.calls ≡ next_call self.old.calls }

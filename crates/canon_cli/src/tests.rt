@@ -5,21 +5,6 @@ use std::test::Fail;
 const ONE_CALL: &str =
     r#"{"funcs":[{"params":["u32","s8"],"results":["bool"]}],"items":[{"call":0,"params":[{"u32":7},{"s8":-1}],"guest":[{"return":[2]}]}]}"#;
 
-const NO_WORD: &str =
-    r#"{"funcs":[{"params":["u32","s8"],"results":["bool"]}],"items":[{"call":0,"params":[{"u32":7},{"s8":-1}],"guest":[{"return":[]}]}]}"#;
-
-const TRAPS: &str =
-    r#"{"funcs":[{"params":["u32","s8"],"results":["bool"]}],"items":[{"call":0,"params":[{"u32":7},{"s8":-1}],"guest":[{"trap":true}]}]}"#;
-
-const MISTYPED: &str =
-    r#"{"funcs":[{"params":["u32","s8"],"results":["bool"]}],"items":[{"call":0,"params":[{"bool":true},{"s8":-1}],"guest":[{"return":[2]}]}]}"#;
-
-const ECHO: &str =
-    r#"{"fuel":3,"types":[{"list":"string"}],"funcs":[{"params":[0],"results":["string"]}],"items":[{"call":0,"params":[{"list":[{"string":"a b"}]}],"guest":[{"return":[1024]}]}]}"#;
-
-const ECHO_TEXT: &str =
-    "call 0\nrealloc 0 0 4 8 = 1024\nrealloc 0 0 1 3 = 1032\nstart 0 1024 1\nblock 1024 0804000003000000\nblock 1032 612062\nreturn 1024\nok \"a b\"\nlive 0\n";
-
 const ONE_CALL_TEXT: &str = "call 0\nstart 0 7 4294967295\nreturn 2\nok true\nlive 0\n";
 
 // What a run of the command `run` answers and writes, with these failing calls of the source and of the sink.
@@ -42,25 +27,10 @@ fn answer(
 }
 
 #[test]
-fn scripts_are_played_and_printed(rt: HostRuntime) -> Result<(), Fail> {
-    let cases = [
-        (ONE_CALL, ONE_CALL_TEXT),
-        (
-            NO_WORD,
-            "call 0\nstart 0 7 4294967295\nreturn\nerror WrongWords\nlive 0\n",
-        ),
-        (
-            TRAPS,
-            "call 0\nstart 0 7 4294967295\ntrap\nerror GuestTrap\nlive 0\n",
-        ),
-        (MISTYPED, "call 0\nerror TypeMismatch 0\nlive 0\n"),
-        (ECHO, ECHO_TEXT),
-    ];
-    for (script, want) in cases {
-        let (status, text) = answer(rt.alloc(), script, 0, 1000, 0)?;
-        assert_eq!(rt; status, 0);
-        assert_eq!(rt; text.as_str(), want);
-    }
+fn a_script_is_played_and_printed(rt: HostRuntime) -> Result<(), Fail> {
+    let (status, text) = answer(rt.alloc(), ONE_CALL, 0, 1000, 0)?;
+    assert_eq!(rt; status, 0);
+    assert_eq!(rt; text.as_str(), ONE_CALL_TEXT);
     Ok(())
 }
 

@@ -1,5 +1,5 @@
 -- What a call did, from what its steps did.
-use Rattle.std.proofs.Common.{Err, IsTrue, List, None, Ok, Option, Result, Some, Vec, Global, [], ap, arith, length, refl, subst, sym, true, ℕ, ◌++◌, ◌%◌, ◌+◌, ◌∷◌, ◌∙◌, ◌≡◌, ◌≤◌}
+use Rattle.std.proofs.Common.{Err, inl, IsTrue, List, None, Ok, Option, Result, Some, Vec, Global, [], ap, arith, length, refl, subst, sym, true, ℕ, ◌++◌, ◌%◌, ◌+◌, ◌∷◌, ◌∙◌, ◌≡◌, ◌≤◌}
 use Rattle.std.specs.Prelude.{false, ⊤}
 use Rattle.std.proofs.lemmas.List.{append-nil}
 use Rattle.canon_model.specs.Cost.{members_cost}
@@ -10,25 +10,36 @@ use Rattle.canon_model.specs.Tree.{Trees}
 use Rattle.canon_model.proofs.Frames.{blocks_are_read}
 use Rattle.canon_memory.specs.declared.event.Event.{Event}
 use Rattle.canon_memory.specs.declared.event.Event.TheVariants as event
-use Rattle.canon_memory.specs.Guest.{Moment}
+use Rattle.canon_memory.specs.Guest.{Goes, Mark, Moment}
 use Rattle.canon_lowering.proofs.Lowerings.{lawful_second}
-use Rattle.canon_lowering.specs.Args.{Anywhere, ArgsLowering}
-use Rattle.canon_lowering.specs.Lowering.{AllLawful, Answer, LastIs, Meets, Trap, addresses_of, done, events_of, marks_of}
+use Rattle.canon_lowering.specs.Attempt.{AnyPointer, LowersArgs}
+use Rattle.canon_lowering.specs.Lowering.{Accepted, AllGood, AllLawful, Answer, LastIs, Meets, Trap, addresses_of, done, events_of, marks_of}
 use Rattle.canon_lowering.specs.Storing.{narrow}
 use Rattle.canon_value.specs.Fails.{AreSmall, BlamesMembers, Failure, MemberFails, field_name, mismatch, overflow, too_long, wrong_length}
 use Rattle.canon_value.proofs.Values.{failure_excludes}
+use Rattle.canon_value.specs.Lifts.{AreResults}
 use Rattle.canon_value.specs.Lowers.{fault_ending}
 use Rattle.canon_value.specs.Value.{HaveTrees}
 use Rattle.canon_value.specs.declared.fault.Fault.{Fault}
 use Rattle.canon_value.specs.declared.fault.Fault.TheVariants as fault
 use Rattle.canon_value.specs.declared.val.Val.{Val}
-use Rattle.canon_func.specs.Call.{Cause, IsCall, IsStart}
-use Rattle.canon_func.specs.Runs.{Each, EndsIn, IsAnswer, IsFrontOfRun, IsNoAsk, IsNoStart, IsTrap, OnReturn, OnStart}
+use Rattle.canon_func.specs.Call.{Advances, AsksNothing, Cause, IsCall, IsStart, lowering_ending, words_within}
+use Rattle.canon_func.specs.Runs.{Each, EndsIn, Grows, IsAnswer, IsNoAsk, IsNoPost, IsNoResume, IsNoStart, IsPrefixOfRun, IsTrap, OnReturn, OnStart}
 use Rattle.canon_func.specs.Steps.{CoreCall, IsRest, RestCause}
 use Rattle.canon_func.specs.Stores.{Callee}
 use Rattle.canon_func.specs.declared.error.Error.{Error}
 use Rattle.canon_func.specs.declared.error.Error.TheVariants as error
-use Rattle.canon_func.proofs.Fronts.{answers_are, each_after, each_answer, each_then, ends_after, events_of-then, events_of-trap, front_after, front_none, front_request, run_after}
+use Rattle.canon_func.proofs.Prefixes.{answers_are, grows_answers, grows_from, each_after, each_answer, each_then, ends_after, events_of-then, events_of-trap, prefix_after, prefix_none, prefix_request, run_after}
+
+pub advances_then : (a b c : Moment) → Advances a b → Advances b c → Advances a c
+advances_then a b c f g = record {
+  no_shorter = omega (arith, f.no_shorter, g.no_shorter);
+  traps_later = omega (arith, f.traps_later, g.traps_later);
+  shortages_later = omega (arith, f.shortages_later, g.shortages_later);
+}
+
+pub goes_advance : (a b : Moment) (marks : List Mark) (events : List Event) → Goes a b marks events → Advances a b
+goes_advance a b marks events h = record { no_shorter = h.no_shorter; traps_later = h.traps_later; shortages_later = h.shortages_later }
 
 -- ---- the start
 
@@ -47,20 +58,26 @@ MetAll requests answers = (last : ℕ) → Meets last requests answers None []
 pub record IsReady (callee : Callee) (params : List Val) (entry mid : Moment) (words : List ℕ) (answers : List Answer) : Type 0 where
   pub start : IsStart callee params entry.bytes answers words mid.bytes
   pub marks : mid.guest.marks ≡ entry.guest.marks ++ marks_of answers
+  pub quiet : AsksNothing callee.params answers None
   pub requested : (ts : Trees) → HaveTrees callee.params params ts → MetAll (params_requests false callee.encoding callee.params ts) answers
 
 module _ (callee : Callee) (params : List Val) (entry mid : Moment) (words : List ℕ) where
-  pub ready : (low : ArgsLowering entry mid callee.encoding callee.params (HaveTrees callee.params params) words done) → IsReady callee params entry mid words low.answers
-  ready low = record {
+  pub ready : (low : LowersArgs false entry mid callee.encoding callee.params (HaveTrees callee.params params) words done) → length words ≡ words_within max_params callee.params
+      → AsksNothing callee.params low.answers low.trap → IsReady callee params entry mid words low.answers
+  ready low count quiet = record {
     start = record {
-      trees = low.says.its_trees;
-      have = low.says.have;
-      represented = λ lawful. blocks_are_read.values low.fresh max_params true callee.encoding (narrow mid.bytes) words callee.params low.says.its_trees (low.says.rep lawful);
-      homes = subst (λ xs. ParamsHome Anywhere callee.encoding false words callee.params low.says.its_trees xs []) (append-nil (addresses_of low.answers)) (low.says.homes []);
-      memory_homes = λ lawful. subst (λ xs. ParamsHome (PointsTo (narrow mid.bytes)) callee.encoding false words callee.params low.says.its_trees xs []) (append-nil (addresses_of low.answers)) (low.says.memory_homes lawful []);
+      trees = low.shown.it;
+      have = low.shown.is;
+      represented = λ lawful. blocks_are_read.values low.fresh max_params true callee.encoding (narrow mid.bytes) words callee.params low.shown.it (low.shown.rep lawful (inl (λ i h. absurd h)));
+      homes = subst (λ xs. ParamsHome AnyPointer callee.encoding false words callee.params low.shown.it xs []) (append-nil (addresses_of low.answers)) (low.shown.homes []);
+      memory_homes = λ lawful. subst (λ xs. ParamsHome (PointsTo (narrow mid.bytes)) callee.encoding false words callee.params low.shown.it xs []) (append-nil (addresses_of low.answers)) (low.shown.memory_homes lawful (inl (λ i h. absurd h)) []);
+      no_shorter = low.lowering.goes.no_shorter;
+      count = count;
+      good = low.lowering.accepted;
       frame = λ tidy i h out. low.lowering.tidy tt tidy i h (λ q. q) out;
     };
     marks = low.lowering.goes.marks;
+    quiet = subst (λ o. AsksNothing callee.params low.answers o) low.lowering.cause quiet;
     requested = λ ts have last. subst (λ o. Meets last (params_requests false callee.encoding callee.params ts) low.answers o []) low.lowering.cause
         (subst (λ rs. Meets last (params_requests false callee.encoding callee.params ts) low.answers low.trap rs) (low.requested ts have).all ((low.requested ts have).met last));
   }
@@ -89,45 +106,90 @@ cause_after callee fuel params entry mid after xs ys (error.Fault (fault.SizeOve
 cause_after callee fuel params entry mid after xs ys (error.Fault (fault.ReallocMisaligned a)) g h = absurd h
 cause_after callee fuel params entry mid after xs ys (error.Fault (fault.ReallocOutOfBounds a)) g h = absurd h
 
+-- good answers stay good in a longer memory
+good_later : (m n : ℕ) (answers : List Answer) → m ≤ n → AllGood m answers → AllGood n answers
+good_later m n [] le good = tt
+good_later m n (x ∷ xs) le good = ((good.0.0, omega (arith, le, good.0.1)), good_later m n xs le good.1)
+
+-- a call that was refused after its parameters were lowered accepted each answer
+accepted_after : (callee : Callee) (fuel : ℕ) (mid after : Moment) (ys : List Event) (answers : List Answer) (e : Error) → RestCause callee fuel mid after ys e
+    → AllGood (length after.bytes) answers → Accepted (lowering_ending (Err e)) (length after.bytes) answers
+accepted_after callee fuel mid after ys answers error.WrongWords h good = good
+accepted_after callee fuel mid after ys answers (error.UnknownImport n) h good = good
+accepted_after callee fuel mid after ys answers error.WrongCount h good = good
+accepted_after callee fuel mid after ys answers error.AsyncLifted h good = good
+accepted_after callee fuel mid after ys answers error.CannotEnterComponent h good = good
+accepted_after callee fuel mid after ys answers (error.Fault (fault.ReallocMisaligned a)) h good = absurd h
+accepted_after callee fuel mid after ys answers (error.Fault (fault.ReallocOutOfBounds a)) h good = absurd h
+accepted_after callee fuel mid after ys answers (error.Fault fault.GuestTrap) h good = good
+accepted_after callee fuel mid after ys answers (error.Fault fault.OutOfMemory) h good = good
+accepted_after callee fuel mid after ys answers (error.Fault (fault.PointerMisaligned at)) h good = good
+accepted_after callee fuel mid after ys answers (error.Fault (fault.PointerOutOfBounds at)) h good = good
+accepted_after callee fuel mid after ys answers (error.Fault (fault.InvalidUtf8 at)) h good = good
+accepted_after callee fuel mid after ys answers (error.Fault (fault.InvalidChar at)) h good = good
+accepted_after callee fuel mid after ys answers (error.Fault fault.HostcallFuelExhausted) h good = good
+accepted_after callee fuel mid after ys answers (error.Fault (fault.TypeMismatch k)) h good = absurd h
+accepted_after callee fuel mid after ys answers (error.Fault (fault.FieldName k)) h good = absurd h
+accepted_after callee fuel mid after ys answers (error.Fault (fault.LengthMismatch k)) h good = absurd h
+accepted_after callee fuel mid after ys answers (error.Fault (fault.StringTooLong k)) h good = absurd h
+accepted_after callee fuel mid after ys answers (error.Fault (fault.SizeOverflow k)) h good = absurd h
+
 -- a fact for each start, of whatever words
 each_start : (P : Type 0) → P → (events : List Event) → Each (OnStart (λ ws m. P)) events
 each_start P p [] = tt
 each_start P p (event.Start f ws m ∷ events) = (p, each_start P p events)
 each_start P p (e ∷ events) = (tt, each_start P p events)
 
-module _ (PostLeaves : List ℕ → List ℕ → Type 0) (callee : Callee) (fuel : ℕ) (params : List Val) (entry mid after : Moment) (words : List ℕ) (answers : List Answer) (later : List Event) where
-  pub joined : (answer : Result (Vec Val Global) Error) → IsReady callee params entry mid words answers → entry.guest.traps ≤ mid.guest.traps → after.guest.marks ≡ mid.guest.marks
-      → IsRest PostLeaves callee fuel words mid after answer later → CoreCall PostLeaves callee fuel params entry after answer (events_of answers None ++ later)
-  joined (Ok vals) low grown marks rest = record {
+module _ (Leaves : List ℕ → List ℕ → Type 0) (callee : Callee) (fuel : ℕ) (params : List Val) (entry mid after : Moment) (words : List ℕ) (answers : List Answer) (later : List Event) where
+  posted_after : (¬ Each IsNoPost later → Each (OnReturn (λ ws m. (left : ℕ) × (vs : List Val) × AreResults callee.encoding (narrow m) callee.results ws fuel left vs)) later)
+      → ¬ Each IsNoPost (events_of answers None ++ later) → Each (OnReturn (λ ws m. (left : ℕ) × (vs : List Val) × AreResults callee.encoding (narrow m) callee.results ws fuel left vs)) (events_of answers None ++ later)
+  posted_after told some = each_then _ (events_of answers None) later (each_answer _ (λ c a. tt) (λ c n. tt) answers None)
+      (told (λ none. some (each_then IsNoPost (events_of answers None) later (each_answer IsNoPost (λ c a. tt) (λ c n. tt) answers None) none)))
+
+  pub joined : (answer : Result (Vec Val Global) Error) → IsReady callee params entry mid words answers → Advances entry mid → Advances mid after → after.guest.marks ≡ mid.guest.marks
+      → IsRest Leaves callee fuel words mid after answer later → CoreCall Leaves callee fuel params entry after answer (events_of answers None ++ later)
+  joined (Ok vals) low first second marks rest = record {
     one_run = run_after callee.func callee.post (events_of answers None) later (answers_are answers) rest.one_run;
-    front = front_after callee.func callee.post (length entry.bytes) (events_of answers None) later (answers_are answers) (rest.front (length entry.bytes));
+    prefix = prefix_after callee.func callee.post (length entry.bytes) (events_of answers None) later (answers_are answers) (rest.prefix (length entry.bytes));
+    no_resume = each_then IsNoResume (events_of answers None) later (each_answer IsNoResume (λ c a. tt) (λ c n. tt) answers None) rest.no_resume;
+    advances = advances_then entry mid after first second;
+    grows = grows_answers (length entry.bytes) (length after.bytes) answers later (grows_from (length entry.bytes) (length mid.bytes) (length after.bytes) later first.no_shorter rest.grows);
     answers = answers;
     trap = None;
     later = later;
     in_parts = refl;
     no_more = rest.no_more;
+    accepted = good_later (length mid.bytes) (length after.bytes) answers second.no_shorter low.start.good;
     marks = marks ∙ low.marks;
     requested = λ ts have. record { left = []; met = low.requested ts have; all = each_start ([] ≡ []) refl later };
+    quiet = low.quiet;
     start = each_then _ (events_of answers None) later (each_answer _ (λ c a. tt) (λ c n. tt) answers None) (on_start words mid.bytes _ low.start later rest.start);
     only_results = each_then _ (events_of answers None) later (each_answer _ (λ c a. tt) (λ c n. tt) answers None) rest.only_results;
+    posted = posted_after rest.posted;
     leaves = each_then _ (events_of answers None) later (each_answer _ (λ c a. tt) (λ c n. tt) answers None) rest.leaves;
     cause = tt;
     valid = λ ts have small lawful calm quiet right. tt;
   }
-  joined (Err e) low grown marks rest = λ results. record {
+  joined (Err e) low first second marks rest = λ results. record {
     one_run = tt;
-    front = front_after callee.func callee.post (length entry.bytes) (events_of answers None) later (answers_are answers) (rest.front (length entry.bytes));
+    prefix = prefix_after callee.func callee.post (length entry.bytes) (events_of answers None) later (answers_are answers) (rest.prefix (length entry.bytes));
+    no_resume = each_then IsNoResume (events_of answers None) later (each_answer IsNoResume (λ c a. tt) (λ c n. tt) answers None) rest.no_resume;
+    advances = advances_then entry mid after first second;
+    grows = grows_answers (length entry.bytes) (length after.bytes) answers later (grows_from (length entry.bytes) (length mid.bytes) (length after.bytes) later first.no_shorter rest.grows);
     answers = answers;
     trap = None;
     later = later;
     in_parts = refl;
     no_more = rest.no_more;
+    accepted = accepted_after callee fuel mid after later answers e rest.cause (good_later (length mid.bytes) (length after.bytes) answers second.no_shorter low.start.good);
     marks = marks ∙ low.marks;
     requested = λ ts have. record { left = []; met = low.requested ts have; all = each_start ([] ≡ []) refl later };
+    quiet = low.quiet;
     start = each_then _ (events_of answers None) later (each_answer _ (λ c a. tt) (λ c n. tt) answers None) (on_start words mid.bytes _ low.start later rest.start);
     only_results = tt;
+    posted = posted_after rest.posted;
     leaves = tt;
-    cause = cause_after callee fuel params entry mid after (events_of answers None) later e grown rest.cause;
+    cause = cause_after callee fuel params entry mid after (events_of answers None) later e first.traps_later rest.cause;
     valid = λ ts have small lawful calm quiet right. rest.valid (λ h. calm (ends_after IsTrap (events_of answers None) later h)) (each_after IsNoAsk (events_of answers None) later quiet)
         (each_after (OnReturn (λ ws m. (us : Trees) × RepResults false callee.encoding (narrow m) ws callee.results us × (members_cost callee.results us ≤ fuel))) (events_of answers None) later right);
   }
@@ -139,93 +201,118 @@ abbrev TrapsLate : ℕ → Option Trap → Type 0
 TrapsLate len None = ⊤
 TrapsLate len (Some t) = len ≤ t.len
 
-front_of : (func : ℕ) (post : Option ℕ) (len : ℕ) (answers : List Answer) (trap : Option Trap) → TrapsLate len trap → IsFrontOfRun func post len (events_of answers trap)
-front_of func post len answers None h =
-    subst (λ es. IsFrontOfRun func post len es) (append-nil (events_of answers None)) (front_after func post len (events_of answers None) [] (answers_are answers) (front_none func post len))
-front_of func post len answers (Some t) h =
-    subst (λ es. IsFrontOfRun func post len es) (sym (events_of-trap answers t)) (front_after func post len (events_of answers None) _ (answers_are answers) (front_request func post len t.call t.len h))
+prefix_of : (func : ℕ) (post : Option ℕ) (len : ℕ) (answers : List Answer) (trap : Option Trap) → TrapsLate len trap → IsPrefixOfRun func post len (events_of answers trap)
+prefix_of func post len answers None h =
+    subst (λ es. IsPrefixOfRun func post len es) (append-nil (events_of answers None)) (prefix_after func post len (events_of answers None) [] (answers_are answers) (prefix_none func post len))
+prefix_of func post len answers (Some t) h =
+    subst (λ es. IsPrefixOfRun func post len es) (sym (events_of-trap answers t)) (prefix_after func post len (events_of answers None) _ (answers_are answers) (prefix_request func post len t.call t.len h))
+
+grows_request : (len last : ℕ) (answers : List Answer) (trap : Option Trap) → TrapsLate len trap → len ≤ last → Grows len (events_of answers trap) last
+grows_request len last answers None late h = subst (λ es. Grows len es last) (append-nil (events_of answers None)) (grows_answers len last answers [] h)
+grows_request len last answers (Some t) late h = subst (λ es. Grows len es last) (sym (events_of-trap answers t)) (grows_answers len last answers _ (late, h))
 
 -- the last answer was given to such a request
 ends_in_answer : (P : Call → ℕ → Type 0) (answers : List Answer) (trap : Option Trap) (a : ℕ) (Bad : Answer → Type 0) → trap ≡ None → ((x : Answer) → x.at ≡ a → Bad x → P x.call x.at) → LastIs answers a Bad
     → EndsIn (IsAnswer P) (events_of answers trap)
-ends_in_answer P answers trap a Bad none f (front, x, e, is, bad) = subst (λ o. EndsIn (IsAnswer P) (events_of answers o)) (sym none)
+ends_in_answer P answers trap a Bad none f (prefix, x, e, is, bad) = subst (λ o. EndsIn (IsAnswer P) (events_of answers o)) (sym none)
     (subst (λ xs. EndsIn (IsAnswer P) (events_of xs None)) (sym e)
-    (subst (λ es. EndsIn (IsAnswer P) es) (sym (events_of-then front (x ∷ []) None)) (ends_after (IsAnswer P) (events_of front None) _ (f x is bad))))
+    (subst (λ es. EndsIn (IsAnswer P) es) (sym (events_of-then prefix (x ∷ []) None)) (ends_after (IsAnswer P) (events_of prefix None) _ (f x is bad))))
 
 ends_in_trap : (answers : List Answer) (t : Trap) → EndsIn IsTrap (events_of answers (Some t))
 ends_in_trap answers t = subst (λ es. EndsIn IsTrap es) (sym (events_of-trap answers t)) (ends_after IsTrap (events_of answers None) _ tt)
 
 -- where each answer is lawful, so is the last
 last_lawful : (answers : List Answer) (a : ℕ) (Bad : Answer → Type 0) → ((x : Answer) → Bad x → IsTrue x.mark.lawful → ⊥) → LastIs answers a Bad → AllLawful answers → ⊥
-last_lawful answers a Bad f (front, x, e, is, bad) lawful = f x bad (lawful_second front (x ∷ []) (subst AllLawful e lawful)).0
+last_lawful answers a Bad f (prefix, x, e, is, bad) lawful = f x bad (lawful_second prefix (x ∷ []) (subst AllLawful e lawful)).0
 
 -- why a lowering was refused, and that a valid call isn't
 record Refused (callee : Callee) (fuel : ℕ) (params : List Val) (entry after : Moment) (events : List Event) (answers : List Answer) (trap : Option Trap) (f : Fault) : Type 0 where
   late : TrapsLate (length entry.bytes) trap
+  accepted : Accepted (fault_ending f) (length after.bytes) answers
   cause : Cause callee fuel params entry after events (error.Fault f)
   valid : (ts : Trees) → HaveTrees callee.params params ts → AreSmall callee.params params → AllLawful answers → ¬ EndsIn IsTrap events → f ≡ fault.OutOfMemory
 
-module _ (PostLeaves : List ℕ → List ℕ → Type 0) (callee : Callee) (fuel : ℕ) (params : List Val) (entry after : Moment) where
-  made : (results : List Val) (f : Fault) (answers : List Answer) (trap : Option Trap) → after.guest.marks ≡ entry.guest.marks ++ marks_of answers
+module _ (Leaves : List ℕ → List ℕ → Type 0) (callee : Callee) (fuel : ℕ) (params : List Val) (entry after : Moment) where
+  made : (results : List Val) (f : Fault) (answers : List Answer) (trap : Option Trap) → Advances entry after → AsksNothing callee.params answers trap → after.guest.marks ≡ entry.guest.marks ++ marks_of answers
       → ((ts : Trees) → HaveTrees callee.params params ts → (left : List Request) × ((last : ℕ) → Meets last (params_requests false callee.encoding callee.params ts) answers trap left))
-      → Refused callee fuel params entry after (events_of answers trap) answers trap f → IsCall PostLeaves callee fuel params entry after (Err (error.Fault f)) results (events_of answers trap)
-  made results f answers trap marks met refused = record {
+      → Refused callee fuel params entry after (events_of answers trap) answers trap f → IsCall Leaves callee fuel params entry after (Err (error.Fault f)) results (events_of answers trap)
+  made results f answers trap advances quiet marks met refused = record {
     one_run = tt;
-    front = front_of callee.func callee.post (length entry.bytes) answers trap refused.late;
+    prefix = prefix_of callee.func callee.post (length entry.bytes) answers trap refused.late;
+    no_resume = each_answer IsNoResume (λ c a. tt) (λ c n. tt) answers trap;
+    advances = advances;
+    grows = grows_request (length entry.bytes) (length after.bytes) answers trap refused.late advances.no_shorter;
     answers = answers;
     trap = trap;
     later = [];
     in_parts = sym (append-nil (events_of answers trap));
     no_more = tt;
+    accepted = refused.accepted;
     marks = marks;
+    quiet = quiet;
     requested = λ ts have. record { left = (met ts have).0; met = (met ts have).1; all = tt };
     start = each_answer _ (λ c a. tt) (λ c n. tt) answers trap;
     only_results = tt;
+    posted = λ some. absurd (some (each_answer IsNoPost (λ c a. tt) (λ c n. tt) answers trap));
     leaves = tt;
     cause = refused.cause;
     valid = λ ts have small lawful calm quiet right. ap error.Fault (refused.valid ts have small lawful calm);
   }
 
   -- memory ran out before a request
-  pub short_call : after ≡ entry → CoreCall PostLeaves callee fuel params entry after (Err (error.Fault fault.OutOfMemory)) []
-  short_call e results = made results fault.OutOfMemory [] None (ap (λ m. m.guest.marks) e ∙ sym (append-nil entry.guest.marks))
+  pub short_call : after ≡ entry → CoreCall Leaves callee fuel params entry after (Err (error.Fault fault.OutOfMemory)) []
+  short_call e results = made results fault.OutOfMemory [] None (subst (λ m. Advances entry m) (sym e) (record { no_shorter = omega arith; traps_later = omega arith; shortages_later = omega arith })) (λ near none. (refl, refl)) (ap (λ m. m.guest.marks) e ∙ sym (append-nil entry.guest.marks))
       (λ ts have. (params_requests false callee.encoding callee.params ts, λ last. refl))
-      (record { late = tt; cause = tt; valid = λ ts have small lawful calm. refl })
+      (record { late = tt; accepted = tt; cause = tt; valid = λ ts have small lawful calm. refl })
 
   abbrev Low : List ℕ → Fault → Type 0
-  Low words f = ArgsLowering entry after callee.encoding callee.params (HaveTrees callee.params params) words (fault_ending f)
+  Low words f = LowersArgs false entry after callee.encoding callee.params (HaveTrees callee.params params) words (fault_ending f)
 
   abbrev Why : (f : Fault) (words : List ℕ) → Low words f → Type 0
   Why f words low = Refused callee fuel params entry after (events_of low.answers low.trap) low.answers low.trap f
 
   -- no request trapped, and the value is to blame
-  blamed : (f : Fault) (answers : List Answer) (trap : Option Trap) (how : Failure) (j : ℕ) → trap ≡ None → MemberFails how callee.params params j → Cause callee fuel params entry after (events_of answers trap) (error.Fault f)
+  blamed : (f : Fault) (answers : List Answer) (trap : Option Trap) (how : Failure) (j : ℕ) → trap ≡ None → Accepted (fault_ending f) (length after.bytes) answers → MemberFails how callee.params params j → Cause callee fuel params entry after (events_of answers trap) (error.Fault f)
       → Refused callee fuel params entry after (events_of answers trap) answers trap f
-  blamed f answers trap how j none fails cause = record {
+  blamed f answers trap how j none accepted fails cause = record {
     late = subst (λ o. TrapsLate (length entry.bytes) o) (sym none) tt;
+    accepted = accepted;
     cause = cause;
     valid = λ ts have small lawful calm. absurd (failure_excludes how callee.params params j ts (small how j fails) fails have);
   }
 
+  none_started : (answers : List Answer) (trap : Option Trap) → Each IsNoStart (events_of answers trap)
+  none_started answers trap = each_answer IsNoStart (λ c a. tt) (λ c n. tt) answers trap
+
+  no_trap : (answers : List Answer) → ¬ EndsIn IsTrap (events_of answers None)
+  no_trap [] h = h
+  no_trap (x ∷ []) h = h
+  no_trap (x ∷ y ∷ answers) h = no_trap (y ∷ answers) h
+
+  none_trapped : (answers : List Answer) (trap : Option Trap) → trap ≡ None → ¬ EndsIn IsTrap (events_of answers trap)
+  none_trapped answers trap none h = no_trap answers (subst (λ o. EndsIn IsTrap (events_of answers o)) none h)
+
   refused_by : (f : Fault) (words : List ℕ) (low : Low words f) → BlamesMembers callee.params params f → Why f words low
-  refused_by (fault.TypeMismatch k) words low blames = blamed (fault.TypeMismatch k) low.answers low.trap mismatch blames.0 low.lowering.cause blames.2 blames
-  refused_by (fault.FieldName k) words low blames = blamed (fault.FieldName k) low.answers low.trap field_name blames.0 low.lowering.cause blames.2 blames
-  refused_by (fault.LengthMismatch k) words low blames = blamed (fault.LengthMismatch k) low.answers low.trap wrong_length blames.0 low.lowering.cause blames.2 blames
-  refused_by (fault.StringTooLong n) words low blames = blamed (fault.StringTooLong n) low.answers low.trap (too_long n) blames.0 low.lowering.cause blames.1 blames
-  refused_by (fault.SizeOverflow n) words low blames = blamed (fault.SizeOverflow n) low.answers low.trap (overflow n) blames.0 low.lowering.cause blames.1 blames
+  refused_by (fault.TypeMismatch k) words low blames = blamed (fault.TypeMismatch k) low.answers low.trap mismatch blames.0 low.lowering.cause low.lowering.accepted blames.2 (none_started low.answers low.trap, none_trapped low.answers low.trap low.lowering.cause, blames)
+  refused_by (fault.FieldName k) words low blames = blamed (fault.FieldName k) low.answers low.trap field_name blames.0 low.lowering.cause low.lowering.accepted blames.2 (none_started low.answers low.trap, none_trapped low.answers low.trap low.lowering.cause, blames)
+  refused_by (fault.LengthMismatch k) words low blames = blamed (fault.LengthMismatch k) low.answers low.trap wrong_length blames.0 low.lowering.cause low.lowering.accepted blames.2 (none_started low.answers low.trap, none_trapped low.answers low.trap low.lowering.cause, blames)
+  refused_by (fault.StringTooLong n) words low blames = blamed (fault.StringTooLong n) low.answers low.trap (too_long n) blames.0 low.lowering.cause low.lowering.accepted blames.1 (none_started low.answers low.trap, none_trapped low.answers low.trap low.lowering.cause, blames)
+  refused_by (fault.SizeOverflow n) words low blames = blamed (fault.SizeOverflow n) low.answers low.trap (overflow n) blames.0 low.lowering.cause low.lowering.accepted blames.1 (none_started low.answers low.trap, none_trapped low.answers low.trap low.lowering.cause, blames)
   refused_by (fault.ReallocMisaligned a) words low blames = record {
     late = subst (λ o. TrapsLate (length entry.bytes) o) (sym low.lowering.cause.0) tt;
+    accepted = low.lowering.accepted;
     cause = (
-      each_answer IsNoStart (λ c a. tt) (λ c n. tt) low.answers low.trap,
+      none_started low.answers low.trap,
       ends_in_answer (λ c answer. (answer ≡ a) × ¬ (a % c.align ≡ 0)) low.answers low.trap a _ low.lowering.cause.0 (λ x is bad. (is, λ q. bad.0 (subst (λ n. n % x.call.align ≡ 0) (sym is) q))) low.lowering.cause.1,
     );
     valid = λ ts have small lawful calm. absurd (last_lawful low.answers a _ (λ x bad. bad.1) low.lowering.cause.1 lawful);
   }
   refused_by (fault.ReallocOutOfBounds a) words low blames = record {
     late = subst (λ o. TrapsLate (length entry.bytes) o) (sym low.lowering.cause.0) tt;
+    accepted = low.lowering.accepted;
     cause = (
-      each_answer IsNoStart (λ c a. tt) (λ c n. tt) low.answers low.trap,
-      ends_in_answer (λ c answer. (answer ≡ a) × ¬ (a + c.new_size ≤ length after.bytes)) low.answers low.trap a _ low.lowering.cause.0 (λ x is bad. (is, λ q. bad.1 (subst (λ n. n + x.call.new_size ≤ length after.bytes) (sym is) q))) low.lowering.cause.1,
+      none_started low.answers low.trap,
+      ends_in_answer (λ c answer. (answer ≡ a) × (a % c.align ≡ 0) × ¬ (a + c.new_size ≤ length after.bytes)) low.answers low.trap a _ low.lowering.cause.0 (λ x is bad. (is, subst (λ n. n % x.call.align ≡ 0) is bad.0, λ q. bad.1 (subst (λ n. n + x.call.new_size ≤ length after.bytes) (sym is) q))) low.lowering.cause.1,
     );
     valid = λ ts have small lawful calm. absurd (last_lawful low.answers a _ (λ x bad. bad.2) low.lowering.cause.1 lawful);
   }
@@ -233,11 +320,13 @@ module _ (PostLeaves : List ℕ → List ℕ → Type 0) (callee : Callee) (fuel
       let (rose, (t, is, late)) = low.lowering.cause in
       record {
         late = subst (λ o. TrapsLate (length entry.bytes) o) (sym is) late;
+        accepted = low.lowering.accepted;
         cause = (rose, subst (λ o. EndsIn IsTrap (events_of low.answers o)) (sym is) (ends_in_trap low.answers t));
         valid = λ ts have small lawful calm. absurd (calm (subst (λ o. EndsIn IsTrap (events_of low.answers o)) (sym is) (ends_in_trap low.answers t)));
       }
   refused_by fault.OutOfMemory words low blames = record {
     late = subst (λ o. TrapsLate (length entry.bytes) o) (sym low.lowering.cause.0) tt;
+    accepted = low.lowering.accepted;
     cause = tt;
     valid = λ ts have small lawful calm. refl;
   }
@@ -247,7 +336,7 @@ module _ (PostLeaves : List ℕ → List ℕ → Type 0) (callee : Callee) (fuel
   refused_by (fault.InvalidChar at) words low blames = absurd blames
   refused_by fault.HostcallFuelExhausted words low blames = absurd blames
 
-  pub refused_call : (f : Fault) (words : List ℕ) (low : ArgsLowering entry after callee.encoding callee.params (HaveTrees callee.params params) words (fault_ending f)) → BlamesMembers callee.params params f
-      → CoreCall PostLeaves callee fuel params entry after (Err (error.Fault f)) (events_of low.answers low.trap)
-  refused_call f words low blames results =
-      made results f low.answers low.trap low.lowering.goes.marks (λ ts have. ((low.requested ts have).rest, (low.requested ts have).met)) (refused_by f words low blames)
+  pub refused_call : (f : Fault) (words : List ℕ) (low : LowersArgs false entry after callee.encoding callee.params (HaveTrees callee.params params) words (fault_ending f)) → BlamesMembers callee.params params f
+      → AsksNothing callee.params low.answers low.trap → CoreCall Leaves callee fuel params entry after (Err (error.Fault f)) (events_of low.answers low.trap)
+  refused_call f words low blames quiet results =
+      made results f low.answers low.trap (goes_advance entry after _ _ low.lowering.goes) quiet low.lowering.goes.marks (λ ts have. ((low.requested ts have).rest, (low.requested ts have).met)) (refused_by f words low blames)

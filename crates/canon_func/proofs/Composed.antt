@@ -1,6 +1,6 @@
 -- One step of a call after another.
 use Rattle.std.proofs.Common.{Err, List, None, Ok, Result, Some, Vec, Global, [], ap, arith, inl, inr, length, refl, subst, sym, ℕ, ◌++◌, ◌∙◌, ◌∷◌, ◌≡◌}
-use Rattle.std.specs.Prelude.{IfErr}
+use Rattle.std.specs.Prelude.{IfErr, false}
 use Rattle.std.proofs.lemmas.List.{append-nil}
 use Rattle.canon_memory.specs.declared.error.GuestFault.{GuestFault}
 use Rattle.canon_memory.specs.declared.error.GuestFault.TheVariants as guest
@@ -9,18 +9,18 @@ use Rattle.canon_memory.specs.declared.event.Event.TheVariants as event
 use Rattle.canon_memory.specs.Guest.{Goes, HasCause, Moment, OnAnswer, Seen, moment}
 use Rattle.canon_memory.specs.Journal.{post_events, trap_event}
 use Rattle.canon_lowering.proofs.Lowerings.{goes_none, goes_then}
-use Rattle.canon_lowering.specs.Args.{ArgsLowering}
+use Rattle.canon_lowering.specs.Attempt.{LowersArgs}
 use Rattle.canon_lowering.specs.Lowering.{done, events_of, marks_of}
 use Rattle.canon_value.specs.Value.{HaveTrees}
 use Rattle.canon_value.specs.declared.fault.Fault.TheVariants as fault
 use Rattle.canon_value.specs.declared.val.Val.{Val}
 use Rattle.canon_func.specs.Call.{Adding, IsCall, Left, OnAnswered}
 use Rattle.canon_func.specs.Runs.{posts}
-use Rattle.canon_func.specs.Steps.{Concluded, CoreCall, Does, IsLate, IsRest, Lifted, Lowered, Posted, RestCause, Started}
+use Rattle.canon_func.specs.Steps.{Concluded, CoreCall, Proceeds, IsLate, IsRest, Lifted, Lowered, Posted, RestCause, Started}
 use Rattle.canon_func.specs.Stores.{Callee}
 use Rattle.canon_func.specs.declared.error.Error.{Error}
 use Rattle.canon_func.specs.declared.error.Error.TheVariants as error
-use Rattle.canon_func.proofs.Calls.{joined, ready, refused_call, short_call}
+use Rattle.canon_func.proofs.Calls.{goes_advance, joined, ready, refused_call, short_call}
 use Rattle.canon_func.proofs.Rests.{rest_of_return, rest_of_start}
 
 -- what follows from a fact for every answer but want of memory
@@ -34,34 +34,39 @@ answers (Ok x) P p = p
 answers (Err (error.Fault fault.OutOfMemory)) P p = tt
 answers (Err e) P p = p
 
+-- of an answer of another type
+retyped : (T U : Type 0) (e : Error) (P : Type 0) → OnAnswered {T = T} (Err e) P → OnAnswered {T = U} (Err e) P
+retyped T U (error.Fault fault.OutOfMemory) P h = tt
+retyped T U e P h = h
+
 other : guest.OutOfMemory ≡ guest.Trap → ⊥
 other e = cc
 
-module _ (PostLeaves : List ℕ → List ℕ → Type 0) (callee : Callee) (fuel : ℕ) (words : List ℕ) where
+module _ (Leaves : List ℕ → List ℕ → Type 0) (callee : Callee) (fuel : ℕ) (words : List ℕ) where
   -- the guest returned
   pub run_returned : (a b c : Moment) (returned : List ℕ) (answer : Result (Vec Val Global) Error) (M N O : List Event → Type 0) → ((xs ys : List Event) → M xs → N ys → O (xs ++ ys))
-      → Does a b M (Started callee.func words a b (Ok returned)) → Does b c N (Concluded PostLeaves callee fuel returned b c answer) → Does a c O (IsRest PostLeaves callee fuel words a c answer)
+      → Proceeds a b M (Started callee.func words a b (Ok returned)) → Proceeds b c N (Concluded Leaves callee fuel returned b c answer) → Proceeds a c O (IsRest Leaves callee fuel words a c answer)
   run_returned a b c returned answer M N O f first second = record {
     events = first.events ++ second.events;
     goes = goes_then a b c [] [] first.events second.events first.goes second.goes;
     moves = f first.events second.events first.moves second.moves;
-    so = subst (λ es. IsRest PostLeaves callee fuel words a c answer (es ++ second.events)) (sym first.so) (rest_of_return PostLeaves callee fuel words a b c returned answer second.events first.goes.traps_later second.so);
+    so = subst (λ es. IsRest Leaves callee fuel words a c answer (es ++ second.events)) (sym first.so) (rest_of_return Leaves callee fuel words a b c returned answer second.events (goes_advance a b _ _ first.goes) (goes_advance b c _ _ second.goes) second.so);
   }
 
   -- it didn't
-  pub run_refused : (a b : Moment) (e : Error) (M : List Event → Type 0) → Does a b M (Started callee.func words a b (Err e)) → Does a b M (IsRest PostLeaves callee fuel words a b (Err e))
-  run_refused a b e M first = record { events = first.events; goes = first.goes; moves = first.moves; so = rest_of_start PostLeaves callee fuel words a b e first.events first.so }
+  pub run_refused : (a b : Moment) (e : Error) (M : List Event → Type 0) → Proceeds a b M (Started callee.func words a b (Err e)) → Proceeds a b M (IsRest Leaves callee fuel words a b (Err e))
+  run_refused a b e M first = record { events = first.events; goes = first.goes; moves = first.moves; so = rest_of_start Leaves callee fuel words a b first.goes.no_shorter e first.events first.so }
 
   -- ---- after the return
 
   -- no fault of lifting is a trap
-  refused_so : (a : Moment) (e : Error) → Lifted callee fuel words a.bytes (Err e) → Concluded PostLeaves callee fuel words a a (Err e) []
+  refused_so : (a : Moment) (e : Error) → Lifted callee fuel words a.bytes (Err e) → Concluded Leaves callee fuel words a a (Err e) []
   refused_so a (error.Fault fault.GuestTrap) h = absurd h
   refused_so a e h = (h, refl)
 
   -- the words weren't lifted
   pub conclude_refused : (s : Seen) (bytes : List ℕ) (e : Error) (M : List Event → Type 0) → Lifted callee fuel words bytes (Err e) → M []
-      → Does (moment s bytes) (moment s bytes) M (Concluded PostLeaves callee fuel words (moment s bytes) (moment s bytes) (Err e))
+      → Proceeds (moment s bytes) (moment s bytes) M (Concluded Leaves callee fuel words (moment s bytes) (moment s bytes) (Err e))
   conclude_refused s bytes e M h stays = record {
     events = [];
     goes = goes_none s bytes bytes (omega arith);
@@ -69,27 +74,43 @@ module _ (PostLeaves : List ℕ → List ℕ → Type 0) (callee : Callee) (fuel
     so = refused_so (moment s bytes) e h;
   }
 
+  -- the words were lifted, and post-return wasn't told, or trapped
+  concluded_by : (a b : Moment) (vals : Vec Val Global) (e : Error) (es : List Event) → Lifted callee fuel words a.bytes (Ok vals) → Posted Leaves callee words a b (Err e) es
+      → Concluded Leaves callee fuel words a b (Err e) es
+  concluded_by a b vals (error.Fault fault.GuestTrap) es lifted h = ((vals, lifted), h)
+  concluded_by a b vals (error.Fault fault.OutOfMemory) es lifted h = (tt, h)
+  concluded_by a b vals e es lifted h = absurd h
+
+  pub conclude_untold : (a b : Moment) (vals : Vec Val Global) (e : Error) (P : List Event → Type 0) → Lifted callee fuel words a.bytes (Ok vals)
+      → Proceeds a b (λ es. OnAnswered {T = Unit {0}} (Err e) (P es)) (Posted Leaves callee words a b (Err e)) → Proceeds a b (λ es. OnAnswered {T = Vec Val Global} (Err e) (P es)) (Concluded Leaves callee fuel words a b (Err e))
+  conclude_untold a b vals e P lifted h = record {
+    events = h.events;
+    goes = h.goes;
+    moves = retyped (Unit {0}) (Vec Val Global) e (P h.events) h.moves;
+    so = concluded_by a b vals e h.events lifted h.so;
+  }
+
 -- ---- post-return
 
-module _ (PostLeaves : List ℕ → List ℕ → Type 0) (callee : Callee) (words : List ℕ) where
-  pub posted_none : (s : Seen) (bytes : List ℕ) (M : List Event → Type 0) → callee.post ≡ None → M [] → Does (moment s bytes) (moment s bytes) M (Posted PostLeaves callee words (moment s bytes) (moment s bytes) (Ok tt))
+module _ (Leaves : List ℕ → List ℕ → Type 0) (callee : Callee) (words : List ℕ) where
+  pub posted_none : (s : Seen) (bytes : List ℕ) (M : List Event → Type 0) → callee.post ≡ None → M [] → Proceeds (moment s bytes) (moment s bytes) M (Posted Leaves callee words (moment s bytes) (moment s bytes) (Ok tt))
   posted_none s bytes M none stays = record {
     events = [];
     goes = goes_none s bytes bytes (omega arith);
     moves = stays;
-    so = (sym (ap (λ o. posts o words) none), subst (λ o. Left PostLeaves o bytes bytes) (sym none) refl);
+    so = (sym (ap (λ o. posts o words) none), subst (λ o. Left Leaves o bytes bytes) (sym none) refl);
   }
 
-  pub posted : (a b : Moment) (p : ℕ) (M : List Event → Type 0) → callee.post ≡ Some p → PostLeaves a.bytes b.bytes → Goes a b [] (event.Post p words ∷ []) → M (event.Post p words ∷ []) → Does a b M (Posted PostLeaves callee words a b (Ok tt))
+  pub posted : (a b : Moment) (p : ℕ) (M : List Event → Type 0) → callee.post ≡ Some p → Leaves a.bytes b.bytes → Goes a b [] (event.Post p words ∷ []) → M (event.Post p words ∷ []) → Proceeds a b M (Posted Leaves callee words a b (Ok tt))
   posted a b p M some kept goes moves = record {
     events = event.Post p words ∷ [];
     goes = goes;
     moves = moves;
-    so = (sym (ap (λ o. posts o words) some), subst (λ o. Left PostLeaves o a.bytes b.bytes) (sym some) kept);
+    so = (sym (ap (λ o. posts o words) some), subst (λ o. Left Leaves o a.bytes b.bytes) (sym some) kept);
   }
 
   pub post_trapped : (a b : Moment) (p : ℕ) (f : GuestFault) (M : List Event → Type 0) → f ≡ guest.Trap → callee.post ≡ Some p → Goes a b [] (post_events p words a.bytes (Err f))
-      → HasCause {T = Unit {0}} a.guest b.guest (Err f) → OnAnswer {T = Unit {0}} (Err f) (M (post_events p words a.bytes (Err f))) → Does a b M (Posted PostLeaves callee words a b (Err (error.Fault fault.GuestTrap)))
+      → HasCause {T = Unit {0}} a.guest b.guest (Err f) → OnAnswer {T = Unit {0}} (Err f) (M (post_events p words a.bytes (Err f))) → Proceeds a b M (Posted Leaves callee words a b (Err (error.Fault fault.GuestTrap)))
   post_trapped a b p guest.Trap M e some goes cause moves = record {
     events = event.Post p words ∷ trap_event (length a.bytes) ∷ [];
     goes = goes;
@@ -118,11 +139,11 @@ lowered_is_late callee params a b es error.CannotEnterComponent h = absurd h
 lowered_is_late callee params a b es error.WrongWords h = absurd h
 lowered_is_late callee params a b es (error.UnknownImport n) h = absurd h
 
-module _ (PostLeaves : List ℕ → List ℕ → Type 0) (callee : Callee) (fuel : ℕ) (params : List Val) where
-  core_refused : (a b : Moment) (e : Error) (es : List Event) → Lowered callee params a b (Err e) es → CoreCall PostLeaves callee fuel params a b (Err e) es
-  core_refused a b (error.Fault f) es (inl (short, same, none)) = subst (λ fs. CoreCall PostLeaves callee fuel params a b (Err (error.Fault f)) fs) (sym none)
-      (subst (λ g. CoreCall PostLeaves callee fuel params a b (Err (error.Fault g)) []) (sym short) (short_call PostLeaves callee fuel params a b same))
-  core_refused a b (error.Fault f) es (inr (words, low, blames, is)) = subst (λ fs. CoreCall PostLeaves callee fuel params a b (Err (error.Fault f)) fs) (sym is) (refused_call PostLeaves callee fuel params a b f words low blames)
+module _ (Leaves : List ℕ → List ℕ → Type 0) (callee : Callee) (fuel : ℕ) (params : List Val) where
+  core_refused : (a b : Moment) (e : Error) (es : List Event) → Lowered callee params a b (Err e) es → CoreCall Leaves callee fuel params a b (Err e) es
+  core_refused a b (error.Fault f) es (inl (short, same, none)) = subst (λ fs. CoreCall Leaves callee fuel params a b (Err (error.Fault f)) fs) (sym none)
+      (subst (λ g. CoreCall Leaves callee fuel params a b (Err (error.Fault g)) []) (sym short) (short_call Leaves callee fuel params a b same))
+  core_refused a b (error.Fault f) es (inr (words, low, blames, is, quiet)) = subst (λ fs. CoreCall Leaves callee fuel params a b (Err (error.Fault f)) fs) (sym is) (refused_call Leaves callee fuel params a b f words low blames quiet)
   core_refused a b error.WrongCount es h = absurd h
   core_refused a b error.AsyncLifted es h = absurd h
   core_refused a b error.CannotEnterComponent es h = absurd h
@@ -131,23 +152,23 @@ module _ (PostLeaves : List ℕ → List ℕ → Type 0) (callee : Callee) (fuel
 
   -- the parameters were lowered
   pub call_started : (a b c : Moment) (words : Vec ℕ Global) (answer : Result (Vec Val Global) Error) (M N O : List Event → Type 0) → ((xs ys : List Event) → M xs → N ys → O (xs ++ ys))
-      → Adding a b M (Lowered callee params a b (Ok words)) → Does b c N (IsRest PostLeaves callee fuel words.items b c answer) → Adding a c O (CoreCall PostLeaves callee fuel params a c answer)
+      → Adding a b M (Lowered callee params a b (Ok words)) → Proceeds b c N (IsRest Leaves callee fuel words.items b c answer) → Adding a c O (CoreCall Leaves callee fuel params a c answer)
   call_started a b c words answer M N O f first second =
-      let low : ArgsLowering a b callee.encoding callee.params (HaveTrees callee.params params) words.items done = first.so.0 in
+      let low : LowersArgs false a b callee.encoding callee.params (HaveTrees callee.params params) words.items done = first.so.0 in
       let xs : List Event = events_of low.answers low.trap in
       let ys : List Event = second.events in
       record {
         events = xs ++ ys;
         added = (goes_then a b c (marks_of low.answers) [] xs ys low.lowering.goes second.goes).events;
         moves = λ there. f xs ys (subst M first.so.1 (first.moves there)) second.moves;
-        so = subst (λ o. CoreCall PostLeaves callee fuel params a c answer (events_of low.answers o ++ ys)) (sym low.lowering.cause)
-            (joined PostLeaves callee fuel params a b c words.items low.answers ys answer (ready callee params a b words.items low) low.lowering.goes.traps_later (second.goes.marks ∙ append-nil b.guest.marks) second.so);
+        so = subst (λ o. CoreCall Leaves callee fuel params a c answer (events_of low.answers o ++ ys)) (sym low.lowering.cause)
+            (joined Leaves callee fuel params a b c words.items low.answers ys answer (ready callee params a b words.items low first.so.2 first.so.3) (goes_advance a b _ _ low.lowering.goes) (goes_advance b c _ _ second.goes) (second.goes.marks ∙ append-nil b.guest.marks) second.so);
       }
 
   -- they weren't
-  pub call_refused : (a b : Moment) (e : Error) (M : List Event → Type 0) → Adding a b M (Lowered callee params a b (Err e)) → Adding a b M (CoreCall PostLeaves callee fuel params a b (Err e))
+  pub call_refused : (a b : Moment) (e : Error) (M : List Event → Type 0) → Adding a b M (Lowered callee params a b (Err e)) → Adding a b M (CoreCall Leaves callee fuel params a b (Err e))
   call_refused a b e M low = record { events = low.events; added = low.added; moves = low.moves; so = core_refused a b e low.events low.so }
 
   -- it is refused, whatever the results
-  pub call_left : (a b : Moment) (e : Error) (results : List Val) (M : List Event → Type 0) → Adding a b M (CoreCall PostLeaves callee fuel params a b (Err e)) → Adding a b M (IsCall PostLeaves callee fuel params a b (Err e) results)
+  pub call_left : (a b : Moment) (e : Error) (results : List Val) (M : List Event → Type 0) → Adding a b M (CoreCall Leaves callee fuel params a b (Err e)) → Adding a b M (IsCall Leaves callee fuel params a b (Err e) results)
   call_left a b e results M h = record { events = h.events; added = h.added; moves = h.moves; so = h.so results }

@@ -6,8 +6,8 @@ use Rattle.std.proofs.lemmas.Bool.{cases_lt, le-leb, lt-leb}
 use Rattle.std.proofs.lemmas.Bool.Decides.{nat_tests}
 use Rattle.canon_model.specs.Layout.{flat, members_flat}
 use Rattle.canon_model.specs.Shape.{Members, Shape, member_count, of_places, product}
-use Rattle.canon_table.specs.Table.{Table, members_of}
-use Rattle.canon_table.specs.declared.types.InterfaceType.{InterfaceType}
+use Rattle.canon_types.specs.Table.{Table, members_of}
+use Rattle.canon_types.specs.declared.types.InterfaceType.{InterfaceType}
 use Rattle.canon_value.specs.Built.{are_built, is_built}
 use Rattle.canon_value.specs.declared.component.Component.{Component}
 use Rattle.canon_value.specs.declared.component.Export.{Export}

@@ -1,4 +1,4 @@
-pub mod Fronts
+pub mod Prefixes
 pub mod Rests
 pub mod Calls
 pub mod Counts

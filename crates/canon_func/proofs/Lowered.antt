@@ -1,23 +1,27 @@
 -- What lowering the parameters did.
-use Rattle.std.proofs.Common.{Err, List, None, Option, Some, [], ap, inr, length, refl, subst, sym, ℕ, ◌++◌, ◌∙◌, ◌≡◌, ◌⊎◌}
-use Rattle.std.specs.Prelude.{IsSome, drop, take}
+use Rattle.std.proofs.Common.{Err, List, None, Option, Some, [], ap, arith, inr, length, refl, subst, sym, ℕ, ◌++◌, ◌∙◌, ◌∷◌, ◌≡◌, ◌≤◌, ◌⊎◌}
+use Rattle.std.proofs.lemmas.List.{append-nil, append_cancel_left}
+use Rattle.std.specs.Prelude.{IsSome, drop, false, take}
 use Rattle.std.proofs.Math.Seq.{take-append_seam}
 use Rattle.std.proofs.lemmas.Bool.{false≢true}
+use Rattle.canon_model.specs.Flat.{max_params}
+use Rattle.canon_model.specs.Layout.{members_flat}
 use Rattle.canon_model.specs.Shape.{Members}
 use Rattle.canon_model.specs.Text.{Encoding}
 use Rattle.canon_memory.specs.declared.event.Event.{Event}
-use Rattle.canon_memory.specs.Guest.{Moment, Seen}
+use Rattle.canon_memory.specs.Guest.{GuestIn, Moment, Seen}
 use Rattle.canon_memory.specs.Journal.{Adds}
-use Rattle.canon_lowering.specs.Args.{ArgsLowering}
-use Rattle.canon_lowering.specs.Lowering.{done, events_of}
+use Rattle.canon_lowering.specs.Attempt.{LowersArgs}
+use Rattle.canon_lowering.specs.Lowering.{Answer, CauseOf, Ending, Trap, done, events_of, marks_of, refused}
 use Rattle.canon_value.specs.Fails.{BlamesMembers}
 use Rattle.canon_value.specs.Lowers.{fault_ending}
 use Rattle.canon_value.specs.Moves.{Moves}
+use Rattle.canon_value.specs.Quiet.{have_block}
 use Rattle.canon_value.specs.Value.{HaveTrees}
 use Rattle.canon_value.specs.declared.fault.Fault.{Fault}
 use Rattle.canon_value.specs.declared.fault.Fault.TheVariants as fault
 use Rattle.canon_value.specs.declared.val.Val.{Val}
-use Rattle.canon_func.specs.Call.{Adding, OnAnswered}
+use Rattle.canon_func.specs.Call.{Adding, AsksNothing, OnAnswered, words_within}
 use Rattle.canon_func.specs.declared.error.Error.TheVariants as error
 
 -- a fact of the new events of a told journal
@@ -31,8 +35,8 @@ pub written : (words dst : List ℕ) (n : ℕ) → n ≡ length dst → take n (
 written words dst n e = ap (λ k. take k (dst ++ drop (length dst) words)) e ∙ take-append_seam dst (drop (length dst) words)
 
 -- what a refused lowering tells of the guest's moves
-pub refused_moves : {G : Type 0} (V : Type 0) (seen : G → Seen) (moves : G → List Event → G → Type 0) (g h : G) (f : Fault) → Moves seen moves g h (fault_ending f)
-    → (l es : List Event) → (seen g).journal ≡ Some l → (seen h).journal ≡ Some (l ++ es) → OnAnswered {T = V} (Err (error.Fault f)) (moves g es h)
+pub refused_moves : {G : Type 0} (V : Type 0) (seen : G → Seen) (moves : GuestIn G → List Event → GuestIn G → Type 0) (g h : GuestIn G) (f : Fault) → Moves seen moves g h (fault_ending f)
+    → (l es : List Event) → (seen g.guest).journal ≡ Some l → (seen h.guest).journal ≡ Some (l ++ es) → OnAnswered {T = V} (Err (error.Fault f)) (moves g es h)
 refused_moves V seen moves g h fault.OutOfMemory m l es p q = tt
 refused_moves V seen moves g h (fault.TypeMismatch k) m l es p q = m l es p q
 refused_moves V seen moves g h (fault.FieldName k) m l es p q = m l es p q
@@ -48,27 +52,50 @@ refused_moves V seen moves g h (fault.InvalidUtf8 at) m l es p q = m l es p q
 refused_moves V seen moves g h (fault.InvalidChar at) m l es p q = m l es p q
 refused_moves V seen moves g h fault.HostcallFuelExhausted m l es p q = m l es p q
 
+-- no answer was marked
+no_marks : (xs : List Answer) → [] ≡ marks_of xs → xs ≡ []
+no_marks [] e = refl
+no_marks (x ∷ xs) e = absurd (omega (arith, ap length e))
+
+-- a guest that stayed as it was answered nothing
+none_answered : (a b : Moment) (answers : List Answer) → b ≡ a → b.guest.marks ≡ a.guest.marks ++ marks_of answers → answers ≡ []
+none_answered a b answers same e =
+    no_marks answers (append_cancel_left a.guest.marks [] (marks_of answers) (append-nil a.guest.marks ∙ (ap (λ (m : Moment). m.guest.marks) (sym same) ∙ e)))
+
 module _ (a b : Moment) (enc : Encoding) (ms ns : Members) (params : List Val) (is : ms ≡ ns) where
-  pub lowered_done : (words dst : List ℕ) (M : List Event → Type 0) → words ≡ dst → ArgsLowering a b enc ms (HaveTrees ms params) dst done
-      → ((l es : List Event) → a.guest.journal ≡ Some l → b.guest.journal ≡ Some (l ++ es) → M es) → Adding a b M (λ es. (low : ArgsLowering a b enc ns (HaveTrees ns params) words done) × (es ≡ events_of low.answers low.trap))
-  lowered_done words dst M e low new =
-      let mine : ArgsLowering a b enc ns (HaveTrees ns params) words done =
-      subst (λ ks. ArgsLowering a b enc ks (HaveTrees ks params) words done) is (subst (λ ws. ArgsLowering a b enc ms (HaveTrees ms params) ws done) (sym e) low) in
+  -- where nothing was asked for
+  asks_nothing : (e : Ending) (answers : List Answer) (trap : Option Trap) → b.guest.marks ≡ a.guest.marks ++ marks_of answers → (have_block ms ≡ false → members_flat ms ≤ max_params → trap ≡ None)
+      → (members_flat ms ≤ max_params → have_block ms ≡ false → b ≡ a) → AsksNothing ns answers trap
+  asks_nothing e answers trap marks none same =
+      subst (λ ks. AsksNothing ks answers trap) is (λ near quiet. (none_answered a b answers (same near quiet) marks, none quiet near))
+
+  pub lowered_done : (words dst : List ℕ) (M : List Event → Type 0) → words ≡ dst → length words ≡ words_within max_params ms → (members_flat ms ≤ max_params → have_block ms ≡ false → b ≡ a)
+      → LowersArgs false a b enc ms (HaveTrees ms params) dst done → ((l es : List Event) → a.guest.journal ≡ Some l → b.guest.journal ≡ Some (l ++ es) → M es) → Adding a b M (λ es. (low : LowersArgs false a b enc ns (HaveTrees ns params) words done) × (es ≡ events_of low.answers low.trap) × (length words ≡ words_within max_params ns) × AsksNothing ns low.answers low.trap)
+  lowered_done words dst M e count same low new =
+      let mine : LowersArgs false a b enc ns (HaveTrees ns params) words done =
+      subst (λ ks. LowersArgs false a b enc ks (HaveTrees ks params) words done) is (subst (λ ws. LowersArgs false a b enc ms (HaveTrees ms params) ws done) (sym e) low) in
       record {
         events = events_of mine.answers mine.trap;
         added = mine.lowering.goes.events;
         moves = told a.guest.journal b.guest.journal (events_of mine.answers mine.trap) M mine.lowering.goes.events new;
-        so = (mine, refl);
+        so = (mine, refl, count ∙ ap (λ ks. words_within max_params ks) is, asks_nothing done mine.answers mine.trap mine.lowering.goes.marks (λ quiet near. mine.lowering.cause) same);
       }
 
-  pub lowered_refused : (f : Fault) (dst : List ℕ) (M : List Event → Type 0) → ArgsLowering a b enc ms (HaveTrees ms params) dst (fault_ending f) → BlamesMembers ms params f
-      → ((l es : List Event) → a.guest.journal ≡ Some l → b.guest.journal ≡ Some (l ++ es) → M es)
-      → Adding a b M (λ es. ((f ≡ fault.OutOfMemory) × (b ≡ a) × (es ≡ [])) ⊎ ((words : List ℕ) × (low : ArgsLowering a b enc ns (HaveTrees ns params) words (fault_ending f)) × BlamesMembers ns params f × (es ≡ events_of low.answers low.trap)))
-  lowered_refused f dst M low blames new =
-      let mine : ArgsLowering a b enc ns (HaveTrees ns params) dst (fault_ending f) = subst (λ ks. ArgsLowering a b enc ks (HaveTrees ks params) dst (fault_ending f)) is low in
+  pub lowered_refused : (f : Fault) (dst : List ℕ) (M : List Event → Type 0) → LowersArgs false a b enc ms (HaveTrees ms params) dst (fault_ending f) → BlamesMembers ms params f
+      → (members_flat ms ≤ max_params → have_block ms ≡ false → (b ≡ a) × (fault_ending f ≡ refused)) → ((l es : List Event) → a.guest.journal ≡ Some l → b.guest.journal ≡ Some (l ++ es) → M es)
+      → Adding a b M (λ es. ((f ≡ fault.OutOfMemory) × (b ≡ a) × (es ≡ [])) ⊎ ((words : List ℕ) × (low : LowersArgs false a b enc ns (HaveTrees ns params) words (fault_ending f)) × BlamesMembers ns params f × (es ≡ events_of low.answers low.trap) × AsksNothing ns low.answers low.trap))
+  lowered_refused f dst M low blames same new =
+      let mine : LowersArgs false a b enc ns (HaveTrees ns params) dst (fault_ending f) = subst (λ ks. LowersArgs false a b enc ks (HaveTrees ks params) dst (fault_ending f)) is low in
       record {
         events = events_of mine.answers mine.trap;
         added = mine.lowering.goes.events;
         moves = told a.guest.journal b.guest.journal (events_of mine.answers mine.trap) M mine.lowering.goes.events new;
-        so = inr (dst, mine, subst (λ ks. BlamesMembers ks params f) is blames, refl);
+        so = inr (
+          dst,
+          mine,
+          subst (λ ks. BlamesMembers ks params f) is blames,
+          refl,
+          asks_nothing (fault_ending f) mine.answers mine.trap mine.lowering.goes.marks
+              (λ quiet near. subst (λ end. CauseOf a b mine.answers mine.trap end) (same near quiet).1 mine.lowering.cause) (λ near quiet. (same near quiet).0),
+        );
       }

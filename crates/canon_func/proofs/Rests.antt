@@ -24,13 +24,13 @@ use Rattle.canon_value.specs.declared.fault.At.{At}
 use Rattle.canon_value.specs.Loads.{place_of}
 use Rattle.canon_value.specs.declared.fault.Fault.TheVariants as fault
 use Rattle.canon_value.specs.declared.val.Val.{Val}
-use Rattle.canon_func.specs.Call.{HasFault, Left, result_words}
-use Rattle.canon_func.specs.Runs.{Each, IsFrontOfRun, IsNoRequest, OnReturn, OnStart, posts}
+use Rattle.canon_func.specs.Call.{Advances, HasFault, Left, result_words}
+use Rattle.canon_func.specs.Runs.{Each, Grows, IsNoRequest, IsNoResume, IsPrefixOfRun, OnReturn, OnStart, posts}
 use Rattle.canon_func.specs.Steps.{Concluded, IsRest, Lifted, RestCause, Started}
 use Rattle.canon_func.specs.Stores.{Callee}
 use Rattle.canon_func.specs.declared.error.Error.{Error}
 use Rattle.canon_func.specs.declared.error.Error.TheVariants as error
-use Rattle.canon_func.proofs.Fronts.{front_all, front_asked, front_none, front_post_trapped, front_returned, front_trapped, plain_run}
+use Rattle.canon_func.proofs.Prefixes.{prefix_all, prefix_asked, prefix_none, prefix_post_trapped, prefix_returned, prefix_trapped, plain_run}
 
 -- what represents results is as many words as they take
 pub words_of_results : (enc : Encoding) (m : Memory) (ws : List ℕ) (ms : Members) (ts : Trees) → RepResults false enc m ws ms ts → length ws ≡ result_words ms
@@ -44,52 +44,65 @@ each_post : (P : Event → Type 0) → ((p : ℕ) (ws : List ℕ) → P (event.P
 each_post P f None ws = tt
 each_post P f (Some p) ws = (f p ws, tt)
 
-module _ (PostLeaves : List ℕ → List ℕ → Type 0) (callee : Callee) (fuel : ℕ) (words : List ℕ) (before after : Moment) where
+grows_post : (post : Option ℕ) (ws : List ℕ) (len last : ℕ) → len ≤ last → Grows len (posts post ws) last
+grows_post None ws len last h = h
+grows_post (Some p) ws len last h = h
+
+module _ (Leaves : List ℕ → List ℕ → Type 0) (callee : Callee) (fuel : ℕ) (words : List ℕ) (before after : Moment) (longer : length before.bytes ≤ length after.bytes) where
   -- ---- the guest didn't return
 
-  none_made : IsRest PostLeaves callee fuel words before after (Err (error.Fault fault.OutOfMemory)) []
+  none_made : IsRest Leaves callee fuel words before after (Err (error.Fault fault.OutOfMemory)) []
   none_made = record {
     one_run = tt;
-    front = front_none callee.func callee.post;
+    prefix = prefix_none callee.func callee.post;
+    no_resume = tt;
     no_more = tt;
+    grows = longer;
     start = tt;
     only_results = tt;
+    posted = λ some. absurd (some tt);
     count = tt;
     leaves = tt;
     cause = tt;
     valid = λ calm quiet right. refl;
   }
 
-  asked_made : (n : ℕ) (asked : List ℕ) → IsRest PostLeaves callee fuel words before after (Err (error.UnknownImport n)) (event.Start callee.func words before.bytes ∷ event.Ask n asked after.bytes ∷ [])
+  asked_made : (n : ℕ) (asked : List ℕ) → IsRest Leaves callee fuel words before after (Err (error.UnknownImport n)) (event.Start callee.func words before.bytes ∷ event.Ask n asked after.bytes ∷ [])
   asked_made n asked = record {
     one_run = tt;
-    front = λ len. front_asked callee.func callee.post len words before.bytes n asked after.bytes;
+    prefix = λ len. prefix_asked callee.func callee.post len words before.bytes n asked after.bytes;
+    no_resume = (tt, (tt, tt));
     no_more = (tt, (tt, tt));
+    grows = (omega arith, (longer, omega arith));
     start = ((refl, refl), (tt, tt));
     only_results = tt;
+    posted = λ some. absurd (some (tt, (tt, tt)));
     count = tt;
     leaves = tt;
     cause = refl;
     valid = λ calm quiet right. absurd quiet.1.0;
   }
 
-  trapped_made : Rose before.guest.traps after.guest.traps → IsRest PostLeaves callee fuel words before after (Err (error.Fault fault.GuestTrap)) (event.Start callee.func words before.bytes ∷ trap_event (length before.bytes) ∷ [])
+  trapped_made : Rose before.guest.traps after.guest.traps → IsRest Leaves callee fuel words before after (Err (error.Fault fault.GuestTrap)) (event.Start callee.func words before.bytes ∷ trap_event (length before.bytes) ∷ [])
   trapped_made rose = record {
     one_run = tt;
-    front = λ len. front_trapped callee.func callee.post len words before.bytes;
+    prefix = λ len. prefix_trapped callee.func callee.post len words before.bytes;
+    no_resume = (tt, (tt, tt));
     no_more = (tt, (tt, tt));
+    grows = (omega arith, (omega arith, longer));
     start = ((refl, refl), (tt, tt));
     only_results = tt;
+    posted = λ some. absurd (some (tt, (tt, tt)));
     count = tt;
     leaves = tt;
     cause = (rose, tt);
     valid = λ calm quiet right. absurd (calm tt);
   }
 
-  pub rest_of_start : (e : Error) (events : List Event) → Started callee.func words before after (Err e) events → IsRest PostLeaves callee fuel words before after (Err e) events
-  rest_of_start (error.UnknownImport n) events h = subst (λ es. IsRest PostLeaves callee fuel words before after (Err (error.UnknownImport n)) es) (sym h.1) (asked_made n h.0)
-  rest_of_start (error.Fault fault.GuestTrap) events h = subst (λ es. IsRest PostLeaves callee fuel words before after (Err (error.Fault fault.GuestTrap)) es) (sym h.1) (trapped_made h.0)
-  rest_of_start (error.Fault fault.OutOfMemory) events h = subst (λ es. IsRest PostLeaves callee fuel words before after (Err (error.Fault fault.OutOfMemory)) es) (sym h) none_made
+  pub rest_of_start : (e : Error) (events : List Event) → Started callee.func words before after (Err e) events → IsRest Leaves callee fuel words before after (Err e) events
+  rest_of_start (error.UnknownImport n) events h = subst (λ es. IsRest Leaves callee fuel words before after (Err (error.UnknownImport n)) es) (sym h.1) (asked_made n h.0)
+  rest_of_start (error.Fault fault.GuestTrap) events h = subst (λ es. IsRest Leaves callee fuel words before after (Err (error.Fault fault.GuestTrap)) es) (sym h.1) (trapped_made h.0)
+  rest_of_start (error.Fault fault.OutOfMemory) events h = subst (λ es. IsRest Leaves callee fuel words before after (Err (error.Fault fault.OutOfMemory)) es) (sym h) none_made
   rest_of_start error.WrongCount events h = absurd h
   rest_of_start error.AsyncLifted events h = absurd h
   rest_of_start error.CannotEnterComponent events h = absurd h
@@ -109,18 +122,21 @@ module _ (PostLeaves : List ℕ → List ℕ → Type 0) (callee : Callee) (fuel
 
   -- ---- it returned
 
-  module _ (returned memory : List ℕ) where
+  module _ (returned memory : List ℕ) (first : length before.bytes ≤ length memory) (second : length memory ≤ length after.bytes) where
     -- and then nothing was told to it
     returned_made : (e : Error)
         → RestCause callee fuel before after (event.Start callee.func words before.bytes ∷ event.Return returned memory ∷ []) e
         → ((us : Trees) → RepResults false callee.encoding (narrow memory) returned callee.results us → members_cost callee.results us ≤ fuel → e ≡ error.Fault fault.OutOfMemory)
-        → IsRest PostLeaves callee fuel words before after (Err e) (event.Start callee.func words before.bytes ∷ event.Return returned memory ∷ [])
+        → IsRest Leaves callee fuel words before after (Err e) (event.Start callee.func words before.bytes ∷ event.Return returned memory ∷ [])
     returned_made e cause excluded = record {
       one_run = tt;
-      front = λ len. front_returned callee.func callee.post len words before.bytes returned memory;
+      prefix = λ len. prefix_returned callee.func callee.post len words before.bytes returned memory;
+      no_resume = (tt, (tt, tt));
       no_more = (tt, (tt, tt));
+      grows = (omega arith, (first, second));
       start = ((refl, refl), (tt, tt));
       only_results = tt;
+      posted = λ some. absurd (some (tt, (tt, tt)));
       count = tt;
       leaves = tt;
       cause = cause;
@@ -130,16 +146,16 @@ module _ (PostLeaves : List ℕ → List ℕ → Type 0) (callee : Callee) (fuel
     -- of a fault of the words
     excludes : (e : Error) (k : Kind) (at : At) → HasFault callee k at returned memory
         → (us : Trees) → RepResults false callee.encoding (narrow memory) returned callee.results us → members_cost callee.results us ≤ fuel → e ≡ error.Fault fault.OutOfMemory
-    excludes e k at f us r few = absurd (fault_excludes.values max_results false callee.encoding (narrow memory) returned callee.results us k (place_of at) f r)
+    excludes e k at f us r few = absurd (fault_excludes.values max_results false callee.encoding (narrow memory) returned callee.results us k (place_of at) f.1 r)
 
-    lifted_made : (e : Error) → (e ≡ error.Fault fault.GuestTrap → ⊥) → Lifted callee fuel returned memory (Err e) → IsRest PostLeaves callee fuel words before after (Err e) (event.Start callee.func words before.bytes ∷ event.Return returned memory ∷ [])
+    lifted_made : (e : Error) → (e ≡ error.Fault fault.GuestTrap → ⊥) → Lifted callee fuel returned memory (Err e) → IsRest Leaves callee fuel words before after (Err e) (event.Start callee.func words before.bytes ∷ event.Return returned memory ∷ [])
     lifted_made error.WrongWords n h = returned_made error.WrongWords h (λ us r few. absurd (h (words_of_results callee.encoding (narrow memory) returned callee.results us r)))
     lifted_made (error.Fault (fault.PointerMisaligned at)) n h = returned_made (error.Fault (fault.PointerMisaligned at)) h (excludes (error.Fault (fault.PointerMisaligned at)) _ _ h)
     lifted_made (error.Fault (fault.PointerOutOfBounds at)) n h = returned_made (error.Fault (fault.PointerOutOfBounds at)) h (excludes (error.Fault (fault.PointerOutOfBounds at)) _ _ h)
     lifted_made (error.Fault (fault.InvalidUtf8 at)) n h = returned_made (error.Fault (fault.InvalidUtf8 at)) h (excludes (error.Fault (fault.InvalidUtf8 at)) _ _ h)
     lifted_made (error.Fault (fault.InvalidChar at)) n h = returned_made (error.Fault (fault.InvalidChar at)) h (excludes (error.Fault (fault.InvalidChar at)) _ _ h)
     lifted_made (error.Fault fault.HostcallFuelExhausted) n h = returned_made (error.Fault fault.HostcallFuelExhausted) h
-        (λ us r few. absurd (past_cost fuel _ _ h (reach_is_the_cost.values max_results false callee.encoding (narrow memory) returned callee.results us r) few))
+        (λ us r few. absurd (past_cost fuel _ _ h.1 (reach_is_the_cost.values max_results false callee.encoding (narrow memory) returned callee.results us r) few))
     lifted_made (error.Fault fault.OutOfMemory) n h = returned_made (error.Fault fault.OutOfMemory) tt (λ us r few. refl)
     lifted_made (error.UnknownImport i) n h = absurd h
     lifted_made error.WrongCount n h = absurd h
@@ -155,45 +171,54 @@ module _ (PostLeaves : List ℕ → List ℕ → Type 0) (callee : Callee) (fuel
     lifted_made (error.Fault fault.GuestTrap) n h = absurd h
 
     -- the whole was done
-    done_made : (vals : Vec Val Global) → (left : ℕ) × AreResults callee.encoding (narrow memory) callee.results returned fuel left vals.items → Left PostLeaves callee.post memory after.bytes
-        → IsRest PostLeaves callee fuel words before after (Ok vals) (event.Start callee.func words before.bytes ∷ event.Return returned memory ∷ posts callee.post returned)
+    done_made : (vals : Vec Val Global) → (left : ℕ) × AreResults callee.encoding (narrow memory) callee.results returned fuel left vals.items → Left Leaves callee.post memory after.bytes
+        → IsRest Leaves callee fuel words before after (Ok vals) (event.Start callee.func words before.bytes ∷ event.Return returned memory ∷ posts callee.post returned)
     done_made vals (left, results) kept = record {
       one_run = plain_run callee.func callee.post words before.bytes returned memory;
-      front = λ len. front_all callee.func callee.post len words before.bytes returned memory;
+      prefix = λ len. prefix_all callee.func callee.post len words before.bytes returned memory;
+      no_resume = (tt, (tt, each_post IsNoResume (λ p ws. tt) callee.post returned));
+      grows = (omega arith, (first, grows_post callee.post returned (length memory) (length after.bytes) second));
       no_more = (tt, (tt, each_post IsNoRequest (λ p ws. tt) callee.post returned));
       start = ((refl, refl), (tt, each_post (OnStart (λ ws m. (ws ≡ words) × (m ≡ before.bytes))) (λ p ws. tt) callee.post returned));
       only_results = (tt, ((left, results), each_post (OnReturn (λ ws m. (rest : ℕ) × AreResults callee.encoding (narrow m) callee.results ws fuel rest vals.items)) (λ p ws. tt) callee.post returned));
+      posted = λ some. (tt, ((left, vals.items, results), each_post (OnReturn (λ ws m. (rest : ℕ) × (vs : List Val) × AreResults callee.encoding (narrow m) callee.results ws fuel rest vs)) (λ p ws. tt) callee.post returned));
       count = have_count callee.results vals.items results.its_trees results.have;
-      leaves = (tt, (kept, each_post (OnReturn (λ ws m. Left PostLeaves callee.post m after.bytes)) (λ p ws. tt) callee.post returned));
+      leaves = (tt, (kept, each_post (OnReturn (λ ws m. Left Leaves callee.post m after.bytes)) (λ p ws. tt) callee.post returned));
       cause = tt;
       valid = λ calm quiet right. tt;
     }
 
 -- post-return trapped
-post_trapped_made : (PostLeaves : List ℕ → List ℕ → Type 0) (callee : Callee) (fuel : ℕ) (words : List ℕ) (before after : Moment) (returned memory : List ℕ) (p : ℕ) → callee.post ≡ Some p → Rose before.guest.traps after.guest.traps
-    → IsRest PostLeaves callee fuel words before after (Err (error.Fault fault.GuestTrap)) (event.Start callee.func words before.bytes ∷ event.Return returned memory ∷ event.Post p returned ∷ trap_event (length memory) ∷ [])
-post_trapped_made PostLeaves callee fuel words before after returned memory p e rose = record {
+post_trapped_made : (Leaves : List ℕ → List ℕ → Type 0) (callee : Callee) (fuel : ℕ) (words : List ℕ) (before after : Moment) (returned memory : List ℕ) (p : ℕ) → length before.bytes ≤ length memory → length memory ≤ length after.bytes → callee.post ≡ Some p → Rose before.guest.traps after.guest.traps → ((vals : Vec Val Global) × Lifted callee fuel returned memory (Ok vals))
+    → IsRest Leaves callee fuel words before after (Err (error.Fault fault.GuestTrap)) (event.Start callee.func words before.bytes ∷ event.Return returned memory ∷ event.Post p returned ∷ trap_event (length memory) ∷ [])
+post_trapped_made Leaves callee fuel words before after returned memory p first second e rose (vals, (left, results)) = record {
   one_run = tt;
-  front = λ len. subst (λ o. IsFrontOfRun callee.func o len (event.Start callee.func words before.bytes ∷ event.Return returned memory ∷ event.Post p returned ∷ trap_event (length memory) ∷ [])) (sym e)
-      (front_post_trapped callee.func len p words before.bytes returned memory);
+  prefix = λ len. subst (λ o. IsPrefixOfRun callee.func o len (event.Start callee.func words before.bytes ∷ event.Return returned memory ∷ event.Post p returned ∷ trap_event (length memory) ∷ [])) (sym e)
+      (prefix_post_trapped callee.func len p words before.bytes returned memory);
+  no_resume = (tt, (tt, (tt, (tt, tt))));
   no_more = (tt, (tt, (tt, (tt, tt))));
+  grows = (omega arith, (first, (omega arith, second)));
   start = ((refl, refl), (tt, (tt, (tt, tt))));
   only_results = tt;
+  posted = λ some. (tt, ((left, vals.items, results), (tt, (tt, tt))));
   count = tt;
   leaves = tt;
   cause = (rose, tt);
   valid = λ calm quiet right. absurd (calm tt);
 }
 
-module _ (PostLeaves : List ℕ → List ℕ → Type 0) (callee : Callee) (fuel : ℕ) (words : List ℕ) (before mid after : Moment) (returned : List ℕ) where
-  pub rest_of_return : (answer : Result (Vec Val Global) Error) (later : List Event) → before.guest.traps ≤ mid.guest.traps → Concluded PostLeaves callee fuel returned mid after answer later
-      → IsRest PostLeaves callee fuel words before after answer (event.Start callee.func words before.bytes ∷ event.Return returned mid.bytes ∷ later)
-  rest_of_return (Ok vals) later grown h =
-      subst (λ es. IsRest PostLeaves callee fuel words before after (Ok vals) (event.Start callee.func words before.bytes ∷ event.Return returned mid.bytes ∷ es)) (sym h.1.0)
-      (done_made PostLeaves callee fuel words before after returned mid.bytes vals h.0 h.1.1)
-  rest_of_return (Err (error.Fault fault.GuestTrap)) later grown (rose, (p, is, e)) =
-      subst (λ es. IsRest PostLeaves callee fuel words before after (Err (error.Fault fault.GuestTrap)) (event.Start callee.func words before.bytes ∷ event.Return returned mid.bytes ∷ es)) (sym e)
-      (post_trapped_made PostLeaves callee fuel words before after returned mid.bytes p is (omega arith))
-  rest_of_return (Err e) later grown h =
-      subst (λ es. IsRest PostLeaves callee fuel words before after (Err e) (event.Start callee.func words before.bytes ∷ event.Return returned mid.bytes ∷ es)) (sym h.1)
-      (lifted_made PostLeaves callee fuel words before after returned mid.bytes e (λ q. cc) h.0)
+module _ (Leaves : List ℕ → List ℕ → Type 0) (callee : Callee) (fuel : ℕ) (words : List ℕ) (before mid after : Moment) (returned : List ℕ) where
+  longer : Advances before mid → Advances mid after → length before.bytes ≤ length after.bytes
+  longer f g = omega (arith, f.no_shorter, g.no_shorter)
+
+  pub rest_of_return : (answer : Result (Vec Val Global) Error) (later : List Event) → Advances before mid → Advances mid after → Concluded Leaves callee fuel returned mid after answer later
+      → IsRest Leaves callee fuel words before after answer (event.Start callee.func words before.bytes ∷ event.Return returned mid.bytes ∷ later)
+  rest_of_return (Ok vals) later f g h =
+      subst (λ es. IsRest Leaves callee fuel words before after (Ok vals) (event.Start callee.func words before.bytes ∷ event.Return returned mid.bytes ∷ es)) (sym h.1.0)
+      (done_made Leaves callee fuel words before after (longer f g) returned mid.bytes f.no_shorter g.no_shorter vals h.0 h.1.1)
+  rest_of_return (Err (error.Fault fault.GuestTrap)) later f g (lifted, (rose, (p, is, e))) =
+      subst (λ es. IsRest Leaves callee fuel words before after (Err (error.Fault fault.GuestTrap)) (event.Start callee.func words before.bytes ∷ event.Return returned mid.bytes ∷ es)) (sym e)
+      (post_trapped_made Leaves callee fuel words before after returned mid.bytes p f.no_shorter g.no_shorter is (omega (arith, rose, f.traps_later)) lifted)
+  rest_of_return (Err e) later f g h =
+      subst (λ es. IsRest Leaves callee fuel words before after (Err e) (event.Start callee.func words before.bytes ∷ event.Return returned mid.bytes ∷ es)) (sym h.1)
+      (lifted_made Leaves callee fuel words before after (longer f g) returned mid.bytes f.no_shorter g.no_shorter e (λ q. cc) h.0)

@@ -1,7 +1,7 @@
 -- What a call did.
 use Rattle.std.specs.Prelude.{Bool, Err, IfErr, IsOkUnless, IsSome, List, None, Ok, OnOk, Option, Result, Some, [], false, if◌then◌else◌, length, nat_le, not, slice_index, true, ℕ, ⊤, ◌%◌, ◌&&◌, ◌++◌, ◌+◌, ◌<◌, ◌==◌, ◌∷◌, ◌≡◌, ◌≤◌}
 use Rattle.canon_model.specs.Cost.{members_cost}
-use Rattle.canon_model.specs.Flat.{RepArgs, RepResults, max_results}
+use Rattle.canon_model.specs.Flat.{RepArgs, RepResults, max_params, max_results}
 use Rattle.canon_model.specs.Homes.{ParamsHome, PointsTo}
 use Rattle.canon_model.specs.Layout.{members_flat}
 use Rattle.canon_model.specs.Memory.{InBlocks}
@@ -14,28 +14,26 @@ use Rattle.canon_memory.specs.declared.event.Event.{Event}
 use Rattle.canon_memory.specs.Counts.{Rose}
 use Rattle.canon_memory.specs.Guest.{Moment}
 use Rattle.canon_memory.specs.Journal.{Adds}
-use Rattle.canon_lowering.specs.Lowering.{AllLawful, AllTidy, Answer, Meets, Trap, addresses_of, blocks_of, events_of, marks_of}
-use Rattle.canon_lowering.specs.Args.{Anywhere}
+use Rattle.canon_lowering.specs.Lowering.{Accepted, AllGood, AllLawful, AllTidy, Answer, Ending, Meets, Trap, addresses_of, blocks_of, done, events_of, marks_of}
+use Rattle.canon_lowering.specs.Attempt.{AnyPointer}
 use Rattle.canon_lowering.specs.Storing.{narrow}
+use Rattle.canon_types.specs.Refusal.{first_error}
 use Rattle.canon_value.specs.Fails.{AreSmall, BlamesMembers}
 use Rattle.canon_value.specs.Lifts.{AreResults}
+use Rattle.canon_value.specs.Lowers.{fault_ending}
 use Rattle.canon_value.specs.Loads.{place_of}
+use Rattle.canon_value.specs.Quiet.{have_block}
 use Rattle.canon_value.specs.Value.{HaveTrees}
 use Rattle.canon_value.specs.declared.fault.At.{At}
 use Rattle.canon_value.specs.declared.fault.Fault.{Fault}
 use Rattle.canon_value.specs.declared.fault.Fault.TheVariants as fault
 use Rattle.canon_value.specs.declared.val.Val.{Val}
-use Rattle.canon_func.specs.Runs.{AsksFor, Each, EndsIn, IsAnswer, IsFrontOfRun, IsNoAsk, IsNoRequest, IsNoStart, IsOneRun, IsReturn, IsTrap, OnReturn, OnStart}
+use Rattle.canon_func.specs.Runs.{AsksFor, Each, EndsIn, Grows, IsAnswer, IsNoAsk, IsNoPost, IsNoRequest, IsNoResume, IsNoStart, IsOneRun, IsPrefixOfRun, IsReturn, IsTrap, OnReturn, OnStart}
 use Rattle.canon_func.specs.Stores.{Callee}
 use Rattle.canon_func.specs.declared.error.Error.{Error}
 use Rattle.canon_func.specs.declared.error.Error.TheVariants as error
 
 -- ---- before the guest is entered
-
--- the error of the first test that applies
-abbrev pub first_error : List (Bool × Error) → Option Error
-first_error [] = None
-first_error (test ∷ tests) = if test.0 then Some test.1 else first_error tests
 
 -- Why a call with so many parameters and results is refused before the guest is entered, if it is: the first reason counts.
 abbrev pub refusal : Callee → ℕ → ℕ → Bool → Option Error
@@ -57,14 +55,23 @@ refused_by (Err (error.Fault f)) = None
 
 -- ---- at the start
 
+-- how many words values take: in a row up to `most` words, or one that points to them
+abbrev pub words_within : ℕ → Members → ℕ
+words_within most ms = if nat_le (members_flat ms) most then members_flat ms else 1
+
 -- The guest was started with these words in this memory: they stand for the parameters, as far as the answers kept the law
 -- of `realloc`.
 pub record IsStart (callee : Callee) (params : List Val) (entry : List ℕ) (answers : List Answer) (words memory : List ℕ) : Type 0 where
   pub trees : Trees
   pub have : HaveTrees callee.params params trees
+  -- memory isn't shorter than at the call's entry
+  pub no_shorter : length entry ≤ length memory
+  -- there are as many words as the parameters take; each answer is aligned, and its block ends inside memory
+  pub count : length words ≡ words_within max_params callee.params
+  pub good : AllGood (length memory) answers
   pub represented : AllLawful answers → RepArgs true callee.encoding (narrow memory) words callee.params trees
   -- each pointer in the words is the home of its own block, and so is each in the blocks
-  pub homes : ParamsHome Anywhere callee.encoding false words callee.params trees (addresses_of answers) []
+  pub homes : ParamsHome AnyPointer callee.encoding false words callee.params trees (addresses_of answers) []
   pub memory_homes : AllLawful answers → ParamsHome (PointsTo (narrow memory)) callee.encoding false words callee.params trees (addresses_of answers) []
   -- memory at the call's entry stands, outside the answered blocks
   pub frame : AllTidy answers → (i : ℕ) → i < length entry → ¬ InBlocks (blocks_of answers) i → slice_index memory i ≡ slice_index entry i
@@ -75,35 +82,35 @@ pub record MetFirst (requests : List Request) (answers : List Answer) (trap : Op
   pub met : (last : ℕ) → Meets last requests answers trap left
   pub all : Each (OnStart (λ words m. left ≡ [])) later
 
--- ---- causes
+-- parameters in a row that reach no text and no list ask for nothing, whatever their values
+abbrev pub AsksNothing : Members → List Answer → Option Trap → Type 0
+AsksNothing ms answers trap = members_flat ms ≤ max_params → have_block ms ≡ false → (answers ≡ []) × (trap ≡ None)
 
--- how many words values take: in a row up to `most` words, or one that points to them
-abbrev pub words_within : ℕ → Members → ℕ
-words_within most ms = if nat_le (members_flat ms) most then members_flat ms else 1
+-- ---- causes
 
 -- how many words a function returns
 abbrev pub result_words : Members → ℕ
 result_words ms = words_within max_results ms
 
--- the words and the memory that were returned have a fault of this kind there
+-- there are as many words as the results take, and they or the memory that was returned have a fault of this kind there
 abbrev pub HasFault : Callee → Kind → At → List ℕ → List ℕ → Type 0
-HasFault callee kind at words memory = ValuesFault callee.encoding (narrow memory) words max_results callee.results kind (place_of at)
+HasFault callee kind at words memory = (length words ≡ result_words callee.results) × ValuesFault callee.encoding (narrow memory) words max_results callee.results kind (place_of at)
 
--- what they stand for, as far as it was reached, costs more than this fuel
+-- what as many words stand for, as far as it was reached, costs more than this fuel
 abbrev pub IsPastFuel : Callee → ℕ → List ℕ → List ℕ → Type 0
-IsPastFuel callee fuel words memory = fuel < values_reach callee.encoding (narrow memory) words max_results callee.results
+IsPastFuel callee fuel words memory = (length words ≡ result_words callee.results) × (fuel < values_reach callee.encoding (narrow memory) words max_results callee.results)
 
 -- why a call was refused with this fault
 abbrev pub FaultCause : Callee → ℕ → List Val → Moment → Moment → List Event → Fault → Type 0
-FaultCause callee fuel params before after events (fault.TypeMismatch k) = BlamesMembers callee.params params (fault.TypeMismatch k)
-FaultCause callee fuel params before after events (fault.FieldName k) = BlamesMembers callee.params params (fault.FieldName k)
-FaultCause callee fuel params before after events (fault.LengthMismatch k) = BlamesMembers callee.params params (fault.LengthMismatch k)
-FaultCause callee fuel params before after events (fault.StringTooLong n) = BlamesMembers callee.params params (fault.StringTooLong n)
-FaultCause callee fuel params before after events (fault.SizeOverflow n) = BlamesMembers callee.params params (fault.SizeOverflow n)
+FaultCause callee fuel params before after events (fault.TypeMismatch k) = Each IsNoStart events × ¬ EndsIn IsTrap events × BlamesMembers callee.params params (fault.TypeMismatch k)
+FaultCause callee fuel params before after events (fault.FieldName k) = Each IsNoStart events × ¬ EndsIn IsTrap events × BlamesMembers callee.params params (fault.FieldName k)
+FaultCause callee fuel params before after events (fault.LengthMismatch k) = Each IsNoStart events × ¬ EndsIn IsTrap events × BlamesMembers callee.params params (fault.LengthMismatch k)
+FaultCause callee fuel params before after events (fault.StringTooLong n) = Each IsNoStart events × ¬ EndsIn IsTrap events × BlamesMembers callee.params params (fault.StringTooLong n)
+FaultCause callee fuel params before after events (fault.SizeOverflow n) = Each IsNoStart events × ¬ EndsIn IsTrap events × BlamesMembers callee.params params (fault.SizeOverflow n)
 FaultCause callee fuel params before after events (fault.ReallocMisaligned a) =
     Each IsNoStart events × EndsIn (IsAnswer (λ c answer. (answer ≡ a) × ¬ (a % c.align ≡ 0))) events
 FaultCause callee fuel params before after events (fault.ReallocOutOfBounds a) =
-    Each IsNoStart events × EndsIn (IsAnswer (λ c answer. (answer ≡ a) × ¬ (a + c.new_size ≤ length after.bytes))) events
+    Each IsNoStart events × EndsIn (IsAnswer (λ c answer. (answer ≡ a) × (a % c.align ≡ 0) × ¬ (a + c.new_size ≤ length after.bytes))) events
 FaultCause callee fuel params before after events fault.GuestTrap = Rose before.guest.traps after.guest.traps × EndsIn IsTrap events
 FaultCause callee fuel params before after events (fault.PointerMisaligned at) = EndsIn (IsReturn (HasFault callee misaligned at)) events
 FaultCause callee fuel params before after events (fault.PointerOutOfBounds at) = EndsIn (IsReturn (HasFault callee out_of_bounds at)) events
@@ -121,32 +128,52 @@ Cause callee fuel params before after events error.WrongCount = ⊥
 Cause callee fuel params before after events error.AsyncLifted = ⊥
 Cause callee fuel params before after events error.CannotEnterComponent = ⊥
 
+-- how lowering the parameters of a call that answered so ended: a fault of its own ended it, and it was done else
+abbrev pub lowering_ending : Result (Unit {0}) Error → Ending
+lowering_ending (Ok x) = done
+lowering_ending (Err (error.Fault f)) = fault_ending f
+lowering_ending (Err _) = done
+
 -- ---- the whole
 
 -- What may become of memory after the return: a post-return, where there is one, leaves it so; without one it stays.
 abbrev pub Left : (List ℕ → List ℕ → Type 0) → Option ℕ → List ℕ → List ℕ → Type 0
-Left PostLeaves None memory after = after ≡ memory
-Left PostLeaves (Some func) memory after = PostLeaves memory after
+Left Leaves None memory after = after ≡ memory
+Left Leaves (Some func) memory after = Leaves memory after
+
+-- Memory isn't shorter, and counts don't fall.
+pub record Advances (before after : Moment) : Type 0 where
+  pub no_shorter : length before.bytes ≤ length after.bytes
+  pub traps_later : before.guest.traps ≤ after.guest.traps
+  pub shortages_later : before.guest.shortages ≤ after.guest.shortages
 
 -- A call that wasn't refused before the guest was entered, by its callee, the fuel of lifting, its parameters, the moments
 -- before and after, its answer, the results that it leaves and the events that it adds to a told journal.
-pub record IsCall (PostLeaves : List ℕ → List ℕ → Type 0) (callee : Callee) (fuel : ℕ) (params : List Val) (before after : Moment) (answer : Result (Unit {0}) Error) (results : List Val) (events : List Event) : Type 0 where
-  -- The guest made one run; of a refused call the events are a front of one.
+pub record IsCall (Leaves : List ℕ → List ℕ → Type 0) (callee : Callee) (fuel : ℕ) (params : List Val) (before after : Moment) (answer : Result (Unit {0}) Error) (results : List Val) (events : List Event) : Type 0 where
+  -- The guest made one run; of a refused call the events are a prefix of one. No ask is resumed, since a component has no imports.
   pub one_run : OnOk answer (IsOneRun callee.func callee.post events)
-  pub front : IsFrontOfRun callee.func callee.post (length before.bytes) events
+  pub prefix : IsPrefixOfRun callee.func callee.post (length before.bytes) events
+  pub no_resume : Each IsNoResume events
+  pub advances : Advances before after
+  pub grows : Grows (length before.bytes) events (length after.bytes)
   -- Blocks were asked for before the start alone, as the parameters want them; each answer has its mark.
   pub answers : List Answer
   pub trap : Option Trap
   pub later : List Event
   pub in_parts : events ≡ events_of answers trap ++ later
   pub no_more : Each IsNoRequest later
+  -- each answer was aligned and its block ended inside memory, but one that the call was refused for
+  pub accepted : Accepted (lowering_ending answer) (length after.bytes) answers
   pub marks : after.guest.marks ≡ before.guest.marks ++ marks_of answers
   pub requested : (ts : Trees) → HaveTrees callee.params params ts → MetFirst (params_requests false callee.encoding callee.params ts) answers trap later
+  pub quiet : AsksNothing callee.params answers trap
   pub start : Each (OnStart (IsStart callee params before.bytes answers)) events
   -- The results are the only values that the returned words and memory represent, and cost no more than the fuel; that
   -- memory is left, as far as a post-return leaves it.
   pub only_results : OnOk answer (Each (OnReturn (λ words m. (left : ℕ) × AreResults callee.encoding (narrow m) callee.results words fuel left results)) events)
-  pub leaves : OnOk answer (Each (OnReturn (λ words m. Left PostLeaves callee.post m after.bytes)) events)
+  -- Post-return runs only where the results were lifted.
+  pub posted : ¬ Each IsNoPost events → Each (OnReturn (λ words m. (left : ℕ) × (vs : List Val) × AreResults callee.encoding (narrow m) callee.results words fuel left vs)) events
+  pub leaves : OnOk answer (Each (OnReturn (λ words m. Left Leaves callee.post m after.bytes)) events)
   pub cause : IfErr answer (Cause callee fuel params before after events)
   -- A valid call answers Ok or want of memory: the parameters are of their types, no text among them is too long and no
   -- list too large, `realloc` kept its law, the guest doesn't trap and asks for no import, and what it returns represents

@@ -59,11 +59,32 @@ abbrev pub IsNoAsk : Event → Type 0
 IsNoAsk (event.Ask index words memory) = ⊥
 IsNoAsk _ = ⊤
 
+abbrev pub IsNoResume : Event → Type 0
+IsNoResume (event.Resume words memory) = ⊥
+IsNoResume _ = ⊤
+
+abbrev pub IsNoPost : Event → Type 0
+IsNoPost (event.Post func words) = ⊥
+IsNoPost _ = ⊤
+
 -- it is no request for a block, neither one that was answered nor one that trapped
 abbrev pub IsNoRequest : Event → Type 0
 IsNoRequest (event.Realloc old old_size align new_size answer) = ⊥
 IsNoRequest (event.Trap (Some asked) len) = ⊥
 IsNoRequest _ = ⊤
+
+-- ---- the length of memory
+
+-- From a memory of `len` bytes to one of `last`: each memory among the events is at least as long as the one before it, and
+-- so is the one in which a call trapped.
+abbrev pub Grows : ℕ → List Event → ℕ → Type 0
+Grows len [] last = len ≤ last
+Grows len (event.Start func words memory ∷ events) last = (len ≤ length memory) × Grows (length memory) events last
+Grows len (event.Ask index words memory ∷ events) last = (len ≤ length memory) × Grows (length memory) events last
+Grows len (event.Resume words memory ∷ events) last = (len ≤ length memory) × Grows (length memory) events last
+Grows len (event.Return words memory ∷ events) last = (len ≤ length memory) × Grows (length memory) events last
+Grows len (event.Trap asked at ∷ events) last = (len ≤ at) × Grows len events last
+Grows len (_ ∷ events) last = Grows len events last
 
 -- ---- one run
 
@@ -97,7 +118,7 @@ pub record IsRun (func : ℕ) (post : Option ℕ) (words memory returned after :
 abbrev pub IsOneRun : ℕ → Option ℕ → List Event → Type 0
 IsOneRun func post events = (words memory returned after : List ℕ) × IsRun func post words memory returned after events
 
--- ---- a front of one run
+-- ---- a prefix of one run
 
 -- the length of the last memory among these events, or of memory before them
 abbrev pub last_len : ℕ → List Event → ℕ
@@ -114,13 +135,13 @@ MayTrap len [] = ⊤
 MayTrap len (event.Trap asked at ∷ []) = len ≤ at
 MayTrap len _ = ⊥
 
--- A front of one run, perhaps followed by a trap; `len` is the length of memory before it.
-pub record IsFrontOfRun (func : ℕ) (post : Option ℕ) (len : ℕ) (events : List Event) : Type 0 where
+-- A prefix of one run, perhaps followed by a trap; `len` is the length of memory before it.
+pub record IsPrefixOfRun (func : ℕ) (post : Option ℕ) (len : ℕ) (events : List Event) : Type 0 where
   pub run : List Event
   pub one_run : IsOneRun func post run
-  pub front : List Event
+  pub prefix : List Event
   pub rest : List Event
   pub trap : List Event
-  pub begins : run ≡ front ++ rest
-  pub events_are : events ≡ front ++ trap
-  pub may_trap : MayTrap (last_len len front) trap
+  pub begins : run ≡ prefix ++ rest
+  pub events_are : events ≡ prefix ++ trap
+  pub may_trap : MayTrap (last_len len prefix) trap

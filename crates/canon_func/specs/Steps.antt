@@ -2,8 +2,8 @@
 use Rattle.std.specs.Prelude.{Err, IfErr, IfOk, IsOkUnless, List, None, Ok, OnOk, Result, Some, Vec, [], false, length, ℕ, ⊤, ◌∷◌, ◌≡◌, ◌⊎◌, ◌≤◌}
 use Rattle.std.specs.declared.alloc.Global.{Global}
 use Rattle.canon_model.specs.Cost.{members_cost}
-use Rattle.canon_model.specs.Flat.{RepResults, max_results}
-use Rattle.canon_model.specs.Reach.{ValuesFault, badly_spelled, misaligned, no_scalar, out_of_bounds}
+use Rattle.canon_model.specs.Flat.{RepResults, max_params}
+use Rattle.canon_model.specs.Reach.{badly_spelled, misaligned, no_scalar, out_of_bounds}
 use Rattle.canon_model.specs.Shape.{member_count}
 use Rattle.canon_model.specs.Text.{in_utf8}
 use Rattle.canon_model.specs.Tree.{Trees}
@@ -12,25 +12,25 @@ use Rattle.canon_memory.specs.declared.event.Event.TheVariants as event
 use Rattle.canon_memory.specs.Counts.{Rose}
 use Rattle.canon_memory.specs.Guest.{Goes, Moment}
 use Rattle.canon_memory.specs.Journal.{trap_event}
-use Rattle.canon_lowering.specs.Args.{ArgsLowering}
+use Rattle.canon_lowering.specs.Attempt.{LowersArgs}
 use Rattle.canon_lowering.specs.Lowering.{done, events_of}
 use Rattle.canon_lowering.specs.Storing.{narrow}
 use Rattle.canon_value.specs.Fails.{BlamesMembers}
 use Rattle.canon_value.specs.Lifts.{AreResults}
-use Rattle.canon_value.specs.Loads.{Exactly, LiftBlames}
+use Rattle.canon_value.specs.Loads.{LiftBlames}
 use Rattle.canon_value.specs.Lowers.{fault_ending}
 use Rattle.canon_value.specs.Value.{HaveTrees}
 use Rattle.canon_value.specs.declared.fault.Fault.TheVariants as fault
 use Rattle.canon_value.specs.declared.val.Val.{Val}
-use Rattle.canon_func.specs.Call.{HasFault, IsCall, IsPastFuel, Left, refused_by, result_words}
-use Rattle.canon_func.specs.Runs.{AsksFor, Each, EndsIn, IsFrontOfRun, IsNoAsk, IsNoRequest, IsOneRun, IsReturn, IsTrap, OnReturn, OnStart, posts}
+use Rattle.canon_func.specs.Call.{AsksNothing, HasFault, IsCall, IsPastFuel, Left, refused_by, result_words, words_within}
+use Rattle.canon_func.specs.Runs.{AsksFor, Each, EndsIn, Grows, IsNoAsk, IsNoPost, IsNoRequest, IsNoResume, IsOneRun, IsPrefixOfRun, IsReturn, IsTrap, OnReturn, OnStart, posts}
 use Rattle.canon_func.specs.Stores.{Callee}
 use Rattle.canon_func.specs.declared.error.Error.{Error}
 use Rattle.canon_func.specs.declared.error.Error.TheVariants as error
 
 -- From one moment to another without an answer of `realloc`: these events were added, which the guest did, and of which
 -- this is so.
-pub record Does (before after : Moment) (Moves IsSo : List Event → Type 0) : Type 0 where
+pub record Proceeds (before after : Moment) (Moves IsSo : List Event → Type 0) : Type 0 where
   pub events : List Event
   pub goes : Goes before after [] events
   pub moves : Moves events
@@ -42,11 +42,12 @@ pub record Does (before after : Moment) (Moves IsSo : List Event → Type 0) : T
 -- done.
 abbrev pub Lowered : Callee → List Val → Moment → Moment → Result (Vec ℕ Global) Error → List Event → Type 0
 Lowered callee params before after (Ok words) events =
-    (low : ArgsLowering before after callee.encoding callee.params (HaveTrees callee.params params) words.items done) × (events ≡ events_of low.answers low.trap)
+    (low : LowersArgs false before after callee.encoding callee.params (HaveTrees callee.params params) words.items done) × (events ≡ events_of low.answers low.trap)
+    × (length words.items ≡ words_within max_params callee.params) × AsksNothing callee.params low.answers low.trap
 Lowered callee params before after (Err (error.Fault f)) events =
     ((f ≡ fault.OutOfMemory) × (after ≡ before) × (events ≡ []))
-    ⊎ ((words : List ℕ) × (low : ArgsLowering before after callee.encoding callee.params (HaveTrees callee.params params) words (fault_ending f))
-    × BlamesMembers callee.params params f × (events ≡ events_of low.answers low.trap))
+    ⊎ ((words : List ℕ) × (low : LowersArgs false before after callee.encoding callee.params (HaveTrees callee.params params) words (fault_ending f))
+    × BlamesMembers callee.params params f × (events ≡ events_of low.answers low.trap) × AsksNothing callee.params low.answers low.trap)
 Lowered callee params before after (Err _) events = ⊥
 
 -- ---- the start
@@ -66,22 +67,23 @@ Started func words before after (Err _) events = ⊥
 abbrev pub Lifted : Callee → ℕ → List ℕ → List ℕ → Result (Vec Val Global) Error → Type 0
 Lifted callee fuel words memory (Ok vals) = (left : ℕ) × AreResults callee.encoding (narrow memory) callee.results words fuel left vals.items
 Lifted callee fuel words memory (Err error.WrongWords) = ¬ (length words ≡ result_words callee.results)
-Lifted callee fuel words memory (Err (error.Fault f)) = LiftBlames (Exactly (ValuesFault callee.encoding (narrow memory) words max_results callee.results)) (IsPastFuel callee fuel words memory) f
+Lifted callee fuel words memory (Err (error.Fault f)) = LiftBlames (λ kind at. HasFault callee kind at words memory) (IsPastFuel callee fuel words memory) f
 Lifted callee fuel words memory (Err _) = ⊥
 
 -- post-return was told these words, where the callee has one
 abbrev pub Posted : (List ℕ → List ℕ → Type 0) → Callee → List ℕ → Moment → Moment → Result (Unit {0}) Error → List Event → Type 0
-Posted PostLeaves callee words before after (Ok x) events = (events ≡ posts callee.post words) × Left PostLeaves callee.post before.bytes after.bytes
-Posted PostLeaves callee words before after (Err (error.Fault fault.GuestTrap)) events = Rose before.guest.traps after.guest.traps
+Posted Leaves callee words before after (Ok x) events = (events ≡ posts callee.post words) × Left Leaves callee.post before.bytes after.bytes
+Posted Leaves callee words before after (Err (error.Fault fault.GuestTrap)) events = Rose before.guest.traps after.guest.traps
     × ((p : ℕ) × (callee.post ≡ Some p) × (events ≡ event.Post p words ∷ trap_event (length before.bytes) ∷ []))
-Posted PostLeaves callee words before after (Err (error.Fault fault.OutOfMemory)) events = events ≡ []
-Posted PostLeaves callee words before after (Err _) events = ⊥
+Posted Leaves callee words before after (Err (error.Fault fault.OutOfMemory)) events = events ≡ []
+Posted Leaves callee words before after (Err _) events = ⊥
 
 -- both, one after the other
 abbrev pub Concluded : (List ℕ → List ℕ → Type 0) → Callee → ℕ → List ℕ → Moment → Moment → Result (Vec Val Global) Error → List Event → Type 0
-Concluded PostLeaves callee fuel words before after (Ok vals) events = Lifted callee fuel words before.bytes (Ok vals) × Posted PostLeaves callee words before after (Ok tt) events
-Concluded PostLeaves callee fuel words before after (Err (error.Fault fault.GuestTrap)) events = Posted PostLeaves callee words before after (Err (error.Fault fault.GuestTrap)) events
-Concluded PostLeaves callee fuel words before after (Err e) events = Lifted callee fuel words before.bytes (Err e) × (events ≡ [])
+Concluded Leaves callee fuel words before after (Ok vals) events = Lifted callee fuel words before.bytes (Ok vals) × Posted Leaves callee words before after (Ok tt) events
+Concluded Leaves callee fuel words before after (Err (error.Fault fault.GuestTrap)) events = ((vals : Vec Val Global) × Lifted callee fuel words before.bytes (Ok vals))
+    × Posted Leaves callee words before after (Err (error.Fault fault.GuestTrap)) events
+Concluded Leaves callee fuel words before after (Err e) events = Lifted callee fuel words before.bytes (Err e) × (events ≡ [])
 
 -- ---- from the start on
 
@@ -100,14 +102,17 @@ RestCause callee fuel before after events _ = ⊥
 
 -- A callee was started with these words at the moment `before`, what it returned was lifted with this fuel, and post-return
 -- was told.
-pub record IsRest (PostLeaves : List ℕ → List ℕ → Type 0) (callee : Callee) (fuel : ℕ) (words : List ℕ) (before after : Moment) (answer : Result (Vec Val Global) Error) (events : List Event) : Type 0 where
+pub record IsRest (Leaves : List ℕ → List ℕ → Type 0) (callee : Callee) (fuel : ℕ) (words : List ℕ) (before after : Moment) (answer : Result (Vec Val Global) Error) (events : List Event) : Type 0 where
   pub one_run : OnOk answer (IsOneRun callee.func callee.post events)
-  pub front : (len : ℕ) → IsFrontOfRun callee.func callee.post len events
+  pub prefix : (len : ℕ) → IsPrefixOfRun callee.func callee.post len events
+  pub no_resume : Each IsNoResume events
   pub no_more : Each IsNoRequest events
+  pub grows : Grows (length before.bytes) events (length after.bytes)
   pub start : Each (OnStart (λ ws m. (ws ≡ words) × (m ≡ before.bytes))) events
   pub only_results : IfOk answer (λ vals. Each (OnReturn (λ ws m. (left : ℕ) × AreResults callee.encoding (narrow m) callee.results ws fuel left vals.items)) events)
+  pub posted : ¬ Each IsNoPost events → Each (OnReturn (λ ws m. (left : ℕ) × (vs : List Val) × AreResults callee.encoding (narrow m) callee.results ws fuel left vs)) events
   pub count : IfOk answer (λ vals. length vals.items ≡ member_count callee.results)
-  pub leaves : OnOk answer (Each (OnReturn (λ ws m. Left PostLeaves callee.post m after.bytes)) events)
+  pub leaves : OnOk answer (Each (OnReturn (λ ws m. Left Leaves callee.post m after.bytes)) events)
   pub cause : IfErr answer (RestCause callee fuel before after events)
   pub valid : ¬ EndsIn IsTrap events → Each IsNoAsk events
       → Each (OnReturn (λ ws m. (us : Trees) × RepResults false callee.encoding (narrow m) ws callee.results us × (members_cost callee.results us ≤ fuel))) events
@@ -116,8 +121,8 @@ pub record IsRest (PostLeaves : List ℕ → List ℕ → Type 0) (callee : Call
 -- ---- the whole, before the results are written
 
 abbrev pub CoreCall : (List ℕ → List ℕ → Type 0) → Callee → ℕ → List Val → Moment → Moment → Result (Vec Val Global) Error → List Event → Type 0
-CoreCall PostLeaves callee fuel params before after (Ok vals) events = IsCall PostLeaves callee fuel params before after (Ok tt) vals.items events
-CoreCall PostLeaves callee fuel params before after (Err e) events = (results : List Val) → IsCall PostLeaves callee fuel params before after (Err e) results events
+CoreCall Leaves callee fuel params before after (Ok vals) events = IsCall Leaves callee fuel params before after (Ok tt) vals.items events
+CoreCall Leaves callee fuel params before after (Err e) events = (results : List Val) → IsCall Leaves callee fuel params before after (Err e) results events
 
 -- it isn't a refusal before the guest is entered
 abbrev pub IsLate : Error → Type 0

@@ -2,9 +2,9 @@
 use Rattle.std.specs.Prelude.{Bool, None, Option, Some, false, length, slice_get, ℕ, ◌<◌, ◌≡◌}
 use Rattle.canon_model.specs.Shape.{Members, no_members}
 use Rattle.canon_model.specs.Text.{Encoding, utf8}
-use Rattle.canon_types.specs.declared.options.CanonicalOptions.{CanonicalOptions}
-use Rattle.canon_table.specs.declared.types.TypeFunc.{TypeFunc}
-use Rattle.canon_table.specs.Table.{Table, param_members, result_members}
+use Rattle.canon_indices.specs.declared.options.CanonicalOptions.{CanonicalOptions}
+use Rattle.canon_types.specs.declared.types.TypeFunc.{TypeFunc}
+use Rattle.canon_types.specs.Table.{Table, param_members, result_members}
 use Rattle.canon_value.specs.Built.{AreBuilt}
 use Rattle.canon_value.specs.Component.{encoding_at}
 use Rattle.canon_value.specs.Core.{Parts}

@@ -5,20 +5,26 @@ ghost use Rattle.canon_func.specs.declared.error.Error.TheVariants as error;
 use canon_value::Fault;
 use std::alloc::AllocError;
 
-/// Why a call isn't answered.
-#[derive(Clone, Copy, Debug, PartialEq, Eq)]
+/// Why a call isn't answered. `Display` writes the error's name, and what it carries after a space; of a fault, as the fault.
+#[derive(Clone, Copy, Debug, PartialEq, Eq, thiserror::Error)]
 pub enum Error {
     /// A parameter isn't lowered, a result isn't lifted, or the guest doesn't go on.
+    #[error(transparent)]
     Fault(Fault),
     /// There are more or fewer parameters or results than those of the function's type.
+    #[error("WrongCount")]
     WrongCount,
     /// The function's options are async.
+    #[error("AsyncLifted")]
     AsyncLifted,
     /// An earlier call trapped the store.
+    #[error("CannotEnterComponent")]
     CannotEnterComponent,
     /// The guest returned another number of words than the function's results take.
+    #[error("WrongWords")]
     WrongWords,
     /// The guest asked for an import of this number, which the component doesn't have.
+    #[error("UnknownImport {0}")]
     UnknownImport(u32),
 }
 

@@ -1,14 +1,14 @@
 ghost use Rattle.std.specs.Prelude.{◌≡◌, ◌↔◌, Err, Ok, Some, IfSome, IsNone, IsTrue, OnErr, OnOk, length, slice_get, true};
-ghost use Rattle.canon_table.specs.Table.{IsOver};
+ghost use Rattle.canon_types.specs.Table.{IsOver};
 ghost use Rattle.canon_value.specs.Component.{IsInside};
-ghost use Rattle.canon_value.specs.Core.{moment_of, types_of};
+ghost use Rattle.canon_value.specs.Core.{guest_of, moment_of, types_of};
 ghost use Rattle.canon_func.specs.Call.{Adding, IsCall, OnAnswered, refusal, refused_by};
 ghost use Rattle.canon_func.specs.Stores.{IsCallable, IsOwned, Named, callee_of, type_of};
 
 use crate::steps::{call_core, has_counts, has_values, options_of};
 use crate::{Error, Store};
 use canon_memory::Guest;
-use canon_table::{ExportIndex, StoreId, TypeFunc};
+use canon_types::{ExportIndex, StoreId, TypeFunc};
 use canon_value::{Export, Val};
 use std::alloc::Global;
 use std::marker::Model;
@@ -129,8 +129,8 @@ impl Func {
 
         // From then on.
         ensures call { IsNone (refused_by result) → Adding (moment_of G.seen store.old.core) (moment_of G.seen store.new.core)
-            (λ events. OnAnswered result (G.moves store.old.core.guest events store.new.core.guest))
-            (λ events. IsCall G.post_leaves (callee_of store.old self.now) store.old.core.fuel params.now (moment_of G.seen store.old.core) (moment_of G.seen store.new.core) result results.new events) }
+            (λ events. OnAnswered result (G.moves (guest_of store.old.core) events (guest_of store.new.core)))
+            (λ events. IsCall G.leaves (callee_of store.old self.now) store.old.core.fuel params.now (moment_of G.seen store.old.core) (moment_of G.seen store.new.core) result results.new events) }
         ensures trapped { IsNone (refused_by result) → OnErr result (store.new.trapped ≡ true) }
 
         // What it leaves.

@@ -1,25 +1,27 @@
 //! The steps of a call.
 
-ghost use Rattle.std.specs.Prelude.{◌≡◌, ◌≤◌, ◌==◌, ◌&&◌, ◌↔◌, IfErr, IfOk, IsTrue, length, slice_get};
+ghost use Rattle.std.specs.Prelude.{◌≡◌, ◌≤◌, ◌==◌, ◌&&◌, ◌↔◌, IfErr, IfOk, IsTrue, false, length, slice_get};
 ghost use Rattle.canon_model.specs.Flat.{max_params};
+ghost use Rattle.canon_model.specs.Layout.{members_flat};
 ghost use Rattle.canon_model.specs.Shape.{member_count};
 ghost use Rattle.canon_memory.specs.Guest.{OnAnswer};
-ghost use Rattle.canon_table.specs.Table.{HasFunc, HasTuple, tuple_members};
+ghost use Rattle.canon_types.specs.Table.{HasFunc, HasTuple, tuple_members};
 ghost use Rattle.canon_value.specs.Built.{AreBuilt};
 ghost use Rattle.canon_value.specs.Component.{HasOptions, IsInside};
-ghost use Rattle.canon_value.specs.Core.{encoding_by, moment_of, types_of};
-ghost use Rattle.canon_lowering.specs.Args.{ArgsLowering};
+ghost use Rattle.canon_value.specs.Core.{encoding_by, guest_of, moment_of, types_of};
+ghost use Rattle.canon_lowering.specs.Attempt.{LowersArgs};
 ghost use Rattle.canon_value.specs.Fails.{BlamesMembers};
 ghost use Rattle.canon_value.specs.Lowers.{ending_of};
 ghost use Rattle.canon_value.specs.Moves.{Moves};
+ghost use Rattle.canon_value.specs.Quiet.{Quiet, have_block};
 ghost use Rattle.canon_value.specs.Value.{HaveTrees};
 ghost use Rattle.canon_func.specs.Call.{Adding, OnAnswered, words_within};
-ghost use Rattle.canon_func.specs.Steps.{Concluded, CoreCall, Does, IsLate, IsRest, Lifted, Lowered, Posted, Started};
+ghost use Rattle.canon_func.specs.Steps.{Concluded, CoreCall, Proceeds, IsLate, IsRest, Lifted, Lowered, Posted, Started};
 ghost use Rattle.canon_func.specs.Stores.{IsCallable, export_callee, params_in, results_in};
 
 use crate::Error;
 use canon_memory::{Guest, GuestFault, Step, ValRaw, Words};
-use canon_table::{
+use canon_types::{
     CanonicalOptions, ComponentTypes, InterfaceType, MAX_FLAT_PARAMS, MAX_FLAT_RESULTS,
     TypeTupleIndex,
 };
@@ -74,8 +76,8 @@ pub(crate) fn call_core<T, G: Guest>(
     requires params { length params.now ≡ member_count (export_callee core.old.component export.now).params }
     requires callable { IsCallable (export_callee core.old.component export.now) }
     ensures call { Adding (moment_of G.seen core.old) (moment_of G.seen core.new)
-        (λ events. OnAnswered result (G.moves core.old.guest events core.new.guest))
-        (λ events. CoreCall G.post_leaves (export_callee core.old.component export.now) core.old.fuel params.now (moment_of G.seen core.old) (moment_of G.seen core.new) result events) }
+        (λ events. OnAnswered result (G.moves (guest_of core.old) events (guest_of core.new)))
+        (λ events. CoreCall G.leaves (export_callee core.old.component export.now) core.old.fuel params.now (moment_of G.seen core.old) (moment_of G.seen core.new) result events) }
     ensures late { IfErr result IsLate }
     ensures count { IfOk result (λ vals. length vals.items ≡ member_count (export_callee core.old.component export.now).results) }
     ensures same { core.new ≡ record core.old { guest = core.new.guest; memory = core.new.memory } }
@@ -97,7 +99,7 @@ fn lower_params<T, G: Guest>(
     requires params { length params.now ≡ member_count (export_callee core.old.component export.now).params }
     requires callable { IsCallable (export_callee core.old.component export.now) }
     ensures lowered { Adding (moment_of G.seen core.old) (moment_of G.seen core.new)
-        (λ events. OnAnswered result (G.moves core.old.guest events core.new.guest))
+        (λ events. OnAnswered result (G.moves (guest_of core.old) events (guest_of core.new)))
         (λ events. Lowered (export_callee core.old.component export.now) params.now (moment_of G.seen core.old) (moment_of G.seen core.new) result events) }
     ensures same { core.new ≡ record core.old { guest = core.new.guest; memory = core.new.memory } }
 {
@@ -123,10 +125,11 @@ fn lower_into<T, G: Guest>(
     requires built { AreBuilt (tuple_members (types_of core.old) tuple) }
     requires params { length params.now ≡ member_count (tuple_members (types_of core.old) tuple) }
     requires words { length words.old ≡ words_within max_params (tuple_members (types_of core.old) tuple) }
-    ensures lowered { ArgsLowering (moment_of G.seen core.old) (moment_of G.seen core.new) (encoding_by core.old export.now.options)
+    ensures lowered { LowersArgs false (moment_of G.seen core.old) (moment_of G.seen core.new) (encoding_by core.old export.now.options)
         (tuple_members (types_of core.old) tuple) (HaveTrees (tuple_members (types_of core.old) tuple) params.now) words.new (ending_of result) }
     ensures cause { IfErr result (BlamesMembers (tuple_members (types_of core.old) tuple) params.now) }
-    ensures moves { Moves G.seen G.moves core.old.guest core.new.guest (ending_of result) }
+    ensures quiet { members_flat (tuple_members (types_of core.old) tuple) ≤ max_params → Quiet (have_block (tuple_members (types_of core.old) tuple)) (core.new ≡ core.old) result }
+    ensures moves { Moves G.seen G.moves (guest_of core.old) (guest_of core.new) (ending_of result) }
     ensures same { core.new ≡ record core.old { guest = core.new.guest; memory = core.new.memory } }
 {
     let mut cx = LowerContext::new(core, export.options);
@@ -155,9 +158,9 @@ fn run<T, G: Guest>(
 ) -> Result<Vec<Val>, Error>
     requires inside { IsInside core.old.component export.now }
     requires callable { IsCallable (export_callee core.old.component export.now) }
-    ensures did { Does (moment_of G.seen core.old) (moment_of G.seen core.new)
-        (λ events. OnAnswered result (G.moves core.old.guest events core.new.guest))
-        (λ events. IsRest G.post_leaves (export_callee core.old.component export.now) core.old.fuel words.now (moment_of G.seen core.old) (moment_of G.seen core.new) result events) }
+    ensures did { Proceeds (moment_of G.seen core.old) (moment_of G.seen core.new)
+        (λ events. OnAnswered result (G.moves (guest_of core.old) events (guest_of core.new)))
+        (λ events. IsRest G.leaves (export_callee core.old.component export.now) core.old.fuel words.now (moment_of G.seen core.old) (moment_of G.seen core.new) result events) }
     ensures same { core.new ≡ record core.old { guest = core.new.guest; memory = core.new.memory } }
 {
     match start(core, export.func, words) {
@@ -168,8 +171,8 @@ fn run<T, G: Guest>(
 
 /// Starts a core function. A component has no imports, so none that the guest asks for is known.
 fn start<T, G: Guest>(core: &mut Core<T, G>, func: u32, words: &[ValRaw]) -> Result<Words, Error>
-    ensures did { Does (moment_of G.seen core.old) (moment_of G.seen core.new)
-        (λ events. OnAnswered result (G.moves core.old.guest events core.new.guest))
+    ensures did { Proceeds (moment_of G.seen core.old) (moment_of G.seen core.new)
+        (λ events. OnAnswered result (G.moves (guest_of core.old) events (guest_of core.new)))
         (λ events. Started func words.now (moment_of G.seen core.old) (moment_of G.seen core.new) result events) }
     ensures same { core.new ≡ record core.old { guest = core.new.guest; memory = core.new.memory } }
 {
@@ -190,9 +193,9 @@ fn conclude<T, G: Guest>(
 ) -> Result<Vec<Val>, Error>
     requires inside { IsInside core.old.component export.now }
     requires callable { IsCallable (export_callee core.old.component export.now) }
-    ensures did { Does (moment_of G.seen core.old) (moment_of G.seen core.new)
-        (λ events. OnAnswered result (G.moves core.old.guest events core.new.guest))
-        (λ events. Concluded G.post_leaves (export_callee core.old.component export.now) core.old.fuel words.now (moment_of G.seen core.old) (moment_of G.seen core.new) result events) }
+    ensures did { Proceeds (moment_of G.seen core.old) (moment_of G.seen core.new)
+        (λ events. OnAnswered result (G.moves (guest_of core.old) events (guest_of core.new)))
+        (λ events. Concluded G.leaves (export_callee core.old.component export.now) core.old.fuel words.now (moment_of G.seen core.old) (moment_of G.seen core.new) result events) }
     ensures same { core.new ≡ record core.old { guest = core.new.guest; memory = core.new.memory } }
 {
     let values = match lift_returned(alloc, core, export, words) {
@@ -236,9 +239,9 @@ fn post_return<T, G: Guest>(
     words: &[ValRaw],
 ) -> Result<(), Error>
     requires inside { IsInside core.old.component export.now }
-    ensures did { Does (moment_of G.seen core.old) (moment_of G.seen core.new)
-        (λ events. OnAnswered result (G.moves core.old.guest events core.new.guest))
-        (λ events. Posted G.post_leaves (export_callee core.old.component export.now) words.now (moment_of G.seen core.old) (moment_of G.seen core.new) result events) }
+    ensures did { Proceeds (moment_of G.seen core.old) (moment_of G.seen core.new)
+        (λ events. OnAnswered result (G.moves (guest_of core.old) events (guest_of core.new)))
+        (λ events. Posted G.leaves (export_callee core.old.component export.now) words.now (moment_of G.seen core.old) (moment_of G.seen core.new) result events) }
     ensures same { core.new ≡ record core.old { guest = core.new.guest; memory = core.new.memory } }
 {
     let Some(func) = options_of(core.component(), export).post_return else {

@@ -2,7 +2,7 @@ ghost use Rattle.std.specs.Prelude.{◌≡◌, ◌<◌, ◌↔◌, length, false
 ghost use Rattle.canon_func.specs.Stores.{IsOwned, Stored};
 
 use crate::Func;
-use canon_table::ExportIndex;
+use canon_types::ExportIndex;
 use canon_value::Core;
 use std::marker::Model;
 

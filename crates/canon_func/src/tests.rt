@@ -1,10 +1,10 @@
-//! Calls of a small guest: what each refusal is, and what it leaves.
+//! Calls of a small guest, by a store. What each refusal is stands in scripts.
 
 ghost use Rattle.std.specs.Prelude.{◌≡◌, [], None};
 
 use super::*;
 use canon_memory::{Guest, GuestFault, Memory, Step, ValRaw, Words};
-use canon_table::{
+use canon_types::{
     CanonicalOptions, ComponentTypes, ExportIndex, InstanceType, InterfaceType, OptionsIndex,
     RuntimeInstance, StoreId, StringEncoding, TypeBuilder, TypeFuncIndex,
 };
@@ -12,31 +12,21 @@ use canon_value::{At, Component, Core, Export, Fault, Val};
 use std::alloc::Global;
 use std::test::Fail;
 
-/// What a guest does once it is started.
-#[derive(Clone, Copy)]
-enum Deed {
-    Return(u32),
-    ReturnNothing,
-    Ask(u32),
-    Trap,
-}
-
-/// A guest that does one deed when it is started, traps at every request, and may trap at post-return.
+/// A guest that returns this word, and traps at every request.
 #[derive(Drop)]
-struct Doer {
+struct Returner {
     alloc: Global,
-    deed: Deed,
-    post_traps: bool,
+    word: u32,
     traps: u64,
     shortages: u64,
 }
 
-impl Guest for Doer {
+impl Guest for Returner {
     ghost seen = { λ g. record { journal = None; marks = []; live = []; traps = g.traps; shortages = g.shortages } };
 
     ghost moves = { λ _ _ _. Unit {0} };
 
-    ghost post_leaves = { λ before after. after ≡ before };
+    ghost leaves = { λ before after. after ≡ before };
 
     ghost stays = { λ _. record {} };
 
@@ -49,20 +39,12 @@ impl Guest for Doer {
         _words: &[ValRaw],
     ) -> Result<Step, GuestFault> {
         let mut words = Words::new(self.alloc);
-        match self.deed {
-            Deed::Trap => {
-                self.traps = self.traps.saturating_add(1);
-                Err(GuestFault::Trap)
+        match words.push(ValRaw::u32(self.word)) {
+            Ok(()) => Ok(Step::Return(words)),
+            Err(_) => {
+                self.shortages = self.shortages.saturating_add(1);
+                Err(GuestFault::OutOfMemory)
             }
-            Deed::Ask(index) => Ok(Step::Import { index, words }),
-            Deed::ReturnNothing => Ok(Step::Return(words)),
-            Deed::Return(word) => match words.push(ValRaw::u32(word)) {
-                Ok(()) => Ok(Step::Return(words)),
-                Err(_) => {
-                    self.shortages = self.shortages.saturating_add(1);
-                    Err(GuestFault::OutOfMemory)
-                }
-            },
         }
     }
 
@@ -89,10 +71,6 @@ impl Guest for Doer {
         _func: u32,
         _words: &[ValRaw],
     ) -> Result<(), GuestFault> {
-        if self.post_traps {
-            self.traps = self.traps.saturating_add(1);
-            return Err(GuestFault::Trap);
-        }
         Ok(())
     }
 
@@ -101,21 +79,19 @@ impl Guest for Doer {
     }
 }
 
-/// A store of one function of this type, which is core function 7 with post-return 8, and of a guest that does this deed.
+/// A store of one function without parameters, core function 7 with post-return 8, whose guest returns this word.
 fn store_of(
     alloc: Global,
     types: ComponentTypes,
     ty: TypeFuncIndex,
-    async_: bool,
-    deed: Deed,
-    post_traps: bool,
-) -> Result<Store<(), Doer>, Fail> {
+    word: u32,
+) -> Result<Store<(), Returner>, Fail> {
     let id = StoreId::from_u64(1);
     let mut options = Vec::new(alloc);
     options.push(CanonicalOptions {
         instance: RuntimeInstance::from_u32(0),
         string_encoding: StringEncoding::Utf8,
-        async_,
+        async_: false,
         post_return: Some(8),
     })?;
     let mut exports = Vec::new(alloc);
@@ -132,10 +108,9 @@ fn store_of(
     if !component.check() {
         return Err(Fail::from("an index is outside its table"));
     }
-    let guest = Doer {
+    let guest = Returner {
         alloc,
-        deed,
-        post_traps,
+        word,
         traps: 0,
         shortages: 0,
     };
@@ -143,32 +118,22 @@ fn store_of(
     Ok(Store::new(Core::new(alloc, id, (), guest, memory, component, 1_000_000)?))
 }
 
-/// The same, of a function with these parameters and results.
+/// The same, of a function of these parameters and results.
 fn store_with(
     alloc: Global,
     params: &[InterfaceType],
     results: &[InterfaceType],
-    async_: bool,
-    deed: Deed,
-    post_traps: bool,
-) -> Result<Store<(), Doer>, Fail> {
+    word: u32,
+) -> Result<Store<(), Returner>, Fail> {
     let mut builder = TypeBuilder::new(alloc);
-    let ty = builder.add_func(params.to_vec(alloc)?, results.to_vec(alloc)?, async_)?;
-    store_of(alloc, builder.finish(), ty, async_, deed, post_traps)
-}
-
-/// The same, of a function without parameters that returns a tuple of one `u8`.
-fn store_of_tuple(alloc: Global) -> Result<Store<(), Doer>, Fail> {
-    let mut builder = TypeBuilder::new(alloc);
-    let tuple = builder.add_tuple([InterfaceType::U8].to_vec(alloc)?)?;
-    let ty = builder.add_func(Vec::new(alloc), [tuple].to_vec(alloc)?, false)?;
-    store_of(alloc, builder.finish(), ty, false, Deed::Return(2), false)
+    let ty = builder.add_func(params.to_vec(alloc)?, results.to_vec(alloc)?, false)?;
+    store_of(alloc, builder.finish(), ty, word)
 }
 
 /// Calls the store's function, where it can be called.
 fn call(
     alloc: Global,
-    store: &mut Store<(), Doer>,
+    store: &mut Store<(), Returner>,
     params: &[Val],
     results: &mut [Val],
 ) -> Option<Result<(), Error>> {
@@ -183,14 +148,7 @@ fn call(
 fn a_call_lowers_its_parameters_and_lifts_its_results(rt: HostRuntime) -> Result<(), Fail> {
     let alloc = rt.alloc();
     let params = [InterfaceType::U32, InterfaceType::S8];
-    let mut store = store_with(
-        alloc,
-        &params,
-        &[InterfaceType::Bool],
-        false,
-        Deed::Return(2),
-        false,
-    )?;
+    let mut store = store_with(alloc, &params, &[InterfaceType::Bool], 2)?;
     let mut results = [Val::Bool(false)];
     let answer = call(alloc, &mut store, &[Val::U32(7), Val::S8(-1)], &mut results);
     assert_eq!(rt; answer, Some(Ok(())));
@@ -200,119 +158,22 @@ fn a_call_lowers_its_parameters_and_lifts_its_results(rt: HostRuntime) -> Result
 }
 
 #[test]
-fn a_refusal_before_the_guest_is_entered_changes_nothing(rt: HostRuntime) -> Result<(), Fail> {
+fn a_refusal_traps_the_store_and_leaves_the_results(rt: HostRuntime) -> Result<(), Fail> {
     let alloc = rt.alloc();
-    let mut store = store_with(alloc, &[], &[InterfaceType::Bool], true, Deed::Trap, false)?;
-    let counts = call(
-        alloc,
-        &mut store,
-        &[Val::Bool(true)],
-        &mut [Val::Bool(false)],
-    );
-    assert_eq!(rt; counts, Some(Err(Error::WrongCount)));
-    let counts = call(alloc, &mut store, &[], &mut []);
-    assert_eq!(rt; counts, Some(Err(Error::WrongCount)));
-    let lifted = call(alloc, &mut store, &[], &mut [Val::Bool(false)]);
-    assert_eq!(rt; lifted, Some(Err(Error::AsyncLifted)));
-    assert!(rt; !store.is_trapped());
-    Ok(())
-}
-
-#[test]
-fn a_later_refusal_traps_the_store_and_leaves_the_results(rt: HostRuntime) -> Result<(), Fail> {
-    let alloc = rt.alloc();
-    let cases = [
-        (Deed::ReturnNothing, false, Error::WrongWords),
-        (Deed::Ask(6), false, Error::UnknownImport(6)),
-        (Deed::Trap, false, Error::Fault(Fault::GuestTrap)),
-        (Deed::Return(65), true, Error::Fault(Fault::GuestTrap)),
-        (
-            Deed::Return(55_296),
-            false,
-            Error::Fault(Fault::InvalidChar(At::Word(0))),
-        ),
-    ];
-    for (deed, post_traps, error) in cases {
-        let mut store = store_with(alloc, &[], &[InterfaceType::Char], false, deed, post_traps)?;
-        let mut results = [Val::Bool(false)];
-        assert_eq!(rt;
-            call(alloc, &mut store, &[], &mut results),
-            Some(Err(error))
-        );
-        assert!(rt; matches!(&results, [Val::Bool(false)]), "{results:?}");
-        let again = call(alloc, &mut store, &[], &mut results);
-        assert_eq!(rt; again, Some(Err(Error::CannotEnterComponent)));
-    }
-    Ok(())
-}
-
-#[test]
-fn a_parameter_of_another_type_is_refused_at_its_place(rt: HostRuntime) -> Result<(), Fail> {
-    let alloc = rt.alloc();
-    let params = [InterfaceType::U32, InterfaceType::S8];
-    let mut store = store_with(alloc, &params, &[], false, Deed::ReturnNothing, false)?;
-    let answer = call(alloc, &mut store, &[Val::U32(7), Val::U8(1)], &mut []);
-    assert_eq!(rt; answer, Some(Err(Error::Fault(Fault::TypeMismatch(1)))));
-    assert!(rt; store.is_trapped());
-    Ok(())
-}
-
-#[test]
-fn parameters_and_results_past_their_words_go_by_a_pointer(rt: HostRuntime) -> Result<(), Fail> {
-    let alloc = rt.alloc();
-    let params = [InterfaceType::U8; 17];
-    let mut store = store_with(alloc, &params, &[], false, Deed::ReturnNothing, false)?;
-    let mut given = Vec::new(alloc);
-    for i in 0..17 {
-        given.push(Val::U8(i))?;
-    }
-    let asked = call(alloc, &mut store, &given, &mut []);
-    assert_eq!(rt; asked, Some(Err(Error::Fault(Fault::GuestTrap))));
-    let two = [InterfaceType::U8; 2];
-    let mut store = store_with(alloc, &[], &two, false, Deed::Return(65_535), false)?;
-    let mut results = [Val::Bool(false), Val::Bool(false)];
-    let past = call(alloc, &mut store, &[], &mut results);
-    let fault = Fault::PointerOutOfBounds(At::Word(0));
-    assert_eq!(rt; past, Some(Err(Error::Fault(fault))));
-    let mut store = store_with(alloc, &[], &two, false, Deed::Return(65_534), false)?;
-    assert_eq!(rt; call(alloc, &mut store, &[], &mut results), Some(Ok(())));
-    assert!(rt; matches!(&results, [Val::U8(0), Val::U8(0)]), "{results:?}");
-    Ok(())
-}
-
-#[test]
-fn each_call_has_the_whole_fuel(rt: HostRuntime) -> Result<(), Fail> {
-    let alloc = rt.alloc();
-    let mut store = store_of_tuple(alloc)?;
-    assert_eq!(rt; store.fuel(), 1_000_000);
-    store.set_fuel(32);
-    for _ in 0..2 {
-        let mut results = [Val::Bool(false)];
-        assert_eq!(rt; call(alloc, &mut store, &[], &mut results), Some(Ok(())));
-        assert!(rt; matches!(&results, [Val::Tuple(_)]), "{results:?}");
-        assert_eq!(rt; store.fuel(), 32);
-    }
-    Ok(())
-}
-
-#[test]
-fn results_past_the_fuel_are_refused(rt: HostRuntime) -> Result<(), Fail> {
-    let alloc = rt.alloc();
-    let mut store = store_of_tuple(alloc)?;
-    store.set_fuel(31);
+    let mut store = store_with(alloc, &[], &[InterfaceType::Char], 0xd800)?;
     let mut results = [Val::Bool(false)];
-    let past = call(alloc, &mut store, &[], &mut results);
-    assert_eq!(rt; past, Some(Err(Error::Fault(Fault::HostcallFuelExhausted))));
+    let answer = call(alloc, &mut store, &[], &mut results);
+    let fault = Fault::InvalidChar(At::Word(0));
+    assert_eq!(rt; answer, Some(Err(Error::Fault(fault))));
     assert!(rt; matches!(&results, [Val::Bool(false)]), "{results:?}");
     assert!(rt; store.is_trapped());
-    assert_eq!(rt; store.fuel(), 31);
     Ok(())
 }
 
 #[test]
 fn a_function_is_of_one_store(rt: HostRuntime) -> Result<(), Fail> {
     let alloc = rt.alloc();
-    let mut store = store_with(alloc, &[], &[], false, Deed::ReturnNothing, false)?;
+    let mut store = store_with(alloc, &[], &[], 0)?;
     assert!(rt; store.func(ExportIndex::from_u32(1)).is_none());
     let Some(f) = store.func(ExportIndex::from_u32(0)) else {
         return Err(Fail::from("no function"));
@@ -322,5 +183,14 @@ fn a_function_is_of_one_store(rt: HostRuntime) -> Result<(), Fail> {
     assert!(rt; !f.ty(&store).async_);
     assert_eq!(rt; f.post_return(&mut store), Ok(()));
     assert!(rt; store.core_mut().guest_mut().traps == 0);
+    Ok(())
+}
+
+#[test]
+fn a_store_has_the_fuel_of_its_calls(rt: HostRuntime) -> Result<(), Fail> {
+    let mut store = store_with(rt.alloc(), &[], &[], 0)?;
+    assert_eq!(rt; store.fuel(), 1_000_000);
+    store.set_fuel(31);
+    assert_eq!(rt; store.fuel(), 31);
     Ok(())
 }

@@ -9,7 +9,7 @@ use crate::counter::HandleCounter;
 use crate::error::HandleError;
 use crate::handle::{Entry, TypedResource};
 use crate::slot_table::SlotTable;
-use canon_types::OutOfMemory;
+use canon_indices::OutOfMemory;
 use std::alloc::Global;
 use std::marker::Model;
 

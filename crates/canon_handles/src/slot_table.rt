@@ -9,7 +9,7 @@ ghost use Rattle.canon_handles.specs.Table.{max_handle, empty_table, entry_at, e
 use crate::counter::HandleCounter;
 use crate::error::HandleError;
 use crate::slot::Slot;
-use canon_types::OutOfMemory;
+use canon_indices::OutOfMemory;
 use std::alloc::Global;
 use std::marker::Model;
 

@@ -4,7 +4,7 @@ ghost use Rattle.std.specs.Prelude.{◌≡◌};
 ghost use Rattle.canon_handles.specs.Calls.{raw_index};
 
 use super::*;
-use canon_types::{TypeFutureTableIndex, TypeResourceTableIndex, TypeStreamTableIndex};
+use canon_indices::{TypeFutureTableIndex, TypeResourceTableIndex, TypeStreamTableIndex};
 use std::test::Fail;
 
 // A resource of type 3, and its index 1.

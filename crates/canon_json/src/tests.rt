@@ -3,8 +3,8 @@
 ghost use Rattle.canon_json.specs.Json.{u32_of};
 
 use crate::{
-    Reader, ScriptError, bool_or, each, each_of, has_len, items_of, only, only_member, there, two,
-    u32_of,
+    Reader, ScriptError, bool_or, bytes_of_hex, bytes_of_json, each, each_of, has_len, items_of,
+    only, only_member, there, two, u32_of,
 };
 use serde_json::Value;
 use std::alloc::Global;
@@ -65,5 +65,24 @@ fn items_are_read_in_order(rt: HostRuntime) -> Result<(), Fail> {
     assert!(rt; none.is_empty());
     let refused = each_of(rt.alloc(), &Numbers, Some(&items[2]));
     assert!(rt; refused.is_err_and(|e| e == ScriptError::BadScript));
+    Ok(())
+}
+
+#[test]
+fn hex_is_in_small_letters(rt: HostRuntime) -> Result<(), Fail> {
+    let v = Value::from_str(rt.alloc(), r#"["00ff1a",7]"#)?;
+    let items = items_of(Some(&v)).expect(&rt, "an array");
+    assert_eq!(rt; items.len(), 2);
+    let bytes = bytes_of_json(rt.alloc(), &items[0])?;
+    assert_eq!(rt; bytes.as_slice(), [0, 255, 26].as_slice());
+    let number = bytes_of_json(rt.alloc(), &items[1]);
+    assert!(rt; number.is_err_and(|e| e == ScriptError::BadScript));
+    for text in ["0", "0g", "1A"] {
+        let refused = bytes_of_hex(rt.alloc(), text);
+        assert!(rt;
+            refused.is_err_and(|e| e == ScriptError::BadScript),
+            "{text}"
+        );
+    }
     Ok(())
 }

@@ -1,8 +1,8 @@
 -- The line of a function, and the lines of those after it.
 use Rattle.std.proofs.Common.{◌≡◌, ◌<◌, ◌+◌, ◌++◌, ℕ, zero, suc, List, [], ◌∷◌, length, drop, Option, Some, refl, ap, sym, subst, ◌∙◌, arith, append_assoc}
 use Rattle.std.specs.Prelude.{IfSome, slice_get}
-use Rattle.canon_table.specs.Table.{Table}
-use Rattle.canon_table.specs.declared.types.TypeFunc.{TypeFunc}
+use Rattle.canon_types.specs.Table.{Table}
+use Rattle.canon_types.specs.declared.types.TypeFunc.{TypeFunc}
 use Rattle.canon_layout.specs.Lines.{func_line, func_lines}
 
 -- the element at a place, and those after it

@@ -1,52 +1,36 @@
 -- What a script lists is known to its table, which has no more functions than a table may have.
-use Rattle.std.proofs.Common.{◌≡◌, ◌≤◌, ◌+◌, ◌++◌, zero, suc, List, [], ◌∷◌, length, IsTrue, if◌then◌else◌, codes, Bool, true, false, nat_lt, Option, None, Some, refl, sym, subst, arith, append_assoc, length-append, max, option_and_then, option_map}
-use Rattle.std.proofs.lemmas.List.Elements.{All-append}
+use Rattle.std.proofs.Common.{◌≡◌, ◌≤◌, ◌+◌, ◌++◌, List, [], ◌∷◌, length, IsTrue, codes, Bool, true, false, nat_lt, Option, None, Some, refl, sym, subst, arith, append_assoc, length-append, max, option_and_then}
 use Rattle.std.proofs.lemmas.Bool.{ltb-false}
+use Rattle.std.proofs.lemmas.List.Elements.{All-nil, All-push}
+use Rattle.std.proofs.lemmas.Option.{option_and_then_some, same_Some}
 use Rattle.std.specs.List.{All}
-use Rattle.serde_json.specs.Data.{Data, Items, item, no_items}
+use Rattle.serde_json.specs.Data.{Data, Items}
 use Rattle.serde_json.specs.Find.{as_array, as_object, get}
 use Rattle.canon_json.specs.Json.{has_len, items_of, onward}
+use Rattle.canon_json.proofs.Found.{by_map, by_test, onward_keeps}
 use Rattle.canon_model.specs.Layout.{size}
 use Rattle.canon_model.specs.Shape.{of_places, product}
-use Rattle.canon_table.specs.Depth.{depth, has_borrow}
-use Rattle.canon_table.specs.Refusal.{empty_table, entry_count, first_error, func_parts_refusal, func_refusal, is_full_for, or_else, refusal, resource_refusal, with_definition, with_func}
-use Rattle.canon_table.specs.Table.{Definition, EnumType, FixedListType, FlagsType, Knows, ListType, MapType, OptionType, RecordType, ResultType, Table, TupleType, VariantType, is_enum, is_fixed_list, is_flags, is_list, is_map, is_option, is_record, is_result, is_tuple, is_variant, knows, members_of}
-use Rattle.canon_table.proofs.Adding.{has_new}
-use Rattle.canon_table.proofs.Growth.{has_more, knows-with}
-use Rattle.canon_table.specs.declared.error.TypeError.{TypeError}
-use Rattle.canon_table.specs.declared.error.TypeError.TheVariants as error
-use Rattle.canon_table.specs.declared.types.InterfaceType.{InterfaceType}
-use Rattle.canon_table.specs.declared.types.InterfaceType.TheVariants as ty
-use Rattle.canon_table.specs.declared.types.TypeResourceTable.{TypeResourceTable}
-use Rattle.canon_layout.specs.Asked.{Listed, add_entry, add_func, add_resource, grown, layout_of, listed, members_there, so_far, type_at, types_of, types_over, unless, with_entry, with_funcs, with_parts, with_resource}
-use Rattle.canon_layout.specs.Entries.{Entry, FuncParts, defines, entry_of, func_of, handle, resource_of}
+use Rattle.canon_types.specs.Depth.{depth, has_borrow}
+use Rattle.canon_types.specs.Refusal.{empty_table, entry_count, first_error, func_parts_refusal, func_refusal, is_full_for, or_else, refusal, resource_refusal, with_definition, with_func}
+use Rattle.canon_types.specs.Table.{Definition, EnumType, FixedListType, FlagsType, Knows, ListType, MapType, OptionType, RecordType, ResultType, Table, TupleType, VariantType, is_enum, is_fixed_list, is_flags, is_list, is_map, is_option, is_record, is_result, is_tuple, is_variant, knows, members_of}
+use Rattle.canon_types.proofs.Adding.{has_new}
+use Rattle.canon_types.proofs.Growth.{has_more, knows-with}
+use Rattle.canon_types.specs.declared.error.TypeError.{TypeError}
+use Rattle.canon_types.specs.declared.error.TypeError.TheVariants as error
+use Rattle.canon_types.specs.declared.types.InterfaceType.{InterfaceType}
+use Rattle.canon_types.specs.declared.types.InterfaceType.TheVariants as ty
+use Rattle.canon_types.specs.declared.types.TypeResourceTable.{TypeResourceTable}
+use Rattle.canon_layout.specs.Asked.{Funcs, Listed, add_entry, add_func, add_resource, funcs_over, funcs_so_far, grown, layout_of, listing_over, layout_members, so_far, type_at, types_listed, types_over, unless, entry_added, with_funcs, with_parts, with_resource}
+use Rattle.canon_layout.specs.Entries.{Entry, FuncParts, defines, entry_by_member, func_of, handle, resource_of}
 
--- ---- steps
-
--- where a choice came to an answer, the choice was made
-by_some : {A B : Type 0} (f : A → Option B) (o : Option A) (b : B) (P : Type 0) → option_and_then f o ≡ Some b → ((a : A) → o ≡ Some a → f a ≡ Some b → P) → P
-by_some f None b P e go = absurd (cc)
-by_some f (Some a) b P e go = go a refl e
-
-some_is : {A : Type 0} (a b : A) → Some a ≡ Some b → a ≡ b
-some_is a b e = cc
-
-accepted_is : {A : Type 0} (o : Option TypeError) (a b : A) → unless o a ≡ Some b → a ≡ b
-accepted_is None a b e = some_is a b e
+-- what is added is what came, and nothing refused it
+pub accepted_is : {A : Type 0} (o : Option TypeError) (a b : A) → unless o a ≡ Some b → a ≡ b
+accepted_is None a b e = same_Some a b e
 accepted_is (Some e) a b h = absurd (cc)
 
-accepted_none : {A : Type 0} (o : Option TypeError) (a b : A) → unless o a ≡ Some b → o ≡ None
-accepted_none None a b e = refl
-accepted_none (Some e) a b h = absurd (cc)
-
-by_map : {A B : Type 0} (f : A → B) (o : Option A) (b : B) (P : Type 0) → option_map f o ≡ Some b → ((a : A) → o ≡ Some a → f a ≡ b → P) → P
-by_map f None b P e go = absurd (cc)
-by_map f (Some a) b P e go = go a refl (some_is (f a) b e)
-
--- what each step keeps, all keep
-onward_keeps : {A : Type 0} (P : A → Type 0) (step : A → Data → Option A) → ((a b : A) (d : Data) → P a → step a d ≡ Some b → P b) → (a b : A) (ds : Items) → P a → onward step a ds ≡ Some b → P b
-onward_keeps P step keeps a b no_items p e = subst P (some_is a b e) p
-onward_keeps P step keeps a b (item d ds) p e = by_some (λ c. onward step c ds) (step a d) b (P b) e (λ c s more. onward_keeps P step keeps c b ds (keeps a c d p s) more)
+pub not_refused : {A : Type 0} (o : Option TypeError) (a b : A) → unless o a ≡ Some b → o ≡ None
+not_refused None a b e = refl
+not_refused (Some e) a b h = absurd (cc)
 
 -- ---- types
 
@@ -62,36 +46,37 @@ knows_new t (ResultType ok error) = has_new is_result t (ResultType ok error) (l
 knows_new t (FlagsType ns) = has_new is_flags t (FlagsType ns) (length t.definitions) refl refl
 knows_new t (FixedListType x n) = has_new is_fixed_list t (FixedListType x n) (length t.definitions) refl refl
 
--- types that are known, and few functions
-pub record Stands (l : Listed) : Type 0 where
+-- types that are known, and no functions yet
+pub record Begun (l : Listed) : Type 0 where
   pub known : All (Knows l.table) l.types
-  pub few : length l.table.funcs ≤ 1048576
+  pub none : length l.table.funcs ≡ 0
 
-only_one : {A : Type 0} (P : A → Type 0) (x : A) → P x → All P (x ∷ [])
-only_one P x h zero d lt = h
-only_one P x h (suc k) d lt = absurd (omega arith)
+one_more : (t new : Table) (types : List InterfaceType) (type : InterfaceType) → ((x : InterfaceType) → Knows t x → Knows new x)
+    → All (Knows t) types → Knows new type → All (Knows new) (types ++ type ∷ [])
+one_more t new types type keeps known is = All-push (Knows new) types type (λ k d lt. keeps _ (known k d lt)) is
 
-one_more : (t new : Table) (types : List InterfaceType) (type : InterfaceType) → ((x : InterfaceType) → Knows t x → Knows new x) → All (Knows t) types → Knows new type → All (Knows new) (types ++ type ∷ [])
-one_more t new types type keeps known is = All-append (Knows new) types (type ∷ []) (λ k d lt. keeps _ (known k d lt)) (only_one (Knows new) type is)
+keeps_entry : (l m : Listed) (e : Entry) → Begun l → entry_added l e ≡ Some m → Begun m
+keeps_entry l m (defines d) begun e =
+    let new : Table = with_definition l.table d in
+    let type : InterfaceType = type_at (length l.table.definitions) d in
+    let grew : grown new l.types type ≡ m = accepted_is (refusal l.table d) _ m e in
+    subst Begun grew (record { known = one_more l.table new l.types type (λ x h. knows-with l.table d x h) begun.known (knows_new l.table d); none = begun.none })
+keeps_entry l m (handle t) begun e = by_test (knows l.table t) (Some (grown l.table l.types t)) m e (λ is same.
+    subst Begun (same_Some _ m same) (record { known = one_more l.table l.table l.types t (λ x h. h) begun.known is; none = begun.none }))
 
-keeps_handle : (l m : Listed) (t : InterfaceType) (b : Bool) → b ≡ knows l.table t → Stands l → (if b then Some (grown l.table l.types t) else None) ≡ Some m → Stands m
-keeps_handle l m t true is stands e =
-    subst Stands (some_is _ m e) (record { known = one_more l.table l.table l.types t (λ x h. h) stands.known (sym is); few = stands.few })
-keeps_handle l m t false is stands e = absurd (cc)
+keeps_types : (l m : Listed) (d : Data) → Begun l → add_entry l d ≡ Some m → Begun m
+keeps_types l m d begun e = option_and_then_some (entry_added l) (entry_by_member l.types d) m e (λ x s h. keeps_entry l m x begun h)
 
-keeps_entry : (l m : Listed) (e : Entry) → Stands l → with_entry l e ≡ Some m → Stands m
-keeps_entry l m (defines d) stands e =
-    let grew : grown (with_definition l.table d) l.types (type_at (length l.table.definitions) d) ≡ m = accepted_is (refusal l.table d) _ m e in
-    subst Stands grew (record { known = one_more l.table (with_definition l.table d) l.types _ (λ x h. knows-with l.table d x h) stands.known (knows_new l.table d); few = stands.few })
-keeps_entry l m (handle t) stands e = keeps_handle l m t (knows l.table t) refl stands e
-
-keeps_types : (l m : Listed) (d : Data) → Stands l → add_entry l d ≡ Some m → Stands m
-keeps_types l m d stands e = by_some (with_entry l) (entry_of l.types d) m (Stands m) e (λ x s h. keeps_entry l m x stands h)
-
-pub types_stand : (t : Table) (ds : Items) (l : Listed) → length t.funcs ≤ 1048576 → types_over t ds ≡ Some l → Stands l
-types_stand t ds l few e = onward_keeps Stands add_entry keeps_types (so_far t []) l ds (record { known = λ k d lt. absurd (omega arith); few = few }) e
+pub types_begun : (t : Table) (ds : Items) (l : Listed) → length t.funcs ≡ 0 → types_over t ds ≡ Some l → Begun l
+types_begun t ds l none e = onward_keeps Begun add_entry keeps_types (so_far t []) l ds (record { known = All-nil (Knows t); none = none }) e
 
 -- ---- functions
+
+-- types that are known, and few functions, each told whether it has a post-return function
+pub record Stands (types : List InterfaceType) (fs : Funcs) : Type 0 where
+  pub known : All (Knows fs.table) types
+  pub few : length fs.table.funcs ≤ 1048576
+  pub told : length fs.posts ≡ length fs.table.funcs
 
 last_test : (o : Option TypeError) (a b c d : Bool) (p q r s : TypeError) → or_else o (first_error ((a, p) ∷ (b, q) ∷ (c, r) ∷ (d, s) ∷ [])) ≡ None → d ≡ false
 last_test (Some e) a b c d p q r s h = absurd (cc)
@@ -126,48 +111,53 @@ knows_more t new more grown same (ty.Own r) h = subst (λ (rs : List TypeResourc
 knows_more t new more grown same (ty.Borrow r) h = subst (λ (rs : List TypeResourceTable). IsTrue (nat_lt r (length rs))) (sym same) h
 knows_more t new more grown same _ h = refl
 
-keeps_parts : (types : List InterfaceType) (t u : Table) (f : FuncParts) → Stands (so_far t types) → with_parts t f ≡ Some u → Stands (so_far u types)
-keeps_parts types t u f stands e =
-    let free = room t f.params f.results (accepted_none (func_refusal t f.params f.results) _ u e) in
+keeps_parts : (types : List InterfaceType) (fs gs : Funcs) (f : FuncParts) → Stands types fs → with_parts fs f ≡ Some gs → Stands types gs
+keeps_parts types fs gs f stands e =
+    let t = fs.table in
     let new = with_func t f.params f.results f.async in
+    let refused = func_refusal t f.params f.results in
+    let free = room t f.params f.results (not_refused refused _ gs e) in
     let more : List Definition = TupleType f.params ∷ TupleType f.results ∷ [] in
-    let keeps : (type : InterfaceType) → Knows t type → Knows new type = knows_more t new more (append_assoc t.definitions (TupleType f.params ∷ []) (TupleType f.results ∷ [])) refl in
-    subst (λ (x : Table). Stands (so_far x types)) (accepted_is (func_refusal t f.params f.results) new u e)
-    (record { known = λ k d lt. keeps _ (stands.known k d lt); few = omega (arith, free, length-append t.funcs (record { params = length t.definitions; results = length t.definitions + 1; async_ = f.async } ∷ [])) })
+    let grew = append_assoc t.definitions (TupleType f.params ∷ []) (TupleType f.results ∷ []) in
+    let longer = length-append t.funcs (record { params = length t.definitions; results = length t.definitions + 1; async_ = f.async } ∷ []) in
+    subst (Stands types) (accepted_is refused (funcs_so_far new (fs.posts ++ f.post ∷ [])) gs e) (record {
+      known = λ k d lt. knows_more t new more grew refl _ (stands.known k d lt);
+      few = omega (arith, free, longer);
+      told = omega (arith, stands.told, length-append fs.posts (f.post ∷ []), longer);
+    })
 
-keeps_funcs : (types : List InterfaceType) (t u : Table) (d : Data) → Stands (so_far t types) → add_func types t d ≡ Some u → Stands (so_far u types)
-keeps_funcs types t u d stands e = by_some (with_parts t) (func_of types d) u (Stands (so_far u types)) e (λ f s h. keeps_parts types t u f stands h)
+keeps_funcs : (types : List InterfaceType) (fs gs : Funcs) (d : Data) → Stands types fs → add_func types fs d ≡ Some gs → Stands types gs
+keeps_funcs types fs gs d stands e = option_and_then_some (with_parts fs) (func_of types d) gs e (λ f s h. keeps_parts types fs gs f stands h)
 
-funcs_stand : (ds : Items) (l m : Listed) → Stands l → with_funcs ds l ≡ Some m → Stands m
-funcs_stand ds l m stands e = by_map (λ t. so_far t l.types) (onward (add_func l.types) l.table ds) m (Stands m) e (λ t s is.
-    subst Stands is (onward_keeps (λ t. Stands (so_far t l.types)) (add_func l.types) (keeps_funcs l.types) l.table t ds stands s))
+pub funcs_stand : (ds : Items) (l : Listed) (fs : Funcs) → Begun l → funcs_over ds l ≡ Some fs → Stands l.types fs
+funcs_stand ds l fs begun e = onward_keeps (Stands l.types) (add_func l.types) (keeps_funcs l.types) (funcs_so_far l.table []) fs ds
+    (record { known = begun.known; few = omega (arith, begun.none); told = sym begun.none }) e
 
 -- ---- all of it
 
-Few : Table → Type 0
-Few t = length t.funcs ≤ 1048576
+keeps_resources : (t u : Table) (d : Data) → length t.funcs ≡ 0 → add_resource t d ≡ Some u → length u.funcs ≡ 0
+keeps_resources t u d none e = option_and_then_some (with_resource t) (resource_of d) u e (λ r s h.
+    subst (λ (x : Table). length x.funcs ≡ 0) (accepted_is (resource_refusal t r) (record t { resources = t.resources ++ r ∷ [] }) u h) none)
 
-keeps_resources : (t u : Table) (d : Data) → Few t → add_resource t d ≡ Some u → Few u
-unfolding Few
-keeps_resources t u d few e = by_some (with_resource t) (resource_of d) u (Few u) e (λ r s h.
-    subst Few (accepted_is (resource_refusal t r) (record t { resources = t.resources ++ r ∷ [] }) u h) few)
+-- what is known of a listing
+pub record IsKnown (l : Listed) : Type 0 where
+  pub known : All (Knows l.table) l.types
+  pub few : length l.table.funcs ≤ 1048576
 
-pub listed_stands : (resources types funcs : Items) (l : Listed) → listed resources types funcs ≡ Some l → Stands l
-unfolding Few
-listed_stands resources types funcs l e =
-    by_some (λ t. option_and_then (with_funcs funcs) (types_over t types)) (onward add_resource empty_table resources) l (Stands l) e (λ t s more.
-    by_some (with_funcs funcs) (types_over t types) l (Stands l) more (λ m made last.
-    funcs_stand funcs m l (types_stand t types m (onward_keeps Few add_resource keeps_resources empty_table t resources (omega arith) s) made) last))
+pub listing_known : (resources types funcs : Items) (l : Listed) → listing_over resources types funcs ≡ Some l → IsKnown l
+listing_known resources types funcs l e =
+    option_and_then_some (λ t. option_and_then (with_funcs funcs) (types_over t types)) (onward add_resource empty_table resources) l e (λ t s more.
+    option_and_then_some (with_funcs funcs) (types_over t types) l more (λ m made last.
+    by_map (λ fs. so_far fs.table m.types) (funcs_over funcs m) l last (λ fs over is.
+    let none = onward_keeps (λ x. length x.funcs ≡ 0) add_resource keeps_resources empty_table t resources refl s in
+    let stands = funcs_stand funcs m fs (types_begun t types m none made) over in
+    subst IsKnown is (record { known = stands.known; few = stands.few }))))
 
-if_some : {A : Type 0} (b : Bool) (o : Option A) (x : A) → (if b then o else None) ≡ Some x → o ≡ Some x
-if_some true o x e = e
-if_some false o x e = absurd (cc)
+pub layout_known : (d : Data) (l : Listed) → layout_of d ≡ Some l → IsKnown l
+layout_known d l e = by_test (has_len (layout_members d) (as_object d)) _ l e (λ counted e0.
+    option_and_then_some _ (items_of (get (codes "resources") d)) l e0 (λ resources s1 e1.
+    option_and_then_some _ (items_of (get (codes "types") d)) l e1 (λ types s2 e2.
+    option_and_then_some _ (items_of (get (codes "funcs") d)) l e2 (λ funcs s3 e3. listing_known resources types funcs l e3))))
 
-pub layout_stands : (d : Data) (l : Listed) → layout_of d ≡ Some l → Stands l
-layout_stands d l e =
-    by_some _ (items_of (get (codes "resources") d)) l (Stands l) (if_some (has_len (members_there d) (as_object d)) _ l e) (λ resources s1 e1.
-    by_some _ (items_of (get (codes "types") d)) l (Stands l) e1 (λ types s2 e2.
-    by_some _ (items_of (get (codes "funcs") d)) l (Stands l) e2 (λ funcs s3 e3. listed_stands resources types funcs l e3)))
-
-pub types_of_stand : (d : Data) (l : Listed) → types_of d ≡ Some l → Stands l
-types_of_stand d l e = by_some (types_over empty_table) (as_array d) l (Stands l) e (λ ds s h. types_stand empty_table ds l (omega arith) h)
+pub types_known : (d : Data) (l : Listed) → types_listed d ≡ Some l → Begun l
+types_known d l e = option_and_then_some (types_over empty_table) (as_array d) l e (λ ds s h. types_begun empty_table ds l refl h)

@@ -8,11 +8,11 @@ use Rattle.canon_abi.specs.declared.abi.CanonicalAbiInfo.{CanonicalAbiInfo}
 use Rattle.canon_model.specs.Layout.{align_to, begins, ends, members_end, size}
 use Rattle.canon_model.specs.Shape.{Members, Name, ProductKind, Shape, member, product}
 use Rattle.canon_model.proofs.Layouts.{members_end-le, members_end-le-size}
-use Rattle.canon_table.proofs.Laid.{told_below}
-use Rattle.canon_table.specs.Keeps.{fields_type}
-use Rattle.canon_table.specs.declared.types.InterfaceType.{InterfaceType}
-use Rattle.canon_table.specs.declared.types.RecordField.{RecordField}
-use Rattle.canon_table.specs.Table.{Knows, Table, fields_in, members_in, parts, shape_in}
+use Rattle.canon_types.proofs.Laid.{told_below}
+use Rattle.canon_types.specs.Keeps.{fields_type}
+use Rattle.canon_types.specs.declared.types.InterfaceType.{InterfaceType}
+use Rattle.canon_types.specs.declared.types.RecordField.{RecordField}
+use Rattle.canon_types.specs.Table.{Knows, Table, fields_in, members_in, parts, shape_in}
 use Rattle.canon_layout.specs.Lines.{offsets_text}
 
 pub drop_next : {A : Type 0} → (xs : List A) (i : ℕ) (x : A) → i < length xs → x ≡ slice_index_or xs i x → drop i xs ≡ x ∷ drop (i + 1) xs

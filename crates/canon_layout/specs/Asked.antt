@@ -1,15 +1,15 @@
 -- Which table of types a JSON value asks for.
-use Rattle.std.specs.Prelude.{ℕ, ◌+◌, List, [], ◌∷◌, ◌++◌, length, if◌then◌else◌, codes, Option, None, Some, option_map, option_and_then}
+use Rattle.std.specs.Prelude.{ℕ, ◌+◌, List, [], ◌∷◌, ◌++◌, length, Bool, if◌then◌else◌, codes, Option, None, Some, option_map, option_and_then}
 use Rattle.serde_json.specs.Data.{Data, Items}
 use Rattle.serde_json.specs.Find.{get, as_array, as_object}
 use Rattle.canon_json.specs.Json.{has_len, items_of, onward, there}
-use Rattle.canon_table.specs.Refusal.{empty_table, func_refusal, refusal, resource_refusal, with_definition, with_func}
-use Rattle.canon_table.specs.Table.{Definition, EnumType, FixedListType, FlagsType, ListType, MapType, OptionType, RecordType, ResultType, Table, TupleType, VariantType, knows}
-use Rattle.canon_table.specs.declared.error.TypeError.{TypeError}
-use Rattle.canon_table.specs.declared.types.InterfaceType.{InterfaceType}
-use Rattle.canon_table.specs.declared.types.InterfaceType.TheVariants as ty
-use Rattle.canon_table.specs.declared.types.TypeResourceTable.{TypeResourceTable}
-use Rattle.canon_layout.specs.Entries.{Entry, FuncParts, defines, entry_of, func_of, handle, resource_of}
+use Rattle.canon_types.specs.Refusal.{empty_table, func_refusal, refusal, resource_refusal, with_definition, with_func}
+use Rattle.canon_types.specs.Table.{Definition, EnumType, FixedListType, FlagsType, ListType, MapType, OptionType, RecordType, ResultType, Table, TupleType, VariantType, knows}
+use Rattle.canon_types.specs.declared.error.TypeError.{TypeError}
+use Rattle.canon_types.specs.declared.types.InterfaceType.{InterfaceType}
+use Rattle.canon_types.specs.declared.types.InterfaceType.TheVariants as ty
+use Rattle.canon_types.specs.declared.types.TypeResourceTable.{TypeResourceTable}
+use Rattle.canon_layout.specs.Entries.{Entry, FuncParts, defines, entry_by_member, func_of, handle, resource_of}
 
 -- a table, and the type of each entry
 pub record Listed : Type 0 where
@@ -41,12 +41,12 @@ abbrev pub unless : {A : Type 0} → Option TypeError → A → Option A
 unless None a = Some a
 unless (Some e) a = None
 
-abbrev pub with_entry : Listed → Entry → Option Listed
-with_entry l (defines d) = unless (refusal l.table d) (grown (with_definition l.table d) l.types (type_at (length l.table.definitions) d))
-with_entry l (handle t) = if knows l.table t then Some (grown l.table l.types t) else None
+abbrev pub entry_added : Listed → Entry → Option Listed
+entry_added l (defines d) = unless (refusal l.table d) (grown (with_definition l.table d) l.types (type_at (length l.table.definitions) d))
+entry_added l (handle t) = if knows l.table t then Some (grown l.table l.types t) else None
 
 abbrev pub add_entry : Listed → Data → Option Listed
-add_entry l d = option_and_then (with_entry l) (entry_of l.types d)
+add_entry l d = option_and_then (entry_added l) (entry_by_member l.types d)
 
 abbrev pub with_resource : Table → TypeResourceTable → Option Table
 with_resource t r = unless (resource_refusal t r) (record t { resources = t.resources ++ r ∷ [] })
@@ -54,36 +54,49 @@ with_resource t r = unless (resource_refusal t r) (record t { resources = t.reso
 abbrev pub add_resource : Table → Data → Option Table
 add_resource t d = option_and_then (with_resource t) (resource_of d)
 
-abbrev pub with_parts : Table → FuncParts → Option Table
-with_parts t f = unless (func_refusal t f.params f.results) (with_func t f.params f.results f.async)
+-- a table, and for each of its functions whether it has a post-return function
+pub record Funcs : Type 0 where
+  pub table : Table
+  pub posts : List Bool
 
-abbrev pub add_func : List InterfaceType → Table → Data → Option Table
-add_func types t d = option_and_then (with_parts t) (func_of types d)
+abbrev pub funcs_so_far : Table → List Bool → Funcs
+funcs_so_far t posts = record { table = t; posts = posts }
+
+abbrev pub with_parts : Funcs → FuncParts → Option Funcs
+with_parts fs f =
+    unless (func_refusal fs.table f.params f.results)
+    (funcs_so_far (with_func fs.table f.params f.results f.async) (fs.posts ++ f.post ∷ []))
+
+abbrev pub add_func : List InterfaceType → Funcs → Data → Option Funcs
+add_func types fs d = option_and_then (with_parts fs) (func_of types d)
 
 -- the types of an array, over these resources
 abbrev pub types_over : Table → Items → Option Listed
 types_over t entries = onward add_entry (so_far t []) entries
 
 -- the types of an array, without resources
-abbrev pub types_of : Data → Option Listed
-types_of d = option_and_then (types_over empty_table) (as_array d)
+abbrev pub types_listed : Data → Option Listed
+types_listed d = option_and_then (types_over empty_table) (as_array d)
 
 -- the functions of an array, over these types
+abbrev pub funcs_over : Items → Listed → Option Funcs
+funcs_over funcs l = onward (add_func l.types) (funcs_so_far l.table []) funcs
+
 abbrev pub with_funcs : Items → Listed → Option Listed
-with_funcs funcs l = option_map (λ t. so_far t l.types) (onward (add_func l.types) l.table funcs)
+with_funcs funcs l = option_map (λ fs. so_far fs.table l.types) (funcs_over funcs l)
 
 -- resources come first, then types, then functions
-abbrev pub listed : Items → Items → Items → Option Listed
-listed resources types funcs = option_and_then (λ t. option_and_then (with_funcs funcs) (types_over t types)) (onward add_resource empty_table resources)
+abbrev pub listing_over : Items → Items → Items → Option Listed
+listing_over resources types funcs = option_and_then (λ t. option_and_then (with_funcs funcs) (types_over t types)) (onward add_resource empty_table resources)
 
-abbrev pub members_there : Data → ℕ
-members_there d = there (get (codes "resources") d) + (there (get (codes "types") d) + there (get (codes "funcs") d))
+abbrev pub layout_members : Data → ℕ
+layout_members d = there (get (codes "resources") d) + (there (get (codes "types") d) + there (get (codes "funcs") d))
 
 -- an object of these three members, each of which may be missing
 abbrev pub layout_of : Data → Option Listed
 layout_of d =
-    if has_len (members_there d) (as_object d)
-    then option_and_then (λ resources. option_and_then (λ types. option_and_then (listed resources types)
+    if has_len (layout_members d) (as_object d)
+    then option_and_then (λ resources. option_and_then (λ types. option_and_then (listing_over resources types)
     (items_of (get (codes "funcs") d)))
     (items_of (get (codes "types") d)))
     (items_of (get (codes "resources") d))

@@ -4,16 +4,12 @@ use Rattle.std.specs.Fmt.{decimal}
 use Rattle.canon_model.specs.Flat.{max_params, max_results}
 use Rattle.canon_model.specs.Layout.{align, begins, ends, flat, payload_offset, size, tag_size}
 use Rattle.canon_model.specs.Shape.{Cases, Members, Shape, borrow, case_count, fixed, flags, list, member, no_members, own, product, scalar, string, variant}
-use Rattle.canon_table.specs.Table.{Table, shape_of}
-use Rattle.canon_table.specs.declared.types.InterfaceType.{InterfaceType}
-use Rattle.canon_table.specs.declared.types.InterfaceType.TheVariants as ty
-use Rattle.canon_table.specs.declared.types.TypeFunc.{TypeFunc}
+use Rattle.canon_types.specs.Table.{Table, shape_of}
+use Rattle.canon_types.specs.declared.types.InterfaceType.{InterfaceType}
+use Rattle.canon_types.specs.declared.types.InterfaceType.TheVariants as ty
+use Rattle.canon_types.specs.declared.types.TypeFunc.{TypeFunc}
 use Rattle.canon_layout.specs.Asked.{Listed}
 use Rattle.canon_layout.specs.Words.{type_word}
-
--- the end of a line
-abbrev pub end : List ℕ
-end = 10 ∷ []
 
 -- a number of words, or - where there are more than parameters may take
 abbrev pub flat_text : ℕ → List ℕ
@@ -44,7 +40,7 @@ parts_text (flags names) = []
 
 -- the line of a type, the entry of number i
 abbrev pub type_line : Table → ℕ → InterfaceType → List ℕ
-type_line t i type = codes "type " ++ decimal i ++ 32 ∷ type_word type ++ numbers_text (shape_of t type) ++ parts_text (shape_of t type) ++ end
+type_line t i type = codes "type " ++ decimal i ++ 32 ∷ type_word type ++ numbers_text (shape_of t type) ++ parts_text (shape_of t type) ++ codes "\n"
 
 abbrev pub type_lines : Table → ℕ → List InterfaceType → List ℕ
 type_lines t i [] = []
@@ -60,7 +56,7 @@ passed_text most s =
 abbrev pub func_line : Table → ℕ → TypeFunc → List ℕ
 func_line t i f =
     codes "func " ++ decimal i ++ codes " params " ++ passed_text max_params (shape_of t (ty.Tuple f.params))
-    ++ codes " results " ++ passed_text max_results (shape_of t (ty.Tuple f.results)) ++ end
+    ++ codes " results " ++ passed_text max_results (shape_of t (ty.Tuple f.results)) ++ codes "\n"
 
 abbrev pub func_lines : Table → ℕ → List TypeFunc → List ℕ
 func_lines t i [] = []

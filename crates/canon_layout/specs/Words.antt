@@ -1,7 +1,7 @@
 -- The words that types have in a script.
 use Rattle.std.specs.Prelude.{ℕ, List, [], ◌∷◌, codes}
-use Rattle.canon_table.specs.declared.types.InterfaceType.{InterfaceType}
-use Rattle.canon_table.specs.declared.types.InterfaceType.TheVariants as ty
+use Rattle.canon_types.specs.declared.types.InterfaceType.{InterfaceType}
+use Rattle.canon_types.specs.declared.types.InterfaceType.TheVariants as ty
 use Rattle.canon_layout.specs.declared.words.Kind.{Kind}
 use Rattle.canon_layout.specs.declared.words.Kind.TheVariants as kind
 

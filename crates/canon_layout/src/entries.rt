@@ -10,12 +10,12 @@ use crate::readers::{
 };
 use crate::words::{Kind, kind_named};
 use canon_json::{ScriptError, each_of, only_member, u32_of};
-use canon_table::{InterfaceType, TypeBuilder, TypeError, TypeResourceTableIndex};
+use canon_types::{InterfaceType, TypeBuilder, TypeError, TypeResourceTableIndex};
 use serde_json::Value;
 use std::alloc::Global;
 
 /// Adds the types of these entries, each over those before it.
-pub(crate) fn add_entries(
+pub fn add_entries(
     alloc: Global,
     builder: &mut TypeBuilder,
     items: &[Value],
@@ -31,7 +31,7 @@ pub(crate) fn add_entries(
 }
 
 /// Adds the type of an entry over those before it.
-fn add_entry(
+pub fn add_entry(
     alloc: Global,
     builder: &mut TypeBuilder,
     before: &[InterfaceType],
@@ -66,7 +66,7 @@ fn add_list(
     before: &[InterfaceType],
     form: &Value,
 ) -> Result<InterfaceType, ScriptError>
-    ensures { Gives (spec.grown builder.new before.now) result (option_and_then (spec.with_entry (spec.so_far builder.old before.now)) (entry_by Kind.List before.now (view form.now))) }
+    ensures { Gives (spec.grown builder.new before.now) result (option_and_then (spec.entry_added (spec.so_far builder.old before.now)) (entry_by Kind.List before.now (view form.now))) }
 {
     let element = type_of_json(form, before)?;
     accepted(builder.add_list(element))
@@ -77,7 +77,7 @@ fn add_option(
     before: &[InterfaceType],
     form: &Value,
 ) -> Result<InterfaceType, ScriptError>
-    ensures { Gives (spec.grown builder.new before.now) result (option_and_then (spec.with_entry (spec.so_far builder.old before.now)) (entry_by Kind.Option before.now (view form.now))) }
+    ensures { Gives (spec.grown builder.new before.now) result (option_and_then (spec.entry_added (spec.so_far builder.old before.now)) (entry_by Kind.Option before.now (view form.now))) }
 {
     let some = type_of_json(form, before)?;
     accepted(builder.add_option(some))
@@ -88,7 +88,7 @@ fn add_map(
     before: &[InterfaceType],
     form: &Value,
 ) -> Result<InterfaceType, ScriptError>
-    ensures { Gives (spec.grown builder.new before.now) result (option_and_then (spec.with_entry (spec.so_far builder.old before.now)) (entry_by Kind.Map before.now (view form.now))) }
+    ensures { Gives (spec.grown builder.new before.now) result (option_and_then (spec.entry_added (spec.so_far builder.old before.now)) (entry_by Kind.Map before.now (view form.now))) }
 {
     let Some((key, value)) = type_pair_of(form, before) else {
         return Err(ScriptError::BadScript);
@@ -102,7 +102,7 @@ fn add_record(
     before: &[InterfaceType],
     form: &Value,
 ) -> Result<InterfaceType, ScriptError>
-    ensures { Gives (spec.grown builder.new before.now) result (option_and_then (spec.with_entry (spec.so_far builder.old before.now)) (entry_by Kind.Record before.now (view form.now))) }
+    ensures { Gives (spec.grown builder.new before.now) result (option_and_then (spec.entry_added (spec.so_far builder.old before.now)) (entry_by Kind.Record before.now (view form.now))) }
 {
     let fields = each_of(alloc, &Fields { before }, Some(form))?;
     accepted(builder.add_record(fields))
@@ -114,7 +114,7 @@ fn add_tuple(
     before: &[InterfaceType],
     form: &Value,
 ) -> Result<InterfaceType, ScriptError>
-    ensures { Gives (spec.grown builder.new before.now) result (option_and_then (spec.with_entry (spec.so_far builder.old before.now)) (entry_by Kind.Tuple before.now (view form.now))) }
+    ensures { Gives (spec.grown builder.new before.now) result (option_and_then (spec.entry_added (spec.so_far builder.old before.now)) (entry_by Kind.Tuple before.now (view form.now))) }
 {
     let types = each_of(alloc, &Types { before }, Some(form))?;
     accepted(builder.add_tuple(types))
@@ -126,7 +126,7 @@ fn add_variant(
     before: &[InterfaceType],
     form: &Value,
 ) -> Result<InterfaceType, ScriptError>
-    ensures { Gives (spec.grown builder.new before.now) result (option_and_then (spec.with_entry (spec.so_far builder.old before.now)) (entry_by Kind.Variant before.now (view form.now))) }
+    ensures { Gives (spec.grown builder.new before.now) result (option_and_then (spec.entry_added (spec.so_far builder.old before.now)) (entry_by Kind.Variant before.now (view form.now))) }
 {
     let cases = each_of(alloc, &Cases { before }, Some(form))?;
     accepted(builder.add_variant(cases))
@@ -138,7 +138,7 @@ fn add_enum(
     before: &[InterfaceType],
     form: &Value,
 ) -> Result<InterfaceType, ScriptError>
-    ensures { Gives (spec.grown builder.new before.now) result (option_and_then (spec.with_entry (spec.so_far builder.old before.now)) (entry_by Kind.Enum before.now (view form.now))) }
+    ensures { Gives (spec.grown builder.new before.now) result (option_and_then (spec.entry_added (spec.so_far builder.old before.now)) (entry_by Kind.Enum before.now (view form.now))) }
 {
     let names = each_of(alloc, &Names, Some(form))?;
     accepted(builder.add_enum(names))
@@ -150,7 +150,7 @@ fn add_flags(
     before: &[InterfaceType],
     form: &Value,
 ) -> Result<InterfaceType, ScriptError>
-    ensures { Gives (spec.grown builder.new before.now) result (option_and_then (spec.with_entry (spec.so_far builder.old before.now)) (entry_by Kind.Flags before.now (view form.now))) }
+    ensures { Gives (spec.grown builder.new before.now) result (option_and_then (spec.entry_added (spec.so_far builder.old before.now)) (entry_by Kind.Flags before.now (view form.now))) }
 {
     let names = each_of(alloc, &Names, Some(form))?;
     accepted(builder.add_flags(names))
@@ -161,7 +161,7 @@ fn add_result(
     before: &[InterfaceType],
     form: &Value,
 ) -> Result<InterfaceType, ScriptError>
-    ensures { Gives (spec.grown builder.new before.now) result (option_and_then (spec.with_entry (spec.so_far builder.old before.now)) (entry_by Kind.Result before.now (view form.now))) }
+    ensures { Gives (spec.grown builder.new before.now) result (option_and_then (spec.entry_added (spec.so_far builder.old before.now)) (entry_by Kind.Result before.now (view form.now))) }
 {
     let Some((ok, err)) = payload_pair_of(form, before) else {
         return Err(ScriptError::BadScript);
@@ -174,7 +174,7 @@ fn add_fixed(
     before: &[InterfaceType],
     form: &Value,
 ) -> Result<InterfaceType, ScriptError>
-    ensures { Gives (spec.grown builder.new before.now) result (option_and_then (spec.with_entry (spec.so_far builder.old before.now)) (entry_by Kind.Fixed before.now (view form.now))) }
+    ensures { Gives (spec.grown builder.new before.now) result (option_and_then (spec.entry_added (spec.so_far builder.old before.now)) (entry_by Kind.Fixed before.now (view form.now))) }
 {
     let Some((element, size)) = counted_type_of(form, before) else {
         return Err(ScriptError::BadScript);
@@ -187,7 +187,7 @@ fn add_own(
     before: &[InterfaceType],
     form: &Value,
 ) -> Result<InterfaceType, ScriptError>
-    ensures { Gives (spec.grown builder.new before.now) result (option_and_then (spec.with_entry (spec.so_far builder.old before.now)) (entry_by Kind.Own before.now (view form.now))) }
+    ensures { Gives (spec.grown builder.new before.now) result (option_and_then (spec.entry_added (spec.so_far builder.old before.now)) (entry_by Kind.Own before.now (view form.now))) }
 {
     let Some(resource) = u32_of(form) else {
         return Err(ScriptError::BadScript);
@@ -200,7 +200,7 @@ fn add_borrow(
     before: &[InterfaceType],
     form: &Value,
 ) -> Result<InterfaceType, ScriptError>
-    ensures { Gives (spec.grown builder.new before.now) result (option_and_then (spec.with_entry (spec.so_far builder.old before.now)) (entry_by Kind.Borrow before.now (view form.now))) }
+    ensures { Gives (spec.grown builder.new before.now) result (option_and_then (spec.entry_added (spec.so_far builder.old before.now)) (entry_by Kind.Borrow before.now (view form.now))) }
 {
     let Some(resource) = u32_of(form) else {
         return Err(ScriptError::BadScript);

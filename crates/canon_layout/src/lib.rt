@@ -9,9 +9,12 @@ mod readers;
 mod resources;
 mod words;
 
+pub use entries::{add_entries, add_entry};
+pub use funcs::{Signature, add_funcs, func_of_json};
 pub use lines::layout_lines;
 pub use listing::{listing_of_json, types_of_json};
-pub use readers::type_of_json;
+pub use readers::{kind_of_json, type_of_json};
+pub use words::Kind;
 
 #[cfg(test)]
 mod tests;

@@ -4,15 +4,15 @@ ghost use Rattle.canon_abi.specs.Abi.{HasInfo};
 ghost use Rattle.canon_json.specs.Json.{Gives};
 ghost use Rattle.canon_model.specs.Layout.{members_end};
 ghost use Rattle.canon_model.specs.Shape.{Cases};
-ghost use Rattle.canon_table.specs.Keeps.{field_members, fields_type};
-ghost use Rattle.canon_table.specs.Table.{HasFunc, Knows, all_shapes, fields_in, members_of, parts, shape_of};
+ghost use Rattle.canon_types.specs.Keeps.{field_members, fields_type};
+ghost use Rattle.canon_types.specs.Table.{HasFunc, Knows, all_shapes, fields_in, members_of, parts, shape_of};
 ghost use Rattle.canon_layout.specs.Asked.{layout_of};
 ghost use Rattle.canon_layout.specs.Lines as spec;
 
 use crate::listing::listing_of_json;
 use crate::words::type_word;
 use canon_json::ScriptError;
-use canon_table::{
+use canon_types::{
     ComponentTypes, InterfaceType, MAX_FLAT_PARAMS, MAX_FLAT_RESULTS, RecordField, TypeFuncIndex,
     VariantInfo,
 };

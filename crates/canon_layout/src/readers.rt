@@ -4,29 +4,37 @@ ghost use Rattle.serde_json.specs.View.{view};
 ghost use Rattle.canon_json.specs.Json.{Gives, u32_of};
 ghost use Rattle.canon_json.specs.declared.error.ScriptError.TheVariants as refused;
 ghost use Rattle.canon_model.specs.Shape.{Name};
-ghost use Rattle.canon_table.specs.declared.types.InterfaceType.{InterfaceType};
+ghost use Rattle.canon_types.specs.declared.types.InterfaceType.{InterfaceType};
 ghost use Rattle.canon_layout.specs.Entries as spec;
 
-use crate::words::plain_named;
-use canon_json::{Reader, ScriptError, only, two, u32_of};
-use canon_table::{InterfaceType, RecordField};
+use crate::words::{Kind, kind_named, plain_named};
+use canon_json::{Reader, ScriptError, only, only_member, two, u32_of};
+use canon_types::{InterfaceType, RecordField};
 use serde_json::Value;
 use std::alloc::Global;
 
+/// The kind of an entry, as its only member names it.
+pub fn kind_of_json(v: &Value) -> Option<Kind>
+    ensures { result ≡ spec.kind_of (view v.now) }
+{
+    let (member, _) = only_member(v)?;
+    kind_named(member)
+}
+
 /// A type by its name, or by the number of an entry among those before.
 pub fn type_of_json(v: &Value, entries: &[InterfaceType]) -> Result<InterfaceType, ScriptError>
-    ensures value { Gives (λ t. t) result (spec.type_of entries.now (view v.now)) }
+    ensures value { Gives (λ t. t) result (spec.reference_of entries.now (view v.now)) }
     ensures cause { IfErr result (λ e. e ≡ refused.BadScript) }
 {
-    match type_of(v, entries) {
+    match reference_of(v, entries) {
         Some(ty) => Ok(ty),
         None => Err(ScriptError::BadScript),
     }
 }
 
-#[tactic(auto, using(crate::proofs::Reading::type_of_string, crate::proofs::Reading::type_of_number))]
-fn type_of(v: &Value, before: &[InterfaceType]) -> Option<InterfaceType>
-    ensures { result ≡ spec.type_of before.now (view v.now) }
+#[tactic(auto, using(crate::proofs::Reading::reference_of_string, crate::proofs::Reading::reference_of_number))]
+fn reference_of(v: &Value, before: &[InterfaceType]) -> Option<InterfaceType>
+    ensures { result ≡ spec.reference_of before.now (view v.now) }
 {
     if let Some(name) = v.as_str() {
         return plain_named(name);
@@ -34,15 +42,15 @@ fn type_of(v: &Value, before: &[InterfaceType]) -> Option<InterfaceType>
     before.get(v.as_u64()? as usize).copied()
 }
 
-#[tactic(auto, using(crate::proofs::Reading::payload_of_null, crate::proofs::Reading::payload_of_type))]
+#[tactic(auto, using(crate::proofs::Reading::optional_type_of_null, crate::proofs::Reading::optional_type_of_type))]
 /// A type, or null for none.
-fn payload_of(v: &Value, before: &[InterfaceType]) -> Option<Option<InterfaceType>>
-    ensures { result ≡ spec.payload_of before.now (view v.now) }
+fn optional_type_of(v: &Value, before: &[InterfaceType]) -> Option<Option<InterfaceType>>
+    ensures { result ≡ spec.optional_type_of before.now (view v.now) }
 {
     if v.is_null() {
         return Some(None);
     }
-    match type_of(v, before) {
+    match reference_of(v, before) {
         Some(ty) => Some(Some(ty)),
         None => None,
     }
@@ -53,10 +61,10 @@ pub(crate) fn type_pair_of(
     v: &Value,
     before: &[InterfaceType],
 ) -> Option<(InterfaceType, InterfaceType)>
-    ensures { result ≡ spec.pair_of (spec.type_of before.now) (spec.type_of before.now) (view v.now) }
+    ensures { result ≡ spec.pair_of (spec.reference_of before.now) (spec.reference_of before.now) (view v.now) }
 {
     let (first, second) = two(v)?;
-    Some((type_of(first, before)?, type_of(second, before)?))
+    Some((reference_of(first, before)?, reference_of(second, before)?))
 }
 
 /// Two types, each of which may be none.
@@ -64,18 +72,21 @@ pub(crate) fn payload_pair_of(
     v: &Value,
     before: &[InterfaceType],
 ) -> Option<(Option<InterfaceType>, Option<InterfaceType>)>
-    ensures { result ≡ spec.pair_of (spec.payload_of before.now) (spec.payload_of before.now) (view v.now) }
+    ensures { result ≡ spec.pair_of (spec.optional_type_of before.now) (spec.optional_type_of before.now) (view v.now) }
 {
     let (first, second) = two(v)?;
-    Some((payload_of(first, before)?, payload_of(second, before)?))
+    Some((
+        optional_type_of(first, before)?,
+        optional_type_of(second, before)?,
+    ))
 }
 
 /// A type and a number below 2^32.
 pub(crate) fn counted_type_of(v: &Value, before: &[InterfaceType]) -> Option<(InterfaceType, u32)>
-    ensures { result ≡ spec.pair_of (spec.type_of before.now) u32_of (view v.now) }
+    ensures { result ≡ spec.pair_of (spec.reference_of before.now) u32_of (view v.now) }
 {
     let (first, second) = two(v)?;
-    Some((type_of(first, before)?, u32_of(second)?))
+    Some((reference_of(first, before)?, u32_of(second)?))
 }
 
 /// Reads types over these.
@@ -91,7 +102,7 @@ impl Reader for Types<'_> {
 
     ghost seen = { λ t. t };
 
-    ghost reads = { λ r. spec.type_of r.before.now };
+    ghost reads = { λ r. spec.reference_of r.before.now };
 
     fn read(&self, _: Global, v: &Value) -> Result<InterfaceType, ScriptError> {
         type_of_json(v, self.before)

@@ -7,7 +7,7 @@ ghost use Rattle.canon_layout.specs.Entries as entry_spec;
 
 use crate::entries::accepted;
 use canon_json::{ScriptError, bool_or, has_len, there, u32_of};
-use canon_table::{ResourceKind, RuntimeInstance, TypeBuilder, TypeResourceTable};
+use canon_types::{ResourceKind, RuntimeInstance, TypeBuilder, TypeResourceTable};
 use serde_json::Value;
 
 /// Adds these resources.
@@ -35,17 +35,17 @@ fn resource_of(v: &Value) -> Option<TypeResourceTable>
 {
     let kind = v.get("kind")?.as_str()?;
     if kind == "dynamic" {
-        dynamic_of(v)
+        dynamic_resource_of(v)
     } else if kind == "guest" {
-        guest_of(v)
+        guest_resource_of(v)
     } else {
         None
     }
 }
 
 /// The host's, by a number.
-fn dynamic_of(v: &Value) -> Option<TypeResourceTable>
-    ensures { result ≡ entry_spec.dynamic_of (view v.now) }
+fn dynamic_resource_of(v: &Value) -> Option<TypeResourceTable>
+    ensures { result ≡ entry_spec.dynamic_resource_of (view v.now) }
 {
     if !has_len(v, 2) {
         return None;
@@ -55,8 +55,8 @@ fn dynamic_of(v: &Value) -> Option<TypeResourceTable>
 }
 
 /// The guest's, defined here unless it says otherwise, with a destructor or none.
-fn guest_of(v: &Value) -> Option<TypeResourceTable>
-    ensures { result ≡ entry_spec.guest_of (view v.now) }
+fn guest_resource_of(v: &Value) -> Option<TypeResourceTable>
+    ensures { result ≡ entry_spec.guest_resource_of (view v.now) }
 {
     if !has_len(v, 2 + (there(v.get("here")) + there(v.get("dtor")))) {
         return None;

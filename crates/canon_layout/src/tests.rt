@@ -3,7 +3,7 @@
 use crate::words::{Kind, type_word};
 use crate::{layout_lines, listing_of_json, type_of_json, types_of_json};
 use canon_json::ScriptError;
-use canon_table::InterfaceType;
+use canon_types::InterfaceType;
 use serde_json::Value;
 use std::alloc::{AllocError, Global};
 use std::test::Fail;

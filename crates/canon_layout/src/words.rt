@@ -2,7 +2,7 @@ ghost use Rattle.std.specs.Prelude.{◌≡◌};
 ghost use Rattle.canon_layout.specs.Entries.{kind_named, plain_named};
 ghost use Rattle.canon_layout.specs.Words as spec;
 
-use canon_table::InterfaceType;
+use canon_types::InterfaceType;
 
 /// What an entry of a script's types is, by its member.
 #[derive(Clone, Copy, Debug, PartialEq, Eq)]

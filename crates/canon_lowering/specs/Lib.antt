@@ -1,5 +1,6 @@
 pub mod Steps
 pub mod Lowering
 pub mod Storing
-pub mod Args
 pub mod Texts
+pub mod Attempt
+pub mod Copies

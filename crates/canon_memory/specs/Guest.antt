@@ -31,6 +31,14 @@ pub record Moment : Type 0 where
 abbrev pub moment : Seen → List ℕ → Moment
 moment guest bytes = record { guest = guest; bytes = bytes }
 
+-- a guest, whose memory has so many bytes
+pub record GuestIn (G : Type 0) : Type 0 where
+  pub guest : G
+  pub len : ℕ
+
+abbrev pub guest_in : {G : Type 0} → G → List ℕ → GuestIn G
+guest_in guest memory = record { guest = guest; len = length memory }
+
 -- A call goes from one to the other: memory isn't shorter, counts never fall, and it adds these marks and, to a told
 -- journal, these events.
 pub record Goes (before after : Moment) (new_marks : List Mark) (new_events : List Event) : Type 0 where
@@ -75,8 +83,12 @@ Reallocates before after c (Err fault.OutOfMemory) = WasShort before after
 
 -- ---- a guest that tells its journal
 
--- a guest with its journal, and how often the journal had no room
+-- a guest with its journal, and how often want of memory was answered, by the guest or for want of room in the journal
 pub record Recorded (G : Type 0) : Type 0 where
   pub guest : G
   pub events : List Event
   pub shortages : ℕ
+
+-- the guest of one that tells its journal, in the same memory
+abbrev pub of_guest : {G : Type 0} → GuestIn (Recorded G) → GuestIn G
+of_guest j = record { guest = j.guest.guest; len = j.len }

@@ -1,6 +1,6 @@
 ghost use Rattle.std.specs.Prelude.{ℕ, ◌<◌, ◌^◌, ◌++◌, List, [], IfOk, OnOk};
 ghost use Rattle.canon_memory.specs.declared.event.Event.{Event};
-ghost use Rattle.canon_memory.specs.Guest.{Goes, HasCause, OnAnswer, Reallocates, Seen, moment};
+ghost use Rattle.canon_memory.specs.Guest.{Goes, GuestIn, HasCause, OnAnswer, Reallocates, Seen, guest_in, moment};
 ghost use Rattle.canon_memory.specs.Journal.{dtor_events, post_events, realloc_events, resume_events, start_events};
 ghost use Rattle.canon_memory.specs.Realloc.{call};
 
@@ -19,11 +19,12 @@ pub trait Guest {
     /// Its journal, marks, live blocks and counts.
     ghost seen: { Self → Seen };
 
-    /// What it may do from one state to another, as the events that tell it.
-    ghost moves: { Self → List Event → Self → Type 0 };
+    /// What it may do from one state and length of memory to others, as the events that tell it. The host writes bytes of
+    /// memory between two calls, and leaves its length.
+    ghost moves: { GuestIn Self → List Event → GuestIn Self → Type 0 };
 
-    /// What its post-return may make of memory, from before to after.
-    ghost post_leaves: { List ℕ → List ℕ → Type 0 };
+    /// What its post-return or a destructor may make of memory, from before to after.
+    ghost leaves: { List ℕ → List ℕ → Type 0 };
 
     /// Starts a core function with these words.
     fn start(
@@ -33,13 +34,13 @@ pub trait Guest {
         words: &[ValRaw],
     ) -> Result<Step, GuestFault>
         ensures goes { Goes (moment (seen self.old) memory.old) (moment (seen self.new) memory.new) [] (start_events func words.now memory.old memory.new result) }
-        ensures moves { OnAnswer result (moves self.old (start_events func words.now memory.old memory.new result) self.new) }
+        ensures moves { OnAnswer result (moves (guest_in self.old memory.old) (start_events func words.now memory.old memory.new result) (guest_in self.new memory.new)) }
         ensures cause { HasCause (seen self.old) (seen self.new) result };
 
     /// Lets a guest that asked for an import go on with these words.
     fn resume(&mut self, memory: &mut Memory, words: &[ValRaw]) -> Result<Step, GuestFault>
         ensures goes { Goes (moment (seen self.old) memory.old) (moment (seen self.new) memory.new) [] (resume_events words.now memory.old memory.new result) }
-        ensures moves { OnAnswer result (moves self.old (resume_events words.now memory.old memory.new result) self.new) }
+        ensures moves { OnAnswer result (moves (guest_in self.old memory.old) (resume_events words.now memory.old memory.new result) (guest_in self.new memory.new)) }
         ensures cause { HasCause (seen self.old) (seen self.new) result };
 
     /// Asks for a block of `new_size` bytes, in the place of the block of `old_size` bytes at `old` (CanonicalABI.md,
@@ -58,7 +59,7 @@ pub trait Guest {
         requires new_sized { new_size < 2 ^ 32 }
         ensures narrow { IfOk result (λ answer. answer < 2 ^ 32) }
         ensures does { Reallocates (moment (seen self.old) memory.old) (moment (seen self.new) memory.new) (call old old_size align new_size) result }
-        ensures moves { OnAnswer result (moves self.old (realloc_events (call old old_size align new_size) memory.old result) self.new) };
+        ensures moves { OnAnswer result (moves (guest_in self.old memory.old) (realloc_events (call old old_size align new_size) memory.old result) (guest_in self.new memory.new)) };
 
     /// Tells a guest that its returned words were read (CanonicalABI.md, "post-return").
     fn post_return(
@@ -68,19 +69,20 @@ pub trait Guest {
         words: &[ValRaw],
     ) -> Result<(), GuestFault>
         ensures goes { Goes (moment (seen self.old) memory.old) (moment (seen self.new) memory.new) [] (post_events func words.now memory.old result) }
-        ensures moves { OnAnswer result (moves self.old (post_events func words.now memory.old result) self.new) }
-        ensures leaves { OnOk result (post_leaves memory.old memory.new) }
+        ensures moves { OnAnswer result (moves (guest_in self.old memory.old) (post_events func words.now memory.old result) (guest_in self.new memory.new)) }
+        ensures leaves { OnOk result (leaves memory.old memory.new) }
         ensures cause { HasCause (seen self.old) (seen self.new) result };
 
     /// Runs the destructor of a resource of this representation.
     fn dtor(&mut self, memory: &mut Memory, func: u32, rep: u32) -> Result<(), GuestFault>
         ensures goes { Goes (moment (seen self.old) memory.old) (moment (seen self.new) memory.new) [] (dtor_events func rep memory.old result) }
-        ensures moves { OnAnswer result (moves self.old (dtor_events func rep memory.old result) self.new) }
+        ensures moves { OnAnswer result (moves (guest_in self.old memory.old) (dtor_events func rep memory.old result) (guest_in self.new memory.new)) }
+        ensures leaves { OnOk result (leaves memory.old memory.new) }
         ensures cause { HasCause (seen self.old) (seen self.new) result };
 
     /// It may do nothing.
-    ghost stays: { (g : Self) → moves g [] g };
+    ghost stays: { (g : GuestIn Self) → moves g [] g };
 
     /// It may do one thing after another.
-    ghost goes_on: { (g h k : Self) (xs ys : List Event) → moves g xs h → moves h ys k → moves g (xs ++ ys) k };
+    ghost goes_on: { (g h k : GuestIn Self) (xs ys : List Event) → moves g xs h → moves h ys k → moves g (xs ++ ys) k };
 }

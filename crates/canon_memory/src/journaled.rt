@@ -1,6 +1,6 @@
 ghost use Rattle.std.specs.Prelude.{◌≡◌, ◌+◌, List, ◌∷◌, [], ◌++◌, length, Some, IfOk, OnOk, OnErr};
 ghost use Rattle.canon_memory.specs.declared.event.Event.TheVariants as event;
-ghost use Rattle.canon_memory.specs.Guest.{Recorded};
+ghost use Rattle.canon_memory.specs.Guest.{Recorded, of_guest};
 ghost use Rattle.canon_memory.specs.Journal.{step_event, trap_event};
 
 use crate::{Bytes, Event, Events, Guest, GuestFault, Memory, MemoryError, Step, ValRaw, Words};
@@ -8,7 +8,8 @@ use std::alloc::Global;
 use std::marker::Model;
 use std::mem;
 
-/// A guest, and the journal of what it was asked and did. Contracts see both, and a count of its own shortages.
+/// A guest, and the journal of what it was asked and did. Contracts see both, and how often want of memory was answered,
+/// by the guest or because the journal had no room.
 #[derive(Drop)]
 pub struct Journaled<G> {
     alloc: Global,
@@ -69,7 +70,7 @@ impl<G> Journaled<G> {
         mem::replace(&mut self.events, Events::new(self.alloc))
     }
 
-    /// Counts that the journal had no room.
+    /// Counts that want of memory is answered.
     fn run_out(&mut self)
         ensures guest { self.new.guest ≡ self.old.guest }
         ensures events { self.new.events ≡ self.old.events }
@@ -106,10 +107,13 @@ impl<G> Journaled<G> {
         requires { 2 ≤ length self.old.events }
         ensures fault { result ≡ fault }
         ensures trap { fault ≡ GuestFault.Trap → self.new ≡ self.old }
-        ensures short { fault ≡ GuestFault.OutOfMemory → self.new ≡ record self.old { events = take (length self.old.events - 2) self.old.events } }
+        ensures short { fault ≡ GuestFault.OutOfMemory → self.new ≡ record self.old { events = take (length self.old.events - 2) self.old.events; shortages = self.new.shortages } }
+        ensures later { self.old.shortages ≤ self.new.shortages }
+        ensures rose { fault ≡ GuestFault.OutOfMemory → Rose self.old.shortages self.new.shortages }
     {
         if fault == GuestFault::OutOfMemory {
             self.events.drop_both();
+            self.run_out();
         }
         fault
     }
@@ -117,15 +121,15 @@ impl<G> Journaled<G> {
 
 #[tactic(auto, using(crate::proofs::Last::both_dropped, crate::proofs::Last::last_dropped, crate::proofs::Last::last_replaced, crate::proofs::Last::one_dropped, crate::proofs::Last::one_replaced))]
 impl<G: Guest> Guest for Journaled<G> {
-    ghost seen = { λ j. record (G.seen j.guest) { journal = Some j.events; shortages = (G.seen j.guest).shortages + j.shortages } };
+    ghost seen = { λ j. record (G.seen j.guest) { journal = Some j.events; shortages = j.shortages } };
 
-    ghost moves = { λ j events k. G.moves j.guest events k.guest };
+    ghost moves = { λ j events k. G.moves (of_guest j) events (of_guest k) };
 
-    ghost post_leaves = { λ m n. G.post_leaves m n };
+    ghost leaves = { λ m n. G.leaves m n };
 
-    ghost stays = { λ j. G.stays j.guest };
+    ghost stays = { λ j. G.stays (of_guest j) };
 
-    ghost goes_on = { λ i j k xs ys f g. G.goes_on i.guest j.guest k.guest xs ys f g };
+    ghost goes_on = { λ i j k xs ys f g. G.goes_on (of_guest i) (of_guest j) (of_guest k) xs ys f g };
 
     fn start(
         &mut self,
@@ -194,6 +198,7 @@ impl<G: Guest> Guest for Journaled<G> {
             Err(GuestFault::Trap) => Err(GuestFault::Trap),
             Err(GuestFault::OutOfMemory) => {
                 self.events.drop_last();
+                self.run_out();
                 Err(GuestFault::OutOfMemory)
             }
         }

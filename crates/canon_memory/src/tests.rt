@@ -24,7 +24,7 @@ impl Guest for Writer {
 
     ghost moves = { λ _ _ _. Unit {0} };
 
-    ghost post_leaves = { λ m n. n ≡ m };
+    ghost leaves = { λ m n. n ≡ m };
 
     ghost stays = { λ _. record {} };
 

@@ -3,8 +3,8 @@ use Rattle.std.proofs.Common.{◌≡◌, ◌∙◌, ◌+◌, ◌<◌, ◌≤◌,
 use Rattle.std.specs.Prelude.{slice_get, slice_index_or, unwrap_or}
 use Rattle.std.proofs.Math.ListN.{drop_of_length-le}
 use Rattle.std.proofs.lemmas.Option.{get_or_from_slice_get, slice_get_cases, slice_get_within}
-use Rattle.canon_types.specs.declared.options.CanonicalOptions.{CanonicalOptions}
-use Rattle.canon_table.specs.Table.{Table}
+use Rattle.canon_indices.specs.declared.options.CanonicalOptions.{CanonicalOptions}
+use Rattle.canon_types.specs.Table.{Table}
 use Rattle.canon_value.specs.Component.{IsInside, IsSound}
 use Rattle.canon_value.specs.declared.component.Component.{Component}
 use Rattle.canon_value.specs.declared.component.Export.{Export}

@@ -6,13 +6,14 @@ use Rattle.std.specs.declared.alloc.Global.{Global}
 use Rattle.std.proofs.lemmas.List.{length-map, with_items_is}
 use Rattle.std.proofs.lemmas.Option.{none-some}
 use Rattle.canon_memory.specs.declared.event.Event.{Event}
-use Rattle.canon_memory.specs.Guest.{Moment, Recorded, Seen}
-use Rattle.canon_scripted.specs.Scripted.{Does, Doing, Moves, seen_of}
-use Rattle.canon_value.specs.Core.{Parts, moment_of}
+use Rattle.canon_memory.specs.Guest.{Moment, Recorded, Seen, of_guest}
+use Rattle.canon_scripted.specs.Scripted.{Does, Doing, Moves, seen_of, traps_after}
+use Rattle.canon_value.specs.Core.{Parts, guest_of, moment_of}
 use Rattle.canon_value.specs.declared.fault.Fault.{Fault}
 use Rattle.canon_value.specs.declared.fault.Fault.TheVariants as fault
 use Rattle.canon_value.specs.declared.val.Val.{Val}
-use Rattle.canon_func.specs.Call.{Adding, IsCall, OnAnswered, first_error, refusal, refused_by}
+use Rattle.canon_types.specs.Refusal.{first_error}
+use Rattle.canon_func.specs.Call.{Adding, IsCall, OnAnswered, refusal, refused_by}
 use Rattle.canon_func.specs.Stores.{Callee, Named, callee_of}
 use Rattle.canon_func.specs.declared.error.Error.{Error}
 use Rattle.canon_func.specs.declared.error.Error.TheVariants as error
@@ -84,14 +85,20 @@ recalled : (callee : Callee) (fuel : ℕ) (params : List Val) (before after : Mo
 recalled callee fuel params before after (Ok x) results others events e h = subst (λ (vs : List Val). IsCall Stays callee fuel params before after (Ok x) vs events) (sym e) h
 recalled callee fuel params before after (Err x) results others events e h = record {
   one_run = h.one_run;
-  front = h.front;
+  prefix = h.prefix;
+  no_resume = h.no_resume;
+  advances = h.advances;
+  grows = h.grows;
   answers = h.answers;
   trap = h.trap;
   later = h.later;
   in_parts = h.in_parts;
   no_more = h.no_more;
+  accepted = h.accepted;
   marks = h.marks;
   requested = h.requested;
+  quiet = h.quiet;
+  posted = h.posted;
   start = h.start;
   only_results = tt;
   leaves = tt;
@@ -105,12 +112,12 @@ trapped_by (Err e) before after free runs traps = traps
 
 -- how a journaled guest is seen
 abbrev pub journaled : Recorded Doing → Seen
-journaled j = record (seen_of j.guest) { journal = Some j.events; shortages = (seen_of j.guest).shortages + j.shortages }
+journaled j = record (seen_of j.guest) { journal = Some j.events; shortages = j.shortages }
 
 -- what the call ensures once the guest was entered
 abbrev pub Entered : Callee → List Val → ScriptStore → ScriptStore → Result (Unit {0}) Error → List Val → Type 0
 Entered callee params loaded left called results = Adding (moment_of journaled loaded.core) (moment_of journaled left.core)
-    (λ events. OnAnswered called (Moves loaded.core.guest.guest events left.core.guest.guest))
+    (λ events. OnAnswered called (Moves (of_guest (guest_of loaded.core)) events (of_guest (guest_of left.core))))
     (λ events. IsCall Stays callee loaded.core.fuel params (moment_of journaled loaded.core) (moment_of journaled left.core) called results events)
 
 module _ (callee : Callee) (call : Call) (r : Record) (s left : ScriptStore) (params results : List Val) (called : Result (Unit {0}) Error)
@@ -136,16 +143,17 @@ module _ (callee : Callee) (call : Call) (r : Record) (s left : ScriptStore) (pa
       subst (λ (es : List Event). IsCall Stays callee fuel params (session.moment_of before []) (session.moment_of after r.events) called results es) (sym all) two in
       let four : IsCall Stays callee fuel params (session.moment_of before []) (session.moment_of after r.events) called (values_of r.answer) r.events =
       recalled callee fuel params (session.moment_of before []) (session.moment_of after r.events) called results (values_of r.answer) r.events vals three in
-      let moved : Moves loaded.core.guest.guest entered.events left.core.guest.guest = on_answered called _ short (entered.moves refl) in
+      let moved : Moves (of_guest (guest_of loaded.core)) entered.events (of_guest (guest_of left.core)) = on_answered called _ short (entered.moves refl) in
       record {
         params = params;
         params_are = their;
         called = subst (λ (a : Result (Unit {0}) Error). IsCall Stays callee fuel params (session.moment_of before []) (session.moment_of after r.events) a (values_of r.answer) r.events) (sym out) four;
         left = left.core.guest.guest.plan;
         new_marks = moved.new_marks;
-        does = subst (λ (es : List Event). Does (plan_of call before.allocator) es moved.new_marks left.core.guest.guest.plan) (sym all) moved.does;
+        does = subst (λ (es : List Event). Does (plan_of call before.allocator) (length before.memory) es moved.new_marks left.core.guest.guest.plan (length after.memory)) (sym all) moved.does;
         allocator = refl;
         marks = moved.marks;
+        traps = subst (λ (es : List Event). after.traps ≡ traps_after before.traps es) (sym all) moved.traps;
         trapped = trapped_by called s.trapped left.trapped (not_trapped callee (length call.params) call.slots s.trapped free) runs traps ∙ ap is_err (sym out);
         sufficed = λ e. short (sym out ∙ ap outcome e);
       }

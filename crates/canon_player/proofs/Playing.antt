@@ -3,8 +3,8 @@ use Rattle.std.proofs.Common.{◌≡◌, ◌∙◌, ◌++◌, ℕ, All, Bool, Li
 use Rattle.std.proofs.lemmas.List.Elements.{All-tail}
 use Rattle.std.specs.Prelude.{Some, slice_get, slice_index_or}
 use Rattle.std.proofs.lemmas.Option.{get_or_from_slice_get}
-use Rattle.canon_table.specs.Table.{HasFunc}
-use Rattle.canon_table.specs.declared.types.TypeFunc.{TypeFunc}
+use Rattle.canon_types.specs.Table.{HasFunc}
+use Rattle.canon_types.specs.declared.types.TypeFunc.{TypeFunc}
 use Rattle.canon_value.specs.declared.component.Component.{Component}
 use Rattle.canon_func.specs.Stores.{Callee, IsCallable}
 use Rattle.canon_script.specs.Script.{Call, IsBuilt, IsSound, Play, item_view}

@@ -2,12 +2,12 @@
 use Rattle.std.specs.Prelude.{Bool, Err, List, None, Ok, Option, Result, Some, [], false, if◌then◌else◌, is_err, length, replicate, slice_get, ℕ, ⊤, ◌++◌, ◌∷◌, ◌≡◌, ◌≢◌}
 use Rattle.canon_model.specs.Shape.{no_members}
 use Rattle.canon_model.specs.Text.{utf8}
-use Rattle.canon_table.specs.Table.{param_members, result_members}
-use Rattle.canon_table.specs.declared.types.TypeFunc.{TypeFunc}
+use Rattle.canon_types.specs.Table.{param_members, result_members}
+use Rattle.canon_types.specs.declared.types.TypeFunc.{TypeFunc}
 use Rattle.canon_memory.specs.declared.event.Event.{Event}
 use Rattle.canon_memory.specs.Guest.{Mark, Moment, moment}
 use Rattle.canon_scripted.specs.Allocator.{Allocator}
-use Rattle.canon_scripted.specs.Scripted.{Does, Plan}
+use Rattle.canon_scripted.specs.Scripted.{Does, Plan, traps_after}
 use Rattle.canon_value.specs.declared.fault.Fault.TheVariants as fault
 use Rattle.canon_value.specs.declared.val.Val.{Val}
 use Rattle.canon_func.specs.Call.{IsCall, refusal}
@@ -45,8 +45,8 @@ callee_of play i = callee_with play i (slice_get play.types.funcs i)
 
 -- ---- the store between two calls
 
--- whether it is trapped, its memory, and of its guest the allocator, a mark for each answer of `realloc` so far, and how often
--- it trapped and answered want of memory
+-- Whether it is trapped, its memory, and of its guest the allocator, a mark for each answer of `realloc` so far, and how often
+-- it trapped and answered want of memory. Want of memory alone is caused by the last count, and leaves no record.
 pub record State : Type 0 where
   pub trapped : Bool
   pub memory : List ℕ
@@ -85,21 +85,24 @@ abbrev pub values_of : Answer → List Val
 values_of (answer.Ok results) = results.items
 values_of (answer.Err e) = []
 
--- a scripted post-return leaves memory as it was
+-- a scripted post-return and a destructor leave memory as it was
 abbrev pub Stays : List ℕ → List ℕ → Type 0
 Stays memory after = after ≡ memory
 
--- The guest was entered, and acted by its plan; the results were lifted with this fuel; the store is trapped where the call
--- was refused. After an answer that is Ok, memory is that of the return. The memory that the run has sufficed.
+-- The guest was entered, and acted by its plan in its memory, from the length before to the length after; its traps are counted;
+-- the results were lifted with this fuel; the store is trapped where the call was refused. After an answer that is Ok, memory is
+-- that of the return; after a refusal nothing reads its bytes, since every later call is refused. The memory that the run has
+-- sufficed.
 pub record WasCalled (callee : Callee) (fuel : ℕ) (call : Call) (before after : State) (r : Record) : Type 0 where
   pub params : List Val
   pub params_are : literals_view params ≡ call.params
   pub called : IsCall Stays callee fuel params (moment_of before []) (moment_of after r.events) (outcome r.answer) (values_of r.answer) r.events
   pub left : Plan
   pub new_marks : List Mark
-  pub does : Does (plan_of call before.allocator) r.events new_marks left
+  pub does : Does (plan_of call before.allocator) (length before.memory) r.events new_marks left (length after.memory)
   pub allocator : after.allocator ≡ left.allocator
   pub marks : after.marks ≡ before.marks ++ new_marks
+  pub traps : after.traps ≡ traps_after before.traps r.events
   pub trapped : after.trapped ≡ is_err (outcome r.answer)
   pub sufficed : r.answer ≢ answer.Err (error.Fault fault.OutOfMemory)
 

@@ -1,10 +1,10 @@
 -- The store of a script, and how it is kept.
 use Rattle.std.specs.Prelude.{Bool, List, None, Option, Some, [], length, replicate, slice_get, false, ℕ, ◌+◌, ◌<◌, ◌∷◌, ◌≡◌}
 use Rattle.canon_memory.specs.Guest.{Recorded}
-use Rattle.canon_types.specs.declared.options.CanonicalOptions.{CanonicalOptions}
-use Rattle.canon_types.specs.declared.options.StringEncoding.TheVariants.{Utf8}
-use Rattle.canon_table.specs.Table.{Table}
-use Rattle.canon_table.specs.declared.types.TypeFunc.{TypeFunc}
+use Rattle.canon_indices.specs.declared.options.CanonicalOptions.{CanonicalOptions}
+use Rattle.canon_indices.specs.declared.options.StringEncoding.TheVariants.{Utf8}
+use Rattle.canon_types.specs.Table.{Table}
+use Rattle.canon_types.specs.declared.types.TypeFunc.{TypeFunc}
 use Rattle.canon_scripted.specs.Orders.{AreNarrow}
 use Rattle.canon_scripted.specs.Scripted.{Doing, Plan}
 use Rattle.canon_value.specs.declared.component.Component.{Component}
@@ -87,7 +87,7 @@ state_of s = record {
   allocator = s.core.guest.guest.plan.allocator;
   marks = s.core.guest.guest.marks;
   traps = s.core.guest.guest.traps;
-  shortages = s.core.guest.guest.shortages + s.core.guest.shortages;
+  shortages = s.core.guest.shortages;
 }
 
 -- the store with this plan in the place of what its guest was still to do

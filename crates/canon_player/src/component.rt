@@ -1,14 +1,14 @@
 //! The component and the store of a script.
 
 ghost use Rattle.std.specs.Prelude.{◌≡◌, ◌≤◌, length, IfOk};
-ghost use Rattle.canon_table.specs.Table.{HasFunc};
+ghost use Rattle.canon_types.specs.Table.{HasFunc};
 ghost use Rattle.canon_value.specs.Component.{IsSound};
 ghost use Rattle.canon_player.specs.Stores.{IsScripted, fresh_store, options_for};
 
 use canon_func::Store;
 use canon_memory::{Journaled, Memory};
 use canon_scripted::ScriptedGuest;
-use canon_table::{
+use canon_types::{
     CanonicalOptions, ComponentTypes, InstanceType, OptionsIndex, OutOfMemory, RuntimeInstance,
     StoreId, StringEncoding, TypeFuncIndex,
 };

@@ -6,8 +6,8 @@ ghost use Rattle.canon_player.specs.Stores.{IsPlayable, callee_at, state_of, wit
 use crate::component::{ScriptStore, component_of, store_of};
 use canon_func::Error;
 use canon_script::{CallItem, Item, Script};
-use canon_table::{ExportIndex, OutOfMemory};
 use canon_transcript::{Answer, Head, Record, Transcript};
+use canon_types::{ExportIndex, OutOfMemory};
 use canon_value::{Fault, Val};
 use std::alloc::Global;
 

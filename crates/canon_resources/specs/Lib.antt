@@ -1,7 +1,4 @@
-pub mod Books
-pub mod Handles
-pub mod Index
-pub mod Laws
-pub mod Ledger
-pub mod Owed
-pub mod Places
+pub mod Conversions
+pub mod Held
+pub mod TypeLaws
+pub mod Types

@@ -1,158 +1,202 @@
-//! What the host keeps of the indexes of its table.
+//! A resource that the host implements.
 
-ghost use Rattle.std.specs.Prelude.{◌≡◌, ◌≤◌, ◌<◌, OnOk, length};
+ghost use Rattle.std.specs.Prelude.{◌≡◌};
+ghost use Rattle.canon_ledger.specs.Books.{DidSurely, IsOpen};
+ghost use Rattle.canon_ledger.specs.Places.{SamePlaces};
+ghost use Rattle.canon_ledger.specs.Reached.{ledger_in, reference_in, scope_in, types_in};
 
-use crate::fault::ResourceFault;
-use canon_types::{OutOfMemory, RuntimeInstance};
-use std::alloc::Global;
-use std::marker::Model;
+use crate::any::{ResourceAny, ResourceAnyHandle};
+use crate::conversion::into_any;
+use canon_ledger::{HostResourceIndex, HostResourceTables, ResourceFault};
+use canon_types::ResourceType;
+use std::fmt;
+use std::fmt::{Debug, Formatter};
+use std::marker::{Model, PhantomData};
 
-/// The greatest generation. A handle of the host is not removed in it.
-const LAST_GENERATION: u32 = 4_294_967_292;
-
-/// What the host keeps of an index of its table: the generation of the last insertion there, and
-/// the instance and the destructor of the resource.
+/// Where the handle of a host resource is.
 #[derive(Clone, Copy, Debug, PartialEq, Eq)]
-pub struct TableSlot {
-    pub generation: u32,
-    pub instance: Option<RuntimeInstance>,
-    pub dtor: Option<u32>,
+pub enum ResourceState {
+    /// It is a borrow, without a handle of its own.
+    Borrow,
+    /// It is owned, and in no table yet.
+    NotInTable,
+    /// It was owned, and was given away.
+    Taken,
+    /// It is owned, and has this index in the host's table.
+    Index(HostResourceIndex),
 }
 
-/// The slots of the host's table, and the current generation. Each removal from the table raises
-/// it, so that an index that is given again is told apart from the one before.
-#[derive(Debug, Drop)]
-pub struct HostResourceData {
-    slots: Vec<TableSlot>,
-    generation: u32,
+/// A kind of host resources: the resource types that belong to it, each told by a `D`.
+pub trait HostResourceType<D> {
+    ghost use Rattle.std.specs.Prelude.{◌≡◌, Option, Some};
+    ghost use Rattle.canon_types.specs.declared.resource.ResourceType.{ResourceType as Kind};
+
+    ghost checked: { Kind → Option D };
+
+    ghost type_of: { D → Kind };
+
+    /// What tells a resource type, where it is one of this kind.
+    fn typecheck(ty: ResourceType) -> Option<D>
+        ensures { result ≡ checked ty };
+
+    /// The resource type that is told so.
+    fn resource_type(d: D) -> ResourceType
+        ensures { result ≡ type_of d };
+
+    ghost its_types_pass: { (d : D) → checked (type_of d) ≡ Some d };
+
+    ghost no_others_pass: { (ty : Kind) (d : D) → checked ty ≡ Some d → ty ≡ type_of d };
 }
 
-impl Model for HostResourceData {
-    ghost use Rattle.std.specs.Prelude.{◌∷◌, ◌-◌, None, Some, map, length};
-    ghost use Rattle.std.specs.Vec.{vec_capacity};
-    ghost use Rattle.canon_resources.specs.Books.{KeptIndexes, indexes_of};
-
-    ghost Value = { KeptIndexes };
-
-    ghost view = { λ a. record { indexes = indexes_of (None ∷ map Some a.slots.items) a.generation; room = vec_capacity a.slots - length a.slots.items } };
+/// A resource of a kind `T`, whose type a `D` tells. Its representation is a number of the host's.
+#[derive(Drop)]
+pub struct HostResource<T, D> {
+    rep: u32,
+    ty: D,
+    state: ResourceState,
+    kind: PhantomData<T>,
 }
 
-impl HostResourceData {
-    ghost use Rattle.canon_handles.specs.Step.{refuse_if};
-    ghost use Rattle.std.specs.Prelude.{Ok, nat_le, if◌then◌else◌};
-    ghost use Rattle.canon_resources.specs.Ledger.{last_generation, raised, slot_at, with_slot};
-    ghost use Rattle.canon_resources.specs.Books.{is_spent, no_indexes, raised_at, written_at};
-    ghost use Rattle.canon_resources.specs.declared.fault.ResourceFault.TheVariants.{GenerationExhausted};
+impl<T, D> Model for HostResource<T, D> {
+    ghost use Rattle.canon_resources.specs.Held.{Held};
 
-    /// No slots, and the first generation.
-    pub fn new(alloc: Global) -> Self
-        ensures { result.indexes ≡ no_indexes 0 }
+    ghost Value = { Held D };
+
+    ghost view = { λ r. record { rep = r.rep; ty = r.ty; state = r.state } };
+}
+
+impl<T: HostResourceType<D>, D: Copy> HostResource<T, D> {
+    ghost use Rattle.canon_resources.specs.Held.{held, is_owned};
+    ghost use Rattle.canon_resources.specs.Conversions.{Converted, from_any, into_any};
+    ghost use Rattle.canon_resources.specs.declared.host.ResourceState.TheVariants as state;
+
+    /// An own handle of the host that is in no table yet.
+    pub fn new_own(rep: u32, ty: D) -> Self
+        ensures { result ≡ held state.NotInTable rep ty }
     {
-        HostResourceData::with_generation(alloc, 0)
-    }
-
-    /// No slots, and this generation, at most 4,294,967,292.
-    pub fn with_generation(alloc: Global, generation: u32) -> Self
-        requires { generation ≤ last_generation }
-        ensures { result.indexes ≡ no_indexes generation }
-    {
-        HostResourceData {
-            slots: Vec::new(alloc),
-            generation,
+        HostResource {
+            rep,
+            ty,
+            state: ResourceState::NotInTable,
+            kind: PhantomData,
         }
     }
 
-    /// The current generation.
-    pub(crate) fn generation(&self) -> u32
-        ensures { result ≡ self.now.indexes.generation }
+    /// A borrow of a representation.
+    pub fn new_borrow(rep: u32, ty: D) -> Self
+        ensures { result ≡ held state.Borrow rep ty }
     {
-        self.generation
-    }
-
-    /// The slot of an index, if it has one.
-    pub(crate) fn slot(&self, index: u32) -> Option<TableSlot>
-        ensures { result ≡ slot_at self.now.indexes index }
-    {
-        let slots = &self.slots;
-        if index == 0 {
-            return None;
+        HostResource {
+            rep,
+            ty,
+            state: ResourceState::Borrow,
+            kind: PhantomData,
         }
-        slots.get(index as usize - 1).copied()
     }
 
-    /// Makes room for one slot.
-    pub(crate) fn reserve(&mut self) -> Result<(), OutOfMemory>
-        ensures indexes { self.new.indexes ≡ self.old.indexes }
-        ensures room { OnOk result (0 < self.new.room) }
+    /// The representation.
+    pub fn rep(&self) -> u32
+        ensures { result ≡ self.now.rep }
     {
-        if self.slots.reserve(1).is_err() {
-            return Err(OutOfMemory);
+        self.rep
+    }
+
+    /// What tells its type.
+    pub fn ty(&self) -> D
+        ensures { result ≡ self.now.ty }
+    {
+        self.ty
+    }
+
+    /// Whether it is no borrow.
+    pub fn owned(&self) -> bool
+        ensures { result ≡ is_owned self.now.state }
+    {
+        match self.state {
+            ResourceState::Borrow => false,
+            ResourceState::NotInTable | ResourceState::Taken | ResourceState::Index(_) => true,
         }
-        Ok(())
     }
 
-    /// Writes the slot of an index, which has one or is the next to have one.
-    #[tactic(auto, using(crate::proofs::ContextLemmas::slots_written, crate::proofs::ContextLemmas::slots_pushed))]
-    pub(crate) fn write(&mut self, index: u32, instance: Option<RuntimeInstance>, dtor: Option<u32>)
-        requires positive { 0 < index }
-        requires next { index ≤ length self.old.indexes.slots }
-        requires room { 0 < self.old.room }
-        ensures { self.new.indexes ≡ with_slot self.old.indexes index instance dtor }
+    /// Where its handle is.
+    pub fn state(&self) -> ResourceState
+        ensures { result ≡ self.now.state }
     {
-        let slot = TableSlot {
-            generation: self.generation,
-            instance,
-            dtor,
+        self.state
+    }
+
+    /// It was given away.
+    pub fn take(&mut self)
+        requires { self.old.state ≡ state.NotInTable }
+        ensures { self.new ≡ held state.Taken self.old.rep self.old.ty }
+    {
+        self.state = ResourceState::Taken;
+    }
+
+    /// It was put into the host's table at this index.
+    pub fn place(&mut self, idx: HostResourceIndex)
+        requires { self.old.state ≡ state.NotInTable }
+        ensures { self.new ≡ held (state.Index idx) self.old.rep self.old.ty }
+    {
+        self.state = ResourceState::Index(idx);
+    }
+
+    /// The resource as one that tells its type by its value. One that is in no table is put into the
+    /// host's. After a refusal the value is gone and the tables are unchanged.
+    pub fn try_into_resource_any(
+        self,
+        tables: &mut HostResourceTables<'_>,
+    ) -> Result<ResourceAny, ResourceFault>
+        requires scope_open { IsOpen (scope_in tables.old) (ledger_in tables.old) }
+        ensures same_reference { reference_in tables.new ≡ reference_in tables.old }
+        ensures same_types { types_in tables.new ≡ types_in tables.old }
+        ensures same_scope { scope_in tables.new ≡ scope_in tables.old }
+        ensures step { Converted self.state (into_any self.state self.rep (T.type_of self.ty) (ledger_in tables.old)) result (ledger_in tables.old) (ledger_in tables.new) }
+        ensures places { SamePlaces (ledger_in tables.old) (ledger_in tables.new) }
+    {
+        into_any(self.state, self.rep, T::resource_type(self.ty), tables)
+    }
+
+    /// A resource of any type as one of this kind, out of the host's table.
+    pub(crate) fn try_from_resource_any(
+        resource: ResourceAny,
+        tables: &mut HostResourceTables<'_>,
+    ) -> Result<Self, ResourceFault>
+        requires scope_open { IsOpen (scope_in tables.old) (ledger_in tables.old) }
+        ensures same_reference { reference_in tables.new ≡ reference_in tables.old }
+        ensures same_types { types_in tables.new ≡ types_in tables.old }
+        ensures same_scope { scope_in tables.new ≡ scope_in tables.old }
+        ensures step { DidSurely (from_any (T.checked resource.ty) resource.handle (ledger_in tables.old)) result (ledger_in tables.new) }
+        ensures places { SamePlaces (ledger_in tables.old) (ledger_in tables.new) }
+    {
+        let Some(ty) = T::typecheck(resource.ty()) else {
+            return Err(ResourceFault::ResourceTypeMismatch);
         };
-        let place = index as usize - 1;
-        if place < self.slots.len() {
-            self.slots[place] = slot;
-        } else {
-            self.slots.push_reserved(slot);
+        match resource.handle() {
+            ResourceAnyHandle::Own(idx) => {
+                let rep = tables.host_resource_lift_own(idx)?;
+                Ok(HostResource::new_own(rep, ty))
+            }
+            ResourceAnyHandle::Borrow(idx) => {
+                let rep = tables.host_resource_remove(idx)?;
+                Ok(HostResource::new_borrow(rep, ty))
+            }
+            ResourceAnyHandle::Synthetic(rep) => Ok(HostResource::new_borrow(rep, ty)),
         }
     }
+}
 
-    /// Raises the generation, before a handle is removed.
-    pub(crate) fn raise(&mut self) -> Result<(), ResourceFault>
-        ensures answer { result ≡ refuse_if (nat_le last_generation self.old.indexes.generation) GenerationExhausted (Ok tt) }
-        ensures after { self.new.indexes ≡ (if nat_le last_generation self.old.indexes.generation then self.old.indexes else raised self.old.indexes) }
-    {
-        if self.generation >= LAST_GENERATION {
-            return Err(ResourceFault::GenerationExhausted);
-        }
-        self.generation += 1;
-        Ok(())
-    }
-
-    /// Makes room for the slot of an insertion into a table, which the host's alone has.
-    pub(crate) fn reserve_at(&mut self, table: u32) -> Result<(), OutOfMemory>
-        ensures indexes { self.new.indexes ≡ self.old.indexes }
-        ensures room { OnOk result (table ≡ 0 → 0 < self.new.room) }
-    {
-        if table != 0 {
-            return Ok(());
-        }
-        self.reserve()
-    }
-
-    /// Writes the slot of an insertion into a table.
-    pub(crate) fn write_at(&mut self, table: u32, index: u32)
-        requires { table ≡ 0 → (0 < index) × (index ≤ length self.old.indexes.slots) × (0 < self.old.room) }
-        ensures { self.new.indexes ≡ written_at table index self.old.indexes }
-    {
-        if table == 0 {
-            self.write(index, None, None);
-        }
-    }
-
-    /// Raises the generation, before a handle is removed from the host's table.
-    pub(crate) fn raise_at(&mut self, table: u32) -> Result<(), ResourceFault>
-        ensures answer { result ≡ refuse_if (is_spent table self.old.indexes) GenerationExhausted (Ok tt) }
-        ensures after { self.new.indexes ≡ (if is_spent table self.old.indexes then self.old.indexes else raised_at table self.old.indexes) }
-    {
-        if table != 0 {
-            return Ok(());
-        }
-        self.raise()
+impl<T, D> Debug for HostResource<T, D> {
+    fn fmt<W: fmt::Write>(&self, f: &mut Formatter<W>) -> fmt::Result {
+        let state = match self.state {
+            ResourceState::Borrow => "borrow",
+            ResourceState::NotInTable => "own (not in table)",
+            ResourceState::Taken => "taken",
+            ResourceState::Index(_) => "own",
+        };
+        f.debug_struct("Resource")
+            .field("rep", &self.rep)
+            .field("state", &state)
+            .finish()
     }
 }

@@ -1,25 +1,23 @@
-//! The resources of a store: its handle tables, the scopes of its calls, and what is lent in them.
+//! Resources: the ledger of a store's handles (of `canon_ledger`), and the resources of the host as values, whose type is
+//! told by their Rust type, by a number or by their own value, with the conversions between these.
 #![tactic(auto)]
 
-mod context;
-mod fault;
-mod handles;
+mod any;
+mod conversion;
+mod convert;
+mod dynamic;
+mod fixed;
 mod host;
-mod host_tables;
-mod index;
-pub mod laws;
-mod ledger;
-mod tables;
 
-pub use context::CallContext;
-pub use fault::ResourceFault;
-pub use host::{HostResourceData, TableSlot};
-pub use host_tables::{HostResourceTables, resource_drop_ret};
-pub use index::HostResourceIndex;
-pub use ledger::Ledger;
-pub use tables::ResourceTables;
+pub use any::ResourceAny;
+pub use canon_ledger::{
+    CallContext, HostResourceData, HostResourceIndex, HostResourceTables, Ledger, ResourceFault,
+    ResourceTables, TableSlot, resource_drop_ret,
+};
+pub use canon_types::{HostType, ResourceType};
+pub use dynamic::ResourceDynamic;
+pub use fixed::Resource;
+pub use host::{HostResource, HostResourceType, ResourceState};
 
-#[cfg(test)]
-mod host_tests;
 #[cfg(test)]
 mod tests;

@@ -1,189 +1,235 @@
 //! Worked examples, and each public call once.
 
 use super::*;
-use canon_handles::{CurrentScope, Scope, TypedResource, TypedResourceIndex};
+use canon_indices::{RuntimeInstance, StoreId};
+use canon_ledger::{
+    HostResourceData, HostResourceIndex, HostResourceTables, Ledger, ResourceFault, ResourceTables,
+};
 use std::test::Fail;
 
-fn new_own(ledger: &mut Ledger, rep: u32) -> Result<u32, ResourceFault> {
-    let current_scope = ledger.current();
-    let mut tables = ResourceTables {
-        ledger,
-        types: None,
-        current_scope,
-    };
-    tables.resource_new(TypedResource::Host(rep))
+/// A host type of the examples.
+struct File;
+
+impl HostType for File {
+    ghost ID = { 3 };
+
+    const ID: u32 = 3;
 }
 
-fn lower_own(ledger: &mut Ledger, rep: u32) -> Result<u32, ResourceFault> {
-    let current_scope = ledger.current();
-    let mut tables = ResourceTables {
-        ledger,
-        types: None,
-        current_scope,
-    };
-    tables.resource_lower_own(TypedResource::Host(rep))
+/// Another one.
+struct Socket;
+
+impl HostType for Socket {
+    ghost ID = { 4 };
+
+    const ID: u32 = 4;
 }
 
-fn lower_borrow(ledger: &mut Ledger, rep: u32) -> Result<u32, ResourceFault> {
-    let current_scope = ledger.current();
-    let mut tables = ResourceTables {
-        ledger,
-        types: None,
-        current_scope,
-    };
-    tables.resource_lower_borrow(TypedResource::Host(rep))
-}
+/// A kind of resources whose types numbers tell.
+struct Numbered;
 
-fn rep(ledger: &mut Ledger, index: u32) -> Result<u32, ResourceFault> {
-    let current_scope = ledger.current();
-    let mut tables = ResourceTables {
-        ledger,
-        types: None,
-        current_scope,
-    };
-    tables.resource_rep(TypedResourceIndex::Host(index))
-}
+impl HostResourceType<u32> for Numbered {
+    ghost use Rattle.canon_types.specs.declared.resource.ResourceType.TheVariants.{HostDynamic};
+    ghost use Rattle.canon_types.specs.Resource.{as_host_dynamic};
+    ghost use Rattle.canon_resources.specs.TypeLaws.{as_dynamic_its, as_dynamic_no_other};
 
-fn drop_handle(ledger: &mut Ledger, index: u32) -> Result<Option<u32>, ResourceFault> {
-    let current_scope = ledger.current();
-    let mut tables = ResourceTables {
-        ledger,
-        types: None,
-        current_scope,
-    };
-    tables.resource_drop(TypedResourceIndex::Host(index))
-}
+    ghost checked = { as_host_dynamic };
 
-fn lift_own(ledger: &mut Ledger, index: u32) -> Result<u32, ResourceFault> {
-    let current_scope = ledger.current();
-    let mut tables = ResourceTables {
-        ledger,
-        types: None,
-        current_scope,
-    };
-    tables.resource_lift_own(TypedResourceIndex::Host(index))
-}
+    ghost type_of = { λ d. HostDynamic d };
 
-fn lift_borrow(ledger: &mut Ledger, index: u32) -> Result<u32, ResourceFault> {
-    let current_scope = ledger.current();
-    let mut tables = ResourceTables {
-        ledger,
-        types: None,
-        current_scope,
-    };
-    tables.resource_lift_borrow(TypedResourceIndex::Host(index))
-}
+    ghost its_types_pass = { as_dynamic_its };
 
-fn exit(ledger: &mut Ledger) -> Result<(), ResourceFault> {
-    let current_scope = ledger.current();
-    let mut tables = ResourceTables {
-        ledger,
-        types: None,
-        current_scope,
-    };
-    tables.validate_scope_exit()
-}
+    ghost no_others_pass = { as_dynamic_no_other };
 
-// The lenders and the borrow count of a scope.
-fn counts(ledger: &Ledger, number: u64) -> Option<(usize, u64)> {
-    match ledger.context(Scope::Id(number)) {
-        None => None,
-        Some(context) => Some((context.lenders().len(), context.borrow_count())),
+    fn typecheck(ty: ResourceType) -> Option<u32> {
+        ty.as_host_dynamic()
+    }
+
+    fn resource_type(d: u32) -> ResourceType {
+        ResourceType::host_dynamic(d)
     }
 }
 
-fn is_empty(ledger: &Ledger, number: u64) -> Option<bool> {
-    match ledger.context(Scope::Id(number)) {
-        None => None,
-        Some(context) => Some(context.is_empty()),
-    }
-}
-
-fn leave(ledger: &mut Ledger) -> bool {
-    if !ledger.can_leave() {
-        return false;
-    }
-    ledger.leave();
-    true
+// A borrow handle of the current scope, as the host has it.
+fn lower_borrow(ledger: &mut Ledger, rep: u32) -> Result<HostResourceIndex, ResourceFault> {
+    let current_scope = ledger.current();
+    let mut tables = HostResourceTables::from_parts(ResourceTables {
+        ledger,
+        types: None,
+        current_scope,
+    });
+    tables.host_resource_lower_borrow(rep)
 }
 
 #[test]
-fn a_lent_handle_stays_until_the_call_ends(rt: HostRuntime) {
+fn a_resource_type_tells_what_it_was_made_of(rt: HostRuntime) {
+    let file = ResourceType::host::<File>();
+    assert!(rt; file.is_host::<File>());
+    assert!(rt; !file.is_host::<Socket>());
+    assert_eq!(rt; file.as_host_dynamic(), None);
+    assert!(rt; file != ResourceType::host_dynamic(3));
+    assert_eq!(rt; ResourceType::host_dynamic(3).as_host_dynamic(), Some(3));
+    let first = ResourceType::guest(StoreId::from_u64(1), RuntimeInstance::from_u32(0), 3);
+    let second = ResourceType::guest(StoreId::from_u64(2), RuntimeInstance::from_u32(0), 3);
+    assert!(rt; first != second);
+    assert!(rt; !first.is_host::<File>());
+}
+
+#[test]
+fn a_host_resource_tells_its_state(rt: HostRuntime) -> Result<(), Fail> {
     let alloc = rt.alloc();
-    let Ok(mut ledger) = Ledger::new(alloc, 1, 100, HostResourceData::new(alloc)) else {
-        assert!(rt; false);
-        return;
-    };
-    assert_eq!(rt; ledger.instances(), 1);
-    assert_eq!(rt; new_own(&mut ledger, 7), Ok(1));
-    assert_eq!(rt; ledger.enter(), Ok(Scope::Id(0)));
-    assert_eq!(rt; ledger.current(), Some(CurrentScope::Id(Scope::Id(0))));
-    assert_eq!(rt; is_empty(&ledger, 0), Some(true));
-    assert_eq!(rt; lift_borrow(&mut ledger, 1), Ok(7));
-    assert_eq!(rt; counts(&ledger, 0), Some((1, 0)));
-    assert_eq!(rt; ledger.live(), 2);
-    assert_eq!(rt; lift_own(&mut ledger, 1), Err(ResourceFault::StillLent(1)));
+    let mut own = ResourceDynamic::new_own(7, 1);
+    assert_eq!(rt; own.rep(), 7);
+    assert_eq!(rt; own.ty(), 1);
+    assert!(rt; own.owned());
+    assert_eq!(rt; own.state(), ResourceState::NotInTable);
     assert_eq!(rt;
-        drop_handle(&mut ledger, 1),
-        Err(ResourceFault::StillLent(1))
+        format!(in alloc; "{own:?}")?.as_str(),
+        "Resource { rep: 7, state: \"own (not in table)\" }"
     );
-    assert!(rt; !leave(&mut ledger));
-    assert_eq!(rt; exit(&mut ledger), Ok(()));
-    assert_eq!(rt; ledger.live(), 1);
-    assert!(rt; leave(&mut ledger));
-    assert_eq!(rt; ledger.current(), None);
-    assert_eq!(rt; counts(&ledger, 0), None);
-    assert_eq!(rt; lift_own(&mut ledger, 1), Ok(7));
+    own.take();
+    assert!(rt; own.owned());
+    assert_eq!(rt;
+        format!(in alloc; "{own:?}")?.as_str(),
+        "Resource { rep: 7, state: \"taken\" }"
+    );
+    let borrow = ResourceDynamic::new_borrow(8, 1);
+    assert!(rt; !borrow.owned());
+    assert_eq!(rt;
+        format!(in alloc; "{borrow:?}")?.as_str(),
+        "Resource { rep: 8, state: \"borrow\" }"
+    );
+    let mut placed: Resource<File> = Resource::new_own(9);
+    placed.place(HostResourceIndex::new(1, 0));
+    assert!(rt; placed.owned());
+    assert_eq!(rt; placed.rep(), 9);
+    assert_eq!(rt;
+        placed.state(),
+        ResourceState::Index(HostResourceIndex::new(1, 0))
+    );
+    assert_eq!(rt;
+        format!(in alloc; "{placed:?}")?.as_str(),
+        "Resource { rep: 9, state: \"own\" }"
+    );
+    Ok(())
+}
+
+#[test]
+fn a_kind_of_ones_own_has_host_resources(rt: HostRuntime) -> Result<(), Fail> {
+    let alloc = rt.alloc();
+    let mut ledger = Ledger::new(alloc, 0, 100, HostResourceData::new(alloc))?;
+    let mut tables = HostResourceTables::new_host(&mut ledger);
+    let borrow: HostResource<Numbered, u32> = HostResource::new_borrow(6, 2);
+    assert!(rt; !borrow.owned());
+    let mut own: HostResource<Numbered, u32> = HostResource::new_own(7, 2);
+    assert!(rt; own.owned());
+    assert_eq!(rt; own.rep(), 7);
+    assert_eq!(rt; own.ty(), 2);
+    let idx = tables.host_resource_lower_own(7, None, None)?;
+    own.place(idx);
+    let any = own.try_into_resource_any(&mut tables)?;
+    assert_eq!(rt; any.ty().as_host_dynamic(), Some(2));
+    let mut back = any.try_into_resource_dynamic(&mut tables)?;
+    assert_eq!(rt; back.rep(), 7);
+    back.place(idx);
+    assert_eq!(rt; back.state(), ResourceState::Index(idx));
+    Ok(())
+}
+
+#[test]
+fn an_own_resource_goes_into_the_table_and_comes_out(rt: HostRuntime) -> Result<(), Fail> {
+    let alloc = rt.alloc();
+    let mut ledger = Ledger::new(alloc, 0, 100, HostResourceData::new(alloc))?;
+    let mut tables = HostResourceTables::new_host(&mut ledger);
+    let file: Resource<File> = Resource::new_own(7);
+    let any = ResourceAny::try_from_resource(file, &mut tables)?;
+    let again = ResourceAny::new(
+        HostResourceIndex::new(1, 0),
+        ResourceType::host::<File>(),
+        true,
+    );
+    assert!(rt; any == again);
+    assert!(rt; any.owned());
+    assert!(rt; any.ty().is_host::<File>());
+    assert_eq!(rt; any.host_index(), Some(HostResourceIndex::new(1, 0)));
+    assert_eq!(rt; any.synthetic_rep(), None);
+    assert_eq!(rt;
+        any.try_into_resource::<Socket>(&mut tables).err(),
+        Some(ResourceFault::ResourceTypeMismatch)
+    );
+    assert_eq!(rt;
+        any.try_into_resource_dynamic(&mut tables).err(),
+        Some(ResourceFault::ResourceTypeMismatch)
+    );
+    let file = any.try_into_resource::<File>(&mut tables)?;
+    assert_eq!(rt; file.rep(), 7);
+    assert_eq!(rt; file.state(), ResourceState::NotInTable);
+    assert_eq!(rt;
+        any.try_into_resource::<File>(&mut tables).err(),
+        Some(ResourceFault::UnknownHandle(1))
+    );
     assert_eq!(rt; ledger.live(), 0);
+    Ok(())
 }
 
 #[test]
-fn a_borrow_handle_is_not_lifted_as_own(rt: HostRuntime) {
+fn a_resource_that_was_given_away_is_refused(rt: HostRuntime) -> Result<(), Fail> {
     let alloc = rt.alloc();
-    let Ok(mut ledger) = Ledger::new(alloc, 1, 100, HostResourceData::new(alloc)) else {
-        assert!(rt; false);
-        return;
-    };
-    assert_eq!(rt; ledger.enter(), Ok(Scope::Id(0)));
-    assert_eq!(rt; lower_borrow(&mut ledger, 7), Ok(1));
-    assert_eq!(rt; lift_own(&mut ledger, 1), Err(ResourceFault::BorrowAsOwn));
-    assert_eq!(rt; counts(&ledger, 0), Some((0, 1)));
-    assert_eq!(rt; rep(&mut ledger, 1), Ok(7));
-    assert_eq!(rt; exit(&mut ledger), Err(ResourceFault::BorrowsRemain));
-    assert_eq!(rt; drop_handle(&mut ledger, 1), Ok(None));
-    assert_eq!(rt; exit(&mut ledger), Ok(()));
-    assert_eq!(rt; rep(&mut ledger, 1), Err(ResourceFault::UnknownHandle(1)));
-}
-
-#[test]
-fn no_own_handle_is_lent_outside_a_scope(rt: HostRuntime) {
-    let alloc = rt.alloc();
-    let Ok(mut ledger) = Ledger::new(alloc, 1, 100, HostResourceData::new(alloc)) else {
-        assert!(rt; false);
-        return;
-    };
-    assert_eq!(rt; lower_own(&mut ledger, 7), Ok(1));
-    assert_eq!(rt; lift_borrow(&mut ledger, 1), Err(ResourceFault::NoScope));
-    assert_eq!(rt; lower_borrow(&mut ledger, 7), Err(ResourceFault::NoScope));
-    assert_eq!(rt; exit(&mut ledger), Err(ResourceFault::NoScope));
-    assert_eq!(rt; ledger.live(), 1);
-    ledger.set_limit(0);
-    assert_eq!(rt; new_own(&mut ledger, 8), Err(ResourceFault::HandleLimit));
-    assert_eq!(rt; drop_handle(&mut ledger, 1), Ok(Some(7)));
-}
-
-#[test]
-fn nothing_is_removed_after_the_last_generation(rt: HostRuntime) {
-    let alloc = rt.alloc();
-    let host = HostResourceData::with_generation(alloc, 4_294_967_292);
-    let Ok(mut ledger) = Ledger::new(alloc, 0, 100, host) else {
-        assert!(rt; false);
-        return;
-    };
-    assert_eq!(rt; new_own(&mut ledger, 7), Ok(1));
+    let mut ledger = Ledger::new(alloc, 0, 1, HostResourceData::new(alloc))?;
+    let mut tables = HostResourceTables::new_host(&mut ledger);
+    let mut taken = ResourceDynamic::new_own(7, 1);
+    taken.take();
     assert_eq!(rt;
-        lift_own(&mut ledger, 1),
-        Err(ResourceFault::GenerationExhausted)
+        taken.try_into_resource_any(&mut tables).err(),
+        Some(ResourceFault::HostConsumed)
     );
-    assert_eq!(rt; rep(&mut ledger, 1), Ok(7));
+    let any = ResourceDynamic::new_own(8, 1).try_into_resource_any(&mut tables)?;
+    assert_eq!(rt;
+        ResourceDynamic::new_own(9, 1)
+            .try_into_resource_any(&mut tables)
+            .err(),
+        Some(ResourceFault::HandleLimit)
+    );
+    let back = ResourceDynamic::try_from_resource_any(any, &mut tables)?;
+    assert_eq!(rt; back.rep(), 8);
+    assert_eq!(rt; back.ty(), 1);
+    Ok(())
+}
+
+#[test]
+fn a_borrow_of_the_hosts_own_making_has_no_handle(rt: HostRuntime) -> Result<(), Fail> {
+    let alloc = rt.alloc();
+    let mut ledger = Ledger::new(alloc, 0, 100, HostResourceData::new(alloc))?;
+    let mut tables = HostResourceTables::new_host(&mut ledger);
+    let any = ResourceDynamic::new_borrow(7, 1).try_into_resource_any(&mut tables)?;
+    let again = ResourceAny::new_borrow(7, ResourceType::host_dynamic(1));
+    assert!(rt; any == again);
+    assert!(rt; !any.owned());
+    assert_eq!(rt; any.host_index(), None);
+    assert_eq!(rt; any.synthetic_rep(), Some(7));
+    let borrow = any.try_into_resource_dynamic(&mut tables)?;
+    assert_eq!(rt; borrow.rep(), 7);
+    assert_eq!(rt; borrow.state(), ResourceState::Borrow);
+    assert_eq!(rt; ledger.live(), 0);
+    Ok(())
+}
+
+#[test]
+fn a_borrow_handle_is_dropped_where_it_is_converted(rt: HostRuntime) -> Result<(), Fail> {
+    let alloc = rt.alloc();
+    let mut ledger = Ledger::new(alloc, 0, 100, HostResourceData::new(alloc))?;
+    let _scope = ledger.enter()?;
+    let index = lower_borrow(&mut ledger, 7)?;
+    assert_eq!(rt; ledger.live(), 1);
+    let any = ResourceAny::new(index, ResourceType::host::<File>(), false);
+    let mut tables = HostResourceTables::new_host(&mut ledger);
+    let borrow: Resource<File> = Resource::try_from_resource_any(any, &mut tables)?;
+    assert_eq!(rt; borrow.rep(), 7);
+    assert!(rt; !borrow.owned());
+    assert_eq!(rt;
+        any.try_into_resource::<File>(&mut tables).err(),
+        Some(ResourceFault::UnknownHandle(1))
+    );
+    assert_eq!(rt; ledger.live(), 0);
+    Ok(())
 }

@@ -1,4 +1,4 @@
-pub mod Found
+pub mod Funcs
 pub mod Members
 pub mod Ready
 pub mod Sound

@@ -12,7 +12,7 @@ use Rattle.canon_json.specs.declared.error.ScriptError.TheVariants as refused
 use Rattle.canon_model.specs.Shape.{Name}
 use Rattle.canon_value.specs.declared.val.Val.{Val}
 use Rattle.canon_script.specs.Literals.{Literal, Literals, fields, fields_of, fixed, list, literal_view, literals_of, literals_view, tuple}
-use Rattle.canon_script.specs.Values.{field_of, fields_in, kind_named, only_char, scalar_by, value_by, value_of, values_of}
+use Rattle.canon_script.specs.Values.{field_of, fields_in, value_kind_named, only_char, scalar_by, value_by, value_of, values_of}
 use Rattle.canon_script.specs.declared.kinds.ValueKind.{ValueKind}
 use Rattle.canon_script.specs.declared.kinds.ValueKind.TheVariants as kind
 
@@ -173,7 +173,7 @@ by_scalar (array ds) kind.Tuple no_text no_list no_record no_tuple no_fixed = ab
 by_scalar (array ds) kind.FixedLengthList no_text no_list no_record no_tuple no_fixed = absurd (no_fixed refl)
 by_scalar d k no_text no_list no_record no_tuple no_fixed = refl
 
-pub value_is : (d f : Data) (name : List ℕ) (k : ValueKind) → Some (name, f) ≡ option_and_then only_member (as_object d) → Some k ≡ kind_named name → value_of d ≡ value_by f k
+pub value_is : (d f : Data) (name : List ℕ) (k : ValueKind) → Some (name, f) ≡ option_and_then only_member (as_object d) → Some k ≡ value_kind_named name → value_of d ≡ value_by f k
 value_is null f name k e is = absurd (cc)
 value_is (boolean b) f name k e is = absurd (cc)
 value_is (number n) f name k e is = absurd (cc)
@@ -182,12 +182,12 @@ value_is (array ds) f name k e is = absurd (cc)
 value_is (object no_members) f name k e is = absurd (cc)
 value_is (object (member l d no_members)) f name k e is =
     let same : (name, f) ≡ (l, d) = member_is (name, f) (l, d) e in
-    ap (λ (m : List ℕ × Data). option_and_then (value_by m.1) (kind_named m.0)) (sym same) ∙ ap (option_and_then (value_by f)) (sym is)
+    ap (λ (m : List ℕ × Data). option_and_then (value_by m.1) (value_kind_named m.0)) (sym same) ∙ ap (option_and_then (value_by f)) (sym is)
   where
     member_is : (p q : List ℕ × Data) → Some p ≡ Some q → p ≡ q
     member_is p q h = cc
 value_is (object (member l d (member m g ms))) f name k e is = absurd (cc)
 
-pub scalar_is : (d f : Data) (name : List ℕ) (k : ValueKind) → Some (name, f) ≡ option_and_then only_member (as_object d) → Some k ≡ kind_named name
+pub scalar_is : (d f : Data) (name : List ℕ) (k : ValueKind) → Some (name, f) ≡ option_and_then only_member (as_object d) → Some k ≡ value_kind_named name
     → ¬ (k ≡ kind.String) → ¬ (k ≡ kind.List) → ¬ (k ≡ kind.Record) → ¬ (k ≡ kind.Tuple) → ¬ (k ≡ kind.FixedLengthList) → scalar_by k f ≡ value_of d
 scalar_is d f name k e is no_text no_list no_record no_tuple no_fixed = sym (value_is d f name k e is ∙ by_scalar f k no_text no_list no_record no_tuple no_fixed)

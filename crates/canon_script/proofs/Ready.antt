@@ -1,15 +1,16 @@
 -- A table of lists, records and tuples over scalars, texts and earlier entries has built types alone.
 use Rattle.std.proofs.Common.{ℕ, zero, suc, List, [], ◌∷◌, ◌++◌, slice_get, slice_index_or, IsTrue, refl}
+use Rattle.std.proofs.lemmas.Bool.{and_from}
 use Rattle.std.specs.List.{AllByRecursion}
 use Rattle.std.specs.Option.{option_map_or}
+use Rattle.canon_json.proofs.Found.{all_append}
 use Rattle.canon_model.specs.Shape.{Name, Shape}
-use Rattle.canon_table.specs.Table.{Definition, EnumType, FixedListType, FlagsType, ListType, MapType, OptionType, RecordType, ResultType, Table, TupleType, VariantType, all_shapes, defined_shape, fields_in, members_in, no_shape, shape_in, shapes_after, tuple_types, types_of}
-use Rattle.canon_table.specs.declared.types.InterfaceType.{InterfaceType}
-use Rattle.canon_table.specs.declared.types.InterfaceType.TheVariants as ty
-use Rattle.canon_table.specs.declared.types.TypeFunc.{TypeFunc}
+use Rattle.canon_types.specs.Table.{Definition, EnumType, FixedListType, FlagsType, ListType, MapType, OptionType, RecordType, ResultType, Table, TupleType, VariantType, all_shapes, defined_shape, fields_in, members_in, no_shape, shape_in, shapes_after, tuple_types, types_of}
+use Rattle.canon_types.specs.declared.types.InterfaceType.{InterfaceType}
+use Rattle.canon_types.specs.declared.types.InterfaceType.TheVariants as ty
+use Rattle.canon_types.specs.declared.types.TypeFunc.{TypeFunc}
 use Rattle.canon_value.specs.Built.{are_built, is_built}
 use Rattle.canon_script.specs.Script.{IsBuilt}
-use Rattle.canon_script.proofs.Found.{all_append, and_both}
 
 -- of a kind of which there are values: a scalar, a text, a list, a record or a tuple
 abbrev pub IsReady : InterfaceType → Type 0
@@ -64,11 +65,11 @@ type_built known _ h r = refl
 
 types_built : (known : List Shape) (ts : List InterfaceType) → ShapesBuilt known → AreReady ts → IsTrue (are_built (members_in known ts))
 types_built known [] h r = refl
-types_built known (t ∷ ts) h r = and_both (is_built (shape_in known t)) (are_built (members_in known ts)) (type_built known t h r.0) (types_built known ts h r.1)
+types_built known (t ∷ ts) h r = and_from (is_built (shape_in known t)) (are_built (members_in known ts)) (type_built known t h r.0) (types_built known ts h r.1)
 
 fields_built : (known : List Shape) (fs : List (Name × InterfaceType)) → ShapesBuilt known → FieldsReady fs → IsTrue (are_built (fields_in known fs))
 fields_built known [] h r = refl
-fields_built known (f ∷ fs) h r = and_both (is_built (shape_in known f.1)) (are_built (fields_in known fs)) (type_built known f.1 h r.0) (fields_built known fs h r.1)
+fields_built known (f ∷ fs) h r = and_from (is_built (shape_in known f.1)) (are_built (fields_in known fs)) (type_built known f.1 h r.0) (fields_built known fs h r.1)
 
 definition_built : (known : List Shape) (d : Definition) → ShapesBuilt known → DefinesReady d → IsTrue (is_built (defined_shape known d))
 definition_built known (RecordType fields) h r = fields_built known fields h r

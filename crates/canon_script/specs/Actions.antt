@@ -1,29 +1,15 @@
 -- What a JSON value says that a guest does, and how its `realloc` is answered.
-use Rattle.std.specs.Prelude.{ℕ, List, sum_by, Bool, true, false, if◌then◌else◌, codes, nat_eq, Option, None, Some, Result, Ok, Err, option_map, option_and_then}
+use Rattle.std.specs.Prelude.{ℕ, List, sum_by, Bool, true, false, if◌then◌else◌, codes, nat_eq, Option, None, Some, option_map, option_and_then}
 use lib.Pointwise.{pointwise}
-use Rattle.hex.specs.Hex.{decode_of, encode_lower}
-use Rattle.hex.specs.declared.error.FromHexError.{FromHexError}
 use Rattle.serde_json.specs.Data.{Data, null, boolean, number, string, array, object}
-use Rattle.serde_json.specs.Find.{as_bool, as_object, as_str, get}
+use Rattle.serde_json.specs.Find.{as_bool, as_object, get}
+use Rattle.canon_json.specs.Hex.{bytes_of}
 use Rattle.canon_json.specs.Json.{each_of, has_len, only_member, u32_of, word_of}
 use Rattle.canon_layout.specs.Entries.{pair_of}
 use Rattle.canon_scripted.specs.declared.actions.Action.{Action}
 use Rattle.canon_scripted.specs.declared.actions.Action.TheVariants as action
 use Rattle.canon_scripted.specs.declared.orders.Ordered.{Ordered}
 use Rattle.canon_scripted.specs.declared.orders.Ordered.TheVariants as order
-
--- ---- hex
-
--- the bytes whose hex, in small letters, this is
-abbrev pub spelled_so : List ℕ → Result (List ℕ) FromHexError → Option (List ℕ)
-spelled_so text (Ok bytes) = if pointwise nat_eq text (encode_lower bytes) then Some bytes else None
-spelled_so text (Err e) = None
-
-abbrev pub hex_bytes : List ℕ → Option (List ℕ)
-hex_bytes text = spelled_so text (decode_of text)
-
-abbrev pub bytes_of : Data → Option (List ℕ)
-bytes_of d = option_and_then hex_bytes (as_str d)
 
 -- ---- actions
 

@@ -4,8 +4,9 @@ use Rattle.std.specs.Option.{option_map_or}
 use Rattle.serde_json.specs.Data.{Data, Items}
 use Rattle.serde_json.specs.Find.{as_bool, as_object, get}
 use Rattle.canon_json.specs.Json.{each, each_of, has_len, items_of, there, u32_of, word_of}
-use Rattle.canon_table.specs.Table.{HasFunc, Table, param_members, result_members, types_of}
-use Rattle.canon_table.specs.declared.types.TypeFunc.{TypeFunc}
+use Rattle.canon_types.specs.Table.{HasFunc, Table, param_members, result_members, types_of}
+use Rattle.canon_types.specs.declared.types.TypeFunc.{TypeFunc}
+use Rattle.canon_layout.specs.Asked.{Funcs}
 use Rattle.canon_scripted.specs.declared.actions.Action.{Action}
 use Rattle.canon_scripted.specs.Orders.{AreNarrow}
 use Rattle.canon_scripted.specs.declared.orders.Ordered.{Ordered}
@@ -13,7 +14,7 @@ use Rattle.canon_value.specs.Built.{AreBuilt}
 use Rattle.canon_script.specs.Actions.{action_of, ask_count, growth, ordered_of}
 use Rattle.canon_script.specs.Literals.{Literal, literals_view}
 use Rattle.canon_script.specs.Numbers.{number_to}
-use Rattle.canon_script.specs.Types.{Funcs, funcs_of}
+use Rattle.canon_script.specs.Types.{funcs_of}
 use Rattle.canon_script.specs.Values.{value_of}
 use Rattle.canon_script.specs.declared.script.CallItem.{CallItem}
 use Rattle.canon_script.specs.declared.script.Item.{Item}
@@ -45,8 +46,8 @@ reallocs_of d = option_map_or (each_of ordered_of) d (Some [])
 abbrev pub call_with : ℕ → List Literal → List Action → ℕ → List Ordered → Bool → Call
 call_with func params guest slots reallocs post_trap = record { func = func; params = params; guest = guest; slots = slots; reallocs = reallocs; post_trap = post_trap }
 
-abbrev pub optional_members : Data → ℕ
-optional_members d = there (get (codes "slots") d) + (there (get (codes "reallocs") d) + there (get (codes "post_trap") d))
+abbrev pub optional_call_members : Data → ℕ
+optional_call_members d = there (get (codes "slots") d) + (there (get (codes "reallocs") d) + there (get (codes "post_trap") d))
 
 -- a call of the function of this number, which has so many results
 abbrev pub call_of_func : Data → ℕ → ℕ → Option Call
@@ -59,9 +60,9 @@ call_of_func d func results =
     (option_and_then (each_of value_of) (get (codes "params") d))
 
 -- an item: an object that calls a function of the table
-abbrev pub call_of : Table → Data → Option Call
-call_of t d =
-    if has_len (3 + optional_members d) (as_object d)
+abbrev pub call_item_of : Table → Data → Option Call
+call_item_of t d =
+    if has_len (3 + optional_call_members d) (as_object d)
     then option_and_then (λ func. option_and_then (call_of_func d func) (result_count t func)) (option_and_then u32_of (get (codes "call") d))
     else None
 
@@ -106,8 +107,8 @@ play_with memory heap fuel funcs calls = record { memory = memory; heap = heap; 
 abbrev pub if_fits : ℕ → ℕ → ℕ → Funcs → List Call → Option Play
 if_fits memory heap fuel funcs calls = if fits memory calls then Some (play_with memory heap fuel funcs calls) else None
 
-abbrev pub memory_of : Option Data → Option ℕ
-memory_of d = option_map_or (number_to max_memory) d (Some 65536)
+abbrev pub memory_len_of : Option Data → Option ℕ
+memory_len_of d = option_map_or (number_to max_memory) d (Some 65536)
 
 -- at most memory, so it is given where memory is below 1,024
 abbrev pub heap_of : ℕ → Option Data → Option ℕ
@@ -118,22 +119,22 @@ fuel_of d = option_map_or word_of d (Some 1000000)
 
 -- the functions over their types, and the calls of these functions
 abbrev pub played : ℕ → ℕ → ℕ → Items → Items → Items → Option Play
-played memory heap fuel types funcs items = option_and_then (λ fs. option_and_then (if_fits memory heap fuel fs) (each (call_of fs.table) items)) (funcs_of types funcs)
+played memory heap fuel types funcs items = option_and_then (λ fs. option_and_then (if_fits memory heap fuel fs) (each (call_item_of fs.table) items)) (funcs_of types funcs)
 
-abbrev pub members_there : Data → ℕ
-members_there d = there (get (codes "memory") d) + (there (get (codes "heap") d) + (there (get (codes "fuel") d) + (there (get (codes "types") d) + (there (get (codes "funcs") d) + there (get (codes "items") d)))))
+abbrev pub script_members : Data → ℕ
+script_members d = there (get (codes "memory") d) + (there (get (codes "heap") d) + (there (get (codes "fuel") d) + (there (get (codes "types") d) + (there (get (codes "funcs") d) + there (get (codes "items") d)))))
 
 -- an object of these six members, each of which may be missing
 abbrev pub script_of : Data → Option Play
 script_of d =
-    if has_len (members_there d) (as_object d)
+    if has_len (script_members d) (as_object d)
     then option_and_then (λ memory. option_and_then (λ heap. option_and_then (λ fuel. option_and_then (λ types. option_and_then (λ funcs. option_and_then (played memory heap fuel types funcs)
     (items_of (get (codes "items") d)))
     (items_of (get (codes "funcs") d)))
     (items_of (get (codes "types") d)))
     (fuel_of (get (codes "fuel") d)))
     (heap_of memory (get (codes "heap") d)))
-    (memory_of (get (codes "memory") d))
+    (memory_len_of (get (codes "memory") d))
     else None
 
 -- ---- how a script is kept

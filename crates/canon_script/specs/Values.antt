@@ -13,30 +13,30 @@ use Rattle.canon_script.specs.declared.kinds.ValueKind.{ValueKind}
 use Rattle.canon_script.specs.declared.kinds.ValueKind.TheVariants as kind
 
 -- the member of a value of this kind
-abbrev pub kind_word : ValueKind → List ℕ
-kind_word kind.Bool = codes "bool"
-kind_word kind.S8 = codes "s8"
-kind_word kind.U8 = codes "u8"
-kind_word kind.S16 = codes "s16"
-kind_word kind.U16 = codes "u16"
-kind_word kind.S32 = codes "s32"
-kind_word kind.U32 = codes "u32"
-kind_word kind.S64 = codes "s64"
-kind_word kind.U64 = codes "u64"
-kind_word kind.Float32 = codes "f32"
-kind_word kind.Float64 = codes "f64"
-kind_word kind.Char = codes "char"
-kind_word kind.String = codes "string"
-kind_word kind.List = codes "list"
-kind_word kind.Record = codes "record"
-kind_word kind.Tuple = codes "tuple"
-kind_word kind.FixedLengthList = codes "fixed"
+abbrev pub value_word : ValueKind → List ℕ
+value_word kind.Bool = codes "bool"
+value_word kind.S8 = codes "s8"
+value_word kind.U8 = codes "u8"
+value_word kind.S16 = codes "s16"
+value_word kind.U16 = codes "u16"
+value_word kind.S32 = codes "s32"
+value_word kind.U32 = codes "u32"
+value_word kind.S64 = codes "s64"
+value_word kind.U64 = codes "u64"
+value_word kind.Float32 = codes "f32"
+value_word kind.Float64 = codes "f64"
+value_word kind.Char = codes "char"
+value_word kind.String = codes "string"
+value_word kind.List = codes "list"
+value_word kind.Record = codes "record"
+value_word kind.Tuple = codes "tuple"
+value_word kind.FixedLengthList = codes "fixed"
 
-abbrev pub kinds : List ValueKind
-kinds = kind.Bool ∷ kind.S8 ∷ kind.U8 ∷ kind.S16 ∷ kind.U16 ∷ kind.S32 ∷ kind.U32 ∷ kind.S64 ∷ kind.U64 ∷ kind.Float32 ∷ kind.Float64 ∷ kind.Char ∷ kind.String ∷ kind.List ∷ kind.Record ∷ kind.Tuple ∷ kind.FixedLengthList ∷ []
+abbrev pub value_kinds : List ValueKind
+value_kinds = kind.Bool ∷ kind.S8 ∷ kind.U8 ∷ kind.S16 ∷ kind.U16 ∷ kind.S32 ∷ kind.U32 ∷ kind.S64 ∷ kind.U64 ∷ kind.Float32 ∷ kind.Float64 ∷ kind.Char ∷ kind.String ∷ kind.List ∷ kind.Record ∷ kind.Tuple ∷ kind.FixedLengthList ∷ []
 
-abbrev pub kind_named : List ℕ → Option ValueKind
-kind_named name = find (λ k. pointwise nat_eq name (kind_word k)) kinds
+abbrev pub value_kind_named : List ℕ → Option ValueKind
+value_kind_named name = find (λ k. pointwise nat_eq name (value_word k)) value_kinds
 
 -- ---- scalars
 
@@ -82,7 +82,7 @@ abbrev mutual
 
   pub value_in : Members → Option Literal
   value_in no_members = None
-  value_in (member name d no_members) = option_and_then (value_by d) (kind_named name)
+  value_in (member name d no_members) = option_and_then (value_by d) (value_kind_named name)
   value_in (member name d (member other e ms)) = None
 
   -- by its kind

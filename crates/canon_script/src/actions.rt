@@ -1,7 +1,7 @@
 ghost use Rattle.std.specs.Prelude.{◌≡◌, option_map, option_and_then};
-ghost use Rattle.hex.specs.Hex.{decode_of, encode_lower};
 ghost use Rattle.serde_json.specs.Find.{as_bool};
 ghost use Rattle.serde_json.specs.View.{view};
+ghost use Rattle.canon_json.specs.Hex as hex_spec;
 ghost use Rattle.canon_json.specs.Json.{Gives, each_of, word_of};
 ghost use Rattle.canon_layout.specs.Entries.{pair_of};
 ghost use Rattle.canon_memory.specs.declared.val_raw.ValRaw.{ValRaw};
@@ -9,29 +9,11 @@ ghost use Rattle.canon_scripted.specs.declared.actions.Action.{Action};
 ghost use Rattle.canon_scripted.specs.declared.orders.Ordered.{Ordered};
 ghost use Rattle.canon_script.specs.Actions as spec;
 
-use canon_json::{Reader, ScriptError, each_of, has_len, only_member, two, u32_of};
+use canon_json::{Reader, ScriptError, bytes_of_json, each_of, has_len, only_member, two, u32_of};
 use canon_memory::{Bytes, ValRaw, Words};
 use canon_scripted::{Action, Ordered};
-use hex::FromHexError;
 use serde_json::Value;
 use std::alloc::Global;
-
-/// The bytes of hex, an even number of digits 0 to 9 and a to f. `BadScript` says that it is none.
-pub fn bytes_of_hex(alloc: Global, s: &str) -> Result<Vec<u8>, ScriptError>
-    ensures { Gives (λ bytes. bytes.items) result (spec.hex_bytes s.now) }
-{
-    let bytes = match hex::decode(alloc, s) {
-        Ok(bytes) => bytes,
-        Err(FromHexError::OutOfMemory) => return Err(ScriptError::OutOfMemory),
-        Err(_) => return Err(ScriptError::BadScript),
-    };
-    let small = hex::encode(alloc, bytes.as_slice())?;
-    if small.as_str() == s {
-        Ok(bytes)
-    } else {
-        Err(ScriptError::BadScript)
-    }
-}
 
 /// What a guest does: an array of actions. `BadScript` says that it is none.
 pub fn actions_of_json(alloc: Global, v: &Value) -> Result<Vec<Action>, ScriptError>
@@ -88,7 +70,7 @@ fn action_by(alloc: Global, name: &str, form: &Value) -> Result<Action, ScriptEr
 
 /// A write: an address and hex.
 fn write_of(alloc: Global, v: &Value) -> Result<Action, ScriptError>
-    ensures { Gives (λ a. a) result (option_map (λ p. Action.Write p.0 p.1) (pair_of word_of spec.bytes_of (view v.now))) }
+    ensures { Gives (λ a. a) result (option_map (λ p. Action.Write p.0 p.1) (pair_of word_of hex_spec.bytes_of (view v.now))) }
 {
     let Some((address, hex)) = two(v) else {
         return Err(ScriptError::BadScript);
@@ -101,12 +83,9 @@ fn write_of(alloc: Global, v: &Value) -> Result<Action, ScriptError>
 }
 
 fn bytes_of(alloc: Global, v: &Value) -> Result<Bytes, ScriptError>
-    ensures { Gives (λ bytes. bytes) result (spec.bytes_of (view v.now)) }
+    ensures { Gives (λ bytes. bytes) result (hex_spec.bytes_of (view v.now)) }
 {
-    let Some(hex) = v.as_str() else {
-        return Err(ScriptError::BadScript);
-    };
-    let bytes = bytes_of_hex(alloc, hex)?;
+    let bytes = bytes_of_json(alloc, v)?;
     match Bytes::from_slice(alloc, &bytes) {
         Ok(bytes) => Ok(bytes),
         Err(_) => Err(ScriptError::OutOfMemory),

@@ -8,10 +8,10 @@ ghost use Rattle.canon_script.specs.Script as spec;
 use crate::actions::{Actions, Orders};
 use crate::script::{CallItem, Item};
 use crate::values::Values;
+use canon_indices::TypeFuncIndex;
 use canon_json::{Reader, ScriptError, bool_or, each_of, has_len, there, u32_of};
 use canon_scripted::Ordered;
-use canon_table::ComponentTypes;
-use canon_types::TypeFuncIndex;
+use canon_types::ComponentTypes;
 use serde_json::Value;
 use std::alloc::Global;
 
@@ -31,18 +31,18 @@ impl Reader for Items<'_> {
 
     ghost seen = { spec.item_view };
 
-    ghost reads = { λ r. spec.call_of r.types.now };
+    ghost reads = { λ r. spec.call_item_of r.types.now };
 
     fn read(&self, alloc: Global, v: &Value) -> Result<Item, ScriptError> {
-        let call = call_of(alloc, self.types, v)?;
+        let call = call_item_of(alloc, self.types, v)?;
         Ok(Item::Call(call))
     }
 }
 
-fn call_of(alloc: Global, types: &ComponentTypes, v: &Value) -> Result<CallItem, ScriptError>
-    ensures { Gives spec.call_item_view result (spec.call_of types.now (view v.now)) }
+fn call_item_of(alloc: Global, types: &ComponentTypes, v: &Value) -> Result<CallItem, ScriptError>
+    ensures { Gives spec.call_item_view result (spec.call_item_of types.now (view v.now)) }
 {
-    if !has_len(v, 3 + optional_members(v)) {
+    if !has_len(v, 3 + optional_call_members(v)) {
         return Err(ScriptError::BadScript);
     }
     let Some(func) = v.get("call") else {
@@ -57,8 +57,8 @@ fn call_of(alloc: Global, types: &ComponentTypes, v: &Value) -> Result<CallItem,
     call_of_func(alloc, v, func, results)
 }
 
-fn optional_members(v: &Value) -> usize
-    ensures { result ≡ spec.optional_members (view v.now) }
+fn optional_call_members(v: &Value) -> usize
+    ensures { result ≡ spec.optional_call_members (view v.now) }
 {
     there(v.get("slots")) + (there(v.get("reallocs")) + there(v.get("post_trap")))
 }

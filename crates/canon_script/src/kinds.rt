@@ -47,7 +47,7 @@ const KINDS: [ValueKind; 17] = [
 impl ValueKind {
     /// The member of a value.
     pub fn word(self) -> &'static str
-        ensures { result.now ≡ spec.kind_word self }
+        ensures { result.now ≡ spec.value_word self }
     {
         match self {
             ValueKind::Bool => "bool",
@@ -71,8 +71,8 @@ impl ValueKind {
     }
 }
 
-pub(crate) fn kind_named(name: &str) -> Option<ValueKind>
-    ensures { result ≡ spec.kind_named name.now }
+pub(crate) fn value_kind_named(name: &str) -> Option<ValueKind>
+    ensures { result ≡ spec.value_kind_named name.now }
 {
     KINDS.iter().copied().find(|kind| name == kind.word())
 }

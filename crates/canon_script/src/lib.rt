@@ -32,7 +32,6 @@
 #![tactic(auto)]
 
 mod actions;
-mod funcs;
 mod items;
 mod kinds;
 mod limits;
@@ -41,7 +40,7 @@ mod script;
 mod types;
 mod values;
 
-pub use actions::{actions_of_json, bytes_of_hex};
+pub use actions::actions_of_json;
 pub use reading::script_of_json;
 pub use script::{CallItem, Item, Script};
 pub use values::value_of_json;

@@ -2,15 +2,12 @@ ghost use Rattle.std.specs.Prelude.{◌≡◌, IfOk, option_map};
 ghost use Rattle.serde_json.specs.View.{view, items_view};
 ghost use Rattle.canon_json.specs.Json.{Gives};
 ghost use Rattle.canon_script.specs.Script as spec;
-ghost use Rattle.canon_script.specs.Types.{funcs_of, funcs_so_far};
 
-use crate::funcs::add_funcs;
 use crate::items::Items;
 use crate::limits::{MAX_MEMORY, fits};
 use crate::script::Script;
-use crate::types::add_types;
+use crate::types::funcs_of_json;
 use canon_json::{ScriptError, each, has_len, items_of, there};
-use canon_table::{ComponentTypes, TypeBuilder};
 use serde_json::Value;
 use std::alloc::Global;
 
@@ -19,10 +16,10 @@ pub fn script_of_json(alloc: Global, v: &Value) -> Result<Script, ScriptError>
     ensures script { Gives spec.play_of result (spec.script_of (view v.now)) }
     ensures sound { IfOk result (λ s. spec.IsSound (spec.play_of s)) }
 {
-    if !has_len(v, members_there(v)) {
+    if !has_len(v, script_members(v)) {
         return Err(ScriptError::BadScript);
     }
-    let Some(memory) = memory_of(v.get("memory")) else {
+    let Some(memory) = memory_len_of(v.get("memory")) else {
         return Err(ScriptError::BadScript);
     };
     let Some(heap) = heap_of(memory, v.get("heap")) else {
@@ -44,8 +41,8 @@ pub fn script_of_json(alloc: Global, v: &Value) -> Result<Script, ScriptError>
 }
 
 /// How many of its members there are.
-fn members_there(v: &Value) -> usize
-    ensures { result ≡ spec.members_there (view v.now) }
+fn script_members(v: &Value) -> usize
+    ensures { result ≡ spec.script_members (view v.now) }
 {
     there(v.get("memory"))
         + (there(v.get("heap"))
@@ -53,8 +50,8 @@ fn members_there(v: &Value) -> usize
                 + (there(v.get("types")) + (there(v.get("funcs")) + there(v.get("items"))))))
 }
 
-fn memory_of(v: Option<&Value>) -> Option<u64>
-    ensures { result ≡ spec.memory_of (option_map (λ x. view x.now) v.entry) }
+fn memory_len_of(v: Option<&Value>) -> Option<u64>
+    ensures { result ≡ spec.memory_len_of (option_map (λ x. view x.now) v.entry) }
 {
     let Some(v) = v else {
         return Some(65536);
@@ -109,18 +106,4 @@ fn played(
         posts,
         items,
     })
-}
-
-/// The table of these types and functions, and for each function whether it has a post-return function.
-fn funcs_of_json(
-    alloc: Global,
-    types: &[Value],
-    funcs: &[Value],
-) -> Result<(ComponentTypes, Vec<bool>), ScriptError>
-    ensures { Gives (λ p. funcs_so_far p.0 p.1.items) result (funcs_of (items_view types.now) (items_view funcs.now)) }
-{
-    let mut builder = TypeBuilder::new(alloc);
-    let types = add_types(alloc, &mut builder, types)?;
-    let posts = add_funcs(alloc, &mut builder, &types, funcs)?;
-    Ok((builder.finish(), posts))
 }

@@ -1,5 +1,5 @@
 use canon_scripted::{Action, Ordered};
-use canon_table::ComponentTypes;
+use canon_types::ComponentTypes;
 use canon_value::Val;
 
 /// One call of a function.

@@ -1,11 +1,10 @@
 //! Values, actions and scripts, as they are read and as they are refused.
 
-use crate::{Item, Script, actions_of_json, bytes_of_hex, script_of_json, value_of_json};
+use crate::{Item, Script, actions_of_json, script_of_json, value_of_json};
+use canon_indices::TypeFuncIndex;
 use canon_json::ScriptError;
 use canon_memory::ValRaw;
 use canon_scripted::{Action, Ordered};
-use canon_table::InterfaceType;
-use canon_types::{TypeFixedLengthListIndex, TypeFuncIndex, TypeListIndex};
 use canon_value::Val;
 use serde_json::Value;
 use std::alloc::Global;
@@ -24,59 +23,6 @@ fn script(alloc: Global, text: &str) -> Result<Result<Script, ScriptError>, Fail
 }
 
 #[test]
-fn each_scalar_is_read(rt: HostRuntime) -> Result<(), Fail> {
-    let alloc = rt.alloc();
-    assert!(rt; matches!(value(alloc, r#"{"bool":true}"#)?, Ok(Val::Bool(true))));
-    assert!(rt; matches!(value(alloc, r#"{"s8":-128}"#)?, Ok(Val::S8(-128))));
-    assert!(rt; matches!(value(alloc, r#"{"u8":255}"#)?, Ok(Val::U8(255))));
-    assert!(rt; matches!(value(alloc, r#"{"s16":32767}"#)?, Ok(Val::S16(32767))));
-    assert!(rt; matches!(value(alloc, r#"{"u16":65535}"#)?, Ok(Val::U16(65535))));
-    assert!(rt;
-        matches!(
-            value(alloc, r#"{"s32":-2147483648}"#)?,
-            Ok(Val::S32(i32::MIN))
-        )
-    );
-    assert!(rt;
-        matches!(
-            value(alloc, r#"{"u32":4294967295}"#)?,
-            Ok(Val::U32(u32::MAX))
-        )
-    );
-    assert!(rt;
-        matches!(
-            value(alloc, r#"{"s64":-9223372036854775808}"#)?,
-            Ok(Val::S64(i64::MIN))
-        )
-    );
-    assert!(rt;
-        matches!(
-            value(alloc, r#"{"u64":18446744073709551615}"#)?,
-            Ok(Val::U64(u64::MAX))
-        )
-    );
-    assert!(rt;
-        matches!(
-            value(alloc, r#"{"f32":2143289344}"#)?,
-            Ok(Val::Float32(0x7fc0_0000))
-        )
-    );
-    assert!(rt;
-        matches!(
-            value(alloc, r#"{"f64":4607182418800017408}"#)?,
-            Ok(Val::Float64(0x3ff0_0000_0000_0000))
-        )
-    );
-    assert!(rt;
-        matches!(
-            value(alloc, r#"{"char":"\ud83d\ude00"}"#)?,
-            Ok(Val::Char('\u{1f600}'))
-        )
-    );
-    Ok(())
-}
-
-#[test]
 fn tuples_and_records_are_read(rt: HostRuntime) -> Result<(), Fail> {
     let text = r#"{"tuple":[{"u8":1},{"record":[["a",{"bool":false}],["é",{"tuple":[]}]]}]}"#;
     let Ok(Val::Tuple(members)) = value(rt.alloc(), text)? else {
@@ -90,28 +36,6 @@ fn tuples_and_records_are_read(rt: HostRuntime) -> Result<(), Fail> {
     };
     assert_eq!(rt; (first.as_str(), second.as_str()), ("a", "é"));
     assert!(rt; none.is_empty());
-    Ok(())
-}
-
-#[test]
-fn texts_and_lists_are_read(rt: HostRuntime) -> Result<(), Fail> {
-    let alloc = rt.alloc();
-    let Ok(Val::String(text)) = value(alloc, r#"{"string":"a\u0000é"}"#)? else {
-        return Err(Fail::new("a text"));
-    };
-    assert_eq!(rt; text.as_str(), "a\0é");
-    let list = r#"{"list":[{"u8":1},{"fixed":[{"list":[]},{"string":""}]},{"tuple":[]}]}"#;
-    let Ok(Val::List(items)) = value(alloc, list)? else {
-        return Err(Fail::new("a list"));
-    };
-    let [Val::U8(1), Val::FixedLengthList(fixed), Val::Tuple(members)] = items.as_slice() else {
-        return Err(Fail::new("a number, a fixed list and a tuple"));
-    };
-    assert!(rt; members.is_empty());
-    let [Val::List(none), Val::String(empty)] = fixed.as_slice() else {
-        return Err(Fail::new("a list and a text"));
-    };
-    assert!(rt; none.is_empty() && empty.is_empty());
     Ok(())
 }
 
@@ -210,20 +134,6 @@ fn what_is_no_action_is_refused(rt: HostRuntime) -> Result<(), Fail> {
 }
 
 #[test]
-fn hex_is_in_small_letters(rt: HostRuntime) -> Result<(), Fail> {
-    let bytes = bytes_of_hex(rt.alloc(), "00ff1a")?;
-    assert_eq!(rt; bytes.as_slice(), [0, 255, 26].as_slice());
-    for text in ["0", "0g", "1A"] {
-        let refused = bytes_of_hex(rt.alloc(), text);
-        assert!(rt;
-            refused.is_err_and(|e| e == ScriptError::BadScript),
-            "{text}"
-        );
-    }
-    Ok(())
-}
-
-#[test]
 fn a_whole_script_is_read(rt: HostRuntime) -> Result<(), Fail> {
     let text =
         r#"{"memory":131072,"heap":2048,"types":[{"record":[["a","u8"],["b","char"]]},{"tuple":[0,"f64"]}],"funcs":[{"params":[1,"s16"],"results":[0,"u32"],"post":true},{"params":[],"results":[],"async":true}],"items":[{"call":0,"params":[{"u8":1}],"guest":[],"reallocs":[4294967295,"trap",null],"post_trap":true},{"call":1,"params":[],"guest":[{"trap":true}],"slots":1000}]}"#;
@@ -252,29 +162,6 @@ fn a_whole_script_is_read(rt: HostRuntime) -> Result<(), Fail> {
         (1, 1, 1000)
     );
     assert!(rt; second.reallocs.is_empty() && !second.post_trap);
-    Ok(())
-}
-
-#[test]
-fn texts_and_lists_are_types(rt: HostRuntime) -> Result<(), Fail> {
-    let text =
-        r#"{"fuel":18446744073709551615,"types":[{"list":"string"},{"fixed":[0,3]},{"record":[["a",1]]}],"funcs":[{"params":["string",0,1,2],"results":[1]}],"items":[{"call":0,"params":[{"string":"a"},{"list":[{"string":"b"}]}],"guest":[]}]}"#;
-    let script = script(rt.alloc(), text)?.expect(&rt, "a script");
-    assert_eq!(rt; script.fuel, u64::MAX);
-    let texts = TypeListIndex::from_u32(0);
-    assert!(rt;
-        script.types.contains(&InterfaceType::List(texts))
-            && script.types.list(texts).element == InterfaceType::String
-    );
-    let three = TypeFixedLengthListIndex::from_u32(1);
-    assert!(rt;
-        script
-            .types
-            .contains(&InterfaceType::FixedLengthList(three))
-            && script.types.fixed_length_list(three).size == 3
-    );
-    let two = TypeFixedLengthListIndex::from_u32(2);
-    assert!(rt; !script.types.contains(&InterfaceType::FixedLengthList(two)));
     Ok(())
 }
 

@@ -8,7 +8,7 @@ ghost use Rattle.canon_script.specs.Literals.{Literal, fields_view, literal_view
 ghost use Rattle.canon_script.specs.Numbers as numbers;
 ghost use Rattle.canon_script.specs.Values as spec;
 
-use crate::kinds::{ValueKind, kind_named};
+use crate::kinds::{ValueKind, value_kind_named};
 use canon_json::{Reader, ScriptError, only_member, two, u32_of};
 use canon_value::Val;
 use serde_json::Value;
@@ -22,7 +22,7 @@ pub fn value_of_json(alloc: Global, v: &Value) -> Result<Val, ScriptError>
     let Some((name, form)) = only_member(v) else {
         return Err(ScriptError::BadScript);
     };
-    let Some(kind) = kind_named(name) else {
+    let Some(kind) = value_kind_named(name) else {
         return Err(ScriptError::BadScript);
     };
     match kind {

@@ -5,20 +5,22 @@ use Rattle.canon_model.specs.Requests.{Call}
 use Rattle.canon_memory.specs.declared.error.GuestFault.{GuestFault}
 use Rattle.canon_memory.specs.declared.error.GuestFault.TheVariants as fault
 use Rattle.canon_memory.specs.declared.event.Event.{Event}
+use Rattle.canon_memory.specs.declared.event.Event.TheVariants as event
 use Rattle.canon_memory.specs.declared.guest.Step.{Step}
+use Rattle.canon_memory.specs.declared.guest.Step.TheVariants as step
 use Rattle.canon_memory.specs.Counts.{Rose}
-use Rattle.canon_memory.specs.Guest.{Goes, Mark, OnAnswer, Reallocates, moment}
-use Rattle.canon_memory.specs.Journal.{dtor_events, post_events, realloc_events, resume_events, start_events}
+use Rattle.canon_memory.specs.Guest.{Goes, Mark, OnAnswer, Reallocates, guest_in, moment}
+use Rattle.canon_memory.specs.Journal.{dtor_events, post_events, realloc_events, resume_events, start_events, step_events}
 use Rattle.canon_memory.specs.Realloc.{IsTidy, ReallocLaw, new_block}
 use Rattle.canon_scripted.specs.Actions.{Turn, carry_out, turn}
 use Rattle.canon_scripted.specs.Allocator.{Allocator, InRow, allocate, copied}
 use Rattle.canon_scripted.specs.Orders.{next_order}
-use Rattle.canon_scripted.specs.Leaves.{Answers, DoesRealloc, counted, faulted, raised, with_actions}
-use Rattle.canon_scripted.specs.Scripted.{Asked, Doing, Moves, Plan, Told, after, destroyed, ended, events_of, free_realloc, is_free, marks_by, marks_of, marks_told, ordered_realloc, post_returned, realloc, reallocated, resumed, seen_of, started, told}
+use Rattle.canon_scripted.specs.Leaves.{Answers, DoesRealloc, counted, faulted, with_actions}
+use Rattle.canon_scripted.specs.Scripted.{Asked, Doing, Moves, Plan, Told, after, destroyed, ended, events_of, free_realloc, is_free, is_trap, len_after, len_before, marks_by, marks_of, marks_told, ordered_realloc, post_returned, raised, realloc, reallocated, resumed, seen_of, started, told, traps_after}
 use Rattle.canon_scripted.specs.declared.actions.Action.{Action}
 use Rattle.canon_scripted.specs.declared.orders.Ordered.{Ordered}
 use Rattle.canon_scripted.specs.declared.orders.Ordered.TheVariants as ordered
-use Rattle.canon_scripted.proofs.Laws.{keeps, lawful, no_shorter, tidy}
+use Rattle.canon_scripted.proofs.Laws.{keeps, lawful, same_length, tidy}
 use Rattle.canon_scripted.proofs.Rules.{at_place}
 
 -- ---- an answer, as the code gives it
@@ -65,8 +67,8 @@ module _ (m bytes : List ℕ) (al al2 : Allocator) (c : Call) (answer : ℕ) (ro
   pub free_tidy : IsTidy m bytes (new_block c answer)
   free_tidy = subst (λ (xs : List ℕ). IsTidy m xs (new_block c answer)) (sym copies) (tidy m al c (at_place answer al2) (keeps (length m) al c row (at_place answer al2) some placed))
 
-  pub free_no_shorter : length m ≤ length bytes
-  free_no_shorter = subst (λ (xs : List ℕ). length m ≤ length xs) (sym copies) (no_shorter m al c (at_place answer al2) (keeps (length m) al c row (at_place answer al2) some placed))
+  pub free_length : length bytes ≡ length m
+  free_length = subst (λ (xs : List ℕ). length xs ≡ length m) (sym copies) (same_length m al c (at_place answer al2) (keeps (length m) al c row (at_place answer al2) some placed))
 
 -- ---- a call that isn't `realloc`
 
@@ -88,95 +90,149 @@ counted_goes g h result m bytes es e later le = record {
   events = refl;
 }
 
--- one call
-one_call : (g h : Doing) (call : Asked) (es : List Event) → es ≡ events_of g.plan call → h.plan ≡ after g.plan call → h.marks ≡ g.marks ++ marks_told g.plan call → Moves g es h
-one_call g h call es e d ms = record {
+-- ---- what one call tells
+
+-- a call of these events, and what it leaves
+record One (g h : Doing) (m bytes : List ℕ) (call : Asked) (es : List Event) : Type 0 where
+  told : es ≡ events_of g.plan call
+  leaves : h.plan ≡ after g.plan call
+  marks : h.marks ≡ g.marks ++ marks_told g.plan call
+  before : len_before call ≡ length m
+  after_it : length bytes ≡ len_after g.plan call
+  traps : h.traps ≡ traps_after g.traps es
+  shortages : h.shortages ≡ g.shortages
+
+one_call : (g h : Doing) (m bytes : List ℕ) (call : Asked) (es : List Event) → One g h m bytes call es → Moves (guest_in g m) es (guest_in h bytes)
+one_call g h m bytes call es o = record {
   new_marks = marks_told g.plan call;
-  does = record { calls = call ∷ []; told = e ∙ sym (append-nil (events_of g.plan call)); marked = sym (append-nil (marks_told g.plan call)); leaves = d };
-  marks = ms;
+  does = record {
+    calls = call ∷ [];
+    told = o.told ∙ sym (append-nil (events_of g.plan call));
+    marked = sym (append-nil (marks_told g.plan call));
+    leaves = o.leaves;
+    lengths = (o.before, o.after_it);
+  };
+  marks = o.marks;
+  traps = o.traps;
+  shortages = o.shortages;
 }
 
--- a plan that is left after actions
-plan_left : {T : Type 0} (g h : Doing) (result : Result T GuestFault) (actions : List Action) → h ≡ counted result (with_actions g actions) → OnAnswer result (h.plan ≡ record g.plan { actions = actions })
-plan_left g h (Ok x) actions e = ap (λ (k : Doing). k.plan) e
-plan_left g h (Err fault.Trap) actions e = ap (λ (k : Doing). k.plan) e
-plan_left g h (Err fault.OutOfMemory) actions e = tt
-
+-- a turn
 module _ (g h : Doing) (m bytes : List ℕ) where
   acts : (result : Result Step GuestFault) (call : Asked) (es : List ℕ → Result Step GuestFault → List Event)
-      → (events_of g.plan call ≡ es (carry_out g.plan.actions m).memory (carry_out g.plan.actions m).result)
-      → (after g.plan call ≡ record g.plan { actions = (carry_out g.plan.actions m).left })
+      → events_of g.plan call ≡ es (carry_out g.plan.actions m).memory (carry_out g.plan.actions m).result
+      → after g.plan call ≡ record g.plan { actions = (carry_out g.plan.actions m).left }
+      → len_before call ≡ length m → len_after g.plan call ≡ length (carry_out g.plan.actions m).memory → [] ≡ marks_told g.plan call
       → carry_out g.plan.actions m ≡ turn bytes result h.plan.actions
-      → h.plan ≡ record g.plan { actions = h.plan.actions }
-      → h.marks ≡ g.marks → [] ≡ marks_told g.plan call
-      → Moves g (es bytes result) h
-  acts result call es told leaves t p ms none =
-      one_call g h call (es bytes result)
-      (sym (told ∙ ap (λ (u : Turn). es u.memory u.result) t))
-      (p ∙ ap (λ (u : Turn). record g.plan { actions = u.left }) (sym t) ∙ sym leaves)
-      (ms ∙ sym (append-nil g.marks) ∙ ap (λ (ks : List Mark). g.marks ++ ks) none)
+      → h.plan ≡ record g.plan { actions = h.plan.actions } → h.marks ≡ g.marks → h.traps ≡ traps_after g.traps (es bytes result) → h.shortages ≡ g.shortages
+      → Moves (guest_in g m) (es bytes result) (guest_in h bytes)
+  acts result call es told leaves first last none t p ms traps shortages = one_call g h m bytes call (es bytes result) (record {
+    told = sym (told ∙ ap (λ (u : Turn). es u.memory u.result) t);
+    leaves = p ∙ ap (λ (u : Turn). record g.plan { actions = u.left }) (sym t) ∙ sym leaves;
+    marks = ms ∙ sym (append-nil g.marks) ∙ ap (λ (ks : List Mark). g.marks ++ ks) none;
+    before = first;
+    after_it = sym (last ∙ ap (λ (u : Turn). length u.memory) t);
+    traps = traps;
+    shortages = shortages;
+  })
+
+  module _ (call : Asked) (es : List ℕ → Result Step GuestFault → List Event)
+      (told : events_of g.plan call ≡ es (carry_out g.plan.actions m).memory (carry_out g.plan.actions m).result)
+      (leaves : after g.plan call ≡ record g.plan { actions = (carry_out g.plan.actions m).left })
+      (first : len_before call ≡ length m) (last : len_after g.plan call ≡ length (carry_out g.plan.actions m).memory) (none : [] ≡ marks_told g.plan call)
+      (goes : (x : Step) → traps_after g.traps (es bytes (Ok x)) ≡ g.traps) (traps : traps_after g.traps (es bytes (Err fault.Trap)) ≡ raised g.traps) where
+    turn_moves : (result : Result Step GuestFault) → h ≡ counted result (with_actions g h.plan.actions)
+        → OnAnswer result (carry_out g.plan.actions m ≡ turn bytes result h.plan.actions) → OnAnswer result (Moves (guest_in g m) (es bytes result) (guest_in h bytes))
+    turn_moves (Ok x) e t = acts (Ok x) call es told leaves first last none t (ap (λ (k : Doing). k.plan) e) (ap (λ (k : Doing). k.marks) e)
+        (ap (λ (k : Doing). k.traps) e ∙ sym (goes x)) (ap (λ (k : Doing). k.shortages) e)
+    turn_moves (Err fault.Trap) e t = acts (Err fault.Trap) call es told leaves first last none t (ap (λ (k : Doing). k.plan) e) (ap (λ (k : Doing). k.marks) e)
+        (ap (λ (k : Doing). k.traps) e ∙ sym traps) (ap (λ (k : Doing). k.shortages) e)
+    turn_moves (Err fault.OutOfMemory) e t = tt
+
+  -- the event of a step is no trap
+  step_goes : (first : Event) (x : Step) → is_trap first ≡ false → traps_after g.traps (step_events first (length m) bytes (Ok x)) ≡ g.traps
+  step_goes first (step.Return words) e = cond-false _ _ _ e
+  step_goes first (step.Import index words) e = cond-false _ _ _ e
 
   pub start_moves : (func : ℕ) (words : List ℕ) (result : Result Step GuestFault) → h ≡ counted result (with_actions g h.plan.actions)
       → OnAnswer result (carry_out g.plan.actions m ≡ turn bytes result h.plan.actions)
-      → OnAnswer result (Moves g (start_events func words m bytes result) h)
-  start_moves func words (Ok x) e t = acts (Ok x) (started func words m) (λ b r. start_events func words m b r) refl refl t (plan_left g h (Ok x) h.plan.actions e) (ap (λ (k : Doing). k.marks) e) refl
-  start_moves func words (Err fault.Trap) e t = acts (Err fault.Trap) (started func words m) (λ b r. start_events func words m b r) refl refl t (ap (λ (k : Doing). k.plan) e) (ap (λ (k : Doing). k.marks) e) refl
-  start_moves func words (Err fault.OutOfMemory) e t = tt
+      → OnAnswer result (Moves (guest_in g m) (start_events func words m bytes result) (guest_in h bytes))
+  start_moves func words = turn_moves (started func words m) (λ b r. start_events func words m b r) refl refl refl refl refl (λ x. step_goes (event.Start func words m) x refl) refl
 
   pub resume_moves : (words : List ℕ) (result : Result Step GuestFault) → h ≡ counted result (with_actions g h.plan.actions)
       → OnAnswer result (carry_out g.plan.actions m ≡ turn bytes result h.plan.actions)
-      → OnAnswer result (Moves g (resume_events words m bytes result) h)
-  resume_moves words (Ok x) e t = acts (Ok x) (resumed words m) (λ b r. resume_events words m b r) refl refl t (plan_left g h (Ok x) h.plan.actions e) (ap (λ (k : Doing). k.marks) e) refl
-  resume_moves words (Err fault.Trap) e t = acts (Err fault.Trap) (resumed words m) (λ b r. resume_events words m b r) refl refl t (ap (λ (k : Doing). k.plan) e) (ap (λ (k : Doing). k.marks) e) refl
-  resume_moves words (Err fault.OutOfMemory) e t = tt
+      → OnAnswer result (Moves (guest_in g m) (resume_events words m bytes result) (guest_in h bytes))
+  resume_moves words = turn_moves (resumed words m) (λ b r. resume_events words m b r) refl refl refl refl refl (λ x. step_goes (event.Resume words m) x refl) refl
 
--- a call that the guest ends itself leaves the plan
-pub same_plan : (g h : Doing) (result : Result (Unit {0}) GuestFault) → h ≡ counted result g → h.plan ≡ g.plan
-same_plan g h (Ok x) e = ap (λ (k : Doing). k.plan) e
-same_plan g h (Err fault.Trap) e = ap (λ (k : Doing). k.plan) e
-same_plan g h (Err fault.OutOfMemory) e = ap (λ (k : Doing). k.plan) e
-
-on_answer : {T : Type 0} (result : Result T GuestFault) (P : Type 0) → P → OnAnswer result P
-on_answer (Ok x) P p = p
-on_answer (Err fault.Trap) P p = p
-on_answer (Err fault.OutOfMemory) P p = tt
+-- a call that the guest ends itself leaves the plan and memory
+module _ (g h : Doing) (m : List ℕ) (call : Asked) (traps : Bool) (es : Result (Unit {0}) GuestFault → List Event)
+    (told : es (ended traps) ≡ events_of g.plan call) (leaves : g.plan ≡ after g.plan call) (marks : [] ≡ marks_told g.plan call)
+    (before : len_before call ≡ length m) (after_it : length m ≡ len_after g.plan call)
+    (none : traps_after g.traps (es (Ok tt)) ≡ g.traps) (one : traps_after g.traps (es (Err fault.Trap)) ≡ raised g.traps) where
+  ended_moves : (result : Result (Unit {0}) GuestFault) → result ≡ ended traps → h ≡ counted result g → OnAnswer result (Moves (guest_in g m) (es result) (guest_in h m))
+  ended_moves (Ok tt) e k = one_call g h m m call (es (Ok tt)) (record {
+    told = ap es e ∙ told;
+    leaves = ap (λ (d : Doing). d.plan) k ∙ leaves;
+    marks = ap (λ (d : Doing). d.marks) k ∙ sym (append-nil g.marks) ∙ ap (λ (ks : List Mark). g.marks ++ ks) marks;
+    before = before;
+    after_it = after_it;
+    traps = ap (λ (d : Doing). d.traps) k ∙ sym none;
+    shortages = ap (λ (d : Doing). d.shortages) k;
+  })
+  ended_moves (Err fault.Trap) e k = one_call g h m m call (es (Err fault.Trap)) (record {
+    told = ap es e ∙ told;
+    leaves = ap (λ (d : Doing). d.plan) k ∙ leaves;
+    marks = ap (λ (d : Doing). d.marks) k ∙ sym (append-nil g.marks) ∙ ap (λ (ks : List Mark). g.marks ++ ks) marks;
+    before = before;
+    after_it = after_it;
+    traps = ap (λ (d : Doing). d.traps) k ∙ sym one;
+    shortages = ap (λ (d : Doing). d.shortages) k;
+  })
+  ended_moves (Err fault.OutOfMemory) e k = tt
 
 pub post_moves : (g h : Doing) (func : ℕ) (words m : List ℕ) (result : Result (Unit {0}) GuestFault) → result ≡ ended g.plan.post_trap → h ≡ counted result g
-    → OnAnswer result (Moves g (post_events func words m result) h)
-post_moves g h func words m result e k = on_answer result _ (one_call g h (post_returned func words m) _ (ap (λ r. post_events func words m r) e) (same_plan g h result k) (counted_marks g h result k ∙ sym (append-nil g.marks)))
+    → OnAnswer result (Moves (guest_in g m) (post_events func words m result) (guest_in h m))
+post_moves g h func words m = ended_moves g h m (post_returned func words m) g.plan.post_trap (λ r. post_events func words m r) refl refl refl refl refl refl refl
 
 pub dtor_moves : (g h : Doing) (func rep : ℕ) (m : List ℕ) (result : Result (Unit {0}) GuestFault) → result ≡ ended g.plan.dtor_trap → h ≡ counted result g
-    → OnAnswer result (Moves g (dtor_events func rep m result) h)
-dtor_moves g h func rep m result e k = on_answer result _ (one_call g h (destroyed func rep m) _ (ap (λ r. dtor_events func rep m r) e) (same_plan g h result k) (counted_marks g h result k ∙ sym (append-nil g.marks)))
+    → OnAnswer result (Moves (guest_in g m) (dtor_events func rep m result) (guest_in h m))
+dtor_moves g h func rep m = ended_moves g h m (destroyed func rep m) g.plan.dtor_trap (λ r. dtor_events func rep m r) refl refl refl refl refl refl refl
 
 -- ---- `realloc`
 
-module _ (g h : Doing) (m bytes : List ℕ) (c : Call) where
-  told_moves : (result : Result ℕ GuestFault) → realloc (length m) g.plan c ≡ told result h.plan → h.marks ≡ g.marks ++ marks_by (is_free (next_order g.plan.reallocs)) result → Moves g (realloc_events c m result) h
-  told_moves result t ms = one_call g h (reallocated c m) (realloc_events c m result)
-      (ap (λ (u : Told). realloc_events c m u.result) (sym t)) (ap (λ (u : Told). u.plan) (sym t))
-      (ms ∙ ap (λ (u : Told). g.marks ++ marks_by (is_free (next_order g.plan.reallocs)) u.result) (sym t))
+module _ (g h : Doing) (m bytes : List ℕ) (c : Call) (same_len : length bytes ≡ length m) where
+  told_moves : (result : Result ℕ GuestFault) → realloc (length m) g.plan c ≡ told result h.plan → h.marks ≡ g.marks ++ marks_by (is_free (next_order g.plan.reallocs)) result
+      → h.traps ≡ traps_after g.traps (realloc_events c m result) → h.shortages ≡ g.shortages → Moves (guest_in g m) (realloc_events c m result) (guest_in h bytes)
+  told_moves result t ms traps shortages = one_call g h m bytes (reallocated c m) (realloc_events c m result) (record {
+    told = ap (λ (u : Told). realloc_events c m u.result) (sym t);
+    leaves = ap (λ (u : Told). u.plan) (sym t);
+    marks = ms ∙ ap (λ (u : Told). g.marks ++ marks_by (is_free (next_order g.plan.reallocs)) u.result) (sym t);
+    before = refl;
+    after_it = same_len;
+    traps = traps;
+    shortages = shortages;
+  })
 
-  pub answer_moves : (answer : ℕ) → Answers g m c h bytes answer → Moves g (realloc_events c m (Ok answer)) h
-  answer_moves answer a = told_moves (Ok answer) a.told a.marks
+  pub answer_moves : (answer : ℕ) → Answers g m c h bytes answer → (h.traps ≡ g.traps) × (h.shortages ≡ g.shortages) → Moves (guest_in g m) (realloc_events c m (Ok answer)) (guest_in h bytes)
+  answer_moves answer a same = told_moves (Ok answer) a.told a.marks same.0 same.1
 
   pub answer_does : (answer : ℕ) → Answers g m c h bytes answer → (h.traps ≡ g.traps) × (h.shortages ≡ g.shortages)
-      → (IsTrue (is_free (next_order g.plan.reallocs)) → ReallocLaw g.plan.allocator.live h.plan.allocator.live m bytes c answer) → IsTidy m bytes (new_block c answer) → length m ≤ length bytes
+      → (IsTrue (is_free (next_order g.plan.reallocs)) → ReallocLaw g.plan.allocator.live h.plan.allocator.live m bytes c answer) → IsTidy m bytes (new_block c answer)
       → Reallocates (moment (seen_of g) m) (moment (seen_of h) bytes) c (Ok answer)
-  answer_does answer a same law neat le = (
+  answer_does answer a same law neat = (
     record { lawful = is_free (next_order g.plan.reallocs); tidy = true },
     record {
-      goes = record { no_shorter = le; traps_later = omega (arith, same.0); shortages_later = omega (arith, same.1); marks = a.marks; events = refl };
+      goes = record { no_shorter = omega (arith, same_len); traps_later = omega (arith, same.0); shortages_later = omega (arith, same.1); marks = a.marks; events = refl };
       lawful = law;
       tidy = λ t. neat;
     },
   )
 
 -- a fault, counted
-module _ (g k h : Doing) (m bytes : List ℕ) (c : Call) (same : (k.traps ≡ g.traps) × (k.shortages ≡ g.shortages)) (le : length m ≤ length bytes) where
+module _ (g k h : Doing) (m bytes : List ℕ) (c : Call) (same : (k.traps ≡ g.traps) × (k.shortages ≡ g.shortages)) (same_len : length bytes ≡ length m) where
   fault_goes : (es : List Event) → IsLater k h → h.marks ≡ g.marks → Goes (moment (seen_of g) m) (moment (seen_of h) bytes) [] es
   fault_goes es later marks = record {
-    no_shorter = le;
+    no_shorter = omega (arith, same_len);
     traps_later = omega (arith, same.0, later.0);
     shortages_later = omega (arith, same.1, later.1);
     marks = marks ∙ sym (append-nil g.marks);
@@ -199,9 +255,10 @@ module _ (g k h : Doing) (m bytes : List ℕ) (c : Call) (same : (k.traps ≡ g.
         rose = rises g.shortages k.shortages h.shortages same.1 (ap (λ (x : Doing). x.shortages) s);
       }
 
-  pub fault_moves : (f r : GuestFault) → r ≡ f → DoesRealloc g m c k bytes (Err f) → h ≡ faulted f k → OnAnswer {T = ℕ} (Err r) (Moves g (realloc_events c m (Err r)) h)
-  fault_moves f r e d s = subst (λ (x : GuestFault). OnAnswer {T = ℕ} (Err x) (Moves g (realloc_events c m (Err x)) h)) (sym e) (by f d s)
+  pub fault_moves : (f r : GuestFault) → r ≡ f → DoesRealloc g m c k bytes (Err f) → h ≡ faulted f k → OnAnswer {T = ℕ} (Err r) (Moves (guest_in g m) (realloc_events c m (Err r)) (guest_in h bytes))
+  fault_moves f r e d s = subst (λ (x : GuestFault). OnAnswer {T = ℕ} (Err x) (Moves (guest_in g m) (realloc_events c m (Err x)) (guest_in h bytes))) (sym e) (by f d s)
     where
-      by : (x : GuestFault) → DoesRealloc g m c k bytes (Err x) → h ≡ faulted x k → OnAnswer {T = ℕ} (Err x) (Moves g (realloc_events c m (Err x)) h)
-      by fault.Trap d s = told_moves g h m bytes c (Err fault.Trap) (d.told ∙ ap (λ (x : Doing). told (Err fault.Trap) x.plan) (sym s)) (ap (λ (x : Doing). x.marks) s ∙ d.marks ∙ sym (append-nil g.marks))
+      by : (x : GuestFault) → DoesRealloc g m c k bytes (Err x) → h ≡ faulted x k → OnAnswer {T = ℕ} (Err x) (Moves (guest_in g m) (realloc_events c m (Err x)) (guest_in h bytes))
+      by fault.Trap d s = told_moves g h m bytes c same_len (Err fault.Trap) (d.told ∙ ap (λ (x : Doing). told (Err fault.Trap) x.plan) (sym s)) (ap (λ (x : Doing). x.marks) s ∙ d.marks ∙ sym (append-nil g.marks))
+          (ap (λ (x : Doing). x.traps) s ∙ ap raised same.0) (ap (λ (x : Doing). x.shortages) s ∙ same.1)
       by fault.OutOfMemory d s = tt

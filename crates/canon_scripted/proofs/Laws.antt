@@ -49,7 +49,7 @@ module _ (m : List ℕ) (c : Call) (answer : ℕ) where
       ∙ get_or-drop c.old m k 0)
       h.from
 
-  pub copied_length : HasRoom m c answer → length (copied m c answer) ≡ length m
+  copied_length : HasRoom m c answer → length (copied m c answer) ≡ length m
   copied_length h = ⊎_elim
       (λ e. ap length (copied_none e))
       (λ le. ap length copied_is ∙ length-paste m answer (drop c.old m) (kept c) (omega (arith, h.room)) (omega (arith, length-drop c.old m, le)))
@@ -174,8 +174,8 @@ module _ (m : List ℕ) (a : Allocator) (c : Call) (p : Placed) (h : Keeps (leng
   pub tidy : IsTidy m (copied m c p.answer) (new_block c p.answer)
   tidy i lt out = copied_out m c p.answer has_room i (outside i out)
 
-  pub no_shorter : length m ≤ length (copied m c p.answer)
-  no_shorter = omega (arith, copied_length m c p.answer has_room)
+  pub same_length : length (copied m c p.answer) ≡ length m
+  same_length = copied_length m c p.answer has_room
 
 -- ---- as the code does it
 

@@ -1,15 +1,12 @@
 -- What a call of a scripted guest leaves.
-use Rattle.std.specs.Prelude.{◌≡◌, ◌+◌, ◌-◌, ◌^◌, ℕ, ◌++◌, if◌then◌else◌, List, [], ◌∷◌, length, min, Result, Ok, Err}
+use Rattle.std.specs.Prelude.{◌≡◌, ℕ, ◌++◌, if◌then◌else◌, List, [], ◌∷◌, length, Result, Ok, Err}
 use Rattle.canon_model.specs.Requests.{Call}
 use Rattle.canon_memory.specs.declared.error.GuestFault.{GuestFault}
 use Rattle.canon_memory.specs.declared.error.GuestFault.TheVariants as fault
 use Rattle.canon_scripted.specs.Allocator.{copied}
 use Rattle.canon_scripted.specs.Orders.{next_order}
-use Rattle.canon_scripted.specs.Scripted.{Doing, is_free, marks_of, realloc, told}
+use Rattle.canon_scripted.specs.Scripted.{Doing, is_free, marks_of, raised, realloc, told}
 use Rattle.canon_scripted.specs.declared.actions.Action.{Action}
-
-abbrev pub raised : ℕ → ℕ
-raised n = min (n + 1) (2 ^ 64 - 1)
 
 -- a fault raises its count
 abbrev pub faulted : GuestFault → Doing → Doing

@@ -1,11 +1,12 @@
 -- What a guest that follows a script does.
-use Rattle.std.specs.Prelude.{◌≡◌, ◌+◌, ℕ, ◌++◌, Bool, true, false, if◌then◌else◌, List, [], ◌∷◌, length, drop, None, Option, Some, Result, Ok, Err}
-use Rattle.std.proofs.Common.{refl, sym, ap, ◌∙◌, append-nil, append_assoc}
+use Rattle.std.specs.Prelude.{◌≡◌, ◌+◌, ◌-◌, ◌^◌, ℕ, ◌++◌, Bool, true, false, if◌then◌else◌, List, [], ◌∷◌, length, drop, min, None, Option, Some, Result, Ok, Err}
+use Rattle.std.proofs.Common.{refl, sym, ap, subst, ◌∙◌, append-nil, append_assoc}
 use Rattle.canon_model.specs.Requests.{Call}
 use Rattle.canon_memory.specs.declared.error.GuestFault.{GuestFault}
 use Rattle.canon_memory.specs.declared.error.GuestFault.TheVariants as fault
 use Rattle.canon_memory.specs.declared.event.Event.{Event}
-use Rattle.canon_memory.specs.Guest.{Mark, Seen}
+use Rattle.canon_memory.specs.declared.event.Event.TheVariants as event
+use Rattle.canon_memory.specs.Guest.{GuestIn, Mark, Seen}
 use Rattle.canon_memory.specs.Journal.{dtor_events, post_events, realloc_events, resume_events, start_events}
 use Rattle.canon_scripted.specs.Actions.{carry_out}
 use Rattle.canon_scripted.specs.Allocator.{Allocator, Placed, allocate}
@@ -115,6 +116,21 @@ after plan (reallocated c memory) = (realloc (length memory) plan c).plan
 after plan (post_returned func words memory) = plan
 after plan (destroyed func rep memory) = plan
 
+-- the length of memory before a call, and after it: actions alone change it
+abbrev pub len_before : Asked → ℕ
+len_before (started func words memory) = length memory
+len_before (resumed words memory) = length memory
+len_before (reallocated c memory) = length memory
+len_before (post_returned func words memory) = length memory
+len_before (destroyed func rep memory) = length memory
+
+abbrev pub len_after : Plan → Asked → ℕ
+len_after plan (started func words memory) = length (carry_out plan.actions memory).memory
+len_after plan (resumed words memory) = length (carry_out plan.actions memory).memory
+len_after plan (reallocated c memory) = length memory
+len_after plan (post_returned func words memory) = length memory
+len_after plan (destroyed func rep memory) = length memory
+
 -- ---- what its events tell
 
 -- the events of calls in a row, the marks of their answers, and the plan that they leave
@@ -130,22 +146,51 @@ abbrev pub after_all : Plan → List Asked → Plan
 after_all plan [] = plan
 after_all plan (call ∷ calls) = after_all (after plan call) calls
 
--- With this plan these events come, their answers have these marks, and that plan is left: they tell some calls in a row.
-pub record Does (plan : Plan) (events : List Event) (marks : List Mark) (left : Plan) : Type 0 where
+-- Memory has the first length before these calls and the other after them; between two calls it keeps its length.
+abbrev pub InLength : Plan → ℕ → List Asked → ℕ → Type 0
+InLength plan len [] last = last ≡ len
+InLength plan len (call ∷ calls) last = (len_before call ≡ len) × InLength (after plan call) (len_after plan call) calls last
+
+-- With this plan, in a memory of so many bytes, these events come, and their answers have these marks; that plan and that
+-- length of memory are left: they tell some calls in a row.
+pub record Does (plan : Plan) (len : ℕ) (events : List Event) (marks : List Mark) (left : Plan) (last : ℕ) : Type 0 where
   pub calls : List Asked
   pub told : events ≡ all_events plan calls
   pub marked : marks ≡ all_marks plan calls
   pub leaves : left ≡ after_all plan calls
+  pub lengths : InLength plan len calls last
 
--- from one state to another it did so, and had these marks more
-pub record Moves (g : Doing) (events : List Event) (h : Doing) : Type 0 where
+-- a count of faults, raised: it stands still at the last number of a `u64`
+abbrev pub raised : ℕ → ℕ
+raised n = min (n + 1) (2 ^ 64 - 1)
+
+abbrev pub is_trap : Event → Bool
+is_trap (event.Trap asked len) = true
+is_trap _ = false
+
+-- a count of traps after these events: each trap raises it
+abbrev pub traps_after : ℕ → List Event → ℕ
+traps_after traps [] = traps
+traps_after traps (e ∷ events) = traps_after (if is_trap e then raised traps else traps) events
+
+-- From one state and length of memory to others it did so, and had these marks more; its traps are counted, and it didn't
+-- want memory.
+pub record Moves (g : GuestIn Doing) (events : List Event) (h : GuestIn Doing) : Type 0 where
   pub new_marks : List Mark
-  pub does : Does g.plan events new_marks h.plan
-  pub marks : h.marks ≡ g.marks ++ new_marks
+  pub does : Does g.guest.plan g.len events new_marks h.guest.plan h.len
+  pub marks : h.guest.marks ≡ g.guest.marks ++ new_marks
+  pub traps : h.guest.traps ≡ traps_after g.guest.traps events
+  pub shortages : h.guest.shortages ≡ g.guest.shortages
 
 -- one thing after another
-pub moves_nothing : (g : Doing) → Moves g [] g
-moves_nothing g = record { new_marks = []; does = record { calls = []; told = refl; marked = refl; leaves = refl }; marks = sym (append-nil g.marks) }
+pub moves_nothing : (g : GuestIn Doing) → Moves g [] g
+moves_nothing g = record {
+  new_marks = [];
+  does = record { calls = []; told = refl; marked = refl; leaves = refl; lengths = refl };
+  marks = sym (append-nil g.guest.marks);
+  traps = refl;
+  shortages = refl;
+}
 
 events_then : (plan : Plan) (xs ys : List Asked) → all_events plan (xs ++ ys) ≡ all_events plan xs ++ all_events (after_all plan xs) ys
 events_then plan [] ys = refl
@@ -159,17 +204,29 @@ after_then : (plan : Plan) (xs ys : List Asked) → after_all plan (xs ++ ys) �
 after_then plan [] ys = refl
 after_then plan (x ∷ xs) ys = after_then (after plan x) xs ys
 
-does_then : (first mid last : Plan) (xs ys : List Event) (ms ns : List Mark) → Does first xs ms mid → Does mid ys ns last → Does first (xs ++ ys) (ms ++ ns) last
-does_then first mid last xs ys ms ns f g = record {
-  calls = f.calls ++ g.calls;
-  told = ap (λ (es : List Event). es ++ ys) f.told ∙ ap (λ (es : List Event). all_events first f.calls ++ es) (g.told ∙ ap (λ (p : Plan). all_events p g.calls) f.leaves) ∙ sym (events_then first f.calls g.calls);
-  marked = ap (λ (ks : List Mark). ks ++ ns) f.marked ∙ ap (λ (ks : List Mark). all_marks first f.calls ++ ks) (g.marked ∙ ap (λ (p : Plan). all_marks p g.calls) f.leaves) ∙ sym (marks_then first f.calls g.calls);
-  leaves = g.leaves ∙ ap (λ (p : Plan). after_all p g.calls) f.leaves ∙ sym (after_then first f.calls g.calls);
-}
+lengths_then : (plan : Plan) (len mid last : ℕ) (xs ys : List Asked) → InLength plan len xs mid → InLength (after_all plan xs) mid ys last → InLength plan len (xs ++ ys) last
+lengths_then plan len mid last [] ys e h = subst (λ (n : ℕ). InLength plan n ys last) e h
+lengths_then plan len mid last (x ∷ xs) ys (first, rest) h = (first, lengths_then (after plan x) (len_after plan x) mid last xs ys rest h)
 
-pub moves_then : (g h k : Doing) (xs ys : List Event) → Moves g xs h → Moves h ys k → Moves g (xs ++ ys) k
+traps_then : (n : ℕ) (xs ys : List Event) → traps_after n (xs ++ ys) ≡ traps_after (traps_after n xs) ys
+traps_then n [] ys = refl
+traps_then n (x ∷ xs) ys = traps_then (if is_trap x then raised n else n) xs ys
+
+module _ (first mid left : Plan) (len between last : ℕ) (xs ys : List Event) (ms ns : List Mark) where
+  does_then : Does first len xs ms mid between → Does mid between ys ns left last → Does first len (xs ++ ys) (ms ++ ns) left last
+  does_then f g = record {
+    calls = f.calls ++ g.calls;
+    told = ap (λ (es : List Event). es ++ ys) f.told ∙ ap (λ (es : List Event). all_events first f.calls ++ es) (g.told ∙ ap (λ (p : Plan). all_events p g.calls) f.leaves) ∙ sym (events_then first f.calls g.calls);
+    marked = ap (λ (ks : List Mark). ks ++ ns) f.marked ∙ ap (λ (ks : List Mark). all_marks first f.calls ++ ks) (g.marked ∙ ap (λ (p : Plan). all_marks p g.calls) f.leaves) ∙ sym (marks_then first f.calls g.calls);
+    leaves = g.leaves ∙ ap (λ (p : Plan). after_all p g.calls) f.leaves ∙ sym (after_then first f.calls g.calls);
+    lengths = lengths_then first len between last f.calls g.calls f.lengths (subst (λ (p : Plan). InLength p between g.calls last) f.leaves g.lengths);
+  }
+
+pub moves_then : (g h k : GuestIn Doing) (xs ys : List Event) → Moves g xs h → Moves h ys k → Moves g (xs ++ ys) k
 moves_then g h k xs ys f e = record {
   new_marks = f.new_marks ++ e.new_marks;
-  does = does_then g.plan h.plan k.plan xs ys f.new_marks e.new_marks f.does e.does;
-  marks = e.marks ∙ ap (λ (ms : List Mark). ms ++ e.new_marks) f.marks ∙ append_assoc g.marks f.new_marks e.new_marks;
+  does = does_then g.guest.plan h.guest.plan k.guest.plan g.len h.len k.len xs ys f.new_marks e.new_marks f.does e.does;
+  marks = e.marks ∙ ap (λ (ms : List Mark). ms ++ e.new_marks) f.marks ∙ append_assoc g.guest.marks f.new_marks e.new_marks;
+  traps = e.traps ∙ ap (λ (n : ℕ). traps_after n ys) f.traps ∙ sym (traps_then g.guest.traps xs ys);
+  shortages = e.shortages ∙ f.shortages;
 }

@@ -150,7 +150,7 @@ impl ScriptedGuest {
         ensures counts { (self.new.traps ≡ self.old.traps) × (self.new.shortages ≡ self.old.shortages) }
         ensures lawful { IfOk result (λ answer. IsTrue (is_free (next_order self.old.plan.reallocs)) → ReallocLaw self.old.plan.allocator.live self.new.plan.allocator.live memory.old memory.new (call old old_size align new_size) answer) }
         ensures tidy { IfOk result (λ answer. IsTidy memory.old memory.new (new_block (call old old_size align new_size) answer)) }
-        ensures no_shorter { length memory.old ≤ length memory.new }
+        ensures same_length { length memory.new ≡ length memory.old }
     {
         if self.answers.reserve(1).is_err() {
             return Err(GuestFault::OutOfMemory);
@@ -177,7 +177,7 @@ impl Guest for ScriptedGuest {
 
     ghost moves = { λ g events h. Moves g events h };
 
-    ghost post_leaves = { λ m n. n ≡ m };
+    ghost leaves = { λ m n. n ≡ m };
 
     ghost stays = { λ g. moves_nothing g };
 

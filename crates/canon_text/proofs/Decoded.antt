@@ -1,13 +1,18 @@
 -- Texts out of bytes.
-use Rattle.std.proofs.Common.{IsUtf8, List, [], ap, arith, drop, flat_map, get_or, length, refl, sym, take, ℕ, ◌%◌, ◌++◌, ◌+◌, ◌/◌, ◌<◌, ◌∙◌, ◌∷◌, ◌≡◌, ◌≤◌}
-use Rattle.std.proofs.lemmas.List.{take_all, take_more}
+use Rattle.std.proofs.Common.{All, Err, IsUtf8, List, Ok, Result, [], ap, ⊎_elim, arith, drop, flat_map, get_or, length, refl, sym, take, ℕ, ◌%◌, ◌*◌, ◌++◌, ◌+◌, ◌/◌, ◌<◌, ◌∙◌, ◌∷◌, ◌≡◌, ◌≤◌}
+use Rattle.std.proofs.lemmas.Bool.{cases_lt}
+use Rattle.std.proofs.lemmas.List.{get_or_past, take_all, take_more}
+use Rattle.std.specs.Prelude.{OnErr}
 use Rattle.std.specs.Char.{encode_utf8}
 use Rattle.std.specs.Char.Escape.{encode_utf16}
 use Rattle.std.specs.Str.{IsAscii, encode_utf8_all}
 use Rattle.std.proofs.lemmas.Str.{encodes-IsAscii}
-use Rattle.canon_model.specs.Text.{in_latin1, in_utf16, in_utf8, unit_bytes}
-use Rattle.canon_text.specs.Decoding.{Decodes, units_in}
-use Rattle.canon_text.specs.Faults.{Begins}
+use Rattle.canon_model.specs.Text.{Spells, in_latin1, in_utf16, in_utf8, unit_bytes}
+use Rattle.canon_text.specs.Decoding.{Decodes, SpellsNothing, units_in}
+use Rattle.canon_text.specs.declared.error.TextError.{TextError}
+use Rattle.canon_text.specs.Laws.{Reads, UnitsOfBytes}
+use Rattle.canon_text.proofs.Lawful.{one_fault}
+use Rattle.canon_text.specs.Faults.{Begins, IllFormedAt, IsFirstFault, error_place}
 use Rattle.canon_text.proofs.Bytes.{latin1_from}
 use Rattle.canon_text.proofs.Pairs.{length-units_in, units-one, units_in-bytes}
 use Rattle.canon_text.proofs.Reading.{IsFront, front-all, front-more, front-nil}
@@ -59,3 +64,35 @@ decodes_ascii bytes text e a = record {
   spells = record { can = latin1_from bytes (λ k. let small : get_or bytes k 0 < 128 = a k in omega arith); is = refl };
   is = e ∙ sym (encodes-IsAscii bytes a);
 }
+
+-- ---- units and bytes
+units_in-spelled : (us : List ℕ) → units_in (flat_map unit_bytes us) ≡ us
+units_in-spelled [] = refl
+units_in-spelled (u ∷ us) =
+    let one : u % 256 + 256 * (u / 256) ≡ u = omega arith in
+    ap (λ x. x ∷ units_in (flat_map unit_bytes us)) one ∙ ap (λ l. u ∷ l) (units_in-spelled us)
+
+spelled_units : (bytes cs : List ℕ) → Spells in_utf16 bytes cs → Reads in_utf16 (units_in bytes) cs
+spelled_units bytes cs s = record { can = s.can; is = ap units_in (sym s.is) ∙ units_in-spelled (flat_map encode_utf16 cs) }
+
+small_bytes : (bytes : List ℕ) → All (λ b. b < 256) bytes → (k : ℕ) → get_or bytes k 0 < 256
+small_bytes bytes h k = ⊎_elim (λ lt. h k 0 lt) (λ le. omega (arith, get_or_past bytes k 0 le)) (cases_lt k (length bytes))
+
+pub units_of_bytes : UnitsOfBytes
+units_of_bytes bytes cs small even = (
+  λ s. spelled_units bytes cs s,
+  λ r. record { can = r.can; is = ap (λ us. flat_map unit_bytes us) (sym r.is) ∙ units_in-bytes bytes (small_bytes bytes small) even },
+)
+
+-- ---- refusals
+pub spells_nothing8 : (bytes : List ℕ) (e : TextError) → IsFirstFault in_utf8 bytes e → SpellsNothing in_utf8 bytes
+spells_nothing8 bytes e h cs s = one_fault.excludes in_utf8 bytes (error_place e) h.at (record { scalars = cs; can = s.can; is = sym s.is })
+
+pub spells_nothing16 : (bytes : List ℕ) (at : ℕ) → IllFormedAt in_utf16 (units_in bytes) at → SpellsNothing in_utf16 bytes
+spells_nothing16 bytes at h cs s =
+    let r = spelled_units bytes cs s in
+    one_fault.excludes in_utf16 (units_in bytes) at h (record { scalars = cs; can = r.can; is = r.is })
+
+pub on_err : {X E : Type 0} (r : Result X E) (P : Type 0) → P → OnErr r P
+on_err (Ok x) P p = tt
+on_err (Err e) P p = p

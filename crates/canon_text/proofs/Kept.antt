@@ -1,13 +1,13 @@
 -- The laws of whole conversions.
-use Rattle.std.proofs.Common.{Bool, List, ap, arith, cond, drop, false, flat_map, le-ltb, length, lt-ltb, nat_lt, not, refl, subst, sym, take, true, ℕ, ◌*◌, ◌++◌, ◌+◌, ◌-◌, ◌<◌, ◌^◌, ◌∙◌, ◌≡◌, ◌≤◌}
+use Rattle.std.proofs.Common.{Bool, List, ap, append_assoc, arith, cond, drop, false, flat_map, le-ltb, length, lt-ltb, nat_lt, not, refl, subst, sym, take, true, ℕ, ◌*◌, ◌++◌, ◌+◌, ◌-◌, ◌<◌, ◌^◌, ◌∙◌, ◌≡◌, ◌≤◌}
 use Rattle.std.proofs.lemmas.Grind.{flat_map-append}
-use Rattle.std.proofs.lemmas.List.{append-nil, drop_all, drop_at, length-append, take_at}
+use Rattle.std.proofs.lemmas.List.{append-nil, drop_all, drop_at, length-append, length-take-le, take_at}
 use Rattle.std.proofs.lemmas.Str.{encodes_same}
 use Rattle.std.specs.Str.{encode_utf8_all}
 use Rattle.canon_model.proofs.Passes.{can_spell-append, units-append}
 use Rattle.canon_model.proofs.Texts.{spells_same, units_determine}
 use Rattle.canon_model.specs.Text.{Form, Spells, all_latin1, can_spell, compact, in_latin1, in_utf16, in_utf8, is_tagged, spelling, text_bytes, text_form, unit_bytes, units}
-use Rattle.canon_text.specs.Answers.{Compacts, Converts, Narrows, Passed, compact_form, compact_length}
+use Rattle.canon_text.specs.Answers.{Compacts, Converts, Narrows, Passed, Widens, compact_form, compact_length}
 use Rattle.canon_text.specs.Laws.{CompactLengths, NarrowThenWide, Reads, ScalarsKept, WroteWide}
 use Rattle.canon_text.specs.Writing.{over}
 use Rattle.canon_text.proofs.Bytes.{latin1_scalars, latin1_units}
@@ -105,6 +105,39 @@ wrote_wide form source old new cs ds n h r s =
     let front : take (2 * n) new ≡ spelling in_utf16 h.scalars = ap (λ l. take (2 * n) l) h.writes ∙ take_at (spelling in_utf16 h.scalars) _ (2 * n) long in
     units_determine form cs h.scalars r.can h.can (sym r.is ∙ h.reads) ∙ wide_same form h.scalars ds h.can (subst (λ l. Spells in_utf16 l ds) front s)
 
+-- ---- behind a Latin-1 text
+wide_can : (form : Form) (cs : List ℕ) → can_spell form cs ≡ true → can_spell in_utf16 cs ≡ true
+wide_can in_utf8 cs h = h
+wide_can in_utf16 cs h = h
+wide_can in_latin1 cs h = latin1_scalars cs h
+
+-- so long is a Latin-1 text in UTF-16
+length-front : (so_far : ℕ) (old : List ℕ) → so_far ≤ length old → all_latin1 (take so_far old) ≡ true → length (spelling in_utf16 (take so_far old)) ≡ 2 * so_far
+length-front so_far old le latin1 = omega (arith, length-unit_bytes (units in_utf16 (take so_far old)), ap length (latin1_units (take so_far old) latin1), length-take-le so_far old le)
+
+widens : (form : Form) (source old new cs ds : List ℕ) (so_far n : ℕ) → Widens form source old new so_far n → so_far ≤ length old → all_latin1 (take so_far old) ≡ true → Reads form source cs → Spells in_utf16 (take (2 * (n - so_far)) (drop (2 * so_far) new)) ds → cs ≡ ds
+widens form source old new cs ds so_far n h le latin1 r s =
+    let first : List ℕ = spelling in_utf16 (take so_far old) in
+    let text : List ℕ = spelling in_utf16 h.scalars in
+    let rest : List ℕ = drop (length (first ++ text)) old in
+    let long : length text ≡ 2 * (n - so_far) = omega (arith, length-unit_bytes (units in_utf16 h.scalars), h.count) in
+    let behind : drop (2 * so_far) new ≡ text ++ rest =
+    ap (λ l. drop (2 * so_far) l) (h.writes ∙ append_assoc first text rest) ∙ drop_at first (text ++ rest) (2 * so_far) (length-front so_far old le latin1) in
+    let front : take (2 * (n - so_far)) (drop (2 * so_far) new) ≡ text = ap (λ l. take (2 * (n - so_far)) l) behind ∙ take_at text rest (2 * (n - so_far)) long in
+    units_determine form cs h.scalars r.can h.can (sym r.is ∙ h.reads) ∙ wide_same form h.scalars ds h.can (subst (λ l. Spells in_utf16 l ds) front s)
+
+widens_whole : (form : Form) (source old new cs ds : List ℕ) (so_far n : ℕ) → Widens form source old new so_far n → so_far ≤ length old → all_latin1 (take so_far old) ≡ true → Reads form source cs → Spells in_utf16 (take (2 * n) new) ds → take so_far old ++ cs ≡ ds
+widens_whole form source old new cs ds so_far n h le latin1 r s =
+    let es : List ℕ = take so_far old ++ h.scalars in
+    let text : List ℕ = spelling in_utf16 (take so_far old) ++ spelling in_utf16 h.scalars in
+    let whole : text ≡ spelling in_utf16 es = sym (spelling16-append (take so_far old) h.scalars) in
+    let long : length text ≡ 2 * n =
+    omega (arith, length-append (spelling in_utf16 (take so_far old)) (spelling in_utf16 h.scalars), length-front so_far old le latin1, length-unit_bytes (units in_utf16 h.scalars), h.count) in
+    let front : take (2 * n) new ≡ spelling in_utf16 es = ap (λ l. take (2 * n) l) h.writes ∙ take_at text _ (2 * n) long ∙ whole in
+    let can = can_spell-append in_utf16 (take so_far old) h.scalars (latin1_scalars (take so_far old) latin1) (wide_can form h.scalars h.can) in
+    ap (λ l. take so_far old ++ l) (units_determine form cs h.scalars r.can h.can (sym r.is ∙ h.reads))
+    ∙ spells_same in_utf16 (spelling in_utf16 es) es ds (record { can = can; is = refl }) (subst (λ l. Spells in_utf16 l ds) front s)
+
 compact_can : (cs : List ℕ) (b : Bool) → all_latin1 cs ≡ b → can_spell in_utf16 cs ≡ true → can_spell (cond b in_latin1 in_utf16) cs ≡ true
 compact_can cs true e h = e
 compact_can cs false e h = h
@@ -125,6 +158,8 @@ scalars_kept = record {
   passed = passed;
   narrows = narrows;
   wrote_wide = wrote_wide;
+  widens = widens;
+  widens_whole = widens_whole;
   compacts = compacts;
   decodes = λ form bytes text cs ds h s t. spells_same form bytes cs h.scalars s h.spells ∙ encodes_same h.scalars ds (sym h.is ∙ sym t.is);
 }

@@ -1,3 +1,4 @@
+pub mod Lending
 pub mod Written
 pub mod Pairs
 pub mod Reading

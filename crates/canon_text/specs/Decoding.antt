@@ -23,6 +23,15 @@ abbrev pub IsDecodeFault : Form → List ℕ → DecodeError → Type 0
 IsDecodeFault form source (Text e) = IsFirstFault form source e
 IsDecodeFault form source OutOfMemory = ⊤
 
+-- no scalar values are spelled by these bytes
+abbrev pub SpellsNothing : Form → List ℕ → Type 0
+SpellsNothing form bytes = (cs : List ℕ) → ¬ (Spells form bytes cs)
+
+-- an error other than want of memory says so
+abbrev pub IsNoText : Form → List ℕ → DecodeError → Type 0
+IsNoText form bytes (Text e) = SpellsNothing form bytes
+IsNoText form bytes OutOfMemory = ⊤
+
 -- bytes of a form and bytes of UTF-8 spell the same scalar values
 pub record Decodes (form : Form) (bytes text : List ℕ) : Type 0 where
   pub scalars : List ℕ

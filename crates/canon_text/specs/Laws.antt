@@ -1,10 +1,10 @@
 -- Laws over the definitions that the conversions' contracts name.
-use Rattle.std.specs.Prelude.{Bool, IsTrue, List, [], drop, false, length, take, ℕ, ◌*◌, ◌++◌, ◌<◌, ◌^◌, ◌≡◌, ◌≤◌}
+use Rattle.std.specs.Prelude.{All, Bool, IsTrue, List, [], drop, false, length, take, ℕ, ◌%◌, ◌*◌, ◌++◌, ◌-◌, ◌<◌, ◌^◌, ◌↔◌, ◌≡◌, ◌≤◌}
 use Rattle.std.specs.Str.{encode_utf8_all}
-use Rattle.canon_model.specs.Text.{Form, IsLeastTag, Spells, can_spell, compact, in_latin1, in_utf16, in_utf8, spelling, text_bytes, text_form, units}
+use Rattle.canon_model.specs.Text.{Form, IsLeastTag, Spells, all_latin1, can_spell, compact, in_latin1, in_utf16, in_utf8, spelling, text_bytes, text_form, units}
 use Rattle.canon_text.specs.declared.error.TextError.{TextError}
 use Rattle.canon_text.specs.Answers.{Compacts, Converts, Narrows, PassFails, Passed, Widens, compact_form, compact_length}
-use Rattle.canon_text.specs.Decoding.{Decodes}
+use Rattle.canon_text.specs.Decoding.{Decodes, units_in}
 use Rattle.canon_text.specs.Faults.{IllFormedAt, WellFormed, error_place}
 use Rattle.canon_text.specs.Writing.{over}
 
@@ -61,12 +61,19 @@ pub record Reads (form : Form) (source scalars : List ℕ) : Type 0 where
   pub can : IsTrue (can_spell form scalars)
   pub is : source ≡ units form scalars
 
--- A conversion that reads its whole source keeps the scalar values.
+-- Bytes spell a text in UTF-16 exactly where the units in them are those of the text.
+abbrev pub UnitsOfBytes : Type 0
+UnitsOfBytes = (bytes cs : List ℕ) → All (λ b. b < 256) bytes → length bytes % 2 ≡ 0 → Spells in_utf16 bytes cs ↔ Reads in_utf16 (units_in bytes) cs
+
+-- A conversion that reads its whole source keeps the scalar values. `widens` is what a conversion that goes on behind
+-- Latin-1 does alone, whatever stands before; `widens_whole` counts what stands before.
 pub record ScalarsKept : Type 0 where
   pub converts : (from to : Form) (source old new cs ds : List ℕ) (n : ℕ) → Converts from to source old new n → Reads from source cs → Reads to (take n new) ds → cs ≡ ds
   pub passed : (form : Form) (first : Bool) (source old new cs ds : List ℕ) (read written : ℕ) → Passed form first source old new read written → length source ≤ read → Reads form source cs → Reads in_utf8 (take written new) ds → cs ≡ ds
   pub narrows : (form : Form) (source old new cs ds : List ℕ) (read written : ℕ) → Narrows form source old new read written → length source ≤ read → Reads form source cs → Reads in_latin1 (take written new) ds → cs ≡ ds
   pub wrote_wide : (form : Form) (source old new cs ds : List ℕ) (n : ℕ) → WroteWide form source old new n → Reads form source cs → Spells in_utf16 (take (2 * n) new) ds → cs ≡ ds
+  pub widens : (form : Form) (source old new cs ds : List ℕ) (so_far n : ℕ) → Widens form source old new so_far n → so_far ≤ length old → IsTrue (all_latin1 (take so_far old)) → Reads form source cs → Spells in_utf16 (take (2 * (n - so_far)) (drop (2 * so_far) new)) ds → cs ≡ ds
+  pub widens_whole : (form : Form) (source old new cs ds : List ℕ) (so_far n : ℕ) → Widens form source old new so_far n → so_far ≤ length old → IsTrue (all_latin1 (take so_far old)) → Reads form source cs → Spells in_utf16 (take (2 * n) new) ds → take so_far old ++ cs ≡ ds
   pub compacts : (source new cs ds : List ℕ) (n : ℕ) → Compacts source new n → length source < 2 ^ 31 → Reads in_utf16 source cs → Spells (text_form compact n) (take (text_bytes compact n) new) ds → cs ≡ ds
   pub decodes : (form : Form) (bytes text cs ds : List ℕ) → Decodes form bytes text → Spells form bytes cs → Spells in_utf8 text ds → cs ≡ ds
 

@@ -1,7 +1,7 @@
 //! Conversions into "latin1+utf16", whose UTF-16 stands as bytes, the low byte of a unit first.
 
 ghost use Rattle.std.specs.Prelude.{◌≡◌, ◌+◌, ◌*◌, ◌%◌, ◌^◌, ◌<◌, ◌≤◌, ◌++◌, length, take, drop, flat_map, IsTrue, MatchResult};
-ghost use Rattle.std.specs.Borrow.{Array, LendsBoth, sem, u8};
+ghost use Rattle.std.specs.Borrow.{Array, Lends, LendsBoth, sem, u8};
 ghost use Rattle.canon_model.specs.Text.{all_latin1, in_utf16, in_utf8, unit_bytes};
 ghost use Rattle.canon_text.specs.Answers.{Compacts, Widens, bytes_before, inflated};
 ghost use Rattle.canon_text.specs.Faults.{IsFirstFault};
@@ -42,13 +42,16 @@ pub fn inflate_latin1_parts(dst: &mut [u8], latin1_bytes_so_far: u64) -> (&mut [
 }
 
 /// Makes units of the first bytes, which are Latin-1, in place, and hands out the rest
-/// (wasmtime's `inflate_latin1_bytes`). `inflate_latin1_parts` says what the first part becomes.
+/// (wasmtime's `inflate_latin1_bytes`). When the loan ends, `dst` is these units and what the rest became.
+/// A caller's generated proof learns that from `inflate_latin1_parts`.
 pub fn inflate_latin1_bytes(dst: &mut [u8], latin1_bytes_so_far: u64) -> &mut [u8]
     requires { 2 * latin1_bytes_so_far ≤ length dst.old }
-    ensures { result.now ≡ drop (2 * latin1_bytes_so_far) dst.old }
+    ensures* writes_back { sem 𝓛 (Lends (Array u8 0) (Array u8 0) dst.entry result (λ rest. inflated dst.old latin1_bytes_so_far ++ rest)) }
+    ensures rest { result.now ≡ drop (2 * latin1_bytes_so_far) dst.old }
 {
-    let (_, rest) = inflate_latin1_parts(dst, latin1_bytes_so_far);
-    rest
+    let count = latin1_bytes_so_far as usize;
+    inflate(dst, count);
+    &mut dst[2 * count..]
 }
 
 /// Makes the first bytes of `dst`, which are Latin-1, UTF-16 in place, and writes the source behind

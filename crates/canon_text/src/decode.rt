@@ -1,35 +1,37 @@
 //! Texts out of the bytes of an encoding.
 
-ghost use Rattle.std.specs.Prelude.{◌≡◌, ◌%◌, ◌↔◌, length, false, IsTrue, MatchResult, MatchOption};
+ghost use Rattle.std.specs.Prelude.{◌≡◌, ◌%◌, ◌↔◌, length, false, IfErr, IsTrue, MatchResult, MatchOption, OnErr};
 ghost use Rattle.std.specs.Str.{IsAscii};
 ghost use Rattle.canon_model.specs.Text.{in_latin1, in_utf16, in_utf8};
 ghost use Rattle.canon_text.specs.Faults.{IsFirstFault};
-ghost use Rattle.canon_text.specs.Decoding.{Decodes, IsDecodeFault, cow_text, is_borrowed, units_in};
+ghost use Rattle.canon_text.specs.Decoding.{Decodes, IsDecodeFault, IsNoText, SpellsNothing, cow_text, is_borrowed, units_in};
 
 use crate::cow::CowStr;
 use crate::error::{DecodeError, TextError};
 use crate::units::{char_in, utf16_len};
 use crate::utf8::text_of;
-use canon_types::OutOfMemory;
+use canon_indices::OutOfMemory;
 use std::alloc::Global;
 
 /// The text of UTF-8 bytes, which is borrowed (CanonicalABI.md, "load_string_from_range").
 pub fn decode_utf8(src: &[u8]) -> Result<CowStr<'_>, TextError>
-    ensures { MatchResult result
+    ensures answer { MatchResult result
         (λ t. Decodes in_utf8 src.now (cow_text t) × IsTrue (is_borrowed t))
         (λ e. IsFirstFault in_utf8 src.now e) }
+    ensures no_text { OnErr result (SpellsNothing in_utf8 src.now) }
 {
     let text = text_of(src)?;
     Ok(CowStr::Borrowed(text))
 }
 
 /// The text of UTF-16 bytes, whose units stand with the low byte first. It is owned, and the place
-/// of a fault counts units (CanonicalABI.md, "load_string_from_range").
+/// of a fault counts units. It refuses exactly what isn't UTF-16 (CanonicalABI.md, "load_string_from_range").
 pub fn decode_utf16(alloc: Global, src: &[u8]) -> Result<CowStr<'_>, DecodeError>
     requires { length src.now % 2 ≡ 0 }
-    ensures { MatchResult result
+    ensures answer { MatchResult result
         (λ t. Decodes in_utf16 src.now (cow_text t) × (is_borrowed t ≡ false))
         (λ e. IsDecodeFault in_utf16 (units_in src.now) e) }
+    ensures no_text { IfErr result (λ e. IsNoText in_utf16 src.now e) }
 {
     let mut text = String::new(alloc);
     let count = src.len() / 2;

@@ -1,6 +1,6 @@
 //! Laws over the definitions that the conversions' contracts name.
 
-ghost use Rattle.canon_text.specs.Laws.{CompactLengths, NarrowThenWide, OneAnswer, OneFault, PassReads, PassRefuses, PassesWrite, ScalarsKept};
+ghost use Rattle.canon_text.specs.Laws.{CompactLengths, NarrowThenWide, OneAnswer, OneFault, PassReads, PassRefuses, PassesWrite, ScalarsKept, UnitsOfBytes};
 
 /// A source has one first fault, or it is a text.
 pub fn one_fault()
@@ -30,6 +30,11 @@ pub fn narrow_then_wide()
 /// A compact text's length names its form and its bytes, and is tagged only where it must be.
 pub fn compact_lengths()
     ensures { CompactLengths }
+{}
+
+/// Bytes spell a text in UTF-16 exactly where the units in them are those of the text.
+pub fn units_of_bytes()
+    ensures { UnitsOfBytes }
 {}
 
 /// A conversion that reads its whole source keeps the scalar values.

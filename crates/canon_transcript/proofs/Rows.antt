@@ -8,7 +8,7 @@ use Rattle.canon_value.specs.declared.val.Val.TheFolds.{fold-roll-Val}
 use Rattle.canon_value.specs.declared.val.Val.TheOpen.{Val-F}
 use Rattle.canon_value.specs.declared.val.Val.TheVariants as val
 use Rattle.canon_value.specs.declared.val.Val.TheVariants.{rolls-FixedLengthList, rolls-List, rolls-Record, rolls-String, rolls-Tuple}
-use Rattle.canon_transcript.specs.Text.{fields_text, joined, layer_text, named, quoted, row_text, value_text}
+use Rattle.canon_transcript.specs.Text.{fields_text, joined, layer_text, labelled, quoted, row_text, value_text}
 
 -- what stands before an element: nothing, or a comma
 abbrev pub lead : Bool → List ℕ
@@ -31,7 +31,7 @@ row_begins f xs text text2 before e = ap (λ s. s ++ row f [] xs) e ∙ ap (λ s
 pub value_of_record : (fields : Vec (String Global × Val) Global) → value_text (val.Record fields) ≡ fields_text fields.items
 value_of_record fields =
     ap value_text (sym (rolls-Record fields)) ∙ (fold-roll-Val (List ℕ) layer_text (Val-F.Record fields)
-    ∙ ap (λ texts. codes "{" ++ joined texts ++ codes "}") (map-map named (λ field. (field.0, value_text field.1)) fields.items))
+    ∙ ap (λ texts. codes "{" ++ joined texts ++ codes "}") (map-map labelled (λ field. (field.0, value_text field.1)) fields.items))
 
 pub value_of_tuple : (parts : Vec Val Global) → value_text (val.Tuple parts) ≡ row_text (codes "(") parts.items (codes ")")
 value_of_tuple parts = ap value_text (sym (rolls-Tuple parts)) ∙ fold-roll-Val (List ℕ) layer_text (Val-F.Tuple parts)

@@ -5,29 +5,29 @@ use Rattle.canon_memory.specs.declared.event.Event.TheVariants as event
 use Rattle.canon_transcript.specs.declared.blocks.Block.{Block}
 
 -- the block of an answer, where it isn't empty
-abbrev pub answered : ℕ → ℕ → List Block
-answered start size = if size == 0 then [] else record { start = start; size = size } ∷ []
+abbrev pub answered_block : ℕ → ℕ → List Block
+answered_block start size = if size == 0 then [] else record { start = start; size = size } ∷ []
 
 abbrev pub is_at : ℕ → ℕ → Block → Bool
 is_at start size b = b.start == start && b.size == size
 
 -- these in the place of the first block that starts there and has that size, or at the end where there is none
-abbrev pub put : ℕ → ℕ → List Block → List Block → List Block
-put start size new [] = new
-put start size new (b ∷ bs) = if is_at start size b then new ++ bs else b ∷ put start size new bs
+abbrev pub put_block : ℕ → ℕ → List Block → List Block → List Block
+put_block start size new [] = new
+put_block start size new (b ∷ bs) = if is_at start size b then new ++ bs else b ∷ put_block start size new bs
 
 -- a request without an old block adds the block of its answer; one with an old block puts it in the place of that
-abbrev pub after : List Block → Event → List Block
-after bs (event.Realloc old old_size align new_size answer) =
-    if old_size == 0 then bs ++ answered answer new_size else put old old_size (answered answer new_size) bs
-after bs (event.Start func words memory) = bs
-after bs (event.Ask index words memory) = bs
-after bs (event.Resume words memory) = bs
-after bs (event.Return words memory) = bs
-after bs (event.Post func words) = bs
-after bs (event.Dtor func rep) = bs
-after bs (event.Trap asked len) = bs
+abbrev pub blocks_after : List Block → Event → List Block
+blocks_after bs (event.Realloc old old_size align new_size answer) =
+    if old_size == 0 then bs ++ answered_block answer new_size else put_block old old_size (answered_block answer new_size) bs
+blocks_after bs (event.Start func words memory) = bs
+blocks_after bs (event.Ask index words memory) = bs
+blocks_after bs (event.Resume words memory) = bs
+blocks_after bs (event.Return words memory) = bs
+blocks_after bs (event.Post func words) = bs
+blocks_after bs (event.Dtor func rep) = bs
+blocks_after bs (event.Trap asked len) = bs
 
 -- the blocks that these events leave, in order
-abbrev pub blocks_of : List Event → List Block
-blocks_of events = fold after [] events
+abbrev pub blocks_left : List Event → List Block
+blocks_left events = fold blocks_after [] events

@@ -22,7 +22,7 @@ use Rattle.canon_transcript.specs.declared.transcript.Head.TheVariants as head
 use Rattle.canon_transcript.specs.declared.transcript.Answer.{Answer}
 use Rattle.canon_transcript.specs.declared.transcript.Answer.TheVariants as answer
 use Rattle.canon_transcript.specs.declared.transcript.Record.{Record}
-use Rattle.canon_transcript.specs.Blocks as blocks
+use Rattle.canon_transcript.specs.Blocks.{blocks_after}
 
 -- the end of a line
 abbrev pub end : List ℕ
@@ -58,8 +58,8 @@ abbrev pub joined : List (List ℕ) → List ℕ
 joined texts = join_with_byte 0x2C texts
 
 -- a field's name and the text of its value
-abbrev pub named : String Global × List ℕ → List ℕ
-named field = name_text (string_bytes field.0) ++ codes ":" ++ field.1
+abbrev pub labelled : String Global × List ℕ → List ℕ
+labelled field = name_text (string_bytes field.0) ++ codes ":" ++ field.1
 
 -- the text of one layer of a value, which has the texts of its members in their place
 abbrev pub layer_text : Val-F (List ℕ) → List ℕ
@@ -77,7 +77,7 @@ layer_text (Val-F.Float64 bits) = codes "f64:" ++ hexadecimal 16 bits
 layer_text (Val-F.Char c) = codes "'" ++ escaped c ++ codes "'"
 layer_text (Val-F.String s) = quoted (string_bytes s)
 layer_text (Val-F.List items) = codes "[" ++ joined items.items ++ codes "]"
-layer_text (Val-F.Record fields) = codes "{" ++ joined (map named fields.items) ++ codes "}"
+layer_text (Val-F.Record fields) = codes "{" ++ joined (map labelled fields.items) ++ codes "}"
 layer_text (Val-F.Tuple parts) = codes "(" ++ joined parts.items ++ codes ")"
 layer_text (Val-F.FixedLengthList items) = codes "[" ++ joined items.items ++ codes "]"
 
@@ -86,7 +86,7 @@ value_text = fold-Val (List ℕ) layer_text
 
 -- a field, and the texts of a record of these fields and of values in a row between these brackets
 abbrev pub field_text : String Global × Val → List ℕ
-field_text field = named (field.0, value_text field.1)
+field_text field = labelled (field.0, value_text field.1)
 
 abbrev pub fields_text : List (String Global × Val) → List ℕ
 fields_text fields = codes "{" ++ joined (map field_text fields) ++ codes "}"
@@ -167,7 +167,7 @@ event_text bs (event.Trap asked len) = codes "trap" ++ end
 -- the lines of events, where those before them left these blocks
 abbrev pub events_text : List Block → List Event → List ℕ
 events_text bs [] = []
-events_text bs (e ∷ es) = event_text bs e ++ events_text (blocks.after bs e) es
+events_text bs (e ∷ es) = event_text bs e ++ events_text (blocks_after bs e) es
 
 -- ---- records
 

@@ -5,7 +5,7 @@ ghost use Rattle.canon_transcript.specs.Blocks as spec;
 use canon_memory::Event;
 use std::alloc::{AllocError, Global};
 
-/// A block that a `realloc` answered: its first address, and its size in bytes.
+/// A block that a `realloc` answered_block: its first address, and its size in bytes.
 #[derive(Clone, Copy)]
 pub(crate) struct Block {
     pub start: u64,
@@ -13,8 +13,8 @@ pub(crate) struct Block {
 }
 
 /// The blocks that events leave, in order.
-pub(crate) fn blocks_of(alloc: Global, events: &[Event]) -> Result<Vec<Block>, AllocError>
-    ensures { IfOk result (λ blocks. blocks.items ≡ spec.blocks_of events.now) }
+pub(crate) fn blocks_left(alloc: Global, events: &[Event]) -> Result<Vec<Block>, AllocError>
+    ensures { IfOk result (λ blocks. blocks.items ≡ spec.blocks_left events.now) }
 {
     let mut blocks = Vec::new(alloc);
     for event in events {
@@ -25,7 +25,7 @@ pub(crate) fn blocks_of(alloc: Global, events: &[Event]) -> Result<Vec<Block>, A
 
 /// Goes on from the blocks before an event to those after it.
 pub(crate) fn follow(blocks: &mut Vec<Block>, event: &Event) -> Result<(), AllocError>
-    ensures { OnOk result (blocks.new.items ≡ spec.after blocks.old.items event.now) }
+    ensures { OnOk result (blocks.new.items ≡ spec.blocks_after blocks.old.items event.now) }
 {
     let Event::Realloc {
         old,
@@ -48,12 +48,12 @@ pub(crate) fn follow(blocks: &mut Vec<Block>, event: &Event) -> Result<(), Alloc
     if old.size == 0 {
         return add(blocks, new);
     }
-    put(blocks, old, new)
+    put_block(blocks, old, new)
 }
 
 /// Adds a block at the end, unless it is empty.
 fn add(blocks: &mut Vec<Block>, new: Block) -> Result<(), AllocError>
-    ensures { OnOk result (blocks.new.items ≡ blocks.old.items ++ spec.answered new.start new.size) }
+    ensures { OnOk result (blocks.new.items ≡ blocks.old.items ++ spec.answered_block new.start new.size) }
 {
     if new.size > 0 {
         blocks.push(new)?;
@@ -63,8 +63,8 @@ fn add(blocks: &mut Vec<Block>, new: Block) -> Result<(), AllocError>
 
 /// Puts a block in the place of an old one, or takes that out where the new one is empty. Where the old one isn't
 /// there, adds the new one.
-fn put(blocks: &mut Vec<Block>, old: Block, new: Block) -> Result<(), AllocError>
-    ensures { OnOk result (blocks.new.items ≡ spec.put old.start old.size (spec.answered new.start new.size) blocks.old.items) }
+fn put_block(blocks: &mut Vec<Block>, old: Block, new: Block) -> Result<(), AllocError>
+    ensures { OnOk result (blocks.new.items ≡ spec.put_block old.start old.size (spec.answered_block new.start new.size) blocks.old.items) }
 {
     let Some(i) = place_of(blocks, old) else {
         return add(blocks, new);

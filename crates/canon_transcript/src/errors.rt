@@ -2,7 +2,7 @@ ghost use Rattle.std.specs.Prelude.{◌≡◌, ◌++◌, IfOk, OnOk, string_byte
 ghost use Rattle.canon_transcript.specs.Text as spec;
 
 use canon_func::Error;
-use canon_types::OutOfMemory;
+use canon_indices::OutOfMemory;
 use canon_value::{At, Fault};
 use std::alloc::{AllocError, Global};
 

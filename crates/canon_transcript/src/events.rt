@@ -1,22 +1,22 @@
 ghost use Rattle.std.specs.Prelude.{[], ◌≡◌, ◌<◌, ◌++◌, IfOk, IfSome, OnOk, drop, length, string_bytes, take};
 ghost use Rattle.std.specs.List.{slice_get};
-ghost use Rattle.canon_transcript.specs.Blocks.{blocks_of};
+ghost use Rattle.canon_transcript.specs.Blocks.{blocks_left};
 ghost use Rattle.canon_transcript.specs.Text as spec;
 
-use crate::blocks::{Block, blocks_of, follow};
+use crate::blocks::{Block, blocks_left, follow};
+use canon_indices::OutOfMemory;
 use canon_memory::{Event, Events, Words};
-use canon_types::OutOfMemory;
 use std::alloc::{AllocError, Global};
 
 /// The lines of event `k` of these, a start's blocks among them. Answers OutOfMemory alone.
 pub fn event_text(alloc: Global, e: &Events, k: u64) -> Result<String, OutOfMemory>
     requires { k < length e.now }
-    ensures { IfOk result (λ text. IfSome (slice_get e.now k) (λ event. string_bytes text ≡ spec.event_text (blocks_of (take k e.now)) event)) }
+    ensures { IfOk result (λ text. IfSome (slice_get e.now k) (λ event. string_bytes text ≡ spec.event_text (blocks_left (take k e.now)) event)) }
 {
     let mut text = String::new(alloc);
     let events = e.as_slice();
     let k = k as usize;
-    let blocks = blocks_of(alloc, &events[..k])?;
+    let blocks = blocks_left(alloc, &events[..k])?;
     print_event(alloc, &mut text, &blocks, &events[k])?;
     Ok(text)
 }

@@ -5,7 +5,7 @@ use crate::errors::print_error;
 use crate::events::print_events;
 use crate::values::print_values;
 use crate::{Answer, Head, Record, Transcript};
-use canon_types::OutOfMemory;
+use canon_indices::OutOfMemory;
 use std::alloc::{AllocError, Global};
 
 /// The text of a transcript. Answers OutOfMemory alone.

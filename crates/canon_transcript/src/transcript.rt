@@ -2,8 +2,8 @@ ghost use Rattle.std.specs.Prelude.{◌≡◌, List, [], ◌∷◌, ◌++◌, On
 ghost use Rattle.canon_transcript.specs.declared.transcript.Record.{Record};
 
 use canon_func::Error;
+use canon_indices::OutOfMemory;
 use canon_memory::Events;
-use canon_types::OutOfMemory;
 use canon_value::Val;
 use std::alloc::Global;
 use std::marker::Model;

@@ -1,7 +1,7 @@
 ghost use Rattle.std.specs.Prelude.{[], if◌then◌else◌, ◌≡◌, ◌++◌, IfOk, OnOk, codes, flat_map, string_bytes};
 ghost use Rattle.canon_transcript.specs.Text as spec;
 
-use canon_types::OutOfMemory;
+use canon_indices::OutOfMemory;
 use canon_value::Val;
 use std::alloc::{AllocError, Global};
 

@@ -1,15 +1,28 @@
-//! The numbers that name types, options and instances, and the canonical options.
+//! The types of values and functions, and the tables that hold them.
 #![tactic(auto)]
 
 mod error;
-mod index;
-mod options;
+mod instance;
+mod resource;
+mod table;
+mod types;
 
-pub use error::OutOfMemory;
-pub use index::{
-    ExportIndex, OptionsIndex, RuntimeInstance, StoreId, TypeEnumIndex, TypeFixedLengthListIndex,
-    TypeFlagsIndex, TypeFuncIndex, TypeFutureTableIndex, TypeListIndex, TypeMapIndex,
-    TypeOptionIndex, TypeRecordIndex, TypeResourceTableIndex, TypeResultIndex,
-    TypeStreamTableIndex, TypeTupleIndex, TypeVariantIndex,
+pub use canon_abi::{
+    CanonicalAbiInfo, DiscriminantSize, FlagsSize, MAX_FLAT_PARAMS, MAX_FLAT_RESULTS, VariantInfo,
 };
-pub use options::{CanonicalOptions, StringEncoding};
+pub use canon_indices::{
+    CanonicalOptions, ExportIndex, OptionsIndex, OutOfMemory, RuntimeInstance, StoreId,
+    StringEncoding, TypeEnumIndex, TypeFixedLengthListIndex, TypeFlagsIndex, TypeFuncIndex,
+    TypeFutureTableIndex, TypeListIndex, TypeMapIndex, TypeOptionIndex, TypeRecordIndex,
+    TypeResourceTableIndex, TypeResultIndex, TypeStreamTableIndex, TypeTupleIndex,
+    TypeVariantIndex,
+};
+pub use error::TypeError;
+pub use instance::InstanceType;
+pub use resource::{HostType, ResourceType};
+pub use table::{ComponentTypes, TypeBuilder};
+pub use types::{
+    InterfaceType, RecordField, ResourceKind, TypeEnum, TypeFixedLengthList, TypeFlags, TypeFunc,
+    TypeList, TypeMap, TypeOption, TypeRecord, TypeResourceTable, TypeResult, TypeTuple,
+    TypeVariant,
+};

@@ -1,17 +1,18 @@
 -- How values are stored one after another: each at its place of memory, and its fault, if it fails, at its place among the
 -- values. A core goes from one to another.
-use Rattle.std.specs.Prelude.{◌≡◌, ◌+◌, ◌<◌, ◌^◌, ◌⊎◌, Err, IfOk, List, Ok, Result, [], ◌∷◌, length, ℕ}
-use Rattle.canon_lowering.specs.Args.{Lowered}
-use Rattle.canon_lowering.specs.Storing.{MembersStoring, RowStoring, Storing}
-use Rattle.canon_memory.specs.Guest.{Seen}
+use Rattle.std.specs.Prelude.{◌≡◌, ◌≤◌, ◌+◌, ◌<◌, ◌^◌, ◌⊎◌, Err, IfOk, List, Ok, Result, [], ◌∷◌, false, length, ℕ}
+use Rattle.canon_lowering.specs.Lowering.{Reallocated}
+use Rattle.canon_model.specs.Requests.{Call}
+use Rattle.canon_lowering.specs.Attempt.{LowersValue, StoresMembers, StoresValue}
+use Rattle.canon_memory.specs.Guest.{GuestIn, Seen}
 use Rattle.canon_memory.specs.declared.event.Event.{Event}
 use Rattle.canon_model.specs.Shape.{Members, Name, Shape}
-use Rattle.canon_value.specs.Core.{Parts, encoding_by, moment_of}
-use Rattle.canon_value.specs.Fails.{Blames, Failure, FailsAt, MemberFails, SomeFails}
-use Rattle.canon_value.specs.Lowers.{ending_of}
+use Rattle.canon_value.specs.Core.{Parts, encoding_by, guest_of, moment_of}
+use Rattle.canon_value.specs.Fails.{Blames, Failure, FailsAt, MemberFails}
+use Rattle.canon_value.specs.Lowers.{answer_of, ending_of}
 use Rattle.canon_value.specs.Moves.{Moves}
 use Rattle.canon_value.specs.Quiet.{Quiet, has_block, have_block}
-use Rattle.canon_value.specs.Value.{EachHas, HasTree, HaveTrees, all_places, cap, member_names, places}
+use Rattle.canon_value.specs.Value.{HasTree, HaveTrees, all_places, cap, member_names, places}
 use Rattle.canon_value.specs.declared.blocks.Placed.{Placed}
 use Rattle.canon_value.specs.declared.fault.Fault.{Fault}
 use Rattle.canon_value.specs.declared.fault.Fault.TheVariants as fault
@@ -40,43 +41,34 @@ abbrev pub placed_next : Result Placed Fault → Result ℕ Fault
 placed_next (Ok b) = Ok b.next
 placed_next (Err e) = Err e
 
-module _ {T G : Type 0} (seen : G → Seen) (moves : G → List Event → G → Type 0) (options : ℕ) (before after : Parts T G) where
+-- a block was asked for by this call
+pub record AsksFor {T G : Type 0} (seen : G → Seen) (moves : GuestIn G → List Event → GuestIn G → Type 0) (before after : Parts T G) (c : Call) (result : Result ℕ Fault) : Type 0 where
+  pub does : Reallocated (moment_of seen before) (moment_of seen after) c (ending_of result) (answer_of result)
+  pub moved : Moves seen moves (guest_of before) (guest_of after) (ending_of result)
+  pub same : SameBut before after
+  pub small : length after.memory ≤ 2 ^ 32
+
+module _ {T G : Type 0} (seen : G → Seen) (moves : GuestIn G → List Event → GuestIn G → Type 0) (options : ℕ) (before after : Parts T G) where
   -- a value of the shape s at the address `at`
   pub record StoresTo (s : Shape) (at : ℕ) (v : Val) (from : ℕ) (result : Result ℕ Fault) : Type 0 where
-    pub storing : Storing (moment_of seen before) (moment_of seen after) (encoding_by before options) s at (HasTree s v) (ending_of result)
+    pub storing : StoresValue false (moment_of seen before) (moment_of seen after) (encoding_by before options) s at (HasTree s v) (ending_of result)
     pub counted : Counts (λ how k. FailsAt how s v k) from (places v) result
-    pub moved : Moves seen moves before.guest after.guest (ending_of result)
+    pub moved : Moves seen moves (guest_of before) (guest_of after) (ending_of result)
     pub same : SameBut before after
-    pub quiet : Quiet (has_block s) result
+    pub quiet : Quiet (has_block s) (after.guest ≡ before.guest) result
 
-  -- values in a row as the members of a product at `at`, where the one before them ends at offset o
-  pub record MembersStoreTo (ms : Members) (o at : ℕ) (vs : List Val) (from : ℕ) (result : Result ℕ Fault) : Type 0 where
-    pub storing : MembersStoring (moment_of seen before) (moment_of seen after) (encoding_by before options) ms o at (HaveTrees ms vs) (ending_of result)
-    pub counted : Counts (λ how k. MemberFails how ms vs k) from (all_places vs) result
-    pub moved : Moves seen moves before.guest after.guest (ending_of result)
-    pub same : SameBut before after
-    pub quiet : Quiet (have_block ms) result
-
-  -- the fields of a record that has this place
-  pub record FieldsStoreTo (place : ℕ) (ms : Members) (o at : ℕ) (names : List Name) (vs : List Val) (from : ℕ) (result : Result ℕ Fault) : Type 0 where
-    pub storing : MembersStoring (moment_of seen before) (moment_of seen after) (encoding_by before options) ms o at (λ ts. (names ≡ member_names ms) × HaveTrees ms vs ts) (ending_of result)
+  -- values in a row as members at `at`, where the one before them ends at offset o; the names of a record that has this place are tested
+  pub record PartsStoreTo (place : ℕ) (ms : Members) (o at : ℕ) (names : List Name) (vs : List Val) (from : ℕ) (result : Result ℕ Fault) : Type 0 where
+    pub storing : StoresMembers false (moment_of seen before) (moment_of seen after) (encoding_by before options) ms o at (λ ts. (names ≡ member_names ms) × HaveTrees ms vs ts) (ending_of result)
     pub counted : FieldsCount place ms names vs from result
-    pub moved : Moves seen moves before.guest after.guest (ending_of result)
+    pub moved : Moves seen moves (guest_of before) (guest_of after) (ending_of result)
     pub same : SameBut before after
-    pub quiet : Quiet (have_block ms) result
-
-  -- values of one type in a row
-  pub record RowStoresTo (s : Shape) (at : ℕ) (vs : List Val) (from : ℕ) (result : Result ℕ Fault) : Type 0 where
-    pub storing : RowStoring (moment_of seen before) (moment_of seen after) (encoding_by before options) s at (length vs) (EachHas (λ v t. HasTree s v t) vs) (ending_of result)
-    pub counted : Counts (λ how k. SomeFails (λ v i. FailsAt how s v i) vs k) from (all_places vs) result
-    pub moved : Moves seen moves before.guest after.guest (ending_of result)
-    pub same : SameBut before after
-    pub quiet : Quiet (has_block s) result
+    pub quiet : Quiet (have_block ms) (after.guest ≡ before.guest) result
 
   -- a text or a list in a block of its own, which a pointer and a length tell
   pub record PlacesTo (s : Shape) (v : Val) (from : ℕ) (result : Result Placed Fault) : Type 0 where
-    pub lowered : Lowered (moment_of seen before) (moment_of seen after) (encoding_by before options) s (HasTree s v) (placed_words result) (ending_of result)
+    pub lowered : LowersValue false (moment_of seen before) (moment_of seen after) (encoding_by before options) s (placed_words result) 0 (HasTree s v) (ending_of result)
     pub narrow : IfOk result (λ b. (b.pointer < 2 ^ 32) × (b.length < 2 ^ 32))
     pub counted : Counts (λ how k. FailsAt how s v k) from (places v) (placed_next result)
-    pub moved : Moves seen moves before.guest after.guest (ending_of result)
+    pub moved : Moves seen moves (guest_of before) (guest_of after) (ending_of result)
     pub same : SameBut before after

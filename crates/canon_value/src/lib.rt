@@ -13,14 +13,14 @@ pub mod laws;
 mod lift;
 mod load;
 mod lower;
+mod members;
+mod plan;
+mod rebuild;
 mod results;
 mod scalar_bytes;
 mod store;
-#[cfg(test)]
-mod tests_load;
-#[cfg(test)]
-mod tests_store;
 mod val;
+mod view;
 
 pub use args::lower_args;
 pub use built::is_built;

@@ -1,29 +1,30 @@
-ghost use Rattle.std.specs.Prelude.{◌≡◌, ◌≤◌, ◌<◌, ◌+◌, ◌*◌, ◌%◌, ◌^◌, false, IfErr, length};
+ghost use Rattle.std.specs.Prelude.{◌≡◌, ◌≤◌, ◌<◌, ◌+◌, ◌*◌, ◌%◌, ◌^◌, false, IfErr, Ok, length};
 ghost use Rattle.canon_lowering.specs.Steps.{Writes};
-ghost use Rattle.canon_lowering.specs.Storing.{IsPair, Storing, narrow};
+ghost use Rattle.canon_lowering.specs.Attempt.{StoresValue};
+ghost use Rattle.canon_lowering.specs.Storing.{IsPair, narrow};
 ghost use Rattle.canon_memory.specs.Realloc.{block};
 ghost use Rattle.canon_model.specs.Layout.{align, members_end, size};
 ghost use Rattle.canon_model.specs.Memory.{num};
 ghost use Rattle.canon_model.specs.Shape.{list, member_count, of_items, string};
-ghost use Rattle.canon_table.specs.Depth.{product_members};
-ghost use Rattle.canon_table.specs.Table.{HasTuple, Knows, shape_of, tuple_members, types_of as member_types};
-ghost use Rattle.canon_value.specs.Built.{AreBuilt, IsBuilt, IsScalarType};
-ghost use Rattle.canon_value.specs.Core.{encoding_by, moment_of, types_of};
+ghost use Rattle.canon_types.specs.Table.{Knows, shape_of};
+ghost use Rattle.canon_value.specs.Built.{AreBuilt, IsBuilt};
+ghost use Rattle.canon_value.specs.Core.{encoding_by, guest_of, moment_of, types_of};
 ghost use Rattle.canon_value.specs.Fails.{BlamesValue};
 ghost use Rattle.canon_value.specs.Lowers.{ending_of};
 ghost use Rattle.canon_value.specs.Moves.{Moves};
 ghost use Rattle.canon_value.specs.Quiet.{Quiet, has_block};
-ghost use Rattle.canon_value.specs.Stores.{FieldsStoreTo, MembersStoreTo, PlacesTo, RowStoresTo, SameBut, StoresTo};
+ghost use Rattle.canon_value.specs.Stores.{PartsStoreTo, PlacesTo, SameBut, StoresTo};
 ghost use Rattle.canon_value.specs.declared.val.Val.TheVariants as val;
-ghost use Rattle.canon_value.specs.Value.{HasTree, cap, names_in, values_in};
+ghost use Rattle.canon_value.specs.Value.{HasTree};
+ghost use Rattle.canon_value.specs.View.{AreKnown, names_of, shapes_of, values_of};
+ghost use Rattle.canon_value.specs.Words.{IsWordOf};
 
-use crate::blocks::{Placed, block_size, place_text};
-use crate::lower::scalar_word;
+use crate::blocks::{Placed, ask_items, block_size, place_text};
+use crate::members::{Members, count_of, member_of};
+use crate::view::{View, view_of};
 use crate::{Fault, LowerContext, Val};
 use canon_memory::Guest;
-use canon_table::{
-    InterfaceType, TypeFixedLengthListIndex, TypeListIndex, TypeRecordIndex, TypeTupleIndex,
-};
+use canon_types::InterfaceType;
 
 impl Val {
     /// Stores the value at an address of the guest's memory (CanonicalABI.md, "store"). Answers `TypeMismatch`,
@@ -40,11 +41,11 @@ impl Val {
         requires built { IsBuilt (shape_of (types_of cx.old.core.now) ty) }
         requires aligned { offset % align false (shape_of (types_of cx.old.core.now) ty) ≡ 0 }
         requires room { offset + size false (shape_of (types_of cx.old.core.now) ty) ≤ length cx.old.core.now.memory }
-        ensures stored { Storing (moment_of G.seen cx.old.core.now) (moment_of G.seen cx.new.core.now) (encoding_by cx.old.core.now cx.old.options)
+        ensures stored { StoresValue false (moment_of G.seen cx.old.core.now) (moment_of G.seen cx.new.core.now) (encoding_by cx.old.core.now cx.old.options)
             (shape_of (types_of cx.old.core.now) ty) offset (HasTree (shape_of (types_of cx.old.core.now) ty) self.now) (ending_of result) }
         ensures cause { IfErr result (BlamesValue (shape_of (types_of cx.old.core.now) ty) self.now) }
-        ensures quiet { Quiet (has_block (shape_of (types_of cx.old.core.now) ty)) result }
-        ensures moves { Moves G.seen G.moves cx.old.core.now.guest cx.new.core.now.guest (ending_of result) }
+        ensures quiet { Quiet (has_block (shape_of (types_of cx.old.core.now) ty)) (cx.new.core.now.guest ≡ cx.old.core.now.guest) result }
+        ensures moves { Moves G.seen G.moves (guest_of cx.old.core.now) (guest_of cx.new.core.now) (ending_of result) }
         ensures same_core { SameBut cx.old.core.now cx.new.core.now }
         ensures same_reference { cx.new.core.ghost_name ≡ cx.old.core.ghost_name }
         ensures same_options { cx.new.options ≡ cx.old.options }
@@ -74,60 +75,70 @@ pub(crate) fn store_value<T, G: Guest>(
     ensures same_reference { cx.new.core.ghost_name ≡ cx.old.core.ghost_name }
     ensures same_options { cx.new.options ≡ cx.old.options }
 {
-    match ty {
-        InterfaceType::Record(i) => store_record(cx, value, i, at, place),
-        InterfaceType::Tuple(i) => store_tuple(cx, value, i, at, place),
-        InterfaceType::String => store_text(cx, value, at, place),
-        InterfaceType::List(i) => store_list(cx, value, i, at, place),
-        InterfaceType::FixedLengthList(i) => store_fixed(cx, value, i, at, place),
-        _ => store_scalar(cx, value, ty, at, place),
-    }
-}
-
-fn store_text<T, G: Guest>(
-    cx: &mut LowerContext<'_, T, G>,
-    value: &Val,
-    at: u64,
-    place: u64,
-) -> Result<u64, Fault>
-    requires small { length cx.old.core.now.memory ≤ 2 ^ 32 }
-    requires room { at + 8 ≤ length cx.old.core.now.memory }
-    ensures stores { StoresTo G.seen G.moves cx.old.options cx.old.core.now cx.new.core.now string at value.now place result }
-    ensures same_reference { cx.new.core.ghost_name ≡ cx.old.core.ghost_name }
-    ensures same_options { cx.new.options ≡ cx.old.options }
-{
-    let Val::String(text) = value else {
-        return Err(Fault::TypeMismatch(place));
-    };
-    match place_text(cx, text, place) {
-        Ok(block) => {
-            put_pair(cx.core.as_slice_mut(), at, block.pointer, block.length);
-            Ok(block.next)
+    match view_of(cx.types(), &ty, value, place) {
+        Ok(View::Scalar(word)) => Ok(store_word(cx, word, value, ty, at, place)),
+        Ok(View::Text(text)) => store_text(cx, text, at, place),
+        Ok(View::List(element, items)) => store_list(cx, items, element, at, place),
+        Ok(View::Members(members)) => {
+            store_parts(cx, &members, at, place, place.saturating_add(1))
         }
         Err(fault) => Err(fault),
     }
 }
 
+/// Stores the members of a value that has this place, from an address on; the first has the place `first`. The name of each
+/// is tested just before it.
 #[cycle(store)]
-fn store_list<T, G: Guest>(
+pub(crate) fn store_parts<T, G: Guest>(
     cx: &mut LowerContext<'_, T, G>,
-    value: &Val,
-    i: TypeListIndex,
+    members: &Members<'_>,
     at: u64,
     place: u64,
+    first: u64,
 ) -> Result<u64, Fault>
-    requires known { Knows (types_of cx.old.core.now) (InterfaceType.List i) }
-    requires built { IsBuilt (shape_of (types_of cx.old.core.now) (InterfaceType.List i)) }
+    requires known { AreKnown (types_of cx.old.core.now) members.now }
+    requires built { AreBuilt (shapes_of (types_of cx.old.core.now) members.now) }
+    requires count { length (values_of members.now) ≡ member_count (shapes_of (types_of cx.old.core.now) members.now) }
     requires small { length cx.old.core.now.memory ≤ 2 ^ 32 }
-    requires room { at + size false (shape_of (types_of cx.old.core.now) (InterfaceType.List i)) ≤ length cx.old.core.now.memory }
-    ensures stores { StoresTo G.seen G.moves cx.old.options cx.old.core.now cx.new.core.now (shape_of (types_of cx.old.core.now) (InterfaceType.List i)) at value.now place result }
+    requires room { at + members_end false 0 (shapes_of (types_of cx.old.core.now) members.now) ≤ length cx.old.core.now.memory }
+    ensures stores { PartsStoreTo G.seen G.moves cx.old.options cx.old.core.now cx.new.core.now place (shapes_of (types_of cx.old.core.now) members.now) 0 at
+        (names_of members.now) (values_of members.now) first result }
     ensures same_reference { cx.new.core.ghost_name ≡ cx.old.core.ghost_name }
     ensures same_options { cx.new.options ≡ cx.old.options }
 {
-    let element = cx.types().list(i).element;
-    let Val::List(items) = value else {
-        return Err(Fault::TypeMismatch(place));
-    };
+    let mut next = first;
+    let mut end = 0;
+    for k in 0..count_of(members) {
+        let types = cx.types();
+        let member = member_of(types, members, k);
+        if !member.is_named {
+            return Err(Fault::FieldName(place));
+        }
+        let start = types.canonical_abi(&member.ty).next_field32_size(&mut end);
+        match store_value(cx, member.value, member.ty, at + start, next) {
+            Ok(after) => next = after,
+            Err(fault) => return Err(fault),
+        }
+    }
+    Ok(next)
+}
+
+#[cycle(store)]
+fn store_list<T, G: Guest>(
+    cx: &mut LowerContext<'_, T, G>,
+    items: &Vec<Val>,
+    element: InterfaceType,
+    at: u64,
+    place: u64,
+) -> Result<u64, Fault>
+    requires known { Knows (types_of cx.old.core.now) element }
+    requires built { IsBuilt (shape_of (types_of cx.old.core.now) element) }
+    requires small { length cx.old.core.now.memory ≤ 2 ^ 32 }
+    requires room { at + 8 ≤ length cx.old.core.now.memory }
+    ensures stores { StoresTo G.seen G.moves cx.old.options cx.old.core.now cx.new.core.now (list of_items (shape_of (types_of cx.old.core.now) element)) at (val.List items.now) place result }
+    ensures same_reference { cx.new.core.ghost_name ≡ cx.old.core.ghost_name }
+    ensures same_options { cx.new.options ≡ cx.old.options }
+{
     match place_list(cx, items, &element, place) {
         Ok(list) => {
             put_pair(cx.core.as_slice_mut(), at, list.pointer, list.length);
@@ -152,18 +163,17 @@ pub(crate) fn place_list<T, G: Guest>(
     ensures same_reference { cx.new.core.ghost_name ≡ cx.old.core.ghost_name }
     ensures same_options { cx.new.options ≡ cx.old.options }
 {
-    let abi = *cx.types().canonical_abi(element);
     let length = items.len() as u64;
-    let Some(bytes) = block_size(length, abi.size32) else {
+    let size = cx.types().canonical_abi(element).size32;
+    let Some(bytes) = block_size(length, size) else {
         return Err(Fault::SizeOverflow(length));
     };
-    let answer = cx.realloc(0, 0, abi.align32, bytes);
-    let _memory = cx.core.memory();
-    let pointer = match answer {
+    let pointer = match ask_items(cx, element, length, bytes) {
         Ok(pointer) => pointer,
         Err(fault) => return Err(fault),
     };
-    match store_row(cx, items, element, pointer, place.saturating_add(1)) {
+    let members = Members::Items(*element, items);
+    match store_parts(cx, &members, pointer, place, place.saturating_add(1)) {
         Ok(next) => Ok(Placed {
             pointer,
             length,
@@ -171,6 +181,50 @@ pub(crate) fn place_list<T, G: Guest>(
         }),
         Err(fault) => Err(fault),
     }
+}
+
+fn store_text<T, G: Guest>(
+    cx: &mut LowerContext<'_, T, G>,
+    text: &String,
+    at: u64,
+    place: u64,
+) -> Result<u64, Fault>
+    requires small { length cx.old.core.now.memory ≤ 2 ^ 32 }
+    requires room { at + 8 ≤ length cx.old.core.now.memory }
+    ensures stores { StoresTo G.seen G.moves cx.old.options cx.old.core.now cx.new.core.now string at (val.String text.now) place result }
+    ensures same_reference { cx.new.core.ghost_name ≡ cx.old.core.ghost_name }
+    ensures same_options { cx.new.options ≡ cx.old.options }
+{
+    match place_text(cx, text, place) {
+        Ok(block) => {
+            put_pair(cx.core.as_slice_mut(), at, block.pointer, block.length);
+            Ok(block.next)
+        }
+        Err(fault) => Err(fault),
+    }
+}
+
+/// Stores the word of a scalar, cut to the scalar's bytes.
+fn store_word<T, G: Guest>(
+    cx: &mut LowerContext<'_, T, G>,
+    word: u64,
+    value: &Val,
+    ty: InterfaceType,
+    at: u64,
+    place: u64,
+) -> u64
+    requires known { Knows (types_of cx.old.core.now) ty }
+    requires word { IsWordOf ty value.now word }
+    requires small { length cx.old.core.now.memory ≤ 2 ^ 32 }
+    requires room { at + size false (shape_of (types_of cx.old.core.now) ty) ≤ length cx.old.core.now.memory }
+    ensures stores { StoresTo G.seen G.moves cx.old.options cx.old.core.now cx.new.core.now (shape_of (types_of cx.old.core.now) ty) at value.now place (Ok result) }
+    ensures same_reference { cx.new.core.ghost_name ≡ cx.old.core.ghost_name }
+    ensures same_options { cx.new.options ≡ cx.old.options }
+{
+    let _ = value;
+    let size = cx.types().canonical_abi(&ty).size32;
+    put_low_bytes(cx.core.as_slice_mut(), at, word, size);
+    place.saturating_add(1)
 }
 
 /// Writes a pointer and the length after it.
@@ -184,56 +238,6 @@ fn put_pair(memory: &mut [u8], at: u64, pointer: u64, count: u64)
     put_low_bytes(memory, at + 4, count, 4);
 }
 
-#[cycle(store)]
-fn store_fixed<T, G: Guest>(
-    cx: &mut LowerContext<'_, T, G>,
-    value: &Val,
-    i: TypeFixedLengthListIndex,
-    at: u64,
-    place: u64,
-) -> Result<u64, Fault>
-    requires known { Knows (types_of cx.old.core.now) (InterfaceType.FixedLengthList i) }
-    requires built { IsBuilt (shape_of (types_of cx.old.core.now) (InterfaceType.FixedLengthList i)) }
-    requires small { length cx.old.core.now.memory ≤ 2 ^ 32 }
-    requires room { at + size false (shape_of (types_of cx.old.core.now) (InterfaceType.FixedLengthList i)) ≤ length cx.old.core.now.memory }
-    ensures stores { StoresTo G.seen G.moves cx.old.options cx.old.core.now cx.new.core.now (shape_of (types_of cx.old.core.now) (InterfaceType.FixedLengthList i)) at value.now place result }
-    ensures same_reference { cx.new.core.ghost_name ≡ cx.old.core.ghost_name }
-    ensures same_options { cx.new.options ≡ cx.old.options }
-{
-    let list = cx.types().fixed_length_list(i);
-    let (element, count) = (list.element, list.size);
-    let Val::FixedLengthList(values) = value else {
-        return Err(Fault::TypeMismatch(place));
-    };
-    if values.len() as u64 != u64::from(count) {
-        return Err(Fault::LengthMismatch(place));
-    }
-    store_row(cx, values, &element, at, place.saturating_add(1))
-}
-
-fn store_scalar<T, G: Guest>(
-    cx: &mut LowerContext<'_, T, G>,
-    value: &Val,
-    ty: InterfaceType,
-    at: u64,
-    place: u64,
-) -> Result<u64, Fault>
-    requires known { Knows (types_of cx.old.core.now) ty }
-    requires scalar { IsScalarType ty }
-    requires small { length cx.old.core.now.memory ≤ 2 ^ 32 }
-    requires room { at + size false (shape_of (types_of cx.old.core.now) ty) ≤ length cx.old.core.now.memory }
-    ensures stores { StoresTo G.seen G.moves cx.old.options cx.old.core.now cx.new.core.now (shape_of (types_of cx.old.core.now) ty) at value.now place result }
-    ensures same_reference { cx.new.core.ghost_name ≡ cx.old.core.ghost_name }
-    ensures same_options { cx.new.options ≡ cx.old.options }
-{
-    let Some(word) = scalar_word(value, &ty) else {
-        return Err(Fault::TypeMismatch(place));
-    };
-    let size = cx.types().canonical_abi(&ty).size32;
-    put_low_bytes(cx.core.as_slice_mut(), at, word.get_u64(), size);
-    Ok(place.saturating_add(1))
-}
-
 /// Writes the lowest bytes of a number, the lowest first.
 fn put_low_bytes(memory: &mut [u8], at: u64, number: u64, size: u32)
     requires few { size ≤ 8 }
@@ -245,154 +249,4 @@ fn put_low_bytes(memory: &mut [u8], at: u64, number: u64, size: u32)
     let size = size as usize;
     let bytes = number.to_le_bytes();
     memory[start..start + size].copy_from_slice(&bytes[..size]);
-}
-
-#[cycle(store)]
-fn store_record<T, G: Guest>(
-    cx: &mut LowerContext<'_, T, G>,
-    value: &Val,
-    i: TypeRecordIndex,
-    at: u64,
-    place: u64,
-) -> Result<u64, Fault>
-    requires known { Knows (types_of cx.old.core.now) (InterfaceType.Record i) }
-    requires built { IsBuilt (shape_of (types_of cx.old.core.now) (InterfaceType.Record i)) }
-    requires small { length cx.old.core.now.memory ≤ 2 ^ 32 }
-    requires room { at + size false (shape_of (types_of cx.old.core.now) (InterfaceType.Record i)) ≤ length cx.old.core.now.memory }
-    ensures stores { StoresTo G.seen G.moves cx.old.options cx.old.core.now cx.new.core.now (shape_of (types_of cx.old.core.now) (InterfaceType.Record i)) at value.now place result }
-    ensures same_reference { cx.new.core.ghost_name ≡ cx.old.core.ghost_name }
-    ensures same_options { cx.new.options ≡ cx.old.options }
-{
-    let count = cx.types().record(i).fields.len();
-    let Val::Record(values) = value else {
-        return Err(Fault::TypeMismatch(place));
-    };
-    if values.len() != count {
-        return Err(Fault::LengthMismatch(place));
-    }
-    store_fields(cx, values, i, at, place)
-}
-
-/// Stores the fields of a record that has this place. The name of each is tested just before it.
-#[cycle(store)]
-fn store_fields<T, G: Guest>(
-    cx: &mut LowerContext<'_, T, G>,
-    values: &[(String, Val)],
-    i: TypeRecordIndex,
-    at: u64,
-    place: u64,
-) -> Result<u64, Fault>
-    requires known { Knows (types_of cx.old.core.now) (InterfaceType.Record i) }
-    requires built { AreBuilt (product_members (shape_of (types_of cx.old.core.now) (InterfaceType.Record i))) }
-    requires count { length values.now ≡ member_count (product_members (shape_of (types_of cx.old.core.now) (InterfaceType.Record i))) }
-    requires small { length cx.old.core.now.memory ≤ 2 ^ 32 }
-    requires room { at + members_end false 0 (product_members (shape_of (types_of cx.old.core.now) (InterfaceType.Record i))) ≤ length cx.old.core.now.memory }
-    ensures stores { FieldsStoreTo G.seen G.moves cx.old.options cx.old.core.now cx.new.core.now place (product_members (shape_of (types_of cx.old.core.now) (InterfaceType.Record i))) 0 at
-        (names_in values.now) (values_in values.now) (cap (place + 1)) result }
-    ensures same_reference { cx.new.core.ghost_name ≡ cx.old.core.ghost_name }
-    ensures same_options { cx.new.options ≡ cx.old.options }
-{
-    let mut next = place.saturating_add(1);
-    let mut end = 0;
-    for k in 0..values.len() {
-        let (name, value) = &values[k];
-        let types = cx.types();
-        let field = &types.record(i).fields[k];
-        if *name != field.name {
-            return Err(Fault::FieldName(place));
-        }
-        let ty = field.ty;
-        let start = types.canonical_abi(&ty).next_field32_size(&mut end);
-        match store_value(cx, value, ty, at + start, next) {
-            Ok(after) => next = after,
-            Err(fault) => return Err(fault),
-        }
-    }
-    Ok(next)
-}
-
-#[cycle(store)]
-fn store_tuple<T, G: Guest>(
-    cx: &mut LowerContext<'_, T, G>,
-    value: &Val,
-    i: TypeTupleIndex,
-    at: u64,
-    place: u64,
-) -> Result<u64, Fault>
-    requires known { Knows (types_of cx.old.core.now) (InterfaceType.Tuple i) }
-    requires built { IsBuilt (shape_of (types_of cx.old.core.now) (InterfaceType.Tuple i)) }
-    requires small { length cx.old.core.now.memory ≤ 2 ^ 32 }
-    requires room { at + size false (shape_of (types_of cx.old.core.now) (InterfaceType.Tuple i)) ≤ length cx.old.core.now.memory }
-    ensures stores { StoresTo G.seen G.moves cx.old.options cx.old.core.now cx.new.core.now (shape_of (types_of cx.old.core.now) (InterfaceType.Tuple i)) at value.now place result }
-    ensures same_reference { cx.new.core.ghost_name ≡ cx.old.core.ghost_name }
-    ensures same_options { cx.new.options ≡ cx.old.options }
-{
-    let count = cx.types().tuple(i).types.len();
-    let Val::Tuple(values) = value else {
-        return Err(Fault::TypeMismatch(place));
-    };
-    if values.len() != count {
-        return Err(Fault::LengthMismatch(place));
-    }
-    store_members(cx, values, i, at, place.saturating_add(1))
-}
-
-/// Stores values in a row, as a tuple's members or a function's parameters. The first place is that of the first value.
-#[cycle(store)]
-pub(crate) fn store_members<T, G: Guest>(
-    cx: &mut LowerContext<'_, T, G>,
-    values: &[Val],
-    i: TypeTupleIndex,
-    at: u64,
-    place: u64,
-) -> Result<u64, Fault>
-    requires known { HasTuple (types_of cx.old.core.now) i }
-    requires built { AreBuilt (tuple_members (types_of cx.old.core.now) i) }
-    requires count { length values.now ≡ length (member_types (types_of cx.old.core.now) i) }
-    requires small { length cx.old.core.now.memory ≤ 2 ^ 32 }
-    requires room { at + members_end false 0 (tuple_members (types_of cx.old.core.now) i) ≤ length cx.old.core.now.memory }
-    ensures stores { MembersStoreTo G.seen G.moves cx.old.options cx.old.core.now cx.new.core.now (tuple_members (types_of cx.old.core.now) i) 0 at values.now place result }
-    ensures same_reference { cx.new.core.ghost_name ≡ cx.old.core.ghost_name }
-    ensures same_options { cx.new.options ≡ cx.old.options }
-{
-    let mut next = place;
-    let mut end = 0;
-    for k in 0..values.len() {
-        let types = cx.types();
-        let ty = types.tuple(i).types[k];
-        let start = types.canonical_abi(&ty).next_field32_size(&mut end);
-        match store_value(cx, &values[k], ty, at + start, next) {
-            Ok(after) => next = after,
-            Err(fault) => return Err(fault),
-        }
-    }
-    Ok(next)
-}
-
-/// Stores values of one type in a row from an address on. The first place is that of the first value.
-#[cycle(store)]
-pub(crate) fn store_row<T, G: Guest>(
-    cx: &mut LowerContext<'_, T, G>,
-    values: &[Val],
-    element: &InterfaceType,
-    at: u64,
-    place: u64,
-) -> Result<u64, Fault>
-    requires known { Knows (types_of cx.old.core.now) element.now }
-    requires built { IsBuilt (shape_of (types_of cx.old.core.now) element.now) }
-    requires small { length cx.old.core.now.memory ≤ 2 ^ 32 }
-    requires room { at + length values.now * size false (shape_of (types_of cx.old.core.now) element.now) ≤ length cx.old.core.now.memory }
-    ensures stores { RowStoresTo G.seen G.moves cx.old.options cx.old.core.now cx.new.core.now (shape_of (types_of cx.old.core.now) element.now) at values.now place result }
-    ensures same_reference { cx.new.core.ghost_name ≡ cx.old.core.ghost_name }
-    ensures same_options { cx.new.options ≡ cx.old.options }
-{
-    let size = u64::from(cx.types().canonical_abi(element).size32);
-    let mut next = place;
-    for k in 0..values.len() {
-        match store_value(cx, &values[k], *element, at + k as u64 * size, next) {
-            Ok(after) => next = after,
-            Err(fault) => return Err(fault),
-        }
-    }
-    Ok(next)
 }

@@ -1,11 +1,5 @@
-//! Tests of values, cores and contexts.
+//! Tests of values, contexts and cores: each public function once, and what no script can show.
 #![tactic(auto)]
 
-#[cfg(test)]
-mod fuel;
-#[cfg(test)]
-mod lists_lifted;
-#[cfg(test)]
-mod lists_lowered;
 #[cfg(test)]
 mod tests;

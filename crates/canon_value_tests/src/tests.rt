@@ -1,370 +1,327 @@
-//! Values lowered to words and lifted from them as the Canonical ABI says, and the calls of a core.
+//! Each public function of canon_value once, and what no script can show.
 
-ghost use Rattle.std.specs.Prelude.{◌∷◌, ◌≡◌, ◌<◌, [], IfOk, IsTrue, None, false, if◌then◌else◌, length, true};
-ghost use Rattle.canon_model.specs.Layout.{flat};
-ghost use Rattle.canon_table.specs.Table.{Knows, shape_of};
+ghost use Rattle.std.specs.Prelude.{◌∷◌, ◌≡◌, ◌≤◌, [], length};
+ghost use Rattle.canon_types.specs.Refusal.{empty_table, with_definition};
+ghost use Rattle.canon_types.specs.Table.{TupleType};
+ghost use Rattle.canon_types.specs.declared.types.InterfaceType.TheVariants as ty;
 
-use canon_memory::{Guest, GuestFault, Memory, Step, ValRaw};
-use canon_table::{
+use canon_memory::{Memory, Step, ValRaw, Words};
+use canon_scripted::{Action, ScriptedGuest};
+use canon_types::{
     CanonicalOptions, ComponentTypes, InstanceType, InterfaceType, OptionsIndex, RecordField,
-    RuntimeInstance, StoreId, StringEncoding, TypeBuilder, TypeFuncIndex,
+    RuntimeInstance, StoreId, StringEncoding, TypeBuilder, TypeFuncIndex, TypeTupleIndex,
 };
-use canon_value::{At, Component, Core, Export, Fault, LiftContext, LowerContext, Val, is_built};
+use canon_value::{
+    At, Component, Core, Export, Fault, HostcallFuelExhausted, LiftContext, LowerContext, Val,
+    is_built, lift_results, lower_args,
+};
 use std::alloc::Global;
 use std::process::Abort;
-use std::test::Fail;
 
-/// A guest that answers one `realloc` with this address, and traps at the next, and at every other call.
-#[derive(Drop)]
-struct Stubborn {
-    address: u32,
-    asked: bool,
-    traps: u64,
-}
-
-impl Guest for Stubborn {
-    ghost seen = { λ g. record { journal = None; marks = if g.asked then record { lawful = false; tidy = true } ∷ [] else []; live = []; traps = g.traps; shortages = 0 } };
-
-    ghost moves = { λ _ _ _. Unit {0} };
-
-    ghost post_leaves = { λ _ _. Unit {0} };
-
-    ghost stays = { λ _. record {} };
-
-    ghost goes_on = { λ _ _ _ _ _ _ _. record {} };
-
-    fn start(
-        &mut self,
-        _memory: &mut Memory,
-        _func: u32,
-        _words: &[ValRaw],
-    ) -> Result<Step, GuestFault> {
-        self.traps = self.traps.saturating_add(1);
-        Err(GuestFault::Trap)
-    }
-
-    fn resume(&mut self, _memory: &mut Memory, _words: &[ValRaw]) -> Result<Step, GuestFault> {
-        self.traps = self.traps.saturating_add(1);
-        Err(GuestFault::Trap)
-    }
-
-    fn realloc(
-        &mut self,
-        _memory: &mut Memory,
-        _old: u64,
-        _old_size: u64,
-        _align: u32,
-        _new_size: u64,
-    ) -> Result<u64, GuestFault> {
-        if self.asked {
-            self.traps = self.traps.saturating_add(1);
-            return Err(GuestFault::Trap);
-        }
-        self.asked = true;
-        Ok(u64::from(self.address))
-    }
-
-    fn post_return(
-        &mut self,
-        _memory: &mut Memory,
-        _func: u32,
-        _words: &[ValRaw],
-    ) -> Result<(), GuestFault> {
-        self.traps = self.traps.saturating_add(1);
-        Err(GuestFault::Trap)
-    }
-
-    fn dtor(&mut self, _memory: &mut Memory, _func: u32, _rep: u32) -> Result<(), GuestFault> {
-        self.traps = self.traps.saturating_add(1);
-        Err(GuestFault::Trap)
-    }
-}
-
-/// The type of a record of `a`, an s8, and of `b`, a tuple of a bool, a u16 and a char.
-fn record_type(alloc: Global, builder: &mut TypeBuilder) -> Result<InterfaceType, Fail> {
-    let members = [InterfaceType::Bool, InterfaceType::U16, InterfaceType::Char];
-    let tuple = builder.add_tuple(Vec::from_slice(alloc, &members)?)?;
-    let a = RecordField {
-        name: String::from_str(alloc, "a")?,
-        ty: InterfaceType::S8,
-    };
-    let b = RecordField {
-        name: String::from_str(alloc, "b")?,
-        ty: tuple,
-    };
-    Ok(builder.add_record(vec![in alloc; a, b]?)?)
-}
-
-/// A value of that type, with these names.
-fn record_value(alloc: Global, first: &str, second: &str) -> Result<Val, Fail> {
-    let members = vec![in alloc; Val::Bool(true), Val::U16(65_535), Val::Char('é')]?;
-    let first = (String::from_str(alloc, first)?, Val::S8(-1));
-    let second = (String::from_str(alloc, second)?, Val::Tuple(members));
-    Ok(Val::Record(vec![in alloc; first, second]?))
-}
-
-/// Options of instance 3 alone.
-fn options_of(alloc: Global) -> Result<Vec<CanonicalOptions>, Fail>
-    ensures { IfOk result (λ options. length options.items ≡ 1) }
+/// A component of these types, with options of instance 3 alone.
+fn component_of(rt: &impl Abort, alloc: Global, types: ComponentTypes) -> Component
+    ensures options { length result.options.items ≡ 1 }
+    ensures types { result.types.types ≡ types }
+    ensures exports { result.exports.items ≡ [] }
 {
-    let mut options = Vec::new(alloc);
-    options.push(CanonicalOptions {
+    let options = CanonicalOptions {
         instance: RuntimeInstance::from_u32(3),
         string_encoding: StringEncoding::Utf8,
         async_: false,
         post_return: None,
-    })?;
-    Ok(options)
-}
-
-/// A core of these types, whose guest answers this address, with 16 bytes of memory and host data 5.
-fn core_of(alloc: Global, builder: TypeBuilder, answer: u32) -> Result<Core<u32, Stubborn>, Fail>
-    ensures options { IfOk result (λ c. length c.component.options.items ≡ 1) }
-    ensures types { IfOk result (λ c. c.component.types.types ≡ builder) }
-    ensures memory { IfOk result (λ c. length c.memory ≡ 16) }
-{
-    let id = StoreId::from_u64(6);
-    let component = Component {
-        types: InstanceType::new(builder.finish(), id),
-        options: options_of(alloc)?,
+    };
+    Component {
+        types: InstanceType::new(types, StoreId::from_u64(6)),
+        options: vec![in alloc; options].expect(rt, "memory"),
         exports: Vec::new(alloc),
-    };
-    let guest = Stubborn {
-        address: answer,
-        asked: false,
-        traps: 0,
-    };
-    let memory = Memory::new(alloc, 16)?;
-    Ok(Core::new(alloc, id, 5, guest, memory, component, 1 << 20)?)
+    }
 }
 
-/// Lowers a value, where the conditions hold.
-fn lowered(
-    rt: &impl Abort,
-    core: &mut Core<u32, Stubborn>,
-    value: &Val,
-    ty: InterfaceType,
-    dst: &mut [ValRaw],
-) -> Result<Result<(), Fault>, Fail>
-    requires options { length core.old.component.options.items ≡ 1 }
-    ensures same { core.new.component ≡ core.old.component }
+/// The first bytes of memory.
+const FRONT: [u8; 6] = [1, 2, 3, 4, 0xff, b'a'];
+
+/// A core of these types, of 64 bytes of memory and of a guest that allocates from 16 up.
+fn core_of(rt: &impl Abort, alloc: Global, types: ComponentTypes) -> Core<u32, ScriptedGuest>
+    ensures options { length result.component.options.items ≡ 1 }
+    ensures types { result.component.types.types ≡ types }
+    ensures memory { length result.memory ≡ 64 }
 {
-    let mut cx = LowerContext::new(core, OptionsIndex::from_u32(0));
-    let types = cx.types();
-    assert!(rt; types.contains(&ty));
-    assert!(rt; is_built(types, &ty));
-    assert!(rt; has_words(types, &ty, dst.len()));
-    Ok(value.lower(&mut cx, ty, dst))
+    let component = component_of(rt, alloc, types);
+    let guest = ScriptedGuest::new(alloc, 16);
+    let mut memory = Memory::new(alloc, 64).expect(rt, "memory");
+    memory.as_slice_mut()[..6].copy_from_slice(&FRONT);
+    let id = StoreId::from_u64(6);
+    Core::new(alloc, id, 5, guest, memory, component, 1_000).expect(rt, "memory")
 }
 
-/// Lifts a value from all words but the first, where the conditions hold.
+/// A core without types of its own.
+fn plain_core(rt: &impl Abort, alloc: Global) -> Core<u32, ScriptedGuest>
+    ensures options { length result.component.options.items ≡ 1 }
+    ensures memory { length result.memory ≡ 64 }
+{
+    core_of(rt, alloc, TypeBuilder::new(alloc).finish())
+}
+
+fn text_of(rt: &impl Abort, alloc: Global, text: &str) -> Val {
+    Val::String(String::from_str(alloc, text).expect(rt, "memory"))
+}
+
+#[test]
+#[tactic(auto, unfolding(canon_model::specs::Layout::flat))]
+fn a_text_is_lowered_to_words_and_lifted(rt: HostRuntime) {
+    let alloc = rt.alloc();
+    let mut core = plain_core(&rt, alloc);
+    let mut words = [ValRaw::u64(u64::MAX); 2];
+    let text = text_of(&rt, alloc, "é");
+    let mut cx = LowerContext::new(&mut core, OptionsIndex::from_u32(0));
+    assert!(rt;
+        text.lower(&mut cx, InterfaceType::String, &mut words)
+            .is_ok()
+    );
+    assert!(rt; words == [ValRaw::u64(16), ValRaw::u64(2)]);
+    let mut cx = LiftContext::new(&mut core, OptionsIndex::from_u32(0));
+    let value = Val::lift(alloc, &mut cx, InterfaceType::String, &words, 0);
+    assert!(rt; matches!(&value, Ok(Val::String(text)) if text.as_str() == "é"));
+}
+
+#[test]
+#[tactic(auto, unfolding(canon_model::specs::Layout::size, canon_model::specs::Layout::align))]
+fn a_text_is_stored_and_loaded(rt: HostRuntime) {
+    let alloc = rt.alloc();
+    let mut core = plain_core(&rt, alloc);
+    let text = text_of(&rt, alloc, "é");
+    let mut cx = LowerContext::new(&mut core, OptionsIndex::from_u32(0));
+    assert!(rt; text.store(&mut cx, InterfaceType::String, 8).is_ok());
+    let mut cx = LiftContext::new(&mut core, OptionsIndex::from_u32(0));
+    assert!(rt;
+        cx.memory().starts_with(&[
+            1, 2, 3, 4, 0xff, b'a', 0, 0, 16, 0, 0, 0, 2, 0, 0, 0, 0xc3, 0xa9
+        ])
+    );
+    let value = Val::load(alloc, &mut cx, InterfaceType::String, 8);
+    assert!(rt; matches!(&value, Ok(Val::String(text)) if text.as_str() == "é"));
+}
+
+/// A core of the type of a tuple of one u8, and its number.
+fn tuple_core(rt: &impl Abort, alloc: Global) -> (Core<u32, ScriptedGuest>, TypeTupleIndex)
+    ensures options { length result.0.component.options.items ≡ 1 }
+    ensures types { result.0.component.types.types ≡ with_definition empty_table (TupleType (ty.U8 ∷ [])) }
+    ensures number { result.1 ≡ 0 }
+{
+    let mut builder = TypeBuilder::new(alloc);
+    let members = vec![in alloc; InterfaceType::U8].expect(rt, "memory");
+    let InterfaceType::Tuple(i) = builder.add_tuple(members).expect(rt, "a tuple") else {
+        panic!(rt; "no tuple");
+    };
+    (core_of(rt, alloc, builder.finish()), i)
+}
+
+#[test]
+fn parameters_are_lowered_and_results_lifted(rt: HostRuntime) {
+    let alloc = rt.alloc();
+    let (mut core, ty) = tuple_core(&rt, alloc);
+    let mut words = [ValRaw::u64(u64::MAX)];
+    let mut cx = LowerContext::new(&mut core, OptionsIndex::from_u32(0));
+    assert!(rt; lower_args(&mut cx, &[Val::U8(7)], ty, &mut words).is_ok());
+    assert!(rt; words == [ValRaw::u64(7)]);
+    let mut cx = LiftContext::new(&mut core, OptionsIndex::from_u32(0));
+    let values = lift_results(alloc, &mut cx, ty, &words).expect(&rt, "results");
+    assert!(rt; matches!(values.as_slice(), [Val::U8(7)]));
+}
+
+/// The type of a record of `a`, an s8, and of `b`, a tuple of a bool, a u16, a list of u16, a string and a char.
+fn record_type(rt: &impl Abort, alloc: Global, builder: &mut TypeBuilder) -> InterfaceType {
+    let list = builder.add_list(InterfaceType::U16).expect(rt, "a list");
+    let members = [
+        InterfaceType::Bool,
+        InterfaceType::U16,
+        list,
+        InterfaceType::String,
+        InterfaceType::Char,
+    ];
+    let members = Vec::from_slice(alloc, &members).expect(rt, "memory");
+    let tuple = builder.add_tuple(members).expect(rt, "a tuple");
+    let mut fields = Vec::new(alloc);
+    for (name, ty) in [("a", InterfaceType::S8), ("b", tuple)] {
+        let name = String::from_str(alloc, name).expect(rt, "memory");
+        fields.push(RecordField { name, ty }).expect(rt, "memory");
+    }
+    builder.add_record(fields).expect(rt, "a record")
+}
+
+/// How the answer to lifting a value of the type prints, from all words but the first, where the conditions hold.
 fn lifted(
     rt: &impl Abort,
     alloc: Global,
-    core: &mut Core<u32, Stubborn>,
-    ty: InterfaceType,
+    core: &mut Core<u32, ScriptedGuest>,
+    ty: &InterfaceType,
     src: &[ValRaw],
-) -> Result<Result<Val, Fault>, Fail>
+) -> String
     requires options { length core.old.component.options.items ≡ 1 }
-    requires some { 0 < length src.now }
+    requires words { 1 ≤ length src.now }
     ensures same { core.new ≡ core.old }
 {
     let mut cx = LiftContext::new(core, OptionsIndex::from_u32(0));
     let types = cx.types();
-    assert!(rt; types.contains(&ty));
-    assert!(rt; is_built(types, &ty));
-    assert!(rt; has_words(types, &ty, src.len() - 1));
-    Ok(Val::lift(alloc, &mut cx, ty, src, 1))
-}
-
-/// Whether a value of the type takes so many words, up to 16.
-pub(crate) fn has_words(types: &ComponentTypes, ty: &InterfaceType, count: usize) -> bool
-    requires { Knows types.now ty.now }
-    ensures { IsTrue result → flat (shape_of types.now ty.now) ≡ count }
-{
-    match types.canonical_abi(ty).flat {
-        Some(words) => usize::from(words) == count,
-        None => false,
-    }
+    assert!(rt; types.contains(ty));
+    assert!(rt; is_built(types, ty));
+    let words = types.canonical_abi(ty).flat_count(16);
+    assert!(rt; words == Some(src.len() as u64 - 1));
+    let answer = Val::lift(alloc, &mut cx, *ty, src, 1);
+    format!(in alloc; "{answer:?}").expect(rt, "memory")
 }
 
 #[test]
-fn a_record_is_lowered_and_lifted(rt: HostRuntime) -> Result<(), Fail> {
+fn a_fault_in_words_is_told_at_its_word(rt: HostRuntime) {
     let alloc = rt.alloc();
-    let mut builder = TypeBuilder::new(alloc);
-    let ty = record_type(alloc, &mut builder)?;
-    let mut core = core_of(alloc, builder, 0)?;
-    let mut dst = [ValRaw::u64(0x5_0000_0005); 4];
-    let value = record_value(alloc, "a", "b")?;
-    let answer = lowered(&rt, &mut core, &value, ty, &mut dst)?;
-    assert_eq!(rt; answer, Ok(()));
-    let want = [4_294_967_295, 1, 65_535, 233];
-    assert_eq!(rt; dst, want.map(|word| ValRaw::u64(word)));
-    let src = [0, 0x7fff_ff80, 0x100, 0x5_ffff_0007, 233].map(|word| ValRaw::u64(word));
-    let value = lifted(&rt, alloc, &mut core, ty, &src)??;
-    assert_eq!(rt;
-        text_of(alloc, &value)?.as_str(),
-        "Record([(\"a\", S8(-128)), (\"b\", Tuple([Bool(true), U16(7), Char('é')]))])"
-    );
-    Ok(())
-}
-
-fn text_of(alloc: Global, value: &Val) -> Result<String, Fail> {
-    Ok(format!(in alloc; "{value:?}")?)
-}
-
-#[test]
-fn a_value_of_another_type_is_refused_at_its_place(rt: HostRuntime) -> Result<(), Fail> {
-    let alloc = rt.alloc();
-    let mut builder = TypeBuilder::new(alloc);
-    let ty = record_type(alloc, &mut builder)?;
-    let mut core = core_of(alloc, builder, 0)?;
-    let mut dst = [ValRaw::u32(0); 4];
-    let renamed = record_value(alloc, "a", "c")?;
-    let answer = lowered(&rt, &mut core, &renamed, ty, &mut dst)?;
-    assert_eq!(rt; answer, Err(Fault::FieldName(0)));
-    let members = vec![in alloc; Val::Bool(true), Val::U16(1), Val::U32(2)]?;
-    let first = (String::from_str(alloc, "a")?, Val::S8(-1));
-    let second = (String::from_str(alloc, "b")?, Val::Tuple(members));
-    let other = Val::Record(vec![in alloc; first, second]?);
-    let answer = lowered(&rt, &mut core, &other, ty, &mut dst)?;
-    assert_eq!(rt; answer, Err(Fault::TypeMismatch(5)));
-    let short = Val::Record(Vec::new(alloc));
-    let answer = lowered(&rt, &mut core, &short, ty, &mut dst)?;
-    assert_eq!(rt; answer, Err(Fault::LengthMismatch(0)));
-    Ok(())
-}
-
-#[test]
-fn a_word_that_is_no_char_is_refused(rt: HostRuntime) -> Result<(), Fail> {
-    let alloc = rt.alloc();
-    let mut builder = TypeBuilder::new(alloc);
-    let ty = record_type(alloc, &mut builder)?;
-    let mut core = core_of(alloc, builder, 0)?;
-    let src = [0, 0, 0, 0, 0xd800].map(|word| ValRaw::u64(word));
-    let answer = lifted(&rt, alloc, &mut core, ty, &src)?;
-    assert!(rt; matches!(answer, Err(Fault::InvalidChar(At::Word(4)))));
-    Ok(())
-}
-
-#[test]
-fn scalars_are_lowered_and_lifted(rt: HostRuntime) -> Result<(), Fail> {
-    let cases = [
-        (InterfaceType::Bool, Val::Bool(true), 1),
-        (InterfaceType::S8, Val::S8(-2), 4_294_967_294),
-        (InterfaceType::U8, Val::U8(254), 254),
-        (InterfaceType::S16, Val::S16(-2), 4_294_967_294),
-        (InterfaceType::U16, Val::U16(65_534), 65_534),
-        (InterfaceType::S32, Val::S32(-2), 4_294_967_294),
-        (InterfaceType::U32, Val::U32(4_294_967_294), 4_294_967_294),
-        (InterfaceType::S64, Val::S64(-2), 18_446_744_073_709_551_614),
-        (InterfaceType::U64, Val::U64(1 << 63), 1 << 63),
-        (
-            InterfaceType::Float32,
-            Val::Float32(0x7fc0_0001),
-            0x7fc0_0001,
-        ),
-        (InterfaceType::Float64, Val::Float64(1 << 52), 1 << 52),
-        (InterfaceType::Char, Val::Char('é'), 233),
-    ];
-    let alloc = rt.alloc();
-    for (ty, value, word) in cases {
-        let mut core = core_of(alloc, TypeBuilder::new(alloc), 0)?;
-        let mut dst = [ValRaw::u64(0x5_0000_0005)];
-        assert_eq!(rt; lowered(&rt, &mut core, &value, ty, &mut dst)?, Ok(()));
-        assert_eq!(rt; dst, [ValRaw::u64(word)], "of {value:?}");
-        let back = lifted(&rt, alloc, &mut core, ty, &[ValRaw::u32(0), dst[0]])??;
-        assert_eq!(rt; text_of(alloc, &back)?, text_of(alloc, &value)?);
-    }
-    Ok(())
-}
-
-#[test]
-fn a_context_asks_its_guest_and_tests_the_answer(rt: HostRuntime) -> Result<(), Fail> {
-    let alloc = rt.alloc();
-    for (answer, align, size, want) in [
-        (8, 4, 8, Ok(8)),
-        (8, 4, 9, Err(Fault::ReallocOutOfBounds(8))),
-        (6, 4, 1, Err(Fault::ReallocMisaligned(6))),
-        (17, 2, 9, Err(Fault::ReallocMisaligned(17))),
-        (16, 8, 0, Ok(16)),
+    let value =
+        r#"Ok(Record([("a", S8(-128)), ("b", Tuple([Bool(true), U16(7), List([U16(513), U16(1027)]), String("a"), Char('é')]))]))"#;
+    for ([list, items, text, bytes, char], want) in [
+        ([0, 2, 5, 1, 233], value),
+        ([1, 2, 5, 1, 233], "Err(PointerMisaligned(Word(4)))"),
+        ([62, 2, 5, 1, 233], "Err(PointerOutOfBounds(Word(4)))"),
+        ([0, 2, 4, 1, 233], "Err(InvalidUtf8(Word(6)))"),
+        ([0, 2, 63, 2, 233], "Err(PointerOutOfBounds(Word(6)))"),
+        ([0, 2, 5, 1, 0xd800], "Err(InvalidChar(Word(8)))"),
     ] {
-        let mut core = core_of(alloc, TypeBuilder::new(alloc), answer)?;
-        let mut cx = LowerContext::new(&mut core, OptionsIndex::from_u32(0));
-        assert_eq!(rt; cx.realloc(0, 0, align, size), want, "of {answer}");
+        let words = [
+            0,
+            0x7fff_ff80,
+            0x100,
+            0x5_ffff_0007,
+            list,
+            items,
+            text,
+            bytes,
+            char,
+        ];
+        let words = words.map(|word| ValRaw::u64(word));
+        let mut builder = TypeBuilder::new(alloc);
+        let ty = record_type(&rt, alloc, &mut builder);
+        let mut core = core_of(&rt, alloc, builder.finish());
+        let answer = lifted(&rt, alloc, &mut core, &ty, &words);
+        assert!(rt; answer.as_str() == want);
     }
-    Ok(())
 }
 
 #[test]
-fn a_context_lends_its_memory(rt: HostRuntime) -> Result<(), Fail> {
-    let alloc = rt.alloc();
-    let mut core = core_of(alloc, TypeBuilder::new(alloc), 0)?;
+fn a_context_lends_memory_and_asks_for_blocks(rt: HostRuntime) {
+    let mut core = plain_core(&rt, rt.alloc());
     let mut cx = LowerContext::new(&mut core, OptionsIndex::from_u32(0));
-    assert_eq!(rt; cx.as_slice_mut().len(), 16);
     *cx.get::<2>(3) = [7, 8];
-    assert_eq!(rt; cx.as_slice_mut().get(3), Some(&7));
-    assert_eq!(rt; cx.as_slice_mut().get(4), Some(&8));
-    assert_eq!(rt; cx.as_slice_mut().get(5), Some(&0));
-    Ok(())
+    assert!(rt; cx.as_slice_mut().starts_with(&[1, 2, 3, 7, 8, b'a']));
+    assert!(rt; cx.realloc(0, 0, 4, 8) == Ok(16));
 }
 
 #[test]
-fn a_component_is_sound_where_its_exports_are_inside(rt: HostRuntime) -> Result<(), Fail> {
+fn a_context_gives_its_options_and_types(rt: HostRuntime) {
+    let mut core = plain_core(&rt, rt.alloc());
+    let instance = RuntimeInstance::from_u32(3);
+    let cx = LowerContext::new(&mut core, OptionsIndex::from_u32(0));
+    assert!(rt; (cx.options().instance, cx.instance_handle()) == (instance, instance));
+    assert!(rt; cx.types().contains(&InterfaceType::Char));
+    assert!(rt; cx.instance_type().types().contains(&InterfaceType::Char));
+    let cx = LiftContext::new(&mut core, OptionsIndex::from_u32(0));
+    assert!(rt; (cx.options().instance, cx.instance_handle()) == (instance, instance));
+    assert!(rt; (cx.options_index().as_u32(), cx.store_id().as_u64()) == (0, 6));
+    assert!(rt; cx.types().contains(&InterfaceType::Char));
+    assert!(rt; cx.instance_type().types().contains(&InterfaceType::Char));
+}
+
+#[test]
+fn fuel_is_taken_or_left_as_it_was(rt: HostRuntime) {
+    let mut core = plain_core(&rt, rt.alloc());
+    assert!(rt; core.fuel() == 1_000);
+    core.set_fuel(70);
+    let mut cx = LiftContext::new(&mut core, OptionsIndex::from_u32(0));
+    // 2^32 times itself is 0 in 64 bits.
+    let answers = [
+        cx.consume_fuel(71),
+        cx.consume_fuel_array(3, 20),
+        cx.consume_fuel_array(1 << 32, 1 << 32),
+        cx.consume_fuel_array(u64::MAX, 0),
+        cx.consume_fuel(9),
+    ];
+    let refused = Err(Fault::HostcallFuelExhausted);
+    assert!(rt; answers == [refused, Ok(()), refused, Ok(()), Ok(())]);
+    assert!(rt; cx.fuel() == 1);
+}
+
+#[test]
+fn a_core_gives_its_parts_and_passes_calls_on(rt: HostRuntime) {
+    let alloc = rt.alloc();
+    let mut core = plain_core(&rt, alloc);
+    assert!(rt;
+        (
+            core.id().as_u64(),
+            *core.data_mut(),
+            core.component().options.len()
+        ) == (6, 5, 1)
+    );
+    let mut actions = Vec::new(alloc);
+    actions
+        .push(Action::Ask(9, Words::new(alloc)))
+        .expect(&rt, "memory");
+    actions
+        .push(Action::Return(Words::new(alloc)))
+        .expect(&rt, "memory");
+    core.guest_mut()
+        .load(actions, Vec::new(alloc), false, false);
+    assert!(rt; matches!(core.start(4, &[]), Ok(Step::Import { index: 9, .. })));
+    assert!(rt; matches!(core.resume(&[]), Ok(Step::Return(_))));
+    assert!(rt; core.post_return(4, &[]).is_ok());
+    assert!(rt; core.dtor(4, 5).is_ok());
+}
+
+#[test]
+fn a_component_is_sound_where_its_exports_are_inside(rt: HostRuntime) {
     let alloc = rt.alloc();
     for (ty, options, want) in [(0, 0, true), (1, 0, false), (0, 1, false)] {
         let mut builder = TypeBuilder::new(alloc);
-        builder.add_func(Vec::new(alloc), Vec::new(alloc), false)?;
-        let mut exports = Vec::new(alloc);
-        exports.push(Export {
+        let added = builder.add_func(Vec::new(alloc), Vec::new(alloc), false);
+        assert!(rt; added.is_ok());
+        let mut component = component_of(&rt, alloc, builder.finish());
+        let export = Export {
             ty: TypeFuncIndex::from_u32(ty),
             func: 9,
             options: OptionsIndex::from_u32(options),
-        })?;
-        let component = Component {
-            types: InstanceType::new(builder.finish(), StoreId::from_u64(6)),
-            options: options_of(alloc)?,
-            exports,
         };
-        assert_eq!(rt; component.check(), want, "type {ty}, options {options}");
+        component.exports.push(export).expect(&rt, "memory");
+        assert!(rt; component.check() == want);
     }
-    Ok(())
 }
 
 #[test]
-fn a_core_gives_its_parts_and_passes_calls_on(rt: HostRuntime) -> Result<(), Fail> {
-    let alloc = rt.alloc();
-    let mut core = core_of(alloc, TypeBuilder::new(alloc), 0)?;
-    assert_eq!(rt; core.id(), StoreId::from_u64(6));
-    assert_eq!(rt; *core.data_mut(), 5);
-    assert_eq!(rt; core.component().options.len(), 1);
-    assert!(rt; core.start(4, &[]).is_err());
-    assert!(rt; core.resume(&[]).is_err());
-    assert!(rt; core.post_return(4, &[]).is_err());
-    assert!(rt; core.dtor(4, 5).is_err());
-    assert_eq!(rt; core.guest_mut().traps, 4);
-    Ok(())
+fn options_are_not_built(rt: HostRuntime) {
+    let mut builder = TypeBuilder::new(rt.alloc());
+    let option = builder
+        .add_option(InterfaceType::U8)
+        .expect(&rt, "an option");
+    let types = builder.finish();
+    assert!(rt; is_built(&types, &InterfaceType::String));
+    assert!(rt; !is_built(&types, &option));
 }
 
 #[test]
-fn a_context_gives_its_options_and_types(rt: HostRuntime) -> Result<(), Fail> {
+fn errors_are_told_by_their_texts(rt: HostRuntime) {
     let alloc = rt.alloc();
-    let instance = RuntimeInstance::from_u32(3);
-    let first = TypeFuncIndex::from_u32(0);
-    let mut builder = TypeBuilder::new(alloc);
-    builder.add_func(Vec::new(alloc), Vec::new(alloc), false)?;
-    let mut core = core_of(alloc, builder, 0)?;
-    let cx = LowerContext::new(&mut core, OptionsIndex::from_u32(0));
-    assert_eq!(rt; cx.options().instance, instance);
-    assert_eq!(rt; cx.instance_handle(), instance);
-    assert!(rt; cx.types().contains_func(first));
-    assert!(rt; cx.instance_type().types().contains_func(first));
-    let cx = LiftContext::new(&mut core, OptionsIndex::from_u32(0));
-    assert_eq!(rt; cx.options().instance, instance);
-    assert_eq!(rt; cx.options_index(), OptionsIndex::from_u32(0));
-    assert_eq!(rt; cx.instance_handle(), instance);
-    assert_eq!(rt; cx.store_id(), StoreId::from_u64(6));
-    assert!(rt; cx.types().contains_func(first));
-    assert!(rt; cx.instance_type().types().contains_func(first));
-    Ok(())
+    for (fault, want) in [
+        (Fault::TypeMismatch(3), "TypeMismatch 3"),
+        (
+            Fault::PointerOutOfBounds(At::Word(0)),
+            "PointerOutOfBounds w0",
+        ),
+        (
+            Fault::PointerOutOfBounds(At::Address(1024)),
+            "PointerOutOfBounds @1024",
+        ),
+    ] {
+        let text = format!(in alloc; "{fault}").expect(&rt, "memory");
+        assert!(rt; text.as_str() == want);
+    }
+    let error = HostcallFuelExhausted;
+    let text = format!(in alloc; "{error}").expect(&rt, "memory");
+    let want =
+        "too much data is being copied between the host and the guest: fuel allocated for hostcalls has been exhausted";
+    assert!(rt; text.as_str() == want);
 }

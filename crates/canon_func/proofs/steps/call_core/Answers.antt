@@ -1,9 +1,9 @@
 use Rattle.std.proofs.Common.{ap, subst, ◌++◌, ◌≡◌}
 use Rattle.std.specs.Prelude.{IfOk, length}
 use Rattle.canon_model.specs.Shape.{member_count}
-use Rattle.canon_value.specs.Core.{moment_of}
+use Rattle.canon_value.specs.Core.{guest_of, moment_of}
 use Rattle.canon_func.specs.Call.{OnAnswered}
-use Rattle.canon_func.specs.Steps.{Does, IsRest}
+use Rattle.canon_func.specs.Steps.{Proceeds, IsRest}
 use Rattle.canon_func.specs.Stores.{export_callee}
 use Rattle.canon_func.proofs.Composed.{answered, call_refused, call_started, lowered_is_late, rest_is_late}
 use Rattle.canon_func.proofs.steps.call_core.Goals as goal
@@ -18,14 +18,14 @@ returns-in-Ok-clause-call g c =
     let callee = export_callee before.component c.args.export.now in
     let result = c.run.result in
     let words = c.in-Ok.words in
-    let second : Does (moment_of seen mid) (moment_of seen after) (λ es. OnAnswered result (moves mid.guest es after.guest)) (λ es. IsRest g.G.Guest.post_leaves callee before.fuel words.items (moment_of seen mid) (moment_of seen after) result es) =
-    subst (λ k. Does (moment_of seen mid) (moment_of seen after) (λ es. OnAnswered result (moves mid.guest es after.guest)) (λ es. IsRest g.G.Guest.post_leaves (export_callee k.component c.args.export.now) k.fuel words.items (moment_of seen mid) (moment_of seen after) result es))
+    let second : Proceeds (moment_of seen mid) (moment_of seen after) (λ es. OnAnswered result (moves (guest_of mid) es (guest_of after))) (λ es. IsRest g.G.Guest.leaves callee before.fuel words.items (moment_of seen mid) (moment_of seen after) result es) =
+    subst (λ k. Proceeds (moment_of seen mid) (moment_of seen after) (λ es. OnAnswered result (moves (guest_of mid) es (guest_of after))) (λ es. IsRest g.G.Guest.leaves (export_callee k.component c.args.export.now) k.fuel words.items (moment_of seen mid) (moment_of seen after) result es))
     c.lower_params.ensures.same
-    (subst (λ ws. Does (moment_of seen mid) (moment_of seen after) (λ es. OnAnswered result (moves mid.guest es after.guest)) (λ es. IsRest g.G.Guest.post_leaves (export_callee mid.component c.args.export.now) mid.fuel ws (moment_of seen mid) (moment_of seen after) result es))
+    (subst (λ ws. Proceeds (moment_of seen mid) (moment_of seen after) (λ es. OnAnswered result (moves (guest_of mid) es (guest_of after))) (λ es. IsRest g.G.Guest.leaves (export_callee mid.component c.args.export.now) mid.fuel ws (moment_of seen mid) (moment_of seen after) result es))
     c.deref.ensures.value c.run.ensures.did) in
-    call_started g.G.Guest.post_leaves callee before.fuel c.args.params.now (moment_of seen before) (moment_of seen mid) (moment_of seen after) words result
-    (λ es. moves before.guest es mid.guest) (λ es. OnAnswered result (moves mid.guest es after.guest)) (λ es. OnAnswered result (moves before.guest es after.guest))
-    (λ xs ys p q. answered result (moves mid.guest ys after.guest) (moves before.guest (xs ++ ys) after.guest) (λ r. g.met.G.Guest.goes_on before.guest mid.guest after.guest xs ys p r) q)
+    call_started g.G.Guest.leaves callee before.fuel c.args.params.now (moment_of seen before) (moment_of seen mid) (moment_of seen after) words result
+    (λ es. moves (guest_of before) es (guest_of mid)) (λ es. OnAnswered result (moves (guest_of mid) es (guest_of after))) (λ es. OnAnswered result (moves (guest_of before) es (guest_of after)))
+    (λ xs ys p q. answered result (moves (guest_of mid) ys (guest_of after)) (moves (guest_of before) (xs ++ ys) (guest_of after)) (λ r. g.met.G.Guest.goes_on (guest_of before) (guest_of mid) (guest_of after) xs ys p r) q)
     c.in-Ok.ensures.lowered second
 
 pub returns-in-Ok-clause-late : goal.returns-in-Ok-clause-late
@@ -45,7 +45,7 @@ returns-in-Err-clause-call g c =
     let seen = g.G.Guest.seen in
     let before = c.args.core.now in
     let after = c.lower_params.new.core in
-    call_refused g.G.Guest.post_leaves (export_callee before.component c.args.export.now) before.fuel c.args.params.now (moment_of seen before) (moment_of seen after) c.in-Err.error _ c.in-Err.ensures.lowered
+    call_refused g.G.Guest.leaves (export_callee before.component c.args.export.now) before.fuel c.args.params.now (moment_of seen before) (moment_of seen after) c.in-Err.error _ c.in-Err.ensures.lowered
 
 pub returns-in-Err-clause-late : goal.returns-in-Err-clause-late
 returns-in-Err-clause-late g c =

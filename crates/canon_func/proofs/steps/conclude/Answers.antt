@@ -1,10 +1,10 @@
 use Rattle.std.proofs.Common.{Err, Global, Vec, [], subst, sym}
-use Rattle.canon_value.specs.Core.{moment_of}
+use Rattle.canon_value.specs.Core.{guest_of, moment_of}
 use Rattle.canon_value.specs.declared.val.Val.{Val}
 use Rattle.canon_func.specs.Call.{OnAnswered}
-use Rattle.canon_func.specs.Steps.{Concluded, Does}
+use Rattle.canon_func.specs.Steps.{Concluded, Posted, Proceeds}
 use Rattle.canon_func.specs.Stores.{export_callee}
-use Rattle.canon_func.proofs.Composed.{answers, conclude_refused}
+use Rattle.canon_func.proofs.Composed.{answers, conclude_refused, conclude_untold}
 use Rattle.canon_func.proofs.steps.conclude.Goals as goal
 
 pub returns-in-Err-clause-did : goal.returns-in-Err-clause-did
@@ -15,7 +15,19 @@ returns-in-Err-clause-did g c =
     let callee = export_callee core.component c.args.export.now in
     let words = c.args.words.now in
     let e = c.in-Err.error in
-    subst (λ k. Does (moment_of seen core) (moment_of seen k) (λ es. OnAnswered {T = Vec Val Global} (Err e) (moves core.guest es k.guest)) (λ es. Concluded g.G.Guest.post_leaves callee core.fuel words (moment_of seen core) (moment_of seen k) (Err e) es))
+    subst (λ k. Proceeds (moment_of seen core) (moment_of seen k) (λ es. OnAnswered {T = Vec Val Global} (Err e) (moves (guest_of core) es (guest_of k))) (λ es. Concluded g.G.Guest.leaves callee core.fuel words (moment_of seen core) (moment_of seen k) (Err e) es))
     (sym c.lift_returned.ensures.same)
-    (conclude_refused g.G.Guest.post_leaves callee core.fuel words (seen core.guest) core.memory e (λ es. OnAnswered {T = Vec Val Global} (Err e) (moves core.guest es core.guest)) c.in-Err.ensures.lifted
-    (answers {T = Vec Val Global} (Err e) (moves core.guest [] core.guest) (g.met.G.Guest.stays core.guest)))
+    (conclude_refused g.G.Guest.leaves callee core.fuel words (seen core.guest) core.memory e (λ es. OnAnswered {T = Vec Val Global} (Err e) (moves (guest_of core) es (guest_of core))) c.in-Err.ensures.lifted
+    (answers {T = Vec Val Global} (Err e) (moves (guest_of core) [] (guest_of core)) (g.met.G.Guest.stays (guest_of core))))
+
+pub returns-in-Err-post_return-clause-did : goal.returns-in-Err-post_return-clause-did
+returns-in-Err-post_return-clause-did g c =
+    let seen = g.G.Guest.seen in
+    let moves = g.G.Guest.moves in
+    let core = c.args.core.now in
+    let after = c.post_return.new.core in
+    let words = c.args.words.now in
+    let e = c.in-Err-post_return.error in
+    conclude_untold g.G.Guest.leaves (export_callee core.component c.args.export.now) core.fuel words (moment_of seen core) (moment_of seen after) c.in-Ok.values e (λ es. moves (guest_of core) es (guest_of after)) c.in-Ok.ensures.lifted
+    (subst (λ k. Proceeds (moment_of seen k) (moment_of seen after) (λ es. OnAnswered {T = Unit {0}} (Err e) (moves (guest_of k) es (guest_of after))) (λ es. Posted g.G.Guest.leaves (export_callee k.component c.args.export.now) words (moment_of seen k) (moment_of seen after) (Err e) es))
+    c.lift_returned.ensures.same c.in-Err-post_return.ensures.did)

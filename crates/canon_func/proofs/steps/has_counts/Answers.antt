@@ -1,6 +1,6 @@
 use Rattle.std.proofs.Common.{ap, length, sym, ◌≡◌, ◌∙◌}
 use Rattle.canon_model.specs.Shape.{member_count}
-use Rattle.canon_table.specs.Table.{param_members, result_members, types_of}
+use Rattle.canon_types.specs.Table.{param_members, result_members, types_of}
 use Rattle.canon_func.proofs.Counts.{both_equal, first_differs, member_count-members_of}
 use Rattle.canon_func.proofs.steps.has_counts.Goals as goal
 

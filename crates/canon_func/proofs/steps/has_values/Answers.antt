@@ -1,8 +1,8 @@
 use Rattle.std.proofs.Common.{ap, subst, sym, ◌≡◌, ◌∙◌}
 use Rattle.std.specs.Prelude.{IsTrue}
 use Rattle.canon_model.specs.Shape.{of_places, product}
-use Rattle.canon_table.specs.Table.{members_of, shape_of, tuple_members}
-use Rattle.canon_table.specs.declared.types.InterfaceType.TheVariants as ty
+use Rattle.canon_types.specs.Table.{members_of, shape_of, tuple_members}
+use Rattle.canon_types.specs.declared.types.InterfaceType.TheVariants as ty
 use Rattle.canon_value.specs.Built.{are_built}
 use Rattle.canon_func.proofs.Counts.{product_built}
 use Rattle.canon_func.proofs.steps.has_values.Goals as goal

@@ -1,9 +1,10 @@
-use Rattle.std.proofs.Common.{Err, Global, Some, Vec, ap, arith, sym, ℕ, ◌∙◌, ◌≡◌}
+use Rattle.std.proofs.Common.{Err, Global, length, Some, Vec, ap, arith, sym, ℕ, ◌∙◌, ◌≡◌}
 use Rattle.std.specs.Prelude.{slice_get}
-use Rattle.canon_table.specs.Table.{Table, tuple_members}
-use Rattle.canon_table.specs.declared.types.TypeFunc.{TypeFunc}
-use Rattle.canon_value.specs.Core.{encoding_by, moment_of, types_of}
-use Rattle.canon_func.specs.Call.{OnAnswered}
+use Rattle.canon_model.specs.Flat.{max_params}
+use Rattle.canon_types.specs.Table.{Table, tuple_members}
+use Rattle.canon_types.specs.declared.types.TypeFunc.{TypeFunc}
+use Rattle.canon_value.specs.Core.{encoding_by, guest_of, moment_of, types_of}
+use Rattle.canon_func.specs.Call.{OnAnswered, words_within}
 use Rattle.canon_func.specs.Stores.{params_in}
 use Rattle.canon_func.specs.declared.error.Error.TheVariants as error
 use Rattle.canon_func.proofs.Lowered.{lowered_done, lowered_refused, refused_moves, written}
@@ -20,9 +21,12 @@ returns-in-Ok-clause-lowered g c =
     let after = c.lower_into.new.core in
     let f = c.func.result.now in
     let same : c.types-types.result.now ≡ types_of before = c.types-types.ensures ∙ ap (λ k. k.types.types) c.component.ensures.component in
+    let all = written c.in_ok-words.words.items c.lower_into.new.words c.in_ok-words.words.len (omega (arith, c.deref_mut.ensures.len, c.lower_into.auto.words)) in
+    let counted : words_within max_params (tuple_members c.types-types.result.now f.params) ≡ words_within max_params (tuple_members (types_of before) f.params) =
+    ap (λ (t : Table). words_within max_params (tuple_members t f.params)) same in
     lowered_done (moment_of seen before) (moment_of seen after) (encoding_by before c.args.export.now.options) (tuple_members (types_of before) f.params) _ c.args.params.now
     (members_are (types_of before) c.types-types.result.now c.args.export.now.ty f same c.func.ensures.found)
-    _ c.lower_into.new.words _ (written c.in_ok-words.words.items c.lower_into.new.words c.in_ok-words.words.len (omega (arith, c.deref_mut.ensures.len, c.lower_into.auto.words))) c.in-Ok.ensures.lowered c.in-Ok.ensures.moves
+    _ c.lower_into.new.words _ all (omega (arith, ap length all, c.lower_into.auto.words, c.deref_mut.ensures.len, c.in_ok-words.ensures.len, c.word_count.ensures, counted)) (λ near none. ap (moment_of seen) (c.in-Ok.ensures.quiet near none).0) c.in-Ok.ensures.lowered c.in-Ok.ensures.moves
 
 pub returns-in-Err-clause-lowered : goal.returns-in-Err-clause-lowered
 returns-in-Err-clause-lowered g c =
@@ -35,5 +39,5 @@ returns-in-Err-clause-lowered g c =
     let same : c.types-types.result.now ≡ types_of before = c.types-types.ensures ∙ ap (λ k. k.types.types) c.component.ensures.component in
     lowered_refused (moment_of seen before) (moment_of seen after) (encoding_by before c.args.export.now.options) (tuple_members (types_of before) f.params) _ c.args.params.now
     (members_are (types_of before) c.types-types.result.now c.args.export.now.ty f same c.func.ensures.found)
-    e c.lower_into.new.words (λ es. OnAnswered {T = Vec ℕ Global} (Err (error.Fault e)) (moves before.guest es after.guest))
-    c.in-Err.ensures.lowered c.in-Err.ensures.cause (refused_moves (Vec ℕ Global) seen moves before.guest after.guest e c.in-Err.ensures.moves)
+    e c.lower_into.new.words (λ es. OnAnswered {T = Vec ℕ Global} (Err (error.Fault e)) (moves (guest_of before) es (guest_of after)))
+    c.in-Err.ensures.lowered c.in-Err.ensures.cause (λ near none. let (same, is) = c.in-Err.ensures.quiet near none in (ap (moment_of seen) same, is)) (refused_moves (Vec ℕ Global) seen moves (guest_of before) (guest_of after) e c.in-Err.ensures.moves)

@@ -1,7 +1,7 @@
 use Rattle.std.proofs.Common.{subst, ◌++◌}
-use Rattle.canon_value.specs.Core.{moment_of}
+use Rattle.canon_value.specs.Core.{guest_of, moment_of}
 use Rattle.canon_func.specs.Call.{OnAnswered}
-use Rattle.canon_func.specs.Steps.{Concluded, Does}
+use Rattle.canon_func.specs.Steps.{Concluded, Proceeds}
 use Rattle.canon_func.specs.Stores.{export_callee}
 use Rattle.canon_func.proofs.Composed.{answered, run_refused, run_returned}
 use Rattle.canon_func.proofs.steps.run.Goals as goal
@@ -15,14 +15,14 @@ returns-in-Ok-clause-did g c =
     let after = c.conclude.new.core in
     let callee = export_callee before.component c.args.export.now in
     let result = c.conclude.result in
-    let second : Does (moment_of seen mid) (moment_of seen after) (λ es. OnAnswered result (moves mid.guest es after.guest)) (λ es. Concluded g.G.Guest.post_leaves callee before.fuel c.in-Ok.returned (moment_of seen mid) (moment_of seen after) result es) =
-    subst (λ k. Does (moment_of seen mid) (moment_of seen after) (λ es. OnAnswered result (moves mid.guest es after.guest)) (λ es. Concluded g.G.Guest.post_leaves (export_callee k.component c.args.export.now) k.fuel c.in-Ok.returned (moment_of seen mid) (moment_of seen after) result es))
+    let second : Proceeds (moment_of seen mid) (moment_of seen after) (λ es. OnAnswered result (moves (guest_of mid) es (guest_of after))) (λ es. Concluded g.G.Guest.leaves callee before.fuel c.in-Ok.returned (moment_of seen mid) (moment_of seen after) result es) =
+    subst (λ k. Proceeds (moment_of seen mid) (moment_of seen after) (λ es. OnAnswered result (moves (guest_of mid) es (guest_of after))) (λ es. Concluded g.G.Guest.leaves (export_callee k.component c.args.export.now) k.fuel c.in-Ok.returned (moment_of seen mid) (moment_of seen after) result es))
     c.start.ensures.same
-    (subst (λ ws. Does (moment_of seen mid) (moment_of seen after) (λ es. OnAnswered result (moves mid.guest es after.guest)) (λ es. Concluded g.G.Guest.post_leaves (export_callee mid.component c.args.export.now) mid.fuel ws (moment_of seen mid) (moment_of seen after) result es))
+    (subst (λ ws. Proceeds (moment_of seen mid) (moment_of seen after) (λ es. OnAnswered result (moves (guest_of mid) es (guest_of after))) (λ es. Concluded g.G.Guest.leaves (export_callee mid.component c.args.export.now) mid.fuel ws (moment_of seen mid) (moment_of seen after) result es))
     c.as_slice.ensures c.conclude.ensures.did) in
-    run_returned g.G.Guest.post_leaves callee before.fuel c.args.words.now (moment_of seen before) (moment_of seen mid) (moment_of seen after) c.in-Ok.returned result
-    (λ es. moves before.guest es mid.guest) (λ es. OnAnswered result (moves mid.guest es after.guest)) (λ es. OnAnswered result (moves before.guest es after.guest))
-    (λ xs ys p q. answered result (moves mid.guest ys after.guest) (moves before.guest (xs ++ ys) after.guest) (λ r. g.met.G.Guest.goes_on before.guest mid.guest after.guest xs ys p r) q)
+    run_returned g.G.Guest.leaves callee before.fuel c.args.words.now (moment_of seen before) (moment_of seen mid) (moment_of seen after) c.in-Ok.returned result
+    (λ es. moves (guest_of before) es (guest_of mid)) (λ es. OnAnswered result (moves (guest_of mid) es (guest_of after))) (λ es. OnAnswered result (moves (guest_of before) es (guest_of after)))
+    (λ xs ys p q. answered result (moves (guest_of mid) ys (guest_of after)) (moves (guest_of before) (xs ++ ys) (guest_of after)) (λ r. g.met.G.Guest.goes_on (guest_of before) (guest_of mid) (guest_of after) xs ys p r) q)
     c.in-Ok.ensures.did second
 
 pub returns-in-Err-clause-did : goal.returns-in-Err-clause-did
@@ -30,4 +30,4 @@ returns-in-Err-clause-did g c =
     let seen = g.G.Guest.seen in
     let before = c.args.core.now in
     let after = c.start.new.core in
-    run_refused g.G.Guest.post_leaves (export_callee before.component c.args.export.now) before.fuel c.args.words.now (moment_of seen before) (moment_of seen after) c.in-Err.error _ c.in-Err.ensures.did
+    run_refused g.G.Guest.leaves (export_callee before.component c.args.export.now) before.fuel c.args.words.now (moment_of seen before) (moment_of seen after) c.in-Err.error _ c.in-Err.ensures.did

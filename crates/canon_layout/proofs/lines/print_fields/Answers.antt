@@ -1,4 +1,4 @@
-use Rattle.canon_table.specs.Table.{all_shapes}
+use Rattle.canon_types.specs.Table.{all_shapes}
 use Rattle.canon_layout.proofs.Offsets.{field_known, member_fits, next_field, rest_ends, rest_printed}
 use Rattle.canon_layout.proofs.lines.print_fields.Goals as goal
 

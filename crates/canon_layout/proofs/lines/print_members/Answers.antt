@@ -1,4 +1,4 @@
-use Rattle.canon_table.specs.Table.{all_shapes}
+use Rattle.canon_types.specs.Table.{all_shapes}
 use Rattle.canon_layout.proofs.Offsets.{member_fits, next_type, rest_ends, rest_printed}
 use Rattle.canon_layout.proofs.lines.print_members.Goals as goal
 

@@ -1,7 +1,7 @@
 use Rattle.std.proofs.Common.{◌≡◌, ◌++◌, drop, false, string_bytes}
 use Rattle.std.specs.Prelude.{codes}
 use Rattle.canon_model.specs.Layout.{members_end}
-use Rattle.canon_table.specs.Table.{members_of}
+use Rattle.canon_types.specs.Table.{members_of}
 use Rattle.canon_layout.specs.Lines as spec
 use Rattle.canon_layout.proofs.lines.print_members.Given as goal
 

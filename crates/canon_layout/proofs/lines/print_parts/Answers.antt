@@ -1,9 +1,9 @@
 use Rattle.std.proofs.Common.{List, ap, sym, ◌∙◌}
 use Rattle.canon_model.specs.Shape.{of_fields, of_places, product}
-use Rattle.canon_table.specs.Keeps.{field_members}
-use Rattle.canon_table.specs.Table.{members_of}
-use Rattle.canon_table.specs.declared.types.InterfaceType.{InterfaceType}
-use Rattle.canon_table.specs.declared.types.RecordField.{RecordField}
+use Rattle.canon_types.specs.Keeps.{field_members}
+use Rattle.canon_types.specs.Table.{members_of}
+use Rattle.canon_types.specs.declared.types.InterfaceType.{InterfaceType}
+use Rattle.canon_types.specs.declared.types.RecordField.{RecordField}
 use Rattle.canon_layout.proofs.Offsets.{row_fits}
 use Rattle.canon_layout.proofs.lines.print_parts.Goals as goal
 

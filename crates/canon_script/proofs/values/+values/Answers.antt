@@ -44,27 +44,30 @@ values_of-returns t c =
 
 pub value_of_json-returns-in_default-kind : goal.value_of_json-returns-in_default-kind
 value_of_json-returns-in_default-kind t c =
+    let named = c.in-Some-value_kind_named in
+    let other = c.in_default-kind in
     subst (λ (o : Option Literal). Gives literal_view c.scalar_of.result o)
-    (scalar_is (view c.args.v.now) (view c.in-Some.form.now) c.in-Some.name.now c.in-Some-kind_named.kind c.in-Some.ensures c.in-Some-kind_named.ensures c.in_default-kind.not-String c.in_default-kind.not-List c.in_default-kind.not-Record c.in_default-kind.not-Tuple c.in_default-kind.not-FixedLengthList)
+    (scalar_is (view c.args.v.now) (view c.in-Some.form.now) c.in-Some.name.now named.kind c.in-Some.ensures named.ensures
+    other.not-String other.not-List other.not-Record other.not-Tuple other.not-FixedLengthList)
     c.scalar_of.ensures
 
 pub value_of_json-returns-in-List : goal.value_of_json-returns-in-List
 value_of_json-returns-in-List t c =
     let form = view c.in-Some.form.now in
     made_of val.List list (option_and_then values_of (as_array form)) (value_of (view c.args.v.now)) c.values_of.result c.map.result
-    (value_is (view c.args.v.now) form c.in-Some.name.now c.in-Some-kind_named.kind c.in-Some.ensures c.in-Some-kind_named.ensures ∙ (ap (value_by form) c.in-List.is ∙ list_by form))
+    (value_is (view c.args.v.now) form c.in-Some.name.now c.in-Some-value_kind_named.kind c.in-Some.ensures c.in-Some-value_kind_named.ensures ∙ (ap (value_by form) c.in-List.is ∙ list_by form))
     literal-List c.values_of.ensures c.map.ensures.cases
 
 pub value_of_json-returns-in-Tuple : goal.value_of_json-returns-in-Tuple
 value_of_json-returns-in-Tuple t c =
     let form = view c.in-Some.form.now in
     made_of val.Tuple tuple (option_and_then values_of (as_array form)) (value_of (view c.args.v.now)) c.values_of-in-Tuple.result c.map-in-Tuple.result
-    (value_is (view c.args.v.now) form c.in-Some.name.now c.in-Some-kind_named.kind c.in-Some.ensures c.in-Some-kind_named.ensures ∙ (ap (value_by form) c.in-Tuple.is ∙ tuple_by form))
+    (value_is (view c.args.v.now) form c.in-Some.name.now c.in-Some-value_kind_named.kind c.in-Some.ensures c.in-Some-value_kind_named.ensures ∙ (ap (value_by form) c.in-Tuple.is ∙ tuple_by form))
     literal-Tuple c.values_of-in-Tuple.ensures c.map-in-Tuple.ensures.cases
 
 pub value_of_json-returns-in-FixedLengthList : goal.value_of_json-returns-in-FixedLengthList
 value_of_json-returns-in-FixedLengthList t c =
     let form = view c.in-Some.form.now in
     made_of val.FixedLengthList fixed (option_and_then values_of (as_array form)) (value_of (view c.args.v.now)) c.values_of-in-FixedLengthList.result c.map-in-FixedLengthList.result
-    (value_is (view c.args.v.now) form c.in-Some.name.now c.in-Some-kind_named.kind c.in-Some.ensures c.in-Some-kind_named.ensures ∙ (ap (value_by form) c.in-FixedLengthList.is ∙ fixed_by form))
+    (value_is (view c.args.v.now) form c.in-Some.name.now c.in-Some-value_kind_named.kind c.in-Some.ensures c.in-Some-value_kind_named.ensures ∙ (ap (value_by form) c.in-FixedLengthList.is ∙ fixed_by form))
     literal-FixedLengthList c.values_of-in-FixedLengthList.ensures c.map-in-FixedLengthList.ensures.cases

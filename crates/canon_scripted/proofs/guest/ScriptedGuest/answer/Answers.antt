@@ -2,7 +2,7 @@ use Rattle.std.proofs.Common.{◌∙◌, ◌++◌, ◌∷◌, [], Bool, List, tr
 use Rattle.canon_memory.specs.Realloc.{ReallocLaw, call}
 use Rattle.canon_scripted.specs.Allocator.{Allocator}
 use Rattle.canon_scripted.specs.Scripted.{Doing}
-use Rattle.canon_scripted.proofs.Guests.{free_answers, free_lawful, free_no_shorter, free_tidy, ordered_answers}
+use Rattle.canon_scripted.proofs.Guests.{free_answers, free_lawful, free_length, free_tidy, ordered_answers}
 use Rattle.canon_scripted.proofs.guest.ScriptedGuest.answer.Goals as goal
 
 pub returns-in-Answer-clause-does : goal.returns-in-Answer-clause-does
@@ -30,5 +30,5 @@ returns-clause-lawful c free =
 pub returns-clause-tidy : goal.returns-clause-tidy
 returns-clause-tidy c = free_tidy c.args.memory.now c.place.new.memory c.self.inside.allocator c.place.new.allocator (call c.args.old c.args.old_size c.args.align c.args.new_size) c.in-Ok.answer c.in-Ok.ensures.row c.requires.aligned c.in-Ok.ensures.does c.in-Ok.ensures.copies
 
-pub returns-clause-no_shorter : goal.returns-clause-no_shorter
-returns-clause-no_shorter c = free_no_shorter c.args.memory.now c.place.new.memory c.self.inside.allocator c.place.new.allocator (call c.args.old c.args.old_size c.args.align c.args.new_size) c.in-Ok.answer c.in-Ok.ensures.row c.requires.aligned c.in-Ok.ensures.does c.in-Ok.ensures.copies
+pub returns-clause-same_length : goal.returns-clause-same_length
+returns-clause-same_length c = free_length c.args.memory.now c.place.new.memory c.self.inside.allocator c.place.new.allocator (call c.args.old c.args.old_size c.args.align c.args.new_size) c.in-Ok.answer c.in-Ok.ensures.row c.requires.aligned c.in-Ok.ensures.does c.in-Ok.ensures.copies

@@ -1,0 +1,211 @@
+-- Runs, prefixes of runs, and the events of answers.
+use Rattle.std.proofs.Common.{List, None, Option, Some, [], ap, append_assoc, arith, length, refl, sym, ℕ, ◌++◌, ◌∙◌, ◌∷◌, ◌≡◌, ◌≤◌}
+use Rattle.std.proofs.lemmas.List.{append-nil}
+use Rattle.canon_model.specs.Requests.{Call}
+use Rattle.canon_memory.specs.declared.event.Event.{Event}
+use Rattle.canon_memory.specs.declared.event.Event.TheVariants as event
+use Rattle.canon_memory.specs.Journal.{answer_event, asked_trap, trap_event}
+use Rattle.canon_lowering.specs.Lowering.{Answer, Trap, events_of}
+use Rattle.canon_func.specs.Runs.{Each, EndsIn, Grows, IsOneRun, IsPrefixOfRun, IsRealloc, events_in, last_len, posts}
+
+-- ---- properties of events in a row
+
+pub each_then : (P : Event → Type 0) (xs ys : List Event) → Each P xs → Each P ys → Each P (xs ++ ys)
+each_then P [] ys h g = g
+each_then P (e ∷ xs) ys h g = (h.0, each_then P xs ys h.1 g)
+
+pub each_after : (P : Event → Type 0) (xs ys : List Event) → Each P (xs ++ ys) → Each P ys
+each_after P [] ys h = h
+each_after P (e ∷ xs) ys h = each_after P xs ys h.1
+
+pub ends_after : (P : Event → Type 0) (xs ys : List Event) → EndsIn P ys → EndsIn P (xs ++ ys)
+ends_after P [] ys h = h
+ends_after P (e ∷ []) [] h = absurd h
+ends_after P (e ∷ []) (f ∷ ys) h = h
+ends_after P (e ∷ f ∷ xs) ys h = ends_after P (f ∷ xs) ys h
+
+-- ---- the events of answers
+
+pub each_answer : (P : Event → Type 0) → ((c : Call) (a : ℕ) → P (answer_event c a)) → ((c : Call) (n : ℕ) → P (asked_trap c n)) → (xs : List Answer) (trap : Option Trap) → Each P (events_of xs trap)
+each_answer P f g [] None = tt
+each_answer P f g [] (Some t) = (g t.call t.len, tt)
+each_answer P f g (x ∷ xs) trap = (f x.call x.at, each_answer P f g xs trap)
+
+pub answers_are : (xs : List Answer) → Each IsRealloc (events_of xs None)
+answers_are [] = tt
+answers_are (x ∷ xs) = (tt, answers_are xs)
+
+-- the answers first, and then the trap
+pub events_of-then : (xs ys : List Answer) (trap : Option Trap) → events_of (xs ++ ys) trap ≡ events_of xs None ++ events_of ys trap
+events_of-then [] ys trap = refl
+events_of-then (x ∷ xs) ys trap = ap (λ es. answer_event x.call x.at ∷ es) (events_of-then xs ys trap)
+
+pub events_of-trap : (xs : List Answer) (t : Trap) → events_of xs (Some t) ≡ events_of xs None ++ asked_trap t.call t.len ∷ []
+events_of-trap [] t = refl
+events_of-trap (x ∷ xs) t = ap (λ es. answer_event x.call x.at ∷ es) (events_of-trap xs t)
+
+-- ---- the length of memory
+
+pub grows_from : (a b last : ℕ) (es : List Event) → a ≤ b → Grows b es last → Grows a es last
+grows_from a b last [] h g = omega (arith, h, g)
+grows_from a b last (event.Start f ws m ∷ es) h g = (omega (arith, h, g.0), g.1)
+grows_from a b last (event.Ask i ws m ∷ es) h g = (omega (arith, h, g.0), g.1)
+grows_from a b last (event.Resume ws m ∷ es) h g = (omega (arith, h, g.0), g.1)
+grows_from a b last (event.Return ws m ∷ es) h g = (omega (arith, h, g.0), g.1)
+grows_from a b last (event.Trap asked at ∷ es) h g = (omega (arith, h, g.0), grows_from a b last es h g.1)
+grows_from a b last (event.Realloc o s al n p ∷ es) h g = grows_from a b last es h g
+grows_from a b last (event.Post f ws ∷ es) h g = grows_from a b last es h g
+grows_from a b last (event.Dtor f r ∷ es) h g = grows_from a b last es h g
+
+-- answers tell no memory
+pub grows_answers : (a last : ℕ) (xs : List Answer) (es : List Event) → Grows a es last → Grows a (events_of xs None ++ es) last
+grows_answers a last [] es g = g
+grows_answers a last (x ∷ xs) es g = grows_answers a last xs es g
+
+-- ---- blocks asked for before a run
+
+pub last_len-after : (len : ℕ) (xs ys : List Event) → Each IsRealloc xs → last_len len (xs ++ ys) ≡ last_len len ys
+last_len-after len [] ys h = refl
+last_len-after len (event.Realloc o s a n p ∷ xs) ys h = last_len-after len xs ys h.1
+last_len-after len (event.Start f w m ∷ xs) ys h = absurd h.0
+last_len-after len (event.Ask i w m ∷ xs) ys h = absurd h.0
+last_len-after len (event.Resume w m ∷ xs) ys h = absurd h.0
+last_len-after len (event.Return w m ∷ xs) ys h = absurd h.0
+last_len-after len (event.Post f w ∷ xs) ys h = absurd h.0
+last_len-after len (event.Dtor f r ∷ xs) ys h = absurd h.0
+last_len-after len (event.Trap asked n ∷ xs) ys h = absurd h.0
+
+inner : (ws xs ys zs : List Event) → ws ++ (xs ++ ys ++ zs) ≡ ws ++ xs ++ ys ++ zs
+inner ws xs ys zs = sym (append_assoc ws (xs ++ ys) zs) ∙ ap (λ es. es ++ zs) (sym (append_assoc ws xs ys))
+
+module _ (func : ℕ) (post : Option ℕ) where
+  pub run_after : (xs ys : List Event) → Each IsRealloc xs → IsOneRun func post ys → IsOneRun func post (xs ++ ys)
+  run_after xs ys h (words, memory, returned, after, r) = (
+    words,
+    memory,
+    returned,
+    after,
+    record {
+      reallocs = xs ++ r.reallocs;
+      only_reallocs = each_then IsRealloc xs r.reallocs h r.only_reallocs;
+      turns = r.turns;
+      is = ap (λ es. xs ++ es) r.is ∙ inner xs r.reallocs (event.Start func words memory ∷ events_in r.turns) (event.Return returned after ∷ posts post returned);
+    },
+  )
+
+  pub prefix_after : (len : ℕ) (xs ys : List Event) → Each IsRealloc xs → IsPrefixOfRun func post len ys → IsPrefixOfRun func post len (xs ++ ys)
+  prefix_after len xs ys h f = record {
+    run = xs ++ f.run;
+    one_run = run_after xs f.run h f.one_run;
+    prefix = xs ++ f.prefix;
+    rest = f.rest;
+    trap = f.trap;
+    begins = ap (λ es. xs ++ es) f.begins ∙ sym (append_assoc xs f.prefix f.rest);
+    events_are = ap (λ es. xs ++ es) f.events_are ∙ sym (append_assoc xs f.prefix f.trap);
+    may_trap = rw (last_len-after len xs f.prefix h) f.may_trap;
+  }
+
+  -- ---- prefixes
+
+  -- without asks
+  pub plain_run : (words memory returned after : List ℕ) → IsOneRun func post (event.Start func words memory ∷ event.Return returned after ∷ posts post returned)
+  plain_run words memory returned after = (words, memory, returned, after, record { reallocs = []; only_reallocs = tt; turns = []; is = refl })
+
+  pub prefix_none : (len : ℕ) → IsPrefixOfRun func post len []
+  prefix_none len = record {
+    run = event.Start func [] [] ∷ event.Return [] [] ∷ posts post [];
+    one_run = plain_run [] [] [] [];
+    prefix = [];
+    rest = event.Start func [] [] ∷ event.Return [] [] ∷ posts post [];
+    trap = [];
+    begins = refl;
+    events_are = refl;
+    may_trap = tt;
+  }
+
+  -- a request before the start trapped
+  pub prefix_request : (len : ℕ) (c : Call) (n : ℕ) → len ≤ n → IsPrefixOfRun func post len (asked_trap c n ∷ [])
+  prefix_request len c n h = record {
+    run = event.Start func [] [] ∷ event.Return [] [] ∷ posts post [];
+    one_run = plain_run [] [] [] [];
+    prefix = [];
+    rest = event.Start func [] [] ∷ event.Return [] [] ∷ posts post [];
+    trap = asked_trap c n ∷ [];
+    begins = refl;
+    events_are = refl;
+    may_trap = h;
+  }
+
+  module _ (len : ℕ) (words memory : List ℕ) where
+    pub prefix_trapped : IsPrefixOfRun func post len (event.Start func words memory ∷ trap_event (length memory) ∷ [])
+    prefix_trapped = record {
+      run = event.Start func words memory ∷ event.Return [] [] ∷ posts post [];
+      one_run = plain_run words memory [] [];
+      prefix = event.Start func words memory ∷ [];
+      rest = event.Return [] [] ∷ posts post [];
+      trap = trap_event (length memory) ∷ [];
+      begins = refl;
+      events_are = refl;
+      may_trap = omega arith;
+    }
+
+    pub prefix_asked : (n : ℕ) (asked after : List ℕ) → IsPrefixOfRun func post len (event.Start func words memory ∷ event.Ask n asked after ∷ [])
+    prefix_asked n asked after = record {
+      run = event.Start func words memory ∷ event.Ask n asked after ∷ event.Resume [] [] ∷ event.Return [] [] ∷ posts post [];
+      one_run = (
+        words,
+        memory,
+        [],
+        [],
+        record {
+          reallocs = [];
+          only_reallocs = tt;
+          turns = record { index = n; words = asked; memory = after; reallocs = []; only_reallocs = tt; resumed_words = []; resumed_memory = [] } ∷ [];
+          is = refl;
+        },
+      );
+      prefix = event.Start func words memory ∷ event.Ask n asked after ∷ [];
+      rest = event.Resume [] [] ∷ event.Return [] [] ∷ posts post [];
+      trap = [];
+      begins = refl;
+      events_are = refl;
+      may_trap = tt;
+    }
+
+    module _ (returned after : List ℕ) where
+      pub prefix_returned : IsPrefixOfRun func post len (event.Start func words memory ∷ event.Return returned after ∷ [])
+      prefix_returned = record {
+        run = event.Start func words memory ∷ event.Return returned after ∷ posts post returned;
+        one_run = plain_run words memory returned after;
+        prefix = event.Start func words memory ∷ event.Return returned after ∷ [];
+        rest = posts post returned;
+        trap = [];
+        begins = refl;
+        events_are = refl;
+        may_trap = tt;
+      }
+
+      pub prefix_all : IsPrefixOfRun func post len (event.Start func words memory ∷ event.Return returned after ∷ posts post returned)
+      prefix_all = record {
+        run = event.Start func words memory ∷ event.Return returned after ∷ posts post returned;
+        one_run = plain_run words memory returned after;
+        prefix = event.Start func words memory ∷ event.Return returned after ∷ posts post returned;
+        rest = [];
+        trap = [];
+        begins = sym (append-nil (event.Start func words memory ∷ event.Return returned after ∷ posts post returned));
+        events_are = sym (append-nil (event.Start func words memory ∷ event.Return returned after ∷ posts post returned));
+        may_trap = tt;
+      }
+
+pub prefix_post_trapped : (func len p : ℕ) (words memory returned after : List ℕ)
+    → IsPrefixOfRun func (Some p) len (event.Start func words memory ∷ event.Return returned after ∷ event.Post p returned ∷ trap_event (length after) ∷ [])
+prefix_post_trapped func len p words memory returned after = record {
+  run = event.Start func words memory ∷ event.Return returned after ∷ event.Post p returned ∷ [];
+  one_run = plain_run func (Some p) words memory returned after;
+  prefix = event.Start func words memory ∷ event.Return returned after ∷ event.Post p returned ∷ [];
+  rest = [];
+  trap = trap_event (length after) ∷ [];
+  begins = refl;
+  events_are = refl;
+  may_trap = omega arith;
+}

@@ -1,4 +1,0 @@
-pub mod Conversions
-pub mod Held
-pub mod TypeLaws
-pub mod Types

@@ -1,0 +1,11 @@
+pub mod AccessLemmas
+pub mod BooksLemmas
+pub mod ContextLemmas
+pub mod DidLemmas
+pub mod HandlesLemmas
+pub mod HoldsLemmas
+pub mod HostLemmas
+pub mod LedgerLemmas
+pub mod OwedLemmas
+pub mod ScopeLemmas
+pub mod StepLemmas

@@ -1,0 +1,25 @@
+//! The resources of a store: its handle tables, the scopes of its calls, and what is lent in them.
+#![tactic(auto)]
+
+mod context;
+mod fault;
+mod handles;
+mod host;
+mod host_tables;
+mod index;
+pub mod laws;
+mod ledger;
+mod tables;
+
+pub use context::CallContext;
+pub use fault::ResourceFault;
+pub use host::{HostResourceData, TableSlot};
+pub use host_tables::{HostResourceTables, resource_drop_ret};
+pub use index::HostResourceIndex;
+pub use ledger::Ledger;
+pub use tables::ResourceTables;
+
+#[cfg(test)]
+mod host_tests;
+#[cfg(test)]
+mod tests;

@@ -1,0 +1,270 @@
+-- Attempts, one after another.
+use Rattle.canon_model.specs.Tree.{Tree, Trees, tree}
+use Rattle.std.proofs.Common.{Bool, List, None, [], ap, arith, inl, inr, length, refl, subst, sym, ℕ, ⊎_elim, ◌++◌, ◌<◌, ◌^◌, ◌∙◌, ◌∷◌, ◌≡◌, ◌≤◌, ◌+◌}
+use Rattle.std.specs.Prelude.{slice_index}
+use Rattle.canon_model.proofs.Blocks.{in_either, in_left, in_right}
+use Rattle.canon_model.specs.Homes.{PointsTo}
+use Rattle.canon_model.specs.Memory.{Block, InBlocks, Within, memory_of}
+use Rattle.canon_model.specs.Requests.{Call, Request, call_of}
+use Rattle.canon_memory.specs.Guest.{Moment, Seen, moment}
+use Rattle.canon_memory.specs.Realloc.{new_block, block}
+use Rattle.canon_lowering.specs.Steps.{Apart, Writes}
+use Rattle.canon_lowering.specs.Lowering.{AllLawful, Answer, Ending, Granted, Lowering, Reallocated, Requested, WhenDone, addresses_of, done, misaligned, out_of_bounds, refused, short, trapped}
+use Rattle.canon_lowering.specs.Attempt.{Aim, AnyPointer, AreHeld, Attempt, Shown}
+use Rattle.canon_lowering.proofs.Lowerings.{NotDone, addresses_append, answer, lowering_anew, lowering_filled, lowering_write, requested_cons, requested_stopped, stopped, in_first, in_second, lawful_first, lawful_second, lowering_none, lowering_refused, lowering_then, lowering_within, requested_later, requested_none, requested_part, requested_then, tidy_first, tidy_second, when, when_not}
+
+-- blocks of one memory whose bytes another memory keeps, among these blocks
+pub record Keeps (blocks more : List Block) (xs ys : List ℕ) : Type 0 where
+  pub longer : length xs ≤ length ys
+  pub kept : (i : ℕ) → i < length xs → InBlocks blocks i → slice_index ys i ≡ slice_index xs i
+  pub wider : Within blocks more
+
+pub keeps_same : (blocks more : List Block) (xs : List ℕ) → Within blocks more → Keeps blocks more xs xs
+keeps_same blocks more xs w = record { longer = omega arith; kept = λ i lt h. refl; wider = w }
+
+-- what an aim's representation and its homes need: bytes of blocks
+pub record IsFramed {X : Type 0} (wide : Bool) (aim : Aim X) : Type 0 where
+  pub rep : (blocks more : List Block) (xs ys : List ℕ) → Keeps blocks more xs ys → (x : X) → aim.Rep blocks xs x → aim.Rep more ys x
+  pub home : (blocks more : List Block) (xs ys : List ℕ) → Keeps blocks more xs ys → (x : X) (ps qs : List ℕ) → aim.Rep blocks xs x → aim.Home (PointsTo (memory_of xs wide)) x ps qs
+      → aim.Home (PointsTo (memory_of ys wide)) x ps qs
+
+-- ---- places
+
+pub within_block : (a k b n : ℕ) → b ≤ a → a + k ≤ b + n → Within (block a k ∷ []) (block b n ∷ [])
+within_block a k b n l u i (inl h) = inl (omega (arith, l, h.0), omega (arith, u, h.1))
+within_block a k b n l u i (inr h) = absurd h
+
+pub with_blocks : (part whole : Block) (f : List Block) → Within (part ∷ []) (whole ∷ []) → Within (part ∷ f) (whole ∷ f)
+with_blocks part whole f w i (inl h) = ⊎_elim (λ k. inl k) (λ k. absurd k) (w i (inl h))
+with_blocks part whole f w i (inr h) = inr h
+
+-- the trees are a first one and others
+abbrev pub FirstAnd : (Tree → Type 0) → (Trees → Type 0) → Trees → Type 0
+FirstAnd Has Have ts = (t : Tree) × (rest : Trees) × (ts ≡ tree t rest) × Has t × Have rest
+
+-- ---- held places
+
+held_within : (a : Moment) (xs : List Answer) (big part : List Block) → Within part big → AreHeld a xs big → AreHeld a xs part
+held_within a xs big part w (inl h) = inl (λ i g. h i (w i g))
+held_within a xs big part w (inr h) = inr (h.0, λ i g k. h.1 i g (w i k))
+
+held_before : (a : Moment) (xs ys : List Answer) (big part : List Block) → Within part big → AreHeld a (xs ++ ys) big → AreHeld a xs part
+held_before a xs ys big part w (inl h) = inl (λ i g. h i (w i g))
+held_before a xs ys big part w (inr h) = inr (tidy_first xs ys h.0, λ i g k. h.1 i (in_first xs ys i g) (w i k))
+
+held_after : (a b : Moment) (xs ys : List Answer) (big part : List Block) → Within a.guest.live b.guest.live → Within part big → AreHeld a (xs ++ ys) big → AreHeld b ys part
+held_after a b xs ys big part l w (inl h) = inl (λ i g. l i (h i (w i g)))
+held_after a b xs ys big part l w (inr h) = inr (tidy_second xs ys h.0, λ i g k. h.1 i (in_second xs ys i g) (w i k))
+
+-- ---- two, one after another
+
+-- what a first and a second make together
+pub record Joins {X Y Z : Type 0} (first : Aim X) (second : Aim Y) (whole : Aim Z) (join : X → Y → Z) : Type 1 where
+  pub is : (x : X) (y : Y) → first.Is x → second.Is y → whole.Is (join x y)
+  pub split : (z : Z) → whole.Is z → (x : X) × (y : Y) × (z ≡ join x y) × first.Is x × second.Is y
+  pub asks : (x : X) (y : Y) → whole.asks (join x y) ≡ first.asks x ++ second.asks y
+  pub rep : (blocks : List Block) (bytes : List ℕ) (x : X) (y : Y) → first.Rep blocks bytes x → second.Rep blocks bytes y → whole.Rep blocks bytes (join x y)
+  pub home : (pointer : ℕ → ℕ → Type 0) (x : X) (y : Y) (xs zs ys : List ℕ) → first.Home pointer x xs zs → second.Home pointer y zs ys → whole.Home pointer (join x y) xs ys
+
+module _ {X Y Z : Type 0} (wide : Bool) (a b c : Moment) (p q big : List Block) (first : Aim X) (second : Aim Y) (whole : Aim Z) (join : X → Y → Z) (joins : Joins first second whole join)
+    (f1 : IsFramed wide first) (f2 : IsFramed wide second) (inside : Within p big) (inside2 : Within q big) (apart : Apart p q) where
+  module _ (h : Attempt wide a b p first done) where
+    -- what the first showed is kept by the second
+    first_kept : (r : Attempt wide b c q second done) → AllLawful (h.answers ++ r.answers) → AreHeld a (h.answers ++ r.answers) big → Keeps (p ++ h.fresh) (big ++ (r.fresh ++ h.fresh)) b.bytes c.bytes
+    first_kept r all held =
+        let step = h.lowering.lawful tt (lawful_first h.answers r.answers all) in
+        let step2 = r.lowering.lawful tt (lawful_second h.answers r.answers all) in
+        record {
+          longer = r.lowering.goes.no_shorter;
+          kept = λ i lt k. ⊎_elim
+              (λ at. ⊎_elim
+              (λ live. step2.kept i (step.old_live i (live i (inside i at))) (λ g. apart i at g))
+              (λ far. r.lowering.tidy tt (tidy_second h.answers r.answers far.0) i lt (λ g. apart i at g) (λ g. far.1 i (in_second h.answers r.answers i g) (inside i at)))
+              held)
+              (λ new. step2.kept i (step.fresh_live i new) (λ g. ⊎_elim
+              (λ live. step.apart i (live i (inside2 i g)) new)
+              (λ far. far.1 i (in_first h.answers r.answers i (h.lowering.gained i new)) (inside2 i g))
+              held))
+              (in_either p h.fresh i k);
+          wider = λ i k. ⊎_elim (λ at. in_left big (r.fresh ++ h.fresh) i (inside i at)) (λ new. in_right big (r.fresh ++ h.fresh) i (in_right r.fresh h.fresh i new)) (in_either p h.fresh i k);
+        }
+
+    both_shown : (r : Attempt wide b c q second done) → Shown wide a c big whole (h.answers ++ r.answers) (r.fresh ++ h.fresh)
+    both_shown r =
+        let held1 : AreHeld a (h.answers ++ r.answers) big → AreHeld a h.answers p = λ held. held_before a h.answers r.answers big p inside held in
+        let held2 : AllLawful (h.answers ++ r.answers) → AreHeld a (h.answers ++ r.answers) big → AreHeld b r.answers q =
+        λ all held. held_after a b h.answers r.answers big q (h.lowering.lawful tt (lawful_first h.answers r.answers all)).old_live inside2 held in
+        let more : Keeps (q ++ r.fresh) (big ++ (r.fresh ++ h.fresh)) c.bytes c.bytes = keeps_same _ _ _
+        (λ i k. ⊎_elim (λ at. in_left big (r.fresh ++ h.fresh) i (inside2 i at)) (λ new. in_right big (r.fresh ++ h.fresh) i (in_left r.fresh h.fresh i new)) (in_either q r.fresh i k)) in
+        record {
+          it = join h.shown.it r.shown.it;
+          is = joins.is _ _ h.shown.is r.shown.is;
+          rep = λ all held. joins.rep _ _ _ _ (f1.rep _ _ _ _ (first_kept r all held) _ (h.shown.rep (lawful_first h.answers r.answers all) (held1 held)))
+              (f2.rep _ _ _ _ more _ (r.shown.rep (lawful_second h.answers r.answers all) (held2 all held)));
+          homes = λ rest. joins.home _ _ _ _ (addresses_of r.answers ++ rest) _ (subst (λ ps. first.Home AnyPointer h.shown.it ps (addresses_of r.answers ++ rest)) (sym (addresses_append h.answers r.answers rest)) (h.shown.homes _)) (r.shown.homes rest);
+          memory_homes = λ all held rest. joins.home _ _ _ _ (addresses_of r.answers ++ rest) _
+              (subst (λ ps. first.Home (PointsTo (memory_of c.bytes wide)) h.shown.it ps (addresses_of r.answers ++ rest)) (sym (addresses_append h.answers r.answers rest))
+              (f1.home _ _ _ _ (first_kept r all held) _ _ _ (h.shown.rep (lawful_first h.answers r.answers all) (held1 held)) (h.shown.memory_homes (lawful_first h.answers r.answers all) (held1 held) _)))
+              (r.shown.memory_homes (lawful_second h.answers r.answers all) (held2 all held) rest);
+        }
+
+    rest_shown : (e : Ending) (r : Attempt wide b c q second e) → WhenDone e (Shown wide a c big whole (h.answers ++ r.answers) (r.fresh ++ h.fresh))
+    rest_shown done r = both_shown r
+    rest_shown refused r = tt
+    rest_shown (misaligned n) r = tt
+    rest_shown (out_of_bounds n) r = tt
+    rest_shown trapped r = tt
+    rest_shown short r = tt
+
+    pub attempt_then : (e : Ending) → Attempt wide b c q second e → Attempt wide a c big whole e
+    attempt_then e r = record {
+      answers = h.answers ++ r.answers;
+      trap = r.trap;
+      fresh = r.fresh ++ h.fresh;
+      lowering = lowering_within a c _ _ e _ _ _ (λ i k. ⊎_elim (inside i) (inside2 i) (in_either p q i k)) (lowering_then a b c _ _ e h.answers r.answers h.trap r.trap h.fresh r.fresh h.lowering r.lowering);
+      requested = λ z is. let (x, y, same, isx, isy) = joins.split z is in
+          subst (λ rs. Requested rs e (h.answers ++ r.answers) r.trap) (sym (ap (λ u. whole.asks u) same ∙ joins.asks x y))
+          (requested_then _ _ e h.answers r.answers h.trap r.trap h.lowering.cause (h.requested x isx) (r.requested y isy));
+      shown = rest_shown e r;
+    }
+
+  -- the first ends it
+  pub attempt_stop : (e : Ending) → NotDone e → Attempt wide a b p first e → Attempt wide a b big whole e
+  attempt_stop e not h = record {
+    answers = h.answers;
+    trap = h.trap;
+    fresh = h.fresh;
+    lowering = lowering_within a b p big e _ _ _ inside h.lowering;
+    requested = λ z is. let (x, y, same, isx, isy) = joins.split z is in
+        subst (λ rs. Requested rs e h.answers h.trap) (sym (ap (λ u. whole.asks u) same ∙ joins.asks x y)) (requested_part _ _ e h.answers h.trap not (h.requested x isx));
+    shown = when_not e _ not;
+  }
+
+-- ---- one
+
+-- nothing asked for or written, and perhaps a fault of the value itself
+pub attempt_none : {X : Type 0} (wide : Bool) (a : Moment) (places : List Block) (aim : Aim X) (x : X) → length a.bytes ≤ 2 ^ 32 → aim.Is x → ((y : X) → aim.Is y → aim.asks y ≡ []) → aim.Rep (places ++ []) a.bytes x
+    → ((pointer : ℕ → ℕ → Type 0) (rest : List ℕ) → aim.Home pointer x rest rest) → Attempt wide a a places aim done
+attempt_none wide a places aim x small is none rep home = record {
+  answers = [];
+  trap = None;
+  fresh = [];
+  lowering = lowering_none a places small;
+  requested = λ y h. subst (λ rs. Requested rs done [] None) (sym (none y h)) requested_none;
+  shown = record { it = x; is = is; rep = λ all held. rep; homes = λ rest. home AnyPointer rest; memory_homes = λ all held rest. home (PointsTo (memory_of a.bytes wide)) rest };
+}
+
+pub attempt_refused : {X : Type 0} (wide : Bool) (a : Moment) (places : List Block) (aim : Aim X) → length a.bytes ≤ 2 ^ 32 → Attempt wide a a places aim refused
+attempt_refused wide a places aim small = record { answers = []; trap = None; fresh = []; lowering = lowering_refused a places small; requested = λ x is. requested_later _ refused tt; shown = tt }
+
+-- the same said of another x, at wider places
+pub record Turns {X Y : Type 0} (wide : Bool) (part whole : List Block) (aim : Aim X) (other : Aim Y) (after : Moment) : Type 1 where
+  pub turn : X → Y
+  pub back : Y → X
+  pub is : (x : X) → aim.Is x → other.Is (turn x)
+  pub is_back : (y : Y) → other.Is y → aim.Is (back y)
+  pub asks : (y : Y) → other.Is y → other.asks y ≡ aim.asks (back y)
+  pub rep : (fresh : List Block) (x : X) → aim.Is x → aim.Rep (part ++ fresh) after.bytes x → other.Rep (whole ++ fresh) after.bytes (turn x)
+  pub home : (pointer : ℕ → ℕ → Type 0) (x : X) (xs ys : List ℕ) → aim.Is x → aim.Home pointer x xs ys → other.Home pointer (turn x) xs ys
+
+pub attempt_as : {X Y : Type 0} (wide : Bool) (a b : Moment) (part whole : List Block) (aim : Aim X) (other : Aim Y) (e : Ending) → Within part whole → Turns wide part whole aim other b
+    → Attempt wide a b part aim e → Attempt wide a b whole other e
+attempt_as wide a b part whole aim other e w t h = record {
+  answers = h.answers;
+  trap = h.trap;
+  fresh = h.fresh;
+  lowering = lowering_within a b part whole e _ _ _ w h.lowering;
+  requested = λ y is. subst (λ rs. Requested rs e h.answers h.trap) (sym (t.asks y is)) (h.requested (t.back y) (t.is_back y is));
+  shown = when e (Shown wide a b part aim h.answers h.fresh) (Shown wide a b whole other h.answers h.fresh) (λ k. record {
+    it = t.turn k.it;
+    is = t.is k.it k.is;
+    rep = λ all held. t.rep h.fresh k.it k.is (k.rep all (held_within a h.answers whole part w held));
+    homes = λ rest. t.home AnyPointer k.it _ _ k.is (k.homes rest);
+    memory_homes = λ all held rest. t.home (PointsTo (memory_of b.bytes wide)) k.it _ _ k.is (k.memory_homes all (held_within a h.answers whole part w held) rest);
+  }) h.shown;
+}
+
+-- where it wasn't done, it says as little of another aim
+pub attempt_other : {X : Type 0} (wide : Bool) (a b : Moment) (places : List Block) (aim other : Aim X) (e : Ending) → NotDone e → ((x : X) → other.Is x → aim.Is x × (other.asks x ≡ aim.asks x))
+    → Attempt wide a b places aim e → Attempt wide a b places other e
+attempt_other wide a b places aim other e not same h = record {
+  answers = h.answers;
+  trap = h.trap;
+  fresh = h.fresh;
+  lowering = h.lowering;
+  requested = λ x is. subst (λ rs. Requested rs e h.answers h.trap) (sym (same x is).1) (h.requested x (same x is).0);
+  shown = when_not e _ not;
+}
+
+-- ---- a block that is asked for, and what is put into it
+
+-- what stands in the block at p, as another says it that points to it
+pub record Points {X Y : Type 0} (area : Block) (c : Call) (p : ℕ) (inner : Aim X) (whole : Aim Y) (after : Moment) : Type 1 where
+  pub turn : X → Y
+  pub back : Y → X
+  pub is : (x : X) → inner.Is x → whole.Is (turn x)
+  pub is_back : (y : Y) → whole.Is y → inner.Is (back y)
+  pub asks : (y : Y) → whole.Is y → (r : Request) × (whole.asks y ≡ r ∷ inner.asks (back y)) × ((last : ℕ) → c ≡ call_of last r)
+  pub rep : (blocks : List Block) (x : X) → inner.Is x → Within (area ∷ []) blocks → inner.Rep blocks after.bytes x → whole.Rep blocks after.bytes (turn x)
+  pub home : (pointer : ℕ → ℕ → Type 0) (x : X) (xs ys : List ℕ) → inner.Is x → inner.Home pointer x xs ys → whole.Home pointer (turn x) (p ∷ xs) ys
+
+module _ {X Y : Type 0} (wide : Bool) (a b d : Moment) (c : Call) (p : ℕ) (places : List Block) (inner : Aim X) (whole : Aim Y) (e : Ending) (anew : c.old_size ≡ 0) (small : length b.bytes ≤ 2 ^ 32) (g : Granted a b c p)
+    (f : IsFramed wide inner) (inside : Within places (new_block c p ∷ [])) (t : Points (new_block c p) c p inner whole d) where
+  abbrev area : Block
+  area = new_block c p
+
+  abbrev x : Answer
+  x = answer c p g.mark
+
+  asked : Lowering a b [] done (x ∷ []) None (area ∷ [])
+  asked = lowering_anew a b c p anew small g
+
+  pub attempt_block : Attempt wide b d places inner e → Attempt wide a d [] whole e
+  attempt_block r =
+      let fresh : List Block = r.fresh ++ area ∷ [] in
+      let held : AllLawful (x ∷ r.answers) → AreHeld b r.answers places = λ all. inl (λ i h. (asked.lawful tt (all.0, tt)).fresh_live i (inside i h)) in
+      let more : Keeps (places ++ r.fresh) fresh d.bytes d.bytes = keeps_same _ _ _ (λ i h. ⊎_elim (λ q. in_right r.fresh (area ∷ []) i (inside i q)) (λ q. in_left r.fresh (area ∷ []) i q) (in_either places r.fresh i h)) in
+      record {
+        answers = x ∷ r.answers;
+        trap = r.trap;
+        fresh = fresh;
+        lowering = lowering_filled a d e (x ∷ r.answers) r.trap area fresh (λ i h. ⊎_elim (λ q. inl q) (λ q. absurd q) h) (λ all. (asked.lawful tt (all.0, tt)).apart)
+            (lowering_within a d places (area ∷ []) e _ _ _ inside (lowering_then a b d [] places e (x ∷ []) r.answers None r.trap (area ∷ []) r.fresh asked r.lowering));
+        requested = λ y is. let (q, same, call) = t.asks y is in
+            subst (λ rs. Requested rs e (x ∷ r.answers) r.trap) (sym same) (requested_cons q (inner.asks (t.back y)) c p g.mark e r.answers r.trap call (r.requested (t.back y) (t.is_back y is)));
+        shown = when e (Shown wide b d places inner r.answers r.fresh) (Shown wide a d [] whole (x ∷ r.answers) fresh) (λ k. record {
+          it = t.turn k.it;
+          is = t.is k.it k.is;
+          rep = λ all h. t.rep fresh k.it k.is (in_right r.fresh (area ∷ [])) (f.rep _ _ _ _ more k.it (k.rep all.1 (held all)));
+          homes = λ rest. t.home AnyPointer k.it _ _ k.is (k.homes rest);
+          memory_homes = λ all h rest. t.home (PointsTo (memory_of d.bytes wide)) k.it _ _ k.is (k.memory_homes all.1 (held all) rest);
+        }) r.shown;
+      }
+
+-- the block isn't given
+pub attempt_ungiven : {Y : Type 0} (wide : Bool) (a b : Moment) (c : Call) (p : ℕ) (places : List Block) (whole : Aim Y) (e : Ending) → NotDone e → length b.bytes ≤ 2 ^ 32
+    → ((y : Y) → whole.Is y → (r : Request) × (rs : List Request) × (whole.asks y ≡ r ∷ rs) × ((last : ℕ) → c ≡ call_of last r)) → Reallocated a b c e p → Attempt wide a b places whole e
+attempt_ungiven wide a b c p places whole e not small asks h =
+    let r = stopped a b c e p not small h in
+    record {
+      answers = r.answers;
+      trap = r.trap;
+      fresh = [];
+      lowering = lowering_within a b [] places e _ _ _ (λ i q. absurd q) r.lowering;
+      requested = λ y is. let (q, rs, same, call) = asks y is in subst (λ us. Requested us e r.answers r.trap) (sym same) (requested_stopped a b c e q rs not call r);
+      shown = when_not e _ not;
+    }
+
+-- ---- bytes of a place
+
+-- nothing is asked for, and the bytes of a place are written
+pub attempt_write : {X : Type 0} (wide : Bool) (g : Seen) (xs ys : List ℕ) (b : Block) (aim : Aim X) (x : X) → length xs ≤ 2 ^ 32 → Writes b xs ys → aim.Is x → ((y : X) → aim.Is y → aim.asks y ≡ []) → aim.Rep (b ∷ []) ys x
+    → ((rest : List ℕ) → aim.Home AnyPointer x rest rest) → ((rest : List ℕ) → aim.Home (PointsTo (memory_of ys wide)) x rest rest) → Attempt wide (moment g xs) (moment g ys) (b ∷ []) aim done
+attempt_write wide g xs ys b aim x small w is none rep home memory_home = record {
+  answers = [];
+  trap = None;
+  fresh = [];
+  lowering = lowering_write g xs ys b small w;
+  requested = λ y h. subst (λ rs. Requested rs done [] None) (sym (none y h)) requested_none;
+  shown = record { it = x; is = is; rep = λ all held. rep; homes = home; memory_homes = λ all held rest. memory_home rest };
+}

@@ -1,0 +1,126 @@
+-- An attempt to lower something: what stands at its places afterwards, with which requests, or why not.
+use Rattle.std.specs.Prelude.{Bool, List, Option, [], true, ℕ, ⊤, ◌++◌, ◌*◌, ◌+◌, ◌-◌, ◌∷◌, ◌⊎◌}
+use Rattle.canon_model.specs.Flat.{Flat, MembersFlat, RepValuesIn, max_params}
+use Rattle.canon_model.specs.Homes.{FlatHomes, Homes, MembersFlatHome, MembersHome, ParamsHome, PointsTo}
+use Rattle.canon_model.specs.Layout.{align, members_align, members_end, size}
+use Rattle.canon_model.specs.Memory.{Block, InsideBlocks, Within, memory_of}
+use Rattle.canon_model.specs.Rep.{MembersStored, RepMemIn}
+use Rattle.canon_model.specs.Requests.{Call, Request, members_requests, params_requests, requests}
+use Rattle.canon_model.specs.Shape.{Members, Shape, of_places, product}
+use Rattle.canon_model.specs.Text.{Encoding}
+use Rattle.canon_model.specs.Tree.{Tree, Trees}
+use Rattle.canon_memory.specs.Guest.{Moment}
+use Rattle.canon_memory.specs.Realloc.{block, call}
+use Rattle.canon_lowering.specs.Steps.{Apart}
+use Rattle.canon_lowering.specs.Lowering.{AllLawful, AllTidy, Answer, Ending, Lowering, Requested, Trap, WhenDone, addresses_of, blocks_of}
+
+-- any pointer, for homes by the answers alone
+abbrev pub AnyPointer : ℕ → ℕ → Type 0
+AnyPointer a p = ⊤
+
+-- What is to be lowered, told by an x as a tree, or trees in a row: which x it is, what it asks for, what blocks and memory
+-- are to represent, and which answers are its homes.
+pub record Aim (X : Type 0) : Type 1 where
+  pub Is : X → Type 0
+  pub asks : X → List Request
+  pub Rep : List Block → List ℕ → X → Type 0
+  pub Home : (ℕ → ℕ → Type 0) → X → List ℕ → List ℕ → Type 0
+
+-- The places lived, or no answer came near them.
+abbrev pub AreHeld : Moment → List Answer → List Block → Type 0
+AreHeld before answers places = Within places before.guest.live ⊎ (AllTidy answers × Apart (blocks_of answers) places)
+
+module _ {X : Type 0} (wide : Bool) (before after : Moment) (places : List Block) (aim : Aim X) where
+  pub record Shown (answers : List Answer) (fresh : List Block) : Type 0 where
+    pub it : X
+    pub is : aim.Is it
+    pub rep : AllLawful answers → AreHeld before answers places → aim.Rep (places ++ fresh) after.bytes it
+    pub homes : (rest : List ℕ) → aim.Home AnyPointer it (addresses_of answers ++ rest) rest
+    pub memory_homes : AllLawful answers → AreHeld before answers places → (rest : List ℕ) → aim.Home (PointsTo (memory_of after.bytes wide)) it (addresses_of answers ++ rest) rest
+
+  pub record Attempt (ending : Ending) : Type 0 where
+    pub answers : List Answer
+    pub trap : Option Trap
+    pub fresh : List Block
+    pub lowering : Lowering before after places ending answers trap fresh
+    pub requested : (x : X) → aim.Is x → Requested (aim.asks x) ending answers trap
+    pub shown : WhenDone ending (Shown answers fresh)
+
+-- ---- the aims
+
+-- a value in memory, and members from where the one before them ends, at offset o
+abbrev pub value_at : Bool → Encoding → Shape → ℕ → (Tree → Type 0) → Aim Tree
+value_at wide enc s at Has = record {
+  Is = Has;
+  asks = λ t. requests wide enc s t;
+  Rep = λ blocks bytes t. RepMemIn blocks true enc (memory_of bytes wide) at s t;
+  Home = λ pointer t xs ys. Homes pointer enc wide s at t xs ys;
+}
+
+abbrev pub members_at : Bool → Encoding → Members → ℕ → ℕ → (Trees → Type 0) → Aim Trees
+members_at wide enc ms o at Have = record {
+  Is = Have;
+  asks = λ ts. members_requests wide enc ms ts;
+  Rep = λ blocks bytes ts. MembersStored (InsideBlocks blocks (memory_of bytes wide)) true enc (memory_of bytes wide) ms o at ts;
+  Home = λ pointer ts xs ys. MembersHome pointer enc wide ms o at ts xs ys;
+}
+
+-- the same in words from word i on
+abbrev pub value_words : Bool → Encoding → Shape → List ℕ → ℕ → (Tree → Type 0) → Aim Tree
+value_words wide enc s ws i Has = record {
+  Is = Has;
+  asks = λ t. requests wide enc s t;
+  Rep = λ blocks bytes t. Flat (InsideBlocks blocks (memory_of bytes wide)) true enc (memory_of bytes wide) ws s i t;
+  Home = λ pointer t xs ys. FlatHomes pointer enc wide ws s i t xs ys;
+}
+
+abbrev pub members_words : Bool → Encoding → Members → List ℕ → ℕ → (Trees → Type 0) → Aim Trees
+members_words wide enc ms ws i Have = record {
+  Is = Have;
+  asks = λ ts. members_requests wide enc ms ts;
+  Rep = λ blocks bytes ts. MembersFlat (InsideBlocks blocks (memory_of bytes wide)) true enc (memory_of bytes wide) ws ms i ts;
+  Home = λ pointer ts xs ys. MembersFlatHome pointer enc wide ws ms i ts xs ys;
+}
+
+abbrev pub value_place : Bool → Shape → ℕ → Block
+value_place wide s at = block at (size wide s)
+
+abbrev pub members_span : Bool → Members → ℕ → ℕ → Block
+members_span wide ms o at = block (at + o) (members_end wide o ms - o)
+
+-- ---- the attempts
+
+abbrev pub StoresValue : Bool → Moment → Moment → Encoding → Shape → ℕ → (Tree → Type 0) → Ending → Type 0
+StoresValue wide before after enc s at Has ending = Attempt wide before after (value_place wide s at ∷ []) (value_at wide enc s at Has) ending
+
+abbrev pub StoresMembers : Bool → Moment → Moment → Encoding → Members → ℕ → ℕ → (Trees → Type 0) → Ending → Type 0
+StoresMembers wide before after enc ms o at Have ending = Attempt wide before after (members_span wide ms o at ∷ []) (members_at wide enc ms o at Have) ending
+
+abbrev pub LowersValue : Bool → Moment → Moment → Encoding → Shape → List ℕ → ℕ → (Tree → Type 0) → Ending → Type 0
+LowersValue wide before after enc s ws i Has ending = Attempt wide before after [] (value_words wide enc s ws i Has) ending
+
+abbrev pub LowersMembers : Bool → Moment → Moment → Encoding → Members → List ℕ → ℕ → (Trees → Type 0) → Ending → Type 0
+LowersMembers wide before after enc ms ws i Have ending = Attempt wide before after [] (members_words wide enc ms ws i Have) ending
+
+-- ---- the blocks that are asked for
+
+-- of a list of n items, and of a function's parameters as a tuple
+abbrev pub items_call : Bool → Shape → ℕ → Call
+items_call wide s n = call 0 0 (align wide s) (n * size wide s)
+
+abbrev pub args_call : Bool → Members → Call
+args_call wide ms = call 0 0 (members_align wide ms) (size wide (product of_places ms))
+
+-- ---- parameters
+
+-- a function's parameters, whose words these are: in a row, or a pointer to them
+abbrev pub args_in : Bool → Encoding → Members → List ℕ → (Trees → Type 0) → Aim Trees
+args_in wide enc ms ws Have = record {
+  Is = Have;
+  asks = λ ts. params_requests wide enc ms ts;
+  Rep = λ blocks bytes ts. RepValuesIn blocks max_params true enc (memory_of bytes wide) ws ms ts;
+  Home = λ pointer ts xs ys. ParamsHome pointer enc wide ws ms ts xs ys;
+}
+
+abbrev pub LowersArgs : Bool → Moment → Moment → Encoding → Members → (Trees → Type 0) → List ℕ → Ending → Type 0
+LowersArgs wide before after enc ms Have ws ending = Attempt wide before after [] (args_in wide enc ms ws Have) ending

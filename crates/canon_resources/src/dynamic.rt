@@ -1,0 +1,163 @@
+//! A host resource whose type is told by a number.
+
+ghost use Rattle.std.specs.Prelude.{◌≡◌};
+ghost use Rattle.canon_ledger.specs.Books.{DidSurely, IsOpen};
+ghost use Rattle.canon_ledger.specs.Places.{SamePlaces};
+ghost use Rattle.canon_ledger.specs.Reached.{ledger_in, reference_in, scope_in, types_in};
+
+use crate::any::ResourceAny;
+use crate::host::{HostResource, HostResourceType, ResourceState};
+use canon_ledger::{HostResourceIndex, HostResourceTables, ResourceFault};
+use canon_types::ResourceType;
+use std::fmt;
+use std::fmt::{Debug, Formatter};
+use std::marker::Model;
+
+/// The kind of the resources whose types numbers tell.
+pub struct Dynamic;
+
+impl HostResourceType<u32> for Dynamic {
+    ghost use Rattle.canon_types.specs.declared.resource.ResourceType.TheVariants.{HostDynamic};
+    ghost use Rattle.canon_types.specs.Resource.{as_host_dynamic};
+    ghost use Rattle.canon_resources.specs.TypeLaws.{as_dynamic_its, as_dynamic_no_other};
+
+    ghost checked = { as_host_dynamic };
+
+    ghost type_of = { λ d. HostDynamic d };
+
+    ghost its_types_pass = { as_dynamic_its };
+
+    ghost no_others_pass = { as_dynamic_no_other };
+
+    fn typecheck(ty: ResourceType) -> Option<u32> {
+        ty.as_host_dynamic()
+    }
+
+    fn resource_type(d: u32) -> ResourceType {
+        ResourceType::host_dynamic(d)
+    }
+}
+
+/// A resource of a type of the host that a number tells. Its representation is a number of the host's.
+#[derive(Drop)]
+pub struct ResourceDynamic {
+    inner: HostResource<Dynamic, u32>,
+}
+
+impl Model for ResourceDynamic {
+    ghost use Rattle.canon_resources.specs.Held.{Held};
+    ghost use Rattle.std.specs.Prelude.{ℕ};
+
+    ghost Value = { Held ℕ };
+
+    ghost view = { λ r. r.inner };
+}
+
+impl ResourceDynamic {
+    ghost use Rattle.canon_resources.specs.Held.{held, is_owned};
+    ghost use Rattle.canon_resources.specs.Conversions.{Converted, from_any, into_any};
+    ghost use Rattle.canon_resources.specs.declared.host.ResourceState.TheVariants as state;
+    ghost use Rattle.canon_types.specs.declared.resource.ResourceType.TheVariants.{HostDynamic};
+    ghost use Rattle.canon_types.specs.Resource.{as_host_dynamic};
+
+    /// An own handle of the host that is in no table yet.
+    pub fn new_own(rep: u32, ty: u32) -> Self
+        ensures { result ≡ held state.NotInTable rep ty }
+    {
+        ResourceDynamic {
+            inner: HostResource::new_own(rep, ty),
+        }
+    }
+
+    /// A borrow of a representation.
+    pub fn new_borrow(rep: u32, ty: u32) -> Self
+        ensures { result ≡ held state.Borrow rep ty }
+    {
+        ResourceDynamic {
+            inner: HostResource::new_borrow(rep, ty),
+        }
+    }
+
+    /// The representation.
+    pub fn rep(&self) -> u32
+        ensures { result ≡ self.now.rep }
+    {
+        self.inner.rep()
+    }
+
+    /// The number that tells its type.
+    pub fn ty(&self) -> u32
+        ensures { result ≡ self.now.ty }
+    {
+        self.inner.ty()
+    }
+
+    /// Whether it is no borrow.
+    pub fn owned(&self) -> bool
+        ensures { result ≡ is_owned self.now.state }
+    {
+        self.inner.owned()
+    }
+
+    /// Where its handle is.
+    pub fn state(&self) -> ResourceState
+        ensures { result ≡ self.now.state }
+    {
+        self.inner.state()
+    }
+
+    /// It was given away.
+    pub fn take(&mut self)
+        requires { self.old.state ≡ state.NotInTable }
+        ensures { self.new ≡ held state.Taken self.old.rep self.old.ty }
+    {
+        self.inner.take();
+    }
+
+    /// It was put into the host's table at this index.
+    pub fn place(&mut self, idx: HostResourceIndex)
+        requires { self.old.state ≡ state.NotInTable }
+        ensures { self.new ≡ held (state.Index idx) self.old.rep self.old.ty }
+    {
+        self.inner.place(idx);
+    }
+
+    /// The resource as one that tells its type by its value. One that is in no table is put into the
+    /// host's. After a refusal the value is gone and the tables are unchanged.
+    pub fn try_into_resource_any(
+        self,
+        tables: &mut HostResourceTables<'_>,
+    ) -> Result<ResourceAny, ResourceFault>
+        requires scope_open { IsOpen (scope_in tables.old) (ledger_in tables.old) }
+        ensures same_reference { reference_in tables.new ≡ reference_in tables.old }
+        ensures same_types { types_in tables.new ≡ types_in tables.old }
+        ensures same_scope { scope_in tables.new ≡ scope_in tables.old }
+        ensures step { Converted self.state (into_any self.state self.rep (HostDynamic self.ty) (ledger_in tables.old)) result (ledger_in tables.old) (ledger_in tables.new) }
+        ensures places { SamePlaces (ledger_in tables.old) (ledger_in tables.new) }
+    {
+        self.inner.try_into_resource_any(tables)
+    }
+
+    /// A resource of any type as one of this type. An own handle is taken out of the host's table, and
+    /// a borrow handle is dropped there once its representation was told.
+    pub fn try_from_resource_any(
+        resource: ResourceAny,
+        tables: &mut HostResourceTables<'_>,
+    ) -> Result<Self, ResourceFault>
+        requires scope_open { IsOpen (scope_in tables.old) (ledger_in tables.old) }
+        ensures same_reference { reference_in tables.new ≡ reference_in tables.old }
+        ensures same_types { types_in tables.new ≡ types_in tables.old }
+        ensures same_scope { scope_in tables.new ≡ scope_in tables.old }
+        ensures step { DidSurely (from_any (as_host_dynamic resource.ty) resource.handle (ledger_in tables.old)) result (ledger_in tables.new) }
+        ensures places { SamePlaces (ledger_in tables.old) (ledger_in tables.new) }
+    {
+        let inner = HostResource::try_from_resource_any(resource, tables)?;
+        Ok(ResourceDynamic { inner })
+    }
+}
+
+impl Debug for ResourceDynamic {
+    fn fmt<W: fmt::Write>(&self, f: &mut Formatter<W>) -> fmt::Result {
+        self.inner.fmt(f)
+    }
+}

@@ -1,9 +1,0 @@
-use Rattle.std.proofs.Common.{◌≡◌, [], drop}
-use Rattle.serde_json.specs.View.{items_view}
-use Rattle.canon_json.specs.Json.{onward}
-use Rattle.canon_script.specs.Types as spec
-use Rattle.canon_script.proofs.funcs.add_funcs.Given as goal
-
--- the functions that are left take those so far to all
-abbrev pub invariant-loop-item : goal.invariant-loop-item
-invariant-loop-item l = onward (spec.add_func l.types) (spec.funcs_so_far l.builder l.posts.items) (items_view (drop l.item-index l.items)) ≡ onward (spec.add_func l.types) (spec.funcs_so_far l.fn.builder []) (items_view l.items)

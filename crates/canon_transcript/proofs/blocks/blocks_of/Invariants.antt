@@ -1,7 +1,0 @@
-use Rattle.std.proofs.Common.{◌≡◌, drop, fold}
-use Rattle.canon_transcript.specs.Blocks.{after, blocks_of}
-use Rattle.canon_transcript.proofs.blocks.blocks_of.Given as goal
-
--- the blocks so far and the events that are left give the blocks of all
-abbrev pub invariant-loop-event : goal.invariant-loop-event
-invariant-loop-event l = fold after l.blocks.items (drop l.event-index l.events) ≡ blocks_of l.events

@@ -1,0 +1,10 @@
+pub mod Plain
+pub mod Growth
+pub mod Measures
+pub mod Laid
+pub mod Names
+pub mod Distinct
+pub mod Kept
+pub mod Adding
+pub mod Made
+pub mod Funcs

@@ -1,0 +1,20 @@
+use Rattle.std.proofs.Common.{ap, arith, refl, subst, sym, ℕ}
+use Rattle.canon_model.specs.Layout.{flat}
+use Rattle.canon_value.specs.Core.{types_of}
+use Rattle.canon_value.specs.Words.{IsWordOf}
+use Rattle.canon_value.proofs.Moves.{GuestLaws}
+use Rattle.canon_value.proofs.Scalars.{scalar_shape}
+use Rattle.canon_value.proofs.WordSteps.{scalar_lowers}
+use Rattle.canon_value.proofs.lower.lower_word.Goals as goal
+
+pub bounds-dst-from : goal.bounds-dst-from
+unfolding flat
+bounds-dst-from g c =
+    let (k, t, e, has, is, least) = c.requires.word in
+    omega (arith, c.requires.room, ap flat (scalar_shape (types_of c.args.cx.now.core.now) c.args.ty k e))
+
+pub returns-clause-lowers : goal.returns-clause-lowers
+returns-clause-lowers g c =
+    let a = c.args in
+    let L : GuestLaws _ = record { seen = g.G.Guest.seen; moves = g.G.Guest.moves; stays = g.met.G.Guest.stays; goes_on = g.met.G.Guest.goes_on } in
+    scalar_lowers L a.cx.now.options a.cx.now.core.now a.dst.now a.from _ a.ty a.value.now c.u64.result c.requires.small c.requires.room (subst (λ (w : ℕ). IsWordOf a.ty a.value.now w) (sym c.u64.ensures) c.requires.word) refl c.saturating_add.ensures

@@ -1,0 +1,41 @@
+use Rattle.std.proofs.Common.{length}
+use Rattle.canon_model.specs.Shape.{of_fields}
+use Rattle.canon_types.specs.Depth.{element_shape, product_members}
+use Rattle.canon_types.specs.Table.{shape_of}
+use Rattle.canon_types.specs.declared.types.InterfaceType.TheVariants as ty
+use Rattle.canon_value.specs.Plan.{IsRebuilt}
+use Rattle.canon_value.specs.Value.{IsProduct, member_names}
+use Rattle.canon_value.proofs.Loading.{on_ok}
+use Rattle.canon_value.proofs.Planning.{fixed_rebuilt, list_left, list_rebuilt, record_count, record_rebuilt, tuple_rebuilt}
+use Rattle.canon_value.proofs.rebuild.rebuild.Goals as goal
+
+pub rebuild_record-requires-clause-count : goal.rebuild_record-requires-clause-count
+rebuild_record-requires-clause-count c =
+    let t = c.args.types.now in
+    let kind = rw c.in-Record.is at c.requires.kind in
+    let count = rw c.in-Record.is at c.requires.count in
+    record_count (shape_of t (ty.Record c.in-Record.i)) (length c.args.values.items) kind count
+
+pub returns-in-Record-clause-ok : goal.returns-in-Record-clause-ok
+returns-in-Record-clause-ok c =
+    let t = c.args.types.now in
+    let s = shape_of t (ty.Record c.in-Record.i) in
+    let vs = c.args.values.items in
+    let kind = rw c.in-Record.is at c.requires.kind in
+    rw c.in-Record.is (on_ok c.rebuild_record.result (λ v. IsProduct of_fields (member_names (product_members s)) vs v) (λ v. IsRebuilt s vs v) (λ v h. record_rebuilt s (product_members s) vs v kind h) c.rebuild_record.ensures.ok)
+
+pub returns-in-Tuple-clause-ok : goal.returns-in-Tuple-clause-ok
+returns-in-Tuple-clause-ok c =
+    let s = shape_of c.args.types.now c.args.ty.now in
+    let kind = rw c.in-Tuple.is at c.requires.kind in
+    rw c.in-Tuple.is (tuple_rebuilt _ _ c.args.values kind.0 kind.1)
+
+pub returns-in-FixedLengthList-clause-ok : goal.returns-in-FixedLengthList-clause-ok
+returns-in-FixedLengthList-clause-ok c =
+    let (n, part, e) = rw c.in-FixedLengthList.is at c.requires.kind in
+    rw c.in-FixedLengthList.is (fixed_rebuilt _ part n c.args.values e)
+
+pub returns-in_default : goal.returns-in_default
+returns-in_default c =
+    let s = shape_of c.args.types.now c.args.ty.now in
+    record { ok = list_rebuilt s (element_shape s) c.args.values (list_left c.args.ty.now s c.requires.kind c.in_default.not-Record c.in_default.not-Tuple c.in_default.not-FixedLengthList); err = tt }

@@ -1,0 +1,85 @@
+-- What a type's values are lifted as, and what members make up.
+use Rattle.std.specs.Prelude.{◌≡◌, ◌+◌, List, false, length, ℕ, ⊤}
+use Rattle.canon_lowering.specs.Copies.{copies}
+use Rattle.canon_model.specs.Cost.{cost, names_length}
+use Rattle.canon_model.specs.Memory.{Memory}
+use Rattle.canon_model.specs.Rep.{RepMem}
+use Rattle.canon_model.specs.Shape.{Members, Name, Shape, fixed, list, member, no_members, of_fields, of_items, of_places, product, string}
+use Rattle.canon_model.specs.Text.{Encoding}
+use Rattle.canon_model.specs.Tree.{Tree, Trees, items, parts}
+use Rattle.canon_types.specs.Depth.{element_shape, product_members}
+use Rattle.canon_types.specs.Table.{HasTuple, Knows, Table, shape_of, tuple_members}
+use Rattle.canon_types.specs.declared.types.InterfaceType.{InterfaceType}
+use Rattle.canon_types.specs.declared.types.InterfaceType.TheVariants as ty
+use Rattle.canon_value.specs.Built.{IsScalarType}
+use Rattle.canon_value.specs.Value.{HasTree, HaveTrees}
+use Rattle.canon_value.specs.View.{members_from}
+use Rattle.canon_value.specs.Viewed.{LiesAs}
+use Rattle.canon_value.specs.declared.plan.Plan.{Plan}
+use Rattle.canon_value.specs.declared.plan.Plan.TheVariants as plan
+use Rattle.canon_value.specs.declared.plan.Slot.{Slot}
+use Rattle.canon_value.specs.declared.plan.Slots.{Slots}
+use Rattle.canon_value.specs.declared.plan.Slots.TheVariants as slots
+use Rattle.canon_value.specs.declared.val.Val.{Val}
+
+-- ---- members, by the table
+
+abbrev pub shapes_of : Table → Slots → Members
+shapes_of t (slots.Fields i) = product_members (shape_of t (ty.Record i))
+shapes_of t (slots.Places i) = tuple_members t i
+shapes_of t (slots.Items type n) = copies n (shape_of t type)
+
+abbrev pub AreKnown : Table → Slots → Type 0
+AreKnown t (slots.Fields i) = Knows t (ty.Record i)
+AreKnown t (slots.Places i) = HasTuple t i
+AreKnown t (slots.Items type n) = Knows t type
+
+-- the one of number k
+pub record IsSlot (t : Table) (ms : Members) (k : ℕ) (slot : Slot) : Type 0 where
+  pub known : Knows t slot.ty
+  pub name : Name
+  pub name_is : slot.name_length ≡ length name
+  pub shapes : members_from k ms ≡ member name (shape_of t slot.ty) (members_from (k + 1) ms)
+
+-- ---- kinds
+
+-- members of a tuple have no names
+abbrev pub Unnamed : Shape → Type 0
+Unnamed (product of_places ms) = names_length ms ≡ 0
+Unnamed _ = ⊤
+
+-- the type is of a kind that has members or items, and its shape is of this kind
+abbrev pub IsKind : InterfaceType → Shape → Type 0
+IsKind (ty.Record i) s = s ≡ product of_fields (product_members s)
+IsKind (ty.Tuple i) s = (s ≡ product of_places (product_members s)) × (names_length (product_members s) ≡ 0)
+IsKind (ty.FixedLengthList i) s = (n : ℕ) × (part : Shape) × (s ≡ fixed n part)
+IsKind (ty.List i) s = s ≡ list of_items (element_shape s)
+IsKind _ s = ⊥
+
+abbrev pub Plans : Table → InterfaceType → Plan → Type 0
+Plans t type plan.Scalar = IsScalarType type
+Plans t type plan.Text = shape_of t type ≡ string
+Plans t type (plan.List element) = Knows t element × (shape_of t type ≡ list of_items (shape_of t element)) × IsKind type (shape_of t type)
+Plans t type (plan.Members members) = AreKnown t members × LiesAs (shape_of t type) (shapes_of t members) × IsKind type (shape_of t type) × Unnamed (shape_of t type)
+
+-- ---- what is put together
+
+-- the members of a value of the shape that has n of them
+abbrev pub parts_of : Shape → ℕ → Members
+parts_of (product k ms) n = ms
+parts_of (fixed m s) n = copies m s
+parts_of (list k s) n = copies n s
+parts_of _ n = no_members
+
+abbrev pub whole : Shape → Trees → Tree
+whole (list k s) ts = items ts
+whole _ ts = parts ts
+
+-- whatever trees the members have, the value has the tree that these make up
+abbrev pub IsRebuilt : Shape → List Val → Val → Type 0
+IsRebuilt s vs v = (ts : Trees) → HaveTrees (parts_of s (length vs)) vs ts → HasTree s v (whole s ts)
+
+-- Members of a value of the shape at an address were loaded, whatever is made of them: their trees make up what the bytes
+-- represent, and its cost was taken from the fuel.
+abbrev pub ArePartsLoaded : Encoding → Memory → Shape → ℕ → ℕ → ℕ → List Val → Type 0
+ArePartsLoaded enc m s a before after vs = (ts : Trees) × RepMem false enc m a s (whole s ts) × HaveTrees (parts_of s (length vs)) vs ts × (before ≡ after + cost s (whole s ts))

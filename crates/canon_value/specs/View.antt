@@ -1,0 +1,51 @@
+-- A value as the shape of its type sees it.
+use Rattle.std.specs.Prelude.{◌≡◌, ◌+◌, ◌↔◌, IsTrue, List, ◌∷◌, drop, length, suc, zero, ℕ}
+use Rattle.canon_lowering.specs.Copies.{copies}
+use Rattle.canon_model.specs.Shape as shape
+use Rattle.canon_model.specs.Shape.{Name, Shape, borrow, fixed, flags, list, member, member_count, no_members, of_items, own, product, scalar, string, variant}
+use Rattle.canon_types.specs.Depth.{product_members}
+use Rattle.canon_types.specs.Table.{HasTuple, Knows, Table, shape_of, tuple_members}
+use Rattle.canon_types.specs.declared.types.InterfaceType.TheVariants as ty
+use Rattle.canon_value.specs.Value.{names_in, no_names, values_in}
+use Rattle.canon_value.specs.declared.members.Member.{Member}
+use Rattle.canon_value.specs.declared.members.Members.{Members}
+use Rattle.canon_value.specs.declared.members.Members.TheVariants as members
+use Rattle.canon_value.specs.declared.val.Val.{Val}
+
+-- the members from the one of this number on
+abbrev pub members_from : ℕ → shape.Members → shape.Members
+members_from zero ms = ms
+members_from (suc i) no_members = no_members
+members_from (suc i) (member name s ms) = members_from i ms
+
+-- their shapes, by the table, their values and their names
+abbrev pub shapes_of : Table → Members → shape.Members
+shapes_of t (members.Fields i values) = product_members (shape_of t (ty.Record i))
+shapes_of t (members.Places i values) = tuple_members t i
+shapes_of t (members.Items type values) = copies (length values.now) (shape_of t type)
+
+abbrev pub values_of : Members → List Val
+values_of (members.Fields i values) = values_in values.now
+values_of (members.Places i values) = values.now
+values_of (members.Items type values) = values.now
+
+abbrev pub names_of : Members → List Name
+names_of (members.Fields i values) = names_in values.now
+names_of (members.Places i values) = no_names values.now
+names_of (members.Items type values) = no_names values.now
+
+-- the table knows their types, as many as there are values
+abbrev pub AreKnown : Table → Members → Type 0
+AreKnown t (members.Fields i values) = Knows t (ty.Record i) × (length values.now ≡ member_count (product_members (shape_of t (ty.Record i))))
+AreKnown t (members.Places i values) = HasTuple t i × (length values.now ≡ member_count (tuple_members t i))
+AreKnown t (members.Items type values) = Knows t type
+
+-- of members of these shapes, names and values, the one of number k
+pub record IsMember (t : Table) (ms : shape.Members) (all : List Name) (vs : List Val) (k : ℕ) (m : Member) : Type 0 where
+  pub known : Knows t m.ty
+  pub name : Name
+  pub named : Name
+  pub same : IsTrue m.is_named ↔ (named ≡ name)
+  pub shapes : members_from k ms ≡ member name (shape_of t m.ty) (members_from (k + 1) ms)
+  pub names : drop k all ≡ named ∷ drop (k + 1) all
+  pub values : drop k vs ≡ m.value.now ∷ drop (k + 1) vs

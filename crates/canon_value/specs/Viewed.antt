@@ -1,0 +1,41 @@
+-- A value as the shape of its type sees it, or why it isn't of its type.
+use Rattle.std.specs.Prelude.{◌≡◌, Err, List, Ok, Result, length, ℕ}
+use Rattle.canon_lowering.specs.Copies.{copies}
+use Rattle.canon_lowering.specs.Lowering.{refused}
+use Rattle.canon_model.specs.Shape as shape
+use Rattle.canon_model.specs.Shape.{Name, Shape, fixed, list, member_count, of_items, product, string}
+use Rattle.canon_types.specs.Table.{Knows, Table, shape_of}
+use Rattle.canon_types.specs.declared.types.InterfaceType.{InterfaceType}
+use Rattle.canon_value.specs.Fails.{Blames, FailsAt}
+use Rattle.canon_value.specs.Lowers.{fault_ending}
+use Rattle.canon_value.specs.Value.{IsFixed, IsProduct, no_names}
+use Rattle.canon_value.specs.View.{AreKnown, names_of, shapes_of, values_of}
+use Rattle.canon_value.specs.Words.{IsWordOf}
+use Rattle.canon_value.specs.declared.fault.Fault.{Fault}
+use Rattle.canon_value.specs.declared.val.Val.{Val}
+use Rattle.canon_value.specs.declared.val.Val.TheVariants as val
+use Rattle.canon_value.specs.declared.view.View.{View}
+use Rattle.canon_value.specs.declared.view.View.TheVariants as view
+
+-- the shape lies as these members do, from its address on and in its words
+abbrev pub LiesAs : Shape → shape.Members → Type 0
+LiesAs (product k ms) these = these ≡ ms
+LiesAs (fixed n s) these = these ≡ copies n s
+LiesAs _ these = ⊥
+
+-- the value is of the shape's kind, and these are its members
+abbrev pub HasMembers : Shape → List Name → List Val → Val → Type 0
+HasMembers (product k ms) names vs v = IsProduct k names vs v
+HasMembers (fixed n s) names vs v = (names ≡ no_names vs) × IsFixed vs v
+HasMembers _ names vs v = ⊥
+
+abbrev pub Views : Table → InterfaceType → Val → View → Type 0
+Views t type v (view.Scalar word) = IsWordOf type v word
+Views t type v (view.Text s) = (shape_of t type ≡ string) × (v ≡ val.String s.now)
+Views t type v (view.List element items) = Knows t element × (shape_of t type ≡ list of_items (shape_of t element)) × (v ≡ val.List items.now)
+Views t type v (view.Members ms) = AreKnown t ms × LiesAs (shape_of t type) (shapes_of t ms) × HasMembers (shape_of t type) (names_of ms) (values_of ms) v × (length (values_of ms) ≡ member_count (shapes_of t ms))
+
+-- of a value that has this place: it is seen so, or it isn't of its type
+abbrev pub Viewed : Table → InterfaceType → Val → ℕ → Result View Fault → Type 0
+Viewed t type v place (Ok x) = Views t type v x
+Viewed t type v place (Err e) = (fault_ending e ≡ refused) × Blames (λ how k. FailsAt how (shape_of t type) v k) place e

@@ -1,0 +1,135 @@
+//! What a type's values are lifted as, by its shape: kinds of types that lie alike are lifted alike. A walk has one arm for each.
+
+ghost use Rattle.std.specs.Prelude.{◌≡◌, ◌<◌};
+ghost use Rattle.canon_lowering.specs.Copies.{copies};
+ghost use Rattle.canon_model.specs.Shape.{member_count};
+ghost use Rattle.canon_types.specs.Depth.{product_members};
+ghost use Rattle.canon_types.specs.Table.{HasTuple, Knows, shape_of, tuple_members};
+ghost use Rattle.canon_value.specs.Built.{IsBuilt};
+ghost use Rattle.canon_value.specs.Plan.{AreKnown, IsSlot, Plans, shapes_of};
+
+use canon_types::{
+    ComponentTypes, InterfaceType, TypeFixedLengthListIndex, TypeListIndex, TypeRecordIndex,
+    TypeTupleIndex,
+};
+
+/// Where the types of values in a row stand.
+#[derive(Clone, Copy)]
+pub(crate) enum Slots {
+    Fields(TypeRecordIndex),
+    Places(TypeTupleIndex),
+    Items(InterfaceType, u64),
+}
+
+/// One of them: its type, and how many bytes its name has; where there are no names, none.
+#[derive(Clone, Copy)]
+pub(crate) struct Slot {
+    pub(crate) ty: InterfaceType,
+    pub(crate) name_length: u64,
+}
+
+pub(crate) enum Plan {
+    Scalar,
+    Text,
+    /// A list, whose items stand in a block of their own, and their type.
+    List(InterfaceType),
+    Members(Slots),
+}
+
+/// How many there are.
+pub(crate) fn slot_count(types: &ComponentTypes, slots: &Slots) -> u64
+    requires known { AreKnown types.now slots.now }
+    ensures { result ≡ member_count (shapes_of types.now slots.now) }
+{
+    match slots {
+        Slots::Fields(i) => types.record(*i).fields.len() as u64,
+        Slots::Places(i) => types.tuple(*i).types.len() as u64,
+        Slots::Items(_, count) => *count,
+    }
+}
+
+/// The one of this number.
+pub(crate) fn slot_of(types: &ComponentTypes, slots: &Slots, k: u64) -> Slot
+    requires known { AreKnown types.now slots.now }
+    requires inside { k < member_count (shapes_of types.now slots.now) }
+    ensures { IsSlot types.now (shapes_of types.now slots.now) k result }
+{
+    match slots {
+        Slots::Fields(i) => field_slot(types, *i, k),
+        Slots::Places(i) => place_slot(types, *i, k),
+        Slots::Items(ty, _) => Slot {
+            ty: *ty,
+            name_length: 0,
+        },
+    }
+}
+
+fn field_slot(types: &ComponentTypes, i: TypeRecordIndex, k: u64) -> Slot
+    requires known { Knows types.now (InterfaceType.Record i) }
+    requires inside { k < member_count (product_members (shape_of types.now (InterfaceType.Record i))) }
+    ensures { IsSlot types.now (product_members (shape_of types.now (InterfaceType.Record i))) k result }
+{
+    let field = &types.record(i).fields[k as usize];
+    Slot {
+        ty: field.ty,
+        name_length: field.name.len() as u64,
+    }
+}
+
+fn place_slot(types: &ComponentTypes, i: TypeTupleIndex, k: u64) -> Slot
+    requires known { HasTuple types.now i }
+    requires inside { k < member_count (tuple_members types.now i) }
+    ensures { IsSlot types.now (tuple_members types.now i) k result }
+{
+    Slot {
+        ty: types.tuple(i).types[k as usize],
+        name_length: 0,
+    }
+}
+
+/// What values of the type are lifted as.
+pub(crate) fn plan_of(types: &ComponentTypes, ty: &InterfaceType) -> Plan
+    requires known { Knows types.now ty.now }
+    requires built { IsBuilt (shape_of types.now ty.now) }
+    ensures { Plans types.now ty.now result }
+{
+    match ty {
+        InterfaceType::Record(i) => fields_plan(types, *i),
+        InterfaceType::Tuple(i) => places_plan(types, *i),
+        InterfaceType::FixedLengthList(i) => fixed_plan(types, *i),
+        InterfaceType::List(i) => list_plan(types, *i),
+        InterfaceType::String => Plan::Text,
+        _ => Plan::Scalar,
+    }
+}
+
+fn fields_plan(types: &ComponentTypes, i: TypeRecordIndex) -> Plan
+    requires known { Knows types.now (InterfaceType.Record i) }
+    ensures { Plans types.now (InterfaceType.Record i) result }
+{
+    let _record = types.record(i);
+    Plan::Members(Slots::Fields(i))
+}
+
+fn places_plan(types: &ComponentTypes, i: TypeTupleIndex) -> Plan
+    requires known { Knows types.now (InterfaceType.Tuple i) }
+    ensures { Plans types.now (InterfaceType.Tuple i) result }
+{
+    let _tuple = types.tuple(i);
+    Plan::Members(Slots::Places(i))
+}
+
+fn fixed_plan(types: &ComponentTypes, i: TypeFixedLengthListIndex) -> Plan
+    requires known { Knows types.now (InterfaceType.FixedLengthList i) }
+    ensures { Plans types.now (InterfaceType.FixedLengthList i) result }
+{
+    let list = types.fixed_length_list(i);
+    Plan::Members(Slots::Items(list.element, u64::from(list.size)))
+}
+
+fn list_plan(types: &ComponentTypes, i: TypeListIndex) -> Plan
+    requires known { Knows types.now (InterfaceType.List i) }
+    ensures { Plans types.now (InterfaceType.List i) result }
+{
+    Plan::List(types.list(i).element)
+}

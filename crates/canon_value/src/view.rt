@@ -1,0 +1,145 @@
+//! A value as the shape of its type sees it: kinds of types that lie alike are seen alike. A walk has one arm for each.
+
+ghost use Rattle.std.specs.Prelude.{◌≡◌};
+ghost use Rattle.canon_model.specs.Shape.{string};
+ghost use Rattle.canon_types.specs.Table.{Knows, shape_of};
+ghost use Rattle.canon_value.specs.Built.{IsBuilt, IsScalarType};
+ghost use Rattle.canon_value.specs.Viewed.{Viewed};
+
+use crate::lower::scalar_word;
+use crate::members::Members;
+use crate::{Fault, Val};
+use canon_types::{
+    ComponentTypes, InterfaceType, TypeFixedLengthListIndex, TypeListIndex, TypeRecordIndex,
+    TypeTupleIndex,
+};
+
+pub(crate) enum View<'a> {
+    /// A scalar's word.
+    Scalar(u64),
+    Text(&'a String),
+    /// The items of a list, which stand in a block of their own, and their type.
+    List(InterfaceType, &'a Vec<Val>),
+    Members(Members<'a>),
+}
+
+/// The view of a value that has this place. Answers `TypeMismatch` or `LengthMismatch` where the value isn't of the type;
+/// names of fields aren't tested.
+pub(crate) fn view_of<'a>(
+    types: &ComponentTypes,
+    ty: &InterfaceType,
+    value: &'a Val,
+    place: u64,
+) -> Result<View<'a>, Fault>
+    requires known { Knows types.now ty.now }
+    requires built { IsBuilt (shape_of types.now ty.now) }
+    ensures { Viewed types.now ty.now value.now place result }
+{
+    match ty {
+        InterfaceType::Record(i) => fields_view(types, *i, value, place),
+        InterfaceType::Tuple(i) => places_view(types, *i, value, place),
+        InterfaceType::FixedLengthList(i) => fixed_view(types, *i, value, place),
+        InterfaceType::List(i) => list_view(types, *i, value, place),
+        InterfaceType::String => text_view(types, value, place),
+        _ => scalar_view(types, ty, value, place),
+    }
+}
+
+fn scalar_view<'a>(
+    types: &ComponentTypes,
+    ty: &InterfaceType,
+    value: &'a Val,
+    place: u64,
+) -> Result<View<'a>, Fault>
+    requires scalar { IsScalarType ty.now }
+    ensures { Viewed types.now ty.now value.now place result }
+{
+    let _ = types;
+    match scalar_word(value, ty) {
+        Some(word) => Ok(View::Scalar(word.get_u64())),
+        None => Err(Fault::TypeMismatch(place)),
+    }
+}
+
+fn text_view<'a>(types: &ComponentTypes, value: &'a Val, place: u64) -> Result<View<'a>, Fault>
+    ensures { Viewed types.now InterfaceType.String value.now place result }
+{
+    let _ = types;
+    match value {
+        Val::String(text) => Ok(View::Text(text)),
+        _ => Err(Fault::TypeMismatch(place)),
+    }
+}
+
+fn list_view<'a>(
+    types: &ComponentTypes,
+    i: TypeListIndex,
+    value: &'a Val,
+    place: u64,
+) -> Result<View<'a>, Fault>
+    requires known { Knows types.now (InterfaceType.List i) }
+    ensures { Viewed types.now (InterfaceType.List i) value.now place result }
+{
+    let element = types.list(i).element;
+    match value {
+        Val::List(items) => Ok(View::List(element, items)),
+        _ => Err(Fault::TypeMismatch(place)),
+    }
+}
+
+fn fixed_view<'a>(
+    types: &ComponentTypes,
+    i: TypeFixedLengthListIndex,
+    value: &'a Val,
+    place: u64,
+) -> Result<View<'a>, Fault>
+    requires known { Knows types.now (InterfaceType.FixedLengthList i) }
+    ensures { Viewed types.now (InterfaceType.FixedLengthList i) value.now place result }
+{
+    let list = types.fixed_length_list(i);
+    let Val::FixedLengthList(values) = value else {
+        return Err(Fault::TypeMismatch(place));
+    };
+    if values.len() as u64 != u64::from(list.size) {
+        return Err(Fault::LengthMismatch(place));
+    }
+    Ok(View::Members(Members::Items(list.element, values)))
+}
+
+fn fields_view<'a>(
+    types: &ComponentTypes,
+    i: TypeRecordIndex,
+    value: &'a Val,
+    place: u64,
+) -> Result<View<'a>, Fault>
+    requires known { Knows types.now (InterfaceType.Record i) }
+    ensures { Viewed types.now (InterfaceType.Record i) value.now place result }
+{
+    let count = types.record(i).fields.len();
+    let Val::Record(values) = value else {
+        return Err(Fault::TypeMismatch(place));
+    };
+    if values.len() != count {
+        return Err(Fault::LengthMismatch(place));
+    }
+    Ok(View::Members(Members::Fields(i, values)))
+}
+
+fn places_view<'a>(
+    types: &ComponentTypes,
+    i: TypeTupleIndex,
+    value: &'a Val,
+    place: u64,
+) -> Result<View<'a>, Fault>
+    requires known { Knows types.now (InterfaceType.Tuple i) }
+    ensures { Viewed types.now (InterfaceType.Tuple i) value.now place result }
+{
+    let count = types.tuple(i).types.len();
+    let Val::Tuple(values) = value else {
+        return Err(Fault::TypeMismatch(place));
+    };
+    if values.len() != count {
+        return Err(Fault::LengthMismatch(place));
+    }
+    Ok(View::Members(Members::Places(i, values)))
+}
