@@ -106,6 +106,7 @@ choice_tells (Some (abi, info)) ls h = (
   record {
     size = h.1.size ∙ ap tag_size (length-map ls capped);
     offset = h.1.offset ∙ payload_place-capped ls;
+    few = omega (arith, h.1.few, length-map ls capped);
   },
 )
 

@@ -169,6 +169,7 @@ tells_variant (Some (abi, info)) k cs h = (
   record {
     size = h.1.size ∙ ap tag_size (length-cases cs);
     offset = h.1.offset ∙ place-cases cs;
+    few = omega (arith, h.1.few, length-cases cs);
   },
 )
 
@@ -273,11 +274,12 @@ enum_answer abi info count h k names e = record {
   flat = h.words ∙ ap (λ (n : ℕ). flat_within (1 + n)) (sym (cases_flat-bare names));
 }
 
-pub enum_info : (abi : CanonicalAbiInfo) (info : VariantInfo) (count : ℕ) → IsEnum abi info count
+pub enum_info : (abi : CanonicalAbiInfo) (info : VariantInfo) (count : ℕ) → IsEnum abi info count → count ≤ 2 ^ 32
     → (names : List Name) → length names ≡ count → HasInfo info (bare_cases names)
-enum_info abi info count h names e = record {
+enum_info abi info count h small names e = record {
   size = h.tag ∙ ap tag_size (sym e) ∙ sym (enum_tag names);
   offset = h.offset ∙ ap tag_size (sym e) ∙ sym (enum_offset names);
+  few = omega (arith, small, e, case_count-bare names);
 }
 
 -- ---- flags

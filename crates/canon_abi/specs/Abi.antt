@@ -13,10 +13,11 @@ pub record HasLayout (abi : CanonicalAbiInfo) (s : Shape) : Type 0 where
   pub align : abi.align32 ≡ align false s
   pub flat : abi.flat ≡ flat_within (flat s)
 
--- the discriminant and the place of the payload are those of a variant of these cases
+-- the discriminant and the place of the payload are those of a variant of these cases, whose numbers have 32 bits
 pub record HasInfo (info : VariantInfo) (cs : Cases) : Type 0 where
   pub size : tag_bytes info.size ≡ tag_size (case_count cs)
   pub offset : info.payload_offset32 ≡ payload_offset false cs
+  pub few : case_count cs ≤ 2 ^ 32
 
 -- there are numbers, unless the size passes 2 ^ 32 - 1
 abbrev pub TellsLayout : Option CanonicalAbiInfo → Shape → Type 0

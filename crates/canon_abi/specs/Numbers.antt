@@ -98,6 +98,7 @@ TellsNumbers told l = MatchOption told (2 ^ 32 ≤ l.size) (λ abi. AreTold abi 
 pub record IsInfo (info : VariantInfo) (cases : List Numbers) : Type 0 where
   pub size : tag_bytes info.size ≡ tag_size (length cases)
   pub offset : info.payload_offset32 ≡ payload_place cases
+  pub few : length cases ≤ 2 ^ 32
 
 abbrev pub TellsCases : Option (CanonicalAbiInfo × VariantInfo) → List Numbers → Type 0
 TellsCases told cases = MatchOption told (2 ^ 32 ≤ (of_variant cases).size) (λ p. AreTold p.0 (of_variant cases) × IsInfo p.1 cases)

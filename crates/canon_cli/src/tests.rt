@@ -41,7 +41,7 @@ fn what_is_no_script_has_its_status(rt: HostRuntime) -> Result<(), Fail> {
         ("", 7),
         ("[]", 8),
         (r#"{"fuel":-1}"#, 8),
-        (r#"{"types":[{"flags":["a"]}]}"#, 8),
+        (r#"{"types":[{"flags":[]}]}"#, 8),
         (r#"{"types":[{"fixed":["u8",0]}]}"#, 8),
         (r#"{"memory":16}"#, 8),
     ];

@@ -15,7 +15,7 @@ use Rattle.canon_lowering.proofs.Lowerings.{lawful_second}
 use Rattle.canon_lowering.specs.Attempt.{AnyPointer, LowersArgs}
 use Rattle.canon_lowering.specs.Lowering.{Accepted, AllGood, AllLawful, Answer, LastIs, Meets, Trap, addresses_of, done, events_of, marks_of}
 use Rattle.canon_lowering.specs.Storing.{narrow}
-use Rattle.canon_value.specs.Fails.{AreSmall, BlamesMembers, Failure, MemberFails, field_name, mismatch, overflow, too_long, wrong_length}
+use Rattle.canon_value.specs.Fails.{AreSmall, BlamesMembers, Failure, MemberFails, field_name, mismatch, overflow, payload_expected, payload_not_expected, too_long, unknown_case, unknown_flag, wrong_length}
 use Rattle.canon_value.proofs.Values.{failure_excludes}
 use Rattle.canon_value.specs.Lifts.{AreResults}
 use Rattle.canon_value.specs.Lowers.{fault_ending}
@@ -93,6 +93,7 @@ cause_after callee fuel params entry mid after xs ys (error.Fault (fault.Pointer
 cause_after callee fuel params entry mid after xs ys (error.Fault (fault.PointerOutOfBounds at)) g h = ends_after _ xs ys h
 cause_after callee fuel params entry mid after xs ys (error.Fault (fault.InvalidUtf8 at)) g h = ends_after _ xs ys h
 cause_after callee fuel params entry mid after xs ys (error.Fault (fault.InvalidChar at)) g h = ends_after _ xs ys h
+cause_after callee fuel params entry mid after xs ys (error.Fault (fault.BadDiscriminant at d)) g h = ends_after _ xs ys h
 cause_after callee fuel params entry mid after xs ys (error.Fault fault.HostcallFuelExhausted) g h = ends_after _ xs ys h
 cause_after callee fuel params entry mid after xs ys (error.Fault fault.OutOfMemory) g h = tt
 cause_after callee fuel params entry mid after xs ys error.WrongCount g h = absurd h
@@ -100,6 +101,10 @@ cause_after callee fuel params entry mid after xs ys error.AsyncLifted g h = abs
 cause_after callee fuel params entry mid after xs ys error.CannotEnterComponent g h = absurd h
 cause_after callee fuel params entry mid after xs ys (error.Fault (fault.TypeMismatch k)) g h = absurd h
 cause_after callee fuel params entry mid after xs ys (error.Fault (fault.FieldName k)) g h = absurd h
+cause_after callee fuel params entry mid after xs ys (error.Fault (fault.UnknownCase k)) g h = absurd h
+cause_after callee fuel params entry mid after xs ys (error.Fault (fault.UnknownFlag k)) g h = absurd h
+cause_after callee fuel params entry mid after xs ys (error.Fault (fault.PayloadExpected k)) g h = absurd h
+cause_after callee fuel params entry mid after xs ys (error.Fault (fault.PayloadNotExpected k)) g h = absurd h
 cause_after callee fuel params entry mid after xs ys (error.Fault (fault.LengthMismatch k)) g h = absurd h
 cause_after callee fuel params entry mid after xs ys (error.Fault (fault.StringTooLong n)) g h = absurd h
 cause_after callee fuel params entry mid after xs ys (error.Fault (fault.SizeOverflow n)) g h = absurd h
@@ -127,9 +132,14 @@ accepted_after callee fuel mid after ys answers (error.Fault (fault.PointerMisal
 accepted_after callee fuel mid after ys answers (error.Fault (fault.PointerOutOfBounds at)) h good = good
 accepted_after callee fuel mid after ys answers (error.Fault (fault.InvalidUtf8 at)) h good = good
 accepted_after callee fuel mid after ys answers (error.Fault (fault.InvalidChar at)) h good = good
+accepted_after callee fuel mid after ys answers (error.Fault (fault.BadDiscriminant at d)) h good = good
 accepted_after callee fuel mid after ys answers (error.Fault fault.HostcallFuelExhausted) h good = good
 accepted_after callee fuel mid after ys answers (error.Fault (fault.TypeMismatch k)) h good = absurd h
 accepted_after callee fuel mid after ys answers (error.Fault (fault.FieldName k)) h good = absurd h
+accepted_after callee fuel mid after ys answers (error.Fault (fault.UnknownCase k)) h good = absurd h
+accepted_after callee fuel mid after ys answers (error.Fault (fault.UnknownFlag k)) h good = absurd h
+accepted_after callee fuel mid after ys answers (error.Fault (fault.PayloadExpected k)) h good = absurd h
+accepted_after callee fuel mid after ys answers (error.Fault (fault.PayloadNotExpected k)) h good = absurd h
 accepted_after callee fuel mid after ys answers (error.Fault (fault.LengthMismatch k)) h good = absurd h
 accepted_after callee fuel mid after ys answers (error.Fault (fault.StringTooLong k)) h good = absurd h
 accepted_after callee fuel mid after ys answers (error.Fault (fault.SizeOverflow k)) h good = absurd h
@@ -295,6 +305,10 @@ module _ (Leaves : List ℕ → List ℕ → Type 0) (callee : Callee) (fuel : �
   refused_by : (f : Fault) (words : List ℕ) (low : Low words f) → BlamesMembers callee.params params f → Why f words low
   refused_by (fault.TypeMismatch k) words low blames = blamed (fault.TypeMismatch k) low.answers low.trap mismatch blames.0 low.lowering.cause low.lowering.accepted blames.2 (none_started low.answers low.trap, none_trapped low.answers low.trap low.lowering.cause, blames)
   refused_by (fault.FieldName k) words low blames = blamed (fault.FieldName k) low.answers low.trap field_name blames.0 low.lowering.cause low.lowering.accepted blames.2 (none_started low.answers low.trap, none_trapped low.answers low.trap low.lowering.cause, blames)
+  refused_by (fault.UnknownCase k) words low blames = blamed (fault.UnknownCase k) low.answers low.trap unknown_case blames.0 low.lowering.cause low.lowering.accepted blames.2 (none_started low.answers low.trap, none_trapped low.answers low.trap low.lowering.cause, blames)
+  refused_by (fault.UnknownFlag k) words low blames = blamed (fault.UnknownFlag k) low.answers low.trap unknown_flag blames.0 low.lowering.cause low.lowering.accepted blames.2 (none_started low.answers low.trap, none_trapped low.answers low.trap low.lowering.cause, blames)
+  refused_by (fault.PayloadExpected k) words low blames = blamed (fault.PayloadExpected k) low.answers low.trap payload_expected blames.0 low.lowering.cause low.lowering.accepted blames.2 (none_started low.answers low.trap, none_trapped low.answers low.trap low.lowering.cause, blames)
+  refused_by (fault.PayloadNotExpected k) words low blames = blamed (fault.PayloadNotExpected k) low.answers low.trap payload_not_expected blames.0 low.lowering.cause low.lowering.accepted blames.2 (none_started low.answers low.trap, none_trapped low.answers low.trap low.lowering.cause, blames)
   refused_by (fault.LengthMismatch k) words low blames = blamed (fault.LengthMismatch k) low.answers low.trap wrong_length blames.0 low.lowering.cause low.lowering.accepted blames.2 (none_started low.answers low.trap, none_trapped low.answers low.trap low.lowering.cause, blames)
   refused_by (fault.StringTooLong n) words low blames = blamed (fault.StringTooLong n) low.answers low.trap (too_long n) blames.0 low.lowering.cause low.lowering.accepted blames.1 (none_started low.answers low.trap, none_trapped low.answers low.trap low.lowering.cause, blames)
   refused_by (fault.SizeOverflow n) words low blames = blamed (fault.SizeOverflow n) low.answers low.trap (overflow n) blames.0 low.lowering.cause low.lowering.accepted blames.1 (none_started low.answers low.trap, none_trapped low.answers low.trap low.lowering.cause, blames)
@@ -334,6 +348,7 @@ module _ (Leaves : List ℕ → List ℕ → Type 0) (callee : Callee) (fuel : �
   refused_by (fault.PointerOutOfBounds at) words low blames = absurd blames
   refused_by (fault.InvalidUtf8 at) words low blames = absurd blames
   refused_by (fault.InvalidChar at) words low blames = absurd blames
+  refused_by (fault.BadDiscriminant at d) words low blames = absurd blames
   refused_by fault.HostcallFuelExhausted words low blames = absurd blames
 
   pub refused_call : (f : Fault) (words : List ℕ) (low : LowersArgs false entry after callee.encoding callee.params (HaveTrees callee.params params) words (fault_ending f)) → BlamesMembers callee.params params f

@@ -16,7 +16,7 @@ use Rattle.canon_value.specs.declared.fault.Fault.TheVariants as fault
 use Rattle.canon_value.specs.declared.val.Val.{Val}
 use Rattle.canon_func.specs.Call.{Adding, IsCall, Left, OnAnswered}
 use Rattle.canon_func.specs.Runs.{posts}
-use Rattle.canon_func.specs.Steps.{Concluded, CoreCall, Proceeds, IsLate, IsRest, Lifted, Lowered, Posted, RestCause, Started}
+use Rattle.canon_func.specs.Steps.{Concluded, CoreCall, Proceeds, IsLate, IsRest, Lifted, LoweredArgs, Posted, RestCause, Started}
 use Rattle.canon_func.specs.Stores.{Callee}
 use Rattle.canon_func.specs.declared.error.Error.{Error}
 use Rattle.canon_func.specs.declared.error.Error.TheVariants as error
@@ -131,7 +131,7 @@ rest_is_late callee fuel a b es (Err error.WrongWords) h = refl
 rest_is_late callee fuel a b es (Err (error.UnknownImport n)) h = refl
 rest_is_late callee fuel a b es (Err (error.Fault f)) h = refl
 
-pub lowered_is_late : (callee : Callee) (params : List Val) (a b : Moment) (es : List Event) (e : Error) → Lowered callee params a b (Err e) es → IsLate e
+pub lowered_is_late : (callee : Callee) (params : List Val) (a b : Moment) (es : List Event) (e : Error) → LoweredArgs callee params a b (Err e) es → IsLate e
 lowered_is_late callee params a b es (error.Fault f) h = refl
 lowered_is_late callee params a b es error.WrongCount h = absurd h
 lowered_is_late callee params a b es error.AsyncLifted h = absurd h
@@ -140,7 +140,7 @@ lowered_is_late callee params a b es error.WrongWords h = absurd h
 lowered_is_late callee params a b es (error.UnknownImport n) h = absurd h
 
 module _ (Leaves : List ℕ → List ℕ → Type 0) (callee : Callee) (fuel : ℕ) (params : List Val) where
-  core_refused : (a b : Moment) (e : Error) (es : List Event) → Lowered callee params a b (Err e) es → CoreCall Leaves callee fuel params a b (Err e) es
+  core_refused : (a b : Moment) (e : Error) (es : List Event) → LoweredArgs callee params a b (Err e) es → CoreCall Leaves callee fuel params a b (Err e) es
   core_refused a b (error.Fault f) es (inl (short, same, none)) = subst (λ fs. CoreCall Leaves callee fuel params a b (Err (error.Fault f)) fs) (sym none)
       (subst (λ g. CoreCall Leaves callee fuel params a b (Err (error.Fault g)) []) (sym short) (short_call Leaves callee fuel params a b same))
   core_refused a b (error.Fault f) es (inr (words, low, blames, is, quiet)) = subst (λ fs. CoreCall Leaves callee fuel params a b (Err (error.Fault f)) fs) (sym is) (refused_call Leaves callee fuel params a b f words low blames quiet)
@@ -152,7 +152,7 @@ module _ (Leaves : List ℕ → List ℕ → Type 0) (callee : Callee) (fuel : �
 
   -- the parameters were lowered
   pub call_started : (a b c : Moment) (words : Vec ℕ Global) (answer : Result (Vec Val Global) Error) (M N O : List Event → Type 0) → ((xs ys : List Event) → M xs → N ys → O (xs ++ ys))
-      → Adding a b M (Lowered callee params a b (Ok words)) → Proceeds b c N (IsRest Leaves callee fuel words.items b c answer) → Adding a c O (CoreCall Leaves callee fuel params a c answer)
+      → Adding a b M (LoweredArgs callee params a b (Ok words)) → Proceeds b c N (IsRest Leaves callee fuel words.items b c answer) → Adding a c O (CoreCall Leaves callee fuel params a c answer)
   call_started a b c words answer M N O f first second =
       let low : LowersArgs false a b callee.encoding callee.params (HaveTrees callee.params params) words.items done = first.so.0 in
       let xs : List Event = events_of low.answers low.trap in
@@ -166,7 +166,7 @@ module _ (Leaves : List ℕ → List ℕ → Type 0) (callee : Callee) (fuel : �
       }
 
   -- they weren't
-  pub call_refused : (a b : Moment) (e : Error) (M : List Event → Type 0) → Adding a b M (Lowered callee params a b (Err e)) → Adding a b M (CoreCall Leaves callee fuel params a b (Err e))
+  pub call_refused : (a b : Moment) (e : Error) (M : List Event → Type 0) → Adding a b M (LoweredArgs callee params a b (Err e)) → Adding a b M (CoreCall Leaves callee fuel params a b (Err e))
   call_refused a b e M low = record { events = low.events; added = low.added; moves = low.moves; so = core_refused a b e low.events low.so }
 
   -- it is refused, whatever the results

@@ -40,6 +40,10 @@ pub refused_moves : {G : Type 0} (V : Type 0) (seen : G → Seen) (moves : Guest
 refused_moves V seen moves g h fault.OutOfMemory m l es p q = tt
 refused_moves V seen moves g h (fault.TypeMismatch k) m l es p q = m l es p q
 refused_moves V seen moves g h (fault.FieldName k) m l es p q = m l es p q
+refused_moves V seen moves g h (fault.UnknownCase k) m l es p q = m l es p q
+refused_moves V seen moves g h (fault.UnknownFlag k) m l es p q = m l es p q
+refused_moves V seen moves g h (fault.PayloadExpected k) m l es p q = m l es p q
+refused_moves V seen moves g h (fault.PayloadNotExpected k) m l es p q = m l es p q
 refused_moves V seen moves g h (fault.LengthMismatch k) m l es p q = m l es p q
 refused_moves V seen moves g h (fault.StringTooLong n) m l es p q = m l es p q
 refused_moves V seen moves g h (fault.SizeOverflow n) m l es p q = m l es p q
@@ -50,6 +54,7 @@ refused_moves V seen moves g h (fault.PointerMisaligned at) m l es p q = m l es 
 refused_moves V seen moves g h (fault.PointerOutOfBounds at) m l es p q = m l es p q
 refused_moves V seen moves g h (fault.InvalidUtf8 at) m l es p q = m l es p q
 refused_moves V seen moves g h (fault.InvalidChar at) m l es p q = m l es p q
+refused_moves V seen moves g h (fault.BadDiscriminant at d) m l es p q = m l es p q
 refused_moves V seen moves g h fault.HostcallFuelExhausted m l es p q = m l es p q
 
 -- no answer was marked

@@ -109,6 +109,10 @@ module _ (Leaves : List ℕ → List ℕ → Type 0) (callee : Callee) (fuel : �
   rest_of_start error.WrongWords events h = absurd h
   rest_of_start (error.Fault (fault.TypeMismatch k)) events h = absurd h
   rest_of_start (error.Fault (fault.FieldName k)) events h = absurd h
+  rest_of_start (error.Fault (fault.UnknownCase k)) events h = absurd h
+  rest_of_start (error.Fault (fault.UnknownFlag k)) events h = absurd h
+  rest_of_start (error.Fault (fault.PayloadExpected k)) events h = absurd h
+  rest_of_start (error.Fault (fault.PayloadNotExpected k)) events h = absurd h
   rest_of_start (error.Fault (fault.LengthMismatch k)) events h = absurd h
   rest_of_start (error.Fault (fault.StringTooLong n)) events h = absurd h
   rest_of_start (error.Fault (fault.SizeOverflow n)) events h = absurd h
@@ -118,6 +122,7 @@ module _ (Leaves : List ℕ → List ℕ → Type 0) (callee : Callee) (fuel : �
   rest_of_start (error.Fault (fault.PointerOutOfBounds at)) events h = absurd h
   rest_of_start (error.Fault (fault.InvalidUtf8 at)) events h = absurd h
   rest_of_start (error.Fault (fault.InvalidChar at)) events h = absurd h
+  rest_of_start (error.Fault (fault.BadDiscriminant at d)) events h = absurd h
   rest_of_start (error.Fault fault.HostcallFuelExhausted) events h = absurd h
 
   -- ---- it returned
@@ -154,6 +159,7 @@ module _ (Leaves : List ℕ → List ℕ → Type 0) (callee : Callee) (fuel : �
     lifted_made (error.Fault (fault.PointerOutOfBounds at)) n h = returned_made (error.Fault (fault.PointerOutOfBounds at)) h (excludes (error.Fault (fault.PointerOutOfBounds at)) _ _ h)
     lifted_made (error.Fault (fault.InvalidUtf8 at)) n h = returned_made (error.Fault (fault.InvalidUtf8 at)) h (excludes (error.Fault (fault.InvalidUtf8 at)) _ _ h)
     lifted_made (error.Fault (fault.InvalidChar at)) n h = returned_made (error.Fault (fault.InvalidChar at)) h (excludes (error.Fault (fault.InvalidChar at)) _ _ h)
+    lifted_made (error.Fault (fault.BadDiscriminant at d)) n h = returned_made (error.Fault (fault.BadDiscriminant at d)) h (excludes (error.Fault (fault.BadDiscriminant at d)) _ _ h)
     lifted_made (error.Fault fault.HostcallFuelExhausted) n h = returned_made (error.Fault fault.HostcallFuelExhausted) h
         (λ us r few. absurd (past_cost fuel _ _ h.1 (reach_is_the_cost.values max_results false callee.encoding (narrow memory) returned callee.results us r) few))
     lifted_made (error.Fault fault.OutOfMemory) n h = returned_made (error.Fault fault.OutOfMemory) tt (λ us r few. refl)
@@ -163,6 +169,10 @@ module _ (Leaves : List ℕ → List ℕ → Type 0) (callee : Callee) (fuel : �
     lifted_made error.CannotEnterComponent n h = absurd h
     lifted_made (error.Fault (fault.TypeMismatch k)) n h = absurd h
     lifted_made (error.Fault (fault.FieldName k)) n h = absurd h
+    lifted_made (error.Fault (fault.UnknownCase k)) n h = absurd h
+    lifted_made (error.Fault (fault.UnknownFlag k)) n h = absurd h
+    lifted_made (error.Fault (fault.PayloadExpected k)) n h = absurd h
+    lifted_made (error.Fault (fault.PayloadNotExpected k)) n h = absurd h
     lifted_made (error.Fault (fault.LengthMismatch k)) n h = absurd h
     lifted_made (error.Fault (fault.StringTooLong i)) n h = absurd h
     lifted_made (error.Fault (fault.SizeOverflow i)) n h = absurd h

@@ -5,7 +5,7 @@ use Rattle.canon_model.specs.Flat.{RepArgs, RepResults, max_params, max_results}
 use Rattle.canon_model.specs.Homes.{ParamsHome, PointsTo}
 use Rattle.canon_model.specs.Layout.{members_flat}
 use Rattle.canon_model.specs.Memory.{InBlocks}
-use Rattle.canon_model.specs.Reach.{Kind, ValuesFault, badly_spelled, misaligned, no_scalar, out_of_bounds, values_reach}
+use Rattle.canon_model.specs.Reach.{Kind, ValuesFault, badly_spelled, misaligned, no_case, no_scalar, out_of_bounds, values_reach}
 use Rattle.canon_model.specs.Requests.{Request, params_requests}
 use Rattle.canon_model.specs.Shape.{Members, member_count}
 use Rattle.canon_model.specs.Text.{in_utf8}
@@ -28,7 +28,7 @@ use Rattle.canon_value.specs.declared.fault.At.{At}
 use Rattle.canon_value.specs.declared.fault.Fault.{Fault}
 use Rattle.canon_value.specs.declared.fault.Fault.TheVariants as fault
 use Rattle.canon_value.specs.declared.val.Val.{Val}
-use Rattle.canon_func.specs.Runs.{AsksFor, Each, EndsIn, Grows, IsAnswer, IsNoAsk, IsNoPost, IsNoRequest, IsNoResume, IsNoStart, IsOneRun, IsPrefixOfRun, IsReturn, IsTrap, OnReturn, OnStart}
+use Rattle.canon_func.specs.Runs.{AsksImport, Each, EndsIn, Grows, IsAnswer, IsNoAsk, IsNoPost, IsNoRequest, IsNoResume, IsNoStart, IsOneRun, IsPrefixOfRun, IsReturn, IsTrap, OnReturn, OnStart}
 use Rattle.canon_func.specs.Stores.{Callee}
 use Rattle.canon_func.specs.declared.error.Error.{Error}
 use Rattle.canon_func.specs.declared.error.Error.TheVariants as error
@@ -104,6 +104,10 @@ IsPastFuel callee fuel words memory = (length words ≡ result_words callee.resu
 abbrev pub FaultCause : Callee → ℕ → List Val → Moment → Moment → List Event → Fault → Type 0
 FaultCause callee fuel params before after events (fault.TypeMismatch k) = Each IsNoStart events × ¬ EndsIn IsTrap events × BlamesMembers callee.params params (fault.TypeMismatch k)
 FaultCause callee fuel params before after events (fault.FieldName k) = Each IsNoStart events × ¬ EndsIn IsTrap events × BlamesMembers callee.params params (fault.FieldName k)
+FaultCause callee fuel params before after events (fault.UnknownCase k) = Each IsNoStart events × ¬ EndsIn IsTrap events × BlamesMembers callee.params params (fault.UnknownCase k)
+FaultCause callee fuel params before after events (fault.UnknownFlag k) = Each IsNoStart events × ¬ EndsIn IsTrap events × BlamesMembers callee.params params (fault.UnknownFlag k)
+FaultCause callee fuel params before after events (fault.PayloadExpected k) = Each IsNoStart events × ¬ EndsIn IsTrap events × BlamesMembers callee.params params (fault.PayloadExpected k)
+FaultCause callee fuel params before after events (fault.PayloadNotExpected k) = Each IsNoStart events × ¬ EndsIn IsTrap events × BlamesMembers callee.params params (fault.PayloadNotExpected k)
 FaultCause callee fuel params before after events (fault.LengthMismatch k) = Each IsNoStart events × ¬ EndsIn IsTrap events × BlamesMembers callee.params params (fault.LengthMismatch k)
 FaultCause callee fuel params before after events (fault.StringTooLong n) = Each IsNoStart events × ¬ EndsIn IsTrap events × BlamesMembers callee.params params (fault.StringTooLong n)
 FaultCause callee fuel params before after events (fault.SizeOverflow n) = Each IsNoStart events × ¬ EndsIn IsTrap events × BlamesMembers callee.params params (fault.SizeOverflow n)
@@ -116,6 +120,7 @@ FaultCause callee fuel params before after events (fault.PointerMisaligned at) =
 FaultCause callee fuel params before after events (fault.PointerOutOfBounds at) = EndsIn (IsReturn (HasFault callee out_of_bounds at)) events
 FaultCause callee fuel params before after events (fault.InvalidUtf8 at) = EndsIn (IsReturn (HasFault callee (badly_spelled in_utf8) at)) events
 FaultCause callee fuel params before after events (fault.InvalidChar at) = EndsIn (IsReturn (HasFault callee no_scalar at)) events
+FaultCause callee fuel params before after events (fault.BadDiscriminant at d) = EndsIn (IsReturn (HasFault callee (no_case d) at)) events
 FaultCause callee fuel params before after events fault.HostcallFuelExhausted = EndsIn (IsReturn (IsPastFuel callee fuel)) events
 FaultCause callee fuel params before after events fault.OutOfMemory = ⊤
 
@@ -123,7 +128,7 @@ FaultCause callee fuel params before after events fault.OutOfMemory = ⊤
 abbrev pub Cause : Callee → ℕ → List Val → Moment → Moment → List Event → Error → Type 0
 Cause callee fuel params before after events (error.Fault f) = FaultCause callee fuel params before after events f
 Cause callee fuel params before after events error.WrongWords = EndsIn (IsReturn (λ words m. ¬ (length words ≡ result_words callee.results))) events
-Cause callee fuel params before after events (error.UnknownImport n) = EndsIn (AsksFor n) events
+Cause callee fuel params before after events (error.UnknownImport n) = EndsIn (AsksImport n) events
 Cause callee fuel params before after events error.WrongCount = ⊥
 Cause callee fuel params before after events error.AsyncLifted = ⊥
 Cause callee fuel params before after events error.CannotEnterComponent = ⊥

@@ -47,9 +47,9 @@ IsTrap (event.Trap asked len) = ⊤
 IsTrap _ = ⊥
 
 -- it asks for the import of this number
-abbrev pub AsksFor : ℕ → Event → Type 0
-AsksFor n (event.Ask index words memory) = index ≡ n
-AsksFor n _ = ⊥
+abbrev pub AsksImport : ℕ → Event → Type 0
+AsksImport n (event.Ask index words memory) = index ≡ n
+AsksImport n _ = ⊥
 
 abbrev pub IsNoStart : Event → Type 0
 IsNoStart (event.Start func words memory) = ⊥
@@ -89,7 +89,7 @@ Grows len (_ ∷ events) last = Grows len events last
 -- ---- one run
 
 -- an import that was asked for, the blocks that were asked for meanwhile, and how the guest went on
-pub record Turn : Type 0 where
+pub record AskTurn : Type 0 where
   pub index : ℕ
   pub words : List ℕ
   pub memory : List ℕ
@@ -98,7 +98,7 @@ pub record Turn : Type 0 where
   pub resumed_words : List ℕ
   pub resumed_memory : List ℕ
 
-abbrev pub events_in : List Turn → List Event
+abbrev pub events_in : List AskTurn → List Event
 events_in [] = []
 events_in (t ∷ turns) = event.Ask t.index t.words t.memory ∷ t.reallocs ++ event.Resume t.resumed_words t.resumed_memory ∷ events_in turns
 
@@ -112,7 +112,7 @@ posts (Some func) returned = event.Post func returned ∷ []
 pub record IsRun (func : ℕ) (post : Option ℕ) (words memory returned after : List ℕ) (events : List Event) : Type 0 where
   pub reallocs : List Event
   pub only_reallocs : Each IsRealloc reallocs
-  pub turns : List Turn
+  pub turns : List AskTurn
   pub is : events ≡ reallocs ++ event.Start func words memory ∷ events_in turns ++ event.Return returned after ∷ posts post returned
 
 abbrev pub IsOneRun : ℕ → Option ℕ → List Event → Type 0

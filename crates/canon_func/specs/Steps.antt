@@ -3,7 +3,7 @@ use Rattle.std.specs.Prelude.{Err, IfErr, IfOk, IsOkUnless, List, None, Ok, OnOk
 use Rattle.std.specs.declared.alloc.Global.{Global}
 use Rattle.canon_model.specs.Cost.{members_cost}
 use Rattle.canon_model.specs.Flat.{RepResults, max_params}
-use Rattle.canon_model.specs.Reach.{badly_spelled, misaligned, no_scalar, out_of_bounds}
+use Rattle.canon_model.specs.Reach.{badly_spelled, misaligned, no_case, no_scalar, out_of_bounds}
 use Rattle.canon_model.specs.Shape.{member_count}
 use Rattle.canon_model.specs.Text.{in_utf8}
 use Rattle.canon_model.specs.Tree.{Trees}
@@ -23,7 +23,7 @@ use Rattle.canon_value.specs.Value.{HaveTrees}
 use Rattle.canon_value.specs.declared.fault.Fault.TheVariants as fault
 use Rattle.canon_value.specs.declared.val.Val.{Val}
 use Rattle.canon_func.specs.Call.{AsksNothing, HasFault, IsCall, IsPastFuel, Left, refused_by, result_words, words_within}
-use Rattle.canon_func.specs.Runs.{AsksFor, Each, EndsIn, Grows, IsNoAsk, IsNoPost, IsNoRequest, IsNoResume, IsOneRun, IsPrefixOfRun, IsReturn, IsTrap, OnReturn, OnStart, posts}
+use Rattle.canon_func.specs.Runs.{AsksImport, Each, EndsIn, Grows, IsNoAsk, IsNoPost, IsNoRequest, IsNoResume, IsOneRun, IsPrefixOfRun, IsReturn, IsTrap, OnReturn, OnStart, posts}
 use Rattle.canon_func.specs.Stores.{Callee}
 use Rattle.canon_func.specs.declared.error.Error.{Error}
 use Rattle.canon_func.specs.declared.error.Error.TheVariants as error
@@ -40,15 +40,15 @@ pub record Proceeds (before after : Moment) (Moves IsSo : List Event → Type 0)
 
 -- The parameters were lowered into these words, or why not; these are the events. Where memory ran out before, nothing was
 -- done.
-abbrev pub Lowered : Callee → List Val → Moment → Moment → Result (Vec ℕ Global) Error → List Event → Type 0
-Lowered callee params before after (Ok words) events =
+abbrev pub LoweredArgs : Callee → List Val → Moment → Moment → Result (Vec ℕ Global) Error → List Event → Type 0
+LoweredArgs callee params before after (Ok words) events =
     (low : LowersArgs false before after callee.encoding callee.params (HaveTrees callee.params params) words.items done) × (events ≡ events_of low.answers low.trap)
     × (length words.items ≡ words_within max_params callee.params) × AsksNothing callee.params low.answers low.trap
-Lowered callee params before after (Err (error.Fault f)) events =
+LoweredArgs callee params before after (Err (error.Fault f)) events =
     ((f ≡ fault.OutOfMemory) × (after ≡ before) × (events ≡ []))
     ⊎ ((words : List ℕ) × (low : LowersArgs false before after callee.encoding callee.params (HaveTrees callee.params params) words (fault_ending f))
     × BlamesMembers callee.params params f × (events ≡ events_of low.answers low.trap) × AsksNothing callee.params low.answers low.trap)
-Lowered callee params before after (Err _) events = ⊥
+LoweredArgs callee params before after (Err _) events = ⊥
 
 -- ---- the start
 
@@ -90,12 +90,13 @@ Concluded Leaves callee fuel words before after (Err e) events = Lifted callee f
 -- why it wasn't done
 abbrev pub RestCause : Callee → ℕ → Moment → Moment → List Event → Error → Type 0
 RestCause callee fuel before after events error.WrongWords = EndsIn (IsReturn (λ words m. ¬ (length words ≡ result_words callee.results))) events
-RestCause callee fuel before after events (error.UnknownImport n) = EndsIn (AsksFor n) events
+RestCause callee fuel before after events (error.UnknownImport n) = EndsIn (AsksImport n) events
 RestCause callee fuel before after events (error.Fault fault.GuestTrap) = Rose before.guest.traps after.guest.traps × EndsIn IsTrap events
 RestCause callee fuel before after events (error.Fault (fault.PointerMisaligned at)) = EndsIn (IsReturn (HasFault callee misaligned at)) events
 RestCause callee fuel before after events (error.Fault (fault.PointerOutOfBounds at)) = EndsIn (IsReturn (HasFault callee out_of_bounds at)) events
 RestCause callee fuel before after events (error.Fault (fault.InvalidUtf8 at)) = EndsIn (IsReturn (HasFault callee (badly_spelled in_utf8) at)) events
 RestCause callee fuel before after events (error.Fault (fault.InvalidChar at)) = EndsIn (IsReturn (HasFault callee no_scalar at)) events
+RestCause callee fuel before after events (error.Fault (fault.BadDiscriminant at d)) = EndsIn (IsReturn (HasFault callee (no_case d) at)) events
 RestCause callee fuel before after events (error.Fault fault.HostcallFuelExhausted) = EndsIn (IsReturn (IsPastFuel callee fuel)) events
 RestCause callee fuel before after events (error.Fault fault.OutOfMemory) = ⊤
 RestCause callee fuel before after events _ = ⊥

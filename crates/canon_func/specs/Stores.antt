@@ -12,7 +12,7 @@ use Rattle.canon_value.specs.declared.component.Component.{Component}
 use Rattle.canon_value.specs.declared.component.Export.{Export}
 
 -- what contracts see of a store
-pub record Stored (T G : Type 0) : Type 0 where
+pub record StoreView (T G : Type 0) : Type 0 where
   pub core : Parts T G
   pub trapped : Bool
 
@@ -22,7 +22,7 @@ pub record Named : Type 0 where
   pub export : ℕ
 
 -- the function is one of the store
-pub record IsOwned {T G : Type 0} (store : Stored T G) (f : Named) : Type 0 where
+pub record IsOwned {T G : Type 0} (store : StoreView T G) (f : Named) : Type 0 where
   pub id : f.store ≡ store.core.id
   pub export : f.export < length store.core.component.exports.items
 
@@ -73,7 +73,7 @@ callee_in component None = record { func = 0; params = no_members; results = no_
 callee_in component (Some e) = export_callee component e
 
 -- the callee that a function is
-abbrev pub callee_of : {T G : Type 0} → Stored T G → Named → Callee
+abbrev pub callee_of : {T G : Type 0} → StoreView T G → Named → Callee
 callee_of store f = callee_in store.core.component (slice_get store.core.component.exports.items f.export)
 
 -- the type of an export, and of a function
@@ -81,5 +81,5 @@ abbrev pub type_in : Component → Option Export → Option TypeFunc
 type_in component None = None
 type_in component (Some e) = slice_get component.types.types.funcs e.ty
 
-abbrev pub type_of : {T G : Type 0} → Stored T G → Named → Option TypeFunc
+abbrev pub type_of : {T G : Type 0} → StoreView T G → Named → Option TypeFunc
 type_of store f = type_in store.core.component (slice_get store.core.component.exports.items f.export)

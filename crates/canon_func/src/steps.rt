@@ -16,7 +16,7 @@ ghost use Rattle.canon_value.specs.Moves.{Moves};
 ghost use Rattle.canon_value.specs.Quiet.{Quiet, have_block};
 ghost use Rattle.canon_value.specs.Value.{HaveTrees};
 ghost use Rattle.canon_func.specs.Call.{Adding, OnAnswered, words_within};
-ghost use Rattle.canon_func.specs.Steps.{Concluded, CoreCall, Proceeds, IsLate, IsRest, Lifted, Lowered, Posted, Started};
+ghost use Rattle.canon_func.specs.Steps.{Concluded, CoreCall, Proceeds, IsLate, IsRest, Lifted, LoweredArgs, Posted, Started};
 ghost use Rattle.canon_func.specs.Stores.{IsCallable, export_callee, params_in, results_in};
 
 use crate::Error;
@@ -100,7 +100,7 @@ fn lower_params<T, G: Guest>(
     requires callable { IsCallable (export_callee core.old.component export.now) }
     ensures lowered { Adding (moment_of G.seen core.old) (moment_of G.seen core.new)
         (λ events. OnAnswered result (G.moves (guest_of core.old) events (guest_of core.new)))
-        (λ events. Lowered (export_callee core.old.component export.now) params.now (moment_of G.seen core.old) (moment_of G.seen core.new) result events) }
+        (λ events. LoweredArgs (export_callee core.old.component export.now) params.now (moment_of G.seen core.old) (moment_of G.seen core.new) result events) }
     ensures same { core.new ≡ record core.old { guest = core.new.guest; memory = core.new.memory } }
 {
     let types = core.component().types.types();

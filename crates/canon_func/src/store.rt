@@ -1,5 +1,5 @@
 ghost use Rattle.std.specs.Prelude.{◌≡◌, ◌<◌, ◌↔◌, length, false, IsTrue, IfSome, IsSome};
-ghost use Rattle.canon_func.specs.Stores.{IsOwned, Stored};
+ghost use Rattle.canon_func.specs.Stores.{IsOwned, StoreView};
 
 use crate::Func;
 use canon_types::ExportIndex;
@@ -14,7 +14,7 @@ pub struct Store<T, G> {
 }
 
 impl<T, G> Model for Store<T, G> {
-    ghost Value = { Stored T G };
+    ghost Value = { StoreView T G };
 
     ghost view = { λ s. record { core = s.core; trapped = s.trapped } };
 }

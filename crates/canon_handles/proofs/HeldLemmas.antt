@@ -6,7 +6,7 @@ use Rattle.canon_handles.specs.declared.handle.TypedResource.{TypedResource}
 use Rattle.canon_handles.specs.declared.error.HandleError.{HandleError}
 use Rattle.canon_handles.specs.declared.error.HandleError.TheVariants.{IndexOverflow, HandleLimit}
 use Rattle.canon_handles.specs.Step.{one_if, refuse_if}
-use Rattle.canon_handles.specs.Table.{Table, Stored, Counter, entry_at, entry_count, fresh_index, with_new, with_entry, without, IsFresh, insert, is_full, is_at_limit, one_more, DoesWithMemory}
+use Rattle.canon_handles.specs.Table.{Table, TableState, Counter, entry_at, entry_count, fresh_index, with_new, with_entry, without, IsFresh, insert, is_full, is_at_limit, one_more, DoesWithMemory}
 use Rattle.canon_handles.specs.Calls.{lends_of, held_count, IsUnlent}
 use Rattle.canon_handles.proofs.StepLemmas.{sum_by-put}
 
@@ -31,6 +31,12 @@ entry_count-with_new t e k = sum-with_new (λ o. one_if (is_some o)) t e refl k
 pub entry_count-without : {E : Type 0} (t : Table E) (i : ℕ) → is_some (entry_at t i) ≡ true → entry_count (without t i) + 1 ≡ entry_count t
 entry_count-without t i some =
     let a = sum-without (λ o. one_if (is_some o)) t i refl in
+    let b : one_if (is_some (entry_at t i)) ≡ 1 = ap one_if some in
+    omega arith
+
+pub entry_count-with_entry : {E : Type 0} (t : Table E) (i : ℕ) (e : E) → is_some (entry_at t i) ≡ true → entry_count (with_entry t i e) ≡ entry_count t
+entry_count-with_entry t i e some =
+    let a = sum-with_entry (λ o. one_if (is_some o)) t i e refl in
     let b : one_if (is_some (entry_at t i)) ≡ 1 = ap one_if some in
     omega arith
 
@@ -69,7 +75,7 @@ insert_table {E = E} t c e a is = ap (λ (a : ℕ × Table E × Counter). a.1) (
 pub insert_counter : {E : Type 0} (t : Table E) (c : Counter) (e : E) (a : ℕ × Table E × Counter) → insert t c e ≡ Ok a → one_more c ≡ a.2
 insert_counter {E = E} t c e a is = ap (λ (a : ℕ × Table E × Counter). a.2) (insert_given t c e a is)
 
-pub counts_after_insert : {E : Type 0} (r : Result ℕ HandleError) (s s' : Stored E) (c c' : Counter) (e : E) → DoesWithMemory (insert s.table c e) r s s' c c' → IsFresh s.table (fresh_index s.table) → entry_count s'.table + c.live ≡ entry_count s.table + c'.live
+pub counts_after_insert : {E : Type 0} (r : Result ℕ HandleError) (s s' : TableState E) (c c' : Counter) (e : E) → DoesWithMemory (insert s.table c e) r s s' c c' → IsFresh s.table (fresh_index s.table) → entry_count s'.table + c.live ≡ entry_count s.table + c'.live
 counts_after_insert (Ok i) s s' c c' e step k =
     let a : entry_count (with_new s.table e) ≡ entry_count s'.table = ap entry_count (insert_table s.table c e (i, s'.table, c') step) in
     let b : c.live + 1 ≡ c'.live = ap (λ (c : Counter). c.live) (insert_counter s.table c e (i, s'.table, c') step) in

@@ -5,7 +5,7 @@ use Rattle.canon_handles.specs.declared.handle.Entry.{Entry}
 use Rattle.canon_handles.specs.declared.handle.Entry.TheVariants as entry
 use Rattle.canon_handles.specs.declared.handle.TransmitLocalState.{TransmitLocalState}
 use Rattle.canon_handles.specs.Step.{one_if}
-use Rattle.canon_handles.specs.Table.{Table, Stored, entry_at, with_entry}
+use Rattle.canon_handles.specs.Table.{Table, TableState, entry_at, with_entry}
 use Rattle.canon_handles.specs.Calls.{held_count, lends_of, entry_in_state, in_state, with_state}
 use Rattle.canon_handles.specs.Laws.{StatesAreNotHeld}
 use Rattle.canon_handles.proofs.StepLemmas.{sum_by-put}
@@ -25,14 +25,14 @@ lends-in_state (entry.ErrorContext rep) w = refl
 lends-in_state (entry.Subtask rep host) w = refl
 lends-in_state (entry.WaitableSet rep) w = refl
 
-pub held_alike : (s n : Stored Entry) (i : ℕ) (e e' : Entry) → n ≡ stored_with s i e' → entry_at s.table i ≡ Some e → lends_of (Some e') ≡ lends_of (Some e) → held_count s.table ≡ held_count n.table
+pub held_alike : (s n : TableState Entry) (i : ℕ) (e e' : Entry) → n ≡ stored_with s i e' → entry_at s.table i ≡ Some e → lends_of (Some e') ≡ lends_of (Some e) → held_count s.table ≡ held_count n.table
 held_alike s n i e e' is at same =
     let a = held-with_entry s.table i e' (ap is_some at) in
     let b : lends_of (entry_at s.table i) ≡ lends_of (Some e) = ap lends_of at in
-    let c : held_count n.table ≡ held_count (with_entry s.table i e') = ap (λ (s : Stored Entry). held_count s.table) is in
+    let c : held_count n.table ≡ held_count (with_entry s.table i e') = ap (λ (s : TableState Entry). held_count s.table) is in
     omega arith
 
-pub held_in_state : (s n : Stored Entry) (i : ℕ) (e : Entry) (w : TransmitLocalState) → n ≡ stored_with s i (entry_in_state e w) → entry_at s.table i ≡ Some e → held_count s.table ≡ held_count n.table
+pub held_in_state : (s n : TableState Entry) (i : ℕ) (e : Entry) (w : TransmitLocalState) → n ≡ stored_with s i (entry_in_state e w) → entry_at s.table i ≡ Some e → held_count s.table ≡ held_count n.table
 held_in_state s n i e w is at = held_alike s n i e (entry_in_state e w) is at (lends-in_state e w)
 
 -- what counts the same in any state is summed the same

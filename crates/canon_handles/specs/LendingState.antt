@@ -6,11 +6,11 @@ use Rattle.canon_handles.specs.declared.handle.Entry.{Entry}
 use Rattle.canon_handles.specs.declared.handle.TransmitLocalState.{TransmitLocalState}
 use Rattle.canon_handles.specs.contracts.handle.TransmitLocalState as state
 use Rattle.canon_handles.specs.contracts.handle_table.HandleTable.{the_row}
-use Rattle.canon_handles.specs.Table.{Stored}
+use Rattle.canon_handles.specs.Table.{TableState}
 use Rattle.canon_handles.specs.Calls.{with_state}
 
-abbrev pub stored_in_state : Stored Entry → ℕ → TransmitLocalState → Stored Entry
+abbrev pub stored_in_state : TableState Entry → ℕ → TransmitLocalState → TableState Entry
 stored_in_state s i w = record { table = with_state s.table i w; spare = s.spare }
 
-abbrev pub LendsTableState : MutBor (Stored Entry) → ℕ → Result (MutBor TransmitLocalState) HandleError → Fml
+abbrev pub LendsTableState : MutBor (TableState Entry) → ℕ → Result (MutBor TransmitLocalState) HandleError → Fml
 LendsTableState s i r = LendsSoOk the_row state.the_row s r (λ n w. n ≡ stored_in_state s.now i w) (λ n. n ≡ s.now)

@@ -18,7 +18,7 @@ pub record Table (E : Type 0) : Type 0 where
   pub max : ℕ
 
 -- A table, with a number of insertions that need no memory.
-pub record Stored (E : Type 0) : Type 0 where
+pub record TableState (E : Type 0) : Type 0 where
   pub table : Table E
   pub spare : ℕ
 
@@ -124,12 +124,12 @@ pub record IsTable {E : Type 0} (t : Table E) : Type 0 where
 -- Contracts
 
 -- a call answers what the step does, and a refused one leaves table and counter
-abbrev pub Does : {E A : Type 0} → Outcome E A → Result A HandleError → Stored E → Stored E → Counter → Counter → Type 0
+abbrev pub Does : {E A : Type 0} → Outcome E A → Result A HandleError → TableState E → TableState E → Counter → Counter → Type 0
 Does step (Ok a) s s' c c' = step ≡ Ok (a, s'.table, c')
 Does step (Err e) s s' c c' = (step ≡ Err e) × (s'.table ≡ s.table) × (c' ≡ c)
 
 -- the same of a call that may want memory, where nothing else refuses it and it has no insertion to spare
-abbrev pub DoesWithMemory : {E A : Type 0} → Outcome E A → Result A HandleError → Stored E → Stored E → Counter → Counter → Type 0
+abbrev pub DoesWithMemory : {E A : Type 0} → Outcome E A → Result A HandleError → TableState E → TableState E → Counter → Counter → Type 0
 DoesWithMemory step (Ok a) s s' c c' = step ≡ Ok (a, s'.table, c')
 DoesWithMemory step (Err e) s s' c c' =
     ((step ≡ Err e) ⊎ ((e ≡ OutOfMemory) × (s.spare ≡ 0) × (is_ok step ≡ true))) × (s'.table ≡ s.table) × (c' ≡ c)

@@ -6,9 +6,9 @@ ghost use Rattle.canon_handles.specs.Calls.{held_count, is_own, lends_of, IsUnle
 ghost use Rattle.canon_handles.specs.declared.handle.Entry.TheVariants.{ResourceOwn};
 
 use crate::counter::HandleCounter;
+use crate::entry_table::EntryTable;
 use crate::error::HandleError;
 use crate::handle::{Entry, TypedResource};
-use crate::slot_table::SlotTable;
 use canon_indices::OutOfMemory;
 use std::alloc::Global;
 use std::marker::Model;
@@ -24,16 +24,16 @@ pub(crate) const MAX_HANDLE: u32 = 268_435_455;
 #[derive(Drop)]
 pub struct HandleTable {
     held: u64,
-    pub(crate) table: SlotTable<Entry>,
+    pub(crate) table: EntryTable<Entry>,
 }
 
 impl Model for HandleTable {
     ghost use Rattle.std.specs.Prelude.{◌≡◌};
-    ghost use Rattle.canon_handles.specs.Table.{Stored};
+    ghost use Rattle.canon_handles.specs.Table.{TableState};
     ghost use Rattle.canon_handles.specs.Calls.{held_count};
     ghost use Rattle.canon_handles.specs.declared.handle.Entry.{Entry};
 
-    ghost Value = { Stored Entry };
+    ghost Value = { TableState Entry };
 
     ghost view = { λ a. a.table };
 
@@ -56,7 +56,7 @@ impl HandleTable {
     {
         HandleTable {
             held: 0,
-            table: SlotTable::with_max_handle(alloc, max),
+            table: EntryTable::with_max_handle(alloc, max),
         }
     }
 

@@ -4,14 +4,13 @@
 
 mod counter;
 mod end;
+mod entry_table;
 mod error;
 mod future;
 mod handle;
 mod handle_table;
 pub mod laws;
 mod resource;
-mod slot;
-mod slot_table;
 mod stream;
 mod task;
 #[cfg(test)]

@@ -146,6 +146,25 @@ fn room_is_made_for_the_next_insertion(rt: HostRuntime) -> Result<(), Fail> {
 }
 
 #[test]
+fn a_vacant_cell_is_no_handle(rt: HostRuntime) -> Result<(), Fail> {
+    let mut counter = HandleCounter::new(100);
+    let mut table = HandleTable::with_max_handle(rt.alloc(), 2);
+    table.reserve()?;
+    assert_eq!(rt; table.error_context_rep(1), Err(HandleError::UnknownHandle));
+    assert_eq!(rt; table.error_context_insert(&mut counter, 8), Ok(1));
+    table.reserve()?;
+    assert_eq!(rt; table.error_context_drop(&mut counter, 1), Ok(8));
+    assert_eq!(rt; table.error_context_insert(&mut counter, 9), Ok(1));
+    assert_eq!(rt; table.error_context_insert(&mut counter, 9), Ok(2));
+    assert_eq!(rt; table.error_context_drop(&mut counter, 1), Ok(9));
+    assert_eq!(rt; table.error_context_rep(1), Err(HandleError::UnknownHandle));
+    assert_eq!(rt; table.error_context_drop(&mut counter, 2), Ok(9));
+    assert_eq!(rt; table.is_empty(), true);
+    assert_eq!(rt; table.error_context_insert(&mut counter, 10), Ok(2));
+    Ok(())
+}
+
+#[test]
 fn the_ends_of_streams(rt: HostRuntime) {
     let mut counter = HandleCounter::new(100);
     let mut table = HandleTable::new(rt.alloc());

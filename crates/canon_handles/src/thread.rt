@@ -5,10 +5,10 @@ ghost use Rattle.canon_handles.specs.Table.{max_handle, empty_table, entry_at, e
 ghost use Rattle.canon_handles.specs.Calls.{guest_thread_insert, guest_thread_rep, guest_thread_remove};
 
 use crate::counter::HandleCounter;
+use crate::entry_table::EntryTable;
 use crate::error::HandleError;
 use crate::handle::GuestThread;
 use crate::handle_table::MAX_HANDLE;
-use crate::slot_table::SlotTable;
 use std::alloc::Global;
 use std::marker::Model;
 
@@ -16,14 +16,14 @@ use std::marker::Model;
 /// those of [`HandleTable`](crate::HandleTable) do.
 #[derive(Drop)]
 pub struct ThreadHandleTable {
-    table: SlotTable<GuestThread>,
+    table: EntryTable<GuestThread>,
 }
 
 impl Model for ThreadHandleTable {
-    ghost use Rattle.canon_handles.specs.Table.{Stored};
+    ghost use Rattle.canon_handles.specs.Table.{TableState};
     ghost use Rattle.canon_handles.specs.declared.handle.GuestThread.{GuestThread};
 
-    ghost Value = { Stored GuestThread };
+    ghost Value = { TableState GuestThread };
 
     ghost view = { λ a. a.table };
 }
@@ -35,7 +35,7 @@ impl ThreadHandleTable {
         ensures { result.table ≡ empty_table max_handle }
     {
         ThreadHandleTable {
-            table: SlotTable::with_max_handle(alloc, MAX_HANDLE),
+            table: EntryTable::with_max_handle(alloc, MAX_HANDLE),
         }
     }
 

@@ -80,10 +80,6 @@ entry_by kind.Borrow before d = option_map (λ r. handle (ty.Borrow r)) (u32_of 
 abbrev pub kind_named : List ℕ → Option Kind
 kind_named name = find (λ k. pointwise nat_eq name (kind_word k)) kinds
 
--- the kind that the only member names
-abbrev pub kind_of : Data → Option Kind
-kind_of d = option_and_then (λ m. kind_named m.0) (option_and_then only_member (as_object d))
-
 -- an object of one member
 abbrev pub entry_by_member : List InterfaceType → Data → Option Entry
 entry_by_member before d = option_and_then (λ m. option_and_then (λ k. entry_by k before m.1) (kind_named m.0)) (option_and_then only_member (as_object d))

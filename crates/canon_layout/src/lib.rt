@@ -13,8 +13,7 @@ pub use entries::{add_entries, add_entry};
 pub use funcs::{Signature, add_funcs, func_of_json};
 pub use lines::layout_lines;
 pub use listing::{listing_of_json, types_of_json};
-pub use readers::{kind_of_json, type_of_json};
-pub use words::Kind;
+pub use readers::type_of_json;
 
 #[cfg(test)]
 mod tests;

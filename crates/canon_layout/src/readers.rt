@@ -13,14 +13,6 @@ use canon_types::{InterfaceType, RecordField};
 use serde_json::Value;
 use std::alloc::Global;
 
-/// The kind of an entry, as its only member names it.
-pub fn kind_of_json(v: &Value) -> Option<Kind>
-    ensures { result ≡ spec.kind_of (view v.now) }
-{
-    let (member, _) = only_member(v)?;
-    kind_named(member)
-}
-
 /// A type by its name, or by the number of an entry among those before.
 pub fn type_of_json(v: &Value, entries: &[InterfaceType]) -> Result<InterfaceType, ScriptError>
     ensures value { Gives (λ t. t) result (spec.reference_of entries.now (view v.now)) }

@@ -10,7 +10,7 @@ use Rattle.canon_handles.specs.Step.{and_then}
 use Rattle.canon_handles.specs.Table.{Table, Counter, entry_at, lookup_entry}
 use Rattle.canon_handles.specs.Calls.{raw_index, lend_entry, read_rep, read_removed}
 use Rattle.canon_ledger.specs.Handles as handles
-use Rattle.canon_ledger.specs.Handles.{Handles, Answer, table_at, at_index, dropped, lifted_own, lent, opened, lift_borrow_in, host_table, removing_resource}
+use Rattle.canon_ledger.specs.Handles.{Handles, StepAnswer, table_at, at_index, dropped, lifted_own, lent, opened, lift_borrow_in, host_table, removing_resource}
 use Rattle.canon_ledger.specs.Index.{GivenIndex}
 use Rattle.canon_ledger.specs.Ledger.{LedgerState, Done, Enter, Leave, SetLimit, New, Rep, Drop, LiftOwn, LiftBorrow, LowerBorrow, ExitScope, HostLiftOwn, HostLiftBorrow, HostDrop, HostRemove, HostLowerOwn, HostLowerBorrow, plainly, host_removing, unless_stale, is_stale, removed_once_told, last_generation, host_drop_return, with_its_slot, with_slot_answered, slot_at, IsAccepted, resource_rep, resource_drop, resource_lift_own, resource_lift_borrow}
 use Rattle.canon_ledger.specs.Laws.{AccessesAccept}
@@ -66,11 +66,11 @@ ok-so : {A E : Type 0} (Q : Type 0) (r : Result A E) (a : A) → IfOk r (λ _. Q
 ok-so Q (Ok b) a q e = q
 ok-so Q (Err e') a q e = absurd (cc)
 
-ok-plainly : {A : Type 0} (Q : Type 0) (r : Answer A) (l : LedgerState) (a : A) → IfOk r (λ _. Q) → (plainly r l).answer ≡ Ok a → Q
+ok-plainly : {A : Type 0} (Q : Type 0) (r : StepAnswer A) (l : LedgerState) (a : A) → IfOk r (λ _. Q) → (plainly r l).answer ≡ Ok a → Q
 ok-plainly Q (Ok w) l a q e = q
 ok-plainly Q (Err e') l a q e = absurd (cc)
 
-ok-host_removing : {A : Type 0} (Q : Type 0) (b : Bool) (step : Handles → Answer A) (l : LedgerState) (a : A) → IfOk (step l.handles) (λ _. Q) → (host_removing b step l).answer ≡ Ok a → Q
+ok-host_removing : {A : Type 0} (Q : Type 0) (b : Bool) (step : Handles → StepAnswer A) (l : LedgerState) (a : A) → IfOk (step l.handles) (λ _. Q) → (host_removing b step l).answer ≡ Ok a → Q
 ok-host_removing Q true step l a q e = absurd (cc)
 ok-host_removing Q false step l a q e = ok-plainly Q (step l.handles) _ a q e
 

@@ -6,52 +6,52 @@ use Rattle.std.proofs.lemmas.List.Sums.{sum_by-cons}
 use Rattle.canon_handles.specs.declared.handle.Entry.{Entry}
 use Rattle.canon_handles.specs.declared.error.HandleError.{HandleError}
 use Rattle.canon_ledger.specs.declared.fault.ResourceFault.{ResourceFault}
-use Rattle.canon_handles.specs.Table.{Table, Counter, Stored, Outcome, empty_table, Does, DoesWithMemory}
+use Rattle.canon_handles.specs.Table.{Table, Counter, TableState, Outcome, empty_table, Does, DoesWithMemory}
 use Rattle.canon_handles.specs.Calls.{held_count, lends_of}
-use Rattle.canon_ledger.specs.Handles.{Handles, IsSound, Takes, TakesSurely, table_at, with_table, on_table, finished, at_index, fault_at, total, stands}
+use Rattle.canon_ledger.specs.Handles.{Handles, IsConsistent, Takes, TakesSurely, table_at, with_table, on_table, finished, at_index, fault_at, total, stands}
 use Rattle.canon_ledger.specs.Books.{Context, handles_of}
 use Rattle.canon_ledger.proofs.HandlesLemmas.{same_table}
 
 -- one term is at most the sum
-pub term_le : (f : Stored Entry → ℕ) (xs : List (Stored Entry)) (n : ℕ) (x : Stored Entry) → n < length xs → x ≡ get_or xs n x → f x ≤ sum_by f xs
+pub term_le : (f : TableState Entry → ℕ) (xs : List (TableState Entry)) (n : ℕ) (x : TableState Entry) → n < length xs → x ≡ get_or xs n x → f x ≤ sum_by f xs
 term_le f [] n x h e = absurd (omega arith)
 term_le f (y ∷ ys) zero x h e = (let a = sum_by-cons f y ys in let b : f x ≡ f y = ap f e in omega arith)
 term_le f (y ∷ ys) (suc n) x h e = (let a = sum_by-cons f y ys in let b = term_le f ys n x (omega arith) e in omega arith)
 
-pub sum_by-tables : (f : Table Entry → ℕ) (xs : List (Stored Entry)) → sum_by f (map (λ s. s.table) xs) ≡ sum_by (λ s. f s.table) xs
+pub sum_by-tables : (f : Table Entry → ℕ) (xs : List (TableState Entry)) → sum_by f (map (λ s. s.table) xs) ≡ sum_by (λ s. f s.table) xs
 sum_by-tables f [] = refl
 sum_by-tables f (x ∷ xs) =
-    let a : sum_by f (map (λ (s : Stored Entry). s.table) (x ∷ xs)) ≡ f x.table + sum_by f (map (λ (s : Stored Entry). s.table) xs) = sum_by-cons f x.table (map (λ (s : Stored Entry). s.table) xs) in
-    let b = sum_by-cons (λ (s : Stored Entry). f s.table) x xs in
+    let a : sum_by f (map (λ (s : TableState Entry). s.table) (x ∷ xs)) ≡ f x.table + sum_by f (map (λ (s : TableState Entry). s.table) xs) = sum_by-cons f x.table (map (λ (s : TableState Entry). s.table) xs) in
+    let b = sum_by-cons (λ (s : TableState Entry). f s.table) x xs in
     let c = sum_by-tables f xs in
     omega arith
 
 -- A call on table n
-module _ (tables : List (Stored Entry)) (counter : Counter) (scopes : List Context) (n : ℕ) (s : Stored Entry) (within : n < length tables) (read : s ≡ get_or tables n s) where
+module _ (tables : List (TableState Entry)) (counter : Counter) (scopes : List Context) (n : ℕ) (s : TableState Entry) (within : n < length tables) (read : s ≡ get_or tables n s) where
   abbrev before : Handles
   before = handles_of tables counter scopes
 
   pub counted : total stands (handles_of tables counter scopes) + total lends_of (handles_of tables counter scopes) ≤ counter.live → held_count s.table ≤ counter.live
   counted c =
-      let a = term_le (λ (s : Stored Entry). sum_by stands s.table.array) tables n s within read in
+      let a = term_le (λ (s : TableState Entry). sum_by stands s.table.array) tables n s within read in
       let b = sum_by-tables (λ (t : Table Entry). sum_by stands t.array) tables in
-      let d = term_le (λ (s : Stored Entry). sum_by lends_of s.table.array) tables n s within read in
+      let d = term_le (λ (s : TableState Entry). sum_by lends_of s.table.array) tables n s within read in
       let e = sum_by-tables (λ (t : Table Entry). sum_by lends_of t.array) tables in
       omega arith
 
   -- a table holds no more than the counter counts
-  pub held_le : IsSound (handles_of tables counter scopes) → held_count s.table ≤ counter.live
+  pub held_le : IsConsistent (handles_of tables counter scopes) → held_count s.table ≤ counter.live
   held_le w = counted (let c = w.live_handles in omega arith)
 
   pub table_read : table_at (handles_of tables counter scopes) n ≡ s.table
-  table_read = get_or-map (λ (s : Stored Entry). s.table) tables n s (empty_table 0) within ∙ ap (λ (s : Stored Entry). s.table) (sym read)
+  table_read = get_or-map (λ (s : TableState Entry). s.table) tables n s (empty_table 0) within ∙ ap (λ (s : TableState Entry). s.table) (sym read)
 
-  pub with_table_is : (s' : Stored Entry) (c' : Counter) → handles_of (set tables n s') c' scopes ≡ with_table (handles_of tables counter scopes) n s'.table c'
+  pub with_table_is : (s' : TableState Entry) (c' : Counter) → handles_of (set tables n s') c' scopes ≡ with_table (handles_of tables counter scopes) n s'.table c'
   with_table_is s' c' =
-      let e = map-set (λ (s : Stored Entry). s.table) tables n s' in
+      let e = map-set (λ (s : TableState Entry). s.table) tables n s' in
       λ i. record { tables = e i; counter = c'; scopes = map (λ c. c.scope) scopes }
 
-  module _ {A : Type 0} (f : Table Entry → Counter → Outcome Entry A) (i : ℕ) (s' : Stored Entry) (c' : Counter) where
+  module _ {A : Type 0} (f : Table Entry → Counter → Outcome Entry A) (i : ℕ) (s' : TableState Entry) (c' : Counter) where
     abbrev afterwards : Handles
     afterwards = handles_of (set tables n s') c' scopes
 

@@ -22,7 +22,7 @@ use Rattle.canon_handles.specs.Table.{Table, Counter, Outcome, entry_at, fresh_i
 use Rattle.canon_handles.specs.Calls as table
 use Rattle.canon_handles.specs.Calls.{lends_of, raw_index, rep_as, read_removed, lend_entry, undo_lend_entry, most_lends}
 use Rattle.canon_ledger.specs.Handles as handles
-use Rattle.canon_ledger.specs.Handles.{Handles, Lender, OpenScope, Answer, table_at, with_table, scope_at, with_scope, no_scope, total, stands, borrows, lenders_of, is_lender_of, IsSound, borrow_added, borrow_dropped, lender_added, finished, enter, leave, can_leave, is_empty_scope, set_limit, opened, lift_borrow_in, lower_borrow_in, dropped, lifted_own, lent, give_back, undone, exit_scope}
+use Rattle.canon_ledger.specs.Handles.{Handles, Lender, OpenScope, StepAnswer, table_at, with_table, scope_at, with_scope, no_scope, total, stands, borrows, lenders_of, is_lender_of, IsConsistent, borrow_added, borrow_dropped, lender_added, finished, enter, leave, can_leave, is_empty_scope, set_limit, opened, lift_borrow_in, lower_borrow_in, dropped, lifted_own, lent, give_back, undone, exit_scope}
 use Rattle.canon_handles.proofs.StepLemmas.{get_or-put_same, get_or-put_other, some_within, get_or_past_end, sum_by-put, one_if-true, one_if-false}
 use Rattle.canon_ledger.proofs.StepLemmas.{if_ok-refuse, if_ok-then, if_ok_always}
 use Rattle.canon_handles.proofs.TableLemmas.{fresh, equal_or_not, is_table-with_new, is_table-with_entry, is_table-without}
@@ -123,8 +123,8 @@ open_by_count h k some = elim (within_or_past k (length h.scopes)) [
 
 -- Insertion
 
-sound-insert : (h : Handles) (p : ℕ) (e : Entry) → IsSound h → is_full (table_at h p) ≡ false → lends_of (Some e) ≡ 0 → ((k : ℕ) → borrows k (Some e) ≡ 0)
-    → IsSound (with_table h p (with_new (table_at h p) e) (one_more h.counter))
+sound-insert : (h : Handles) (p : ℕ) (e : Entry) → IsConsistent h → is_full (table_at h p) ≡ false → lends_of (Some e) ≡ 0 → ((k : ℕ) → borrows k (Some e) ≡ 0)
+    → IsConsistent (with_table h p (with_new (table_at h p) e) (one_more h.counter))
 sound-insert h p e s room no_lends no_borrow =
     let t = table_at h p in
     let n = fresh_index t in
@@ -140,8 +140,8 @@ sound-insert h p e s room no_lends no_borrow =
       borrow_counts = λ k. (let a = after (borrows k) refl in let old = ap (borrows k) f.vacant in let was = s.borrow_counts k in let z = no_borrow k in omega arith);
     }
 
-sound-insert_borrow : (h : Handles) (p k : ℕ) (r : TypedResource) → IsSound h → is_full (table_at h p) ≡ false → k < length h.scopes
-    → IsSound (borrow_added (with_table h p (with_new (table_at h p) (ResourceBorrow r (Id k))) (one_more h.counter)) k)
+sound-insert_borrow : (h : Handles) (p k : ℕ) (r : TypedResource) → IsConsistent h → is_full (table_at h p) ≡ false → k < length h.scopes
+    → IsConsistent (borrow_added (with_table h p (with_new (table_at h p) (ResourceBorrow r (Id k))) (one_more h.counter)) k)
 sound-insert_borrow h p k r s room within =
     let e = ResourceBorrow r (Id k) in
     let t = table_at h p in
@@ -175,8 +175,8 @@ sound-insert_borrow h p k r s room within =
 
 -- Removal
 
-sound-remove : (h : Handles) (p i : ℕ) (e : Entry) → IsSound h → entry_at (table_at h p) i ≡ Some e → lends_of (Some e) ≡ 0 → ((k : ℕ) → borrows k (Some e) ≡ 0)
-    → IsSound (with_table h p (without (table_at h p) i) (one_less h.counter))
+sound-remove : (h : Handles) (p i : ℕ) (e : Entry) → IsConsistent h → entry_at (table_at h p) i ≡ Some e → lends_of (Some e) ≡ 0 → ((k : ℕ) → borrows k (Some e) ≡ 0)
+    → IsConsistent (with_table h p (without (table_at h p) i) (one_less h.counter))
 sound-remove h p i e s is no_lends no_borrow =
     let t = table_at h p in
     let present = there_by_entry h p i e is in
@@ -192,8 +192,8 @@ sound-remove h p i e s is no_lends no_borrow =
       borrow_counts = λ k. (let a = after (borrows k) refl in let old = ap (borrows k) is in let was = s.borrow_counts k in let z = no_borrow k in omega arith);
     }
 
-sound-remove_borrow : (h : Handles) (p i k : ℕ) (r : TypedResource) → IsSound h → entry_at (table_at h p) i ≡ Some (ResourceBorrow r (Id k))
-    → IsSound (borrow_dropped (with_table h p (without (table_at h p) i) (one_less h.counter)) k)
+sound-remove_borrow : (h : Handles) (p i k : ℕ) (r : TypedResource) → IsConsistent h → entry_at (table_at h p) i ≡ Some (ResourceBorrow r (Id k))
+    → IsConsistent (borrow_dropped (with_table h p (without (table_at h p) i) (one_less h.counter)) k)
 sound-remove_borrow h p i k r s is =
     let e = ResourceBorrow r (Id k) in
     let t = table_at h p in
@@ -244,8 +244,8 @@ standing-append q j lenders lender =
     let c : standing q j [] ≡ 0 = refl in
     omega arith
 
-sound-lend : (h : Handles) (p k n : ℕ) (idx : TypedResourceIndex) (r : TypedResource) → IsSound h → entry_at (table_at h p) (raw_index idx) ≡ Some (ResourceOwn r n) → k < length h.scopes
-    → IsSound (lender_added (with_table h p (with_entry (table_at h p) (raw_index idx) (ResourceOwn r (n + 1))) (one_more h.counter)) k (record { table = p; index = idx }))
+sound-lend : (h : Handles) (p k n : ℕ) (idx : TypedResourceIndex) (r : TypedResource) → IsConsistent h → entry_at (table_at h p) (raw_index idx) ≡ Some (ResourceOwn r n) → k < length h.scopes
+    → IsConsistent (lender_added (with_table h p (with_entry (table_at h p) (raw_index idx) (ResourceOwn r (n + 1))) (one_more h.counter)) k (record { table = p; index = idx }))
 sound-lend h p k n idx r s is within =
     let i = raw_index idx in
     let e = ResourceOwn r (n + 1) in
@@ -331,7 +331,7 @@ lender_lends h lender lenders s =
     let one = lender_here lender.table (raw_index lender.index) lender refl refl in
     omega arith
 
-sound-give_back : (lenders : List Lender) (h : Handles) → IsSoundBut lenders h → IsSound (give_back lenders h)
+sound-give_back : (lenders : List Lender) (h : Handles) → IsSoundBut lenders h → IsConsistent (give_back lenders h)
 sound-give_back [] h s =
     record {
       tables_sound = s.tables_sound;
@@ -344,7 +344,7 @@ sound-give_back (lender ∷ lenders) h s =
 
 -- A scope whose lends are to be given back
 
-cleared : (h : Handles) (k : ℕ) → IsSound h → k < length h.scopes → (scope_at h k).borrow_count ≡ 0 → IsSoundBut (scope_at h k).lenders (with_scope h k no_scope)
+cleared : (h : Handles) (k : ℕ) → IsConsistent h → k < length h.scopes → (scope_at h k).borrow_count ≡ 0 → IsSoundBut (scope_at h k).lenders (with_scope h k no_scope)
 cleared h k s within no_borrows =
     record {
       tables_sound = s.tables_sound;
@@ -371,7 +371,7 @@ get_or-one_more [] (suc j) = refl
 get_or-one_more (x ∷ xs) zero = refl
 get_or-one_more (x ∷ xs) (suc j) = get_or-one_more xs j
 
-pub sound-enter : (h : Handles) → IsSound h → IsSound (enter h)
+pub sound-enter : (h : Handles) → IsConsistent h → IsConsistent (enter h)
 sound-enter h s =
     record {
       tables_sound = s.tables_sound;
@@ -409,7 +409,7 @@ no_lenders : (lenders : List Lender) → length lenders ≡ 0 → (p i : ℕ) �
 no_lenders [] e p i = refl
 no_lenders (x ∷ xs) e p i = absurd (omega arith)
 
-pub sound-leave : (h : Handles) → IsSound h → can_leave h ≡ true → IsSound (leave h)
+pub sound-leave : (h : Handles) → IsConsistent h → can_leave h ≡ true → IsConsistent (leave h)
 sound-leave h s can =
     let n = length h.scopes - 1 in
     let w = left_facts (length h.scopes) (length (scope_at h n).lenders) (scope_at h n).borrow_count can in
@@ -431,7 +431,7 @@ sound-leave h s can =
           ]);
     }
 
-pub sound-set_limit : (h : Handles) (n : ℕ) → IsSound h → IsSound (set_limit h n)
+pub sound-set_limit : (h : Handles) (n : ℕ) → IsConsistent h → IsConsistent (set_limit h n)
 sound-set_limit h n s = record { tables_sound = s.tables_sound; live_handles = s.live_handles; lend_counts = s.lend_counts; borrow_counts = s.borrow_counts }
 
 -- The calls
@@ -486,26 +486,26 @@ lent_cases P t c idx (Some (WaitableSet rep)) is own borrow = tt
 
 -- Each call, where it is accepted, leaves sound handles
 
-pub sound-resource_new : (h : Handles) (p : ℕ) (r : TypedResource) → IsSound h → IfOk (handles.resource_new h p r) (λ w. IsSound w.1)
+pub sound-resource_new : (h : Handles) (p : ℕ) (r : TypedResource) → IsConsistent h → IfOk (handles.resource_new h p r) (λ w. IsConsistent w.1)
 sound-resource_new h p r s =
-    if_ok-finished (λ (w : ℕ × Handles). IsSound w.1) h p 0 _ (if_ok-insert _ (table_at h p) h.counter (ResourceOwn r 0) (λ room. sound-insert h p (ResourceOwn r 0) s room refl (λ _. refl)))
+    if_ok-finished (λ (w : ℕ × Handles). IsConsistent w.1) h p 0 _ (if_ok-insert _ (table_at h p) h.counter (ResourceOwn r 0) (λ room. sound-insert h p (ResourceOwn r 0) s room refl (λ _. refl)))
 
-sound-dropped_borrow : (h : Handles) (p i : ℕ) (r : TypedResource) (scope : Scope) → IsSound h → entry_at (table_at h p) i ≡ Some (ResourceBorrow r scope)
-    → IfOk (dropped (Borrow scope, with_table h p (without (table_at h p) i) (one_less h.counter))) (λ w. IsSound w.1)
+sound-dropped_borrow : (h : Handles) (p i : ℕ) (r : TypedResource) (scope : Scope) → IsConsistent h → entry_at (table_at h p) i ≡ Some (ResourceBorrow r scope)
+    → IfOk (dropped (Borrow scope, with_table h p (without (table_at h p) i) (one_less h.counter))) (λ w. IsConsistent w.1)
 sound-dropped_borrow h p i r (Id k) s is = sound-remove_borrow h p i k r s is
 
-pub sound-resource_drop : (h : Handles) (p : ℕ) (idx : TypedResourceIndex) → IsSound h → IfOk (handles.resource_drop h p idx) (λ w. IsSound w.1)
+pub sound-resource_drop : (h : Handles) (p : ℕ) (idx : TypedResourceIndex) → IsConsistent h → IfOk (handles.resource_drop h p idx) (λ w. IsConsistent w.1)
 sound-resource_drop h p idx s =
-    if_ok-then (λ (w : Option ℕ × Handles). IsSound w.1) _ dropped
-    (if_ok-finished (λ w. IfOk (dropped w) (λ v. IsSound v.1)) h p (raw_index idx) _
+    if_ok-then (λ (w : Option ℕ × Handles). IsConsistent w.1) _ dropped
+    (if_ok-finished (λ w. IfOk (dropped w) (λ v. IsConsistent v.1)) h p (raw_index idx) _
     (removed_cases _ (table_at h p) h.counter idx (entry_at (table_at h p) (raw_index idx)) refl
     (λ r n rep is none. sound-remove h p (raw_index idx) (ResourceOwn r n) s is none (λ _. refl))
     (λ r scope is. sound-dropped_borrow h p (raw_index idx) r scope s is)))
 
-pub sound-resource_lift_own : (h : Handles) (p : ℕ) (idx : TypedResourceIndex) → IsSound h → IfOk (handles.resource_lift_own h p idx) (λ w. IsSound w.1)
+pub sound-resource_lift_own : (h : Handles) (p : ℕ) (idx : TypedResourceIndex) → IsConsistent h → IfOk (handles.resource_lift_own h p idx) (λ w. IsConsistent w.1)
 sound-resource_lift_own h p idx s =
-    if_ok-then (λ (w : ℕ × Handles). IsSound w.1) _ lifted_own
-    (if_ok-finished (λ w. IfOk (lifted_own w) (λ v. IsSound v.1)) h p (raw_index idx) _
+    if_ok-then (λ (w : ℕ × Handles). IsConsistent w.1) _ lifted_own
+    (if_ok-finished (λ w. IfOk (lifted_own w) (λ v. IsConsistent v.1)) h p (raw_index idx) _
     (removed_cases _ (table_at h p) h.counter idx (entry_at (table_at h p) (raw_index idx)) refl
     (λ r n rep is none. sound-remove h p (raw_index idx) (ResourceOwn r n) s is none (λ _. refl))
     (λ r scope is. tt)))
@@ -517,35 +517,35 @@ opened_within h (Some j) k e = let w = cond_some (nat_lt j (length h.scopes)) j 
 pub same_table : (h : Handles) (p : ℕ) → with_table h p (table_at h p) h.counter ≡ h
 same_table h p = let e = set-get_or h.tables p (empty_table 0) in λ i. record { tables = e i; counter = h.counter; scopes = h.scopes }
 
-lift_borrow_sound : (o : Option ℕ) (h : Handles) (p : ℕ) (idx : TypedResourceIndex) → ((k : ℕ) → o ≡ Some k → k < length h.scopes) → IsSound h → IfOk (lift_borrow_in o h p idx) (λ w. IsSound w.1)
+lift_borrow_sound : (o : Option ℕ) (h : Handles) (p : ℕ) (idx : TypedResourceIndex) → ((k : ℕ) → o ≡ Some k → k < length h.scopes) → IsConsistent h → IfOk (lift_borrow_in o h p idx) (λ w. IsConsistent w.1)
 lift_borrow_sound (Some k) h p idx within s =
-    if_ok-then (λ (w : ℕ × Handles). IsSound w.1) _ (lent k (record { table = p; index = idx }))
-    (if_ok-finished (λ w. IfOk (lent k (record { table = p; index = idx }) w) (λ v. IsSound v.1)) h p (raw_index idx) _
+    if_ok-then (λ (w : ℕ × Handles). IsConsistent w.1) _ (lent k (record { table = p; index = idx }))
+    (if_ok-finished (λ w. IfOk (lent k (record { table = p; index = idx }) w) (λ v. IsConsistent v.1)) h p (raw_index idx) _
     (lent_cases _ (table_at h p) h.counter idx (entry_at (table_at h p) (raw_index idx)) refl
     (λ r n rep is. sound-lend h p k n idx r s is (within k refl))
-    (λ rep. subst IsSound (sym (same_table h p)) s)))
+    (λ rep. subst IsConsistent (sym (same_table h p)) s)))
 lift_borrow_sound None h p idx within s =
-    if_ok-then (λ (w : ℕ × Handles). IsSound w.1) (handles.resource_rep h p idx) _
-    (if_ok_always _ (handles.resource_rep h p idx) (λ rep. if_ok-refuse (λ (w : ℕ × Handles). IsSound w.1) (table.is_own (entry_at (table_at h p) (raw_index idx))) fault.NoScope _ (λ _. s)))
+    if_ok-then (λ (w : ℕ × Handles). IsConsistent w.1) (handles.resource_rep h p idx) _
+    (if_ok_always _ (handles.resource_rep h p idx) (λ rep. if_ok-refuse (λ (w : ℕ × Handles). IsConsistent w.1) (table.is_own (entry_at (table_at h p) (raw_index idx))) fault.NoScope _ (λ _. s)))
 
-pub sound-resource_lift_borrow : (scope : Option ℕ) (h : Handles) (p : ℕ) (idx : TypedResourceIndex) → IsSound h → IfOk (handles.resource_lift_borrow scope h p idx) (λ w. IsSound w.1)
+pub sound-resource_lift_borrow : (scope : Option ℕ) (h : Handles) (p : ℕ) (idx : TypedResourceIndex) → IsConsistent h → IfOk (handles.resource_lift_borrow scope h p idx) (λ w. IsConsistent w.1)
 sound-resource_lift_borrow scope h p idx s = lift_borrow_sound (opened h scope) h p idx (opened_within h scope) s
 
-lower_borrow_sound : (o : Option ℕ) (h : Handles) (p : ℕ) (r : TypedResource) → ((k : ℕ) → o ≡ Some k → k < length h.scopes) → IsSound h → IfOk (lower_borrow_in o h p r) (λ w. IsSound w.1)
+lower_borrow_sound : (o : Option ℕ) (h : Handles) (p : ℕ) (r : TypedResource) → ((k : ℕ) → o ≡ Some k → k < length h.scopes) → IsConsistent h → IfOk (lower_borrow_in o h p r) (λ w. IsConsistent w.1)
 lower_borrow_sound None h p r within s = tt
 lower_borrow_sound (Some k) h p r within s =
-    if_ok-then (λ (w : ℕ × Handles). IsSound w.1) _ (λ (i, h'). Ok (i, borrow_added h' k))
-    (if_ok-finished (λ (w : ℕ × Handles). IsSound (borrow_added w.1 k)) h p 0 _
+    if_ok-then (λ (w : ℕ × Handles). IsConsistent w.1) _ (λ (i, h'). Ok (i, borrow_added h' k))
+    (if_ok-finished (λ (w : ℕ × Handles). IsConsistent (borrow_added w.1 k)) h p 0 _
     (if_ok-insert _ (table_at h p) h.counter (ResourceBorrow r (Id k)) (λ room. sound-insert_borrow h p k r s room (within k refl))))
 
-pub sound-resource_lower_borrow : (scope : Option ℕ) (h : Handles) (p : ℕ) (r : TypedResource) → IsSound h → IfOk (handles.resource_lower_borrow scope h p r) (λ w. IsSound w.1)
+pub sound-resource_lower_borrow : (scope : Option ℕ) (h : Handles) (p : ℕ) (r : TypedResource) → IsConsistent h → IfOk (handles.resource_lower_borrow scope h p r) (λ w. IsConsistent w.1)
 sound-resource_lower_borrow scope h p r s = lower_borrow_sound (opened h scope) h p r (opened_within h scope) s
 
-exit_sound : (o : Option ℕ) (h : Handles) → ((k : ℕ) → o ≡ Some k → k < length h.scopes) → IsSound h → IfOk (exit_scope o h) (λ w. IsSound w.1)
+exit_sound : (o : Option ℕ) (h : Handles) → ((k : ℕ) → o ≡ Some k → k < length h.scopes) → IsConsistent h → IfOk (exit_scope o h) (λ w. IsConsistent w.1)
 exit_sound None h within s = tt
 exit_sound (Some k) h within s =
-    if_ok-refuse (λ (w : Unit {0} × Handles). IsSound w.1) (not ((scope_at h k).borrow_count == 0)) fault.BorrowsRemain _
+    if_ok-refuse (λ (w : Unit {0} × Handles). IsConsistent w.1) (not ((scope_at h k).borrow_count == 0)) fault.BorrowsRemain _
     (λ none. sound-give_back (scope_at h k).lenders (with_scope h k no_scope) (cleared h k s (within k refl) (zero_lends (scope_at h k).borrow_count none)))
 
-pub sound-validate_scope_exit : (scope : Option ℕ) (h : Handles) → IsSound h → IfOk (handles.validate_scope_exit scope h) (λ w. IsSound w.1)
+pub sound-validate_scope_exit : (scope : Option ℕ) (h : Handles) → IsConsistent h → IfOk (handles.validate_scope_exit scope h) (λ w. IsConsistent w.1)
 sound-validate_scope_exit scope h s = exit_sound (opened h scope) h (opened_within h scope) s

@@ -11,13 +11,13 @@ use Rattle.canon_handles.specs.declared.handle.TypedResourceIndex.{TypedResource
 use Rattle.canon_handles.specs.declared.handle.Entry.{Entry}
 use Rattle.canon_handles.specs.declared.handle.Entry.TheVariants.{ResourceOwn, ResourceBorrow}
 use Rattle.canon_handles.specs.Step.{refuse_if}
-use Rattle.canon_handles.specs.Table.{Table, Counter, Stored, entry_at}
+use Rattle.canon_handles.specs.Table.{Table, Counter, TableState, entry_at}
 use Rattle.canon_handles.specs.Calls.{raw_index, resource_undo_lend, is_own}
 use Rattle.canon_handles.proofs.TableLemmas.{fresh}
 use Rattle.canon_ledger.specs.declared.fault.ResourceFault.{ResourceFault}
 use Rattle.canon_ledger.specs.declared.fault.ResourceFault.TheVariants as fault
 use Rattle.canon_ledger.specs.Handles as handles
-use Rattle.canon_ledger.specs.Handles.{Handles, Lender, Answer, IsSound, Takes, TakesSurely, table_at, with_table, finished, on_table, dropped, lifted_own, lent, removing_resource, inserting_borrow, lending, borrow_added, undone, give_back, exit_scope, opened, lift_borrow_in, lower_borrow_in, scope_at, with_scope, no_scope, number_of, host_table, one_borrow_more}
+use Rattle.canon_ledger.specs.Handles.{Handles, Lender, StepAnswer, IsConsistent, Takes, TakesSurely, table_at, with_table, finished, on_table, dropped, lifted_own, lent, removing_resource, inserting_borrow, lending, borrow_added, undone, give_back, exit_scope, opened, lift_borrow_in, lower_borrow_in, scope_at, with_scope, no_scope, number_of, host_table, one_borrow_more}
 use Rattle.canon_ledger.specs.Ledger.{LedgerState, HostIndexes, IsHostSound, Done, Did, New, Drop, LiftOwn, LiftBorrow, LowerBorrow, ExitScope, HostLowerOwn, plainly, inserting, removing, with_slot}
 use Rattle.canon_ledger.specs.Ledger as ledger
 use Rattle.canon_ledger.specs.Books.{Holds, DidSurely, written_at, raised_at, is_spent}
@@ -80,7 +80,7 @@ module _ (h : Handles) (n o : ℕ) (has : Has n o h) where
       (if_ok-finished (λ (w : ℕ × Handles). Has n o (borrow_added w.1 k)) h p 0 _ (if_ok_always _ _ (λ (a : ℕ × Table Entry × Counter). borrow_added_has k (with_table h p a.1 a.2) (with_table_has p a.1 a.2))))
   lower_borrow_has None p r = tt
 
-  undone_has : (r : Answer (Unit {0})) → IfOk r (λ w. Has n o w.1) → Has n o (undone h r)
+  undone_has : (r : StepAnswer (Unit {0})) → IfOk r (λ w. Has n o w.1) → Has n o (undone h r)
   undone_has (Ok (u, m)) e = e
   undone_has (Err x) e = has
 
@@ -150,7 +150,7 @@ same_exit l scope r m did = subst (SamePlaces l) (sym did.1) (stay l _ (stays_ex
 pub opened_is : (h : Handles) (k : ℕ) → k < length h.scopes → opened h (Some k) ≡ Some k
 opened_is h k within = ap (λ (b : Bool). cond b (Some k) None) (lt-ltb k (length h.scopes) within)
 
-holds : (l m : LedgerState) → Holds l → IsSound m.handles → IsHostSound m → Stays l m.handles → Holds m
+holds : (l m : LedgerState) → Holds l → IsConsistent m.handles → IsHostSound m → Stays l m.handles → Holds m
 holds l m h s host has = record { sound = s; host = host; some = (let a = h.some in let e = has.0 in omega arith); few = (let a = h.few in let e = has.0 in omega arith) }
 
 holds_new : (l : LedgerState) (p : ℕ) (r : TypedResource) → Holds l → Holds (ledger.resource_new l p r).after
@@ -172,24 +172,24 @@ holds_lift_borrow : (l : LedgerState) (k p : ℕ) (idx : TypedResourceIndex) →
 holds_lift_borrow l k p idx within h =
     let e : lift_borrow_in (opened l.handles (Some k)) l.handles p idx ≡ lift_borrow_in (Some k) l.handles p idx = ap (λ o. lift_borrow_in o l.handles p idx) (opened_is l.handles k within) in
     holds l _ h
-    (subst (λ (r : Answer ℕ). IsSound (plainly r l).after.handles) e (sound-step (LiftBorrow (Some k) p idx) l h.sound))
-    (subst (λ (r : Answer ℕ). IsHostSound (plainly r l).after) e (host-step (LiftBorrow (Some k) p idx) l h.sound h.host))
+    (subst (λ (r : StepAnswer ℕ). IsConsistent (plainly r l).after.handles) e (sound-step (LiftBorrow (Some k) p idx) l h.sound))
+    (subst (λ (r : StepAnswer ℕ). IsHostSound (plainly r l).after) e (host-step (LiftBorrow (Some k) p idx) l h.sound h.host))
     (stays_lift_borrow l (Some k) p idx)
 
 holds_lower_borrow : (l : LedgerState) (k p : ℕ) (r : TypedResource) → k < length l.handles.scopes → Holds l → Holds (inserting p None None (lower_borrow_in (Some k) l.handles p r) l).after
 holds_lower_borrow l k p r within h =
     let e : lower_borrow_in (opened l.handles (Some k)) l.handles p r ≡ lower_borrow_in (Some k) l.handles p r = ap (λ o. lower_borrow_in o l.handles p r) (opened_is l.handles k within) in
     holds l _ h
-    (subst (λ (a : Answer ℕ). IsSound (inserting p None None a l).after.handles) e (sound-step (LowerBorrow (Some k) p r) l h.sound))
-    (subst (λ (a : Answer ℕ). IsHostSound (inserting p None None a l).after) e (host-step (LowerBorrow (Some k) p r) l h.sound h.host))
+    (subst (λ (a : StepAnswer ℕ). IsConsistent (inserting p None None a l).after.handles) e (sound-step (LowerBorrow (Some k) p r) l h.sound))
+    (subst (λ (a : StepAnswer ℕ). IsHostSound (inserting p None None a l).after) e (host-step (LowerBorrow (Some k) p r) l h.sound h.host))
     (stays_lower_borrow l (Some k) p r)
 
 holds_exit : (l : LedgerState) (k : ℕ) → k < length l.handles.scopes → Holds l → Holds (plainly (exit_scope (Some k) l.handles) l).after
 holds_exit l k within h =
     let e : exit_scope (opened l.handles (Some k)) l.handles ≡ exit_scope (Some k) l.handles = ap (λ o. exit_scope o l.handles) (opened_is l.handles k within) in
     holds l _ h
-    (subst (λ (a : Answer (Unit {0})). IsSound (plainly a l).after.handles) e (sound-step (ExitScope (Some k)) l h.sound))
-    (subst (λ (a : Answer (Unit {0})). IsHostSound (plainly a l).after) e (host-step (ExitScope (Some k)) l h.sound h.host))
+    (subst (λ (a : StepAnswer (Unit {0})). IsConsistent (plainly a l).after.handles) e (sound-step (ExitScope (Some k)) l h.sound))
+    (subst (λ (a : StepAnswer (Unit {0})). IsHostSound (plainly a l).after) e (host-step (ExitScope (Some k)) l h.sound h.host))
     (stays_exit l (Some k))
 
 -- Each call
@@ -234,11 +234,11 @@ kept_lift_own l p idx u raising host m result a ok after takes h =
 abbrev IsGiven : Handles → ℕ → ℕ → Type 0
 IsGiven h p i = (0 < i) × (i ≤ length (table_at h p).array)
 
-new_given : (h : Handles) (p : ℕ) (r : TypedResource) → IsSound h → IfOk (handles.resource_new h p r) (λ w. IsGiven h p w.0)
+new_given : (h : Handles) (p : ℕ) (r : TypedResource) → IsConsistent h → IfOk (handles.resource_new h p r) (λ w. IsGiven h p w.0)
 new_given h p r s =
     if_ok-finished (λ (w : ℕ × Handles). IsGiven h p w.0) h p 0 _ (if_ok-insert _ (table_at h p) h.counter (ResourceOwn r 0) (λ room. let f = fresh (table_at h p) (s.tables_sound p) in (f.positive, f.at_end)))
 
-lower_given : (h : Handles) (k p : ℕ) (r : TypedResource) → IsSound h → IfOk (lower_borrow_in (Some k) h p r) (λ w. IsGiven h p w.0)
+lower_given : (h : Handles) (k p : ℕ) (r : TypedResource) → IsConsistent h → IfOk (lower_borrow_in (Some k) h p r) (λ w. IsGiven h p w.0)
 lower_given h k p r s =
     if_ok-then (λ (w : ℕ × Handles). IsGiven h p w.0) (inserting_borrow h p r k) (λ (i, h'). Ok (i, borrow_added h' k))
     (if_ok-finished (λ (w : ℕ × Handles). IsGiven h p w.0) h p 0 _ (if_ok-insert _ (table_at h p) h.counter (ResourceBorrow r (Id k)) (λ room. let f = fresh (table_at h p) (s.tables_sound p) in (f.positive, f.at_end))))
@@ -258,11 +258,11 @@ slot_given l p i room reserved r h given same ok has zero_ =
 
 pub new_slot_given : {E : Type 0} (l : LedgerState) (p : ℕ) (q : TypedResource) (i : ℕ) (m : Handles) (room : ℕ) (reserved : HostIndexes) (r : Result (Unit {0}) E) → Holds l → handles.resource_new l.handles p q ≡ Ok (i, m) → reserved ≡ l.host → is_err r ≡ false → OnOk r (p ≡ 0 → 0 < room)
     → p ≡ 0 → (0 < i) × (i ≤ length reserved.slots) × (0 < room)
-new_slot_given l p q i m room reserved r h e = slot_given l p i room reserved r h (subst (λ (a : Answer ℕ). IfOk a (λ w. IsGiven l.handles p w.0)) e (new_given l.handles p q h.sound))
+new_slot_given l p q i m room reserved r h e = slot_given l p i room reserved r h (subst (λ (a : StepAnswer ℕ). IfOk a (λ w. IsGiven l.handles p w.0)) e (new_given l.handles p q h.sound))
 
 pub lower_slot_given : {E : Type 0} (l : LedgerState) (k p : ℕ) (q : TypedResource) (i : ℕ) (m : Handles) (room : ℕ) (reserved : HostIndexes) (r : Result (Unit {0}) E) → Holds l → lower_borrow_in (Some k) l.handles p q ≡ Ok (i, m) → reserved ≡ l.host → is_err r ≡ false → OnOk r (p ≡ 0 → 0 < room)
     → p ≡ 0 → (0 < i) × (i ≤ length reserved.slots) × (0 < room)
-lower_slot_given l k p q i m room reserved r h e = slot_given l p i room reserved r h (subst (λ (a : Answer ℕ). IfOk a (λ w. IsGiven l.handles p w.0)) e (lower_given l.handles k p q h.sound))
+lower_slot_given l k p q i m room reserved r h e = slot_given l p i room reserved r h (subst (λ (a : StepAnswer ℕ). IfOk a (λ w. IsGiven l.handles p w.0)) e (lower_given l.handles k p q h.sound))
 
 -- New tables
 
@@ -270,13 +270,13 @@ append_one : {A : Type 0} (n : ℕ) (x : A) → replicate n x ++ x ∷ [] ≡ re
 append_one zero x = refl
 append_one (suc n) x = ap (λ l. x ∷ l) (append_one n x)
 
-map-append_table : (tables : List (Stored Entry)) (s : Stored Entry) → map (λ (s : Stored Entry). s.table) (tables ++ s ∷ []) ≡ map (λ (s : Stored Entry). s.table) tables ++ s.table ∷ []
+map-append_table : (tables : List (TableState Entry)) (s : TableState Entry) → map (λ (s : TableState Entry). s.table) (tables ++ s ∷ []) ≡ map (λ (s : TableState Entry). s.table) tables ++ s.table ∷ []
 map-append_table [] s = refl
 map-append_table (x ∷ xs) s = ap (λ l. x.table ∷ l) (map-append_table xs s)
 
-pub one_table_more : (tables new : List (Stored Entry)) (s : Stored Entry) (n k : ℕ) (t : Table Entry) → map (λ (s : Stored Entry). s.table) tables ≡ replicate n t → s.table ≡ t → new ≡ tables ++ s ∷ [] → k ≡ suc n → map (λ (s : Stored Entry). s.table) new ≡ replicate k t
+pub one_table_more : (tables new : List (TableState Entry)) (s : TableState Entry) (n k : ℕ) (t : Table Entry) → map (λ (s : TableState Entry). s.table) tables ≡ replicate n t → s.table ≡ t → new ≡ tables ++ s ∷ [] → k ≡ suc n → map (λ (s : TableState Entry). s.table) new ≡ replicate k t
 one_table_more tables new s n k t had is e more =
-    ap (map (λ (s : Stored Entry). s.table)) e ∙ map-append_table tables s ∙ ap (λ l. l ++ s.table ∷ []) had ∙ ap (λ (x : Table Entry). replicate n t ++ x ∷ []) is ∙ append_one n t ∙ ap (λ (j : ℕ). replicate j t) (sym more)
+    ap (map (λ (s : TableState Entry). s.table)) e ∙ map-append_table tables s ∙ ap (λ l. l ++ s.table ∷ []) had ∙ ap (λ (x : Table Entry). replicate n t ++ x ∷ []) is ∙ append_one n t ∙ ap (λ (j : ℕ). replicate j t) (sym more)
 
 -- The host's own handles, with what it keeps of their indexes
 
@@ -289,7 +289,7 @@ module _ (l : LedgerState) (p rep i : ℕ) (m : Handles) (h : Holds l) (is_host 
       let one = h.host.one_slot_each in
       let a : length (table_at l.handles p).array ≡ length (table_at l.handles 0).array = ap (λ (q : ℕ). length (table_at l.handles q).array) is_host in
       let b : length reserved.slots ≡ length l.host.slots = ap (λ (x : HostIndexes). length x.slots) same in
-      let g = (subst (λ (a : Answer ℕ). IfOk a (λ w. IsGiven l.handles p w.0)) e (new_given l.handles p (Host rep) h.sound)).1 in
+      let g = (subst (λ (a : StepAnswer ℕ). IfOk a (λ w. IsGiven l.handles p w.0)) e (new_given l.handles p (Host rep) h.sound)).1 in
       omega arith
 
   pub kept_host_own : (dtor instance : Option ℕ) (host : HostIndexes) → host ≡ with_slot l.host i instance dtor → Holds (record { handles = m; host = host })

@@ -18,11 +18,11 @@ use Rattle.canon_handles.specs.Step.{put}
 use Rattle.canon_handles.specs.Table.{Table, Counter, entry_at, fresh_index, with_new, with_entry, without, IsTable, is_full, one_more, one_less, empty_table, max_handle}
 use Rattle.canon_handles.specs.Calls.{raw_index, undo_lend_entry, is_own, lends_of}
 use Rattle.canon_ledger.specs.Handles as handles
-use Rattle.canon_ledger.specs.Handles.{Handles, Lender, Answer, IsSound, can_leave, host_table, table_at, with_table, with_scope, no_scope, scope_at, finished, dropped, lifted_own, lent, opened, lift_borrow_in, lower_borrow_in, borrow_added, give_back, undone, exit_scope, borrows, stands}
+use Rattle.canon_ledger.specs.Handles.{Handles, Lender, StepAnswer, IsConsistent, can_leave, host_table, table_at, with_table, with_scope, no_scope, scope_at, finished, dropped, lifted_own, lent, opened, lift_borrow_in, lower_borrow_in, borrow_added, give_back, undone, exit_scope, borrows, stands}
 use Rattle.canon_ledger.specs.Index.{GivenIndex}
-use Rattle.canon_ledger.specs.Ledger.{LedgerState, HostIndexes, Done, Call, Enter, Leave, SetLimit, New, Rep, Drop, LiftOwn, LiftBorrow, LowerBorrow, ExitScope, HostLiftOwn, HostLiftBorrow, HostDrop, HostRemove, HostLowerOwn, HostLowerBorrow, do_step, run, plainly, inserting, host_removing, unless_stale, is_stale, slot_is_stale, leaving, with_slot, slot_at, host_entry, last_generation, IsAccepted, IsHostSound, new_ledger, resource_rep, resource_drop, resource_lift_own, resource_lift_borrow, host_resource_drop, removed_once_told}
+use Rattle.canon_ledger.specs.Ledger.{LedgerState, HostIndexes, Done, LedgerStep, Enter, Leave, SetLimit, New, Rep, Drop, LiftOwn, LiftBorrow, LowerBorrow, ExitScope, HostLiftOwn, HostLiftBorrow, HostDrop, HostRemove, HostLowerOwn, HostLowerBorrow, do_step, run, plainly, inserting, host_removing, unless_stale, is_stale, slot_is_stale, leaving, with_slot, slot_at, host_entry, last_generation, IsAccepted, IsHostSound, new_ledger, resource_rep, resource_drop, resource_lift_own, resource_lift_borrow, host_resource_drop, removed_once_told}
 use Rattle.canon_ledger.specs.declared.fault.ResourceFault.{ResourceFault}
-use Rattle.canon_ledger.specs.Laws.{Gives, Names, IsGivenIn, handle_of, inserted, written_slot, is_host_insertion, StepsKeepHostSound, IndexesAnswerForTheirInsertion, IndexesNameTheirInsertion, AcceptedIndexesWereGiven, IndexesAreGivenOnce, NewLedgersAreSound, with_generation_raised}
+use Rattle.canon_ledger.specs.Laws.{GivesIndex, Names, IsGivenIn, handle_of, inserted, written_slot, is_host_insertion, StepsKeepHostSound, IndexesAnswerForTheirInsertion, IndexesNameTheirInsertion, AcceptedIndexesWereGiven, IndexesAreGivenOnce, NewLedgersAreSound, with_generation_raised}
 use Rattle.canon_handles.proofs.StepLemmas.{length-put, length-put_end, get_or-put_same, get_or-put_other, some_within}
 use Rattle.canon_ledger.proofs.StepLemmas.{if_ok-refuse, if_ok-then, if_ok_always}
 use Rattle.canon_handles.proofs.TableLemmas.{fresh, equal_or_not, is_table-empty}
@@ -143,7 +143,7 @@ one_more-new h e c s room =
 same-new : (h : Handles) (q : ℕ) (r : TypedResource) → IfOk (handles.resource_new h (suc q) r) (λ w. SameIndexes h w.1)
 same-new h q r = if_ok-finished (λ (w : ℕ × Handles). SameIndexes h w.1) h (suc q) 0 _ (if_ok-insert _ (table_at h (suc q)) h.counter (ResourceOwn r 0) (λ room. same_elsewhere h q _ _))
 
-more-new : (h : Handles) (r : TypedResource) → IsSound h → IfOk (handles.resource_new h 0 r) (λ w. OneMoreIndex h w.1 w.0 (Some (r, None)))
+more-new : (h : Handles) (r : TypedResource) → IsConsistent h → IfOk (handles.resource_new h 0 r) (λ w. OneMoreIndex h w.1 w.0 (Some (r, None)))
 more-new h r s = if_ok-finished (λ (w : ℕ × Handles). OneMoreIndex h w.1 w.0 (Some (r, None))) h 0 0 _ (if_ok-insert _ (table_at h 0) h.counter (ResourceOwn r 0) (λ room. one_more-new h (ResourceOwn r 0) _ (s.tables_sound 0) room))
 
 same-lower_in : (o : Option ℕ) (h : Handles) (q : ℕ) (r : TypedResource) → IfOk (lower_borrow_in o h (suc q) r) (λ w. SameIndexes h w.1)
@@ -153,7 +153,7 @@ same-lower_in (Some k) h q r =
     (if_ok-finished (λ (w : ℕ × Handles). SameIndexes h (borrow_added w.1 k)) h (suc q) 0 _
     (if_ok-insert _ (table_at h (suc q)) h.counter (ResourceBorrow r (Id k)) (λ room. (let e = same_elsewhere h q (with_new (table_at h (suc q)) (ResourceBorrow r (Id k))) (one_more h.counter) in record { as_long = e.as_long; stands = e.stands; handle = e.handle }))))
 
-more-lower_in : (o : Option ℕ) (h : Handles) (r : TypedResource) → IsSound h → IfOk (lower_borrow_in o h 0 r) (λ w. OneMoreIndex h w.1 w.0 (Some (r, o)))
+more-lower_in : (o : Option ℕ) (h : Handles) (r : TypedResource) → IsConsistent h → IfOk (lower_borrow_in o h 0 r) (λ w. OneMoreIndex h w.1 w.0 (Some (r, o)))
 more-lower_in None h r s = tt
 more-lower_in (Some k) h r s =
     if_ok-then (λ (w : ℕ × Handles). OneMoreIndex h w.1 w.0 (Some (r, Some k))) _ (λ (i, h'). Ok (i, borrow_added h' k))
@@ -161,11 +161,11 @@ more-lower_in (Some k) h r s =
     (if_ok-insert _ (table_at h 0) h.counter (ResourceBorrow r (Id k)) (λ room. (let m = one_more-new h (ResourceBorrow r (Id k)) (one_more h.counter) (s.tables_sound 0) room in
     record { place = m.place; was = m.was; here = m.here; handle = m.handle; others = m.others; other_handles = m.other_handles; grown = m.grown }))))
 
-more-lower_if : (b : Bool) (k : ℕ) (h : Handles) (r : TypedResource) → IsSound h → IfOk (lower_borrow_in (if b then Some k else None) h 0 r) (λ w. OneMoreIndex h w.1 w.0 (Some (r, Some k)))
+more-lower_if : (b : Bool) (k : ℕ) (h : Handles) (r : TypedResource) → IsConsistent h → IfOk (lower_borrow_in (if b then Some k else None) h 0 r) (λ w. OneMoreIndex h w.1 w.0 (Some (r, Some k)))
 more-lower_if true k h r s = more-lower_in (Some k) h r s
 more-lower_if false k h r s = tt
 
-more-lower : (scope : Option ℕ) (h : Handles) (r : TypedResource) → IsSound h → IfOk (handles.resource_lower_borrow scope h 0 r) (λ w. OneMoreIndex h w.1 w.0 (Some (r, scope)))
+more-lower : (scope : Option ℕ) (h : Handles) (r : TypedResource) → IsConsistent h → IfOk (handles.resource_lower_borrow scope h 0 r) (λ w. OneMoreIndex h w.1 w.0 (Some (r, scope)))
 more-lower None h r s = tt
 more-lower (Some k) h r s = more-lower_if (nat_lt k (length h.scopes)) k h r s
 
@@ -263,22 +263,22 @@ Effect insertion answer made slot l l' = Keeps l l' ⊎ ((n : ℕ) × (insertion
 keeps_same : (l l' : LedgerState) → l'.host ≡ l.host → SameIndexes l.handles l'.handles → Keeps l l'
 keeps_same l l' e s = record { slots = ap (λ (h : HostIndexes). h.slots) e; indexes = fewer l.handles l'.handles s; generation = inl (s, ap (λ (h : HostIndexes). h.generation) e) }
 
-keeps-plainly : {A : Type 0} (r : Answer A) (l : LedgerState) → IfOk r (λ w. SameIndexes l.handles w.1) → Keeps l (plainly r l).after
+keeps-plainly : {A : Type 0} (r : StepAnswer A) (l : LedgerState) → IfOk r (λ w. SameIndexes l.handles w.1) → Keeps l (plainly r l).after
 keeps-plainly (Ok w) l s = keeps_same l _ refl s
 keeps-plainly (Err e) l s = keeps_same l l refl (same_self l.handles)
 
-effect-inserting : (p : ℕ) (instance : Option ℕ) (dtor : Option ℕ) (made : Option (TypedResource × Option ℕ)) (r : Answer ℕ) (l : LedgerState)
+effect-inserting : (p : ℕ) (instance : Option ℕ) (dtor : Option ℕ) (made : Option (TypedResource × Option ℕ)) (r : StepAnswer ℕ) (l : LedgerState)
     → (p ≡ 0 → IfOk r (λ w. OneMoreIndex l.handles w.1 w.0 made)) → ((q : ℕ) → p ≡ suc q → IfOk r (λ w. SameIndexes l.handles w.1))
     → Effect (p == 0) (inserting p instance dtor r l).answer made (record { generation = l.host.generation; instance = instance; dtor = dtor }) l (inserting p instance dtor r l).after
 effect-inserting zero instance dtor made (Ok w) l more same = inr (w.0, refl, refl, record { generation = refl; host = refl; indexes = more refl })
 effect-inserting zero instance dtor made (Err e) l more same = inl (keeps_same l l refl (same_self l.handles))
 effect-inserting (suc q) instance dtor made r l more same = inl (keeps-plainly r l (same q refl))
 
-keeps-raised : {A : Type 0} (r : Answer A) (l : LedgerState) → IfOk r (λ w. FewerIndexes l.handles w.1) → Keeps l (plainly r (with_generation_raised l)).after
+keeps-raised : {A : Type 0} (r : StepAnswer A) (l : LedgerState) → IfOk r (λ w. FewerIndexes l.handles w.1) → Keeps l (plainly r (with_generation_raised l)).after
 keeps-raised (Ok w) l f = record { slots = refl; indexes = f; generation = inr refl }
 keeps-raised (Err e) l f = record { slots = refl; indexes = fewer l.handles l.handles (same_self l.handles); generation = inr refl }
 
-keeps-host_removing : {A : Type 0} (b : Bool) (step : Handles → Answer A) (l : LedgerState) → IfOk (step l.handles) (λ w. FewerIndexes l.handles w.1) → Keeps l (host_removing b step l).after
+keeps-host_removing : {A : Type 0} (b : Bool) (step : Handles → StepAnswer A) (l : LedgerState) → IfOk (step l.handles) (λ w. FewerIndexes l.handles w.1) → Keeps l (host_removing b step l).after
 keeps-host_removing true step l f = keeps_same l l refl (same_self l.handles)
 keeps-host_removing false step l f = keeps-raised (step l.handles) l f
 
@@ -311,22 +311,22 @@ keeps-once_told (Err e) x l = keeps_same l l refl (same_self l.handles)
 at_zero : (p : ℕ) (P : ℕ → Type 0) → P 0 → p ≡ 0 → P p
 at_zero p P z e = subst P (sym e) z
 
-effect-new : (p : ℕ) (instance : Option ℕ) (dtor : Option ℕ) (r : TypedResource) (l : LedgerState) → IsSound l.handles
+effect-new : (p : ℕ) (instance : Option ℕ) (dtor : Option ℕ) (r : TypedResource) (l : LedgerState) → IsConsistent l.handles
     → Effect (p == 0) (inserting p instance dtor (handles.resource_new l.handles p r) l).answer (Some (r, None)) (record { generation = l.host.generation; instance = instance; dtor = dtor }) l (inserting p instance dtor (handles.resource_new l.handles p r) l).after
 effect-new p instance dtor r l s = effect-inserting p instance dtor (Some (r, None)) (handles.resource_new l.handles p r) l
     (λ e. at_zero p (λ (p : ℕ). IfOk (handles.resource_new l.handles p r) (λ w. OneMoreIndex l.handles w.1 w.0 (Some (r, None)))) (more-new l.handles r s) e)
     (λ q e. subst (λ (p : ℕ). IfOk (handles.resource_new l.handles p r) (λ w. SameIndexes l.handles w.1)) (sym e) (same-new l.handles q r))
 
-effect-lower : (p : ℕ) (scope : Option ℕ) (r : TypedResource) (l : LedgerState) → IsSound l.handles
+effect-lower : (p : ℕ) (scope : Option ℕ) (r : TypedResource) (l : LedgerState) → IsConsistent l.handles
     → Effect (p == 0) (inserting p None None (handles.resource_lower_borrow scope l.handles p r) l).answer (Some (r, scope)) (record { generation = l.host.generation; instance = None; dtor = None }) l (inserting p None None (handles.resource_lower_borrow scope l.handles p r) l).after
 effect-lower p scope r l s = effect-inserting p None None (Some (r, scope)) (handles.resource_lower_borrow scope l.handles p r) l
     (λ e. at_zero p (λ (p : ℕ). IfOk (handles.resource_lower_borrow scope l.handles p r) (λ w. OneMoreIndex l.handles w.1 w.0 (Some (r, scope)))) (more-lower scope l.handles r s) e)
     (λ q e. subst (λ (p : ℕ). IfOk (handles.resource_lower_borrow scope l.handles p r) (λ w. SameIndexes l.handles w.1)) (sym e) (same-lower_in (opened l.handles scope) l.handles q r))
 
-abbrev StepEffect : Call → LedgerState → Type 0
+abbrev StepEffect : LedgerStep → LedgerState → Type 0
 StepEffect call l = Effect (is_host_insertion call) (do_step call l).answer (inserted call) (written_slot call l.host.generation) l (do_step call l).after
 
-effect : (call : Call) (l : LedgerState) → IsSound l.handles → StepEffect call l
+effect : (call : LedgerStep) (l : LedgerState) → IsConsistent l.handles → StepEffect call l
 effect Enter l s = inl (keeps_same l _ refl (record { as_long = refl; stands = λ i. refl; handle = λ i. refl }))
 effect Leave l s = inl (keeps-leaving (can_leave l.handles) l)
 effect (SetLimit n) l s = inl (keeps_same l _ refl (record { as_long = refl; stands = λ i. refl; handle = λ i. refl }))
@@ -403,7 +403,7 @@ module _ (l l' : LedgerState) (n : ℕ) (made : Option (TypedResource × Option 
         ];
       }
 
-pub host-step : (call : Call) (l : LedgerState) → IsSound l.handles → IsHostSound l → IsHostSound (do_step call l).after
+pub host-step : (call : LedgerStep) (l : LedgerState) → IsConsistent l.handles → IsHostSound l → IsHostSound (do_step call l).after
 host-step call l s h = elim (effect call l s) as (λ _. IsHostSound (do_step call l).after) [
   | inl k ↦ host-keeps l _ k h
   | inr w ↦ host-inserts l _ w.0 _ _ w.3 h
@@ -453,7 +453,7 @@ spent_or_accepted x l s k = elim (equal_or_not k.slot.generation x.generation) [
   | inr ne ↦ (let o = k.older in inr (record { slot = k.slot; there = k.there; why = inl (omega arith) }))
 ]
 
-known-step : (x : GivenIndex) (call : Call) (l : LedgerState) → IsSound l.handles → IsHostSound l → IsKnown x l → IsKnown x (do_step call l).after
+known-step : (x : GivenIndex) (call : LedgerStep) (l : LedgerState) → IsConsistent l.handles → IsHostSound l → IsKnown x l → IsKnown x (do_step call l).after
 known-step x call l s h w = elim (effect call l s) as (λ _. IsKnown x (do_step call l).after) [
   | inl k ↦ record { slot = w.slot; there = ap (λ (xs : List (Option TableSlot)). get_or xs x.index None) k.slots ∙ w.there; older = w.older }
   | inr v ↦ elim (equal_or_not x.index v.0) as (λ _. IsKnown x (do_step call l).after) [
@@ -501,25 +501,25 @@ spent-inserts x l l' n made slot k s w = elim (equal_or_not x.index n) [
       }
 ]
 
-spent-step : (x : GivenIndex) (call : Call) (l : LedgerState) → IsSound l.handles → IsHostSound l → IsSpent x l → IsSpent x (do_step call l).after
+spent-step : (x : GivenIndex) (call : LedgerStep) (l : LedgerState) → IsConsistent l.handles → IsHostSound l → IsSpent x l → IsSpent x (do_step call l).after
 spent-step x call l s h w = elim (effect call l s) as (λ _. IsSpent x (do_step call l).after) [
   | inl k ↦ spent-keeps x l _ k w
   | inr v ↦ spent-inserts x l _ v.0 _ _ v.3 h w
 ]
 
-spent-run : (x : GivenIndex) (calls : List Call) (l : LedgerState) → IsSound l.handles → IsHostSound l → IsSpent x l → IsSpent x (run calls l)
+spent-run : (x : GivenIndex) (calls : List LedgerStep) (l : LedgerState) → IsConsistent l.handles → IsHostSound l → IsSpent x l → IsSpent x (run calls l)
 spent-run x [] l s h w = w
 spent-run x (call ∷ calls) l s h w =
     spent-run x calls (do_step call l).after (sound-step call l s) (host-step call l s h) (spent-step x call l s h w)
 
-known-run : (x : GivenIndex) (calls : List Call) (l : LedgerState) → IsSound l.handles → IsHostSound l → IsKnown x l → IsKnown x (run calls l)
+known-run : (x : GivenIndex) (calls : List LedgerStep) (l : LedgerState) → IsConsistent l.handles → IsHostSound l → IsKnown x l → IsKnown x (run calls l)
 known-run x [] l s h w = w
 known-run x (call ∷ calls) l s h w =
     known-run x calls (do_step call l).after (sound-step call l s) (host-step call l s h) (known-step x call l s h w)
 
 -- The insertion that gives an index
 
-inserts-inserting : (instance : Option ℕ) (dtor : Option ℕ) (made : Option (TypedResource × Option ℕ)) (r : Answer ℕ) (l : LedgerState) (i : ℕ) → IfOk r (λ w. OneMoreIndex l.handles w.1 w.0 made) → (inserting 0 instance dtor r l).answer ≡ Ok i
+inserts-inserting : (instance : Option ℕ) (dtor : Option ℕ) (made : Option (TypedResource × Option ℕ)) (r : StepAnswer ℕ) (l : LedgerState) (i : ℕ) → IfOk r (λ w. OneMoreIndex l.handles w.1 w.0 made) → (inserting 0 instance dtor r l).answer ≡ Ok i
     → Inserts l (inserting 0 instance dtor r l).after i made (record { generation = l.host.generation; instance = instance; dtor = dtor })
 inserts-inserting instance dtor made (Err e) l i more is = absurd (cc)
 inserts-inserting instance dtor made (Ok w) l i more is =
@@ -527,10 +527,10 @@ inserts-inserting instance dtor made (Ok w) l i more is =
     subst (λ (n : ℕ). Inserts l (record { handles = w.1; host = with_slot l.host w.0 instance dtor }) n made (record { generation = l.host.generation; instance = instance; dtor = dtor })) e
     (record { generation = refl; host = refl; indexes = more })
 
-abbrev InsertsAt : Call → LedgerState → ℕ → Type 0
+abbrev InsertsAt : LedgerStep → LedgerState → ℕ → Type 0
 InsertsAt call l i = Inserts l (do_step call l).after i (inserted call) (written_slot call l.host.generation)
 
-inserts : (call : Call) (l : LedgerState) (i : ℕ) → IsSound l.handles → is_host_insertion call ≡ true → (do_step call l).answer ≡ Ok i → InsertsAt call l i
+inserts : (call : LedgerStep) (l : LedgerState) (i : ℕ) → IsConsistent l.handles → is_host_insertion call ≡ true → (do_step call l).answer ≡ Ok i → InsertsAt call l i
 inserts Enter l i s h e = absurd (cc)
 inserts Leave l i s h e = absurd (cc)
 inserts (SetLimit n) l i s h e = absurd (cc)
@@ -550,17 +550,17 @@ inserts (HostRemove x) l i s h e = absurd (cc)
 inserts (HostLowerOwn rep dtor instance) l i s h e = inserts-inserting instance dtor (Some (Host rep, None)) (handles.resource_new l.handles 0 (Host rep)) l i (more-new l.handles (Host rep) s) e
 inserts (HostLowerBorrow scope rep) l i s h e = inserts-inserting None None (Some (Host rep, scope)) (handles.resource_lower_borrow scope l.handles 0 (Host rep)) l i (more-lower scope l.handles (Host rep) s) e
 
-known_when_given : (call : Call) (l : LedgerState) (x : GivenIndex) → IsSound l.handles → IsHostSound l → Gives call l x → IsKnown x (do_step call l).after
+known_when_given : (call : LedgerStep) (l : LedgerState) (x : GivenIndex) → IsConsistent l.handles → IsHostSound l → GivesIndex call l x → IsKnown x (do_step call l).after
 known_when_given call l x s h g =
     let k = inserts call l x.index s g.insertion g.index in
     let n = k.generation in let same = g.generation in
     record { slot = written_slot call l.host.generation; there = slot_new l _ x.index _ _ k h; older = omega arith }
 
-run-append : (calls more : List Call) (l : LedgerState) → run (calls ++ more) l ≡ run more (run calls l)
+run-append : (calls more : List LedgerStep) (l : LedgerState) → run (calls ++ more) l ≡ run more (run calls l)
 run-append [] more l = refl
 run-append (call ∷ calls) more l = run-append calls more (do_step call l).after
 
-sound-run' : (calls : List Call) (l : LedgerState) → IsSound l.handles → IsSound (run calls l).handles
+sound-run' : (calls : List LedgerStep) (l : LedgerState) → IsConsistent l.handles → IsConsistent (run calls l).handles
 sound-run' [] l s = s
 sound-run' (call ∷ calls) l s = sound-run' calls (do_step call l).after (sound-step call l s)
 
@@ -593,30 +593,30 @@ given_once l s h call x g calls again g' =
 
 -- What an accepted index names
 
-names_when_given : (call : Call) (l : LedgerState) (x : GivenIndex) → IsSound l.handles → IsHostSound l → Gives call l x → Names call x (do_step call l).after
+names_when_given : (call : LedgerStep) (l : LedgerState) (x : GivenIndex) → IsConsistent l.handles → IsHostSound l → GivesIndex call l x → Names call x (do_step call l).after
 names_when_given call l x s h g =
     let k = inserts call l x.index s g.insertion g.index in
     record { handle = k.indexes.handle; slot = slot_new l _ x.index _ _ k h ∙ ap (λ (n : ℕ). Some (written_slot call n)) (sym g.generation) }
 
 -- The index will be accepted no more, or is accepted and names what the step inserted.
-record IsTold (call : Call) (x : GivenIndex) (l : LedgerState) : Type 0 where
+record IsTold (call : LedgerStep) (x : GivenIndex) (l : LedgerState) : Type 0 where
   known : IsKnown x l
   told : IsSpent x l ⊎ (IsAccepted x l × Names call x l)
 
-told_if : (call : Call) (x : GivenIndex) (l : LedgerState) → IsHostSound l → IsKnown x l → (IsAccepted x l → Names call x l) → IsTold call x l
+told_if : (call : LedgerStep) (x : GivenIndex) (l : LedgerState) → IsHostSound l → IsKnown x l → (IsAccepted x l → Names call x l) → IsTold call x l
 told_if call x l h k names = record { known = k; told = elim (spent_or_accepted x l h k) [ inl a ↦ inr (a, names a) | inr spent ↦ inl spent ] }
 
-names-keeps : (given : Call) (x : GivenIndex) (l l' : LedgerState) → Keeps l l' → Names given x l → IsAccepted x l' → Names given x l'
+names-keeps : (given : LedgerStep) (x : GivenIndex) (l l' : LedgerState) → Keeps l l' → Names given x l → IsAccepted x l' → Names given x l'
 names-keeps given x l l' k n a =
     record { handle = k.indexes.handle x.index a.stands ∙ n.handle; slot = ap (λ (xs : List (Option TableSlot)). get_or xs x.index None) k.slots ∙ n.slot }
 
-names-inserts : (given : Call) (x : GivenIndex) (l l' : LedgerState) (i : ℕ) (made : Option (TypedResource × Option ℕ)) (slot : TableSlot) → Inserts l l' i made slot → IsHostSound l → IsAccepted x l → Names given x l → Names given x l'
+names-inserts : (given : LedgerStep) (x : GivenIndex) (l l' : LedgerState) (i : ℕ) (made : Option (TypedResource × Option ℕ)) (slot : TableSlot) → Inserts l l' i made slot → IsHostSound l → IsAccepted x l → Names given x l → Names given x l'
 names-inserts given x l l' i made slot k s a n = elim (equal_or_not x.index i) as (λ _. Names given x l') [
   | inl at ↦ absurd (let was = k.indexes.was in let stands : is_some (host_entry l i) ≡ true = ap (λ (j : ℕ). is_some (host_entry l j)) (sym at) ∙ a.stands in cc)
   | inr ne ↦ record { handle = k.indexes.other_handles x.index ne ∙ n.handle; slot = slot_old l l' i made slot k s x.index ne ∙ n.slot }
 ]
 
-told-step : (given : Call) (x : GivenIndex) (call : Call) (l : LedgerState) → IsSound l.handles → IsHostSound l → IsTold given x l → IsTold given x (do_step call l).after
+told-step : (given : LedgerStep) (x : GivenIndex) (call : LedgerStep) (l : LedgerState) → IsConsistent l.handles → IsHostSound l → IsTold given x l → IsTold given x (do_step call l).after
 told-step given x call l s h w = elim w.told as (λ _. IsTold given x (do_step call l).after) [
   | inl spent ↦ record { known = known-step x call l s h w.known; told = inl (spent-step x call l s h spent) }
   | inr v ↦ told_if given x (do_step call l).after (host-step call l s h) (known-step x call l s h w.known)
@@ -626,7 +626,7 @@ told-step given x call l s h w = elim w.told as (λ _. IsTold given x (do_step c
       ])
 ]
 
-told-run : (given : Call) (x : GivenIndex) (calls : List Call) (l : LedgerState) → IsSound l.handles → IsHostSound l → IsTold given x l → IsTold given x (run calls l)
+told-run : (given : LedgerStep) (x : GivenIndex) (calls : List LedgerStep) (l : LedgerState) → IsConsistent l.handles → IsHostSound l → IsTold given x l → IsTold given x (run calls l)
 told-run given x [] l s h w = w
 told-run given x (call ∷ calls) l s h w =
     told-run given x calls (do_step call l).after (sound-step call l s) (host-step call l s h) (told-step given x call l s h w)
@@ -693,10 +693,10 @@ accepted-keeps x l l' k a =
     record { current = ap (λ (xs : List (Option TableSlot)). slot_is_stale (get_or xs x.index None) x.generation) (sym k.slots) ∙ a.current; stands = k.indexes.stands x.index a.stands }
 
 -- an index that is accepted after a step was so before it, or the step gave it
-accepted_or_given : (call : Call) (x : GivenIndex) (l : LedgerState) → IsSound l.handles → IsHostSound l → IsAccepted x (do_step call l).after → IsAccepted x l ⊎ Gives call l x
-accepted_or_given call x l s h a = elim (effect call l s) as (λ _. IsAccepted x l ⊎ Gives call l x) [
+accepted_or_given : (call : LedgerStep) (x : GivenIndex) (l : LedgerState) → IsConsistent l.handles → IsHostSound l → IsAccepted x (do_step call l).after → IsAccepted x l ⊎ GivesIndex call l x
+accepted_or_given call x l s h a = elim (effect call l s) as (λ _. IsAccepted x l ⊎ GivesIndex call l x) [
   | inl k ↦ inl (accepted-keeps x l _ k a)
-  | inr w ↦ elim (equal_or_not x.index w.0) as (λ _. IsAccepted x l ⊎ Gives call l x) [
+  | inr w ↦ elim (equal_or_not x.index w.0) as (λ _. IsAccepted x l ⊎ GivesIndex call l x) [
     | inl at ↦
         (let slot = written_slot call l.host.generation in
         let there : slot_at (do_step call l).after.host x.index ≡ Some slot = ap (slot_at (do_step call l).after.host) at ∙ slot_new l _ w.0 _ _ w.3 h in
@@ -709,14 +709,14 @@ accepted_or_given call x l s h a = elim (effect call l s) as (λ _. IsAccepted x
   ]
 ]
 
-accepted_or_given_in : (calls : List Call) (l : LedgerState) (x : GivenIndex) → IsSound l.handles → IsHostSound l → IsAccepted x (run calls l) → IsAccepted x l ⊎ IsGivenIn calls l x
+accepted_or_given_in : (calls : List LedgerStep) (l : LedgerState) (x : GivenIndex) → IsConsistent l.handles → IsHostSound l → IsAccepted x (run calls l) → IsAccepted x l ⊎ IsGivenIn calls l x
 accepted_or_given_in [] l x s h a = inl a
 accepted_or_given_in (call ∷ calls) l x s h a = elim (accepted_or_given_in calls (do_step call l).after x (sound-step call l s) (host-step call l s h) a) as (λ _. IsAccepted x l ⊎ IsGivenIn (call ∷ calls) l x) [
   | inl b ↦ elim (accepted_or_given call x l s h b) as (λ _. IsAccepted x l ⊎ IsGivenIn (call ∷ calls) l x) [
     | inl before ↦ inl before
     | inr g ↦ inr (record { before = []; call = call; more = calls; split = refl; gives = g })
   ]
-  | inr w ↦ inr (record { before = call ∷ w.before; call = w.call; more = w.more; split = ap (λ (cs : List Call). call ∷ cs) w.split; gives = w.gives })
+  | inr w ↦ inr (record { before = call ∷ w.before; call = w.call; more = w.more; split = ap (λ (cs : List LedgerStep). call ∷ cs) w.split; gives = w.gives })
 ]
 
 pub accepted_was_given : AcceptedIndexesWereGiven

@@ -6,29 +6,29 @@ use Rattle.canon_handles.specs.declared.handle.TypedResourceIndex.TheVariants.{H
 use Rattle.canon_ledger.specs.declared.fault.ResourceFault.{ResourceFault}
 use Rattle.canon_handles.specs.Step.{and_then}
 use Rattle.canon_ledger.specs.Handles as handles
-use Rattle.canon_ledger.specs.Handles.{Handles, Answer, IsSound, can_leave, host_table}
+use Rattle.canon_ledger.specs.Handles.{Handles, StepAnswer, IsConsistent, can_leave, host_table}
 use Rattle.canon_ledger.specs.Index.{GivenIndex}
-use Rattle.canon_ledger.specs.Ledger.{LedgerState, Done, Call, Enter, Leave, SetLimit, New, Rep, Drop, LiftOwn, LiftBorrow, LowerBorrow, ExitScope, HostLiftOwn, HostLiftBorrow, HostDrop, HostRemove, HostLowerOwn, HostLowerBorrow, do_step, plainly, inserting, removing, host_removing, unless_stale, is_stale, leaving, raised, Through, Partway, last_generation, drop_return, host_drop_return, with_its_slot, with_slot_answered, slot_at, resource_rep, resource_drop, host_resource_drop, removed_once_told}
+use Rattle.canon_ledger.specs.Ledger.{LedgerState, Done, LedgerStep, Enter, Leave, SetLimit, New, Rep, Drop, LiftOwn, LiftBorrow, LowerBorrow, ExitScope, HostLiftOwn, HostLiftBorrow, HostDrop, HostRemove, HostLowerOwn, HostLowerBorrow, do_step, plainly, inserting, removing, host_removing, unless_stale, is_stale, leaving, raised, Through, Partway, last_generation, drop_return, host_drop_return, with_its_slot, with_slot_answered, slot_at, resource_rep, resource_drop, host_resource_drop, removed_once_told}
 use Rattle.canon_ledger.specs.Laws.{RefusalsChangeNothing, StepsKeepHandlesSound, StepsCompose, PartsCompose, WholesAreParts, with_generation_raised}
 use Rattle.canon_ledger.proofs.HandlesLemmas.{sound-enter, sound-leave, sound-set_limit, sound-resource_new, sound-resource_drop, sound-resource_lift_own, sound-resource_lift_borrow, sound-resource_lower_borrow, sound-validate_scope_exit}
 
 -- What holds of the handles before and after each accepted call holds after a step
 
 module _ (P : Handles → Type 0) where
-  pub after-plainly : {A : Type 0} (r : Answer A) (l : LedgerState) → P l.handles → IfOk r (λ w. P w.1) → P (plainly r l).after.handles
+  pub after-plainly : {A : Type 0} (r : StepAnswer A) (l : LedgerState) → P l.handles → IfOk r (λ w. P w.1) → P (plainly r l).after.handles
   after-plainly (Ok w) l was now = now
   after-plainly (Err e) l was now = was
 
-  pub after-inserting : (p : ℕ) (instance : Option ℕ) (dtor : Option ℕ) (r : Answer ℕ) (l : LedgerState) → P l.handles → IfOk r (λ w. P w.1) → P (inserting p instance dtor r l).after.handles
+  pub after-inserting : (p : ℕ) (instance : Option ℕ) (dtor : Option ℕ) (r : StepAnswer ℕ) (l : LedgerState) → P l.handles → IfOk r (λ w. P w.1) → P (inserting p instance dtor r l).after.handles
   after-inserting zero instance dtor (Ok w) l was now = now
   after-inserting zero instance dtor (Err e) l was now = was
   after-inserting (suc n) instance dtor r l was now = after-plainly r l was now
 
-  after-host_removing : {A : Type 0} (b : Bool) (step : Handles → Answer A) (l : LedgerState) → P l.handles → IfOk (step l.handles) (λ w. P w.1) → P (host_removing b step l).after.handles
+  after-host_removing : {A : Type 0} (b : Bool) (step : Handles → StepAnswer A) (l : LedgerState) → P l.handles → IfOk (step l.handles) (λ w. P w.1) → P (host_removing b step l).after.handles
   after-host_removing true step l was now = was
   after-host_removing false step l was now = after-plainly (step l.handles) (record { handles = l.handles; host = raised l.host }) was now
 
-  pub after-removing : {A : Type 0} (p : ℕ) (step : Handles → Answer A) (l : LedgerState) → P l.handles → IfOk (step l.handles) (λ w. P w.1) → P (removing p step l).after.handles
+  pub after-removing : {A : Type 0} (p : ℕ) (step : Handles → StepAnswer A) (l : LedgerState) → P l.handles → IfOk (step l.handles) (λ w. P w.1) → P (removing p step l).after.handles
   after-removing zero step l was now = after-host_removing (nat_le last_generation l.host.generation) step l was now
   after-removing (suc n) step l was now = after-plainly (step l.handles) l was now
 
@@ -40,30 +40,30 @@ module _ (P : Handles → Type 0) where
   after-once_told (Ok rep) l x was now = now
   after-once_told (Err e) l x was now = was
 
-sound-leaving : (b : Bool) (l : LedgerState) → can_leave l.handles ≡ b → IsSound l.handles → IsSound (leaving b l).after.handles
+sound-leaving : (b : Bool) (l : LedgerState) → can_leave l.handles ≡ b → IsConsistent l.handles → IsConsistent (leaving b l).after.handles
 sound-leaving true l can s = sound-leave l.handles s can
 sound-leaving false l can s = s
 
-sound-host_drop : (x : GivenIndex) (l : LedgerState) → IsSound l.handles → IsSound (host_resource_drop l x).after.handles
-sound-host_drop x l s = after-unless_stale IsSound (is_stale l.host x) l _ s (after-removing IsSound 0 (λ h. handles.resource_drop h host_table (HostIndex x.index)) l s (sound-resource_drop l.handles host_table (HostIndex x.index) s))
+sound-host_drop : (x : GivenIndex) (l : LedgerState) → IsConsistent l.handles → IsConsistent (host_resource_drop l x).after.handles
+sound-host_drop x l s = after-unless_stale IsConsistent (is_stale l.host x) l _ s (after-removing IsConsistent 0 (λ h. handles.resource_drop h host_table (HostIndex x.index)) l s (sound-resource_drop l.handles host_table (HostIndex x.index) s))
 
-pub sound-step : (call : Call) (l : LedgerState) → IsSound l.handles → IsSound (do_step call l).after.handles
+pub sound-step : (call : LedgerStep) (l : LedgerState) → IsConsistent l.handles → IsConsistent (do_step call l).after.handles
 sound-step Enter l s = sound-enter l.handles s
 sound-step Leave l s = sound-leaving (can_leave l.handles) l refl s
 sound-step (SetLimit n) l s = sound-set_limit l.handles n s
-sound-step (New p r) l s = after-inserting IsSound p None None (handles.resource_new l.handles p r) l s (sound-resource_new l.handles p r s)
+sound-step (New p r) l s = after-inserting IsConsistent p None None (handles.resource_new l.handles p r) l s (sound-resource_new l.handles p r s)
 sound-step (Rep p idx) l s = s
-sound-step (Drop p idx) l s = after-removing IsSound p (λ h. handles.resource_drop h p idx) l s (sound-resource_drop l.handles p idx s)
-sound-step (LiftOwn p idx) l s = after-removing IsSound p (λ h. handles.resource_lift_own h p idx) l s (sound-resource_lift_own l.handles p idx s)
-sound-step (LiftBorrow scope p idx) l s = after-plainly IsSound (handles.resource_lift_borrow scope l.handles p idx) l s (sound-resource_lift_borrow scope l.handles p idx s)
-sound-step (LowerBorrow scope p r) l s = after-inserting IsSound p None None (handles.resource_lower_borrow scope l.handles p r) l s (sound-resource_lower_borrow scope l.handles p r s)
-sound-step (ExitScope scope) l s = after-plainly IsSound (handles.validate_scope_exit scope l.handles) l s (sound-validate_scope_exit scope l.handles s)
-sound-step (HostLiftOwn x) l s = after-unless_stale IsSound (is_stale l.host x) l _ s (after-removing IsSound 0 (λ h. handles.resource_lift_own h host_table (HostIndex x.index)) l s (sound-resource_lift_own l.handles host_table (HostIndex x.index) s))
-sound-step (HostLiftBorrow scope x) l s = after-unless_stale IsSound (is_stale l.host x) l _ s (after-plainly IsSound (handles.resource_lift_borrow scope l.handles host_table (HostIndex x.index)) l s (sound-resource_lift_borrow scope l.handles host_table (HostIndex x.index) s))
+sound-step (Drop p idx) l s = after-removing IsConsistent p (λ h. handles.resource_drop h p idx) l s (sound-resource_drop l.handles p idx s)
+sound-step (LiftOwn p idx) l s = after-removing IsConsistent p (λ h. handles.resource_lift_own h p idx) l s (sound-resource_lift_own l.handles p idx s)
+sound-step (LiftBorrow scope p idx) l s = after-plainly IsConsistent (handles.resource_lift_borrow scope l.handles p idx) l s (sound-resource_lift_borrow scope l.handles p idx s)
+sound-step (LowerBorrow scope p r) l s = after-inserting IsConsistent p None None (handles.resource_lower_borrow scope l.handles p r) l s (sound-resource_lower_borrow scope l.handles p r s)
+sound-step (ExitScope scope) l s = after-plainly IsConsistent (handles.validate_scope_exit scope l.handles) l s (sound-validate_scope_exit scope l.handles s)
+sound-step (HostLiftOwn x) l s = after-unless_stale IsConsistent (is_stale l.host x) l _ s (after-removing IsConsistent 0 (λ h. handles.resource_lift_own h host_table (HostIndex x.index)) l s (sound-resource_lift_own l.handles host_table (HostIndex x.index) s))
+sound-step (HostLiftBorrow scope x) l s = after-unless_stale IsConsistent (is_stale l.host x) l _ s (after-plainly IsConsistent (handles.resource_lift_borrow scope l.handles host_table (HostIndex x.index)) l s (sound-resource_lift_borrow scope l.handles host_table (HostIndex x.index) s))
 sound-step (HostDrop x) l s = sound-host_drop x l s
-sound-step (HostRemove x) l s = after-unless_stale IsSound (is_stale l.host x) l _ s (after-once_told IsSound (resource_rep l host_table (HostIndex x.index)) l x s (sound-host_drop x l s))
-sound-step (HostLowerOwn rep dtor instance) l s = after-inserting IsSound host_table instance dtor (handles.resource_new l.handles host_table (Host rep)) l s (sound-resource_new l.handles host_table (Host rep) s)
-sound-step (HostLowerBorrow scope rep) l s = after-inserting IsSound host_table None None (handles.resource_lower_borrow scope l.handles host_table (Host rep)) l s (sound-resource_lower_borrow scope l.handles host_table (Host rep) s)
+sound-step (HostRemove x) l s = after-unless_stale IsConsistent (is_stale l.host x) l _ s (after-once_told IsConsistent (resource_rep l host_table (HostIndex x.index)) l x s (sound-host_drop x l s))
+sound-step (HostLowerOwn rep dtor instance) l s = after-inserting IsConsistent host_table instance dtor (handles.resource_new l.handles host_table (Host rep)) l s (sound-resource_new l.handles host_table (Host rep) s)
+sound-step (HostLowerBorrow scope rep) l s = after-inserting IsConsistent host_table None None (handles.resource_lower_borrow scope l.handles host_table (Host rep)) l s (sound-resource_lower_borrow scope l.handles host_table (Host rep) s)
 
 pub sound-run : StepsKeepHandlesSound
 sound-run [] l s = s
@@ -74,20 +74,20 @@ sound-run (call ∷ calls) l s = sound-run calls (do_step call l).after (sound-s
 abbrev OrRaised : Bool → LedgerState → LedgerState → Type 0
 OrRaised removal l l' = (l' ≡ l) ⊎ ((removal ≡ true) × (l' ≡ with_generation_raised l))
 
-refused-plainly : {A : Type 0} (r : Answer A) (l : LedgerState) (e : ResourceFault) → (plainly r l).answer ≡ Err e → (plainly r l).after ≡ l
+refused-plainly : {A : Type 0} (r : StepAnswer A) (l : LedgerState) (e : ResourceFault) → (plainly r l).answer ≡ Err e → (plainly r l).after ≡ l
 refused-plainly (Ok w) l e is = absurd (cc)
 refused-plainly (Err e') l e is = refl
 
-refused-inserting : (p : ℕ) (instance : Option ℕ) (dtor : Option ℕ) (r : Answer ℕ) (l : LedgerState) (e : ResourceFault) → (inserting p instance dtor r l).answer ≡ Err e → (inserting p instance dtor r l).after ≡ l
+refused-inserting : (p : ℕ) (instance : Option ℕ) (dtor : Option ℕ) (r : StepAnswer ℕ) (l : LedgerState) (e : ResourceFault) → (inserting p instance dtor r l).answer ≡ Err e → (inserting p instance dtor r l).after ≡ l
 refused-inserting zero instance dtor (Ok w) l e is = absurd (cc)
 refused-inserting zero instance dtor (Err e') l e is = refl
 refused-inserting (suc n) instance dtor r l e is = refused-plainly r l e is
 
-refused-host_removing : {A : Type 0} (b : Bool) (step : Handles → Answer A) (l : LedgerState) (e : ResourceFault) → (host_removing b step l).answer ≡ Err e → OrRaised true l (host_removing b step l).after
+refused-host_removing : {A : Type 0} (b : Bool) (step : Handles → StepAnswer A) (l : LedgerState) (e : ResourceFault) → (host_removing b step l).answer ≡ Err e → OrRaised true l (host_removing b step l).after
 refused-host_removing true step l e is = inl refl
 refused-host_removing false step l e is = inr (refl, refused-plainly (step l.handles) (with_generation_raised l) e is)
 
-refused-removing : {A : Type 0} (p : ℕ) (step : Handles → Answer A) (l : LedgerState) (e : ResourceFault) → (removing p step l).answer ≡ Err e → OrRaised (p == 0) l (removing p step l).after
+refused-removing : {A : Type 0} (p : ℕ) (step : Handles → StepAnswer A) (l : LedgerState) (e : ResourceFault) → (removing p step l).answer ≡ Err e → OrRaised (p == 0) l (removing p step l).after
 refused-removing zero step l e is = refused-host_removing (nat_le last_generation l.host.generation) step l e is
 refused-removing (suc n) step l e is = inl (refused-plainly (step l.handles) l e is)
 

@@ -9,7 +9,7 @@ use Rattle.canon_handles.specs.declared.handle.Entry.{Entry}
 use Rattle.canon_handles.specs.declared.handle.Entry.TheVariants.{ResourceOwn, ResourceBorrow, Stream, Future, ErrorContext, Subtask, WaitableSet}
 use Rattle.canon_handles.specs.declared.error.HandleError.{HandleError}
 use Rattle.canon_handles.specs.Step.{one_if}
-use Rattle.canon_handles.specs.Table.{Table, Counter, Stored, Does, entry_at, with_entry, one_less}
+use Rattle.canon_handles.specs.Table.{Table, Counter, TableState, Does, entry_at, with_entry, one_less}
 use Rattle.canon_handles.specs.Calls.{held_count, lends_of, raw_index, undo_lend_entry, resource_undo_lend}
 use Rattle.canon_handles.proofs.StepLemmas.{some_within}
 use Rattle.canon_ledger.specs.Handles.{Handles, Lender, table_at, with_table, is_lender_of, finished, undone, give_back, on_table, stands}
@@ -70,7 +70,7 @@ module _ (lender : Lender) (lenders : List Lender) (h : Handles) (owed : IsOwed 
       })
 
 -- a call that undoes a lend, on a table of the handles
-pub undone_is : (h : Handles) (p : ℕ) (idx : TypedResourceIndex) (s s' : Stored Entry) (c' : Counter) (r : Result (Unit {0}) HandleError) → s.table ≡ table_at h p → Does (resource_undo_lend s.table h.counter idx) r s s' h.counter c'
+pub undone_is : (h : Handles) (p : ℕ) (idx : TypedResourceIndex) (s s' : TableState Entry) (c' : Counter) (r : Result (Unit {0}) HandleError) → s.table ≡ table_at h p → Does (resource_undo_lend s.table h.counter idx) r s s' h.counter c'
     → undone h (on_table h p (raw_index idx) (λ t c. resource_undo_lend t c idx)) ≡ with_table h p s'.table c'
 undone_is h p idx s s' c' (Ok u) is does = ap (λ (t : Table Entry). undone h (finished h p (raw_index idx) (resource_undo_lend t h.counter idx))) (sym is) ∙ ap (λ w. undone h (finished h p (raw_index idx) w)) does
 undone_is h p idx s s' c' (Err e) is does =
@@ -89,11 +89,11 @@ first_left [] k x e = absurd (cc)
 first_left (y ∷ ys) zero x e = (let d : y ≡ x = cc in ap (λ (z : Lender). z ∷ ys) d)
 first_left (y ∷ ys) (suc k) x e = (let d : suc (k + 1) ≡ suc k + 1 = omega arith in first_left ys k x e ∙ ap (λ (n : ℕ). x ∷ drop n (y ∷ ys)) d)
 
-module _ (tables : List (Stored Entry)) (counter : Counter) (lender : Lender) (lenders : List Lender) (owed : IsOwed (lender ∷ lenders) (handles_of tables counter [])) where
+module _ (tables : List (TableState Entry)) (counter : Counter) (lender : Lender) (lenders : List Lender) (owed : IsOwed (lender ∷ lenders) (handles_of tables counter [])) where
   pub table_within : lender.table < length tables
-  table_within = let h = lender_there_in lender lenders (handles_of tables counter []) owed in let m = length-map tables (λ (s : Stored Entry). s.table) in omega arith
+  table_within = let h = lender_there_in lender lenders (handles_of tables counter []) owed in let m = length-map tables (λ (s : TableState Entry). s.table) in omega arith
 
-  module _ (s : Stored Entry) (read : s ≡ get_or tables lender.table s) where
+  module _ (s : TableState Entry) (read : s ≡ get_or tables lender.table s) where
     pub held_counted : held_count s.table ≤ counter.live
     held_counted = counted tables counter [] lender.table s table_within read owed.counted
 
@@ -103,10 +103,10 @@ module _ (tables : List (Stored Entry)) (counter : Counter) (lender : Lender) (l
         let e = ap (λ (t : Table Entry). lends_of (entry_at t (raw_index lender.index))) (table_read tables counter [] lender.table s table_within read) in
         omega arith
 
-    module _ (s' : Stored Entry) (c' : Counter) (r : Result (Unit {0}) HandleError) (does : Does (resource_undo_lend s.table counter lender.index) r s s' counter c') where
+    module _ (s' : TableState Entry) (c' : Counter) (r : Result (Unit {0}) HandleError) (does : Does (resource_undo_lend s.table counter lender.index) r s s' counter c') where
       next : (scopes : List Context) → handles_of (set tables lender.table s') c' scopes ≡ undone (handles_of tables counter scopes) (on_table (handles_of tables counter scopes) lender.table (raw_index lender.index) (λ t c. resource_undo_lend t c lender.index))
       next scopes =
-          let e = map-set (λ (s : Stored Entry). s.table) tables lender.table s' in
+          let e = map-set (λ (s : TableState Entry). s.table) tables lender.table s' in
           (λ i. record { tables = e i; counter = c'; scopes = map (λ (c : Context). c.scope) scopes })
           ∙ sym (undone_is (handles_of tables counter scopes) lender.table lender.index s s' c' r (sym (table_read tables counter scopes lender.table s table_within read)) does)
 

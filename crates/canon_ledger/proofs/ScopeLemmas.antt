@@ -15,24 +15,24 @@ use Rattle.canon_handles.specs.declared.handle.RemovedResource.TheVariants.{Own,
 use Rattle.canon_handles.specs.declared.error.HandleError.{HandleError}
 use Rattle.canon_handles.specs.declared.error.HandleError.TheVariants.{StillLent}
 use Rattle.canon_handles.specs.Step.{one_if, refuse_if, and_then}
-use Rattle.canon_handles.specs.Table.{Table, Counter, Stored, entry_at, without, one_less, lookup_entry}
+use Rattle.canon_handles.specs.Table.{Table, Counter, TableState, entry_at, without, one_less, lookup_entry}
 use Rattle.canon_handles.specs.Calls.{is_own, raw_index, read_rep, read_removed, rep_as}
 use Rattle.canon_handles.proofs.StepLemmas.{one_if-true, some_within}
 use Rattle.canon_ledger.specs.declared.fault.ResourceFault.TheVariants.{BorrowAsOwn, BorrowsRemain}
-use Rattle.canon_ledger.specs.Handles.{Handles, OpenScope, Answer, IsSound, table_at, scope_at, with_scope, no_scope, number_of, stands, borrows, finished, at_index, inserting_borrow, removing_resource, names_borrow, resource_lift_own, lifted_own, exit_scope, give_back}
+use Rattle.canon_ledger.specs.Handles.{Handles, OpenScope, StepAnswer, IsConsistent, table_at, scope_at, with_scope, no_scope, number_of, stands, borrows, finished, at_index, inserting_borrow, removing_resource, names_borrow, resource_lift_own, lifted_own, exit_scope, give_back}
 use Rattle.canon_ledger.specs.Books.{Context, handles_of}
 use Rattle.canon_ledger.specs.Owed.{IsOwed}
 use Rattle.canon_ledger.proofs.HandlesLemmas.{if_ok-finished, if_ok-insert, removed_cases, there_by_entry, total_after, open_by_count, lenders-with_scope, standing}
 
 -- Scope k is written.
-module _ (tables : List (Stored Entry)) (counter : Counter) (scopes : List Context) (k : ℕ) (x : Context) (within : k < length scopes) (read : x ≡ get_or scopes k x) where
+module _ (tables : List (TableState Entry)) (counter : Counter) (scopes : List Context) (k : ℕ) (x : Context) (within : k < length scopes) (read : x ≡ get_or scopes k x) where
   pub scope_read : scope_at (handles_of tables counter scopes) k ≡ x.scope
   scope_read = get_or-map (λ (c : Context). c.scope) scopes k x no_scope within ∙ ap (λ (c : Context). c.scope) (sym read)
 
   pub scope_written : (y : Context) (s : OpenScope) → y.scope ≡ s → handles_of tables counter (set scopes k y) ≡ with_scope (handles_of tables counter scopes) k s
   scope_written y s e =
       let m = map-set (λ (c : Context). c.scope) scopes k y in
-      (λ i. record { tables = map (λ (t : Stored Entry). t.table) tables; counter = counter; scopes = m i }) ∙ ap (with_scope (handles_of tables counter scopes) k) e
+      (λ i. record { tables = map (λ (t : TableState Entry). t.table) tables; counter = counter; scopes = m i }) ∙ ap (with_scope (handles_of tables counter scopes) k) e
 
   pub scope_changed : (g : OpenScope → OpenScope) (y : Context) → y.scope ≡ g x.scope → handles_of tables counter (set scopes k y) ≡ with_scope (handles_of tables counter scopes) k (g (scope_at (handles_of tables counter scopes) k))
   scope_changed g y e = scope_written y (g (scope_at (handles_of tables counter scopes) k)) (e ∙ ap g (sym scope_read))
@@ -40,12 +40,12 @@ module _ (tables : List (Stored Entry)) (counter : Counter) (scopes : List Conte
   pub scope_same : (y : Context) → y.scope ≡ x.scope → handles_of tables counter (set scopes k y) ≡ handles_of tables counter scopes
   scope_same y e =
       scope_written y (scope_at (handles_of tables counter scopes) k) (e ∙ sym scope_read)
-      ∙ (let m = set-get_or (map (λ (c : Context). c.scope) scopes) k no_scope in λ i. record { tables = map (λ (t : Stored Entry). t.table) tables; counter = counter; scopes = m i })
+      ∙ (let m = set-get_or (map (λ (c : Context). c.scope) scopes) k no_scope in λ i. record { tables = map (λ (t : TableState Entry). t.table) tables; counter = counter; scopes = m i })
 
   pub within_scopes : k < length (handles_of tables counter scopes).scopes
   within_scopes = let m = length-map scopes (λ (c : Context). c.scope) in omega arith
 
-  pub owed_at_exit : IsSound (handles_of tables counter scopes) → IsOwed x.scope.lenders (handles_of tables counter [])
+  pub owed_at_exit : IsConsistent (handles_of tables counter scopes) → IsOwed x.scope.lenders (handles_of tables counter [])
   owed_at_exit s = record {
     counted = (let c = s.live_handles in omega arith);
     lent = λ p i.
@@ -56,7 +56,7 @@ module _ (tables : List (Stored Entry)) (counter : Counter) (scopes : List Conte
         omega arith);
   }
 
-  module _ (none : x.scope.borrow_count ≡ 0) (tables' : List (Stored Entry)) (counter' : Counter) (y : Context) (emptied : y.scope ≡ record { lenders = []; borrow_count = x.scope.borrow_count })
+  module _ (none : x.scope.borrow_count ≡ 0) (tables' : List (TableState Entry)) (counter' : Counter) (y : Context) (emptied : y.scope ≡ record { lenders = []; borrow_count = x.scope.borrow_count })
       (given : (all : List Context) → handles_of tables' counter' all ≡ give_back x.scope.lenders (handles_of tables counter all)) where
     exit_is : exit_scope (Some k) (handles_of tables counter scopes) ≡ Ok (tt, give_back x.scope.lenders (with_scope (handles_of tables counter scopes) k no_scope))
     exit_is =
@@ -89,7 +89,7 @@ borrows_le k (Some (Subtask rep host)) = omega arith
 borrows_le k (Some (WaitableSet rep)) = omega arith
 
 -- a scope counts no more borrow handles than there are live handles
-pub borrow_count_le : (h : Handles) → IsSound h → (k : ℕ) → (scope_at h k).borrow_count ≤ h.counter.live
+pub borrow_count_le : (h : Handles) → IsConsistent h → (k : ℕ) → (scope_at h k).borrow_count ≤ h.counter.live
 borrow_count_le h s k =
     let a = s.borrow_counts k in
     let b = sum_le (λ (t : Table Entry). sum_by (borrows k) t.array) (λ (t : Table Entry). sum_by stands t.array) (λ t. sum_le (borrows k) stands (borrows_le k) t.array) h.tables in
@@ -98,10 +98,10 @@ borrow_count_le h s k =
 
 pub live_inserted : (h : Handles) (p k : ℕ) (r : TypedResource) (i : ℕ) (m : Handles) → inserting_borrow h p r k ≡ Ok (i, m) → m.counter.live ≡ h.counter.live + 1
 live_inserted h p k r i m e =
-    subst (λ (a : Answer ℕ). IfOk a (λ w. w.1.counter.live ≡ h.counter.live + 1)) e
+    subst (λ (a : StepAnswer ℕ). IfOk a (λ w. w.1.counter.live ≡ h.counter.live + 1)) e
     (if_ok-finished (λ (w : ℕ × Handles). w.1.counter.live ≡ h.counter.live + 1) h p 0 _ (if_ok-insert _ (table_at h p) h.counter (ResourceBorrow r (Id k)) (λ room. refl)))
 
-counted_borrow : (h : Handles) (p i k : ℕ) (r : TypedResource) → IsSound h → entry_at (table_at h p) i ≡ Some (ResourceBorrow r (Id k)) → (k < length h.scopes) × (0 < (scope_at h k).borrow_count)
+counted_borrow : (h : Handles) (p i k : ℕ) (r : TypedResource) → IsConsistent h → entry_at (table_at h p) i ≡ Some (ResourceBorrow r (Id k)) → (k < length h.scopes) × (0 < (scope_at h k).borrow_count)
 counted_borrow h p i k r s is =
     let e = ResourceBorrow r (Id k) in
     let t = table_at h p in
@@ -121,12 +121,12 @@ abbrev CountsScope : RemovedResource → Handles → Type 0
 CountsScope (Own rep) h = Unit {0}
 CountsScope (Borrow scope) h = (number_of scope < length h.scopes) × (0 < (scope_at h (number_of scope)).borrow_count)
 
-counted_scope : (h : Handles) (p i : ℕ) (scope : Scope) (r : TypedResource) → IsSound h → entry_at (table_at h p) i ≡ Some (ResourceBorrow r scope) → (number_of scope < length h.scopes) × (0 < (scope_at h (number_of scope)).borrow_count)
+counted_scope : (h : Handles) (p i : ℕ) (scope : Scope) (r : TypedResource) → IsConsistent h → entry_at (table_at h p) i ≡ Some (ResourceBorrow r scope) → (number_of scope < length h.scopes) × (0 < (scope_at h (number_of scope)).borrow_count)
 counted_scope h p i (Id k) r s is = counted_borrow h p i k r s is
 
-pub removed_counts : (h : Handles) (p : ℕ) (idx : TypedResourceIndex) (scope : Scope) (m : Handles) → IsSound h → removing_resource h p idx ≡ Ok (Borrow scope, m) → (number_of scope < length m.scopes) × (0 < (scope_at m (number_of scope)).borrow_count)
+pub removed_counts : (h : Handles) (p : ℕ) (idx : TypedResourceIndex) (scope : Scope) (m : Handles) → IsConsistent h → removing_resource h p idx ≡ Ok (Borrow scope, m) → (number_of scope < length m.scopes) × (0 < (scope_at m (number_of scope)).borrow_count)
 removed_counts h p idx scope m s e =
-    subst (λ (a : Answer RemovedResource). IfOk a (λ w. CountsScope w.0 w.1)) e
+    subst (λ (a : StepAnswer RemovedResource). IfOk a (λ w. CountsScope w.0 w.1)) e
     (if_ok-finished (λ (w : RemovedResource × Handles). CountsScope w.0 w.1) h p (raw_index idx) _
     (removed_cases _ (table_at h p) h.counter idx (entry_at (table_at h p) (raw_index idx)) refl
     (λ r n rep is none. tt)
@@ -135,7 +135,7 @@ removed_counts h p idx scope m s e =
 -- Borrow handles that are not lifted as own ones
 
 module _ (h : Handles) (p i : ℕ) (t : Table Entry) (c : Counter) (idx : TypedResourceIndex) where
-  removing_from : Result RemovedResource HandleError → Answer RemovedResource
+  removing_from : Result RemovedResource HandleError → StepAnswer RemovedResource
   removing_from r = finished h p i (and_then r (λ a. Ok (a, without t i, one_less c)))
 
   lifted_by_rep : (scope : Scope) (r : Result ℕ HandleError) → is_ok (at_index i r) && true ≡ true
@@ -159,7 +159,7 @@ module _ (h : Handles) (p i : ℕ) (t : Table Entry) (c : Counter) (idx : TypedR
   lifted_borrow (Some (WaitableSet rep)) e = absurd (cc)
 
   -- a borrow handle was removed
-  abbrev took_borrow : Answer RemovedResource → Bool
+  abbrev took_borrow : StepAnswer RemovedResource → Bool
   took_borrow (Ok (Own rep, m)) = false
   took_borrow (Ok (Borrow scope, m)) = true
   took_borrow (Err e) = false

@@ -5,10 +5,10 @@ use Rattle.canon_handles.specs.declared.handle.CurrentScope.TheVariants as curre
 use Rattle.canon_handles.specs.declared.handle.Scope.TheVariants.{Id}
 use Rattle.canon_handles.specs.declared.handle.Entry.{Entry}
 use Rattle.canon_handles.specs.declared.handle.TypedResourceIndex.{TypedResourceIndex}
-use Rattle.canon_handles.specs.Table.{Counter, Stored}
+use Rattle.canon_handles.specs.Table.{Counter, TableState}
 use Rattle.canon_ledger.specs.declared.host.TableSlot.{TableSlot}
 use Rattle.canon_ledger.specs.declared.fault.ResourceFault.{ResourceFault}
-use Rattle.canon_ledger.specs.Handles.{Handles, Lender, OpenScope, IsSound}
+use Rattle.canon_ledger.specs.Handles.{Handles, Lender, OpenScope, IsConsistent}
 use Rattle.canon_ledger.specs.Ledger.{LedgerState, HostIndexes, IsHostSound, Done, with_slot, raised, last_generation}
 
 -- A scope, with a number of lends that need no memory.
@@ -34,7 +34,7 @@ indexes_of slots generation = record { slots = slots; generation = generation }
 abbrev pub no_indexes : ℕ → HostIndexes
 no_indexes generation = record { slots = None ∷ []; generation = generation }
 
-abbrev pub handles_of : List (Stored Entry) → Counter → List Context → Handles
+abbrev pub handles_of : List (TableState Entry) → Counter → List Context → Handles
 handles_of tables counter scopes = record { tables = map (λ t. t.table) tables; counter = counter; scopes = map (λ c. c.scope) scopes }
 
 -- the number of a scope
@@ -42,12 +42,12 @@ abbrev pub scope_number : Option CurrentScope → Option ℕ
 scope_number None = None
 scope_number (Some (current.Id (Id k))) = Some k
 
-abbrev pub ledger_of : List (Stored Entry) → Counter → List Context → HostIndexes → LedgerState
+abbrev pub ledger_of : List (TableState Entry) → Counter → List Context → HostIndexes → LedgerState
 ledger_of tables counter scopes host = record { handles = handles_of tables counter scopes; host = host }
 
 -- what every call keeps of a ledger: its laws, the host's table and those of at most 256 instances
 pub record Holds (l : LedgerState) : Type 0 where
-  pub sound : IsSound l.handles
+  pub sound : IsConsistent l.handles
   pub host : IsHostSound l
   pub some : 0 < length l.handles.tables
   pub few : length l.handles.tables ≤ 257

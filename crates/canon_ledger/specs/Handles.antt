@@ -77,15 +77,15 @@ fault_at i error.OutOfMemory = fault.OutOfMemory
 fault_at i _ = fault.NotAResource i
 
 -- what a call answers, with what it leaves
-abbrev pub Answer : Type 0 → Type 0
-Answer A = Result (A × Handles) ResourceFault
+abbrev pub StepAnswer : Type 0 → Type 0
+StepAnswer A = Result (A × Handles) ResourceFault
 
-abbrev pub finished : {A : Type 0} → Handles → ℕ → ℕ → Outcome Entry A → Answer A
+abbrev pub finished : {A : Type 0} → Handles → ℕ → ℕ → Outcome Entry A → StepAnswer A
 finished h p i (Ok (a, t, c)) = Ok (a, with_table h p t c)
 finished h p i (Err e) = Err (fault_at i e)
 
 -- a call on table p, about its index i
-abbrev pub on_table : {A : Type 0} → Handles → ℕ → ℕ → (Table Entry → Counter → Outcome Entry A) → Answer A
+abbrev pub on_table : {A : Type 0} → Handles → ℕ → ℕ → (Table Entry → Counter → Outcome Entry A) → StepAnswer A
 on_table h p i step = finished h p i (step (table_at h p) h.counter)
 
 abbrev pub at_index : {A : Type 0} → ℕ → Result A HandleError → Result A ResourceFault
@@ -122,7 +122,7 @@ set_limit h n = record { tables = h.tables; counter = with_limit h.counter n; sc
 -- Calls on resources
 
 -- canon resource.new, and lower_own
-abbrev pub resource_new : Handles → ℕ → TypedResource → Answer ℕ
+abbrev pub resource_new : Handles → ℕ → TypedResource → StepAnswer ℕ
 resource_new h p resource = on_table h p 0 (λ t c. table.resource_own_insert t c resource)
 
 -- canon resource.rep
@@ -142,12 +142,12 @@ lender_added h k lender = with_scope h k (one_lender_more (scope_at h k) lender)
 abbrev pub number_of : Scope → ℕ
 number_of (Id k) = k
 
-abbrev pub dropped : RemovedResource × Handles → Answer (Option ℕ)
+abbrev pub dropped : RemovedResource × Handles → StepAnswer (Option ℕ)
 dropped (Own rep, h) = Ok (Some rep, h)
 dropped (Borrow scope, h) = Ok (None, borrow_dropped h (number_of scope))
 
 -- a handle is removed, whichever it is
-abbrev pub removing_resource : Handles → ℕ → TypedResourceIndex → Answer RemovedResource
+abbrev pub removing_resource : Handles → ℕ → TypedResourceIndex → StepAnswer RemovedResource
 removing_resource h p idx = on_table h p (raw_index idx) (λ t c. table.remove_resource t c idx)
 
 -- the index names a borrow handle of its type
@@ -155,50 +155,50 @@ abbrev pub names_borrow : Handles → ℕ → TypedResourceIndex → Bool
 names_borrow h p idx = is_ok (resource_rep h p idx) && not (table.is_own (entry_at (table_at h p) (raw_index idx)))
 
 -- canon resource.drop: the representation of a removed own handle
-abbrev pub resource_drop : Handles → ℕ → TypedResourceIndex → Answer (Option ℕ)
+abbrev pub resource_drop : Handles → ℕ → TypedResourceIndex → StepAnswer (Option ℕ)
 resource_drop h p idx = and_then (removing_resource h p idx) dropped
 
-abbrev pub lifted_own : RemovedResource × Handles → Answer ℕ
+abbrev pub lifted_own : RemovedResource × Handles → StepAnswer ℕ
 lifted_own (Own rep, h) = Ok (rep, h)
 lifted_own (Borrow scope, h) = Err fault.BorrowAsOwn
 
 -- lift_own
-abbrev pub resource_lift_own : Handles → ℕ → TypedResourceIndex → Answer ℕ
+abbrev pub resource_lift_own : Handles → ℕ → TypedResourceIndex → StepAnswer ℕ
 resource_lift_own h p idx = and_then (removing_resource h p idx) lifted_own
 
 -- an own handle is lent once more, and what a borrow handle names is told
-abbrev pub lending : Handles → ℕ → TypedResourceIndex → Answer (ℕ × Bool)
+abbrev pub lending : Handles → ℕ → TypedResourceIndex → StepAnswer (ℕ × Bool)
 lending h p idx = on_table h p (raw_index idx) (λ t c. table.resource_lend t c idx)
 
-abbrev pub lent : ℕ → Lender → (ℕ × Bool) × Handles → Answer ℕ
+abbrev pub lent : ℕ → Lender → (ℕ × Bool) × Handles → StepAnswer ℕ
 lent k lender ((rep, true), h) = Ok (rep, lender_added h k lender)
 lent k lender ((rep, false), h) = Ok (rep, h)
 
 -- lift_borrow in a scope that is open, or in none
-abbrev pub lift_borrow_in : Option ℕ → Handles → ℕ → TypedResourceIndex → Answer ℕ
+abbrev pub lift_borrow_in : Option ℕ → Handles → ℕ → TypedResourceIndex → StepAnswer ℕ
 lift_borrow_in (Some k) h p idx = and_then (lending h p idx) (lent k (record { table = p; index = idx }))
 lift_borrow_in None h p idx =
     and_then (resource_rep h p idx) (λ rep.
     refuse_if (table.is_own (entry_at (table_at h p) (raw_index idx))) fault.NoScope
     (Ok (rep, h)))
 
-abbrev pub resource_lift_borrow : Option ℕ → Handles → ℕ → TypedResourceIndex → Answer ℕ
+abbrev pub resource_lift_borrow : Option ℕ → Handles → ℕ → TypedResourceIndex → StepAnswer ℕ
 resource_lift_borrow scope h p idx = lift_borrow_in (opened h scope) h p idx
 
 -- a new borrow handle of scope k
-abbrev pub inserting_borrow : Handles → ℕ → TypedResource → ℕ → Answer ℕ
+abbrev pub inserting_borrow : Handles → ℕ → TypedResource → ℕ → StepAnswer ℕ
 inserting_borrow h p resource k = on_table h p 0 (λ t c. table.resource_borrow_insert t c resource (Id k))
 
-abbrev pub lower_borrow_in : Option ℕ → Handles → ℕ → TypedResource → Answer ℕ
+abbrev pub lower_borrow_in : Option ℕ → Handles → ℕ → TypedResource → StepAnswer ℕ
 lower_borrow_in (Some k) h p resource =
     and_then (inserting_borrow h p resource k) (λ (i, h'). Ok (i, borrow_added h' k))
 lower_borrow_in None h p resource = Err fault.NoScope
 
 -- lower_borrow
-abbrev pub resource_lower_borrow : Option ℕ → Handles → ℕ → TypedResource → Answer ℕ
+abbrev pub resource_lower_borrow : Option ℕ → Handles → ℕ → TypedResource → StepAnswer ℕ
 resource_lower_borrow scope h p resource = lower_borrow_in (opened h scope) h p resource
 
-abbrev pub undone : Handles → Answer (Unit {0}) → Handles
+abbrev pub undone : Handles → StepAnswer (Unit {0}) → Handles
 undone h (Ok (a, h')) = h'
 undone h (Err e) = h
 
@@ -208,14 +208,14 @@ give_back [] h = h
 give_back (lender ∷ lenders) h =
     give_back lenders (undone h (on_table h lender.table (raw_index lender.index) (λ t c. table.resource_undo_lend t c lender.index)))
 
-abbrev pub exit_scope : Option ℕ → Handles → Answer (Unit {0})
+abbrev pub exit_scope : Option ℕ → Handles → StepAnswer (Unit {0})
 exit_scope None h = Err fault.NoScope
 exit_scope (Some k) h =
     refuse_if (not ((scope_at h k).borrow_count == 0)) fault.BorrowsRemain
     (Ok (tt, give_back (scope_at h k).lenders (with_scope h k no_scope)))
 
 -- the end of a call, in which each borrow handle must have been dropped
-abbrev pub validate_scope_exit : Option ℕ → Handles → Answer (Unit {0})
+abbrev pub validate_scope_exit : Option ℕ → Handles → StepAnswer (Unit {0})
 validate_scope_exit scope h = exit_scope (opened h scope) h
 
 -- What holds of the handles of a store
@@ -241,7 +241,7 @@ borrows k (Some (ResourceBorrow resource (Id j))) = one_if (j == k)
 borrows k _ = 0
 
 -- what every step keeps
-pub record IsSound (h : Handles) : Type 0 where
+pub record IsConsistent (h : Handles) : Type 0 where
   pub tables_sound : (p : ℕ) → IsTable (table_at h p)
   -- the live handles are the entries of all tables and the lends
   pub live_handles : h.counter.live ≡ total stands h + total lends_of h
@@ -253,11 +253,11 @@ pub record IsSound (h : Handles) : Type 0 where
 -- Contracts
 
 -- a call on handles answers and leaves what the step does, or wants memory and changes nothing
-abbrev pub Takes : {A : Type 0} → Answer A → Result A ResourceFault → Handles → Handles → Type 0
+abbrev pub Takes : {A : Type 0} → StepAnswer A → Result A ResourceFault → Handles → Handles → Type 0
 Takes step (Ok a) h h' = step ≡ Ok (a, h')
 Takes step (Err e) h h' = ((step ≡ Err e) ⊎ (e ≡ fault.OutOfMemory)) × (h' ≡ h)
 
 -- the same of a call that never wants memory
-abbrev pub TakesSurely : {A : Type 0} → Answer A → Result A ResourceFault → Handles → Handles → Type 0
+abbrev pub TakesSurely : {A : Type 0} → StepAnswer A → Result A ResourceFault → Handles → Handles → Type 0
 TakesSurely step (Ok a) h h' = step ≡ Ok (a, h')
 TakesSurely step (Err e) h h' = (step ≡ Err e) × (h' ≡ h)

@@ -7,13 +7,13 @@ use Rattle.canon_handles.specs.declared.handle.Entry.{Entry}
 use Rattle.canon_handles.specs.declared.handle.Entry.TheVariants.{ResourceOwn, ResourceBorrow}
 use Rattle.canon_ledger.specs.declared.host.TableSlot.{TableSlot}
 use Rattle.canon_ledger.specs.declared.fault.ResourceFault.{ResourceFault}
-use Rattle.canon_ledger.specs.Handles.{IsSound}
+use Rattle.canon_ledger.specs.Handles.{IsConsistent}
 use Rattle.canon_ledger.specs.Index.{GivenIndex}
-use Rattle.canon_ledger.specs.Ledger.{LedgerState, Call, New, Drop, LiftOwn, LowerBorrow, HostLiftOwn, HostLiftBorrow, HostDrop, HostRemove, HostLowerOwn, HostLowerBorrow, do_step, run, raised, slot_at, host_entry, Through, Partway, IsAccepted, IsHostSound, new_ledger}
+use Rattle.canon_ledger.specs.Ledger.{LedgerState, LedgerStep, New, Drop, LiftOwn, LowerBorrow, HostLiftOwn, HostLiftBorrow, HostDrop, HostRemove, HostLowerOwn, HostLowerBorrow, do_step, run, raised, slot_at, host_entry, Through, Partway, IsAccepted, IsHostSound, new_ledger}
 
 -- Refusals
 
-abbrev pub is_host_removal : Call → Bool
+abbrev pub is_host_removal : LedgerStep → Bool
 is_host_removal (Drop p idx) = p == 0
 is_host_removal (LiftOwn p idx) = p == 0
 is_host_removal (HostLiftOwn x) = true
@@ -26,25 +26,25 @@ with_generation_raised l = record { handles = l.handles; host = raised l.host }
 
 -- a refused step leaves the ledger as it was, but for the generation where it was a removal from the host's table
 abbrev pub RefusalsChangeNothing : Type 0
-RefusalsChangeNothing = (call : Call) (l : LedgerState) (e : ResourceFault) → (do_step call l).answer ≡ Err e →
+RefusalsChangeNothing = (call : LedgerStep) (l : LedgerState) (e : ResourceFault) → (do_step call l).answer ≡ Err e →
     let l' = (do_step call l).after in
     (l' ≡ l) ⊎ ((is_host_removal call ≡ true) × (l' ≡ with_generation_raised l))
 
 -- Handles
 
 abbrev pub NewLedgersAreSound : Type 0
-NewLedgersAreSound = (instances limit generation : ℕ) → IsSound (new_ledger instances limit generation).handles × IsHostSound (new_ledger instances limit generation)
+NewLedgersAreSound = (instances limit generation : ℕ) → IsConsistent (new_ledger instances limit generation).handles × IsHostSound (new_ledger instances limit generation)
 
 -- every list of steps keeps the counts of live handles, of lends and of borrows
 abbrev pub StepsKeepHandlesSound : Type 0
-StepsKeepHandlesSound = (calls : List Call) (l : LedgerState) → IsSound l.handles → IsSound (run calls l).handles
+StepsKeepHandlesSound = (calls : List LedgerStep) (l : LedgerState) → IsConsistent l.handles → IsConsistent (run calls l).handles
 
 -- Host indexes
 
 abbrev pub StepsKeepHostSound : Type 0
-StepsKeepHostSound = (calls : List Call) (l : LedgerState) → IsSound l.handles → IsHostSound l → IsHostSound (run calls l)
+StepsKeepHostSound = (calls : List LedgerStep) (l : LedgerState) → IsConsistent l.handles → IsHostSound l → IsHostSound (run calls l)
 
-abbrev pub is_host_insertion : Call → Bool
+abbrev pub is_host_insertion : LedgerStep → Bool
 is_host_insertion (New p resource) = p == 0
 is_host_insertion (LowerBorrow scope p resource) = p == 0
 is_host_insertion (HostLowerOwn rep dtor instance) = true
@@ -52,15 +52,15 @@ is_host_insertion (HostLowerBorrow scope rep) = true
 is_host_insertion _ = false
 
 -- the step is an insertion into the host's table, and gives this index
-pub record Gives (call : Call) (l : LedgerState) (x : GivenIndex) : Type 0 where
+pub record GivesIndex (call : LedgerStep) (l : LedgerState) (x : GivenIndex) : Type 0 where
   pub insertion : is_host_insertion call ≡ true
   pub index : (do_step call l).answer ≡ Ok x.index
   pub generation : x.generation ≡ l.host.generation
 
 -- a host index is accepted only while the entry of the insertion that gave it stands: where it is accepted after more steps, it was accepted all along
 abbrev pub IndexesAnswerForTheirInsertion : Type 0
-IndexesAnswerForTheirInsertion = (l : LedgerState) → IsSound l.handles → IsHostSound l → (call : Call) (x : GivenIndex) → Gives call l x →
-    (calls more : List Call) → IsAccepted x (run (calls ++ more) (do_step call l).after) → IsAccepted x (run calls (do_step call l).after)
+IndexesAnswerForTheirInsertion = (l : LedgerState) → IsConsistent l.handles → IsHostSound l → (call : LedgerStep) (x : GivenIndex) → GivesIndex call l x →
+    (calls more : List LedgerStep) → IsAccepted x (run (calls ++ more) (do_step call l).after) → IsAccepted x (run calls (do_step call l).after)
 
 -- what a handle is of: its resource, and for a borrow handle its scope
 abbrev pub handle_of : Option Entry → Option (TypedResource × Option ℕ)
@@ -69,7 +69,7 @@ handle_of (Some (ResourceBorrow resource (Id k))) = Some (resource, Some k)
 handle_of _ = None
 
 -- what the handle is of that an insertion makes
-abbrev pub inserted : Call → Option (TypedResource × Option ℕ)
+abbrev pub inserted : LedgerStep → Option (TypedResource × Option ℕ)
 inserted (New p resource) = Some (resource, None)
 inserted (LowerBorrow scope p resource) = Some (resource, scope)
 inserted (HostLowerOwn rep dtor instance) = Some (Host rep, None)
@@ -77,22 +77,22 @@ inserted (HostLowerBorrow scope rep) = Some (Host rep, scope)
 inserted _ = None
 
 -- the slot that an insertion into the host's table writes in a generation
-abbrev pub written_slot : Call → ℕ → TableSlot
+abbrev pub written_slot : LedgerStep → ℕ → TableSlot
 written_slot (HostLowerOwn rep dtor instance) generation = record { generation = generation; instance = instance; dtor = dtor }
 written_slot _ generation = record { generation = generation; instance = None; dtor = None }
 
 -- at the index stands the handle of the insertion, but for its lends, with the slot of the insertion
-pub record Names (call : Call) (x : GivenIndex) (l : LedgerState) : Type 0 where
+pub record Names (call : LedgerStep) (x : GivenIndex) (l : LedgerState) : Type 0 where
   pub handle : handle_of (host_entry l x.index) ≡ inserted call
   pub slot : slot_at l.host x.index ≡ Some (written_slot call x.generation)
 
 -- while an index is accepted, it names what its insertion put there: the resource with its type and representation, the scope of a borrow handle, instance and destructor
 abbrev pub IndexesNameTheirInsertion : Type 0
-IndexesNameTheirInsertion = (l : LedgerState) → IsSound l.handles → IsHostSound l → (call : Call) (x : GivenIndex) → Gives call l x →
-    (calls : List Call) → IsAccepted x (run calls (do_step call l).after) → Names call x (run calls (do_step call l).after)
+IndexesNameTheirInsertion = (l : LedgerState) → IsConsistent l.handles → IsHostSound l → (call : LedgerStep) (x : GivenIndex) → GivesIndex call l x →
+    (calls : List LedgerStep) → IsAccepted x (run calls (do_step call l).after) → Names call x (run calls (do_step call l).after)
 
 -- the index by which a step looks for a handle of the host
-abbrev pub accessed : Call → Option GivenIndex
+abbrev pub accessed : LedgerStep → Option GivenIndex
 accessed (HostLiftOwn x) = Some x
 accessed (HostLiftBorrow scope x) = Some x
 accessed (HostDrop x) = Some x
@@ -101,34 +101,34 @@ accessed _ = None
 
 -- a step that looks for a handle by an index and answers Ok accepted the index
 abbrev pub AccessesAccept : Type 0
-AccessesAccept = (call : Call) (x : GivenIndex) (l : LedgerState) (a : ℕ) → accessed call ≡ Some x → (do_step call l).answer ≡ Ok a → IsAccepted x l
+AccessesAccept = (call : LedgerStep) (x : GivenIndex) (l : LedgerState) (a : ℕ) → accessed call ≡ Some x → (do_step call l).answer ≡ Ok a → IsAccepted x l
 
 -- one of the steps is an insertion that gave this index
-pub record IsGivenIn (calls : List Call) (l : LedgerState) (x : GivenIndex) : Type 0 where
-  pub before : List Call
-  pub call : Call
-  pub more : List Call
+pub record IsGivenIn (calls : List LedgerStep) (l : LedgerState) (x : GivenIndex) : Type 0 where
+  pub before : List LedgerStep
+  pub call : LedgerStep
+  pub more : List LedgerStep
   pub split : calls ≡ before ++ call ∷ more
-  pub gives : Gives call (run before l) x
+  pub gives : GivesIndex call (run before l) x
 
 -- from a new ledger, only indexes that insertions gave are accepted
 abbrev pub AcceptedIndexesWereGiven : Type 0
-AcceptedIndexesWereGiven = (instances limit generation : ℕ) (calls : List Call) (x : GivenIndex) →
+AcceptedIndexesWereGiven = (instances limit generation : ℕ) (calls : List LedgerStep) (x : GivenIndex) →
     let l = new_ledger instances limit generation in
     IsAccepted x (run calls l) → IsGivenIn calls l x
 
 -- no later insertion gives the index again
 abbrev pub IndexesAreGivenOnce : Type 0
-IndexesAreGivenOnce = (l : LedgerState) → IsSound l.handles → IsHostSound l → (call : Call) (x : GivenIndex) → Gives call l x →
-    (calls : List Call) (again : Call) → Gives again (run calls (do_step call l).after) x → ⊥
+IndexesAreGivenOnce = (l : LedgerState) → IsConsistent l.handles → IsHostSound l → (call : LedgerStep) (x : GivenIndex) → GivesIndex call l x →
+    (calls : List LedgerStep) (again : LedgerStep) → GivesIndex again (run calls (do_step call l).after) x → ⊥
 
 -- Lists of steps
 
 abbrev pub StepsCompose : Type 0
-StepsCompose = (l m n : LedgerState) (calls more : List Call) → Through l calls m → Through m more n → Through l (calls ++ more) n
+StepsCompose = (l m n : LedgerState) (calls more : List LedgerStep) → Through l calls m → Through m more n → Through l (calls ++ more) n
 
 abbrev pub PartsCompose : Type 0
-PartsCompose = (l m n : LedgerState) (calls more : List Call) → Through l calls m → Partway m more n → Partway l (calls ++ more) n
+PartsCompose = (l m n : LedgerState) (calls more : List LedgerStep) → Through l calls m → Partway m more n → Partway l (calls ++ more) n
 
 abbrev pub WholesAreParts : Type 0
-WholesAreParts = (l m : LedgerState) (calls : List Call) → Through l calls m → Partway l calls m
+WholesAreParts = (l m : LedgerState) (calls : List LedgerStep) → Through l calls m → Partway l calls m

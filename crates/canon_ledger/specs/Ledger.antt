@@ -12,7 +12,7 @@ use Rattle.canon_handles.specs.declared.handle.Entry.{Entry}
 use Rattle.canon_handles.specs.Table.{entry_at, empty_table, max_handle}
 use Rattle.canon_ledger.specs.Handles as handles
 use Rattle.canon_ledger.specs.Index.{GivenIndex}
-use Rattle.canon_ledger.specs.Handles.{Handles, Answer, host_table, table_at}
+use Rattle.canon_ledger.specs.Handles.{Handles, StepAnswer, host_table, table_at}
 
 -- slots has what the host remembers of each index that its table gave, and generation is the current one
 pub record HostIndexes : Type 0 where
@@ -57,22 +57,22 @@ abbrev pub refused : {A : Type 0} → ResourceFault → LedgerState → Done A
 refused e l = record { answer = Err e; after = l }
 
 -- a call that leaves the host's generations
-abbrev pub plainly : {A : Type 0} → Answer A → LedgerState → Done A
+abbrev pub plainly : {A : Type 0} → StepAnswer A → LedgerState → Done A
 plainly (Ok (a, h)) l = record { answer = Ok a; after = record { handles = h; host = l.host } }
 plainly (Err e) l = refused e l
 
 -- an insertion into table p, which at the host's writes the slot of its index
-abbrev pub inserting : ℕ → Option ℕ → Option ℕ → Answer ℕ → LedgerState → Done ℕ
+abbrev pub inserting : ℕ → Option ℕ → Option ℕ → StepAnswer ℕ → LedgerState → Done ℕ
 inserting zero instance dtor (Ok (i, h)) l = record { answer = Ok i; after = record { handles = h; host = with_slot l.host i instance dtor } }
 inserting zero instance dtor (Err e) l = refused e l
 inserting (suc n) instance dtor r l = plainly r l
 
 -- a removal at the host's table, which raises the generation even where it is refused then
-abbrev pub host_removing : {A : Type 0} → Bool → (Handles → Answer A) → LedgerState → Done A
+abbrev pub host_removing : {A : Type 0} → Bool → (Handles → StepAnswer A) → LedgerState → Done A
 host_removing true step l = refused fault.GenerationExhausted l
 host_removing false step l = plainly (step l.handles) (record { handles = l.handles; host = raised l.host })
 
-abbrev pub removing : {A : Type 0} → ℕ → (Handles → Answer A) → LedgerState → Done A
+abbrev pub removing : {A : Type 0} → ℕ → (Handles → StepAnswer A) → LedgerState → Done A
 removing zero step l = host_removing (nat_le last_generation l.host.generation) step l
 removing (suc n) step l = plainly (step l.handles) l
 
@@ -159,23 +159,23 @@ given l d = record { answer = and_then d.answer (λ i. Ok (record { index = i; g
 -- Lists of steps
 
 -- A step of the ledger. The first argument of most is the number of a table.
-pub data Call : Type 0 where
-  Enter : Call
-  Leave : Call
-  SetLimit : ℕ → Call
-  New : ℕ → TypedResource → Call
-  Rep : ℕ → TypedResourceIndex → Call
-  Drop : ℕ → TypedResourceIndex → Call
-  LiftOwn : ℕ → TypedResourceIndex → Call
-  LiftBorrow : Option ℕ → ℕ → TypedResourceIndex → Call
-  LowerBorrow : Option ℕ → ℕ → TypedResource → Call
-  ExitScope : Option ℕ → Call
-  HostLiftOwn : GivenIndex → Call
-  HostLiftBorrow : Option ℕ → GivenIndex → Call
-  HostDrop : GivenIndex → Call
-  HostRemove : GivenIndex → Call
-  HostLowerOwn : ℕ → Option ℕ → Option ℕ → Call
-  HostLowerBorrow : Option ℕ → ℕ → Call
+pub data LedgerStep : Type 0 where
+  Enter : LedgerStep
+  Leave : LedgerStep
+  SetLimit : ℕ → LedgerStep
+  New : ℕ → TypedResource → LedgerStep
+  Rep : ℕ → TypedResourceIndex → LedgerStep
+  Drop : ℕ → TypedResourceIndex → LedgerStep
+  LiftOwn : ℕ → TypedResourceIndex → LedgerStep
+  LiftBorrow : Option ℕ → ℕ → TypedResourceIndex → LedgerStep
+  LowerBorrow : Option ℕ → ℕ → TypedResource → LedgerStep
+  ExitScope : Option ℕ → LedgerStep
+  HostLiftOwn : GivenIndex → LedgerStep
+  HostLiftBorrow : Option ℕ → GivenIndex → LedgerStep
+  HostDrop : GivenIndex → LedgerStep
+  HostRemove : GivenIndex → LedgerStep
+  HostLowerOwn : ℕ → Option ℕ → Option ℕ → LedgerStep
+  HostLowerBorrow : Option ℕ → ℕ → LedgerStep
 
 -- a step that answers nothing
 abbrev pub done : LedgerState → Done ℕ
@@ -200,7 +200,7 @@ leaving true l = done (leave l)
 leaving false l = refused fault.NoScope l
 
 -- what a step does; its answer as a number: the representation or the index, and of a drop what canon resource.drop answers
-abbrev pub do_step : Call → LedgerState → Done ℕ
+abbrev pub do_step : LedgerStep → LedgerState → Done ℕ
 do_step Enter l = done (enter l)
 do_step Leave l = leaving (handles.can_leave l.handles) l
 do_step (SetLimit n) l = done (set_limit l n)
@@ -219,22 +219,22 @@ do_step (HostLowerOwn rep dtor instance) l = host_resource_lower_own l rep dtor 
 do_step (HostLowerBorrow scope rep) l = host_resource_lower_borrow scope l rep
 
 -- the ledger after steps, refused or not
-abbrev pub run : List Call → LedgerState → LedgerState
+abbrev pub run : List LedgerStep → LedgerState → LedgerState
 run [] l = l
 run (call ∷ calls) l = run calls (do_step call l).after
 
 -- what each step answers
-abbrev pub answers : List Call → LedgerState → List (Result ℕ ResourceFault)
+abbrev pub answers : List LedgerStep → LedgerState → List (Result ℕ ResourceFault)
 answers [] l = []
 answers (call ∷ calls) l = (do_step call l).answer ∷ answers calls (do_step call l).after
 
 -- every step is accepted, and the last leaves l'
-abbrev pub Through : LedgerState → List Call → LedgerState → Type 0
+abbrev pub Through : LedgerState → List LedgerStep → LedgerState → Type 0
 Through l [] l' = l' ≡ l
 Through l (call ∷ calls) l' = (a : ℕ) × ((do_step call l).answer ≡ Ok a) × Through (do_step call l).after calls l'
 
 -- the steps are accepted up to some step, and if a step is refused there, l' is what it leaves
-abbrev pub Partway : LedgerState → List Call → LedgerState → Type 0
+abbrev pub Partway : LedgerState → List LedgerStep → LedgerState → Type 0
 Partway l [] l' = l' ≡ l
 Partway l (call ∷ calls) l' =
     (l' ≡ l)

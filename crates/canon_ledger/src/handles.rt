@@ -3,7 +3,7 @@
 ghost use Rattle.std.specs.Prelude.{◌≡◌, ◌<◌, ◌≤◌, ◌+◌, OnErr, OnOk, length, map, List, Some, ℕ, [], ◌++◌, ◌∷◌, take, ◌-◌, slice_index_or};
 ghost use Rattle.canon_handles.specs.Table.{Table, entry_at};
 ghost use Rattle.canon_ledger.specs.Handles as handles;
-ghost use Rattle.canon_ledger.specs.Handles.{fault_at, at_index, give_back, no_scope, table_at, OpenScope, IsSound, Takes, TakesSurely, number_of, scope_at, inserting_borrow, lending, names_borrow, removing_resource};
+ghost use Rattle.canon_ledger.specs.Handles.{fault_at, at_index, give_back, no_scope, table_at, OpenScope, IsConsistent, Takes, TakesSurely, number_of, scope_at, inserting_borrow, lending, names_borrow, removing_resource};
 ghost use Rattle.canon_ledger.specs.Books.{Context, handles_of};
 ghost use Rattle.canon_ledger.specs.Owed.{IsOwed};
 
@@ -67,7 +67,7 @@ impl StoreHandles {
         resource: TypedResource,
     ) -> Result<u32, ResourceFault>
         requires within { table < length self.old.tables.items }
-        requires sound { IsSound (handles_of self.old.tables.items self.old.counter self.old.scopes.items) }
+        requires sound { IsConsistent (handles_of self.old.tables.items self.old.counter self.old.scopes.items) }
         ensures { Takes (handles.resource_new (handles_of self.old.tables.items self.old.counter self.old.scopes.items) table resource) result
             (handles_of self.old.tables.items self.old.counter self.old.scopes.items) (handles_of self.new.tables.items self.new.counter self.new.scopes.items) }
     {
@@ -93,7 +93,7 @@ impl StoreHandles {
         number: u64,
     ) -> Result<u32, ResourceFault>
         requires within { table < length self.old.tables.items }
-        requires sound { IsSound (handles_of self.old.tables.items self.old.counter self.old.scopes.items) }
+        requires sound { IsConsistent (handles_of self.old.tables.items self.old.counter self.old.scopes.items) }
         ensures step { Takes (inserting_borrow (handles_of self.old.tables.items self.old.counter self.old.scopes.items) table resource number) result (handles_of self.old.tables.items self.old.counter self.old.scopes.items) (handles_of self.new.tables.items self.new.counter self.new.scopes.items) }
         ensures scopes { self.new.scopes.items ≡ self.old.scopes.items }
     {
@@ -112,7 +112,7 @@ impl StoreHandles {
     ) -> Result<u32, ResourceFault>
         requires within { table < length self.old.tables.items }
         requires scope_open { number < length self.old.scopes.items }
-        requires sound { IsSound (handles_of self.old.tables.items self.old.counter self.old.scopes.items) }
+        requires sound { IsConsistent (handles_of self.old.tables.items self.old.counter self.old.scopes.items) }
         ensures { Takes (handles.lower_borrow_in (Some number) (handles_of self.old.tables.items self.old.counter self.old.scopes.items) table resource) result (handles_of self.old.tables.items self.old.counter self.old.scopes.items) (handles_of self.new.tables.items self.new.counter self.new.scopes.items) }
     {
         let index = self.insert_entry(table, resource, number)?;
@@ -128,7 +128,7 @@ impl StoreHandles {
         index: TypedResourceIndex,
     ) -> Result<RemovedResource, ResourceFault>
         requires within { table < length self.old.tables.items }
-        requires sound { IsSound (handles_of self.old.tables.items self.old.counter self.old.scopes.items) }
+        requires sound { IsConsistent (handles_of self.old.tables.items self.old.counter self.old.scopes.items) }
         ensures { TakesSurely (removing_resource (handles_of self.old.tables.items self.old.counter self.old.scopes.items) table index) result (handles_of self.old.tables.items self.old.counter self.old.scopes.items) (handles_of self.new.tables.items self.new.counter self.new.scopes.items) }
     {
         let raw = index.raw_index();
@@ -154,7 +154,7 @@ impl StoreHandles {
         index: TypedResourceIndex,
     ) -> Result<Option<u32>, ResourceFault>
         requires within { table < length self.old.tables.items }
-        requires sound { IsSound (handles_of self.old.tables.items self.old.counter self.old.scopes.items) }
+        requires sound { IsConsistent (handles_of self.old.tables.items self.old.counter self.old.scopes.items) }
         ensures { TakesSurely (handles.resource_drop (handles_of self.old.tables.items self.old.counter self.old.scopes.items) table index) result (handles_of self.old.tables.items self.old.counter self.old.scopes.items) (handles_of self.new.tables.items self.new.counter self.new.scopes.items) }
     {
         match self.remove(table, index)? {
@@ -182,7 +182,7 @@ impl StoreHandles {
         index: TypedResourceIndex,
     ) -> Result<u32, ResourceFault>
         requires within { table < length self.old.tables.items }
-        requires sound { IsSound (handles_of self.old.tables.items self.old.counter self.old.scopes.items) }
+        requires sound { IsConsistent (handles_of self.old.tables.items self.old.counter self.old.scopes.items) }
         ensures { TakesSurely (handles.resource_lift_own (handles_of self.old.tables.items self.old.counter self.old.scopes.items) table index) result (handles_of self.old.tables.items self.old.counter self.old.scopes.items) (handles_of self.new.tables.items self.new.counter self.new.scopes.items) }
     {
         let seen = &index;
@@ -213,7 +213,7 @@ impl StoreHandles {
         index: TypedResourceIndex,
     ) -> Result<(u32, bool), ResourceFault>
         requires within { table < length self.old.tables.items }
-        requires sound { IsSound (handles_of self.old.tables.items self.old.counter self.old.scopes.items) }
+        requires sound { IsConsistent (handles_of self.old.tables.items self.old.counter self.old.scopes.items) }
         ensures step { TakesSurely (lending (handles_of self.old.tables.items self.old.counter self.old.scopes.items) table index) result (handles_of self.old.tables.items self.old.counter self.old.scopes.items) (handles_of self.new.tables.items self.new.counter self.new.scopes.items) }
         ensures scopes { self.new.scopes.items ≡ self.old.scopes.items }
     {
@@ -242,7 +242,7 @@ impl StoreHandles {
     ) -> Result<u32, ResourceFault>
         requires within { table < length self.old.tables.items }
         requires scope_open { number < length self.old.scopes.items }
-        requires sound { IsSound (handles_of self.old.tables.items self.old.counter self.old.scopes.items) }
+        requires sound { IsConsistent (handles_of self.old.tables.items self.old.counter self.old.scopes.items) }
         ensures { Takes (handles.lift_borrow_in (Some number) (handles_of self.old.tables.items self.old.counter self.old.scopes.items) table index) result (handles_of self.old.tables.items self.old.counter self.old.scopes.items) (handles_of self.new.tables.items self.new.counter self.new.scopes.items) }
     {
         let seen = &index;
@@ -277,7 +277,7 @@ impl StoreHandles {
     /// lends are given back.
     pub(crate) fn exit(&mut self, number: u64) -> Result<(), ResourceFault>
         requires scope_open { number < length self.old.scopes.items }
-        requires sound { IsSound (handles_of self.old.tables.items self.old.counter self.old.scopes.items) }
+        requires sound { IsConsistent (handles_of self.old.tables.items self.old.counter self.old.scopes.items) }
         ensures { TakesSurely (handles.exit_scope (Some number) (handles_of self.old.tables.items self.old.counter self.old.scopes.items)) result (handles_of self.old.tables.items self.old.counter self.old.scopes.items) (handles_of self.new.tables.items self.new.counter self.new.scopes.items) }
     {
         let context = &mut self.scopes[number as usize];

@@ -4,63 +4,104 @@ use Rattle.std.specs.Int.{◌∣◌}
 use Rattle.std.specs.Prelude.{IsFalse, ⊤}
 use Rattle.std.proofs.lemmas.Nat.Gcd.{dvd_of_mod-eq-zero}
 use Rattle.std.proofs.Math.Nat.{zero-mod}
-use Rattle.canon_model.specs.Homes.{EachHome, IsTextHome, Homes}
-use Rattle.canon_model.specs.Layout.{align, pointer_size, size}
+use Rattle.canon_model.specs.Homes.{EachHome, IsTextHome, Homes, MembersHome}
+use Rattle.canon_model.specs.Layout.{align, members_end, pointer_size, size}
 use Rattle.canon_model.specs.Memory.{Block, InsideBlocks, Within, le_number, length_at, memory_of, num, pointer_at}
-use Rattle.canon_model.specs.Rep.{IsList, IsText, Stored}
-use Rattle.canon_model.specs.Requests.{anew, requests}
-use Rattle.canon_model.specs.Shape.{ListKind, Shape, list, string}
+use Rattle.canon_model.specs.Rep.{IsList, IsText, MembersStored, Stored}
+use Rattle.canon_model.specs.Requests.{anew, members_requests, requests}
+use Rattle.canon_model.specs.Shape.{ListKind, Members, Shape, list, string}
 use Rattle.canon_model.specs.Text.{Encoding, utf8}
-use Rattle.canon_model.specs.Tree.{Tree, Trees, items, tree_count, trees_of}
+use Rattle.canon_model.specs.Tree.{EachAt, Tree, Trees, items, list_of_each, tree_count, trees_of}
 use Rattle.canon_memory.specs.Guest.{Moment, Seen, moment}
 use Rattle.canon_memory.specs.Realloc.{block}
 use Rattle.canon_lowering.specs.Steps.{Writes}
 use Rattle.canon_lowering.specs.Lowering.{Ending, Granted, Reallocated, done}
 use Rattle.canon_lowering.specs.Attempt.{items_call, Aim, Attempt, LowersValue, StoresMembers, StoresValue, members_at, members_span, value_at, value_words}
-use Rattle.canon_lowering.specs.Copies.{copies}
+use Rattle.canon_lowering.specs.Copies.{copies, paired, pairs_of}
 use Rattle.canon_lowering.proofs.AimedAt.{members_framed, points_same, reads_more, reads_same}
 use Rattle.canon_lowering.proofs.AimedWords.{words_framed}
 use Rattle.canon_lowering.proofs.Attempts.{IsFramed, Joins, attempt_block, attempt_then, attempt_ungiven, attempt_write, within_block}
 use Rattle.canon_lowering.proofs.Lowerings.{NotDone}
 use Rattle.canon_lowering.proofs.Copying.{copies_ask, copies_end, copies_home, copies_stored}
+use Rattle.canon_lowering.proofs.Pairing.{at_start, pair_shape, paired_count, pairs_ask, pairs_end, pairs_home, pairs_stored}
 use Rattle.canon_lowering.proofs.WordsKept.{pair_below, ptr_same}
 
 -- ---- the n items of a list, in the block that is asked for
 
-pub list_words : (wide : Bool) (a b c : Moment) (enc : Encoding) (k : ListKind) (s : Shape) (n p : ℕ) (Have : Trees → Type 0) (Has : Tree → Type 0) (e : Ending) → length b.bytes ≤ 2 ^ 32 → (g : Granted a b (items_call wide s n) p)
-    → (IsFalse wide → n < 2 ^ 32) → ((ts : Trees) → Have ts → Has (items ts) × (tree_count ts ≡ n)) → ((t : Tree) → Has t → Have (trees_of t)) → StoresMembers wide b c enc (copies n s) 0 p Have e
+-- Members, so many in all, that lie as the n values of a row do; each value's tree is made of some of theirs.
+pub record MakesRow (wide : Bool) (enc : Encoding) (s : Shape) (n : ℕ) (ms : Members) (all : ℕ) (group : Trees → Trees) : Type 1 where
+  pub room : members_end wide 0 ms ≤ n * size wide s
+  pub count : (ts : Trees) → tree_count ts ≡ all → tree_count (group ts) ≡ n
+  pub asks : (ts : Trees) → tree_count ts ≡ all → list_of_each (λ t. requests wide enc s t) (group ts) ≡ members_requests wide enc ms ts
+  pub home : (pointer : ℕ → ℕ → Type 0) (at : ℕ) (ts : Trees) (xs ys : List ℕ) → tree_count ts ≡ all → MembersHome pointer enc wide ms 0 at ts xs ys
+      → EachHome (λ b t zs vs. Homes pointer enc wide s b t zs vs) (size wide s) at (group ts) xs ys
+  pub stored : (readable : ℕ → ℕ → Type 0) (bytes : List ℕ) (at : ℕ) (ts : Trees) → ((b : ℕ) → at ≤ b → b + size wide s ≤ at + n * size wide s → readable b (size wide s))
+      → MembersStored readable true enc (memory_of bytes wide) ms 0 at ts → EachAt (Stored readable true enc (memory_of bytes wide) s) (size wide s) at (group ts) × (tree_count ts ≡ all)
+
+at_zero : (wide : Bool) (s : Shape) → align wide s ∣ 0
+at_zero wide s = dvd_of_mod-eq-zero (align wide s) (zero-mod _)
+
+pub copies_row : (wide : Bool) (enc : Encoding) (s : Shape) (n : ℕ) → MakesRow wide enc s n (copies n s) n (λ ts. ts)
+copies_row wide enc s n = record {
+  room = omega (arith, copies_end wide n 0 s (at_zero wide s));
+  count = λ ts e. e;
+  asks = copies_ask wide enc n s;
+  home = λ pointer at ts xs ys e h. copies_home wide enc pointer n 0 s at at ts xs ys (at_zero wide s) (omega arith) e h;
+  stored = λ readable bytes at ts r h. copies_stored readable true enc (memory_of bytes wide) n 0 s at at ts (at_zero wide s) (omega arith) h;
+}
+
+pub pairs_row : (wide : Bool) (enc : Encoding) (s u : Shape) (n : ℕ) → MakesRow wide enc (pair_shape s u) n (pairs_of n s u) (n + n) paired
+pairs_row wide enc s u n = record {
+  room = omega (arith, pairs_end wide s u n 0 0 (at_start wide s u));
+  count = paired_count n;
+  asks = pairs_ask wide enc s u n;
+  home = λ pointer at ts xs ys e h. pairs_home wide enc s u pointer n 0 0 at at ts xs ys (at_start wide s u) (omega arith) e h;
+  stored = λ readable bytes at ts r h. pairs_stored readable true enc (memory_of bytes wide) s u n 0 0 at at ts (at_start wide s u) (omega arith) r h;
+}
+
+pub rows_words : (wide : Bool) (a b c : Moment) (enc : Encoding) (k : ListKind) (s : Shape) (n p all : ℕ) (ms : Members) (group : Trees → Trees) (back : Tree → Trees) (row : MakesRow wide enc s n ms all group)
+    (Have : Trees → Type 0) (Has : Tree → Type 0) (e : Ending) → length b.bytes ≤ 2 ^ 32 → (g : Granted a b (items_call wide s n) p) → (IsFalse wide → n < 2 ^ 32)
+    → ((ts : Trees) → Have ts → Has (items (group ts)) × (tree_count ts ≡ all)) → ((t : Tree) → Has t → Have (back t) × (trees_of t ≡ group (back t))) → StoresMembers wide b c enc ms 0 p Have e
     → LowersValue wide a c enc (list k s) (p ∷ n ∷ []) 0 Has e
 unfolding requests
-list_words wide a b c enc k s n p Have Has e small g few to from r =
-    let at0 : align wide s ∣ 0 = dvd_of_mod-eq-zero (align wide s) (zero-mod _) in
-    let span : Within (members_span wide (copies n s) 0 p ∷ []) (block p (n * size wide s) ∷ []) = within_block _ _ _ _ (omega arith) (omega (arith, copies_end wide n 0 s at0)) in
-    attempt_block wide a b c (items_call wide s n) p (members_span wide (copies n s) 0 p ∷ []) (members_at wide enc (copies n s) 0 p Have) (value_words wide enc (list k s) (p ∷ n ∷ []) 0 Has) e refl small g (members_framed wide enc _ 0 p Have)
+rows_words wide a b c enc k s n p all ms group back row Have Has e small g few to from r =
+    let span : Within (members_span wide ms 0 p ∷ []) (block p (n * size wide s) ∷ []) = within_block _ _ _ _ (omega arith) (omega (arith, row.room)) in
+    attempt_block wide a b c (items_call wide s n) p (members_span wide ms 0 p ∷ []) (members_at wide enc ms 0 p Have) (value_words wide enc (list k s) (p ∷ n ∷ []) 0 Has) e refl small g (members_framed wide enc _ 0 p Have)
     span (record {
-      turn = λ ts. items ts;
-      back = λ t. trees_of t;
+      turn = λ ts. items (group ts);
+      back = back;
       is = λ ts is. (to ts is).0;
-      is_back = from;
+      is_back = λ t is. (from t is).0;
       asks = λ t is.
-          let count : tree_count (trees_of t) ≡ n = (to (trees_of t) (from t is)).1 in (
+          let (have, same) = from t is in
+          let all_of : tree_count (back t) ≡ all = (to (back t) have).1 in
+          let count : tree_count (trees_of t) ≡ n = ap tree_count same ∙ row.count (back t) all_of in (
             anew (align wide s) (tree_count (trees_of t) * size wide s),
-            ap (λ rs. anew (align wide s) (tree_count (trees_of t) * size wide s) ∷ rs) (copies_ask wide enc n s (trees_of t) count),
+            ap (λ rs. anew (align wide s) (tree_count (trees_of t) * size wide s) ∷ rs) (ap (λ us. list_of_each (λ u. requests wide enc s u) us) same ∙ row.asks (back t) all_of),
             λ last. ap (λ j. items_call wide s j) (sym count),
           );
       rep = λ blocks ts is w h.
-          let rows = copies_stored (InsideBlocks blocks (memory_of c.bytes wide)) true enc (memory_of c.bytes wide) n 0 s p p ts at0 (omega arith) h in (
-            subst₂ (λ q j. IsList (InsideBlocks blocks (memory_of c.bytes wide)) true enc (memory_of c.bytes wide) (Stored (InsideBlocks blocks (memory_of c.bytes wide)) true enc (memory_of c.bytes wide) s) s q j (items ts))
+          let inside : InsideBlocks blocks (memory_of c.bytes wide) p (n * size wide s) = (omega (arith, g.inside, r.lowering.goes.no_shorter), λ i l u. w i (inl (l, u))) in
+          let rows = row.stored (InsideBlocks blocks (memory_of c.bytes wide)) c.bytes p ts (λ b l u. (omega (arith, u, inside.0), λ i l2 u2. inside.1 i (omega (arith, l, l2)) (omega (arith, u, u2)))) h in (
+            subst₂ (λ q j. IsList (InsideBlocks blocks (memory_of c.bytes wide)) true enc (memory_of c.bytes wide) (Stored (InsideBlocks blocks (memory_of c.bytes wide)) true enc (memory_of c.bytes wide) s) s q j (items (group ts)))
                 (sym (ptr_same wide c.bytes p (λ nar. g.narrow))) (sym (ptr_same wide c.bytes n few)) (record {
-                  trees = ts;
+                  trees = group ts;
                   is = refl;
-                  count = rows.1;
+                  count = row.count ts rows.1;
                   aligned = g.aligned;
-                  inside = (omega (arith, g.inside, r.lowering.goes.no_shorter), λ i l u. w i (inl (l, u)));
+                  inside = inside;
                   each = rows.0;
                 }),
             λ st nar. pair_below p n g.narrow (few nar),
           );
-      home = λ pointer ts xs ys is h. (xs, refl, copies_home wide enc pointer n 0 s p p ts xs ys at0 (omega arith) (to ts is).1 h);
+      home = λ pointer ts xs ys is h. (xs, refl, row.home pointer p ts xs ys (to ts is).1 h);
     }) r
+
+pub list_words : (wide : Bool) (a b c : Moment) (enc : Encoding) (k : ListKind) (s : Shape) (n p : ℕ) (Have : Trees → Type 0) (Has : Tree → Type 0) (e : Ending) → length b.bytes ≤ 2 ^ 32 → (g : Granted a b (items_call wide s n) p)
+    → (IsFalse wide → n < 2 ^ 32) → ((ts : Trees) → Have ts → Has (items ts) × (tree_count ts ≡ n)) → ((t : Tree) → Has t → Have (trees_of t)) → StoresMembers wide b c enc (copies n s) 0 p Have e
+    → LowersValue wide a c enc (list k s) (p ∷ n ∷ []) 0 Has e
+list_words wide a b c enc k s n p Have Has e small g few to from r =
+    rows_words wide a b c enc k s n p n (copies n s) (λ ts. ts) (λ t. trees_of t) (copies_row wide enc s n) Have Has e small g few to (λ t is. (from t is, refl)) r
 
 -- the block isn't given
 pub list_ungiven : (wide : Bool) (a b : Moment) (enc : Encoding) (k : ListKind) (s : Shape) (n p : ℕ) (ws : List ℕ) (i : ℕ) (Has : Tree → Type 0) (e : Ending) → NotDone e → length b.bytes ≤ 2 ^ 32

@@ -9,6 +9,7 @@ pub mod Frames
 pub mod Attempts
 pub mod AimedAt
 pub mod Copying
+pub mod Pairing
 pub mod WordsKept
 pub mod AimedWords
 pub mod AimedPairs

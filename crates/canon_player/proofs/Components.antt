@@ -5,11 +5,11 @@ use Rattle.std.proofs.Math.ListN.{drop_of_length-le}
 use Rattle.std.proofs.lemmas.Option.{get_or_from_slice_get, slice_get_cases, slice_get_within}
 use Rattle.canon_indices.specs.declared.options.CanonicalOptions.{CanonicalOptions}
 use Rattle.canon_types.specs.Table.{Table}
-use Rattle.canon_value.specs.Component.{IsInside, IsSound}
+use Rattle.canon_value.specs.Component.{IsInside, IsComponent}
 use Rattle.canon_value.specs.declared.component.Component.{Component}
 use Rattle.canon_value.specs.declared.component.Export.{Export}
 use Rattle.canon_script.specs.Script.{Play}
-use Rattle.canon_player.specs.Session.{callee_of}
+use Rattle.canon_player.specs.Session.{played_callee}
 use Rattle.canon_player.specs.Stores.{IsScripted, callee_at, export_for, exports_from, options_for, options_from}
 
 -- ---- the lists
@@ -56,7 +56,7 @@ module _ (t : Table) (posts : List Bool) (c : Component) (h : IsScripted t posts
   pub export_count : length c.exports.items ≡ length posts
   export_count = ap length h.exports ∙ exports_len 0 posts
 
-  pub scripted_sound : length posts ≡ length t.funcs → IsSound c
+  pub scripted_sound : length posts ≡ length t.funcs → IsComponent c
   scripted_sound told k d lt =
       let inside : k < length posts = omega (arith, lt, export_count) in
       let e : slice_index_or c.exports.items k d ≡ export_for k = get_or_from_slice_get c.exports.items k (export_for k) d (export_at k inside) in
@@ -66,7 +66,7 @@ module _ (t : Table) (posts : List Bool) (c : Component) (h : IsScripted t posts
 
 -- an export of the component is the function of the script
 pub scripted_callee : (play : Play) (c : Component) → IsScripted play.types play.posts c → length play.posts ≡ length play.types.funcs
-    → (i : ℕ) → i < length play.types.funcs → callee_at c i ≡ callee_of play i
+    → (i : ℕ) → i < length play.types.funcs → callee_at c i ≡ played_callee play i
 scripted_callee play c h told i lt =
     let inside : i < length play.posts = omega (arith, lt, told) in
     let e : 0 + i ≡ i = omega arith in

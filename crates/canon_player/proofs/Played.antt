@@ -7,7 +7,7 @@ use Rattle.std.proofs.lemmas.List.{length-map, with_items_is}
 use Rattle.std.proofs.lemmas.Option.{none-some}
 use Rattle.canon_memory.specs.declared.event.Event.{Event}
 use Rattle.canon_memory.specs.Guest.{Moment, Recorded, Seen, of_guest}
-use Rattle.canon_scripted.specs.Scripted.{Does, Doing, Moves, seen_of, traps_after}
+use Rattle.canon_scripted.specs.Scripted.{CarriesOut, Doing, ScriptMoves, seen_of, traps_after}
 use Rattle.canon_value.specs.Core.{Parts, guest_of, moment_of}
 use Rattle.canon_value.specs.declared.fault.Fault.{Fault}
 use Rattle.canon_value.specs.declared.fault.Fault.TheVariants as fault
@@ -18,12 +18,12 @@ use Rattle.canon_func.specs.Stores.{Callee, Named, callee_of}
 use Rattle.canon_func.specs.declared.error.Error.{Error}
 use Rattle.canon_func.specs.declared.error.Error.TheVariants as error
 use Rattle.canon_script.specs.Literals.{literal_view, literals_view}
-use Rattle.canon_script.specs.Script.{Call}
+use Rattle.canon_script.specs.Script.{ScriptCall}
 use Rattle.canon_transcript.specs.declared.transcript.Answer.{Answer}
 use Rattle.canon_transcript.specs.declared.transcript.Answer.TheVariants as answer
 use Rattle.canon_transcript.specs.declared.transcript.Head.TheVariants as head
 use Rattle.canon_transcript.specs.declared.transcript.Record.{Record}
-use Rattle.canon_player.specs.Session.{Happened, IsPlayed, State, Stays, WasCalled, outcome, plan_of, values_of}
+use Rattle.canon_player.specs.Session.{Happened, IsPlayed, State, LeavesSame, WasCalled, outcome, plan_of, answer_values}
 use Rattle.canon_player.specs.Session as session
 use Rattle.canon_player.specs.Stores.{ScriptStore, callee_at, state_of, with_plan}
 
@@ -67,6 +67,10 @@ on_answered (Err (error.Fault f)) P n p = by f n p
     by fault.OutOfMemory n p = absurd (n refl)
     by (fault.TypeMismatch k) n p = p
     by (fault.FieldName k) n p = p
+    by (fault.UnknownCase k) n p = p
+    by (fault.UnknownFlag k) n p = p
+    by (fault.PayloadExpected k) n p = p
+    by (fault.PayloadNotExpected k) n p = p
     by (fault.LengthMismatch k) n p = p
     by (fault.StringTooLong k) n p = p
     by (fault.SizeOverflow k) n p = p
@@ -77,12 +81,13 @@ on_answered (Err (error.Fault f)) P n p = by f n p
     by (fault.PointerOutOfBounds a) n p = p
     by (fault.InvalidUtf8 a) n p = p
     by (fault.InvalidChar a) n p = p
+    by (fault.BadDiscriminant a d) n p = p
     by fault.HostcallFuelExhausted n p = p
 
 -- the same call, with its results said another way
 recalled : (callee : Callee) (fuel : ℕ) (params : List Val) (before after : Moment) (called : Result (Unit {0}) Error) (results others : List Val) (events : List Event) →
-    OnOk called (others ≡ results) → IsCall Stays callee fuel params before after called results events → IsCall Stays callee fuel params before after called others events
-recalled callee fuel params before after (Ok x) results others events e h = subst (λ (vs : List Val). IsCall Stays callee fuel params before after (Ok x) vs events) (sym e) h
+    OnOk called (others ≡ results) → IsCall LeavesSame callee fuel params before after called results events → IsCall LeavesSame callee fuel params before after called others events
+recalled callee fuel params before after (Ok x) results others events e h = subst (λ (vs : List Val). IsCall LeavesSame callee fuel params before after (Ok x) vs events) (sym e) h
 recalled callee fuel params before after (Err x) results others events e h = record {
   one_run = h.one_run;
   prefix = h.prefix;
@@ -117,12 +122,12 @@ journaled j = record (seen_of j.guest) { journal = Some j.events; shortages = j.
 -- what the call ensures once the guest was entered
 abbrev pub Entered : Callee → List Val → ScriptStore → ScriptStore → Result (Unit {0}) Error → List Val → Type 0
 Entered callee params loaded left called results = Adding (moment_of journaled loaded.core) (moment_of journaled left.core)
-    (λ events. OnAnswered called (Moves (of_guest (guest_of loaded.core)) events (of_guest (guest_of left.core))))
-    (λ events. IsCall Stays callee loaded.core.fuel params (moment_of journaled loaded.core) (moment_of journaled left.core) called results events)
+    (λ events. OnAnswered called (ScriptMoves (of_guest (guest_of loaded.core)) events (of_guest (guest_of left.core))))
+    (λ events. IsCall LeavesSame callee loaded.core.fuel params (moment_of journaled loaded.core) (moment_of journaled left.core) called results events)
 
-module _ (callee : Callee) (call : Call) (r : Record) (s left : ScriptStore) (params results : List Val) (called : Result (Unit {0}) Error)
+module _ (callee : Callee) (call : ScriptCall) (r : Record) (s left : ScriptStore) (params results : List Val) (called : Result (Unit {0}) Error)
     (empty : s.core.guest.events ≡ []) (events : r.events ≡ left.core.guest.events)
-    (out : outcome r.answer ≡ called) (vals : OnOk called (values_of r.answer ≡ results)) (short : called ≢ Err (error.Fault fault.OutOfMemory))
+    (out : outcome r.answer ≡ called) (vals : OnOk called (answer_values r.answer ≡ results)) (short : called ≢ Err (error.Fault fault.OutOfMemory))
     (their : literals_view params ≡ call.params) where
   abbrev pub loaded : ScriptStore
   loaded = with_plan s (plan_of call s.core.guest.guest.plan.allocator)
@@ -135,22 +140,22 @@ module _ (callee : Callee) (call : Call) (r : Record) (s left : ScriptStore) (pa
       let fuel = s.core.fuel in
       let gained : left.core.guest.events ≡ s.core.guest.events ++ entered.events = ap (λ o. unwrap_or o []) entered.added in
       let all : r.events ≡ entered.events = events ∙ (gained ∙ ap (λ (es : List Event). es ++ entered.events) empty) in
-      let one : IsCall Stays callee fuel params (session.moment_of before []) (session.moment_of after left.core.guest.events) called results entered.events =
-      subst (λ (es : List Event). IsCall Stays callee fuel params (session.moment_of before es) (session.moment_of after left.core.guest.events) called results entered.events) empty entered.so in
-      let two : IsCall Stays callee fuel params (session.moment_of before []) (session.moment_of after r.events) called results entered.events =
-      subst (λ (es : List Event). IsCall Stays callee fuel params (session.moment_of before []) (session.moment_of after es) called results entered.events) (sym events) one in
-      let three : IsCall Stays callee fuel params (session.moment_of before []) (session.moment_of after r.events) called results r.events =
-      subst (λ (es : List Event). IsCall Stays callee fuel params (session.moment_of before []) (session.moment_of after r.events) called results es) (sym all) two in
-      let four : IsCall Stays callee fuel params (session.moment_of before []) (session.moment_of after r.events) called (values_of r.answer) r.events =
-      recalled callee fuel params (session.moment_of before []) (session.moment_of after r.events) called results (values_of r.answer) r.events vals three in
-      let moved : Moves (of_guest (guest_of loaded.core)) entered.events (of_guest (guest_of left.core)) = on_answered called _ short (entered.moves refl) in
+      let one : IsCall LeavesSame callee fuel params (session.moment_of before []) (session.moment_of after left.core.guest.events) called results entered.events =
+      subst (λ (es : List Event). IsCall LeavesSame callee fuel params (session.moment_of before es) (session.moment_of after left.core.guest.events) called results entered.events) empty entered.so in
+      let two : IsCall LeavesSame callee fuel params (session.moment_of before []) (session.moment_of after r.events) called results entered.events =
+      subst (λ (es : List Event). IsCall LeavesSame callee fuel params (session.moment_of before []) (session.moment_of after es) called results entered.events) (sym events) one in
+      let three : IsCall LeavesSame callee fuel params (session.moment_of before []) (session.moment_of after r.events) called results r.events =
+      subst (λ (es : List Event). IsCall LeavesSame callee fuel params (session.moment_of before []) (session.moment_of after r.events) called results es) (sym all) two in
+      let four : IsCall LeavesSame callee fuel params (session.moment_of before []) (session.moment_of after r.events) called (answer_values r.answer) r.events =
+      recalled callee fuel params (session.moment_of before []) (session.moment_of after r.events) called results (answer_values r.answer) r.events vals three in
+      let moved : ScriptMoves (of_guest (guest_of loaded.core)) entered.events (of_guest (guest_of left.core)) = on_answered called _ short (entered.moves refl) in
       record {
         params = params;
         params_are = their;
-        called = subst (λ (a : Result (Unit {0}) Error). IsCall Stays callee fuel params (session.moment_of before []) (session.moment_of after r.events) a (values_of r.answer) r.events) (sym out) four;
+        called = subst (λ (a : Result (Unit {0}) Error). IsCall LeavesSame callee fuel params (session.moment_of before []) (session.moment_of after r.events) a (answer_values r.answer) r.events) (sym out) four;
         left = left.core.guest.guest.plan;
         new_marks = moved.new_marks;
-        does = subst (λ (es : List Event). Does (plan_of call before.allocator) (length before.memory) es moved.new_marks left.core.guest.guest.plan (length after.memory)) (sym all) moved.does;
+        does = subst (λ (es : List Event). CarriesOut (plan_of call before.allocator) (length before.memory) es moved.new_marks left.core.guest.guest.plan (length after.memory)) (sym all) moved.does;
         allocator = refl;
         marks = moved.marks;
         traps = subst (λ (es : List Event). after.traps ≡ traps_after before.traps es) (sym all) moved.traps;
@@ -200,7 +205,7 @@ kept_results (Ok x) v ws vs e h = h ∙ with_items_is v ws e
 kept_results (Err x) v ws vs e h = tt
 
 -- the store with the guest loaded
-pub loaded_is : (call : Call) (s : ScriptStore) (core : Parts (Unit {0}) (Recorded Doing)) (told : Recorded Doing) (guest after : Doing) → core ≡ s.core → told ≡ core.guest → guest ≡ told.guest
+pub loaded_is : (call : ScriptCall) (s : ScriptStore) (core : Parts (Unit {0}) (Recorded Doing)) (told : Recorded Doing) (guest after : Doing) → core ≡ s.core → told ≡ core.guest → guest ≡ told.guest
     → after ≡ record guest { plan = plan_of call guest.plan.allocator }
     → record { core = record core { guest = record told { guest = after } }; trapped = s.trapped } ≡ with_plan s (plan_of call s.core.guest.guest.plan.allocator)
 loaded_is call s core told guest after a b c d = simp (d, c, b, a)
@@ -212,16 +217,16 @@ taken_is left core told after a b c = simp (c, b, a)
 
 -- The store is `s` before the guest is loaded, `before` when the function is called, `left` as the call leaves it, and `final` once
 -- the journal is taken.
-module _ (call : Call) (r : Record) (s before left final : ScriptStore) (f : Named) (params results : List Val) (slots : Vec Val Global) (called : Result (Unit {0}) Error) where
+module _ (call : ScriptCall) (r : Record) (s before left final : ScriptStore) (f : Named) (params results : List Val) (slots : Vec Val Global) (called : Result (Unit {0}) Error) where
   pub record_is : s.core.guest.events ≡ [] → before ≡ with_plan s (plan_of call s.core.guest.guest.plan.allocator) → f.export ≡ call.func → state_of final ≡ state_of left
       → literals_view params ≡ call.params → length slots.items ≡ call.slots
       → refused_by called ≡ refusal (callee_of before f) (length params) (length slots.items) before.trapped → IfSome (refused_by called) (λ e. left ≡ before)
       → (IsNone (refused_by called) → Entered (callee_of before f) params before left called results) → OnOk called (left.trapped ≡ before.trapped) → (IsNone (refused_by called) → OnErr called (left.trapped ≡ true))
       → r.head ≡ head.Call call.func → r.live ≡ 0 → r.events ≡ left.core.guest.events → outcome r.answer ≡ called
-      → length results ≡ slots.len → OnOk called (values_of r.answer ≡ (with_items slots results).items) → called ≢ Err (error.Fault fault.OutOfMemory)
+      → length results ≡ slots.len → OnOk called (answer_values r.answer ≡ (with_items slots results).items) → called ≢ Err (error.Fault fault.OutOfMemory)
       → IsPlayed (callee_at s.core.component call.func) s.core.fuel call (state_of s) (state_of final) r
   record_is empty is export end their count why same entered runs traps hd lv events out many vals short =
       let it : callee_of before f ≡ callee_at s.core.component call.func = ap (λ (k : ScriptStore). callee_of k f) is ∙ ap (λ n. callee_at s.core.component n) export in
       let one : IsPlayed (callee_of before f) s.core.fuel call (state_of s) (state_of left) r =
-      played (callee_of before f) call r s left params results called empty events out (kept_results called slots results (values_of r.answer) many vals) short their before (length slots.items) hd lv is count why same entered runs traps in
+      played (callee_of before f) call r s left params results called empty events out (kept_results called slots results (answer_values r.answer) many vals) short their before (length slots.items) hd lv is count why same entered runs traps in
       subst (λ (d : Callee). IsPlayed d s.core.fuel call (state_of s) (state_of final) r) it (subst (λ (k : State). IsPlayed (callee_of before f) s.core.fuel call (state_of s) k r) (sym end) one)

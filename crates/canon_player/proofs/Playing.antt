@@ -7,10 +7,10 @@ use Rattle.canon_types.specs.Table.{HasFunc}
 use Rattle.canon_types.specs.declared.types.TypeFunc.{TypeFunc}
 use Rattle.canon_value.specs.declared.component.Component.{Component}
 use Rattle.canon_func.specs.Stores.{Callee, IsCallable}
-use Rattle.canon_script.specs.Script.{Call, IsBuilt, IsSound, Play, item_view}
+use Rattle.canon_script.specs.Script.{ScriptCall, IsBuiltFunc, IsWellFormed, Play, item_view}
 use Rattle.canon_script.specs.declared.script.Item.{Item}
 use Rattle.canon_transcript.specs.declared.transcript.Record.{Record}
-use Rattle.canon_player.specs.Session.{IsPlayed, Plays, Session, State, at_first, callee_of}
+use Rattle.canon_player.specs.Session.{IsPlayed, Plays, Session, State, at_first, played_callee}
 use Rattle.canon_player.specs.Stores.{IsPlayable, IsScripted, ScriptStore, callee_at, fresh_store, state_of}
 use Rattle.canon_player.proofs.Components.{export_count, found, scripted_callee}
 
@@ -63,7 +63,7 @@ playing_last first items now left records e h =
 -- ---- a script
 
 -- calls of the same callees
-plays_same : (callees others : ℕ → Callee) (fuel : ℕ) (calls : List Call) (s : State) (records : List Record) → All (λ (c : Call). callees c.func ≡ others c.func) calls → Plays callees fuel calls s records
+plays_same : (callees others : ℕ → Callee) (fuel : ℕ) (calls : List ScriptCall) (s : State) (records : List Record) → All (λ (c : ScriptCall). callees c.func ≡ others c.func) calls → Plays callees fuel calls s records
     → Plays others fuel calls s records
 plays_same callees others fuel [] s [] same h = tt
 plays_same callees others fuel [] s (r ∷ records) same h = h
@@ -71,30 +71,30 @@ plays_same callees others fuel (call ∷ calls) s [] same h = h
 plays_same callees others fuel (call ∷ calls) s (r ∷ records) same (after, played, rest) = (
   after,
   subst (λ (d : Callee). IsPlayed d fuel call s after r) (same 0 call (omega arith)) played,
-  plays_same callees others fuel calls after records (All-tail (λ (c : Call). callees c.func ≡ others c.func) call calls same) rest,
+  plays_same callees others fuel calls after records (All-tail (λ (c : ScriptCall). callees c.func ≡ others c.func) call calls same) rest,
 )
 
-module _ (play : Play) (c : Component) (store : ScriptStore) (posts : List Bool) (sound : IsSound play) (told : posts ≡ play.posts) (built_so : IsScripted play.types posts c) (fresh : store ≡ fresh_store play.memory play.heap play.fuel c) where
+module _ (play : Play) (c : Component) (store : ScriptStore) (posts : List Bool) (sound : IsWellFormed play) (told : posts ≡ play.posts) (built_so : IsScripted play.types posts c) (fresh : store ≡ fresh_store play.memory play.heap play.fuel c) where
   h : IsScripted play.types play.posts c
   h = subst (λ (ps : List Bool). IsScripted play.types ps c) told built_so
 
-  known : (call : Call) → HasFunc play.types call.func → callee_at c call.func ≡ callee_of play call.func
+  known : (call : ScriptCall) → HasFunc play.types call.func → callee_at c call.func ≡ played_callee play call.func
   known call there = scripted_callee play c h sound.posts_told call.func there
 
-  session : (s : State) (records : List Record) → Plays (callee_at c) play.fuel play.calls s records → Plays (callee_of play) play.fuel play.calls s records
-  session s records p = plays_same (callee_at c) (callee_of play) play.fuel play.calls s records (λ k d lt. known (slice_index_or play.calls k d) (sound.calls_known k d lt)) p
+  session : (s : State) (records : List Record) → Plays (callee_at c) play.fuel play.calls s records → Plays (played_callee play) play.fuel play.calls s records
+  session s records p = plays_same (callee_at c) (played_callee play) play.fuel play.calls s records (λ k d lt. known (slice_index_or play.calls k d) (sound.calls_known k d lt)) p
 
-  built : (i : ℕ) (f : TypeFunc) → slice_get play.types.funcs i ≡ Some f → HasFunc play.types i → IsBuilt play.types f
-  built i f e there = subst (IsBuilt play.types) (get_or_from_slice_get play.types.funcs i f f e) (sound.funcs_built i f there)
+  built : (i : ℕ) (f : TypeFunc) → slice_get play.types.funcs i ≡ Some f → HasFunc play.types i → IsBuiltFunc play.types f
+  built i f e there = subst (IsBuiltFunc play.types) (get_or_from_slice_get play.types.funcs i f f e) (sound.funcs_built i f there)
 
   playable : All (IsPlayable c) play.calls
   playable k d lt =
       let call = slice_index_or play.calls k d in
       let there : HasFunc play.types call.func = sound.calls_known k d lt in
       let (f, func) = found play.types.funcs call.func there in
-      let b : IsBuilt play.types f = built call.func f func there in
+      let b : IsBuiltFunc play.types f = built call.func f func there in
       let it = known call there in
-      let can : IsCallable (callee_of play call.func) = rw func (record { params = b.params; results = b.results }) in
+      let can : IsCallable (played_callee play call.func) = rw func (record { params = b.params; results = b.results }) in
       record {
         export = omega (arith, there, sound.posts_told, export_count play.types play.posts c h);
         callee = subst IsCallable (sym it) can;

@@ -7,7 +7,7 @@ use Rattle.canon_types.specs.declared.types.TypeFunc.{TypeFunc}
 use Rattle.canon_memory.specs.declared.event.Event.{Event}
 use Rattle.canon_memory.specs.Guest.{Mark, Moment, moment}
 use Rattle.canon_scripted.specs.Allocator.{Allocator}
-use Rattle.canon_scripted.specs.Scripted.{Does, Plan, traps_after}
+use Rattle.canon_scripted.specs.Scripted.{CarriesOut, Plan, traps_after}
 use Rattle.canon_value.specs.declared.fault.Fault.TheVariants as fault
 use Rattle.canon_value.specs.declared.val.Val.{Val}
 use Rattle.canon_func.specs.Call.{IsCall, refusal}
@@ -15,7 +15,7 @@ use Rattle.canon_func.specs.Stores.{Callee}
 use Rattle.canon_func.specs.declared.error.Error.{Error}
 use Rattle.canon_func.specs.declared.error.Error.TheVariants as error
 use Rattle.canon_script.specs.Literals.{literals_view}
-use Rattle.canon_script.specs.Script.{Call, Play}
+use Rattle.canon_script.specs.Script.{ScriptCall, Play}
 use Rattle.canon_transcript.specs.declared.transcript.Answer.{Answer}
 use Rattle.canon_transcript.specs.declared.transcript.Answer.TheVariants as answer
 use Rattle.canon_transcript.specs.declared.transcript.Head.TheVariants as head
@@ -40,8 +40,8 @@ callee_with play i (Some f) = record {
 }
 
 -- function i of the script: its core function has the same number
-abbrev pub callee_of : Play → ℕ → Callee
-callee_of play i = callee_with play i (slice_get play.types.funcs i)
+abbrev pub played_callee : Play → ℕ → Callee
+played_callee play i = callee_with play i (slice_get play.types.funcs i)
 
 -- ---- the store between two calls
 
@@ -71,7 +71,7 @@ abbrev pub moment_of : State → List Event → Moment
 moment_of s events = moment (record { journal = Some events; marks = s.marks; live = s.allocator.live; traps = s.traps; shortages = s.shortages }) s.memory
 
 -- what the guest is to do in a call
-abbrev pub plan_of : Call → Allocator → Plan
+abbrev pub plan_of : ScriptCall → Allocator → Plan
 plan_of call allocator = record { actions = call.guest; reallocs = call.reallocs; post_trap = call.post_trap; dtor_trap = false; allocator = allocator }
 
 -- ---- a call
@@ -81,25 +81,25 @@ abbrev pub outcome : Answer → Result (Unit {0}) Error
 outcome (answer.Ok results) = Ok tt
 outcome (answer.Err e) = Err e
 
-abbrev pub values_of : Answer → List Val
-values_of (answer.Ok results) = results.items
-values_of (answer.Err e) = []
+abbrev pub answer_values : Answer → List Val
+answer_values (answer.Ok results) = results.items
+answer_values (answer.Err e) = []
 
 -- a scripted post-return and a destructor leave memory as it was
-abbrev pub Stays : List ℕ → List ℕ → Type 0
-Stays memory after = after ≡ memory
+abbrev pub LeavesSame : List ℕ → List ℕ → Type 0
+LeavesSame memory after = after ≡ memory
 
 -- The guest was entered, and acted by its plan in its memory, from the length before to the length after; its traps are counted;
 -- the results were lifted with this fuel; the store is trapped where the call was refused. After an answer that is Ok, memory is
 -- that of the return; after a refusal nothing reads its bytes, since every later call is refused. The memory that the run has
 -- sufficed.
-pub record WasCalled (callee : Callee) (fuel : ℕ) (call : Call) (before after : State) (r : Record) : Type 0 where
+pub record WasCalled (callee : Callee) (fuel : ℕ) (call : ScriptCall) (before after : State) (r : Record) : Type 0 where
   pub params : List Val
   pub params_are : literals_view params ≡ call.params
-  pub called : IsCall Stays callee fuel params (moment_of before []) (moment_of after r.events) (outcome r.answer) (values_of r.answer) r.events
+  pub called : IsCall LeavesSame callee fuel params (moment_of before []) (moment_of after r.events) (outcome r.answer) (answer_values r.answer) r.events
   pub left : Plan
   pub new_marks : List Mark
-  pub does : Does (plan_of call before.allocator) (length before.memory) r.events new_marks left (length after.memory)
+  pub does : CarriesOut (plan_of call before.allocator) (length before.memory) r.events new_marks left (length after.memory)
   pub allocator : after.allocator ≡ left.allocator
   pub marks : after.marks ≡ before.marks ++ new_marks
   pub traps : after.traps ≡ traps_after before.traps r.events
@@ -107,12 +107,12 @@ pub record WasCalled (callee : Callee) (fuel : ℕ) (call : Call) (before after 
   pub sufficed : r.answer ≢ answer.Err (error.Fault fault.OutOfMemory)
 
 -- It was refused before the guest was entered, which leaves everything as it was; else it was called.
-abbrev pub Happened : Callee → ℕ → Call → State → State → Record → Option Error → Type 0
+abbrev pub Happened : Callee → ℕ → ScriptCall → State → State → Record → Option Error → Type 0
 Happened callee fuel call before after r (Some e) = (r.answer ≡ answer.Err e) × (r.events ≡ []) × (after ≡ before)
 Happened callee fuel call before after r None = WasCalled callee fuel call before after r
 
 -- The record of a call of this callee with this fuel, and the store before and after it. No handle lives.
-pub record IsPlayed (callee : Callee) (fuel : ℕ) (call : Call) (before after : State) (r : Record) : Type 0 where
+pub record IsPlayed (callee : Callee) (fuel : ℕ) (call : ScriptCall) (before after : State) (r : Record) : Type 0 where
   pub head : r.head ≡ head.Call call.func
   pub happened : Happened callee fuel call before after r (refusal callee (length call.params) call.slots before.trapped)
   pub live : r.live ≡ 0
@@ -120,7 +120,7 @@ pub record IsPlayed (callee : Callee) (fuel : ℕ) (call : Call) (before after :
 -- ---- all calls
 
 -- one record for each call of one of these callees, in order, from one state of the store on; each call has this fuel anew
-abbrev pub Plays : (ℕ → Callee) → ℕ → List Call → State → List Record → Type 0
+abbrev pub Plays : (ℕ → Callee) → ℕ → List ScriptCall → State → List Record → Type 0
 Plays callees fuel [] before [] = ⊤
 Plays callees fuel (call ∷ calls) before (r ∷ records) = (after : State) × IsPlayed (callees call.func) fuel call before after r × Plays callees fuel calls after records
 Plays callees fuel [] before (r ∷ records) = ⊥
@@ -128,4 +128,4 @@ Plays callees fuel (call ∷ calls) before [] = ⊥
 
 -- what a script's session leaves in the transcript
 abbrev pub Session : Play → List Record → Type 0
-Session play records = Plays (callee_of play) play.fuel play.calls (at_first play) records
+Session play records = Plays (played_callee play) play.fuel play.calls (at_first play) records

@@ -9,8 +9,8 @@ use Rattle.canon_scripted.specs.Orders.{AreNarrow}
 use Rattle.canon_scripted.specs.Scripted.{Doing, Plan}
 use Rattle.canon_value.specs.declared.component.Component.{Component}
 use Rattle.canon_value.specs.declared.component.Export.{Export}
-use Rattle.canon_func.specs.Stores.{Callee, IsCallable, Stored, callee_in}
-use Rattle.canon_script.specs.Script.{Call}
+use Rattle.canon_func.specs.Stores.{Callee, IsCallable, StoreView, callee_in}
+use Rattle.canon_script.specs.Script.{ScriptCall}
 use Rattle.canon_player.specs.Session.{State, post_of}
 
 -- ---- its component
@@ -47,7 +47,7 @@ abbrev pub callee_at : Component → ℕ → Callee
 callee_at component i = callee_in component (slice_get component.exports.items i)
 
 -- The call is one of a function that can be called so far; each ordered answer is below 2 ^ 32.
-pub record IsPlayable (component : Component) (call : Call) : Type 0 where
+pub record IsPlayable (component : Component) (call : ScriptCall) : Type 0 where
   pub export : call.func < length component.exports.items
   pub callee : IsCallable (callee_at component call.func)
   pub orders : AreNarrow call.reallocs
@@ -55,7 +55,7 @@ pub record IsPlayable (component : Component) (call : Call) : Type 0 where
 -- ---- its state
 
 abbrev pub ScriptStore : Type 0
-ScriptStore = Stored (Unit {0}) (Recorded Doing)
+ScriptStore = StoreView (Unit {0}) (Recorded Doing)
 
 -- no call was made
 abbrev pub fresh_store : ℕ → ℕ → ℕ → Component → ScriptStore

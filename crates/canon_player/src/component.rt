@@ -2,7 +2,7 @@
 
 ghost use Rattle.std.specs.Prelude.{◌≡◌, ◌≤◌, length, IfOk};
 ghost use Rattle.canon_types.specs.Table.{HasFunc};
-ghost use Rattle.canon_value.specs.Component.{IsSound};
+ghost use Rattle.canon_value.specs.Component.{IsComponent};
 ghost use Rattle.canon_player.specs.Stores.{IsScripted, fresh_store, options_for};
 
 use canon_func::Store;
@@ -30,7 +30,7 @@ pub(crate) fn component_of(
 ) -> Result<Component, OutOfMemory>
     requires told { length posts.now ≡ length types.funcs }
     requires few { length types.funcs ≤ 1048576 }
-    ensures sound { IfOk result IsSound }
+    ensures sound { IfOk result IsComponent }
     ensures scripted { IfOk result (IsScripted types posts.now) }
 {
     let mut options = Vec::new(alloc);
@@ -73,7 +73,7 @@ pub(crate) fn store_of(
     heap: u64,
     fuel: u64,
 ) -> Result<ScriptStore, OutOfMemory>
-    requires { IsSound component }
+    requires { IsComponent component }
     ensures { IfOk result (λ store. store ≡ fresh_store memory heap fuel component) }
 {
     let Ok(memory) = Memory::new(alloc, memory) else {

@@ -1,6 +1,6 @@
 ghost use Rattle.std.specs.Prelude.{◌≡◌, ◌≢◌, [], All, Err, IfOk, OnErr, OnOk, length, map};
-ghost use Rattle.canon_script.specs.Script.{IsSound, call_item_view, item_view, play_of};
-ghost use Rattle.canon_player.specs.Session.{IsPlayed, Plays, Session, outcome, values_of};
+ghost use Rattle.canon_script.specs.Script.{IsWellFormed, call_item_view, item_view, play_of};
+ghost use Rattle.canon_player.specs.Session.{IsPlayed, Plays, Session, outcome, answer_values};
 ghost use Rattle.canon_player.specs.Stores.{IsPlayable, callee_at, state_of, with_plan};
 
 use crate::component::{ScriptStore, component_of, store_of};
@@ -14,7 +14,7 @@ use std::alloc::Global;
 /// Plays a script, and adds a record for each of its calls. Want of memory leaves the transcript empty.
 pub fn play(alloc: Global, script: Script, transcript: &mut Transcript) -> Result<(), OutOfMemory>
     requires empty { transcript.old ≡ [] }
-    requires sound { IsSound (play_of script) }
+    requires sound { IsWellFormed (play_of script) }
     ensures ok { OnOk result (Session (play_of script) transcript.new) }
     ensures err { OnErr result (transcript.new ≡ transcript.old) }
 {
@@ -111,7 +111,7 @@ fn slots_of(alloc: Global, slots: u64) -> Result<Vec<Val>, OutOfMemory>
 /// The answer of a call that left these results.
 fn answer_of(called: Result<(), Error>, results: Vec<Val>) -> Result<Answer, OutOfMemory>
     ensures outcome { IfOk result (λ answer. outcome answer ≡ called) }
-    ensures values { IfOk result (λ answer. OnOk called (values_of answer ≡ results.items)) }
+    ensures values { IfOk result (λ answer. OnOk called (answer_values answer ≡ results.items)) }
     ensures memory_left { IfOk result (λ answer. called ≢ Err (Error.Fault Fault.OutOfMemory)) }
 {
     match called {

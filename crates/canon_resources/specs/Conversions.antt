@@ -10,7 +10,7 @@ use Rattle.canon_resources.specs.declared.host.ResourceState.{ResourceState}
 use Rattle.canon_resources.specs.declared.host.ResourceState.TheVariants as state
 use Rattle.canon_resources.specs.declared.any.ResourceAnyHandle.{ResourceAnyHandle}
 use Rattle.canon_resources.specs.declared.any.ResourceAnyHandle.TheVariants as handle
-use Rattle.canon_resources.specs.Held.{Held, held, Any, any}
+use Rattle.canon_resources.specs.Held.{HostHandle, held, Any, any}
 
 -- an answer that leaves the ledger
 abbrev pub answered : {A : Type 0} → A → LedgerState → Done A
@@ -24,13 +24,13 @@ into_any state.Taken rep ty l = refused fault.HostConsumed l
 into_any (state.Index x) rep ty l = answered (any (handle.Own x) ty) l
 
 -- out of a resource that tells its type, where that is d
-abbrev pub out_of : {D : Type 0} → D → ResourceAnyHandle → LedgerState → Done (Held D)
+abbrev pub out_of : {D : Type 0} → D → ResourceAnyHandle → LedgerState → Done (HostHandle D)
 out_of d (handle.Own x) l = mapped (λ rep. held state.NotInTable rep d) (ledger.host_resource_lift_own l x)
 out_of d (handle.Borrow x) l = mapped (λ rep. held state.Borrow rep d) (ledger.host_resource_remove l x)
 out_of d (handle.Synthetic rep) l = answered (held state.Borrow rep d) l
 
 -- and where it may not be of the wanted type
-abbrev pub from_any : {D : Type 0} → Option D → ResourceAnyHandle → LedgerState → Done (Held D)
+abbrev pub from_any : {D : Type 0} → Option D → ResourceAnyHandle → LedgerState → Done (HostHandle D)
 from_any (Some d) h l = out_of d h l
 from_any None h l = refused fault.ResourceTypeMismatch l
 

@@ -8,12 +8,12 @@ use Rattle.canon_resources.specs.declared.any.ResourceAnyHandle.{ResourceAnyHand
 use Rattle.canon_resources.specs.declared.any.ResourceAnyHandle.TheVariants as handle
 
 -- a resource that the host holds: its representation, its type, and where its handle is
-pub record Held (D : Type 0) : Type 0 where
+pub record HostHandle (D : Type 0) : Type 0 where
   pub rep : ℕ
   pub ty : D
   pub state : ResourceState
 
-abbrev pub held : {D : Type 0} → ResourceState → ℕ → D → Held D
+abbrev pub held : {D : Type 0} → ResourceState → ℕ → D → HostHandle D
 held state rep ty = record { rep = rep; ty = ty; state = state }
 
 -- each is an own handle but a borrow

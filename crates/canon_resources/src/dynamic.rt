@@ -45,10 +45,10 @@ pub struct ResourceDynamic {
 }
 
 impl Model for ResourceDynamic {
-    ghost use Rattle.canon_resources.specs.Held.{Held};
+    ghost use Rattle.canon_resources.specs.Held.{HostHandle};
     ghost use Rattle.std.specs.Prelude.{ℕ};
 
-    ghost Value = { Held ℕ };
+    ghost Value = { HostHandle ℕ };
 
     ghost view = { λ r. r.inner };
 }

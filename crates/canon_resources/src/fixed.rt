@@ -47,9 +47,9 @@ pub struct Resource<T> {
 }
 
 impl<T> Model for Resource<T> {
-    ghost use Rattle.canon_resources.specs.Held.{Held};
+    ghost use Rattle.canon_resources.specs.Held.{HostHandle};
 
-    ghost Value = { Held (Unit {0}) };
+    ghost Value = { HostHandle (Unit {0}) };
 
     ghost view = { λ r. r.inner };
 }

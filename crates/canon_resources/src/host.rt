@@ -58,9 +58,9 @@ pub struct HostResource<T, D> {
 }
 
 impl<T, D> Model for HostResource<T, D> {
-    ghost use Rattle.canon_resources.specs.Held.{Held};
+    ghost use Rattle.canon_resources.specs.Held.{HostHandle};
 
-    ghost Value = { Held D };
+    ghost Value = { HostHandle D };
 
     ghost view = { λ r. record { rep = r.rep; ty = r.ty; state = r.state } };
 }

@@ -1,6 +1,7 @@
+pub mod Built
+pub mod Cases
 pub mod Funcs
 pub mod Members
-pub mod Ready
 pub mod Sound
 pub mod Views
 pub mod Work

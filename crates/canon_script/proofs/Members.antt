@@ -1,18 +1,18 @@
 -- Values are read member by member.
-use Rattle.std.proofs.Common.{◌≡◌, ◌<◌, ◌≤◌, ◌+◌, ◌++◌, ℕ, zero, suc, List, [], ◌∷◌, length, drop, None, Some, Option, Err, slice_get, option_map, option_and_then, Result, Ok, MatchResult, IsOkAnd, Vec, Global, refl, sym, ap, subst, ◌∙◌, arith, append_assoc, append-nil}
+use Rattle.std.proofs.Common.{◌≡◌, ◌<◌, ◌≤◌, ◌+◌, ◌++◌, ℕ, zero, suc, List, [], ◌∷◌, length, drop, map, None, Some, Option, Err, slice_get, option_map, option_and_then, Result, Ok, MatchResult, IsOkAnd, Vec, Global, refl, sym, ap, subst, ◌∙◌, arith, append_assoc, append-nil}
 use Rattle.std.proofs.Math.ListN.{drop_of_length-le, get_or}
 use Rattle.std.proofs.lemmas.List.{at_drop_more}
 use Rattle.serde_json.specs.Data.{Data, null, boolean, number, string, array, object, Items, no_items, item, no_members, member, depth, items_depth}
 use Rattle.serde_json.specs.Find.{as_array, as_object, as_str}
 use Rattle.serde_json.specs.View.{items_view, view}
 use Rattle.serde_json.specs.declared.value.Value.{Value}
-use Rattle.canon_json.specs.Json.{Gives, only_member, two}
+use Rattle.canon_json.specs.Json.{Gives, each_of, only_member, two}
 use Rattle.canon_json.specs.declared.error.ScriptError.{ScriptError}
 use Rattle.canon_json.specs.declared.error.ScriptError.TheVariants as refused
 use Rattle.canon_model.specs.Shape.{Name}
 use Rattle.canon_value.specs.declared.val.Val.{Val}
-use Rattle.canon_script.specs.Literals.{Literal, Literals, fields, fields_of, fixed, list, literal_view, literals_of, literals_view, tuple}
-use Rattle.canon_script.specs.Values.{field_of, fields_in, value_kind_named, only_char, scalar_by, value_by, value_of, values_of}
+use Rattle.canon_script.specs.Literals.{Literal, enum, fields, fields_of, fixed, flags, list, literal_view, literals_of, pairs, pairs_of, text, tuple}
+use Rattle.canon_script.specs.Values.{field_of, fields_in, pairs_in, value_kind_named, only_char, scalar_by, value_by, value_of, values_of}
 use Rattle.canon_script.specs.declared.kinds.ValueKind.{ValueKind}
 use Rattle.canon_script.specs.declared.kinds.ValueKind.TheVariants as kind
 
@@ -66,45 +66,77 @@ ends : {A : Type 0} (F : List Value → Option (List A)) (us : List Value) (k : 
 ends F us k done nil past inv =
     ap (λ xs. Some xs) (sym (append-nil done)) ∙ (ap (option_map (λ xs. done ++ xs)) (sym (ap F (drop_of_length-le us past) ∙ nil)) ∙ inv)
 
-values_by : (d : Data) (ds : Items) (o : Option (List Literal)) → Some ds ≡ as_array d → values_of ds ≡ o → option_and_then values_of (as_array d) ≡ o
-values_by d ds o e is = ap (option_and_then values_of) (sym e) ∙ is
+-- a list that is read item by item
+abbrev Lists : {A : Type 0} → (Items → Option (List A)) → (Data → Option A) → Type 0
+Lists F f = (d : Data) (ds : Items) → F (item d ds) ≡ option_and_then (λ x. option_map (λ xs. x ∷ xs) (F ds)) (f d)
 
-pub values_end : (d : Data) (vs us : List Value) (k : ℕ) (done : List Literal) → Some (items_view vs) ≡ as_array d → us ≡ vs → length us ≤ k
-    → option_map (λ xs. done ++ xs) (values_of (items_view (drop k us))) ≡ values_of (items_view us) → option_and_then values_of (as_array d) ≡ Some done
-values_end d vs us k done e same past inv =
-    values_by d (items_view vs) (Some done) e (ap (λ ws. values_of (items_view ws)) (sym same) ∙ sym (ends (λ ws. values_of (items_view ws)) us k done refl past inv))
+array_by : {A : Type 0} (F : Items → Option (List A)) (d : Data) (ds : Items) (o : Option (List A)) → Some ds ≡ as_array d → F ds ≡ o → option_and_then F (as_array d) ≡ o
+array_by F d ds o e is = ap (option_and_then F) (sym e) ∙ is
+
+pub array_end : {A : Type 0} (F : Items → Option (List A)) (d : Data) (vs us : List Value) (k : ℕ) (done : List A) → F no_items ≡ Some [] → Some (items_view vs) ≡ as_array d → us ≡ vs → length us ≤ k
+    → option_map (λ xs. done ++ xs) (F (items_view (drop k us))) ≡ F (items_view us) → option_and_then F (as_array d) ≡ Some done
+array_end F d vs us k done nil e same past inv =
+    array_by F d (items_view vs) (Some done) e (ap (λ ws. F (items_view ws)) (sym same) ∙ sym (ends (λ ws. F (items_view ws)) us k done nil past inv))
 
 -- the next item has no value, so the array has none
-no_values : (us : List Value) (k : ℕ) (x : Value) (done : List Literal) → k < length us → x ≡ get_or us k x → value_of (view x) ≡ None
-    → option_map (λ xs. done ++ xs) (values_of (items_view (drop k us))) ≡ values_of (items_view us) → values_of (items_view us) ≡ None
-no_values us k x done lt at none inv =
-    let rest = values_of (items_view (drop (k + 1) us)) in
-    let first : values_of (items_view (drop k us)) ≡ None =
-    at_drop_more (λ ws. values_of (items_view ws)) us k x lt ∙ ap (option_and_then (λ y. option_map (λ ys. y ∷ ys) rest)) (ap (λ (y : Value). value_of (view y)) (sym at) ∙ none) in
+no_list : {A : Type 0} (F : Items → Option (List A)) (f : Data → Option A) (us : List Value) (k : ℕ) (x : Value) (done : List A) → Lists F f → k < length us → x ≡ get_or us k x → f (view x) ≡ None
+    → option_map (λ xs. done ++ xs) (F (items_view (drop k us))) ≡ F (items_view us) → F (items_view us) ≡ None
+no_list F f us k x done lists lt at none inv =
+    let rest = F (items_view (drop (k + 1) us)) in
+    let first : F (items_view (drop k us)) ≡ None =
+    at_drop_more (λ ws. F (items_view ws)) us k x lt ∙ (lists _ _ ∙ ap (option_and_then (λ y. option_map (λ ys. y ∷ ys) rest)) (ap (λ (y : Value). f (view y)) (sym at) ∙ none)) in
     sym inv ∙ ap (option_map (λ xs. done ++ xs)) first
 
-pub values_refused : (e : ScriptError) (d : Data) (vs us : List Value) (k : ℕ) (x : Value) (done : List Literal) → Some (items_view vs) ≡ as_array d → us ≡ vs → k < length us → x ≡ get_or us k x
-    → option_map (λ xs. done ++ xs) (values_of (items_view (drop k us))) ≡ values_of (items_view us)
-    → Gives {X = Val} literal_view (Err e) (value_of (view x)) → Gives {X = Vec Val Global} (λ values. literals_view values.items) (Err e) (option_and_then values_of (as_array d))
-values_refused refused.BadScript d vs us k x done is same lt at inv h =
-    values_by d (items_view vs) None is (ap (λ ws. values_of (items_view ws)) (sym same) ∙ no_values us k x done lt at h inv)
-values_refused refused.OutOfMemory d vs us k x done is same lt at inv h = tt
+pub array_refused : {A X : Type 0} (F : Items → Option (List A)) (f : Data → Option A) (seen : X → A) (e : ScriptError) (d : Data) (vs us : List Value) (k : ℕ) (x : Value) (done : List A) → Lists F f
+    → Some (items_view vs) ≡ as_array d → us ≡ vs → k < length us → x ≡ get_or us k x → option_map (λ xs. done ++ xs) (F (items_view (drop k us))) ≡ F (items_view us)
+    → Gives {X = X} seen (Err e) (f (view x)) → Gives {X = Vec X Global} (λ xs. map seen xs.items) (Err e) (option_and_then F (as_array d))
+array_refused F f seen refused.BadScript d vs us k x done lists is same lt at inv h =
+    array_by F d (items_view vs) None is (ap (λ ws. F (items_view ws)) (sym same) ∙ no_list F f us k x done lists lt at h inv)
+array_refused F f seen refused.OutOfMemory d vs us k x done lists is same lt at inv h = tt
 
--- ---- lists and tuples
+one_more : {A : Type 0} (done new : List A) (x : A) (o : Option (List A)) → new ≡ done ++ x ∷ [] → option_map (λ xs. new ++ xs) o ≡ option_map (λ xs. done ++ xs) (option_map (λ xs. x ∷ xs) o)
+one_more done new x None e = refl
+one_more done new x (Some xs) e = ap (λ ys. Some ys) (ap (λ ys. ys ++ xs) e ∙ append_assoc done (x ∷ []) xs)
 
-same_refusal : (seen : Literals → Literal) (o : Option (List Literal)) (p : Option Literal) (e : ScriptError) → p ≡ option_map (λ xs. seen (literals_of xs)) o
-    → Gives {X = Vec Val Global} (λ values. literals_view values.items) (Err e) o → Gives {X = Val} literal_view (Err e) p
-same_refusal seen o p refused.BadScript is given = is ∙ ap (option_map (λ xs. seen (literals_of xs))) given
-same_refusal seen o p refused.OutOfMemory is given = tt
+pub array_step : {A : Type 0} (F : Items → Option (List A)) (f : Data → Option A) (us : List Value) (k : ℕ) (x : Value) (done new : List A) (a : A) → Lists F f → k < length us → x ≡ get_or us k x → f (view x) ≡ Some a → new ≡ done ++ a ∷ []
+    → option_map (λ xs. done ++ xs) (F (items_view (drop k us))) ≡ F (items_view us) → option_map (λ xs. new ++ xs) (F (items_view (drop (k + 1) us))) ≡ F (items_view us)
+array_step F f us k x done new a lists lt at is grown inv =
+    let rest = F (items_view (drop (k + 1) us)) in
+    let first : F (items_view (drop k us)) ≡ option_map (λ xs. a ∷ xs) rest =
+    at_drop_more (λ ws. F (items_view ws)) us k x lt ∙ (lists _ _ ∙ ap (option_and_then (λ y. option_map (λ ys. y ∷ ys) rest)) (ap (λ (y : Value). f (view y)) (sym at) ∙ is)) in
+    one_more done new a rest grown ∙ (ap (option_map (λ xs. done ++ xs)) (sym first) ∙ inv)
 
--- a value is made of the values of an array, where there are any
-pub made_of : (make : Vec Val Global → Val) (seen : Literals → Literal) (o : Option (List Literal)) (p : Option Literal) (r : Result (Vec Val Global) ScriptError) (v : Result Val ScriptError)
-    → p ≡ option_map (λ xs. seen (literals_of xs)) o → ((values : Vec Val Global) → literal_view (make values) ≡ seen (literals_of (literals_view values.items)))
-    → Gives (λ values. literals_view values.items) r o → MatchResult r (λ values. IsOkAnd v (λ x. x ≡ make values)) (λ e. v ≡ Err e) → Gives literal_view v p
-made_of make seen o p (Ok values) (Ok x) is shown given made =
-    is ∙ (ap (option_map (λ xs. seen (literals_of xs))) given ∙ ap (λ y. Some y) (sym (ap literal_view made ∙ shown values)))
-made_of make seen o p (Ok values) (Err e) is shown given made = absurd made
-made_of make seen o p (Err e) v is shown given made = subst (λ (w : Result Val ScriptError). Gives literal_view w p) (sym made) (same_refusal seen o p e is given)
+-- ---- values made of what was read
+
+same_refusal : {A X : Type 0} (seen : X → A) (wrap : A → Literal) (o : Option A) (p : Option Literal) (e : ScriptError) → p ≡ option_map wrap o
+    → Gives {X = X} seen (Err e) o → Gives {X = Val} literal_view (Err e) p
+same_refusal seen wrap o p refused.BadScript is given = is ∙ ap (option_map wrap) given
+same_refusal seen wrap o p refused.OutOfMemory is given = tt
+
+-- a value is made of what was read, where that was there
+pub made_of : {A X : Type 0} (make : X → Val) (seen : X → A) (wrap : A → Literal) (o : Option A) (p : Option Literal) (r : Result X ScriptError) (v : Result Val ScriptError)
+    → p ≡ option_map wrap o → ((x : X) → literal_view (make x) ≡ wrap (seen x))
+    → Gives seen r o → MatchResult r (λ x. IsOkAnd v (λ y. y ≡ make x)) (λ e. v ≡ Err e) → Gives literal_view v p
+made_of make seen wrap o p (Ok x) (Ok y) is shown given made =
+    is ∙ (ap (option_map wrap) given ∙ ap (λ z. Some z) (sym (ap literal_view made ∙ shown x)))
+made_of make seen wrap o p (Ok x) (Err e) is shown given made = absurd made
+made_of make seen wrap o p (Err e) v is shown given made = subst (λ (w : Result Val ScriptError). Gives literal_view w p) (sym made) (same_refusal seen wrap o p e is given)
+
+pub text_by : (d : Data) → value_by d kind.String ≡ option_map text (as_str d)
+text_by (string s) = refl
+text_by d = refl
+
+pub enum_by : (d : Data) → value_by d kind.Enum ≡ option_map enum (as_str d)
+enum_by (string s) = refl
+enum_by d = refl
+
+pub flags_by : (d : Data) → value_by d kind.Flags ≡ option_map flags (each_of as_str d)
+flags_by (array ds) = refl
+flags_by d = refl
+
+pub map_by : (d : Data) → value_by d kind.Map ≡ option_map (λ ps. pairs (pairs_of ps)) (option_and_then pairs_in (as_array d))
+map_by (array ds) = refl
+map_by d = refl
 
 pub list_by : (d : Data) → value_by d kind.List ≡ option_map (λ xs. list (literals_of xs)) (option_and_then values_of (as_array d))
 list_by (array ds) = refl
@@ -135,20 +167,28 @@ field_is (array (item a (item b no_items))) n f name v e s is =
 field_is (array (item a (item b (item c ds)))) n f name v e s is = absurd (cc)
 field_is (object ms) n f name v e s is = absurd (cc)
 
-one_more : {A : Type 0} (done new : List A) (x : A) (o : Option (List A)) → new ≡ done ++ x ∷ [] → option_map (λ xs. new ++ xs) o ≡ option_map (λ xs. done ++ xs) (option_map (λ xs. x ∷ xs) o)
-one_more done new x None e = refl
-one_more done new x (Some xs) e = ap (λ ys. Some ys) (ap (λ ys. ys ++ xs) e ∙ append_assoc done (x ∷ []) xs)
-
 pub field_step : (done new : List (Name × Literal)) (us : List Value) (k : ℕ) (x : Value) (n f : Data) (name : Name) (v : Literal) → k < length us → x ≡ get_or us k x
     → Some (n, f) ≡ two (view x) → Some name ≡ as_str n → value_of f ≡ Some v → new ≡ done ++ (name, v) ∷ []
     → option_map (λ fs. done ++ fs) (fields_in (items_view (drop k us))) ≡ fields_in (items_view us)
     → option_map (λ fs. new ++ fs) (fields_in (items_view (drop (k + 1) us))) ≡ fields_in (items_view us)
 field_step done new us k x n f name v lt at pair named is grown inv =
-    let rest = fields_in (items_view (drop (k + 1) us)) in
-    let first : fields_in (items_view (drop k us)) ≡ option_map (λ fs. (name, v) ∷ fs) rest =
-    at_drop_more (λ ws. fields_in (items_view ws)) us k x lt
-    ∙ ap (option_and_then (λ g. option_map (λ fs. g ∷ fs) rest)) (ap (λ (y : Value). field_of (view y)) (sym at) ∙ field_is (view x) n f name v pair named is) in
-    one_more done new (name, v) rest grown ∙ (ap (option_map (λ fs. done ++ fs)) (sym first) ∙ inv)
+    array_step fields_in field_of us k x done new (name, v) (λ d ds. refl) lt at (field_is (view x) n f name v pair named is) grown inv
+
+-- the value of a field is none, so the field isn't one
+no_field : (d n f : Data) (name : Name) → Some (n, f) ≡ two d → Some name ≡ as_str n → value_of f ≡ None → field_of d ≡ None
+no_field null n f name e s is = refl
+no_field (boolean y) n f name e s is = refl
+no_field (number m) n f name e s is = refl
+no_field (string t) n f name e s is = refl
+no_field (array no_items) n f name e s is = refl
+no_field (array (item a no_items)) n f name e s is = absurd (cc)
+no_field (array (item a (item b no_items))) n f name e s is =
+    let p : (n, f) ≡ (a, b) = pair_is (n, f) (a, b) e in
+    let sa : as_str a ≡ Some name = sym (ap (λ (q : Data × Data). as_str q.0) p) ∙ sym s in
+    let vb : value_of b ≡ None = sym (ap (λ (q : Data × Data). value_of q.1) p) ∙ is in
+    rw (sa, vb) refl
+no_field (array (item a (item b (item c ds)))) n f name e s is = absurd (cc)
+no_field (object ms) n f name e s is = refl
 
 record_by : (d : Data) (ds : Items) (o : Option (List (Name × Literal))) → Some ds ≡ as_array d → fields_in ds ≡ o → value_by d kind.Record ≡ option_map (λ fs. fields (fields_of fs)) o
 record_by null ds o e is = absurd (cc)
@@ -158,6 +198,13 @@ record_by (string s) ds o e is = absurd (cc)
 record_by (array es) ds o e is = ap (option_map (λ fs. fields (fields_of fs))) (ap fields_in (sym (items_are ds es e)) ∙ is)
 record_by (object ms) ds o e is = absurd (cc)
 
+pub record_refused : (e : ScriptError) (d : Data) (vs us : List Value) (k : ℕ) (x : Value) (n f : Data) (name : Name) (done : List (Name × Literal)) → Some (items_view vs) ≡ as_array d → us ≡ vs → k < length us → x ≡ get_or us k x
+    → Some (n, f) ≡ two (view x) → Some name ≡ as_str n → option_map (λ fs. done ++ fs) (fields_in (items_view (drop k us))) ≡ fields_in (items_view us)
+    → Gives {X = Val} literal_view (Err e) (value_of f) → Gives {X = Val} literal_view (Err e) (value_by d kind.Record)
+record_refused refused.BadScript d vs us k x n f name done is same lt at pair named inv h =
+    record_by d (items_view vs) None is (ap (λ ws. fields_in (items_view ws)) (sym same) ∙ no_list fields_in field_of us k x done (λ d ds. refl) lt at (no_field (view x) n f name pair named h) inv)
+record_refused refused.OutOfMemory d vs us k x n f name done is same lt at pair named inv h = tt
+
 pub record_end : (d : Data) (vs us : List Value) (k : ℕ) (done : List (Name × Literal)) → Some (items_view vs) ≡ as_array d → us ≡ vs → length us ≤ k
     → option_map (λ fs. done ++ fs) (fields_in (items_view (drop k us))) ≡ fields_in (items_view us) → value_by d kind.Record ≡ Some (fields (fields_of done))
 record_end d vs us k done e same past inv =
@@ -165,29 +212,56 @@ record_end d vs us k done e same past inv =
 
 -- ---- scalars
 
-by_scalar : (d : Data) (k : ValueKind) → ¬ (k ≡ kind.String) → ¬ (k ≡ kind.List) → ¬ (k ≡ kind.Record) → ¬ (k ≡ kind.Tuple) → ¬ (k ≡ kind.FixedLengthList) → value_by d k ≡ scalar_by k d
-by_scalar (string s) kind.String no_text no_list no_record no_tuple no_fixed = absurd (no_text refl)
-by_scalar (array ds) kind.List no_text no_list no_record no_tuple no_fixed = absurd (no_list refl)
-by_scalar (array ds) kind.Record no_text no_list no_record no_tuple no_fixed = absurd (no_record refl)
-by_scalar (array ds) kind.Tuple no_text no_list no_record no_tuple no_fixed = absurd (no_tuple refl)
-by_scalar (array ds) kind.FixedLengthList no_text no_list no_record no_tuple no_fixed = absurd (no_fixed refl)
-by_scalar d k no_text no_list no_record no_tuple no_fixed = refl
+-- neither a text nor made of other values or names
+pub record IsOther (k : ValueKind) : Type 0 where
+  pub no_text : ¬ (k ≡ kind.String)
+  pub no_list : ¬ (k ≡ kind.List)
+  pub no_map : ¬ (k ≡ kind.Map)
+  pub no_record : ¬ (k ≡ kind.Record)
+  pub no_tuple : ¬ (k ≡ kind.Tuple)
+  pub no_variant : ¬ (k ≡ kind.Variant)
+  pub no_enum : ¬ (k ≡ kind.Enum)
+  pub no_option : ¬ (k ≡ kind.Option)
+  pub no_result : ¬ (k ≡ kind.Result)
+  pub no_flags : ¬ (k ≡ kind.Flags)
+  pub no_fixed : ¬ (k ≡ kind.FixedLengthList)
 
-pub value_is : (d f : Data) (name : List ℕ) (k : ValueKind) → Some (name, f) ≡ option_and_then only_member (as_object d) → Some k ≡ value_kind_named name → value_of d ≡ value_by f k
-value_is null f name k e is = absurd (cc)
-value_is (boolean b) f name k e is = absurd (cc)
-value_is (number n) f name k e is = absurd (cc)
-value_is (string s) f name k e is = absurd (cc)
-value_is (array ds) f name k e is = absurd (cc)
-value_is (object no_members) f name k e is = absurd (cc)
-value_is (object (member l d no_members)) f name k e is =
-    let same : (name, f) ≡ (l, d) = member_is (name, f) (l, d) e in
-    ap (λ (m : List ℕ × Data). option_and_then (value_by m.1) (value_kind_named m.0)) (sym same) ∙ ap (option_and_then (value_by f)) (sym is)
+by_scalar : (d : Data) (k : ValueKind) → IsOther k → value_by d k ≡ scalar_by k d
+by_scalar (string s) kind.String other = absurd (other.no_text refl)
+by_scalar (array ds) kind.List other = absurd (other.no_list refl)
+by_scalar (array ds) kind.Map other = absurd (other.no_map refl)
+by_scalar (array ds) kind.Record other = absurd (other.no_record refl)
+by_scalar (array ds) kind.Tuple other = absurd (other.no_tuple refl)
+by_scalar (array ds) kind.Variant other = absurd (other.no_variant refl)
+by_scalar (string s) kind.Enum other = absurd (other.no_enum refl)
+by_scalar null kind.Option other = absurd (other.no_option refl)
+by_scalar (object ms) kind.Option other = absurd (other.no_option refl)
+by_scalar (array ds) kind.Result other = absurd (other.no_result refl)
+by_scalar (array ds) kind.Flags other = absurd (other.no_flags refl)
+by_scalar (array ds) kind.FixedLengthList other = absurd (other.no_fixed refl)
+by_scalar d k other = refl
+
+value_at : (d f : Data) (name : List ℕ) → Some (name, f) ≡ option_and_then only_member (as_object d) → value_of d ≡ option_and_then (value_by f) (value_kind_named name)
+value_at null f name e = absurd (cc)
+value_at (boolean b) f name e = absurd (cc)
+value_at (number n) f name e = absurd (cc)
+value_at (string s) f name e = absurd (cc)
+value_at (array ds) f name e = absurd (cc)
+value_at (object no_members) f name e = absurd (cc)
+value_at (object (member l d no_members)) f name e =
+    ap (λ (m : List ℕ × Data). option_and_then (value_by m.1) (value_kind_named m.0)) (sym (member_is (name, f) (l, d) e))
   where
     member_is : (p q : List ℕ × Data) → Some p ≡ Some q → p ≡ q
     member_is p q h = cc
-value_is (object (member l d (member m g ms))) f name k e is = absurd (cc)
+value_at (object (member l d (member m g ms))) f name e = absurd (cc)
 
-pub scalar_is : (d f : Data) (name : List ℕ) (k : ValueKind) → Some (name, f) ≡ option_and_then only_member (as_object d) → Some k ≡ value_kind_named name
-    → ¬ (k ≡ kind.String) → ¬ (k ≡ kind.List) → ¬ (k ≡ kind.Record) → ¬ (k ≡ kind.Tuple) → ¬ (k ≡ kind.FixedLengthList) → scalar_by k f ≡ value_of d
-scalar_is d f name k e is no_text no_list no_record no_tuple no_fixed = sym (value_is d f name k e is ∙ by_scalar f k no_text no_list no_record no_tuple no_fixed)
+pub value_is : (d f : Data) (name : List ℕ) (k : ValueKind) → Some (name, f) ≡ option_and_then only_member (as_object d) → Some k ≡ value_kind_named name → value_of d ≡ value_by f k
+value_is d f name k e is = value_at d f name e ∙ ap (option_and_then (value_by f)) (sym is)
+
+-- no kind has this name
+pub no_kind : (d f : Data) (name : List ℕ) (o : Option ValueKind) → Some (name, f) ≡ option_and_then only_member (as_object d) → o ≡ value_kind_named name → ((k : ValueKind) → ¬ (o ≡ Some k)) → value_of d ≡ None
+no_kind d f name None e is none = value_at d f name e ∙ ap (option_and_then (value_by f)) (sym is)
+no_kind d f name (Some k) e is none = absurd (none k refl)
+
+pub scalar_is : (d f : Data) (name : List ℕ) (k : ValueKind) → Some (name, f) ≡ option_and_then only_member (as_object d) → Some k ≡ value_kind_named name → IsOther k → scalar_by k f ≡ value_of d
+scalar_is d f name k e is other = sym (value_is d f name k e is ∙ by_scalar f k other)

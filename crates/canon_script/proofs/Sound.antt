@@ -17,17 +17,17 @@ use Rattle.canon_script.specs.Actions.{action_of, ordered_of}
 use Rattle.canon_scripted.specs.declared.orders.Ordered.{Ordered}
 use Rattle.canon_scripted.specs.declared.orders.Ordered.TheVariants as order
 use Rattle.canon_scripted.specs.Orders.{AreNarrow, IsNarrow}
-use Rattle.canon_script.specs.Script.{Call, IsSound, Play, call_item_of, call_of_func, call_with, final_memory, fits, heap_of, if_fits, max_memory, max_work, optional_call_members, play_of, play_with, played, reallocs_of, result_count, slots_of, turns}
+use Rattle.canon_script.specs.Script.{ScriptCall, IsWellFormed, Play, call_item_of, call_of_func, call_with, final_memory, fits, heap_of, if_fits, max_memory, max_work, optional_call_members, play_of, play_with, played, reallocs_of, result_count, slots_of, turns}
 use Rattle.canon_script.specs.Types.{funcs_of}
 use Rattle.canon_script.specs.Values.{value_of}
 use Rattle.canon_script.specs.declared.script.Script.{Script}
 use Rattle.canon_script.proofs.Funcs.{Told, funcs_told}
-use Rattle.canon_script.proofs.Ready.{func_built}
+use Rattle.canon_script.proofs.Built.{func_built}
 
 -- ---- calls
 
 -- the call is one of a function, and its orders are narrow
-record Stands (t : Table) (c : Call) : Type 0 where
+record Stands (t : Table) (c : ScriptCall) : Type 0 where
   known : HasFunc t c.func
   narrow : AreNarrow c.reallocs
 
@@ -54,7 +54,7 @@ reallocs_narrow : (d : Option Data) (os : List Ordered) → reallocs_of d ≡ So
 reallocs_narrow None os e = subst AreNarrow (same_Some [] os e) tt
 reallocs_narrow (Some d) os e = option_and_then_some (each ordered_of) (as_array d) os e (λ ds s h. are_narrow os (each_all IsNarrow ordered_of ordered_narrow ds os h))
 
-called : (t : Table) (d : Data) (func results : ℕ) (c : Call) → HasFunc t func → call_of_func d func results ≡ Some c → Stands t c
+called : (t : Table) (d : Data) (func results : ℕ) (c : ScriptCall) → HasFunc t func → call_of_func d func results ≡ Some c → Stands t c
 called t d func results c known e =
     option_and_then_some _ (option_and_then (each_of value_of) (get (codes "params") d)) c e (λ params s1 e1.
     option_and_then_some _ (option_and_then (each_of action_of) (get (codes "guest") d)) c e1 (λ guest s2 e2.
@@ -63,7 +63,7 @@ called t d func results c known e =
     by_map (call_with func params guest slots reallocs) (option_map_or as_bool (get (codes "post_trap") d) (Some false)) c e4 (λ post s5 is.
     subst (Stands t) is (record { known = known; narrow = reallocs_narrow (get (codes "reallocs") d) reallocs s4 }))))))
 
-call_stands : (t : Table) (d : Data) (c : Call) → call_item_of t d ≡ Some c → Stands t c
+call_stands : (t : Table) (d : Data) (c : ScriptCall) → call_item_of t d ≡ Some c → Stands t c
 call_stands t d c e =
     by_test (has_len (3 + optional_call_members d) (as_object d)) _ c e (λ counted e1.
     option_and_then_some (λ func. option_and_then (call_of_func d func) (result_count t func)) (option_and_then u32_of (get (codes "call") d)) c e1 (λ func s1 e2.
@@ -76,7 +76,7 @@ pub heap_is : (memory heap : ℕ) (d : Option Data) → heap_of memory d ≡ Som
 heap_is memory heap d e = option_and_then_some (λ h. if nat_le h memory then Some h else None) (option_map_or word_of d (Some 1024)) heap e (λ h s f.
     by_test (nat_le h memory) (Some h) heap f (λ le is. subst (λ (n : ℕ). n ≤ memory) (same_Some h heap is) (leb-true h memory le)))
 
-fits_sound : (memory heap fuel : ℕ) (fs : Funcs) (calls : List Call) → heap ≤ memory → Told fs → AllByRecursion (Stands fs.table) calls → IsTrue (fits memory calls) → IsSound (play_with memory heap fuel fs calls)
+fits_sound : (memory heap fuel : ℕ) (fs : Funcs) (calls : List ScriptCall) → heap ≤ memory → Told fs → AllByRecursion (Stands fs.table) calls → IsTrue (fits memory calls) → IsWellFormed (play_with memory heap fuel fs calls)
 fits_sound memory heap fuel fs calls inside told stand fit =
     let last = final_memory memory calls in
     let fit2 = and_parts (nat_le last max_memory) (nat_le (last * 2 * turns calls) max_work) fit in
@@ -87,19 +87,19 @@ fits_sound memory heap fuel fs calls inside told stand fit =
       work_fits = leb-true (last * 2 * turns calls) max_work fit2.1;
       posts_told = told.posts;
       funcs_few = told.few;
-      funcs_built = λ k d lt. func_built fs.table (slice_index_or fs.table.funcs k d) told.ready;
+      funcs_built = λ k d lt. func_built fs.table (slice_index_or fs.table.funcs k d) told.plain;
       calls_known = λ k d lt. (all k d lt).known;
       orders_narrow = λ k d lt. (all k d lt).narrow;
     }
 
-played_sound : (memory heap fuel : ℕ) (types funcs items : Items) (p : Play) → heap ≤ memory → played memory heap fuel types funcs items ≡ Some p → IsSound p
+played_sound : (memory heap fuel : ℕ) (types funcs items : Items) (p : Play) → heap ≤ memory → played memory heap fuel types funcs items ≡ Some p → IsWellFormed p
 played_sound memory heap fuel types funcs items p inside e =
     option_and_then_some (λ fs. option_and_then (if_fits memory heap fuel fs) (each (call_item_of fs.table) items)) (funcs_of types funcs) p e (λ fs s1 e1.
     option_and_then_some (if_fits memory heap fuel fs) (each (call_item_of fs.table) items) p e1 (λ calls s2 e2.
     by_test (fits memory calls) (Some (play_with memory heap fuel fs calls)) p e2 (λ fit is.
-    subst IsSound (same_Some (play_with memory heap fuel fs calls) p is)
+    subst IsWellFormed (same_Some (play_with memory heap fuel fs calls) p is)
     (fits_sound memory heap fuel fs calls inside (funcs_told types funcs fs s1) (each_all (Stands fs.table) (call_item_of fs.table) (call_stands fs.table) items calls s2) fit))))
 
-pub reads_sound : (memory heap fuel : ℕ) (types funcs items : Items) (r : Result Script ScriptError) → heap ≤ memory → Gives play_of r (played memory heap fuel types funcs items) → IfOk r (λ s. IsSound (play_of s))
+pub reads_sound : (memory heap fuel : ℕ) (types funcs items : Items) (r : Result Script ScriptError) → heap ≤ memory → Gives play_of r (played memory heap fuel types funcs items) → IfOk r (λ s. IsWellFormed (play_of s))
 reads_sound memory heap fuel types funcs items (Ok s) inside h = played_sound memory heap fuel types funcs items (play_of s) inside h
 reads_sound memory heap fuel types funcs items (Err e) inside h = tt

@@ -1,5 +1,5 @@
 -- A value apart from how it is kept: a vector and a text are the list of their items.
-use Rattle.std.specs.Prelude.{ℕ, ℤ, Bool, List, [], ◌∷◌, map, String, string_bytes}
+use Rattle.std.specs.Prelude.{ℕ, ℤ, Bool, Box, List, [], ◌∷◌, map, Option, None, Some, Result, Ok, Err, String, string_bytes}
 use Rattle.std.specs.declared.alloc.Global.{Global}
 use Rattle.canon_model.specs.Shape.{Name}
 use Rattle.canon_value.specs.declared.val.Val.{Val, fold-Val}
@@ -17,7 +17,15 @@ mutual
     text : Name → Literal
     -- a list, a tuple and a list of fixed length
     list tuple fixed : Literals → Literal
+    pairs : Pairs → Literal
     fields : Fields → Literal
+    -- a variant, by the name of its case
+    variant : Name → Payload → Literal
+    enum : Name → Literal
+    option : Payload → Literal
+    -- the two cases of a result
+    ok error : Payload → Literal
+    flags : List Name → Literal
 
   pub data Literals : Type 0 where
     no_literals : Literals
@@ -28,6 +36,15 @@ mutual
     no_fields : Fields
     field : Name → Literal → Fields → Fields
 
+  -- the keys and values of a map
+  pub data Pairs : Type 0 where
+    no_pairs : Pairs
+    pair : Literal → Literal → Pairs → Pairs
+
+  pub data Payload : Type 0 where
+    no_payload : Payload
+    with_payload : Literal → Payload
+
 abbrev pub literals_of : List Literal → Literals
 literals_of [] = no_literals
 literals_of (x ∷ xs) = literal x (literals_of xs)
@@ -35,6 +52,18 @@ literals_of (x ∷ xs) = literal x (literals_of xs)
 abbrev pub fields_of : List (Name × Literal) → Fields
 fields_of [] = no_fields
 fields_of (f ∷ fs) = field f.0 f.1 (fields_of fs)
+
+abbrev pub pairs_of : List (Literal × Literal) → Pairs
+pairs_of [] = no_pairs
+pairs_of (p ∷ ps) = pair p.0 p.1 (pairs_of ps)
+
+abbrev pub payload_of : Option (Box Literal Global) → Payload
+payload_of None = no_payload
+payload_of (Some x) = with_payload x.value
+
+abbrev pub result_of : Result (Option (Box Literal Global)) (Option (Box Literal Global)) → Literal
+result_of (Ok p) = ok (payload_of p)
+result_of (Err p) = error (payload_of p)
 
 abbrev pub named : List (String Global × Literal) → List (Name × Literal)
 named fs = map (λ f. (string_bytes f.0, f.1)) fs
@@ -55,8 +84,14 @@ literal_step (Val-F.Float64 n) = f64 n
 literal_step (Val-F.Char c) = char c
 literal_step (Val-F.String s) = text (string_bytes s)
 literal_step (Val-F.List members) = list (literals_of members.items)
+literal_step (Val-F.Map members) = pairs (pairs_of members.items)
 literal_step (Val-F.Record members) = fields (fields_of (named members.items))
 literal_step (Val-F.Tuple members) = tuple (literals_of members.items)
+literal_step (Val-F.Variant name p) = variant (string_bytes name) (payload_of p)
+literal_step (Val-F.Enum name) = enum (string_bytes name)
+literal_step (Val-F.Option p) = option (payload_of p)
+literal_step (Val-F.Result r) = result_of r
+literal_step (Val-F.Flags names) = flags (map (λ name. string_bytes name) names.items)
 literal_step (Val-F.FixedLengthList members) = fixed (literals_of members.items)
 
 abbrev pub literal_view : Val → Literal
@@ -67,3 +102,13 @@ literals_view vs = map literal_view vs
 
 abbrev pub fields_view : List (String Global × Val) → List (Name × Literal)
 fields_view fs = named (map (λ f. (f.0, literal_view f.1)) fs)
+
+abbrev pub pair_view : Val × Val → Literal × Literal
+pair_view p = (literal_view p.0, literal_view p.1)
+
+abbrev pub pairs_view : List (Val × Val) → List (Literal × Literal)
+pairs_view ps = map pair_view ps
+
+abbrev pub payload_view : Option (Box Val Global) → Payload
+payload_view None = no_payload
+payload_view (Some v) = with_payload (literal_view v.value)

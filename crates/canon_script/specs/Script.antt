@@ -25,7 +25,7 @@ use Rattle.canon_script.specs.declared.script.Script.{Script}
 
 -- one call: its function, its parameters, what the guest does, how many results there is room for, how `realloc` is
 -- answered, and whether the post-return function traps
-pub record Call : Type 0 where
+pub record ScriptCall : Type 0 where
   pub func : ℕ
   pub params : List Literal
   pub guest : List Action
@@ -43,14 +43,14 @@ slots_of results d = option_map_or (number_to 1000) d (Some results)
 abbrev pub reallocs_of : Option Data → Option (List Ordered)
 reallocs_of d = option_map_or (each_of ordered_of) d (Some [])
 
-abbrev pub call_with : ℕ → List Literal → List Action → ℕ → List Ordered → Bool → Call
+abbrev pub call_with : ℕ → List Literal → List Action → ℕ → List Ordered → Bool → ScriptCall
 call_with func params guest slots reallocs post_trap = record { func = func; params = params; guest = guest; slots = slots; reallocs = reallocs; post_trap = post_trap }
 
 abbrev pub optional_call_members : Data → ℕ
 optional_call_members d = there (get (codes "slots") d) + (there (get (codes "reallocs") d) + there (get (codes "post_trap") d))
 
 -- a call of the function of this number, which has so many results
-abbrev pub call_of_func : Data → ℕ → ℕ → Option Call
+abbrev pub call_of_func : Data → ℕ → ℕ → Option ScriptCall
 call_of_func d func results =
     option_and_then (λ params. option_and_then (λ guest. option_and_then (λ slots. option_and_then (λ reallocs. option_map (call_with func params guest slots reallocs)
     (option_map_or as_bool (get (codes "post_trap") d) (Some false)))
@@ -60,7 +60,7 @@ call_of_func d func results =
     (option_and_then (each_of value_of) (get (codes "params") d))
 
 -- an item: an object that calls a function of the table
-abbrev pub call_item_of : Table → Data → Option Call
+abbrev pub call_item_of : Table → Data → Option ScriptCall
 call_item_of t d =
     if has_len (3 + optional_call_members d) (as_object d)
     then option_and_then (λ func. option_and_then (call_of_func d func) (result_count t func)) (option_and_then u32_of (get (codes "call") d))
@@ -75,14 +75,14 @@ abbrev pub max_work : ℕ
 max_work = 1073741824
 
 -- memory at the end, as long as all actions that grow it are carried out
-abbrev pub final_memory : ℕ → List Call → ℕ
+abbrev pub final_memory : ℕ → List ScriptCall → ℕ
 final_memory memory calls = memory + sum_by (λ c. growth c.guest) calls
 
 -- how often the guest is started or resumed
-abbrev pub turns : List Call → ℕ
+abbrev pub turns : List ScriptCall → ℕ
 turns calls = length calls + sum_by (λ c. ask_count c.guest) calls
 
-abbrev pub fits : ℕ → List Call → Bool
+abbrev pub fits : ℕ → List ScriptCall → Bool
 fits memory calls =
     let final = final_memory memory calls in
     nat_le final max_memory && nat_le (final * 2 * turns calls) max_work
@@ -99,12 +99,12 @@ pub record Play : Type 0 where
   pub types : Table
   -- for each function whether it has a post-return function
   pub posts : List Bool
-  pub calls : List Call
+  pub calls : List ScriptCall
 
-abbrev pub play_with : ℕ → ℕ → ℕ → Funcs → List Call → Play
+abbrev pub play_with : ℕ → ℕ → ℕ → Funcs → List ScriptCall → Play
 play_with memory heap fuel funcs calls = record { memory = memory; heap = heap; fuel = fuel; types = funcs.table; posts = funcs.posts; calls = calls }
 
-abbrev pub if_fits : ℕ → ℕ → ℕ → Funcs → List Call → Option Play
+abbrev pub if_fits : ℕ → ℕ → ℕ → Funcs → List ScriptCall → Option Play
 if_fits memory heap fuel funcs calls = if fits memory calls then Some (play_with memory heap fuel funcs calls) else None
 
 abbrev pub memory_len_of : Option Data → Option ℕ
@@ -139,28 +139,28 @@ script_of d =
 
 -- ---- how a script is kept
 
-abbrev pub call_item_view : CallItem → Call
+abbrev pub call_item_view : CallItem → ScriptCall
 call_item_view c = call_with c.func (literals_view c.params.items) c.guest.items c.slots c.reallocs.items c.post_trap
 
-abbrev pub item_view : Item → Call
+abbrev pub item_view : Item → ScriptCall
 item_view (item.Call c) = call_item_view c
 
 abbrev pub play_of : Script → Play
 play_of s = record { memory = s.memory; heap = s.heap; fuel = s.fuel; types = s.types; posts = s.posts.items; calls = map item_view s.items.items }
 
 -- values can be given to the function, and it can give values
-pub record IsBuilt (t : Table) (f : TypeFunc) : Type 0 where
+pub record IsBuiltFunc (t : Table) (f : TypeFunc) : Type 0 where
   pub params : AreBuilt (param_members t f)
   pub results : AreBuilt (result_members t f)
 
--- It keeps the limits, each function takes and gives scalars, texts, lists, records and tuples, each call is one of a
--- function, and each ordered answer of `realloc` is below 2 ^ 32. A table has at most 2 ^ 20 entries.
-pub record IsSound (p : Play) : Type 0 where
+-- It keeps the limits, no function takes or gives handles, each call is one of a function, and each ordered answer of
+-- `realloc` is below 2 ^ 32. A table has at most 2 ^ 20 entries.
+pub record IsWellFormed (p : Play) : Type 0 where
   pub heap_inside : p.heap ≤ p.memory
   pub memory_fits : final_memory p.memory p.calls ≤ max_memory
   pub work_fits : final_memory p.memory p.calls * 2 * turns p.calls ≤ max_work
   pub posts_told : length p.posts ≡ length p.types.funcs
   pub funcs_few : length p.types.funcs ≤ 1048576
-  pub funcs_built : All (IsBuilt p.types) p.types.funcs
+  pub funcs_built : All (IsBuiltFunc p.types) p.types.funcs
   pub calls_known : All (λ c. HasFunc p.types c.func) p.calls
   pub orders_narrow : All (λ c. AreNarrow c.reallocs) p.calls

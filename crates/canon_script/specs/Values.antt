@@ -1,13 +1,13 @@
 -- The value that a JSON value stands for: an object whose one member names its kind.
-use Rattle.std.specs.Prelude.{ℕ, ◌^◌, List, [], ◌∷◌, codes, nat_eq, Option, None, Some, option_map, option_and_then}
+use Rattle.std.specs.Prelude.{ℕ, ◌^◌, List, [], ◌∷◌, codes, nat_eq, if◌then◌else◌, Option, None, Some, option_map, option_and_then}
 use Rattle.std.specs.List.{find}
 use Rattle.std.specs.Str.{chars}
 use lib.Pointwise.{pointwise}
 use Rattle.serde_json.specs.Data.{Data, null, boolean, number, string, array, object, Items, no_items, item, Members, no_members, member}
-use Rattle.serde_json.specs.Find.{as_bool, as_str}
-use Rattle.canon_json.specs.Json.{u32_of, word_of}
+use Rattle.serde_json.specs.Find.{as_array, as_bool, as_str}
+use Rattle.canon_json.specs.Json.{each, u32_of, word_of}
 use Rattle.canon_model.specs.Shape.{Name}
-use Rattle.canon_script.specs.Literals.{Literal, bool, char, f32, f64, fields, fields_of, fixed, list, literals_of, s16, s32, s64, s8, text, tuple, u16, u32, u64, u8}
+use Rattle.canon_script.specs.Literals.{Literal, Payload, bool, char, enum, error, f32, f64, fields, fields_of, fixed, flags, list, literals_of, no_payload, ok, option, pairs, pairs_of, s16, s32, s64, s8, text, tuple, u16, u32, u64, u8, variant, with_payload}
 use Rattle.canon_script.specs.Numbers.{integer_of, integer_within, number_below}
 use Rattle.canon_script.specs.declared.kinds.ValueKind.{ValueKind}
 use Rattle.canon_script.specs.declared.kinds.ValueKind.TheVariants as kind
@@ -28,12 +28,18 @@ value_word kind.Float64 = codes "f64"
 value_word kind.Char = codes "char"
 value_word kind.String = codes "string"
 value_word kind.List = codes "list"
+value_word kind.Map = codes "map"
 value_word kind.Record = codes "record"
 value_word kind.Tuple = codes "tuple"
+value_word kind.Variant = codes "variant"
+value_word kind.Enum = codes "enum"
+value_word kind.Option = codes "option"
+value_word kind.Result = codes "result"
+value_word kind.Flags = codes "flags"
 value_word kind.FixedLengthList = codes "fixed"
 
 abbrev pub value_kinds : List ValueKind
-value_kinds = kind.Bool ∷ kind.S8 ∷ kind.U8 ∷ kind.S16 ∷ kind.U16 ∷ kind.S32 ∷ kind.U32 ∷ kind.S64 ∷ kind.U64 ∷ kind.Float32 ∷ kind.Float64 ∷ kind.Char ∷ kind.String ∷ kind.List ∷ kind.Record ∷ kind.Tuple ∷ kind.FixedLengthList ∷ []
+value_kinds = kind.Bool ∷ kind.S8 ∷ kind.U8 ∷ kind.S16 ∷ kind.U16 ∷ kind.S32 ∷ kind.U32 ∷ kind.S64 ∷ kind.U64 ∷ kind.Float32 ∷ kind.Float64 ∷ kind.Char ∷ kind.String ∷ kind.List ∷ kind.Map ∷ kind.Record ∷ kind.Tuple ∷ kind.Variant ∷ kind.Enum ∷ kind.Option ∷ kind.Result ∷ kind.Flags ∷ kind.FixedLengthList ∷ []
 
 abbrev pub value_kind_named : List ℕ → Option ValueKind
 value_kind_named name = find (λ k. pointwise nat_eq name (value_word k)) value_kinds
@@ -62,13 +68,25 @@ scalar_by kind.U64 d = option_map u64 (word_of d)
 scalar_by kind.Float32 d = option_map f32 (u32_of d)
 scalar_by kind.Float64 d = option_map f64 (word_of d)
 scalar_by kind.Char d = option_map char (char_of d)
-scalar_by kind.String d = None
-scalar_by kind.List d = None
-scalar_by kind.Record d = None
-scalar_by kind.Tuple d = None
-scalar_by kind.FixedLengthList d = None
+scalar_by _ d = None
 
 -- ---- values
+
+-- a result, by the name of its case
+abbrev pub result_by : Name → Payload → Option Literal
+result_by name p =
+    if pointwise nat_eq name (codes "ok") then Some (ok p)
+    else (if pointwise nat_eq name (codes "err") then Some (error p) else None)
+
+abbrev pub case_items : Items → Option (Name × Option Data)
+case_items no_items = None
+case_items (item name no_items) = option_map (λ n. (n, None)) (as_str name)
+case_items (item name (item d no_items)) = option_map (λ n. (n, Some d)) (as_str name)
+case_items (item name (item d (item e ds))) = None
+
+-- the name of a case and what its payload is read from: an array of the name alone, or with a value
+abbrev pub case_parts : Data → Option (Name × Option Data)
+case_parts d = option_and_then case_items (as_array d)
 
 abbrev mutual
   -- an object of one member
@@ -89,8 +107,15 @@ abbrev mutual
   pub value_by : Data → ValueKind → Option Literal
   value_by (string s) kind.String = Some (text s)
   value_by (array ds) kind.List = option_map (λ xs. list (literals_of xs)) (values_of ds)
+  value_by (array ds) kind.Map = option_map (λ ps. pairs (pairs_of ps)) (pairs_in ds)
   value_by (array ds) kind.Record = option_map (λ fs. fields (fields_of fs)) (fields_in ds)
   value_by (array ds) kind.Tuple = option_map (λ xs. tuple (literals_of xs)) (values_of ds)
+  value_by (array ds) kind.Variant = option_map (λ c. variant c.0 c.1) (case_in ds)
+  value_by (string s) kind.Enum = Some (enum s)
+  value_by null kind.Option = Some (option no_payload)
+  value_by (object ms) kind.Option = option_map (λ x. option (with_payload x)) (value_in ms)
+  value_by (array ds) kind.Result = option_and_then (λ c. result_by c.0 c.1) (case_in ds)
+  value_by (array ds) kind.Flags = option_map flags (each as_str ds)
   value_by (array ds) kind.FixedLengthList = option_map (λ xs. fixed (literals_of xs)) (values_of ds)
   value_by d k = scalar_by k d
 
@@ -119,3 +144,39 @@ abbrev mutual
   only_value no_items = None
   only_value (item d no_items) = value_of d
   only_value (item d (item e ds)) = None
+
+  pub pairs_in : Items → Option (List (Literal × Literal))
+  pairs_in no_items = Some []
+  pairs_in (item d ds) = option_and_then (λ p. option_map (λ ps. p ∷ ps) (pairs_in ds)) (pair_of d)
+
+  -- an array of a key and a value
+  pub pair_of : Data → Option (Literal × Literal)
+  pair_of null = None
+  pair_of (boolean b) = None
+  pair_of (number n) = None
+  pair_of (string s) = None
+  pair_of (array ds) = two_values ds
+  pair_of (object ms) = None
+
+  pub two_values : Items → Option (Literal × Literal)
+  two_values no_items = None
+  two_values (item k no_items) = None
+  two_values (item k (item v no_items)) = option_and_then (λ x. option_map (λ y. (x, y)) (value_of v)) (value_of k)
+  two_values (item k (item v (item e ds))) = None
+
+  -- a case: its name alone, or with its payload
+  pub case_in : Items → Option (Name × Payload)
+  case_in no_items = None
+  case_in (item name no_items) = option_map (λ n. (n, no_payload)) (as_str name)
+  case_in (item name (item d no_items)) = option_and_then (λ n. option_map (λ x. (n, with_payload x)) (value_of d)) (as_str name)
+  case_in (item name (item d (item e ds))) = None
+
+-- a payload, if there is one
+abbrev pub payload_by : Option Data → Option Payload
+payload_by None = Some no_payload
+payload_by (Some d) = option_map with_payload (value_of d)
+
+-- null, or a payload
+abbrev pub optional_of : Data → Option Payload
+optional_of null = Some no_payload
+optional_of d = option_map with_payload (value_of d)

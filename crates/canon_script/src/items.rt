@@ -27,7 +27,7 @@ pub(crate) struct Items<'a> {
 impl Reader for Items<'_> {
     type Item = Item;
 
-    ghost Seen = { spec.Call };
+    ghost Seen = { spec.ScriptCall };
 
     ghost seen = { spec.item_view };
 

@@ -18,13 +18,19 @@ pub enum ValueKind {
     Char,
     String,
     List,
+    Map,
     Record,
     Tuple,
+    Variant,
+    Enum,
+    Option,
+    Result,
+    Flags,
     FixedLengthList,
 }
 
 /// All of them.
-const KINDS: [ValueKind; 17] = [
+const KINDS: [ValueKind; 23] = [
     ValueKind::Bool,
     ValueKind::S8,
     ValueKind::U8,
@@ -39,8 +45,14 @@ const KINDS: [ValueKind; 17] = [
     ValueKind::Char,
     ValueKind::String,
     ValueKind::List,
+    ValueKind::Map,
     ValueKind::Record,
     ValueKind::Tuple,
+    ValueKind::Variant,
+    ValueKind::Enum,
+    ValueKind::Option,
+    ValueKind::Result,
+    ValueKind::Flags,
     ValueKind::FixedLengthList,
 ];
 
@@ -64,8 +76,14 @@ impl ValueKind {
             ValueKind::Char => "char",
             ValueKind::String => "string",
             ValueKind::List => "list",
+            ValueKind::Map => "map",
             ValueKind::Record => "record",
             ValueKind::Tuple => "tuple",
+            ValueKind::Variant => "variant",
+            ValueKind::Enum => "enum",
+            ValueKind::Option => "option",
+            ValueKind::Result => "result",
+            ValueKind::Flags => "flags",
             ValueKind::FixedLengthList => "fixed",
         }
     }

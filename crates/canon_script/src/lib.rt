@@ -12,8 +12,10 @@
 //!
 //! - A reference is the name of a scalar (`bool`, `s8` .. `u64`, `f32`, `f64`, `char`), `string`, or the number of an entry;
 //!   in an entry, of one before it.
-//! - An entry is `{"list": reference}`, `{"record": [[name, reference], ..]}`, `{"tuple": [reference, ..]}` or `{"fixed":
-//!   [reference, length]}`.
+//! - An entry is `{"list": reference}`, `{"map": [key, value]}`, `{"record": [[name, reference], ..]}`, `{"tuple":
+//!   [reference, ..]}`, `{"variant": [case, ..]}`, `{"enum": [name, ..]}`, `{"option": reference}`, `{"result": [ok,
+//!   error]}`, `{"flags": [name, ..]}` or `{"fixed": [reference, length]}`. A case is `[name]` or `[name, reference]`; each
+//!   of `ok` and `error` is a reference or `null`.
 //! - A function is `{"params": [reference, ..], "results": [reference, ..]}`, and may have `async` and `post`, which are
 //!   false where they are missing. `post` says that it has a post-return function.
 //! - A call is `{"call": number, "params": [value, ..], "guest": [action, ..]}`, and may have `slots` (how many results
@@ -23,8 +25,10 @@
 //! - An action is `{"write": [address, hex]}`, `{"grow": bytes}`, `{"return": [word, ..]}`, `{"ask": import, "words":
 //!   [word, ..]}` or `{"trap": true}`. Addresses, bytes and words are any `u64`.
 //! - A value is an object of one member, which names its kind: `{"u8": 7}`, `{"f32": bits}`, `{"char": "a"}`,
-//!   `{"string": "text"}`, `{"list": [value, ..]}`, `{"record": [[name, value], ..]}`, `{"tuple": [value, ..]}`,
-//!   `{"fixed": [value, ..]}`. It needn't be of its parameter's type.
+//!   `{"string": "text"}`, `{"list": [value, ..]}`, `{"map": [[key, value], ..]}`, `{"record": [[name, value], ..]}`,
+//!   `{"tuple": [value, ..]}`, `{"variant": [name]}` or `{"variant": [name, value]}`, `{"enum": name}`, `{"option": null}`
+//!   or `{"option": value}`, `{"result": ["ok"]}` or `{"result": ["ok", value]}` and so with `"err"`, `{"flags": [name,
+//!   ..]}`, `{"fixed": [value, ..]}`. It needn't be of its parameter's type.
 //!
 //! Memory with all that the actions add is at most 67,108,864 bytes, and twice that, times the number of calls and `ask`
 //! actions, at most 1,073,741,824. Numbers are those that `serde_json` reads as a `u64`, or as an `i64` where they may be

@@ -14,7 +14,7 @@ use std::alloc::Global;
 /// The script that a JSON value stands for. `BadScript` says that there is none.
 pub fn script_of_json(alloc: Global, v: &Value) -> Result<Script, ScriptError>
     ensures script { Gives spec.play_of result (spec.script_of (view v.now)) }
-    ensures sound { IfOk result (λ s. spec.IsSound (spec.play_of s)) }
+    ensures sound { IfOk result (λ s. spec.IsWellFormed (spec.play_of s)) }
 {
     if !has_len(v, script_members(v)) {
         return Err(ScriptError::BadScript);

@@ -40,6 +40,45 @@ fn tuples_and_records_are_read(rt: HostRuntime) -> Result<(), Fail> {
 }
 
 #[test]
+fn maps_and_cases_are_read(rt: HostRuntime) -> Result<(), Fail> {
+    let text =
+        r#"{"map":[[{"variant":["a"]},{"option":null}],[{"variant":["b",{"u8":1}]},{"option":{"option":null}}]]}"#;
+    let Ok(Val::Map(pairs)) = value(rt.alloc(), text)? else {
+        return Err(Fail::new("a map"));
+    };
+    let [
+        (Val::Variant(bare, None), Val::Option(None)),
+        (Val::Variant(laden, Some(payload)), Val::Option(Some(_))),
+    ] = pairs.as_slice()
+    else {
+        return Err(Fail::new("two pairs"));
+    };
+    assert_eq!(rt; (bare.as_str(), laden.as_str()), ("a", "b"));
+    assert!(rt; matches!(**payload, Val::U8(1)));
+    Ok(())
+}
+
+#[test]
+fn results_enums_and_flags_are_read(rt: HostRuntime) -> Result<(), Fail> {
+    let text =
+        r#"{"tuple":[{"result":["ok"]},{"result":["err",{"u8":1}]},{"enum":"x"},{"flags":["b","a","b"]}]}"#;
+    let Ok(Val::Tuple(members)) = value(rt.alloc(), text)? else {
+        return Err(Fail::new("a tuple"));
+    };
+    let [
+        Val::Result(Ok(None)),
+        Val::Result(Err(Some(_))),
+        Val::Enum(case),
+        Val::Flags(names),
+    ] = members.as_slice()
+    else {
+        return Err(Fail::new("four members"));
+    };
+    assert_eq!(rt; (case.as_str(), names.len()), ("x", 3));
+    Ok(())
+}
+
+#[test]
 fn what_is_no_value_is_refused(rt: HostRuntime) -> Result<(), Fail> {
     let texts = [
         r#"{"s8":-129}"#,
@@ -67,7 +106,20 @@ fn what_is_no_value_is_refused(rt: HostRuntime) -> Result<(), Fail> {
         r#"{"list":[{"u8":1},2]}"#,
         r#"{"fixed":null}"#,
         r#"{"fixed":[["a"]]}"#,
-        r#"{"map":[]}"#,
+        r#"{"map":{}}"#,
+        r#"{"map":[[{"u8":1}]]}"#,
+        r#"{"variant":"a"}"#,
+        r#"{"variant":[]}"#,
+        r#"{"variant":[1]}"#,
+        r#"{"variant":["a",{"u8":1},{"u8":2}]}"#,
+        r#"{"enum":["a"]}"#,
+        r#"{"option":[]}"#,
+        r#"{"result":[]}"#,
+        r#"{"result":["no"]}"#,
+        r#"{"result":["ok",null]}"#,
+        r#"{"flags":"a"}"#,
+        r#"{"flags":[1]}"#,
+        r#"{"resource":0}"#,
         r#"{"u8":1,"u16":1}"#,
         r#"{}"#,
         r#"5"#,
@@ -166,6 +218,14 @@ fn a_whole_script_is_read(rt: HostRuntime) -> Result<(), Fail> {
 }
 
 #[test]
+fn entries_of_every_kind_are_taken(rt: HostRuntime) -> Result<(), Fail> {
+    let text =
+        r#"{"types":[{"map":["string","u8"]},{"variant":[["a"],["b",0]]},{"enum":["x"]},{"option":1},{"result":[null,3]},{"flags":["f"]}],"funcs":[{"params":[2,4],"results":[5]}]}"#;
+    assert!(rt; script(rt.alloc(), text)?.is_ok());
+    Ok(())
+}
+
+#[test]
 fn what_is_missing_has_its_default(rt: HostRuntime) -> Result<(), Fail> {
     let script = script(rt.alloc(), "{}")?.expect(&rt, "a script");
     assert_eq!(rt; (script.memory, script.heap), (65536, 1024));
@@ -209,7 +269,8 @@ fn what_is_no_script_is_refused(rt: HostRuntime) -> Result<(), Fail> {
         r#"{"fuel":18446744073709551616}"#,
         r#"{"fuel":"1"}"#,
         r#"{"turns":1}"#,
-        r#"{"types":[{"option":"u8"}]}"#,
+        r#"{"types":[{"own":0}]}"#,
+        r#"{"types":[{"flags":[]}]}"#,
         r#"{"types":[{"list":0}]}"#,
         r#"{"types":[{"list":["u8"]}]}"#,
         r#"{"types":[{"fixed":["u8"]}]}"#,

@@ -1,11 +1,10 @@
-ghost use Rattle.std.specs.Prelude.{◌≡◌};
-ghost use Rattle.serde_json.specs.View.{view, items_view};
+ghost use Rattle.serde_json.specs.View.{items_view};
 ghost use Rattle.canon_json.specs.Json.{Gives};
 ghost use Rattle.canon_layout.specs.Asked.{funcs_so_far};
 ghost use Rattle.canon_script.specs.Types as spec;
 
 use canon_json::ScriptError;
-use canon_layout::{Kind, add_entries, add_funcs, kind_of_json};
+use canon_layout::{add_entries, add_funcs};
 use canon_types::{ComponentTypes, TypeBuilder};
 use serde_json::Value;
 use std::alloc::Global;
@@ -18,32 +17,8 @@ pub(crate) fn funcs_of_json(
 ) -> Result<(ComponentTypes, Vec<bool>), ScriptError>
     ensures { Gives (λ p. funcs_so_far p.0 p.1.items) result (spec.funcs_of (items_view types.now) (items_view funcs.now)) }
 {
-    if !are_ready(types) {
-        return Err(ScriptError::BadScript);
-    }
     let mut builder = TypeBuilder::new(alloc);
     let types = add_entries(alloc, &mut builder, types)?;
     let posts = add_funcs(alloc, &mut builder, &types, funcs)?;
     Ok((builder.finish(), posts))
-}
-
-/// Whether there are values of each of these entries.
-fn are_ready(entries: &[Value]) -> bool
-    ensures { result ≡ spec.are_ready (items_view entries.now) }
-{
-    for entry in entries {
-        if !is_ready(entry) {
-            return false;
-        }
-    }
-    true
-}
-
-fn is_ready(entry: &Value) -> bool
-    ensures { result ≡ spec.is_ready (view entry.now) }
-{
-    matches!(
-        kind_of_json(entry),
-        Some(Kind::List | Kind::Record | Kind::Tuple | Kind::Fixed)
-    )
 }

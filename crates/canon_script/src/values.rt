@@ -1,15 +1,16 @@
-ghost use Rattle.std.specs.Prelude.{◌≡◌, ◌^◌, ◌++◌, [], ◌∷◌, ℤ, Some, option_map, option_and_then, OnOk, IfErr};
+ghost use Rattle.std.specs.Prelude.{◌≡◌, ◌^◌, ◌++◌, [], ◌∷◌, ℤ, Some, map, option_map, option_and_then, OnOk, IfErr, string_bytes};
 ghost use Rattle.std.specs.Str.{chars};
-ghost use Rattle.serde_json.specs.Find.{as_array};
+ghost use Rattle.serde_json.specs.Find.{as_array, as_str};
 ghost use Rattle.serde_json.specs.View.{view};
-ghost use Rattle.canon_json.specs.Json.{Gives};
+ghost use Rattle.canon_json.specs.Json.{Gives, each_of};
 ghost use Rattle.canon_json.specs.declared.error.ScriptError.TheVariants as refused;
-ghost use Rattle.canon_script.specs.Literals.{Literal, fields_view, literal_view, literals_view};
+ghost use Rattle.canon_model.specs.Shape.{Name};
+ghost use Rattle.canon_script.specs.Literals.{Literal, fields_view, literal_view, literals_view, pair_view, pairs_view, payload_view, variant, with_payload};
 ghost use Rattle.canon_script.specs.Numbers as numbers;
 ghost use Rattle.canon_script.specs.Values as spec;
 
 use crate::kinds::{ValueKind, value_kind_named};
-use canon_json::{Reader, ScriptError, only_member, two, u32_of};
+use canon_json::{Reader, ScriptError, each_of, only_member, two, u32_of};
 use canon_value::Val;
 use serde_json::Value;
 use std::alloc::Global;
@@ -26,10 +27,16 @@ pub fn value_of_json(alloc: Global, v: &Value) -> Result<Val, ScriptError>
         return Err(ScriptError::BadScript);
     };
     match kind {
-        ValueKind::String => text_of(alloc, form),
+        ValueKind::String => name_of(alloc, form).map(Val::String),
         ValueKind::List => values_of(alloc, form).map(Val::List),
+        ValueKind::Map => pairs_of(alloc, form).map(Val::Map),
         ValueKind::Record => record_of(alloc, form),
         ValueKind::Tuple => values_of(alloc, form).map(Val::Tuple),
+        ValueKind::Variant => variant_of(alloc, form),
+        ValueKind::Enum => name_of(alloc, form).map(Val::Enum),
+        ValueKind::Option => optional_of(alloc, form).map(Val::Option),
+        ValueKind::Result => result_of(alloc, form),
+        ValueKind::Flags => names_of(alloc, form).map(Val::Flags),
         ValueKind::FixedLengthList => values_of(alloc, form).map(Val::FixedLengthList),
         _ => scalar_of(kind, form),
     }
@@ -77,12 +84,156 @@ fn record_of(alloc: Global, v: &Value) -> Result<Val, ScriptError>
     Ok(Val::Record(fields))
 }
 
+/// An array of pairs, each a key and a value.
+#[cycle(values)]
+fn pairs_of(alloc: Global, v: &Value) -> Result<Vec<(Val, Val)>, ScriptError>
+    ensures { Gives (λ pairs. pairs_view pairs.items) result (option_and_then spec.pairs_in (as_array (view v.now))) }
+{
+    let Some(items) = v.as_array() else {
+        return Err(ScriptError::BadScript);
+    };
+    let mut pairs = Vec::new(alloc);
+    for item in items {
+        match pair_of(alloc, item) {
+            Ok(pair) => keep_pair(&mut pairs, pair)?,
+            Err(e) => return Err(e),
+        }
+    }
+    Ok(pairs)
+}
+
+/// A key and its value.
+#[cycle(values)]
+fn pair_of(alloc: Global, v: &Value) -> Result<(Val, Val), ScriptError>
+    ensures { Gives pair_view result (spec.pair_of (view v.now)) }
+{
+    let Some((key, value)) = two(v) else {
+        return Err(ScriptError::BadScript);
+    };
+    let key = match value_of_json(alloc, key) {
+        Ok(key) => key,
+        Err(e) => return Err(e),
+    };
+    match value_of_json(alloc, value) {
+        Ok(value) => Ok((key, value)),
+        Err(e) => Err(e),
+    }
+}
+
+/// A variant: the name of its case alone, or with a payload.
+#[cycle(values)]
+fn variant_of(alloc: Global, v: &Value) -> Result<Val, ScriptError>
+    ensures { Gives literal_view result (spec.value_by (view v.now) ValueKind.Variant) }
+{
+    let Some((name, form)) = case_of(v) else {
+        return Err(ScriptError::BadScript);
+    };
+    match payload_of(alloc, form) {
+        Ok(payload) => variant_named(alloc, name, payload),
+        Err(e) => Err(e),
+    }
+}
+
+/// A result: `ok` or `err` alone, or with a payload.
+#[cycle(values)]
+fn result_of(alloc: Global, v: &Value) -> Result<Val, ScriptError>
+    ensures { Gives literal_view result (spec.value_by (view v.now) ValueKind.Result) }
+{
+    let Some((name, form)) = case_of(v) else {
+        return Err(ScriptError::BadScript);
+    };
+    match payload_of(alloc, form) {
+        Ok(payload) => result_named(name, payload),
+        Err(e) => Err(e),
+    }
+}
+
+/// The payload of a case, if it has one.
+#[cycle(values)]
+fn payload_of(alloc: Global, v: Option<&Value>) -> Result<Option<Box<Val>>, ScriptError>
+    ensures { Gives payload_view result (spec.payload_by (option_map (λ x. view x.now) v.entry)) }
+{
+    match v {
+        Some(v) => some_of(alloc, v),
+        None => Ok(None),
+    }
+}
+
+/// `null`, or a payload.
+#[cycle(values)]
+fn optional_of(alloc: Global, v: &Value) -> Result<Option<Box<Val>>, ScriptError>
+    ensures { Gives payload_view result (spec.optional_of (view v.now)) }
+{
+    if v.is_null() {
+        return Ok(None);
+    }
+    some_of(alloc, v)
+}
+
+/// A payload.
+#[cycle(values)]
+fn some_of(alloc: Global, v: &Value) -> Result<Option<Box<Val>>, ScriptError>
+    ensures { Gives payload_view result (option_map with_payload (spec.value_of (view v.now))) }
+{
+    match value_of_json(alloc, v) {
+        Ok(value) => boxed(alloc, value),
+        Err(e) => Err(e),
+    }
+}
+
+fn boxed(alloc: Global, value: Val) -> Result<Option<Box<Val>>, ScriptError>
+    ensures { Gives payload_view result (Some (with_payload (literal_view value))) }
+{
+    let value = Box::new(alloc, value)?;
+    Ok(Some(value))
+}
+
+#[tactic(auto, using(crate::proofs::Cases::case_of_none))]
+/// The name of a case, and what its payload is read from: an array of the name alone, or with a value.
+fn case_of(v: &Value) -> Option<(&str, Option<&Value>)>
+    ensures { option_map (λ c. (c.0.now, option_map (λ x. view x.now) c.1)) result ≡ spec.case_parts (view v.now) }
+{
+    match v.as_array()?.as_slice() {
+        [name] => Some((name.as_str()?, None)),
+        [name, form] => Some((name.as_str()?, Some(form))),
+        _ => None,
+    }
+}
+
+fn variant_named(alloc: Global, name: &str, payload: Option<Box<Val>>) -> Result<Val, ScriptError>
+    ensures { Gives literal_view result (Some (variant name.now (payload_view payload))) }
+{
+    let name = String::from_str(alloc, name)?;
+    Ok(Val::Variant(name, payload))
+}
+
+fn result_named(name: &str, payload: Option<Box<Val>>) -> Result<Val, ScriptError>
+    ensures { Gives literal_view result (spec.result_by name.now (payload_view payload)) }
+{
+    if name == "ok" {
+        Ok(Val::Result(Ok(payload)))
+    } else if name == "err" {
+        Ok(Val::Result(Err(payload)))
+    } else {
+        Err(ScriptError::BadScript)
+    }
+}
+
 /// One value more.
 fn keep(values: &mut Vec<Val>, value: Val) -> Result<(), ScriptError>
     ensures ok { OnOk result (values.new.items ≡ values.old.items ++ value ∷ []) }
     ensures cause { IfErr result (λ e. e ≡ refused.OutOfMemory) }
 {
     values.push(value)?;
+    Ok(())
+}
+
+/// One pair more.
+fn keep_pair(pairs: &mut Vec<(Val, Val)>, pair: (Val, Val)) -> Result<(), ScriptError>
+    ensures ok { OnOk result (pairs_view pairs.new.items ≡ pairs_view pairs.old.items ++ pair_view pair ∷ []) }
+    ensures cause { IfErr result (λ e. e ≡ refused.OutOfMemory) }
+{
+    pairs.push(pair)?;
     Ok(())
 }
 
@@ -101,15 +252,38 @@ fn keep_field(
     Ok(())
 }
 
-/// A text.
-fn text_of(alloc: Global, v: &Value) -> Result<Val, ScriptError>
-    ensures { Gives literal_view result (spec.value_by (view v.now) ValueKind.String) }
+/// A text, or a name.
+fn name_of(alloc: Global, v: &Value) -> Result<String, ScriptError>
+    ensures { Gives (λ name. string_bytes name) result (as_str (view v.now)) }
 {
-    let Some(text) = v.as_str() else {
-        return Err(ScriptError::BadScript);
-    };
-    let text = String::from_str(alloc, text)?;
-    Ok(Val::String(text))
+    match v.as_str() {
+        Some(name) => Ok(String::from_str(alloc, name)?),
+        None => Err(ScriptError::BadScript),
+    }
+}
+
+/// An array of names.
+fn names_of(alloc: Global, v: &Value) -> Result<Vec<String>, ScriptError>
+    ensures { Gives (λ names. map (λ name. string_bytes name) names.items) result (each_of as_str (view v.now)) }
+{
+    each_of(alloc, &Names, Some(v))
+}
+
+/// Reads names.
+struct Names;
+
+impl Reader for Names {
+    type Item = String;
+
+    ghost Seen = { Name };
+
+    ghost seen = { λ name. string_bytes name };
+
+    ghost reads = { λ _. as_str };
+
+    fn read(&self, alloc: Global, v: &Value) -> Result<String, ScriptError> {
+        name_of(alloc, v)
+    }
 }
 
 /// A scalar of this kind.
@@ -140,8 +314,14 @@ fn scalar_by(kind: ValueKind, v: &Value) -> Option<Val>
         ValueKind::Char => char_of(v).map(Val::Char),
         ValueKind::String
         | ValueKind::List
+        | ValueKind::Map
         | ValueKind::Record
         | ValueKind::Tuple
+        | ValueKind::Variant
+        | ValueKind::Enum
+        | ValueKind::Option
+        | ValueKind::Result
+        | ValueKind::Flags
         | ValueKind::FixedLengthList => None,
     }
 }

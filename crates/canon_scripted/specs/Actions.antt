@@ -8,12 +8,12 @@ use Rattle.canon_scripted.specs.declared.actions.Action.{Action}
 use Rattle.canon_scripted.specs.declared.actions.Action.TheVariants as action
 
 -- what came of its actions: memory as it left it, what it did then, and the actions that are left
-pub record Turn : Type 0 where
+pub record ActionTurn : Type 0 where
   pub memory : List ℕ
   pub result : Result Step GuestFault
   pub left : List Action
 
-abbrev pub turn : List ℕ → Result Step GuestFault → List Action → Turn
+abbrev pub turn : List ℕ → Result Step GuestFault → List Action → ActionTurn
 turn memory result left = record { memory = memory; result = result; left = left }
 
 -- these bytes in the place of those at the address
@@ -22,7 +22,7 @@ written memory address bytes = take address memory ++ bytes ++ drop (address + l
 
 -- Its actions in order, up to and with the first return, ask or trap. It also traps where they run out, where a write
 -- passes the end of memory, and where memory would pass 2 ^ 32 bytes. What was written before it traps stays.
-abbrev pub carry_out : List Action → List ℕ → Turn
+abbrev pub carry_out : List Action → List ℕ → ActionTurn
 carry_out [] memory = turn memory (Err fault.Trap) []
 carry_out (action.Write address bytes ∷ left) memory =
     if nat_le (address + length bytes) (length memory) then carry_out left (written memory address bytes) else turn memory (Err fault.Trap) left
@@ -33,7 +33,7 @@ carry_out (action.Ask index words ∷ left) memory = turn memory (Ok (step.Impor
 carry_out (action.Trap ∷ left) memory = turn memory (Err fault.Trap) left
 
 -- what is left to come of actions after one of them: the next follows where it answered nothing
-abbrev pub acted : List ℕ → Result (Option Step) GuestFault → List Action → Turn
+abbrev pub acted : List ℕ → Result (Option Step) GuestFault → List Action → ActionTurn
 acted memory (Ok None) left = carry_out left memory
 acted memory (Ok (Some done)) left = turn memory (Ok done) left
 acted memory (Err f) left = turn memory (Err f) left

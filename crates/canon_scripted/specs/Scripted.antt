@@ -54,26 +54,26 @@ seen_of g = record { journal = None; marks = g.marks; live = g.plan.allocator.li
 -- ---- what comes of its calls
 
 -- an answer of `realloc`, where it doesn't trap, and the plan after the call
-pub record Told : Type 0 where
+pub record Reallocating : Type 0 where
   pub result : Result ℕ GuestFault
   pub plan : Plan
 
-abbrev pub told : Result ℕ GuestFault → Plan → Told
+abbrev pub told : Result ℕ GuestFault → Plan → Reallocating
 told result plan = record { result = result; plan = plan }
 
 -- by what the allocator gives
-abbrev pub free_realloc : Option Placed → Plan → Told
+abbrev pub free_realloc : Option Placed → Plan → Reallocating
 free_realloc None plan = told (Err fault.Trap) plan
 free_realloc (Some placed) plan = told (Ok placed.answer) (record plan { allocator = placed.after })
 
 -- by what was ordered: an answer or a trap changes nothing else
-abbrev pub ordered_realloc : Ordered → ℕ → Plan → Call → Told
+abbrev pub ordered_realloc : Ordered → ℕ → Plan → Call → Reallocating
 ordered_realloc (ordered.Answer answer) len plan c = told (Ok answer) plan
 ordered_realloc ordered.Trap len plan c = told (Err fault.Trap) plan
 ordered_realloc ordered.Free len plan c = free_realloc (allocate len plan.allocator c) plan
 
 -- in a memory of so many bytes
-abbrev pub realloc : ℕ → Plan → Call → Told
+abbrev pub realloc : ℕ → Plan → Call → Reallocating
 realloc len plan c = ordered_realloc (next_order plan.reallocs) len (record plan { reallocs = drop 1 plan.reallocs }) c
 
 -- a call that the guest ends itself
@@ -153,7 +153,7 @@ InLength plan len (call ∷ calls) last = (len_before call ≡ len) × InLength 
 
 -- With this plan, in a memory of so many bytes, these events come, and their answers have these marks; that plan and that
 -- length of memory are left: they tell some calls in a row.
-pub record Does (plan : Plan) (len : ℕ) (events : List Event) (marks : List Mark) (left : Plan) (last : ℕ) : Type 0 where
+pub record CarriesOut (plan : Plan) (len : ℕ) (events : List Event) (marks : List Mark) (left : Plan) (last : ℕ) : Type 0 where
   pub calls : List Asked
   pub told : events ≡ all_events plan calls
   pub marked : marks ≡ all_marks plan calls
@@ -175,15 +175,15 @@ traps_after traps (e ∷ events) = traps_after (if is_trap e then raised traps e
 
 -- From one state and length of memory to others it did so, and had these marks more; its traps are counted, and it didn't
 -- want memory.
-pub record Moves (g : GuestIn Doing) (events : List Event) (h : GuestIn Doing) : Type 0 where
+pub record ScriptMoves (g : GuestIn Doing) (events : List Event) (h : GuestIn Doing) : Type 0 where
   pub new_marks : List Mark
-  pub does : Does g.guest.plan g.len events new_marks h.guest.plan h.len
+  pub does : CarriesOut g.guest.plan g.len events new_marks h.guest.plan h.len
   pub marks : h.guest.marks ≡ g.guest.marks ++ new_marks
   pub traps : h.guest.traps ≡ traps_after g.guest.traps events
   pub shortages : h.guest.shortages ≡ g.guest.shortages
 
 -- one thing after another
-pub moves_nothing : (g : GuestIn Doing) → Moves g [] g
+pub moves_nothing : (g : GuestIn Doing) → ScriptMoves g [] g
 moves_nothing g = record {
   new_marks = [];
   does = record { calls = []; told = refl; marked = refl; leaves = refl; lengths = refl };
@@ -213,7 +213,7 @@ traps_then n [] ys = refl
 traps_then n (x ∷ xs) ys = traps_then (if is_trap x then raised n else n) xs ys
 
 module _ (first mid left : Plan) (len between last : ℕ) (xs ys : List Event) (ms ns : List Mark) where
-  does_then : Does first len xs ms mid between → Does mid between ys ns left last → Does first len (xs ++ ys) (ms ++ ns) left last
+  does_then : CarriesOut first len xs ms mid between → CarriesOut mid between ys ns left last → CarriesOut first len (xs ++ ys) (ms ++ ns) left last
   does_then f g = record {
     calls = f.calls ++ g.calls;
     told = ap (λ (es : List Event). es ++ ys) f.told ∙ ap (λ (es : List Event). all_events first f.calls ++ es) (g.told ∙ ap (λ (p : Plan). all_events p g.calls) f.leaves) ∙ sym (events_then first f.calls g.calls);
@@ -222,7 +222,7 @@ module _ (first mid left : Plan) (len between last : ℕ) (xs ys : List Event) (
     lengths = lengths_then first len between last f.calls g.calls f.lengths (subst (λ (p : Plan). InLength p between g.calls last) f.leaves g.lengths);
   }
 
-pub moves_then : (g h k : GuestIn Doing) (xs ys : List Event) → Moves g xs h → Moves h ys k → Moves g (xs ++ ys) k
+pub moves_then : (g h k : GuestIn Doing) (xs ys : List Event) → ScriptMoves g xs h → ScriptMoves h ys k → ScriptMoves g (xs ++ ys) k
 moves_then g h k xs ys f e = record {
   new_marks = f.new_marks ++ e.new_marks;
   does = does_then g.guest.plan h.guest.plan k.guest.plan g.len h.len k.len xs ys f.new_marks e.new_marks f.does e.does;

@@ -2,7 +2,7 @@ ghost use Rattle.std.specs.Prelude.{◌≡◌, ◌≤◌, ◌<◌, ◌+◌, ◌+
 ghost use Rattle.std.specs.Vec.{vec_len, vec_capacity};
 ghost use Rattle.canon_memory.specs.Realloc.{call};
 ghost use Rattle.canon_scripted.specs.Allocator.{DoesPlace, InRow, allocate, copied};
-ghost use Rattle.canon_scripted.specs.Scripted.{Moves, breaches, marks_of, moves_nothing, moves_then, seen_of};
+ghost use Rattle.canon_scripted.specs.Scripted.{ScriptMoves, breaches, marks_of, moves_nothing, moves_then, seen_of};
 
 use crate::actions::{Action, Actions};
 use crate::allocator::Allocator;
@@ -175,7 +175,7 @@ impl ScriptedGuest {
 impl Guest for ScriptedGuest {
     ghost seen = { seen_of };
 
-    ghost moves = { λ g events h. Moves g events h };
+    ghost moves = { λ g events h. ScriptMoves g events h };
 
     ghost leaves = { λ m n. n ≡ m };
 

@@ -7,7 +7,7 @@ use Rattle.std.specs.Char.Escape.{encode_utf16}
 use Rattle.std.specs.Str.{all_scalars}
 use lib.Utf8.{low_scalar}
 use Rattle.canon_model.specs.Text.{all_latin1, unit_bytes}
-use Rattle.canon_text.specs.Writing.{over, placed}
+use Rattle.canon_text.specs.Writing.{inflating, over, placed}
 use Rattle.canon_text.proofs.Widths.{length-unit_bytes}
 
 -- ---- Latin-1
@@ -82,10 +82,7 @@ placed-unit old now units at i u h e small is =
     placed-more old now (flat_map unit_bytes (take i units)) (unit_bytes u) at (at + 2 * i) h e long
     ∙ ap (λ l. placed old at l) (unit_bytes-push (take i units) u ∙ ap (λ l. flat_map unit_bytes l) (ap (λ x. take i units ++ x ∷ []) is ∙ sym (take_more units i 0 small)))
 
--- ---- inflation: the units from j on stand, and before them what stood
-pub inflating : List ℕ → ℕ → ℕ → List ℕ
-inflating old count j = take (2 * j) old ++ (flat_map unit_bytes (drop j (take count old)) ++ drop (2 * count) old)
-
+-- ---- inflation
 pub inflating_start : (old : List ℕ) (count : ℕ) → inflating old count count ≡ old
 unfolding inflating
 inflating_start old count = ap (λ l. take (2 * count) old ++ (flat_map unit_bytes l ++ drop (2 * count) old)) (drop_all count (take count old) (omega (arith, length-take count old))) ∙ take-append-drop (2 * count) old

@@ -6,6 +6,13 @@ pub mod Widths
 pub mod Passing
 pub mod Validated
 pub mod Bytes
+pub mod Lanes
+pub mod Copied
+pub mod Ascii
+pub mod Plain
+pub mod FirstChar
+pub mod UnitBlocks
+pub mod Advancing
 pub mod Narrowing
 pub mod Spelled
 pub mod Compacting

@@ -32,10 +32,10 @@ units_of c s = ⊎_elim
     ))
     (cases_lt c 0x1_0000)
 
-scalar_low : (c : ℕ) → c < 0xD800 → scalar c ≡ true
+pub scalar_low : (c : ℕ) → c < 0xD800 → scalar c ≡ true
 scalar_low c h = cond-true (nat_lt c 55296) _ _ (lt-ltb c 55296 h)
 
-scalar_high : (c : ℕ) → 0xE000 ≤ c → c < 0x11_0000 → scalar c ≡ true
+pub scalar_high : (c : ℕ) → 0xE000 ≤ c → c < 0x11_0000 → scalar c ≡ true
 scalar_high c h g = cond-false (nat_lt c 55296) _ _ (le-ltb c 55296 (omega arith)) ∙ and_from _ _ (le-leb 57344 c h) (lt-ltb c 1114112 g)
 
 -- the units of one character

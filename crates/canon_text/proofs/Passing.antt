@@ -13,7 +13,7 @@ use Rattle.canon_text.specs.Faults.{Begins, IllFormed, error_form, error_place}
 use Rattle.canon_text.specs.Writing.{over, placed}
 use Rattle.canon_text.proofs.Reading.{IsFront, front-more, front-nil}
 use Rattle.canon_text.proofs.Widths.{encode-push}
-use Rattle.canon_text.proofs.Written.{over-more}
+use Rattle.canon_text.proofs.Written.{length-over, over-more}
 
 pub record IsMidway (form : Form) (first : Bool) (source old now : List ℕ) (read written : ℕ) (scalars : List ℕ) : Type 0 where
   pub front : IsFront form source read scalars
@@ -85,6 +85,12 @@ midway-fault form first source old now read written e h ill form_is place = reco
   writes = h.so_far.writes;
 }
 
+pub length-midway : (form : Form) (first : Bool) (source old now : List ℕ) (read written : ℕ) → Midway form first source old now read written → length now ≡ length old
+length-midway form first source old now read written h =
+    let before : written ≡ length (encode_utf8_all h.scalars) = h.so_far.count in
+    let fits : written ≤ length old = h.so_far.fits in
+    ap length h.so_far.writes ∙ length-over old (encode_utf8_all h.scalars) (omega arith)
+
 -- a byte is a character of Latin-1
 pub begins_byte : (xs : List ℕ) (n : ℕ) → n < length xs → get_or xs n 0 < 256 → Begins in_latin1 (get_or xs n 0) (drop n xs)
 begins_byte xs n h small = record { more = drop (n + 1) xs; can = cond-true (nat_lt (get_or xs n 0) 256) _ _ (lt-ltb (get_or xs n 0) 256 small); is = drop_more xs n 0 h }
@@ -92,3 +98,7 @@ begins_byte xs n h small = record { more = drop (n + 1) xs; can = cond-true (nat
 -- the test that ends a pass said no
 pub goes_on : (b first : Bool) (n room written c : ℕ) → n ≡ room → b ≡ false → ((n - written < length (encode_utf8 c)) ⊎ (IsTrue first × (127 < c)) → IsTrue b) → (room - written < length (encode_utf8 c)) ⊎ (IsTrue first × (127 < c)) → ⊥
 goes_on b first n room written c e says_no test cause = false≢true (sym says_no ∙ test (subst (λ l. (l - written < length (encode_utf8 c)) ⊎ (IsTrue first × (127 < c))) (sym e) cause))
+
+-- the test that ends a pass said yes
+pub stopped : (b first : Bool) (n room written c : ℕ) → n ≡ room → (n - written < length (encode_utf8 c)) ⊎ (IsTrue first × (127 < c)) → (room - written < length (encode_utf8 c)) ⊎ (IsTrue first × (127 < c))
+stopped b first n room written c e cause = subst (λ l. (l - written < length (encode_utf8 c)) ⊎ (IsTrue first × (127 < c))) e cause

@@ -1,5 +1,5 @@
 -- Writes at a place of a destination whose front is written.
-use Rattle.std.proofs.Common.{List, ap, append_assoc, ap₂, drop, length, sym, take, ℕ, ◌++◌, ◌+◌, ◌∙◌, ◌≡◌, ◌≤◌}
+use Rattle.std.proofs.Common.{List, ap, append_assoc, ap₂, arith, drop, length, length-drop, sym, take, ℕ, ◌++◌, ◌+◌, ◌∙◌, ◌≡◌, ◌≤◌}
 use Rattle.std.proofs.lemmas.List.{append-nil, drop-drop, drop_all, drop_at, length-append, take_at}
 use Rattle.canon_text.specs.Writing.{over, placed}
 
@@ -13,3 +13,6 @@ over-more old now new front items at e h w =
 
 pub over_all : (old front : List ℕ) → length old ≤ length front → over old front ≡ front
 over_all old front h = ap (λ l. front ++ l) (drop_all (length front) old h) ∙ append-nil front
+
+pub length-over : (old front : List ℕ) → length front ≤ length old → length (over old front) ≡ length old
+length-over old front h = omega (arith, length-append front (drop (length front) old), length-drop (length front) old)

@@ -1,4 +1,5 @@
 pub mod Writing
+pub mod Runs
 pub mod Surrogates
 pub mod TwoBytes
 pub mod Faults

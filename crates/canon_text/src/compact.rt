@@ -7,10 +7,13 @@ ghost use Rattle.canon_text.specs.Answers.{Compacts, Widens, bytes_before, infla
 ghost use Rattle.canon_text.specs.Faults.{IsFirstFault};
 ghost use Rattle.canon_text.specs.Writing.{over};
 
+use crate::blocks::{ascii_run, blocks_below};
 use crate::error::TextError;
+use crate::scalars::{scalar_at, utf8_len};
+use crate::unit_blocks::inflate_blocks;
 use crate::units::first_fault;
-use crate::utf8::text_of;
-use crate::writing::{write_unit, write_units, write_utf16_bytes};
+use crate::utf8::fault_in;
+use crate::writing::{write_latin1, write_unit, write_units, write_utf16_bytes};
 
 /// The bit of a compact length that says UTF-16.
 pub const UTF16_TAG: u64 = 1 << 31;
@@ -21,7 +24,8 @@ fn inflate(dst: &mut [u8], count: usize)
     ensures writes { dst.new ≡ over dst.old (inflated dst.old count) }
     ensures long { length (inflated dst.old count) ≡ 2 * count }
 {
-    for i in (0..count).rev() {
+    let left = inflate_blocks(dst, count);
+    for i in (0..left).rev() {
         let byte = dst[i];
         write_unit(dst, 2 * i, u16::from(byte));
     }
@@ -70,10 +74,20 @@ pub fn utf8_to_compact_utf16(
 {
     let count = latin1_bytes_so_far as usize;
     inflate(dst, count);
-    let text = text_of(src)?;
+    if let Some(error) = fault_in(src) {
+        return Err(error);
+    }
+    let mut read = 0;
     let mut end = 2 * count;
-    for c in text.chars() {
-        end = write_utf16_bytes(dst, end, c);
+    while read < src.len() {
+        let run = ascii_run(src, read);
+        end = write_latin1(dst, end, &src[read..read + run]);
+        read += run;
+        if read < src.len() {
+            let code = scalar_at(src, read);
+            end = write_utf16_bytes(dst, end, code);
+            read += utf8_len(code);
+        }
     }
     Ok((end / 2) as u64)
 }
@@ -106,9 +120,14 @@ pub fn utf16_to_compact_utf16(
 fn is_latin1(src: &[u16]) -> bool
     ensures { result ≡ all_latin1 src.now }
 {
-    for unit in src {
-        if *unit > 255 {
-            return false;
+    let mut at = 0;
+    while at < src.len() {
+        at += blocks_below(src, at, 256);
+        if at < src.len() {
+            if src[at] > 255 {
+                return false;
+            }
+            at += 1;
         }
     }
     true

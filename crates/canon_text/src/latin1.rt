@@ -6,7 +6,9 @@ ghost use Rattle.canon_text.specs.Answers.{Converts, Narrows, Passed};
 ghost use Rattle.canon_text.specs.Faults.{Begins, BeginsNoLatin1};
 ghost use Rattle.canon_text.specs.TwoBytes.{IsNotTwoBytes, IsTwoBytes};
 
+use crate::copy::copy_ascii;
 use crate::error::SizePair;
+use crate::narrow::narrow_below;
 use crate::utf16::ends_pass;
 use crate::writing::write_utf8;
 
@@ -36,15 +38,20 @@ pub fn latin1_to_utf8(src: &[u8], dst: &mut [u8], first_pass: bool) -> SizePair
     let mut read = 0;
     let mut written = 0;
     while read < src.len() {
-        let c = char::from(src[read]);
-        if ends_pass(c, first_pass, dst.len() - written) {
-            return SizePair {
-                src_read: read as u64,
-                dst_written: written as u64,
-            };
+        let run = copy_ascii(src, read, dst, written);
+        read += run;
+        written += run;
+        if read < src.len() {
+            let c = char::from(src[read]);
+            if ends_pass(c, first_pass, dst.len() - written) {
+                return SizePair {
+                    src_read: read as u64,
+                    dst_written: written as u64,
+                };
+            }
+            written = write_utf8(dst, written, c);
+            read += 1;
         }
-        written = write_utf8(dst, written, c);
-        read += 1;
     }
     SizePair {
         src_read: read as u64,
@@ -61,15 +68,20 @@ pub fn utf8_to_latin1(src: &[u8], dst: &mut [u8]) -> SizePair
     let mut read = 0;
     let mut written = 0;
     while read < src.len() {
-        let Some(byte) = latin1_at(src, read) else {
-            return SizePair {
-                src_read: read as u64,
-                dst_written: written as u64,
+        let run = copy_ascii(src, read, dst, written);
+        read += run;
+        written += run;
+        if read < src.len() {
+            let Some(byte) = latin1_at(src, read) else {
+                return SizePair {
+                    src_read: read as u64,
+                    dst_written: written as u64,
+                };
             };
-        };
-        dst[written] = byte;
-        written += 1;
-        read += char::from(byte).len_utf8();
+            dst[written] = byte;
+            written += 1;
+            read += char::from(byte).len_utf8();
+        }
     }
     SizePair {
         src_read: read as u64,
@@ -108,17 +120,22 @@ pub fn utf16_to_latin1(src: &[u16], dst: &mut [u8]) -> SizePair
     requires { length src.now ≤ length dst.old }
     ensures { Narrows in_utf16 src.now dst.old dst.new result.src_read result.dst_written }
 {
-    for i in 0..src.len() {
-        if src[i] > 255 {
-            return SizePair {
-                src_read: i as u64,
-                dst_written: i as u64,
-            };
+    let mut read = 0;
+    while read < src.len() {
+        read += narrow_below(src, read, dst, read, 256);
+        if read < src.len() {
+            if src[read] > 255 {
+                return SizePair {
+                    src_read: read as u64,
+                    dst_written: read as u64,
+                };
+            }
+            dst[read] = src[read] as u8;
+            read += 1;
         }
-        dst[i] = src[i] as u8;
     }
     SizePair {
-        src_read: src.len() as u64,
-        dst_written: src.len() as u64,
+        src_read: read as u64,
+        dst_written: read as u64,
     }
 }

@@ -1,15 +1,21 @@
 //! Conversions between the encodings of texts, and texts out of bytes.
 #![tactic(auto)]
 
+mod blocks;
 mod compact;
+mod copy;
 mod cow;
 mod decode;
 mod error;
 mod latin1;
 pub mod laws;
+mod narrow;
+mod scalars;
+mod unit_blocks;
 mod units;
 mod utf16;
 mod utf8;
+mod widen;
 mod writing;
 
 pub use compact::{

@@ -3,6 +3,7 @@
 ghost use Rattle.std.specs.Prelude.{◌≤◌};
 
 use super::*;
+use std::alloc::Global;
 use std::test::Fail;
 
 fn pair(src_read: u64, dst_written: u64) -> SizePair {
@@ -265,4 +266,111 @@ fn overlong_forms_and_surrogates_are_no_utf8(rt: HostRuntime) {
     assert_eq!(rt; units, [0, 0, 0, 0]);
     assert_eq!(rt; utf8_to_utf16(&[0xF4, 0x8F, 0xBF, 0xBF], &mut units), Ok(2));
     assert_eq!(rt; units, [0xDBFF, 0xDFFF, 0, 0]);
+}
+
+// A text up to U+00FF in each form, by a plain loop.
+#[derive(Drop)]
+struct Forms {
+    latin1: Vec<u8>,
+    utf8: Vec<u8>,
+    utf16: Vec<u16>,
+    utf16_bytes: Vec<u8>,
+}
+
+fn spelled(alloc: Global, count: usize, accent: usize) -> Result<Forms, Fail> {
+    let mut forms = Forms {
+        latin1: Vec::new(alloc),
+        utf8: Vec::new(alloc),
+        utf16: Vec::new(alloc),
+        utf16_bytes: Vec::new(alloc),
+    };
+    for i in 0..count {
+        let byte = if i == accent {
+            0xE9
+        } else {
+            97 + (i % 26) as u8
+        };
+        forms.latin1.push(byte)?;
+        forms.utf16.push(u16::from(byte))?;
+        forms.utf16_bytes.push(byte)?;
+        forms.utf16_bytes.push(0)?;
+        if byte < 128 {
+            forms.utf8.push(byte)?;
+        } else {
+            forms.utf8.push(0xC3)?;
+            forms.utf8.push(0xA9)?;
+        }
+    }
+    Ok(forms)
+}
+
+// Whether the conversions from UTF-8 and from Latin-1 give these forms.
+fn bytes_agree(alloc: Global, forms: &Forms) -> Result<bool, Fail> {
+    let mut bytes = Vec::from_elem(alloc, 0u8, forms.utf8.len())?;
+    let mut units = Vec::from_elem(alloc, 0u16, forms.utf8.len())?;
+    let copied = utf8_to_utf8(&forms.utf8, &mut bytes).is_ok() && bytes == forms.utf8;
+    let widened = utf8_to_utf16(&forms.utf8, &mut units).is_ok();
+    units.truncate(forms.utf16.len());
+    let pass = latin1_to_utf8(&forms.latin1, &mut bytes, false);
+    let spelled = pass.src_read == forms.latin1.len() as u64 && bytes == forms.utf8;
+    let narrowed = utf8_to_latin1(&forms.utf8, &mut bytes).src_read == forms.utf8.len() as u64;
+    bytes.truncate(forms.latin1.len());
+    let mut same = Vec::from_elem(alloc, 0u16, forms.latin1.len())?;
+    latin1_to_utf16(&forms.latin1, &mut same);
+    let kept = bytes == forms.latin1 && units == forms.utf16 && same == forms.utf16;
+    let decoded = decode_latin1(alloc, &forms.latin1)?;
+    Ok(
+        copied
+            && widened
+            && spelled
+            && narrowed
+            && kept
+            && decoded.as_str().as_bytes() == forms.utf8.as_slice(),
+    )
+}
+
+// Whether the conversions from UTF-16 and into the compact form give these forms.
+fn units_agree(alloc: Global, forms: &Forms) -> Result<bool, Fail> {
+    let count = forms.utf16.len();
+    if count > 65 || forms.utf8.len() > 66 {
+        return Ok(false);
+    }
+    let mut bytes = Vec::from_elem(alloc, 0u8, forms.utf8.len())?;
+    let mut units = Vec::from_elem(alloc, 0u16, count)?;
+    let copied = utf16_to_utf16(&forms.utf16, &mut units).is_ok() && units == forms.utf16;
+    let spelled = utf16_to_utf8(&forms.utf16, &mut bytes, false).is_ok() && bytes == forms.utf8;
+    let mut narrow = Vec::from_elem(alloc, 0u8, count)?;
+    let narrowed = utf16_to_latin1(&forms.utf16, &mut narrow).src_read == count as u64;
+    let mut wide = Vec::from_elem(alloc, 0u8, 2 * count)?;
+    let went_on = utf16_to_compact_utf16(&forms.utf16, &mut wide, 0).is_ok();
+    let mut inflated = Vec::from_elem(alloc, 0u8, 2 * forms.utf8.len())?;
+    let began = utf8_to_compact_utf16(&forms.utf8, &mut inflated, 0).is_ok();
+    inflated.truncate(2 * count);
+    let kept = wide == forms.utf16_bytes && inflated == forms.utf16_bytes;
+    let compacted = utf16_to_compact_probably_utf16(&forms.utf16, &mut wide).is_ok();
+    wide.truncate(count);
+    Ok(
+        copied
+            && spelled
+            && narrowed
+            && narrow == forms.latin1
+            && went_on
+            && began
+            && kept
+            && compacted
+            && wide == forms.latin1,
+    )
+}
+
+#[test]
+fn runs_are_converted_as_a_plain_loop_converts_them(rt: HostRuntime) -> Result<(), Fail> {
+    for count in [0usize, 1, 31, 32, 33, 64, 65] {
+        // At 65 no character is one.
+        for accent in [0usize, 31, 32, count.saturating_sub(1), 65] {
+            let forms = spelled(rt.alloc(), count, accent)?;
+            assert!(rt; bytes_agree(rt.alloc(), &forms)?);
+            assert!(rt; units_agree(rt.alloc(), &forms)?);
+        }
+    }
+    Ok(())
 }

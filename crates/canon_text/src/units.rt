@@ -7,6 +7,8 @@ ghost use Rattle.canon_text.specs.Faults.{Begins, IllFormed, WellFormed, IllForm
 ghost use Rattle.canon_text.specs.Decoding.{units_in};
 ghost use Rattle.canon_text.specs.Surrogates.{IsCharOf, IsLone};
 
+use crate::blocks::plain_blocks;
+
 // The character of a unit and the one after it, if there is one; None at a surrogate without its partner.
 pub(crate) fn char_of(unit: u16, next: Option<u16>) -> Option<char>
     ensures { MatchOption result (IsLone unit next) (λ c. IsCharOf unit next c) }
@@ -74,10 +76,13 @@ pub(crate) fn first_fault(src: &[u16]) -> Option<usize>
 {
     let mut at = 0;
     while at < src.len() {
-        let Some(c) = char_at(src, at) else {
-            return Some(at)
-        };
-        at += utf16_len(c);
+        at += plain_blocks(src, at);
+        if at < src.len() {
+            let Some(c) = char_at(src, at) else {
+                return Some(at)
+            };
+            at += utf16_len(c);
+        }
     }
     None
 }

@@ -8,6 +8,7 @@ ghost use Rattle.canon_text.specs.Writing.{over};
 ghost use Rattle.canon_text.specs.Answers.{Converts, Passed, PassFails};
 
 use crate::error::{SizePair, TextError};
+use crate::narrow::narrow_below;
 use crate::units::{char_at, first_fault, utf16_len};
 use crate::writing::write_utf8;
 
@@ -45,17 +46,22 @@ pub fn utf16_to_utf8(src: &[u16], dst: &mut [u8], first_pass: bool) -> Result<Si
     let mut read = 0;
     let mut written = 0;
     while read < src.len() {
-        let Some(c) = char_at(src, read) else {
-            return Err(TextError::InvalidUtf16(read as u64));
-        };
-        if ends_pass(c, first_pass, dst.len() - written) {
-            return Ok(SizePair {
-                src_read: read as u64,
-                dst_written: written as u64,
-            });
+        let run = narrow_below(src, read, dst, written, 128);
+        read += run;
+        written += run;
+        if read < src.len() {
+            let Some(c) = char_at(src, read) else {
+                return Err(TextError::InvalidUtf16(read as u64));
+            };
+            if ends_pass(c, first_pass, dst.len() - written) {
+                return Ok(SizePair {
+                    src_read: read as u64,
+                    dst_written: written as u64,
+                });
+            }
+            written = write_utf8(dst, written, c);
+            read += utf16_len(c);
         }
-        written = write_utf8(dst, written, c);
-        read += utf16_len(c);
     }
     Ok(SizePair {
         src_read: read as u64,

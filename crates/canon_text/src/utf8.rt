@@ -1,21 +1,33 @@
 //! Conversions of UTF-8 that read the whole source.
 
-ghost use Rattle.std.specs.Prelude.{◌≡◌, ◌≤◌, length, MatchResult, IsUtf8};
+ghost use Rattle.std.specs.Prelude.{◌≡◌, ◌≤◌, length, MatchOption, MatchResult, IsUtf8};
 ghost use Rattle.canon_model.specs.Text.{in_utf8, in_utf16};
 ghost use Rattle.canon_text.specs.Faults.{IsFirstFault};
 ghost use Rattle.canon_text.specs.Answers.{Converts};
 
 use crate::error::TextError;
+use crate::scalars::{scalar_at, utf8_len};
+use crate::widen::widen_ascii;
 use crate::writing::write_utf16;
 
 // The source as a text.
 pub(crate) fn text_of(src: &[u8]) -> Result<&str, TextError>
     ensures { MatchResult result (λ t. (t.now ≡ src.now) × IsUtf8 src.now) (λ e. IsFirstFault in_utf8 src.now e) }
 {
-    match std::str::from_utf8(src) {
+    match simdutf8::compat::from_utf8(src) {
         Ok(text) => Ok(text),
         Err(error) => Err(TextError::InvalidUtf8(error.valid_up_to() as u64)),
     }
+}
+
+// The first fault of a source.
+pub(crate) fn fault_in(src: &[u8]) -> Option<TextError>
+    ensures { MatchOption result (IsUtf8 src.now) (λ e. IsFirstFault in_utf8 src.now e) }
+{
+    if src.len() >= 64 && simdutf8::is_utf8(src) {
+        return None;
+    }
+    text_of(src).err()
 }
 
 /// Copies UTF-8 into as many bytes. A refusal leaves `dst` unchanged (wasmtime's `utf8_to_utf8`).
@@ -25,8 +37,10 @@ pub fn utf8_to_utf8(src: &[u8], dst: &mut [u8]) -> Result<(), TextError>
         (λ _. Converts in_utf8 in_utf8 src.now dst.old dst.new (length src.now))
         (λ e. IsFirstFault in_utf8 src.now e × (dst.new ≡ dst.old)) }
 {
-    let text = text_of(src)?;
-    dst.copy_from_slice(text.as_bytes());
+    if let Some(error) = fault_in(src) {
+        return Err(error);
+    }
+    dst.copy_from_slice(src);
     Ok(())
 }
 
@@ -38,10 +52,20 @@ pub fn utf8_to_utf16(src: &[u8], dst: &mut [u16]) -> Result<u64, TextError>
         (λ n. Converts in_utf8 in_utf16 src.now dst.old dst.new n)
         (λ e. IsFirstFault in_utf8 src.now e × (dst.new ≡ dst.old)) }
 {
-    let text = text_of(src)?;
+    if let Some(error) = fault_in(src) {
+        return Err(error);
+    }
+    let mut read = 0;
     let mut written = 0;
-    for c in text.chars() {
-        written = write_utf16(dst, written, c);
+    while read < src.len() {
+        let run = widen_ascii(src, read, dst, written);
+        read += run;
+        written += run;
+        if read < src.len() {
+            let code = scalar_at(src, read);
+            written = write_utf16(dst, written, code);
+            read += utf8_len(code);
+        }
     }
     Ok(written as u64)
 }

@@ -1,5 +1,5 @@
 -- The text of a transcript.
-use Rattle.std.specs.Prelude.{ℕ, ◌-◌, ◌==◌, ◌&&◌, ◌||◌, nat_le, not, if◌then◌else◌, Bool, true, false, List, [], ◌∷◌, ◌++◌, codes, drop, flat_map, length, map, replicate, string_bytes, take, String}
+use Rattle.std.specs.Prelude.{ℕ, ◌-◌, ◌==◌, ◌&&◌, ◌||◌, nat_le, not, if◌then◌else◌, Bool, Box, Err, None, Ok, Option, Result, Some, true, false, List, [], ◌∷◌, ◌++◌, codes, drop, flat_map, length, map, replicate, string_bytes, take, String}
 use Rattle.std.specs.Fmt.{decimal, digits, signed_decimal}
 use Rattle.std.specs.List.{join_with_byte}
 use Rattle.std.specs.Str.{chars}
@@ -61,6 +61,22 @@ joined texts = join_with_byte 0x2C texts
 abbrev pub labelled : String Global × List ℕ → List ℕ
 labelled field = name_text (string_bytes field.0) ++ codes ":" ++ field.1
 
+-- a key and its value
+abbrev pub paired : List ℕ × List ℕ → List ℕ
+paired pair = pair.0 ++ codes "=" ++ pair.1
+
+-- a payload in brackets, if there is one
+abbrev pub wrapped : Option (Box (List ℕ) Global) → List ℕ
+wrapped None = []
+wrapped (Some payload) = codes "(" ++ payload.value ++ codes ")"
+
+abbrev pub flag_text : String Global → List ℕ
+flag_text name = name_text (string_bytes name)
+
+-- names with a bar between them
+abbrev pub flags_text : List (String Global) → List ℕ
+flags_text names = codes "<" ++ join_with_byte 0x7C (map flag_text names) ++ codes ">"
+
 -- the text of one layer of a value, which has the texts of its members in their place
 abbrev pub layer_text : Val-F (List ℕ) → List ℕ
 layer_text (Val-F.Bool b) = bool_text b
@@ -77,19 +93,46 @@ layer_text (Val-F.Float64 bits) = codes "f64:" ++ hexadecimal 16 bits
 layer_text (Val-F.Char c) = codes "'" ++ escaped c ++ codes "'"
 layer_text (Val-F.String s) = quoted (string_bytes s)
 layer_text (Val-F.List items) = codes "[" ++ joined items.items ++ codes "]"
+layer_text (Val-F.Map pairs) = codes "map[" ++ joined (map paired pairs.items) ++ codes "]"
 layer_text (Val-F.Record fields) = codes "{" ++ joined (map labelled fields.items) ++ codes "}"
 layer_text (Val-F.Tuple parts) = codes "(" ++ joined parts.items ++ codes ")"
+layer_text (Val-F.Variant name payload) = name_text (string_bytes name) ++ wrapped payload
+layer_text (Val-F.Enum name) = name_text (string_bytes name)
+layer_text (Val-F.Option None) = codes "none"
+layer_text (Val-F.Option (Some payload)) = codes "some" ++ wrapped (Some payload)
+layer_text (Val-F.Result (Ok payload)) = codes "ok" ++ wrapped payload
+layer_text (Val-F.Result (Err payload)) = codes "err" ++ wrapped payload
+layer_text (Val-F.Flags names) = flags_text names.items
 layer_text (Val-F.FixedLengthList items) = codes "[" ++ joined items.items ++ codes "]"
 
 abbrev pub value_text : Val → List ℕ
 value_text = fold-Val (List ℕ) layer_text
 
--- a field, and the texts of a record of these fields and of values in a row between these brackets
+-- a field, and the texts of a record of these fields, of a map of these pairs, of a payload, and of values in a row between
+-- these brackets
 abbrev pub field_text : String Global × Val → List ℕ
 field_text field = labelled (field.0, value_text field.1)
 
 abbrev pub fields_text : List (String Global × Val) → List ℕ
 fields_text fields = codes "{" ++ joined (map field_text fields) ++ codes "}"
+
+abbrev pub pair_text : Val × Val → List ℕ
+pair_text pair = paired (value_text pair.0, value_text pair.1)
+
+abbrev pub pairs_text : List (Val × Val) → List ℕ
+pairs_text pairs = codes "map[" ++ joined (map pair_text pairs) ++ codes "]"
+
+abbrev pub payload_text : Option (Box Val Global) → List ℕ
+payload_text None = []
+payload_text (Some payload) = codes "(" ++ value_text payload.value ++ codes ")"
+
+abbrev pub option_text : Option (Box Val Global) → List ℕ
+option_text None = codes "none"
+option_text (Some payload) = codes "some" ++ payload_text (Some payload)
+
+abbrev pub result_text : Result (Option (Box Val Global)) (Option (Box Val Global)) → List ℕ
+result_text (Ok payload) = codes "ok" ++ payload_text payload
+result_text (Err payload) = codes "err" ++ payload_text payload
 
 abbrev pub row_text : List ℕ → List Val → List ℕ → List ℕ
 row_text before values after = before ++ joined (map value_text values) ++ after
@@ -108,6 +151,10 @@ at_text (at.Address a) = codes "@" ++ decimal a
 abbrev pub fault_text : Fault → List ℕ
 fault_text (fault.TypeMismatch place) = codes "TypeMismatch " ++ decimal place
 fault_text (fault.FieldName place) = codes "FieldName " ++ decimal place
+fault_text (fault.UnknownCase place) = codes "UnknownCase " ++ decimal place
+fault_text (fault.UnknownFlag place) = codes "UnknownFlag " ++ decimal place
+fault_text (fault.PayloadExpected place) = codes "PayloadExpected " ++ decimal place
+fault_text (fault.PayloadNotExpected place) = codes "PayloadNotExpected " ++ decimal place
 fault_text (fault.LengthMismatch place) = codes "LengthMismatch " ++ decimal place
 fault_text (fault.StringTooLong bytes) = codes "StringTooLong " ++ decimal bytes
 fault_text (fault.SizeOverflow count) = codes "SizeOverflow " ++ decimal count
@@ -118,6 +165,7 @@ fault_text (fault.PointerMisaligned a) = codes "PointerMisaligned " ++ at_text a
 fault_text (fault.PointerOutOfBounds a) = codes "PointerOutOfBounds " ++ at_text a
 fault_text (fault.InvalidUtf8 a) = codes "InvalidUtf8 " ++ at_text a
 fault_text (fault.InvalidChar a) = codes "InvalidChar " ++ at_text a
+fault_text (fault.BadDiscriminant a number) = codes "BadDiscriminant " ++ at_text a ++ codes " " ++ decimal number
 fault_text fault.HostcallFuelExhausted = codes "HostcallFuelExhausted"
 -- no transcript holds it: a script that wants memory ends without a record
 fault_text fault.OutOfMemory = codes "OutOfMemory"

@@ -34,6 +34,10 @@ fn print_fault(text: &mut String, fault: Fault) -> Result<(), AllocError>
     match fault {
         Fault::TypeMismatch(place) => write!(text, "TypeMismatch {place}"),
         Fault::FieldName(place) => write!(text, "FieldName {place}"),
+        Fault::UnknownCase(place) => write!(text, "UnknownCase {place}"),
+        Fault::UnknownFlag(place) => write!(text, "UnknownFlag {place}"),
+        Fault::PayloadExpected(place) => write!(text, "PayloadExpected {place}"),
+        Fault::PayloadNotExpected(place) => write!(text, "PayloadNotExpected {place}"),
         Fault::LengthMismatch(place) => write!(text, "LengthMismatch {place}"),
         Fault::StringTooLong(bytes) => write!(text, "StringTooLong {bytes}"),
         Fault::SizeOverflow(count) => write!(text, "SizeOverflow {count}"),
@@ -44,6 +48,10 @@ fn print_fault(text: &mut String, fault: Fault) -> Result<(), AllocError>
         Fault::PointerOutOfBounds(at) => print_at(text, "PointerOutOfBounds ", at),
         Fault::InvalidUtf8(at) => print_at(text, "InvalidUtf8 ", at),
         Fault::InvalidChar(at) => print_at(text, "InvalidChar ", at),
+        Fault::BadDiscriminant(at, number) => {
+            print_at(text, "BadDiscriminant ", at)?;
+            write!(text, " {number}")
+        }
         Fault::HostcallFuelExhausted => text.push_str("HostcallFuelExhausted"),
         Fault::OutOfMemory => text.push_str("OutOfMemory"),
     }

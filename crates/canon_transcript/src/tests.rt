@@ -36,6 +36,57 @@ fn a_value_prints_its_text(rt: HostRuntime) -> Result<(), Fail> {
     Ok(())
 }
 
+fn name(alloc: Global, text: &str) -> Result<String, Fail> {
+    Ok(String::from_str(alloc, text)?)
+}
+
+fn payload(alloc: Global, value: Val) -> Result<Option<Box<Val>>, Fail> {
+    Ok(Some(Box::new(alloc, value)?))
+}
+
+/// Two keys and their values.
+fn pairs(alloc: Global) -> Result<Val, Fail> {
+    let mut pairs = Vec::new(alloc);
+    pairs.push((Val::U8(1), Val::Bool(false)))?;
+    pairs.push((Val::U8(0), Val::Bool(true)))?;
+    Ok(Val::Map(pairs))
+}
+
+/// Flags that are set.
+fn set(alloc: Global) -> Result<Val, Fail> {
+    let mut names = Vec::new(alloc);
+    names.push(name(alloc, "b")?)?;
+    names.push(name(alloc, "a'")?)?;
+    Ok(Val::Flags(names))
+}
+
+/// Variants, an enum, options and results.
+fn cases(alloc: Global) -> Result<Val, Fail> {
+    let mut cases = Vec::new(alloc);
+    cases.push(Val::Variant(name(alloc, "x")?, None))?;
+    cases.push(Val::Variant(name(alloc, "y")?, payload(alloc, Val::U8(1))?))?;
+    cases.push(Val::Enum(name(alloc, "\"")?))?;
+    cases.push(Val::Option(None))?;
+    cases.push(Val::Option(payload(alloc, Val::Option(None))?))?;
+    cases.push(Val::Result(Ok(None)))?;
+    cases.push(Val::Result(Err(payload(alloc, Val::U8(2))?)))?;
+    Ok(Val::Tuple(cases))
+}
+
+#[test]
+fn cases_maps_and_flags_print_their_texts(rt: HostRuntime) -> Result<(), Fail> {
+    let printed = value_text(rt.alloc(), &cases(rt.alloc())?)?;
+    assert_eq!(rt;
+        printed.as_str(),
+        "(x,y(1),\\u{22},none,some(none),ok,err(2))"
+    );
+    let printed = value_text(rt.alloc(), &pairs(rt.alloc())?)?;
+    assert_eq!(rt; printed.as_str(), "map[1=false,0=true]");
+    let printed = value_text(rt.alloc(), &set(rt.alloc())?)?;
+    assert_eq!(rt; printed.as_str(), "<b|a\\u{27}>");
+    Ok(())
+}
+
 #[test]
 fn an_error_prints_its_name_and_what_it_carries(rt: HostRuntime) -> Result<(), Fail> {
     // A text or a list of so many bytes or items is in no script.
@@ -52,6 +103,10 @@ fn an_error_prints_its_name_and_what_it_carries(rt: HostRuntime) -> Result<(), F
         (
             Error::Fault(Fault::PointerOutOfBounds(At::Word(16))),
             "PointerOutOfBounds w16",
+        ),
+        (
+            Error::Fault(Fault::BadDiscriminant(At::Address(2048), 2)),
+            "BadDiscriminant @2048 2",
         ),
     ];
     for (error, text) in rows {

@@ -44,10 +44,85 @@ fn print_value(text: &mut String, value: &Val) -> Result<(), AllocError>
         Val::Char(c) => print_char(text, *c),
         Val::String(content) => print_quoted(text, content),
         Val::List(items) => print_row(text, "[", items, "]"),
+        Val::Map(pairs) => print_map(text, pairs),
         Val::Record(fields) => print_record(text, fields),
         Val::Tuple(parts) => print_row(text, "(", parts, ")"),
+        Val::Variant(name, payload) => {
+            print_name(text, name)?;
+            print_payload(text, payload)
+        }
+        Val::Enum(name) => print_name(text, name),
+        Val::Option(payload) => print_option(text, payload),
+        Val::Result(outcome) => match outcome {
+            Ok(payload) => print_case(text, "ok", payload),
+            Err(payload) => print_case(text, "err", payload),
+        },
+        Val::Flags(names) => print_flags(text, names),
         Val::FixedLengthList(items) => print_row(text, "[", items, "]"),
     }
+}
+
+#[cycle(print)]
+fn print_option(text: &mut String, payload: &Option<Box<Val>>) -> Result<(), AllocError>
+    ensures { OnOk result (string_bytes text.new ≡ string_bytes text.old ++ spec.option_text payload.now) }
+{
+    if payload.is_none() {
+        return text.push_str("none");
+    }
+    print_case(text, "some", payload)
+}
+
+/// Prints this word, and a payload in brackets, if there is one.
+#[cycle(print)]
+fn print_case(text: &mut String, word: &str, payload: &Option<Box<Val>>) -> Result<(), AllocError>
+    ensures { OnOk result (string_bytes text.new ≡ string_bytes text.old ++ (word.now ++ spec.payload_text payload.now)) }
+{
+    text.push_str(word)?;
+    print_payload(text, payload)
+}
+
+/// Prints a payload in brackets, if there is one.
+#[cycle(print)]
+fn print_payload(text: &mut String, payload: &Option<Box<Val>>) -> Result<(), AllocError>
+    ensures { OnOk result (string_bytes text.new ≡ string_bytes text.old ++ spec.payload_text payload.now) }
+{
+    match payload {
+        None => Ok(()),
+        Some(value) => {
+            text.push_str("(")?;
+            print_value(text, value)?;
+            text.push_str(")")
+        }
+    }
+}
+
+#[cycle(print)]
+fn print_map(text: &mut String, pairs: &[(Val, Val)]) -> Result<(), AllocError>
+    ensures { OnOk result (string_bytes text.new ≡ string_bytes text.old ++ spec.pairs_text pairs.now) }
+{
+    text.push_str("map[")?;
+    let mut is_first = true;
+    for (key, value) in pairs {
+        separate(text, is_first, ",")?;
+        print_value(text, key)?;
+        text.push_str("=")?;
+        print_value(text, value)?;
+        is_first = false;
+    }
+    text.push_str("]")
+}
+
+fn print_flags(text: &mut String, names: &[String]) -> Result<(), AllocError>
+    ensures { OnOk result (string_bytes text.new ≡ string_bytes text.old ++ spec.flags_text names.now) }
+{
+    text.push_str("<")?;
+    let mut is_first = true;
+    for name in names {
+        separate(text, is_first, "|")?;
+        print_name(text, name)?;
+        is_first = false;
+    }
+    text.push_str(">")
 }
 
 #[cycle(print)]
@@ -57,7 +132,7 @@ fn print_record(text: &mut String, fields: &[(String, Val)]) -> Result<(), Alloc
     text.push_str("{")?;
     let mut is_first = true;
     for (name, value) in fields {
-        separate(text, is_first)?;
+        separate(text, is_first, ",")?;
         print_name(text, name)?;
         text.push_str(":")?;
         print_value(text, value)?;
@@ -74,21 +149,21 @@ fn print_row(text: &mut String, before: &str, values: &[Val], after: &str) -> Re
     text.push_str(before)?;
     let mut is_first = true;
     for value in values {
-        separate(text, is_first)?;
+        separate(text, is_first, ",")?;
         print_value(text, value)?;
         is_first = false;
     }
     text.push_str(after)
 }
 
-/// Prints a comma, but before the first of a row.
-fn separate(text: &mut String, is_first: bool) -> Result<(), AllocError>
-    ensures { OnOk result (string_bytes text.new ≡ string_bytes text.old ++ (if is_first then [] else codes ",")) }
+/// Prints this separator, but before the first of a row.
+fn separate(text: &mut String, is_first: bool, separator: &str) -> Result<(), AllocError>
+    ensures { OnOk result (string_bytes text.new ≡ string_bytes text.old ++ (if is_first then [] else separator.now)) }
 {
     if is_first {
         return Ok(());
     }
-    text.push_str(",")
+    text.push_str(separator)
 }
 
 #[tactic(auto, using(crate::proofs::Digits::padded_hexadecimal))]

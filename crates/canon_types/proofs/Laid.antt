@@ -146,6 +146,7 @@ same_info : (info : VariantInfo) (cs ds : Cases) → SameCases cs ds → HasInfo
 same_info info cs ds h has = record {
   size = has.size ∙ ap tag_size (sym h.count);
   offset = has.offset ∙ sym (same_offset cs ds h);
+  few = omega (arith, has.few, h.count);
 }
 
 named_same : (known : List Shape) (cs : List (Name × Option InterfaceType)) → SameCases (cases_in known cs) (unnamed_cases known (map (λ c. c.1) cs))

@@ -12,7 +12,7 @@ use Rattle.canon_model.specs.Text.{Encoding}
 use Rattle.canon_types.specs.Table.{Table, members_of}
 use Rattle.canon_types.specs.declared.types.InterfaceType.{InterfaceType}
 use Rattle.canon_value.specs.Lifts.{ArePartsLifted, AreTaken, LiftsTo, MembersLiftTo, PartsLiftTo}
-use Rattle.canon_value.specs.Loads.{LiftBlames, Told}
+use Rattle.canon_value.specs.Loads.{LiftBlames, ToldAt}
 use Rattle.canon_value.specs.Plan.{IsRebuilt, Unnamed, parts_of, whole}
 use Rattle.canon_value.specs.Viewed.{LiesAs}
 use Rattle.canon_value.specs.declared.fault.Fault.{Fault}
@@ -85,7 +85,7 @@ module _ (enc : Encoding) (m : Memory) (ws : List ℕ) where
     whole_lifted vs (Err e) h made only = subst (λ x. LiftsTo enc m ws from to before after s (Err x)) (sym only) tt
 
   pub parts_told : (s : Shape) (these : Members) (i before mid : ℕ) → WeighsWords s these i → before ≡ mid + member_count these * val_cost → (e : Fault)
-      → LiftBlames (Told (MemberFlatFault enc m ws these i)) (mid < names_length these + members_flat_reach enc m ws these i) e → LiftBlames (Told (FlatFault enc m ws s i)) (before < flat_reach enc m ws s i) e
+      → LiftBlames (ToldAt (MemberFlatFault enc m ws these i)) (mid < names_length these + members_flat_reach enc m ws these i) e → LiftBlames (ToldAt (FlatFault enc m ws s i)) (before < flat_reach enc m ws s i) e
   parts_told s these i before mid w charged e h =
       told_by (MemberFlatFault enc m ws these i) (FlatFault enc m ws s i) _ _ w.blames (λ (low : mid < names_length these + members_flat_reach enc m ws these i). w.low before (omega (arith, low, charged))) e h
 

@@ -14,7 +14,7 @@ use Rattle.canon_model.specs.Reach.{At, Kind, MemberFault, StoredFault, members_
 use Rattle.canon_model.specs.Shape.{Members, Shape, borrow, fixed, flags, list, member_count, of_fields, of_items, of_places, own, product, scalar, string, variant}
 use Rattle.canon_model.specs.Text.{Encoding}
 use Rattle.canon_model.specs.Tree.{Trees, items, no_trees, sum_of, tree, tree_count}
-use Rattle.canon_value.specs.Loads.{AreCharged, Exactly, IsListLoaded, IsLoaded, IsRowLoaded, LiftBlames, charged_reach, place_of}
+use Rattle.canon_value.specs.Loads.{AreCharged, Exactly, IsLoaded, LiftBlames, charged_reach, place_of}
 use Rattle.canon_value.specs.Plan.{ArePartsLoaded, IsRebuilt, Unnamed, parts_of, whole}
 use Rattle.canon_value.specs.Viewed.{LiesAs}
 use Rattle.canon_value.specs.declared.fault.Fault.{Fault}
@@ -70,16 +70,6 @@ module _ (enc : Encoding) (bytes : List ℕ) where
     pub row_blame : (k : Kind) (x : At) → MemberFault enc (narrow bytes) (copies n s) 0 p k x → RowFault enc bytes s p n k x
     row_blame k x f = copies_blame n 0 p p s k x (no_offset (align false s)) (omega arith) f
 
-    pub row_blamed : (now : ℕ) (e : Fault) → LiftBlames (Exactly (MemberFault enc (narrow bytes) (copies n s) 0 p)) (now < charged_reach enc (narrow bytes) (copies n s) 0 p) e
-        → LiftBlames (Exactly (RowFault enc bytes s p n)) (now < row_reach enc bytes s p n) e
-    row_blamed now e h = blamed_by (Exactly (MemberFault enc (narrow bytes) (copies n s) 0 p)) (Exactly (RowFault enc bytes s p n)) (now < charged_reach enc (narrow bytes) (copies n s) 0 p) (now < row_reach enc bytes s p n)
-        (λ k x f. row_blame k (place_of x) f) (λ low. subst (λ (k : ℕ). now < k) row_low low) e h
-
-    pub row_charged : (now after : ℕ) (vs : List Val) → AreCharged enc (narrow bytes) (copies n s) 0 p now after vs → IsRowLoaded enc (narrow bytes) s p n now after vs
-    row_charged now after vs (ts, stored, have, spent) =
-        let (each, count) = copies_stored (Inside (narrow bytes)) false enc (narrow bytes) n 0 s p p ts (no_offset (align false s)) (omega arith) stored in
-        (ts, count, each, (copies_have n s vs ts have).1, omega (arith, spent, copies_nameless n s, copies_cost n s ts count))
-
     pub row_aligned : p % align false s ≡ 0 → p % members_align false (copies n s) ≡ 0
     row_aligned e = aligned_part p (members_align false (copies n s)) (align false s) (members_alignment false (copies n s)) (alignment false s) (copies_align n s (omega (arith, (alignment false s)))) e
 
@@ -128,17 +118,6 @@ weighs enc bytes (flags names) these a e none = absurd e
 pub whole_loaded : (enc : Encoding) (bytes : List ℕ) (s : Shape) (a before after : ℕ) (vs : List Val) (v : Val) → ArePartsLoaded enc (narrow bytes) s a before after vs → IsRebuilt s vs v → IsLoaded enc (narrow bytes) s a before after v
 whole_loaded enc bytes s a before after vs v (ts, rep, have, spent) made = (whole s ts, rep, made ts have, spent)
 
--- a list whose items were loaded
-pub list_parts : (enc : Encoding) (bytes : List ℕ) (s : Shape) (a before p n : ℕ) → p ≡ pointer_at (narrow bytes) a → n ≡ length_at (narrow bytes) a → (after : ℕ) (vs : List Val) → a + 8 ≤ length bytes
-    → IsListLoaded enc (narrow bytes) s p n before after vs → ArePartsLoaded enc (narrow bytes) (list of_items s) a before after vs
-unfolding cost
-list_parts enc bytes s a before p n pointer long after vs inside loaded =
-    let (ts, h, have, spent) = subst (λ q. IsListLoaded enc (narrow bytes) s q (length_at (narrow bytes) a) before after vs) pointer (subst (λ j. IsListLoaded enc (narrow bytes) s p j before after vs) long loaded) in
-    let same : items ts ≡ items h.trees = h.is in
-    let those : ts ≡ h.trees = cc in
-    let count : tree_count ts ≡ length_at (narrow bytes) a = ap tree_count those ∙ h.count in
-    (ts, (inside, h), have_copies (length vs) s vs ts refl have, spent ∙ ap (λ k. after + (k * val_cost + sum_of (λ t. cost s t) ts)) (sym count))
-
 pub parts_refused : (enc : Encoding) (bytes : List ℕ) (s : Shape) (these : Members) (a before mid : ℕ) → Weighs enc bytes s these a → before ≡ mid + member_count these * val_cost → (e : Fault)
     → LiftBlames (Exactly (MemberFault enc (narrow bytes) these 0 a)) (mid < charged_reach enc (narrow bytes) these 0 a) e → LiftBlames (Exactly (StoredFault enc (narrow bytes) s a)) (before < reach_cost enc (narrow bytes) s a) e
 parts_refused enc bytes s these a before mid w charged e h =
@@ -148,11 +127,7 @@ parts_refused enc bytes s these a before mid w charged e h =
 pub parts_count : (enc : Encoding) (bytes : List ℕ) (s : Shape) (a before after : ℕ) (vs : List Val) → ArePartsLoaded enc (narrow bytes) s a before after vs → length vs ≡ member_count (parts_of s (length vs))
 parts_count enc bytes s a before after vs (ts, rep, have, spent) = have_count (parts_of s (length vs)) vs ts have
 
--- where a list or a text stands, 8 bytes are inside
-pub list_room : (bytes : List ℕ) (s element : Shape) (a : ℕ) → s ≡ list of_items element → a + size false s ≤ length bytes → a + 8 ≤ length bytes
-unfolding size
-list_room bytes s element a e h = subst (λ x. a + size false x ≤ length bytes) e h
-
+-- where a text stands, 8 bytes are inside
 pub text_room : (bytes : List ℕ) (s : Shape) (a : ℕ) → s ≡ string → a + size false s ≤ length bytes → a + 8 ≤ length bytes
 unfolding size
 text_room bytes s a e h = subst (λ x. a + size false x ≤ length bytes) e h

@@ -1,5 +1,5 @@
 -- A text or a list in a block of its own.
-use Rattle.std.proofs.Common.{◌≡◌, ◌≤◌, ◌<◌, ◌+◌, ◌^◌, ◌∙◌, Err, List, Ok, Result, String, [], ◌∷◌, ap, arith, length, refl, string_bytes, subst, sym, ℕ, false, Vec, inl, ◌*◌, ◌⊎◌}
+use Rattle.std.proofs.Common.{◌≡◌, ◌≤◌, ◌<◌, ◌+◌, ◌^◌, ◌∙◌, Err, List, Ok, Result, String, [], ◌∷◌, ap, arith, length, refl, string_bytes, subst, subst₂, sym, ℕ, false, ◌*◌, ◌⊎◌}
 use Rattle.std.specs.declared.alloc.Global.{Global}
 use Rattle.canon_lowering.proofs.TextSteps.{text_begin, text_begin_stop, text_end, text_write}
 use Rattle.canon_lowering.proofs.Attempts.{attempt_refused, attempt_other}
@@ -12,25 +12,26 @@ use Rattle.canon_memory.specs.Memory.{written_over}
 use Rattle.canon_memory.specs.Realloc.{block, call}
 use Rattle.canon_model.specs.Memory.{bytes_at}
 use Rattle.canon_model.specs.Requests.{Call, Request, anew, text_requests}
-use Rattle.canon_model.specs.Shape.{Shape, string, list, of_items}
+use Rattle.canon_model.specs.Shape.{Members, Shape, string, list}
 use Rattle.canon_model.specs.Text.{Encoding, Spells, in_utf8, utf8}
-use Rattle.canon_model.specs.Tree.{Tree, scalars_of}
+use Rattle.canon_model.specs.Tree.{Tree, scalars_of, tree_count, trees_of}
+use Rattle.canon_types.specs.Depth.{element_shape}
 use Rattle.canon_value.specs.Core.{Parts, encoding_by, guest_of, moment_of}
-use Rattle.canon_value.specs.Fails.{Blames, Failure, FailsAt}
+use Rattle.canon_value.specs.Fails.{Blames, Failure, FailsAt, MemberFails, overflow}
 use Rattle.canon_value.specs.Lowers.{fault_ending, ending_of}
-use Rattle.canon_value.specs.Stores.{PlacesTo, AsksFor, Counts, FieldsCount, PartsStoreTo}
-use Rattle.canon_value.specs.Value.{HasTree, cap, no_names, places}
+use Rattle.canon_value.specs.Stores.{PlacesTo, AsksFor, Counts, PartsStoreTo}
+use Rattle.canon_value.specs.Value.{HasTree, all_places, cap, no_names, places}
 use Rattle.canon_value.specs.declared.blocks.Placed.{Placed}
 use Rattle.canon_value.specs.declared.fault.Fault.{Fault}
 use Rattle.canon_value.specs.declared.fault.Fault.TheVariants as fault
 use Rattle.canon_value.specs.declared.val.Val.{Val}
 use Rattle.canon_value.specs.declared.val.Val.TheVariants as val
-use Rattle.canon_value.proofs.Contents.{places_text, spelled, text_scalars, each_count, list_trees}
+use Rattle.canon_value.proofs.Contents.{places_text, spelled, text_scalars}
+use Rattle.canon_value.proofs.Listing.{IsListOf}
 use Rattle.canon_value.proofs.Moves.{moves_none, moves_written, GuestLaws, moves_then}
 use Rattle.canon_value.proofs.StoreSteps.{not_done, written_whole, Named, count_members, same_encoding, same_then}
-use Rattle.canon_value.proofs.Walks.{copies_names, list_counted, row_is, row_back}
-use Rattle.canon_lowering.proofs.AimedPairs.{list_words, list_ungiven}
-use Rattle.canon_lowering.specs.Copies.{copies}
+use Rattle.canon_value.proofs.Steps.{blames_later}
+use Rattle.canon_lowering.proofs.AimedPairs.{list_ungiven, rows_words}
 use Rattle.canon_model.specs.Layout.{size}
 use Rattle.canon_value.specs.Moves.{Moves}
 use Rattle.canon_value.specs.declared.fault.Fault.TheVariants as fault
@@ -46,12 +47,17 @@ asked_blames F from a b c fault.OutOfMemory p h = tt
 asked_blames F from a b c (fault.TypeMismatch k) p h = absurd h
 asked_blames F from a b c (fault.LengthMismatch k) p h = absurd h
 asked_blames F from a b c (fault.FieldName k) p h = absurd h
+asked_blames F from a b c (fault.UnknownCase k) p h = absurd h
+asked_blames F from a b c (fault.UnknownFlag k) p h = absurd h
+asked_blames F from a b c (fault.PayloadExpected k) p h = absurd h
+asked_blames F from a b c (fault.PayloadNotExpected k) p h = absurd h
 asked_blames F from a b c (fault.StringTooLong n) p h = absurd h
 asked_blames F from a b c (fault.SizeOverflow n) p h = absurd h
 asked_blames F from a b c (fault.PointerMisaligned x) p h = absurd h
 asked_blames F from a b c (fault.PointerOutOfBounds x) p h = absurd h
 asked_blames F from a b c (fault.InvalidUtf8 x) p h = absurd h
 asked_blames F from a b c (fault.InvalidChar x) p h = absurd h
+asked_blames F from a b c (fault.BadDiscriminant x n) p h = absurd h
 asked_blames F from a b c fault.HostcallFuelExhausted p h = absurd h
 
 -- ---- a text in UTF-8
@@ -127,57 +133,75 @@ module _ {T G : Type 0} (L : GuestLaws G) (options : ℕ) where
           same = ap (λ (x : Parts T G). record x { memory = m }) h.same;
         })
 
--- ---- a list in a block of its own
+-- ---- a list or a map in a block of its own
 
-module _ {T G : Type 0} (L : GuestLaws G) (options : ℕ) where
-  pub list_too_large : (a : Parts T G) (s : Shape) (xs : Vec Val Global) (place n : ℕ) → length a.memory ≤ 2 ^ 32 → n ≡ length xs.items → (2 ^ 32 ≤ n) ⊎ (2 ^ 32 ≤ n * size false s)
-      → PlacesTo L.seen L.moves options a a (list of_items s) (val.List xs) place (Err (fault.SizeOverflow n))
-  list_too_large a s xs place n small is many = unplaced L options a (list of_items s) (val.List xs) place (fault.SizeOverflow n) small refl (0, inl (refl, (xs.items, (xs, refl, refl), is, many)))
+module _ (whole : Shape) (v : Val) (n : ℕ) (ms : Members) (vs : List Val) (l : IsListOf whole v n ms vs) where
+  abbrev shape : Shape
+  shape = list l.kind l.part
 
-  -- its block isn't given
-  pub list_refused : (a b : Parts T G) (s : Shape) (xs : Vec Val Global) (place n : ℕ) (e : Fault) → n ≡ length xs.items → AsksFor L.seen L.moves a b (items_call false s n) (Err e)
-      → PlacesTo L.seen L.moves options a b (list of_items s) (val.List xs) place (Err e)
-  list_refused a b s xs place n e is h = record {
-    lowered = list_ungiven false (moment_of L.seen a) (moment_of L.seen b) (encoding_by a options) of_items s n 0 [] 0 (HasTree (list of_items s) (val.List xs)) (fault_ending e) (not_done e) h.small
-        (λ t has. each_count (λ v u. HasTree s v u) xs.items _ (list_trees s xs t has) ∙ sym is) h.does;
-    narrow = tt;
-    counted = asked_blames (λ how k. FailsAt how (list of_items s) (val.List xs) k) place (moment_of L.seen a) (moment_of L.seen b) (items_call false s n) e 0 h.does;
-    moved = h.moved;
-    same = h.same;
-  }
+  -- the shape by its parts
+  by_parts : (P : Shape → Type 0) → P shape → P whole
+  by_parts P h = subst P (sym l.shape) h
 
-  -- its block is given, and its items are stored there
-  module _ (a b c : Parts T G) (s : Shape) (xs : Vec Val Global) (place n p : ℕ) (is : n ≡ length xs.items) (few : n < 2 ^ 32) (g : AsksFor L.seen L.moves a b (items_call false s n) (Ok p)) where
-    module _ (r : Result ℕ Fault) (h : PartsStoreTo L.seen L.moves options b c place (copies (length xs.items) s) 0 p (no_names xs.items) xs.items (cap (place + 1)) r) where
-      row_words : LowersValue false (moment_of L.seen a) (moment_of L.seen c) (encoding_by a options) (list of_items s) (p ∷ n ∷ []) 0 (HasTree (list of_items s) (val.List xs)) (ending_of r)
-      row_words = list_words false (moment_of L.seen a) (moment_of L.seen b) (moment_of L.seen c) (encoding_by a options) of_items s n p (Named (copies n s) (no_names xs.items) xs.items) (HasTree (list of_items s) (val.List xs)) (ending_of r) g.small g.does
-          (λ _. few) (row_is n s xs (sym is)) (row_back n s xs (sym is))
-          (subst (λ (k : ℕ). StoresMembers false (moment_of L.seen b) (moment_of L.seen c) (encoding_by a options) (copies k s) 0 p (Named (copies k s) (no_names xs.items) xs.items) (ending_of r)) (sym is)
-          (subst (λ (x : Encoding). StoresMembers false (moment_of L.seen b) (moment_of L.seen c) x (copies (length xs.items) s) 0 p (Named (copies (length xs.items) s) (no_names xs.items) xs.items) (ending_of r)) (same_encoding a b options g.same) h.storing))
+  list_count : (t : Tree) → HasTree shape v t → tree_count (trees_of t) ≡ n
+  list_count t has = let (named, same) = l.back t has in ap tree_count same ∙ (l.row utf8).count (l.ungroup t) (l.is (l.ungroup t) named).1
 
-      row_counted : Counts (λ how k. FailsAt how (list of_items s) (val.List xs) k) place (places (val.List xs)) r
-      row_counted = list_counted n s xs place r (count_members place (copies n s) (no_names xs.items) xs.items (cap (place + 1)) r (copies_names n s xs.items (sym is))
-          (subst (λ (k : ℕ). FieldsCount place (copies k s) (no_names xs.items) xs.items (cap (place + 1)) r) (sym is) h.counted))
+  counts : (place : ℕ) (r : Result ℕ Fault) → Counts (λ how k. MemberFails how ms vs k) (cap (place + 1)) (all_places vs) r → Counts (λ how k. FailsAt how shape v k) place (places v) r
+  counts place (Ok to) e = omega (arith, e, l.counted)
+  counts place (Err e) b = blames_later (λ how k. MemberFails how ms vs k) (λ how k. FailsAt how shape v k) 1 place (cap (place + 1)) e refl l.fails b
 
-      row_moves : Moves L.seen L.moves (guest_of a) (guest_of c) (ending_of r)
-      row_moves = moves_then L (guest_of a) (guest_of b) (guest_of c) (ending_of r) _ _ g.does.answered.goes.events h.storing.lowering.goes.events g.moved h.moved
+  module _ {T G : Type 0} (L : GuestLaws G) (options : ℕ) where
+    pub list_too_large : (a : Parts T G) (place k : ℕ) → length a.memory ≤ 2 ^ 32 → k ≡ n → (2 ^ 32 ≤ k) ⊎ (2 ^ 32 ≤ k * size false (element_shape whole)) → PlacesTo L.seen L.moves options a a whole v place (Err (fault.SizeOverflow k))
+    list_too_large a place k small is many =
+        let large : (2 ^ 32 ≤ n) ⊎ (2 ^ 32 ≤ n * size false l.part) = subst₂ (λ (j : ℕ) (s : Shape). (2 ^ 32 ≤ j) ⊎ (2 ^ 32 ≤ j * size false s)) is (ap element_shape l.shape) many in
+        subst (λ (j : ℕ). PlacesTo L.seen L.moves options a a whole v place (Err (fault.SizeOverflow j))) (sym is)
+        (unplaced L options a whole v place (fault.SizeOverflow n) small refl (0, by_parts (λ s. FailsAt (overflow n) s v 0) (l.overflows large)))
 
-    pub list_placed : (next : ℕ) → PartsStoreTo L.seen L.moves options b c place (copies (length xs.items) s) 0 p (no_names xs.items) xs.items (cap (place + 1)) (Ok next)
-        → PlacesTo L.seen L.moves options a c (list of_items s) (val.List xs) place (Ok (record { pointer = p; length = n; next = next }))
-    list_placed next h = record {
-      lowered = row_words (Ok next) h;
-      narrow = (g.does.narrow, few);
-      counted = row_counted (Ok next) h;
-      moved = row_moves (Ok next) h;
-      same = same_then a b c g.same h.same;
-    }
+    -- its block isn't given
+    pub list_refused : (a b : Parts T G) (place k : ℕ) (e : Fault) → k ≡ n → AsksFor L.seen L.moves a b (items_call false (element_shape whole) k) (Err e) → PlacesTo L.seen L.moves options a b whole v place (Err e)
+    list_refused a b place k e is asked =
+        let h : AsksFor L.seen L.moves a b (items_call false l.part n) (Err e) = subst₂ (λ (j : ℕ) (s : Shape). AsksFor L.seen L.moves a b (items_call false s j) (Err e)) is (ap element_shape l.shape) asked in
+        by_parts (λ s. PlacesTo L.seen L.moves options a b s v place (Err e)) (record {
+          lowered = list_ungiven false (moment_of L.seen a) (moment_of L.seen b) (encoding_by a options) l.kind l.part n 0 [] 0 (HasTree shape v) (fault_ending e) (not_done e) h.small list_count h.does;
+          narrow = tt;
+          counted = asked_blames (λ how k. FailsAt how shape v k) place (moment_of L.seen a) (moment_of L.seen b) (items_call false l.part n) e 0 h.does;
+          moved = h.moved;
+          same = h.same;
+        })
 
-    pub list_broken : (e : Fault) → PartsStoreTo L.seen L.moves options b c place (copies (length xs.items) s) 0 p (no_names xs.items) xs.items (cap (place + 1)) (Err e)
-        → PlacesTo L.seen L.moves options a c (list of_items s) (val.List xs) place (Err e)
-    list_broken e h = record {
-      lowered = attempt_other false (moment_of L.seen a) (moment_of L.seen c) [] _ (value_words false (encoding_by a options) (list of_items s) [] 0 (HasTree (list of_items s) (val.List xs))) (fault_ending e) (not_done e) (λ t has. (has, refl)) (row_words (Err e) h);
-      narrow = tt;
-      counted = row_counted (Err e) h;
-      moved = row_moves (Err e) h;
-      same = same_then a b c g.same h.same;
-    }
+    -- its block is given, and its members are stored there
+    module _ (a b c : Parts T G) (place k p : ℕ) (is : k ≡ n) (few : k < 2 ^ 32) (asked : AsksFor L.seen L.moves a b (items_call false (element_shape whole) k) (Ok p)) where
+      g : AsksFor L.seen L.moves a b (items_call false l.part n) (Ok p)
+      g = subst₂ (λ (j : ℕ) (s : Shape). AsksFor L.seen L.moves a b (items_call false s j) (Ok p)) is (ap element_shape l.shape) asked
+
+      module _ (r : Result ℕ Fault) (h : PartsStoreTo L.seen L.moves options b c place ms 0 p (no_names vs) vs (cap (place + 1)) r) where
+        row_words : LowersValue false (moment_of L.seen a) (moment_of L.seen c) (encoding_by a options) shape (p ∷ n ∷ []) 0 (HasTree shape v) (ending_of r)
+        row_words = rows_words false (moment_of L.seen a) (moment_of L.seen b) (moment_of L.seen c) (encoding_by a options) l.kind l.part n p l.all ms l.group l.ungroup (l.row (encoding_by a options))
+            (Named ms (no_names vs) vs) (HasTree shape v) (ending_of r) g.small g.does (λ _. omega (arith, is, few)) l.is l.back
+            (subst (λ (x : Encoding). StoresMembers false (moment_of L.seen b) (moment_of L.seen c) x ms 0 p (Named ms (no_names vs) vs) (ending_of r)) (same_encoding a b options g.same) h.storing)
+
+        row_counted : Counts (λ how k. FailsAt how shape v k) place (places v) r
+        row_counted = counts place r (count_members place ms (no_names vs) vs (cap (place + 1)) r l.named h.counted)
+
+        row_moves : Moves L.seen L.moves (guest_of a) (guest_of c) (ending_of r)
+        row_moves = moves_then L (guest_of a) (guest_of b) (guest_of c) (ending_of r) _ _ g.does.answered.goes.events h.storing.lowering.goes.events g.moved h.moved
+
+      pub list_placed : (next : ℕ) → PartsStoreTo L.seen L.moves options b c place ms 0 p (no_names vs) vs (cap (place + 1)) (Ok next) → PlacesTo L.seen L.moves options a c whole v place (Ok (record { pointer = p; length = k; next = next }))
+      list_placed next h =
+          let here : PlacesTo L.seen L.moves options a c shape v place (Ok (record { pointer = p; length = n; next = next })) = record {
+            lowered = row_words (Ok next) h;
+            narrow = (g.does.narrow, omega (arith, is, few));
+            counted = row_counted (Ok next) h;
+            moved = row_moves (Ok next) h;
+            same = same_then a b c g.same h.same;
+          } in
+          subst (λ (j : ℕ). PlacesTo L.seen L.moves options a c whole v place (Ok (record { pointer = p; length = j; next = next }))) (sym is) (by_parts (λ s. PlacesTo L.seen L.moves options a c s v place (Ok (record { pointer = p; length = n; next = next }))) here)
+
+      pub list_broken : (e : Fault) → PartsStoreTo L.seen L.moves options b c place ms 0 p (no_names vs) vs (cap (place + 1)) (Err e) → PlacesTo L.seen L.moves options a c whole v place (Err e)
+      list_broken e h = by_parts (λ s. PlacesTo L.seen L.moves options a c s v place (Err e)) (record {
+        lowered = attempt_other false (moment_of L.seen a) (moment_of L.seen c) [] _ (value_words false (encoding_by a options) shape [] 0 (HasTree shape v)) (fault_ending e) (not_done e) (λ t has. (has, refl)) (row_words (Err e) h);
+        narrow = tt;
+        counted = row_counted (Err e) h;
+        moved = row_moves (Err e) h;
+        same = same_then a b c g.same h.same;
+      })

@@ -30,6 +30,10 @@ pub not_done : (e : Fault) → NotDone (fault_ending e)
 not_done (fault.TypeMismatch k) = tt
 not_done (fault.LengthMismatch k) = tt
 not_done (fault.FieldName k) = tt
+not_done (fault.UnknownCase k) = tt
+not_done (fault.UnknownFlag k) = tt
+not_done (fault.PayloadExpected k) = tt
+not_done (fault.PayloadNotExpected k) = tt
 not_done (fault.ReallocMisaligned a) = tt
 not_done (fault.ReallocOutOfBounds a) = tt
 not_done fault.GuestTrap = tt
@@ -39,6 +43,7 @@ not_done (fault.StringTooLong n) = tt
 not_done (fault.SizeOverflow n) = tt
 not_done (fault.InvalidUtf8 at) = tt
 not_done (fault.InvalidChar at) = tt
+not_done (fault.BadDiscriminant at n) = tt
 not_done fault.HostcallFuelExhausted = tt
 not_done fault.OutOfMemory = tt
 

@@ -1,19 +1,24 @@
 -- What a view tells a walk: room, depth and built members.
-use Rattle.std.proofs.Common.{◌≡◌, ◌≤◌, ◌<◌, ◌+◌, ◌*◌, ◌∙◌, List, ap, arith, false, length, subst, sym, ℕ}
+use Rattle.std.proofs.Common.{◌≡◌, ◌≤◌, ◌<◌, ◌+◌, ◌*◌, ◌∙◌, List, ap, arith, false, length, refl, subst, sym, ℕ}
 use Rattle.std.proofs.Math.Nat.{zero-mod}
 use Rattle.std.proofs.lemmas.Nat.Gcd.{dvd_of_mod-eq-zero}
 use Rattle.canon_lowering.proofs.Copying.{copies_end, copies_flat}
 use Rattle.canon_lowering.specs.Copies.{copies}
 use Rattle.canon_model.proofs.Layouts.{members_end-le-size}
 use Rattle.canon_model.specs.Layout.{align, flat, members_end, members_flat, size}
-use Rattle.canon_model.specs.Shape.{Members, Shape, borrow, fixed, flags, list, own, product, scalar, string, variant}
+use Rattle.canon_model.specs.Shape.{Members, Shape, borrow, fixed, flags, list, member_count, own, product, scalar, string, variant}
 use Rattle.canon_types.specs.Depth.{deepest, depth}
 use Rattle.canon_value.specs.Built.{AreBuilt, IsBuilt}
-use Rattle.canon_value.specs.View.{names_of, values_of}
+use Rattle.canon_types.specs.Table.{Table, shape_of}
+use Rattle.canon_types.specs.declared.types.InterfaceType.TheVariants as ty
+use Rattle.canon_value.specs.Elements.{by_turns}
+use Rattle.canon_value.specs.View.{AreKnown, names_of, shapes_of, values_of}
 use Rattle.canon_value.specs.Viewed.{LiesAs}
 use Rattle.canon_value.specs.declared.members.Members.{Members as View}
 use Rattle.canon_value.specs.declared.members.Members.TheVariants as members
 use Rattle.canon_value.proofs.Lookups.{count_values, count_names, count_no_names}
+use Rattle.canon_value.proofs.PairRows.{count_turns, pair_slots}
+use Rattle.canon_value.proofs.Steps.{copies_count}
 use Rattle.canon_value.proofs.Walks.{copies_built, copies_deepest}
 
 -- as many names as values
@@ -21,6 +26,18 @@ pub names_count : (ms : View) → length (names_of ms) ≡ length (values_of ms)
 names_count (members.Fields i values) = count_names values.now ∙ sym (count_values values.now)
 names_count (members.Places i values) = count_no_names values.now
 names_count (members.Items type values) = count_no_names values.now
+names_count members.Empty = refl
+names_count (members.Single type value) = refl
+names_count (members.Pairs i values) = count_no_names (by_turns values.now)
+
+-- as many members as values
+pub values_count : (t : Table) (ms : View) → AreKnown t ms → length (values_of ms) ≡ member_count (shapes_of t ms)
+values_count t (members.Fields i values) (known, count) = count_values values.now ∙ count
+values_count t (members.Places i values) (known, count) = count
+values_count t (members.Items type values) known = sym (copies_count (length values.now) (shape_of t type))
+values_count t members.Empty known = refl
+values_count t (members.Single type value) known = refl
+values_count t (members.Pairs i values) (known, is, few) = omega (arith, count_turns values.now, pair_slots (shape_of t (ty.Map i)) (length values.now) is)
 
 copies_room : (n : ℕ) (s : Shape) → members_end false 0 (copies n s) ≡ n * size false s
 copies_room n s = copies_end false n 0 s (dvd_of_mod-eq-zero (align false s) (zero-mod _)) ∙ omega arith

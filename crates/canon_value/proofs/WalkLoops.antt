@@ -116,11 +116,12 @@ module _ {T G : Type 0} (L : GuestLaws G) (options place : ℕ) (ms : Members) (
       (subst (λ (xs : List Val). PartsStoreTo L.seen L.moves options now now place no_members o at [] xs next (Ok next)) (sym (drop_all vs i ev))
       (parts_none L options now place at o next h.small h.counted))))
 
--- what the storing of a list's items left, said of the table of the start
-pub parts_stood : {T G : Type 0} → (L : GuestLaws G) (t : Table) (b c : Parts T G) (options options2 place : ℕ) (type : InterfaceType) (at : ℕ) (vs ws : List Val) (from from2 : ℕ) (r : Result ℕ Fault) → options2 ≡ options → types_of b ≡ t → ws ≡ vs → from2 ≡ from
-    → PartsStoreTo L.seen L.moves options2 b c place (copies (length ws) (shape_of (types_of b) type)) 0 at (no_names ws) ws from2 r → PartsStoreTo L.seen L.moves options b c place (copies (length vs) (shape_of t type)) 0 at (no_names vs) vs from r
-parts_stood L t b c options options2 place type at vs ws from from2 r eo et ev ef h =
-    subst (λ (n : ℕ). PartsStoreTo L.seen L.moves options b c place (copies (length vs) (shape_of t type)) 0 at (no_names vs) vs n r) ef
-    (subst (λ (xs : List Val). PartsStoreTo L.seen L.moves options b c place (copies (length xs) (shape_of t type)) 0 at (no_names xs) xs from2 r) ev
-    (subst (λ (x : Table). PartsStoreTo L.seen L.moves options b c place (copies (length ws) (shape_of x type)) 0 at (no_names ws) ws from2 r) et
-    (subst (λ (n : ℕ). PartsStoreTo L.seen L.moves n b c place (copies (length ws) (shape_of (types_of b) type)) 0 at (no_names ws) ws from2 r) eo h)))
+-- what the storing of a list's members left, said of other words for the same
+pub parts_stood : {T G : Type 0} → (L : GuestLaws G) (b c : Parts T G) (options options2 place at : ℕ) (ms ms2 : Members) (names names2 : List Name) (vs vs2 : List Val) (from from2 : ℕ) (r : Result ℕ Fault)
+    → options2 ≡ options → ms2 ≡ ms → names2 ≡ names → vs2 ≡ vs → from2 ≡ from → PartsStoreTo L.seen L.moves options2 b c place ms2 0 at names2 vs2 from2 r → PartsStoreTo L.seen L.moves options b c place ms 0 at names vs from r
+parts_stood L b c options options2 place at ms ms2 names names2 vs vs2 from from2 r eo em en ev ef h =
+    subst (λ (n : ℕ). PartsStoreTo L.seen L.moves n b c place ms 0 at names vs from r) eo
+    (subst (λ (xs : Members). PartsStoreTo L.seen L.moves options2 b c place xs 0 at names vs from r) em
+    (subst (λ (xs : List Name). PartsStoreTo L.seen L.moves options2 b c place ms2 0 at xs vs from r) en
+    (subst (λ (xs : List Val). PartsStoreTo L.seen L.moves options2 b c place ms2 0 at names2 xs from r) ev
+    (subst (λ (n : ℕ). PartsStoreTo L.seen L.moves options2 b c place ms2 0 at names2 vs2 n r) ef h))))

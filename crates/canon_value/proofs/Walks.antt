@@ -17,7 +17,7 @@ use Rattle.canon_model.specs.Layout.{begins, ends, scalar_size, size}
 use Rattle.canon_model.specs.Memory.{num}
 use Rattle.canon_model.specs.Rep.{IsLeast, ScalarIs}
 use Rattle.canon_model.specs.Requests.{requests}
-use Rattle.canon_model.specs.Shape.{Members, Name, Shape, borrow, fixed, flags, list, member, member_count, no_members, of_items, own, product, scalar, string, variant, ProductKind}
+use Rattle.canon_model.specs.Shape.{ListKind, Members, Name, Shape, borrow, fixed, flags, list, member, member_count, no_members, of_items, own, product, scalar, string, variant, ProductKind}
 use Rattle.canon_model.specs.Text.{Encoding}
 use Rattle.canon_model.specs.Tree.{Tree, Trees, no_trees, parts, tree_count, trees_of, items}
 use Rattle.canon_types.specs.Depth.{deepest, depth}
@@ -62,7 +62,7 @@ have_copies zero s (v ∷ vs) ts e h = absurd (omega (arith, e))
 have_copies (suc n) s [] ts e h = absurd (omega (arith, e))
 have_copies (suc n) s (v ∷ vs) ts e (t, rest, et, has, have) = (v, vs, t, rest, refl, et, has, have_copies n s vs rest (omega (arith, e)) have)
 
-copies_fail : (how : Failure) (n : ℕ) (s : Shape) (vs : List Val) (k : ℕ) → MemberFails how (copies n s) vs k → SomeFails (λ v i. FailsAt how s v i) vs k
+pub copies_fail : (how : Failure) (n : ℕ) (s : Shape) (vs : List Val) (k : ℕ) → MemberFails how (copies n s) vs k → SomeFails places (λ v i. FailsAt how s v i) vs k
 copies_fail how zero s vs k f = absurd f
 copies_fail how (suc n) s [] k f = absurd f
 copies_fail how (suc n) s (v ∷ vs) k (inl f) = inl f
@@ -94,12 +94,6 @@ pub fixed_counted : (n : ℕ) (s : Shape) (names : List Name) (vs : List Val) (v
 fixed_counted n s names vs v place (Ok to) count (xs, ev, same) e = omega (arith, e, ap places ev ∙ places_fixed xs, ap all_places same)
 fixed_counted n s names vs v place (Err e) count (xs, ev, same) b =
     blames_later (λ how k. MemberFails how (copies n s) vs k) (λ how k. FailsAt how (fixed n s) v k) 1 place (cap (place + 1)) e refl (λ how j f. inr (vs, j, (xs, ev, same), count, refl, copies_fail how n s vs j f)) b
-
-pub list_counted : (n : ℕ) (s : Shape) (xs : Vec Val Global) (place : ℕ) (r : Result ℕ Fault) → Counts (λ how k. MemberFails how (copies n s) xs.items k) (cap (place + 1)) (all_places xs.items) r
-    → Counts (λ how k. FailsAt how (list of_items s) (val.List xs) k) place (places (val.List xs)) r
-list_counted n s xs place (Ok to) e = omega (arith, e, places_list xs)
-list_counted n s xs place (Err e) b =
-    blames_later (λ how k. MemberFails how (copies n s) xs.items k) (λ how k. FailsAt how (list of_items s) (val.List xs) k) 1 place (cap (place + 1)) e refl (λ how j f. inr (xs.items, j, (xs, refl, refl), refl, copies_fail how n s xs.items j f)) b
 
 -- ---- a value's tree from its members' trees, and back
 
@@ -204,9 +198,11 @@ module _ {T G : Type 0} (L : GuestLaws G) (options : ℕ) where
     pub text_told : PlacesTo L.seen L.moves options a b string v place (Ok x) → told (record b { memory = written_over b.memory m }) string
     text_told h = block_told string refl h (string_stored false (encoding_by a options) at x.pointer x.length (HasTree string v) (λ _. lp) (λ _. ln) (moment_of L.seen a) (L.seen b.guest) b.memory m written h.lowered)
 
-    pub list_told : (s : Shape) → PlacesTo L.seen L.moves options a b (list of_items s) v place (Ok x) → told (record b { memory = written_over b.memory m }) (list of_items s)
-    list_told s h = block_told (list of_items s) refl h
-        (list_stored false (encoding_by a options) at x.pointer x.length (HasTree (list of_items s) v) (λ _. lp) (λ _. ln) (moment_of L.seen a) (L.seen b.guest) b.memory m written of_items s h.lowered)
+    pub list_told : (s part : Shape) (k : ListKind) → s ≡ list k part → PlacesTo L.seen L.moves options a b s v place (Ok x) → told (record b { memory = written_over b.memory m }) s
+    list_told s part k is h = subst (λ (y : Shape). told (record b { memory = written_over b.memory m }) y) (sym is) (
+        let placed = subst (λ (y : Shape). PlacesTo L.seen L.moves options a b y v place (Ok x)) is h in
+        block_told (list k part) refl placed
+        (list_stored false (encoding_by a options) at x.pointer x.length (HasTree (list k part) v) (λ _. lp) (λ _. ln) (moment_of L.seen a) (L.seen b.guest) b.memory m written k part placed.lowered))
 
   -- ---- members, one after another
 

@@ -1,11 +1,12 @@
 //! A value, put together from its members by the kind of its type.
 
-ghost use Rattle.std.specs.Prelude.{◌≡◌, ◌++◌, ◌∷◌, [], IfErr, IfOk, OnOk, length, string_bytes};
+ghost use Rattle.std.specs.Prelude.{◌≡◌, ◌++◌, ◌%◌, ◌∷◌, [], IfErr, IfOk, List, OnOk, length, string_bytes};
 ghost use Rattle.canon_model.specs.Shape.{member_count, of_fields};
 ghost use Rattle.canon_types.specs.Depth.{product_members};
 ghost use Rattle.canon_types.specs.Table.{Knows, shape_of};
+ghost use Rattle.canon_value.specs.Elements.{by_turns};
 ghost use Rattle.canon_value.specs.Plan.{IsKind, IsRebuilt, parts_of};
-ghost use Rattle.canon_value.specs.Value.{IsProduct, member_names, names_in, values_in};
+ghost use Rattle.canon_value.specs.Value.{IsPairs, IsProduct, member_names, names_in, values_in};
 
 use crate::lift::keep;
 use crate::{Fault, Val};
@@ -29,6 +30,7 @@ pub(crate) fn rebuild(
         InterfaceType::Record(i) => rebuild_record(alloc, types, *i, values),
         InterfaceType::Tuple(_) => Ok(Val::Tuple(values)),
         InterfaceType::FixedLengthList(_) => Ok(Val::FixedLengthList(values)),
+        InterfaceType::Map(_) => rebuild_map(alloc, values),
         // The one kind that is left is a list.
         _ => Ok(Val::List(values)),
     }
@@ -54,6 +56,23 @@ fn rebuild_record(
         k += 1;
     }
     Ok(Val::Record(named))
+}
+
+/// A map of these keys and values, which stand by turns.
+fn rebuild_map(alloc: Global, values: Vec<Val>) -> Result<Val, Fault>
+    requires even { length values.items % 2 ≡ 0 }
+    ensures ok { IfOk result (λ v. (pairs : List (Val × Val)) × IsPairs pairs v × (by_turns pairs ≡ values.items)) }
+    ensures err { IfErr result (λ e. e ≡ Fault.OutOfMemory) }
+{
+    let count = values.len() / 2;
+    let mut pairs = Vec::with_capacity(alloc, count)?;
+    let mut rest = values.into_iter();
+    for _ in 0..count {
+        let Some(key) = rest.next() else { continue };
+        let Some(value) = rest.next() else { continue };
+        keep(&mut pairs, (key, value))?;
+    }
+    Ok(Val::Map(pairs))
 }
 
 /// Adds the value of a field at the end, under the field's name.

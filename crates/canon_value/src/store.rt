@@ -5,10 +5,11 @@ ghost use Rattle.canon_lowering.specs.Storing.{IsPair, narrow};
 ghost use Rattle.canon_memory.specs.Realloc.{block};
 ghost use Rattle.canon_model.specs.Layout.{align, members_end, size};
 ghost use Rattle.canon_model.specs.Memory.{num};
-ghost use Rattle.canon_model.specs.Shape.{list, member_count, of_items, string};
+ghost use Rattle.canon_model.specs.Shape.{member_count, string};
 ghost use Rattle.canon_types.specs.Table.{Knows, shape_of};
 ghost use Rattle.canon_value.specs.Built.{AreBuilt, IsBuilt};
 ghost use Rattle.canon_value.specs.Core.{encoding_by, guest_of, moment_of, types_of};
+ghost use Rattle.canon_value.specs.Elements.{IsKnown, element_in, list_shape, list_value};
 ghost use Rattle.canon_value.specs.Fails.{BlamesValue};
 ghost use Rattle.canon_value.specs.Lowers.{ending_of};
 ghost use Rattle.canon_value.specs.Moves.{Moves};
@@ -20,7 +21,9 @@ ghost use Rattle.canon_value.specs.View.{AreKnown, names_of, shapes_of, values_o
 ghost use Rattle.canon_value.specs.Words.{IsWordOf};
 
 use crate::blocks::{Placed, ask_items, block_size, place_text};
-use crate::members::{Members, count_of, member_of};
+use crate::elements::{Elements, element_abi, element_count, element_of};
+use crate::flags::store_names;
+use crate::members::{Members, count_of, member_of, members_in};
 use crate::view::{View, view_of};
 use crate::{Fault, LowerContext, Val};
 use canon_memory::Guest;
@@ -28,8 +31,8 @@ use canon_types::InterfaceType;
 
 impl Val {
     /// Stores the value at an address of the guest's memory (CanonicalABI.md, "store"). Answers `TypeMismatch`,
-    /// `LengthMismatch` or `FieldName` where the value isn't of the type, `StringTooLong` or `SizeOverflow` where a block would
-    /// be too large, and the faults of `LowerContext::realloc`. A value of a type that reaches no text and no list asks the
+    /// `LengthMismatch`, `FieldName`, `UnknownCase`, `PayloadExpected` or `PayloadNotExpected` where the value isn't of the type,
+    /// `StringTooLong` or `SizeOverflow` where a block would be too large, and the faults of `LowerContext::realloc`. A value of a type that reaches no text and no list asks the
     /// guest for nothing. At an error its place and its blocks may have changed.
     pub fn store<T, G: Guest>(
         &self,
@@ -78,10 +81,17 @@ pub(crate) fn store_value<T, G: Guest>(
     match view_of(cx.types(), &ty, value, place) {
         Ok(View::Scalar(word)) => Ok(store_word(cx, word, value, ty, at, place)),
         Ok(View::Text(text)) => store_text(cx, text, at, place),
-        Ok(View::List(element, items)) => store_list(cx, items, element, at, place),
+        Ok(View::List(list)) => store_list(cx, &list, at, place),
         Ok(View::Members(members)) => {
             store_parts(cx, &members, at, place, place.saturating_add(1))
         }
+        Ok(View::Case(case)) => {
+            let size = case.info.size.byte_size();
+            let inner = at + u64::from(case.info.payload_offset32);
+            put_low_bytes(cx.core.as_slice_mut(), at, u64::from(case.tag), size);
+            store_parts(cx, &case.payload, inner, place, place.saturating_add(1))
+        }
+        Ok(View::Flags(names)) => store_names(cx, names, &ty, at, place),
         Err(fault) => Err(fault),
     }
 }
@@ -126,53 +136,52 @@ pub(crate) fn store_parts<T, G: Guest>(
 #[cycle(store)]
 fn store_list<T, G: Guest>(
     cx: &mut LowerContext<'_, T, G>,
-    items: &Vec<Val>,
-    element: InterfaceType,
+    list: &Elements<'_>,
     at: u64,
     place: u64,
 ) -> Result<u64, Fault>
-    requires known { Knows (types_of cx.old.core.now) element }
-    requires built { IsBuilt (shape_of (types_of cx.old.core.now) element) }
+    requires known { IsKnown (types_of cx.old.core.now) (element_in list.now) }
+    requires built { IsBuilt (list_shape (types_of cx.old.core.now) (element_in list.now)) }
     requires small { length cx.old.core.now.memory ≤ 2 ^ 32 }
     requires room { at + 8 ≤ length cx.old.core.now.memory }
-    ensures stores { StoresTo G.seen G.moves cx.old.options cx.old.core.now cx.new.core.now (list of_items (shape_of (types_of cx.old.core.now) element)) at (val.List items.now) place result }
+    ensures stores { StoresTo G.seen G.moves cx.old.options cx.old.core.now cx.new.core.now (list_shape (types_of cx.old.core.now) (element_in list.now)) at (list_value list.now) place result }
     ensures same_reference { cx.new.core.ghost_name ≡ cx.old.core.ghost_name }
     ensures same_options { cx.new.options ≡ cx.old.options }
 {
-    match place_list(cx, items, &element, place) {
-        Ok(list) => {
-            put_pair(cx.core.as_slice_mut(), at, list.pointer, list.length);
-            Ok(list.next)
+    match place_list(cx, list, place) {
+        Ok(block) => {
+            put_pair(cx.core.as_slice_mut(), at, block.pointer, block.length);
+            Ok(block.next)
         }
         Err(fault) => Err(fault),
     }
 }
 
-/// Asks for the block of a list that has this place, and stores its items there (CanonicalABI.md, "store_list").
+/// Asks for the block of a list that has this place, and stores its elements there (CanonicalABI.md, "store_list").
 #[cycle(store)]
 pub(crate) fn place_list<T, G: Guest>(
     cx: &mut LowerContext<'_, T, G>,
-    items: &Vec<Val>,
-    element: &InterfaceType,
+    list: &Elements<'_>,
     place: u64,
 ) -> Result<Placed, Fault>
-    requires known { Knows (types_of cx.old.core.now) element.now }
-    requires built { IsBuilt (shape_of (types_of cx.old.core.now) element.now) }
+    requires known { IsKnown (types_of cx.old.core.now) (element_in list.now) }
+    requires built { IsBuilt (list_shape (types_of cx.old.core.now) (element_in list.now)) }
     requires small { length cx.old.core.now.memory ≤ 2 ^ 32 }
-    ensures places { PlacesTo G.seen G.moves cx.old.options cx.old.core.now cx.new.core.now (list of_items (shape_of (types_of cx.old.core.now) element.now)) (val.List items.now) place result }
+    ensures places { PlacesTo G.seen G.moves cx.old.options cx.old.core.now cx.new.core.now (list_shape (types_of cx.old.core.now) (element_in list.now)) (list_value list.now) place result }
     ensures same_reference { cx.new.core.ghost_name ≡ cx.old.core.ghost_name }
     ensures same_options { cx.new.options ≡ cx.old.options }
 {
-    let length = items.len() as u64;
-    let size = cx.types().canonical_abi(element).size32;
+    let length = element_count(list);
+    let element = element_of(list);
+    let size = element_abi(cx.types(), &element).size32;
     let Some(bytes) = block_size(length, size) else {
         return Err(Fault::SizeOverflow(length));
     };
-    let pointer = match ask_items(cx, element, length, bytes) {
+    let pointer = match ask_items(cx, &element, length, bytes) {
         Ok(pointer) => pointer,
         Err(fault) => return Err(fault),
     };
-    let members = Members::Items(*element, items);
+    let members = members_in(list);
     match store_parts(cx, &members, pointer, place, place.saturating_add(1)) {
         Ok(next) => Ok(Placed {
             pointer,

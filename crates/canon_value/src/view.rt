@@ -6,25 +6,30 @@ ghost use Rattle.canon_types.specs.Table.{Knows, shape_of};
 ghost use Rattle.canon_value.specs.Built.{IsBuilt, IsScalarType};
 ghost use Rattle.canon_value.specs.Viewed.{Viewed};
 
+use crate::case_view::{Case, enum_view, option_view, result_view, variant_view};
+use crate::elements::Elements;
 use crate::lower::scalar_word;
 use crate::members::Members;
 use crate::{Fault, Val};
 use canon_types::{
-    ComponentTypes, InterfaceType, TypeFixedLengthListIndex, TypeListIndex, TypeRecordIndex,
-    TypeTupleIndex,
+    ComponentTypes, InterfaceType, TypeFixedLengthListIndex, TypeFlagsIndex, TypeListIndex,
+    TypeMapIndex, TypeRecordIndex, TypeTupleIndex,
 };
 
 pub(crate) enum View<'a> {
     /// A scalar's word.
     Scalar(u64),
     Text(&'a String),
-    /// The items of a list, which stand in a block of their own, and their type.
-    List(InterfaceType, &'a Vec<Val>),
+    /// The elements of a list or a map, which stand in a block of their own.
+    List(Elements<'a>),
     Members(Members<'a>),
+    Case(Case<'a>),
+    /// The names of flags that are set.
+    Flags(&'a Vec<String>),
 }
 
-/// The view of a value that has this place. Answers `TypeMismatch` or `LengthMismatch` where the value isn't of the type;
-/// names of fields aren't tested.
+/// The view of a value that has this place. Answers `TypeMismatch`, `LengthMismatch`, `UnknownCase`, `PayloadExpected` or
+/// `PayloadNotExpected` where the value isn't of the type; names of fields aren't tested.
 pub(crate) fn view_of<'a>(
     types: &ComponentTypes,
     ty: &InterfaceType,
@@ -40,7 +45,13 @@ pub(crate) fn view_of<'a>(
         InterfaceType::Tuple(i) => places_view(types, *i, value, place),
         InterfaceType::FixedLengthList(i) => fixed_view(types, *i, value, place),
         InterfaceType::List(i) => list_view(types, *i, value, place),
+        InterfaceType::Variant(i) => variant_view(types, *i, value, place),
+        InterfaceType::Enum(i) => enum_view(types, *i, value, place),
+        InterfaceType::Option(i) => option_view(types, *i, value, place),
+        InterfaceType::Result(i) => result_view(types, *i, value, place),
+        InterfaceType::Map(i) => map_view(types, *i, value, place),
         InterfaceType::String => text_view(types, value, place),
+        InterfaceType::Flags(i) => flags_view(types, *i, value, place),
         _ => scalar_view(types, ty, value, place),
     }
 }
@@ -71,6 +82,23 @@ fn text_view<'a>(types: &ComponentTypes, value: &'a Val, place: u64) -> Result<V
     }
 }
 
+/// Which names are set isn't looked at.
+fn flags_view<'a>(
+    types: &ComponentTypes,
+    i: TypeFlagsIndex,
+    value: &'a Val,
+    place: u64,
+) -> Result<View<'a>, Fault>
+    requires known { Knows types.now (InterfaceType.Flags i) }
+    ensures { Viewed types.now (InterfaceType.Flags i) value.now place result }
+{
+    let _flags = types.flags(i);
+    match value {
+        Val::Flags(names) => Ok(View::Flags(names)),
+        _ => Err(Fault::TypeMismatch(place)),
+    }
+}
+
 fn list_view<'a>(
     types: &ComponentTypes,
     i: TypeListIndex,
@@ -82,7 +110,23 @@ fn list_view<'a>(
 {
     let element = types.list(i).element;
     match value {
-        Val::List(items) => Ok(View::List(element, items)),
+        Val::List(items) => Ok(View::List(Elements::Items(element, items))),
+        _ => Err(Fault::TypeMismatch(place)),
+    }
+}
+
+fn map_view<'a>(
+    types: &ComponentTypes,
+    i: TypeMapIndex,
+    value: &'a Val,
+    place: u64,
+) -> Result<View<'a>, Fault>
+    requires known { Knows types.now (InterfaceType.Map i) }
+    ensures { Viewed types.now (InterfaceType.Map i) value.now place result }
+{
+    let _map = types.map(i);
+    match value {
+        Val::Map(pairs) => Ok(View::List(Elements::Pairs(i, pairs))),
         _ => Err(Fault::TypeMismatch(place)),
     }
 }

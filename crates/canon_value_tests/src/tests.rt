@@ -292,14 +292,39 @@ fn a_component_is_sound_where_its_exports_are_inside(rt: HostRuntime) {
 }
 
 #[test]
-fn options_are_not_built(rt: HostRuntime) {
-    let mut builder = TypeBuilder::new(rt.alloc());
+fn every_kind_but_handles_is_built(rt: HostRuntime) {
+    let alloc = rt.alloc();
+    let mut builder = TypeBuilder::new(alloc);
     let option = builder
         .add_option(InterfaceType::U8)
         .expect(&rt, "an option");
+    let pairs = builder
+        .add_map(InterfaceType::String, option)
+        .expect(&rt, "a map");
+    let outcome = builder
+        .add_result(Some(pairs), None)
+        .expect(&rt, "a result");
     let types = builder.finish();
     assert!(rt; is_built(&types, &InterfaceType::String));
-    assert!(rt; !is_built(&types, &option));
+    assert!(rt; is_built(&types, &outcome));
+}
+
+#[test]
+fn values_are_equal_by_their_parts(rt: HostRuntime) {
+    let alloc = rt.alloc();
+    let nan = Val::Float32(0x7fc0_0000);
+    assert!(rt; nan == Val::Float32(0xffc0_0001));
+    assert!(rt; nan != Val::Float32(0x7f80_0000));
+    assert!(rt; Val::Float32(0) != Val::Float32(0x8000_0000));
+    assert!(rt; Val::Float64(0x7ff0_0000_0000_0001) == Val::Float64(u64::MAX));
+    assert!(rt; Val::from(3_u8) != Val::from(3_i8));
+    let name = String::from_str(alloc, "a").expect(&rt, "memory");
+    let payload = Box::new(alloc, nan).expect(&rt, "memory");
+    let value = Val::Variant(name, Some(payload));
+    let copy = value.clone(alloc).expect(&rt, "memory");
+    assert!(rt; copy == value);
+    assert!(rt; value.desc() == "variant");
+    assert!(rt; Val::from(true).desc() == "bool");
 }
 
 #[test]

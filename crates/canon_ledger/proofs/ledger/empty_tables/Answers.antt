@@ -1,12 +1,12 @@
 use Rattle.std.proofs.Common.{◌≡◌, ◌+◌, ◌∙◌, sym, ap, arith, suc, replicate, ℕ, map}
 use Rattle.canon_handles.specs.declared.handle.Entry.{Entry}
-use Rattle.canon_handles.specs.Table.{Stored, empty_table, max_handle}
+use Rattle.canon_handles.specs.Table.{TableState, empty_table, max_handle}
 use Rattle.canon_ledger.proofs.HoldsLemmas.{one_table_more, on_ok}
 use Rattle.canon_ledger.proofs.ledger.empty_tables.Goals as goal
 
 pub loop-init : goal.loop-init
 loop-init c = record {
-  so_far = ap (map (λ (s : Stored Entry). s.table)) (c.reserve.ensures.items ∙ c.new-tables.ensures.items);
+  so_far = ap (map (λ (s : TableState Entry). s.table)) (c.reserve.ensures.items ∙ c.new-tables.ensures.items);
   filled = (let a = c.reserve.ensures.len in let b = c.new-tables.ensures.len in omega arith);
   room = (let h = on_ok _ c.reserve.result (sym c.is_err.ensures.value ∙ c.if-is_err.false) c.reserve.ensures.ok in omega arith);
 }

@@ -1,12 +1,14 @@
-use Rattle.std.proofs.Common.{Option, Some, option_and_then, ap, arith, subst, sym, ◌∙◌}
-use Rattle.serde_json.specs.Find.{as_array}
+use Rattle.std.proofs.Common.{Option, Some, map, option_and_then, ap, arith, refl, string_bytes, subst, sym, ◌∙◌}
+use Rattle.serde_json.specs.Find.{as_array, as_str}
 use Rattle.serde_json.specs.View.{view}
-use Rattle.canon_json.specs.Json.{Gives}
+use Rattle.canon_json.specs.Json.{Gives, each_of}
 use Rattle.canon_value.specs.declared.val.Val.TheVariants as val
-use Rattle.canon_script.specs.Literals.{Literal, fields_view, fixed, list, literal_view, literals_view, tuple}
-use Rattle.canon_script.specs.Values.{value_by, value_of, values_of}
-use Rattle.canon_script.proofs.Members.{field_step, fixed_by, in_array, in_two, list_by, made_of, record_end, scalar_is, tuple_by, value_is, values_end, values_refused}
-use Rattle.canon_script.proofs.Views.{literal-FixedLengthList, literal-List, literal-Record, literal-Tuple}
+use Rattle.canon_script.specs.Literals.{Literal, enum, fields_view, fixed, flags, list, literal_view, literals_of, literals_view, option, pair_view, pairs, pairs_of, pairs_view, payload_view, text, tuple}
+use Rattle.canon_script.specs.Values.{optional_of, pair_of, pairs_in, value_by, value_of, values_of}
+use Rattle.canon_script.specs.declared.kinds.ValueKind.TheVariants as kind
+use Rattle.canon_script.proofs.Cases.{case_given, case_refused, first_in_two, key_refused, option_by, outcome_by, pair_given, payload_within, result_reads, value_refused, variant_by, variant_reads}
+use Rattle.canon_script.proofs.Members.{array_end, array_refused, array_step, enum_by, field_step, fixed_by, flags_by, in_array, in_two, list_by, made_of, map_by, no_kind, record_end, record_refused, scalar_is, text_by, tuple_by, value_is}
+use Rattle.canon_script.proofs.Views.{literal-Enum, literal-FixedLengthList, literal-Flags, literal-List, literal-Map, literal-Option, literal-Record, literal-String, literal-Tuple}
 use Rattle.canon_script.proofs.values.+values.Goals as goal
 
 pub record_of-value_of_json-requires : goal.record_of-value_of_json-requires
@@ -35,39 +37,155 @@ values_of-value_of_json-requires t c =
 
 pub values_of-returns-in-Err : goal.values_of-returns-in-Err
 values_of-returns-in-Err t c =
-    values_refused c.in-Err.e (view c.args.v.now) c.in-Some.items.now.items c.deref-item-items.result.now c.loop-item.item-index c.item-item.result (literals_view c.loop-item.values.items)
-    c.in-Some.ensures c.deref-item-items.ensures.value c.loop-item-test.true c.item-item.is c.loop-item.invariant c.in-Err.ensures
+    array_refused values_of value_of literal_view c.in-Err.e (view c.args.v.now) c.in-Some.items.now.items c.deref-item-items.result.now c.loop-item.item-index c.item-item.result (literals_view c.loop-item.values.items)
+    (λ d ds. refl) c.in-Some.ensures c.deref-item-items.ensures.value c.loop-item-test.true c.item-item.is c.loop-item.invariant c.in-Err.ensures
 
 pub values_of-returns : goal.values_of-returns
 values_of-returns t c =
-    values_end (view c.args.v.now) c.in-Some.items.now.items c.deref-item-items.result.now c.loop-item.item-index (literals_view c.loop-item.values.items) c.in-Some.ensures c.deref-item-items.ensures.value c.loop-item-test.false c.loop-item.invariant
+    array_end values_of (view c.args.v.now) c.in-Some.items.now.items c.deref-item-items.result.now c.loop-item.item-index (literals_view c.loop-item.values.items) refl c.in-Some.ensures c.deref-item-items.ensures.value c.loop-item-test.false c.loop-item.invariant
+
+pub pairs_of-pair_of-requires : goal.pairs_of-pair_of-requires
+pairs_of-pair_of-requires t c =
+    (omega (arith, in_array (view c.args.v.now) c.in-Some.items.now.items c.deref-item-items.result.now c.loop-item.item-index c.item-item.result c.in-Some.ensures c.deref-item-items.ensures.value c.loop-item-test.true c.item-item.is), tt)
+
+pub pairs_of-returns-in-Err : goal.pairs_of-returns-in-Err
+pairs_of-returns-in-Err t c =
+    array_refused pairs_in pair_of pair_view c.in-Err.e (view c.args.v.now) c.in-Some.items.now.items c.deref-item-items.result.now c.loop-item.item-index c.item-item.result (pairs_view c.loop-item.pairs.items)
+    (λ d ds. refl) c.in-Some.ensures c.deref-item-items.ensures.value c.loop-item-test.true c.item-item.is c.loop-item.invariant c.in-Err.ensures
+
+pub pairs_of-returns : goal.pairs_of-returns
+pairs_of-returns t c =
+    array_end pairs_in (view c.args.v.now) c.in-Some.items.now.items c.deref-item-items.result.now c.loop-item.item-index (pairs_view c.loop-item.pairs.items) refl c.in-Some.ensures c.deref-item-items.ensures.value c.loop-item-test.false c.loop-item.invariant
 
 pub value_of_json-returns-in_default-kind : goal.value_of_json-returns-in_default-kind
 value_of_json-returns-in_default-kind t c =
     let named = c.in-Some-value_kind_named in
     let other = c.in_default-kind in
     subst (λ (o : Option Literal). Gives literal_view c.scalar_of.result o)
-    (scalar_is (view c.args.v.now) (view c.in-Some.form.now) c.in-Some.name.now named.kind c.in-Some.ensures named.ensures
-    other.not-String other.not-List other.not-Record other.not-Tuple other.not-FixedLengthList)
+    (scalar_is (view c.args.v.now) (view c.in-Some.form.now) c.in-Some.name.now named.kind c.in-Some.ensures named.ensures (record {
+      no_text = other.not-String;
+      no_list = other.not-List;
+      no_map = other.not-Map;
+      no_record = other.not-Record;
+      no_tuple = other.not-Tuple;
+      no_variant = other.not-Variant;
+      no_enum = other.not-Enum;
+      no_option = other.not-Option;
+      no_result = other.not-Result;
+      no_flags = other.not-Flags;
+      no_fixed = other.not-FixedLengthList;
+    }))
     c.scalar_of.ensures
+
+pub value_of_json-returns-in-String : goal.value_of_json-returns-in-String
+value_of_json-returns-in-String t c =
+    let form = view c.in-Some.form.now in
+    made_of val.String (λ name. string_bytes name) text (as_str form) (value_of (view c.args.v.now)) c.name_of.result c.map.result
+    (value_is (view c.args.v.now) form c.in-Some.name.now c.in-Some-value_kind_named.kind c.in-Some.ensures c.in-Some-value_kind_named.ensures ∙ (ap (value_by form) c.in-String.is ∙ text_by form))
+    literal-String c.name_of.ensures c.map.ensures.cases
 
 pub value_of_json-returns-in-List : goal.value_of_json-returns-in-List
 value_of_json-returns-in-List t c =
     let form = view c.in-Some.form.now in
-    made_of val.List list (option_and_then values_of (as_array form)) (value_of (view c.args.v.now)) c.values_of.result c.map.result
+    made_of val.List (λ values. literals_view values.items) (λ xs. list (literals_of xs)) (option_and_then values_of (as_array form)) (value_of (view c.args.v.now)) c.values_of.result c.map-in-List.result
     (value_is (view c.args.v.now) form c.in-Some.name.now c.in-Some-value_kind_named.kind c.in-Some.ensures c.in-Some-value_kind_named.ensures ∙ (ap (value_by form) c.in-List.is ∙ list_by form))
-    literal-List c.values_of.ensures c.map.ensures.cases
+    literal-List c.values_of.ensures c.map-in-List.ensures.cases
+
+pub value_of_json-returns-in-Map : goal.value_of_json-returns-in-Map
+value_of_json-returns-in-Map t c =
+    let form = view c.in-Some.form.now in
+    made_of val.Map (λ pairs. pairs_view pairs.items) (λ ps. pairs (pairs_of ps)) (option_and_then pairs_in (as_array form)) (value_of (view c.args.v.now)) c.pairs_of.result c.map-in-Map.result
+    (value_is (view c.args.v.now) form c.in-Some.name.now c.in-Some-value_kind_named.kind c.in-Some.ensures c.in-Some-value_kind_named.ensures ∙ (ap (value_by form) c.in-Map.is ∙ map_by form))
+    literal-Map c.pairs_of.ensures c.map-in-Map.ensures.cases
 
 pub value_of_json-returns-in-Tuple : goal.value_of_json-returns-in-Tuple
 value_of_json-returns-in-Tuple t c =
     let form = view c.in-Some.form.now in
-    made_of val.Tuple tuple (option_and_then values_of (as_array form)) (value_of (view c.args.v.now)) c.values_of-in-Tuple.result c.map-in-Tuple.result
+    made_of val.Tuple (λ values. literals_view values.items) (λ xs. tuple (literals_of xs)) (option_and_then values_of (as_array form)) (value_of (view c.args.v.now)) c.values_of-in-Tuple.result c.map-in-Tuple.result
     (value_is (view c.args.v.now) form c.in-Some.name.now c.in-Some-value_kind_named.kind c.in-Some.ensures c.in-Some-value_kind_named.ensures ∙ (ap (value_by form) c.in-Tuple.is ∙ tuple_by form))
     literal-Tuple c.values_of-in-Tuple.ensures c.map-in-Tuple.ensures.cases
+
+pub value_of_json-returns-in-Enum : goal.value_of_json-returns-in-Enum
+value_of_json-returns-in-Enum t c =
+    let form = view c.in-Some.form.now in
+    made_of val.Enum (λ name. string_bytes name) enum (as_str form) (value_of (view c.args.v.now)) c.name_of-in-Enum.result c.map-in-Enum.result
+    (value_is (view c.args.v.now) form c.in-Some.name.now c.in-Some-value_kind_named.kind c.in-Some.ensures c.in-Some-value_kind_named.ensures ∙ (ap (value_by form) c.in-Enum.is ∙ enum_by form))
+    literal-Enum c.name_of-in-Enum.ensures c.map-in-Enum.ensures.cases
+
+pub value_of_json-returns-in-Option : goal.value_of_json-returns-in-Option
+value_of_json-returns-in-Option t c =
+    let form = view c.in-Some.form.now in
+    made_of val.Option payload_view option (optional_of form) (value_of (view c.args.v.now)) c.optional_of.result c.map-in-Option.result
+    (value_is (view c.args.v.now) form c.in-Some.name.now c.in-Some-value_kind_named.kind c.in-Some.ensures c.in-Some-value_kind_named.ensures ∙ (ap (value_by form) c.in-Option.is ∙ option_by form))
+    literal-Option c.optional_of.ensures c.map-in-Option.ensures.cases
+
+pub value_of_json-returns-in-Flags : goal.value_of_json-returns-in-Flags
+value_of_json-returns-in-Flags t c =
+    let form = view c.in-Some.form.now in
+    made_of val.Flags (λ names. map (λ name. string_bytes name) names.items) flags (each_of as_str form) (value_of (view c.args.v.now)) c.names_of.result c.map-in-Flags.result
+    (value_is (view c.args.v.now) form c.in-Some.name.now c.in-Some-value_kind_named.kind c.in-Some.ensures c.in-Some-value_kind_named.ensures ∙ (ap (value_by form) c.in-Flags.is ∙ flags_by form))
+    literal-Flags c.names_of.ensures c.map-in-Flags.ensures.cases
 
 pub value_of_json-returns-in-FixedLengthList : goal.value_of_json-returns-in-FixedLengthList
 value_of_json-returns-in-FixedLengthList t c =
     let form = view c.in-Some.form.now in
-    made_of val.FixedLengthList fixed (option_and_then values_of (as_array form)) (value_of (view c.args.v.now)) c.values_of-in-FixedLengthList.result c.map-in-FixedLengthList.result
+    made_of val.FixedLengthList (λ values. literals_view values.items) (λ xs. fixed (literals_of xs)) (option_and_then values_of (as_array form)) (value_of (view c.args.v.now)) c.values_of-in-FixedLengthList.result c.map-in-FixedLengthList.result
     (value_is (view c.args.v.now) form c.in-Some.name.now c.in-Some-value_kind_named.kind c.in-Some.ensures c.in-Some-value_kind_named.ensures ∙ (ap (value_by form) c.in-FixedLengthList.is ∙ fixed_by form))
     literal-FixedLengthList c.values_of-in-FixedLengthList.ensures c.map-in-FixedLengthList.ensures.cases
+
+pub record_of-returns-in-Err : goal.record_of-returns-in-Err
+record_of-returns-in-Err t c =
+    record_refused c.in-Err.e (view c.args.v.now) c.in-Some.items.now.items c.deref-item-items.result.now c.loop-item.item-index c.item-item.result (view c.in-Some-two.name.now) (view c.in-Some-two.form.now)
+    c.in-Some-as_str.name.now (fields_view c.loop-item.fields.items) c.in-Some.ensures c.deref-item-items.ensures.value c.loop-item-test.true c.item-item.is c.in-Some-two.ensures c.in-Some-as_str.ensures c.loop-item.invariant c.in-Err.ensures
+
+pub pairs_of-loop-item-preserved : goal.pairs_of-loop-item-preserved
+pairs_of-loop-item-preserved t c =
+    array_step pairs_in pair_of c.deref-item-items.result.now c.loop-item.item-index c.item-item.result (pairs_view c.loop-item.pairs.items) (pairs_view c.keep_pair.new.pairs.items) (pair_view c.in-Ok.pair)
+    (λ d ds. refl) c.loop-item-test.true c.item-item.is c.in-Ok.ensures c.in_ok-keep_pair-in-Ok.ensures.ok c.loop-item.invariant
+
+pub pair_of-value_of_json-requires : goal.pair_of-value_of_json-requires
+pair_of-value_of_json-requires t c = (omega (arith, first_in_two (view c.args.v.now) (view c.in-Some.key.now) (view c.in-Some.value.now) c.in-Some.ensures), tt)
+
+pub pair_of-value_of_json-requires-2 : goal.pair_of-value_of_json-requires-2
+pair_of-value_of_json-requires-2 t c = (omega (arith, in_two (view c.args.v.now) (view c.in-Some.key.now) (view c.in-Some.value.now) c.in-Some.ensures), tt)
+
+pub pair_of-returns-in-Err : goal.pair_of-returns-in-Err
+pair_of-returns-in-Err t c = key_refused c.in-Err.e (view c.args.v.now) (view c.in-Some.key.now) (view c.in-Some.value.now) c.in-Some.ensures c.in-Err.ensures
+
+pub pair_of-returns-in-Ok-value_of_json : goal.pair_of-returns-in-Ok-value_of_json
+pair_of-returns-in-Ok-value_of_json t c =
+    pair_given (view c.args.v.now) (view c.in-Some.key.now) (view c.in-Some.value.now) _ _ c.in-Some.ensures c.in-Ok.ensures c.in-Ok-value_of_json.ensures
+
+pub pair_of-returns-in-Err-value_of_json : goal.pair_of-returns-in-Err-value_of_json
+pair_of-returns-in-Err-value_of_json t c =
+    value_refused c.in-Err-value_of_json.e (view c.args.v.now) (view c.in-Some.key.now) (view c.in-Some.value.now) _ c.in-Some.ensures c.in-Ok.ensures c.in-Err-value_of_json.ensures
+
+pub variant_of-payload_of-requires : goal.variant_of-payload_of-requires
+variant_of-payload_of-requires t c = (omega (arith, payload_within (view c.args.v.now) _ c.in-Some.name.now c.in-Some.ensures), tt)
+
+pub variant_of-returns-in-Ok : goal.variant_of-returns-in-Ok
+variant_of-returns-in-Ok t c =
+    let d = view c.args.v.now in
+    case_given variant_by d (value_by d kind.Variant) c.in-Some.name.now _ (payload_view c.in-Ok.payload) c.variant_named.result (variant_reads d) c.in-Some.ensures c.in-Ok.ensures c.variant_named.ensures
+
+pub variant_of-returns-in-Err : goal.variant_of-returns-in-Err
+variant_of-returns-in-Err t c =
+    let d = view c.args.v.now in
+    case_refused variant_by d (value_by d kind.Variant) c.in-Some.name.now _ c.in-Err.e (variant_reads d) c.in-Some.ensures c.in-Err.ensures
+
+pub result_of-payload_of-requires : goal.result_of-payload_of-requires
+result_of-payload_of-requires t c = (omega (arith, payload_within (view c.args.v.now) _ c.in-Some.name.now c.in-Some.ensures), tt)
+
+pub result_of-returns-in-Ok : goal.result_of-returns-in-Ok
+result_of-returns-in-Ok t c =
+    let d = view c.args.v.now in
+    case_given outcome_by d (value_by d kind.Result) c.in-Some.name.now _ (payload_view c.in-Ok.payload) c.result_named.result (result_reads d) c.in-Some.ensures c.in-Ok.ensures c.result_named.ensures
+
+pub result_of-returns-in-Err : goal.result_of-returns-in-Err
+result_of-returns-in-Err t c =
+    let d = view c.args.v.now in
+    case_refused outcome_by d (value_by d kind.Result) c.in-Some.name.now _ c.in-Err.e (result_reads d) c.in-Some.ensures c.in-Err.ensures
+
+pub value_of_json-returns-in_default-value_kind_named : goal.value_of_json-returns-in_default-value_kind_named
+value_of_json-returns-in_default-value_kind_named t c =
+    no_kind (view c.args.v.now) (view c.in-Some.form.now) c.in-Some.name.now c.value_kind_named.result c.in-Some.ensures c.value_kind_named.ensures (λ k e. c.in_default-value_kind_named.not-Some k e)

@@ -1,5 +1,9 @@
-use Rattle.std.proofs.Common.{get_or, ℕ, ◌<◌}
+use Rattle.std.proofs.Common.{length, ◌-◌, ◌≤◌}
+use Rattle.canon_text.specs.Runs.{AllBelow, run}
 use Rattle.canon_text.proofs.compact.is_latin1.Given as goal
 
-abbrev pub invariant-loop-unit : goal.invariant-loop-unit
-invariant-loop-unit l = (k : ℕ) → k < l.unit-index → get_or l.src k 0 < 256
+abbrev pub invariant-loop-at : goal.invariant-loop-at
+invariant-loop-at l = (l.at ≤ length l.src) × AllBelow 256 (run l.src 0 l.at)
+
+abbrev pub decreases-loop-at : goal.decreases-loop-at
+decreases-loop-at l = length l.src - l.at

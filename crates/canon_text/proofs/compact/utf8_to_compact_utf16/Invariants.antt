@@ -1,6 +1,9 @@
-use Rattle.std.specs.Str.Iter.{chars_rest}
-use Rattle.canon_text.proofs.Spelled.{WritesBytes}
+use Rattle.std.proofs.Common.{length, ◌-◌}
+use Rattle.canon_text.proofs.Advancing.{AdvancingBytes}
 use Rattle.canon_text.proofs.compact.utf8_to_compact_utf16.Given as goal
 
-abbrev pub invariant-loop-c : goal.invariant-loop-c
-invariant-loop-c l = WritesBytes l.src (chars_rest l.c-iterator) l.yielded l.initial.dst l.dst l.initial.end l.end
+abbrev pub invariant-loop-read : goal.invariant-loop-read
+invariant-loop-read l = AdvancingBytes l.src l.initial.dst l.dst l.initial.end l.read l.end
+
+abbrev pub decreases-loop-read : goal.decreases-loop-read
+decreases-loop-read l = length l.src - l.read

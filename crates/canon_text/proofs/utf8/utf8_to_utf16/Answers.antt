@@ -1,22 +1,38 @@
-use Rattle.std.proofs.Common.{ap, arith, refl, ◌∙◌}
-use Rattle.std.specs.Str.Iter.{chars_rest}
-use Rattle.canon_text.proofs.Spelled.{has_read-nil, has_read_room, writes16-end, writes16-more}
+use Rattle.std.proofs.Common.{ap, arith, ◌+◌}
+use Rattle.canon_text.proofs.Advancing.{advancing16-end, advancing16-more, advancing16-nil, advancing16-room, advancing16-run, char_inside, some_utf8}
+use Rattle.canon_text.proofs.Widths.{width_le}
 use Rattle.canon_text.proofs.utf8.utf8_to_utf16.Goals as goal
 
-pub write_utf16-written-requires : goal.write_utf16-written-requires
-write_utf16-written-requires c =
-    let room = has_read_room c.args.src.now _ _ _ c.in-Some.c c.loop-c.invariant.read c.in-Some.ensures.steps.0 in
-    omega (arith, c.loop-c.invariant.count, c.requires, c.loop-c.auto.dst)
+pub loop-read-init : goal.loop-read-init
+loop-read-init c = advancing16-nil c.args.src.now c.args.dst.now c.in_default.ensures
 
-pub loop-c-init : goal.loop-c-init
-loop-c-init c = record {
-  read = has_read-nil c.args.src.now _ c.in_ok-text.ensures.1 (ap chars_rest c.into_iter-c-iterator.ensures.into_iter_gives ∙ c.chars-c-items.ensures.rest ∙ c.in_ok-text.ensures.0);
-  count = refl;
-  writes = refl;
-}
+pub scalar_at-code-requires-clause-utf8 : goal.scalar_at-code-requires-clause-utf8
+scalar_at-code-requires-clause-utf8 c =
+    let mid = advancing16-run c.args.src.now c.args.dst.now c.loop-read.dst c.widen_ascii-run.new.dst c.loop-read.read c.loop-read.written c.widen_ascii-run.result c.loop-read.invariant c.widen_ascii-run.ensures in
+    mid.so_far.read.utf8
 
-pub loop-c-preserved : goal.loop-c-preserved
-loop-c-preserved c = writes16-more c.args.src.now _ _ _ c.args.dst.now c.loop-c.dst _ c.loop-c.written _ c.in-Some.c c.loop-c.invariant c.in-Some.ensures.steps.0 c.write_utf16-written.ensures.end c.write_utf16-written.ensures.writes
+pub write_utf16-written-requires-clause-room : goal.write_utf16-written-requires-clause-room
+write_utf16-written-requires-clause-room c =
+    let mid = advancing16-run c.args.src.now c.args.dst.now c.loop-read.dst c.widen_ascii-run.new.dst c.loop-read.read c.loop-read.written c.widen_ascii-run.result c.loop-read.invariant c.widen_ascii-run.ensures in
+    let code = c.scalar_at-code.result in
+    let at = c.loop-read.read + c.widen_ascii-run.result in
+    let inside = char_inside c.args.src.now at code c.if-read-src.true c.scalar_at-code.ensures.is in
+    let few = advancing16-room c.args.src.now c.args.dst.now c.widen_ascii-run.new.dst at (c.loop-read.written + c.widen_ascii-run.result) mid (omega (arith, c.if-read-src.true)) in
+    omega (arith, c.requires, width_le code, c.loop-read.auto.dst, c.widen_ascii-run.auto.dst)
+
+pub loop-read-smaller-then-read-src : goal.loop-read-smaller-then-read-src
+loop-read-smaller-then-read-src c = omega (arith, c.utf8_len-read.ensures, some_utf8 c.scalar_at-code.result, c.if-read-src.true)
+
+pub loop-read-preserved-then-read-src : goal.loop-read-preserved-then-read-src
+loop-read-preserved-then-read-src c =
+    let mid = advancing16-run c.args.src.now c.args.dst.now c.loop-read.dst c.widen_ascii-run.new.dst c.loop-read.read c.loop-read.written c.widen_ascii-run.result c.loop-read.invariant c.widen_ascii-run.ensures in
+    let at = c.loop-read.read + c.widen_ascii-run.result in
+    advancing16-more c.args.src.now c.args.dst.now c.widen_ascii-run.new.dst _ at (c.loop-read.written + c.widen_ascii-run.result) _ _ c.scalar_at-code.result mid c.scalar_at-code.ensures.is (ap (λ n. at + n) c.utf8_len-read.ensures) c.write_utf16-written.ensures.end c.write_utf16-written.ensures.writes
+
+pub loop-read-preserved : goal.loop-read-preserved
+loop-read-preserved c =
+    let mid = advancing16-run c.args.src.now c.args.dst.now c.loop-read.dst c.widen_ascii-run.new.dst c.loop-read.read c.loop-read.written c.widen_ascii-run.result c.loop-read.invariant c.widen_ascii-run.ensures in
+    mid
 
 pub returns : goal.returns
-returns c = writes16-end c.args.src.now _ _ c.args.dst.now c.loop-c.dst c.loop-c.written c.loop-c.invariant c.in-None.ensures.steps.0.0
+returns c = advancing16-end c.args.src.now c.args.dst.now c.loop-read.dst c.loop-read.read c.loop-read.written c.loop-read.invariant c.loop-read-test.false

@@ -8,6 +8,18 @@ returns-in-TypeMismatch c = rw c.in-TypeMismatch.is c.write.ensures.bytes
 pub returns-in-FieldName : goal.returns-in-FieldName
 returns-in-FieldName c = rw c.in-FieldName.is c.write-in-FieldName.ensures.bytes
 
+pub returns-in-UnknownCase : goal.returns-in-UnknownCase
+returns-in-UnknownCase c = rw c.in-UnknownCase.is c.write-in-UnknownCase.ensures.bytes
+
+pub returns-in-UnknownFlag : goal.returns-in-UnknownFlag
+returns-in-UnknownFlag c = rw c.in-UnknownFlag.is c.write-in-UnknownFlag.ensures.bytes
+
+pub returns-in-PayloadExpected : goal.returns-in-PayloadExpected
+returns-in-PayloadExpected c = rw c.in-PayloadExpected.is c.write-in-PayloadExpected.ensures.bytes
+
+pub returns-in-PayloadNotExpected : goal.returns-in-PayloadNotExpected
+returns-in-PayloadNotExpected c = rw c.in-PayloadNotExpected.is c.write-in-PayloadNotExpected.ensures.bytes
+
 pub returns-in-LengthMismatch : goal.returns-in-LengthMismatch
 returns-in-LengthMismatch c = rw c.in-LengthMismatch.is c.write-in-LengthMismatch.ensures.bytes
 

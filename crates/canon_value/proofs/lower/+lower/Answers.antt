@@ -1,10 +1,12 @@
-use Rattle.std.proofs.Common.{◌≡◌, ◌<◌, ◌+◌, ◌*◌, ◌∙◌, ap, arith, length, rules, subst, sym, ℕ}
+use Rattle.std.proofs.Common.{◌≡◌, ◌<◌, ◌+◌, ◌*◌, ◌∙◌, ap, arith, length, rules, set, subst, sym, ℕ}
+use Rattle.std.proofs.lemmas.List.{length-set}
 use Rattle.canon_model.specs.Layout.{flat}
 use Rattle.canon_types.specs.Depth.{deepest, depth}
-use Rattle.canon_types.specs.Table.{Table, shape_of}
+use Rattle.canon_types.specs.Table.{Knows, Table, shape_of}
 use Rattle.canon_model.specs.Shape.{Shape}
 use Rattle.canon_value.specs.Built.{IsBuilt}
 use Rattle.canon_value.specs.Core.{types_of}
+use Rattle.canon_value.specs.Elements.{element_in}
 use Rattle.canon_value.specs.View.{IsMember, names_of, shapes_of, values_of}
 use Rattle.canon_value.specs.Words.{PartsLowerTo}
 use Rattle.canon_value.specs.declared.lower.Spot.{Spot}
@@ -12,8 +14,11 @@ use Rattle.canon_value.specs.declared.val.Val.{the_lemmas}
 use Rattle.canon_value.proofs.Moves.{GuestLaws}
 use Rattle.canon_value.proofs.Steps.{blocks_none}
 use Rattle.canon_value.proofs.StoreSteps.{same_types}
+use Rattle.canon_value.proofs.Listing.{row}
 use Rattle.canon_value.proofs.Viewing.{lies_built, lies_depth, lies_words, names_count}
+use Rattle.canon_value.proofs.WalkCases.{case_wants}
 use Rattle.canon_value.proofs.WalkLoops.{member_shallow}
+use Rattle.canon_value.proofs.WordCases.{case_lowered, case_room, case_stopped}
 use Rattle.canon_value.proofs.WordLoops.{end, go_on, has_room, misnamed, stop}
 use Rattle.canon_value.proofs.WordSteps.{members_lower, value_refused}
 use Rattle.canon_value.proofs.lower.+lower.Given.{Over}
@@ -85,10 +90,9 @@ lower_value-lower_list-requires-clause-built g t0 c =
     subst (λ (x : Shape). IsBuilt x) shape c.requires.built
 
 pub lower_value-lower_list-requires-clause-room : goal.lower_value-lower_list-requires-clause-room
-unfolding flat
 lower_value-lower_list-requires-clause-room g t0 c =
     let (known, shape, is) = rw c.in-Ok-List.field-0-is at (rw c.types.ensures at c.in-Ok-List.ensures) in
-    omega (arith, c.requires.room, ap flat shape)
+    omega (arith, c.requires.room, ap flat shape, (row (types_of c.args.cx.now.core.now) (element_in c.in-Ok-List.list) known 0).words)
 
 pub lower_value-lower_parts-requires : goal.lower_value-lower_parts-requires
 lower_value-lower_parts-requires g t0 c =
@@ -111,6 +115,14 @@ lower_value-returns-in-Ok-Members-clause-lowers g t0 c =
     members_lower L a.cx.now.options core r.new.cx.core.now a.dst.now r.new.dst a.from (shape_of t a.ty) (shapes_of t ms) (names_of ms) (values_of ms) a.value.now r.result (omega arith) lies has count
     (subst (λ (x : Spot). PartsLowerTo L.seen L.moves a.cx.now.options core r.new.cx.core.now a.dst.now r.new.dst x r.result a.from.place (shapes_of t ms) (names_of ms) (values_of ms)) c.inside.ensures r.ensures.lowers)
 
+pub lower_value-lower_case-requires : goal.lower_value-lower_case-requires
+lower_value-lower_case-requires g t0 c =
+    let t = types_of c.args.cx.now.core.now in
+    let seen = rw c.in-Ok-Case.field-0-is at (rw c.types.ensures at c.in-Ok-Case.ensures) in
+    let wants = case_wants t (shape_of t c.args.ty) c.args.value.now c.in-Ok-Case.case 0 c.requires.built seen in
+    let falls : 4 * deepest (shapes_of t c.in-Ok-Case.case.payload) + 2 < 4 * depth (shape_of t c.args.ty) = wants.falls in
+    λ κs sub. (search (rules, the_lemmas, falls), (sub.0, (sub.1, (c.requires.known, (c.requires.built, (seen, (c.requires.small, c.requires.room)))))))
+
 pub lower_value-returns-in-Err-clause-lowers : goal.lower_value-returns-in-Err-clause-lowers
 lower_value-returns-in-Err-clause-lowers g t0 c =
     let a = c.args in
@@ -118,3 +130,69 @@ lower_value-returns-in-Err-clause-lowers g t0 c =
     let L : GuestLaws _ = record { seen = g.G.Guest.seen; moves = g.G.Guest.moves; stays = g.met.G.Guest.stays; goes_on = g.met.G.Guest.goes_on } in
     let (is, blames) = rw c.types.ensures at c.in-Err.ensures in
     value_refused L a.cx.now.options core a.dst.now a.from (shape_of (types_of core) a.ty) a.value.now c.in-Err.fault c.requires.small is blames
+
+-- ---- a case
+
+pub lower_case-word_after-end-requires : goal.lower_case-word_after-end-requires
+lower_case-word_after-end-requires g t0 c = record {
+  known = subst (λ (x : Table). Knows x c.args.ty.now) (sym c.types.ensures) c.requires.known;
+  room = omega (arith, c.requires.room, ap (λ (x : Table). flat (shape_of x c.args.ty.now)) c.types.ensures);
+}
+
+pub lower_case-bounds-dst-from : goal.lower_case-bounds-dst-from
+lower_case-bounds-dst-from g t0 c = omega (arith, c.requires.room, case_room (types_of c.args.cx.now.core.now) (shape_of (types_of c.args.cx.now.core.now) c.args.ty.now) c.args.value.now c.args.case.now c.requires.seen)
+
+pub lower_case-behind_tag-requires : goal.lower_case-behind_tag-requires
+lower_case-behind_tag-requires g t0 c =
+    omega (arith, c.word_after-end.ensures, c.word_after-end.type_inv, ap (λ (x : Table). flat (shape_of x c.args.ty.now)) c.types.ensures, case_room (types_of c.args.cx.now.core.now) (shape_of (types_of c.args.cx.now.core.now) c.args.ty.now) c.args.value.now c.args.case.now c.requires.seen)
+
+pub lower_case-lower_parts-requires : goal.lower_case-lower_parts-requires
+lower_case-lower_parts-requires g t0 c =
+    let t = types_of c.args.cx.now.core.now in
+    let s = shape_of t c.args.ty.now in
+    let wants = case_wants t s c.args.value.now c.args.case.now 0 c.requires.built c.requires.seen in
+    let room = case_room t s c.args.value.now c.args.case.now c.requires.seen in
+    let falls : 4 * deepest (shapes_of t c.args.case.now.payload) + 1 < 4 * deepest (shapes_of t c.args.case.now.payload) + 2 = omega arith in
+    λ κs sub. (
+      search (rules, the_lemmas, falls),
+      (
+        sub.0,
+        (
+          sub.1,
+          (
+            wants.known,
+            (wants.built, (wants.count, (c.requires.small, omega (arith, c.requires.room, room, ap (λ (x : Spot). x.word) c.behind_tag.ensures, length-set c.args.dst.now c.args.from.word c.u32.result)))),
+          ),
+        ),
+      ),
+    )
+
+pub lower_case-clear_to-requires : goal.lower_case-clear_to-requires
+lower_case-clear_to-requires g t0 c =
+    let t = types_of c.args.cx.now.core.now in
+    let h = c.in-Ok.ensures.lowers in
+    let words = ap (λ (x : Table). flat (shape_of x c.args.ty.now)) c.types.ensures in
+    record {
+      later = omega (arith, h.passed, ap (λ (x : Spot). x.word) c.behind_tag.ensures, c.word_after-end.ensures, words, case_room t (shape_of t c.args.ty.now) c.args.value.now c.args.case.now c.requires.seen);
+      room = omega (arith, h.stays.same_length, length-set c.args.dst.now c.args.from.word c.u32.result, c.requires.room, c.word_after-end.ensures, words);
+    }
+
+pub lower_case-returns-in-Ok-clause-lowers : goal.lower_case-returns-in-Ok-clause-lowers
+lower_case-returns-in-Ok-clause-lowers g t0 c =
+    let a = c.args in
+    let core = a.cx.now.core.now in
+    let t = types_of core in
+    let s = shape_of t a.ty.now in
+    let L : GuestLaws _ = record { seen = g.G.Guest.seen; moves = g.G.Guest.moves; stays = g.met.G.Guest.stays; goes_on = g.met.G.Guest.goes_on } in
+    let end : c.word_after-end.result ≡ a.from.word + flat s = c.word_after-end.ensures ∙ ap (λ (x : Table). a.from.word + flat (shape_of x a.ty.now)) c.types.ensures in
+    case_lowered L a.cx.now.options t core c.lower_parts.new.cx.core.now a.dst.now (set a.dst.now a.from.word c.u32.result) c.lower_parts.new.dst a.from c.behind_tag.result s a.case.now a.value.now c.requires.seen
+    (ap (set a.dst.now a.from.word) c.u32.ensures) c.behind_tag.ensures c.clear_to.new.dst c.in-Ok.past c.clear_to.result c.word_after-end.result c.requires.room end c.clear_to.ensures.clears c.clear_to.ensures.spot c.in-Ok.ensures.lowers
+
+pub lower_case-returns-in-Err-clause-lowers : goal.lower_case-returns-in-Err-clause-lowers
+lower_case-returns-in-Err-clause-lowers g t0 c =
+    let a = c.args in
+    let core = a.cx.now.core.now in
+    let t = types_of core in
+    let L : GuestLaws _ = record { seen = g.G.Guest.seen; moves = g.G.Guest.moves; stays = g.met.G.Guest.stays; goes_on = g.met.G.Guest.goes_on } in
+    case_stopped L a.cx.now.options t core c.lower_parts.new.cx.core.now a.dst.now (set a.dst.now a.from.word c.u32.result) c.lower_parts.new.dst a.from c.behind_tag.result (shape_of t a.ty.now) a.case.now a.value.now c.requires.seen
+    (ap (set a.dst.now a.from.word) c.u32.ensures) c.behind_tag.ensures c.in-Err.fault c.in-Err.ensures.lowers

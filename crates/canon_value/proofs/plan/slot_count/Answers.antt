@@ -1,7 +1,9 @@
 use Rattle.std.proofs.Common.{ap, arith, length, refl, sym}
 use Rattle.canon_model.specs.Shape.{member_count}
 use Rattle.canon_types.specs.Table.{shape_of, types_of}
+use Rattle.canon_types.specs.declared.types.InterfaceType.TheVariants as ty
 use Rattle.canon_value.proofs.Lookups.{count_fields, count_members, record_members}
+use Rattle.canon_value.proofs.PairRows.{pair_slots}
 use Rattle.canon_value.proofs.Steps.{copies_count}
 use Rattle.canon_value.proofs.plan.slot_count.Goals as goal
 
@@ -18,3 +20,9 @@ returns-in-Places c =
 
 pub returns-in-Items : goal.returns-in-Items
 returns-in-Items c = rw c.in-Items.is (sym (copies_count c.in-Items.count (shape_of c.args.types.now c.in-Items.field-0)))
+
+pub returns-in-Pairs : goal.returns-in-Pairs
+returns-in-Pairs c =
+    let t = c.args.types.now in
+    let (known, is, few) = rw c.in-Pairs.is at c.requires.known in
+    rw c.in-Pairs.is (pair_slots (shape_of t (ty.Map c.in-Pairs.field-0)) c.in-Pairs.count is)

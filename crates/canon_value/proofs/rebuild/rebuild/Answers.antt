@@ -1,12 +1,14 @@
-use Rattle.std.proofs.Common.{length}
+use Rattle.std.proofs.Common.{◌≡◌, List, length}
 use Rattle.canon_model.specs.Shape.{of_fields}
 use Rattle.canon_types.specs.Depth.{element_shape, product_members}
 use Rattle.canon_types.specs.Table.{shape_of}
 use Rattle.canon_types.specs.declared.types.InterfaceType.TheVariants as ty
 use Rattle.canon_value.specs.Plan.{IsRebuilt}
-use Rattle.canon_value.specs.Value.{IsProduct, member_names}
+use Rattle.canon_value.specs.Elements.{by_turns}
+use Rattle.canon_value.specs.Value.{IsPairs, IsProduct, member_names}
+use Rattle.canon_value.specs.declared.val.Val.{Val}
 use Rattle.canon_value.proofs.Loading.{on_ok}
-use Rattle.canon_value.proofs.Planning.{fixed_rebuilt, list_left, list_rebuilt, record_count, record_rebuilt, tuple_rebuilt}
+use Rattle.canon_value.proofs.Planning.{fixed_rebuilt, list_left, list_rebuilt, map_even, map_rebuilt, record_count, record_rebuilt, tuple_rebuilt}
 use Rattle.canon_value.proofs.rebuild.rebuild.Goals as goal
 
 pub rebuild_record-requires-clause-count : goal.rebuild_record-requires-clause-count
@@ -35,7 +37,20 @@ returns-in-FixedLengthList-clause-ok c =
     let (n, part, e) = rw c.in-FixedLengthList.is at c.requires.kind in
     rw c.in-FixedLengthList.is (fixed_rebuilt _ part n c.args.values e)
 
+pub rebuild_map-requires : goal.rebuild_map-requires
+rebuild_map-requires c =
+    let kind = rw c.in-Map.is at c.requires.kind in
+    let count = rw c.in-Map.is at c.requires.count in
+    record { even = map_even (shape_of c.args.types.now (ty.Map c.in-Map.field-0)) (length c.args.values.items) kind count }
+
+pub returns-in-Map-clause-ok : goal.returns-in-Map-clause-ok
+returns-in-Map-clause-ok c =
+    let s = shape_of c.args.types.now (ty.Map c.in-Map.field-0) in
+    let vs = c.args.values.items in
+    let kind = rw c.in-Map.is at c.requires.kind in
+    rw c.in-Map.is (on_ok c.rebuild_map.result (λ v. (ps : List (Val × Val)) × IsPairs ps v × (by_turns ps ≡ vs)) (λ v. IsRebuilt s vs v) (λ v h. map_rebuilt s vs v kind h) c.rebuild_map.ensures.ok)
+
 pub returns-in_default : goal.returns-in_default
 returns-in_default c =
     let s = shape_of c.args.types.now c.args.ty.now in
-    record { ok = list_rebuilt s (element_shape s) c.args.values (list_left c.args.ty.now s c.requires.kind c.in_default.not-Record c.in_default.not-Tuple c.in_default.not-FixedLengthList); err = tt }
+    record { ok = list_rebuilt s (element_shape s) c.args.values (list_left c.args.ty.now s c.requires.kind c.in_default.not-Record c.in_default.not-Tuple c.in_default.not-FixedLengthList c.in_default.not-Map); err = tt }

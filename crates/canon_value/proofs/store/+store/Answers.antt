@@ -1,24 +1,35 @@
-use Rattle.canon_value.proofs.Lookups.{item_size, begins_here, ends_here}
-use Rattle.canon_value.proofs.Steps.{copies_count, blocks_none}
+use Rattle.canon_value.proofs.Lookups.{begins_here, ends_here, item_size}
+use Rattle.canon_value.proofs.Steps.{blocks_none, copies_count}
 use Rattle.canon_value.specs.Value.{cap}
 use Rattle.canon_lowering.specs.Copies.{copies}
-use Rattle.std.proofs.Common.{◌≡◌, ◌≤◌, ◌<◌, ◌+◌, ◌*◌, ◌^◌, ◌∙◌, ◌⊎◌, Err, List, Ok, ap, arith, false, length, refl, rules, subst, sym, ℕ}
-use Rattle.canon_lowering.specs.Storing.{IsPair}
-use Rattle.canon_model.specs.Layout.{begins, size}
-use Rattle.canon_model.specs.Shape.{Shape}
-use Rattle.canon_types.specs.Depth.{deepest, depth}
-use Rattle.canon_types.specs.Table.{Table, shape_of, Knows}
-use Rattle.canon_value.specs.Built.{IsBuilt}
-use Rattle.canon_value.specs.Core.{types_of}
-use Rattle.canon_value.specs.Stores.{PartsStoreTo}
+use Rattle.std.proofs.Common.{Err, List, Ok, Result, ap, ap₂, arith, false, length, refl, rules, subst, sym, ℕ, ◌%◌, ◌*◌, ◌+◌, ◌-◌, ◌<◌, ◌^◌, ◌∙◌, ◌≡◌, ◌≤◌, ◌⊎◌}
+use Rattle.canon_lowering.specs.Storing.{IsPair, narrow}
+use Rattle.canon_model.specs.Memory.{num}
+use Rattle.canon_model.specs.Layout.{begins, members_end, size}
+use Rattle.canon_model.specs.Shape.{Members, Shape}
+use Rattle.canon_types.specs.Depth.{deepest, depth, element_shape}
+use Rattle.canon_types.specs.Table.{Knows, Table, shape_of}
+use Rattle.canon_value.specs.Built.{AreBuilt, IsBuilt}
+use Rattle.canon_value.specs.Core.{Parts, types_of}
+use Rattle.canon_value.specs.Stores.{AsksFor, PartsStoreTo}
+use Rattle.canon_lowering.specs.Attempt.{items_call}
+use Rattle.canon_value.specs.Elements.{IsKnown, element_in, list_length, list_shape, row_of}
+use Rattle.canon_value.specs.declared.elements.Element.{Element}
+use Rattle.canon_value.specs.declared.fault.Fault.{Fault}
 use Rattle.canon_value.specs.View.{IsMember, names_of, shapes_of, values_of}
 use Rattle.canon_value.specs.declared.val.Val.{the_lemmas}
 use Rattle.canon_value.proofs.StoreSteps.{same_types}
-use Rattle.canon_value.proofs.Viewing.{lies_built, lies_depth, lies_room, names_count, block_size}
-use Rattle.canon_value.proofs.WalkLoops.{end, go_on, member_shallow, misnamed, stands, stop, parts_stood}
+use Rattle.canon_value.proofs.Viewing.{block_size, lies_built, lies_depth, lies_room, names_count}
+use Rattle.canon_value.proofs.WalkCases.{case_stored, case_wants, written_length}
+use Rattle.canon_value.proofs.WalkLoops.{end, go_on, member_shallow, misnamed, parts_stood, stands, stop}
 use Rattle.canon_value.proofs.Moves.{GuestLaws}
-use Rattle.canon_value.proofs.Walks.{list_told, members_store, value_refused, copies_built, copies_deepest}
+use Rattle.canon_value.proofs.Walks.{copies_built, copies_deepest, list_told, members_store, value_refused}
+use Rattle.canon_value.proofs.Listing.{element_size, listed, row}
 use Rattle.canon_value.proofs.Placing.{list_broken, list_placed, list_refused, list_too_large}
+use Rattle.canon_value.proofs.Viewing.{lies_built, lies_depth, lies_room, names_count, values_count}
+use Rattle.canon_value.proofs.WalkLoops.{end, go_on, member_shallow, misnamed, parts_stood, stands, stop}
+use Rattle.canon_value.proofs.Moves.{GuestLaws}
+use Rattle.canon_value.proofs.Walks.{list_told, members_store, value_refused}
 use Rattle.canon_value.proofs.store.+store.Given.{Over}
 use Rattle.canon_value.proofs.store.+store.Goals.{store_parts-After-member_of-member, store_parts-After-next_field32_size-start}
 use Rattle.canon_value.proofs.store.+store.Goals as goal
@@ -110,82 +121,101 @@ store_parts-returns-clause-stores g t0 c =
 
 -- ---- a list
 
+-- what was asked for, said of the list
+asked_for : {T G : Type 0} → (L : GuestLaws G) (a b : Parts T G) (e e2 : Element) (n : ℕ) (r : Result ℕ Fault) → e2 ≡ e → AsksFor L.seen L.moves a b (items_call false (element_shape (list_shape (types_of a) e2)) n) r
+    → AsksFor L.seen L.moves a b (items_call false (element_shape (list_shape (types_of a) e)) n) r
+asked_for L a b e e2 n r ee h = subst (λ (x : Element). AsksFor L.seen L.moves a b (items_call false (element_shape (list_shape (types_of a) x)) n) r) ee h
+
 pub place_list-returns-in_default-clause-places : goal.place_list-returns-in_default-clause-places
 place_list-returns-in_default-clause-places g t0 c =
     let a = c.args in
-    let t = types_of a.cx.now.core.now in
-    let s = shape_of t a.element.now in
-    let n = c.len-length.result in
+    let core = a.cx.now.core.now in
+    let t = types_of core in
+    let e = element_in a.list.now in
+    let n = c.element_count-length.result in
     let L : GuestLaws _ = record { seen = g.G.Guest.seen; moves = g.G.Guest.moves; stays = g.met.G.Guest.stays; goes_on = g.met.G.Guest.goes_on } in
-    let is : n ≡ length a.items.now.items = omega (arith, c.len-length.ensures, a.items.now.ok.0) in
-    let many : (2 ^ 32 ≤ n) ⊎ (2 ^ 32 ≤ n * size false s) = subst (λ (k : ℕ). (2 ^ 32 ≤ n) ⊎ (2 ^ 32 ≤ n * k)) (item_size t c.types.result.now a.element.now c.canonical_abi.result.now c.types.ensures c.canonical_abi.ensures) (c.in_default.ensures.none refl) in
-    list_too_large L a.cx.now.options a.cx.now.core.now s a.items.now a.place n c.requires.small is many
-
-pub place_list-ask_items-requires-clause-whole : goal.place_list-ask_items-requires-clause-whole
-place_list-ask_items-requires-clause-whole g t0 c =
-    let a = c.args in
-    let t = types_of a.cx.now.core.now in
-    c.in-Some.ensures.some.0 ∙ ap (λ (k : ℕ). c.len-length.result * k) (item_size t c.types.result.now a.element.now c.canonical_abi.result.now c.types.ensures c.canonical_abi.ensures)
+    let bytes = element_size t c.types.result.now e c.element_of-element.result c.element_abi.result.now c.types.ensures c.element_of-element.ensures c.element_abi.ensures in
+    let many : (2 ^ 32 ≤ n) ⊎ (2 ^ 32 ≤ n * size false (element_shape (list_shape t e))) = subst (λ (k : ℕ). (2 ^ 32 ≤ n) ⊎ (2 ^ 32 ≤ n * k)) bytes (c.in_default.ensures.none refl) in
+    list_too_large _ _ _ _ _ (listed t a.list.now c.requires.known) L a.cx.now.options core a.place n c.requires.small c.element_count-length.ensures many
 
 pub place_list-returns-in-Err-clause-places : goal.place_list-returns-in-Err-clause-places
 place_list-returns-in-Err-clause-places g t0 c =
     let a = c.args in
     let core = a.cx.now.core.now in
     let L : GuestLaws _ = record { seen = g.G.Guest.seen; moves = g.G.Guest.moves; stays = g.met.G.Guest.stays; goes_on = g.met.G.Guest.goes_on } in
-    list_refused L a.cx.now.options core c.ask_items.new.cx.core.now (shape_of (types_of core) a.element.now) a.items.now a.place c.len-length.result c.in-Err.fault (omega (arith, c.len-length.ensures, a.items.now.ok.0)) c.in-Err.ensures.asked
+    let asked = asked_for L core c.ask_items.new.cx.core.now (element_in a.list.now) c.element_of-element.result c.element_count-length.result (Err c.in-Err.fault) c.element_of-element.ensures c.in-Err.ensures.asked in
+    list_refused _ _ _ _ _ (listed (types_of core) a.list.now c.requires.known) L a.cx.now.options core c.ask_items.new.cx.core.now a.place c.element_count-length.result c.in-Err.fault c.element_count-length.ensures asked
 
 pub place_list-store_parts-requires : goal.place_list-store_parts-requires
 place_list-store_parts-requires g t0 c =
     let a = c.args in
     let core = a.cx.now.core.now in
     let t = types_of core in
-    let s = shape_of t a.element.now in
+    let e = element_in a.list.now in
+    let n = list_length a.list.now in
     let asked = c.ask_items.new.cx.core.now in
     let given = c.in-Ok.ensures.asked in
-    let eT : types_of asked ≡ t = same_types core asked given.same in
-    let n = length c.deref.result.now in
-    let same : shape_of (types_of asked) a.element.now ≡ s = ap (λ (x : Table). shape_of x a.element.now) eT in
-    let count : n ≡ c.len-length.result = omega (arith, c.len-length.ensures, a.items.now.ok.0, ap length c.deref.ensures.value) in
-    let shallow = copies_deepest n (shape_of (types_of asked) a.element.now) in
-    let falls : 4 * deepest (copies n (shape_of (types_of asked) a.element.now)) + 1 < 4 * depth s + 2 = omega (arith, shallow, ap depth same) in
-    let room = block_size n c.len-length.result c.in-Ok.pointer s (shape_of (types_of asked) a.element.now) asked.memory same count given.does.inside in
-    let known : Knows (types_of asked) a.element.now = subst (λ (x : Table). Knows x a.element.now) (sym eT) c.requires.known in
-    let built = copies_built n (shape_of (types_of asked) a.element.now) (subst (λ (x : Shape). IsBuilt x) (sym same) c.requires.built) in
-    λ κs sub. (search (rules, the_lemmas, falls), (sub.0, (sub.1, (known, (built, (sym (copies_count n _), (given.small, room)))))))
+    let now = types_of asked in
+    let eT : now ≡ t = same_types core asked given.same in
+    let known : IsKnown now e = subst (λ (x : Table). IsKnown x e) (sym eT) c.requires.known in
+    let r = row now e known n in
+    let ms = c.members_in-members.result in
+    let shapes : shapes_of now ms ≡ row_of (list_shape now e) n = c.members_in-members.ensures.shapes now in
+    let are_known = c.members_in-members.ensures.known now known in
+    let falls : 4 * deepest (shapes_of now ms) + 1 < 4 * depth (list_shape t e) - 2 = omega (arith, r.shallow, ap deepest shapes, ap (λ (x : Table). depth (list_shape x e)) eT) in
+    let built = subst (λ (xs : Members). AreBuilt xs) (sym shapes) (r.built (subst (λ (x : Table). IsBuilt (list_shape x e)) (sym eT) c.requires.built)) in
+    let bytes : c.element_count-length.result * size false (element_shape (list_shape t c.element_of-element.result)) ≡ n * size false (element_shape (list_shape now e)) =
+    ap₂ (λ (j : ℕ) (s : Shape). j * size false s) c.element_count-length.ensures (ap₂ (λ (x : Table) (y : Element). element_shape (list_shape x y)) (sym eT) c.element_of-element.ensures) in
+    let room = r.room c.in-Ok.pointer asked.memory (omega (arith, given.does.inside, bytes)) in
+    λ κs sub. (search (rules, the_lemmas, falls), (sub.0, (sub.1, (are_known, (built, (values_count now ms are_known, (given.small, omega (arith, room, ap (members_end false 0) shapes))))))))
 
 pub place_list-returns-in-Ok-store_parts-clause-places : goal.place_list-returns-in-Ok-store_parts-clause-places
 place_list-returns-in-Ok-store_parts-clause-places g t0 c =
     let a = c.args in
     let core = a.cx.now.core.now in
+    let t = types_of core in
+    let e = element_in a.list.now in
+    let k = c.element_count-length.result in
     let asked = c.ask_items.new.cx.core.now in
+    let now = types_of asked in
     let given = c.in-Ok.ensures in
     let L : GuestLaws _ = record { seen = g.G.Guest.seen; moves = g.G.Guest.moves; stays = g.met.G.Guest.stays; goes_on = g.met.G.Guest.goes_on } in
-    let is : c.len-length.result ≡ length a.items.now.items = omega (arith, c.len-length.ensures, a.items.now.ok.0) in
-    list_placed L a.cx.now.options core asked c.store_parts.new.cx.core.now (shape_of (types_of core) a.element.now) a.items.now a.place c.len-length.result c.in-Ok.pointer is c.in-Some.ensures.some.1 given.asked c.in-Ok-store_parts.next
-    (parts_stood L (types_of core) asked c.store_parts.new.cx.core.now a.cx.now.options c.ask_items.new.cx.options a.place a.element.now c.in-Ok.pointer a.items.now.items c.deref.result.now (cap (a.place + 1)) c.saturating_add.result (Ok c.in-Ok-store_parts.next) given.same_options
-    (same_types core asked given.asked.same) c.deref.ensures.value c.saturating_add.ensures c.in-Ok-store_parts.ensures.stores)
+    let ask = asked_for L core asked e c.element_of-element.result k (Ok c.in-Ok.pointer) c.element_of-element.ensures given.asked in
+    let ms = c.members_in-members in
+    let shapes = ms.ensures.shapes now ∙ ap (λ (x : Table). row_of (list_shape x e) (list_length a.list.now)) (same_types core asked given.asked.same) in
+    list_placed _ _ _ _ _ (listed t a.list.now c.requires.known) L a.cx.now.options core asked c.store_parts.new.cx.core.now a.place k c.in-Ok.pointer c.element_count-length.ensures c.in-Some.ensures.some.1 ask c.in-Ok-store_parts.next
+    (parts_stood L asked c.store_parts.new.cx.core.now a.cx.now.options c.ask_items.new.cx.options a.place c.in-Ok.pointer _ _ _ _ _ _ _ _ (Ok c.in-Ok-store_parts.next)
+    given.same_options shapes ms.ensures.names ms.ensures.values c.saturating_add.ensures c.in-Ok-store_parts.ensures.stores)
 
 pub place_list-returns-in-Err-store_parts-clause-places : goal.place_list-returns-in-Err-store_parts-clause-places
 place_list-returns-in-Err-store_parts-clause-places g t0 c =
     let a = c.args in
     let core = a.cx.now.core.now in
+    let t = types_of core in
+    let e = element_in a.list.now in
+    let k = c.element_count-length.result in
     let asked = c.ask_items.new.cx.core.now in
+    let now = types_of asked in
     let given = c.in-Ok.ensures in
     let L : GuestLaws _ = record { seen = g.G.Guest.seen; moves = g.G.Guest.moves; stays = g.met.G.Guest.stays; goes_on = g.met.G.Guest.goes_on } in
-    let is : c.len-length.result ≡ length a.items.now.items = omega (arith, c.len-length.ensures, a.items.now.ok.0) in
-    list_broken L a.cx.now.options core asked c.store_parts.new.cx.core.now (shape_of (types_of core) a.element.now) a.items.now a.place c.len-length.result c.in-Ok.pointer is c.in-Some.ensures.some.1 given.asked c.in-Err-store_parts.fault
-    (parts_stood L (types_of core) asked c.store_parts.new.cx.core.now a.cx.now.options c.ask_items.new.cx.options a.place a.element.now c.in-Ok.pointer a.items.now.items c.deref.result.now (cap (a.place + 1)) c.saturating_add.result (Err c.in-Err-store_parts.fault) given.same_options
-    (same_types core asked given.asked.same) c.deref.ensures.value c.saturating_add.ensures c.in-Err-store_parts.ensures.stores)
+    let ask = asked_for L core asked e c.element_of-element.result k (Ok c.in-Ok.pointer) c.element_of-element.ensures given.asked in
+    let ms = c.members_in-members in
+    let shapes = ms.ensures.shapes now ∙ ap (λ (x : Table). row_of (list_shape x e) (list_length a.list.now)) (same_types core asked given.asked.same) in
+    list_broken _ _ _ _ _ (listed t a.list.now c.requires.known) L a.cx.now.options core asked c.store_parts.new.cx.core.now a.place k c.in-Ok.pointer c.element_count-length.ensures c.in-Some.ensures.some.1 ask c.in-Err-store_parts.fault
+    (parts_stood L asked c.store_parts.new.cx.core.now a.cx.now.options c.ask_items.new.cx.options a.place c.in-Ok.pointer _ _ _ _ _ _ _ _ (Err c.in-Err-store_parts.fault)
+    given.same_options shapes ms.ensures.names ms.ensures.values c.saturating_add.ensures c.in-Err-store_parts.ensures.stores)
 
 pub store_list-returns-in-Ok-clause-stores : goal.store_list-returns-in-Ok-clause-stores
 store_list-returns-in-Ok-clause-stores g t0 c =
     let a = c.args in
+    let core = a.cx.now.core.now in
     let placed = c.place_list.new.cx.core.now in
-    let b = c.in-Ok.list in
+    let b = c.in-Ok.block in
     let there = c.in-Ok.ensures.places in
+    let l = listed (types_of core) a.list.now c.requires.known in
     let L : GuestLaws _ = record { seen = g.G.Guest.seen; moves = g.G.Guest.moves; stays = g.met.G.Guest.stays; goes_on = g.met.G.Guest.goes_on } in
     let pair : IsPair placed.memory c.put_pair.new.memory a.at b.pointer b.length = subst (λ (xs : List ℕ). IsPair xs c.put_pair.new.memory a.at b.pointer b.length) c.as_slice_mut.ensures.value c.put_pair.ensures in
-    list_told L a.cx.now.options a.cx.now.core.now placed c.put_pair.new.memory a.at _ a.place b (omega (arith, c.requires.room, there.lowered.lowering.goes.no_shorter)) there.lowered.lowering.small there.narrow.0 there.narrow.1 pair (shape_of (types_of a.cx.now.core.now) a.element) there
+    list_told L a.cx.now.options core placed c.put_pair.new.memory a.at _ a.place b (omega (arith, c.requires.room, there.lowered.lowering.goes.no_shorter)) there.lowered.lowering.small there.narrow.0 there.narrow.1 pair _ l.part l.kind l.shape there
 
 -- ---- a value
 
@@ -196,12 +226,13 @@ store_value-store_text-requires-clause-room g t0 c =
     omega (arith, c.requires.room, ap (size false) seen.0)
 
 pub store_value-store_list-requires : goal.store_value-store_list-requires
-unfolding size
 store_value-store_list-requires g t0 c =
     let t = types_of c.args.cx.now.core.now in
     let (known, shape, is) = rw c.in-Ok-List.field-0-is at (rw c.types.ensures at c.in-Ok-List.ensures) in
-    let falls : 4 * depth (shape_of t c.in-Ok-List.element) + 3 < 4 * depth (shape_of t c.args.ty) = omega (arith, ap depth shape) in
-    λ κs sub. (search (rules, the_lemmas, falls), (sub.0, (sub.1, (known, (subst (λ (x : Shape). IsBuilt x) shape c.requires.built, (c.requires.small, omega (arith, c.requires.room, ap (size false) shape)))))))
+    let e = element_in c.in-Ok-List.list in
+    let r = row t e known 0 in
+    let falls : 4 * depth (list_shape t e) - 1 < 4 * depth (shape_of t c.args.ty) = omega (arith, r.shallow, ap depth shape) in
+    λ κs sub. (search (rules, the_lemmas, falls), (sub.0, (sub.1, (known, (subst (λ (x : Shape). IsBuilt x) shape c.requires.built, (c.requires.small, omega (arith, c.requires.room, r.place, ap (size false) shape)))))))
 
 pub store_value-store_parts-requires : goal.store_value-store_parts-requires
 store_value-store_parts-requires g t0 c =
@@ -221,6 +252,35 @@ store_value-returns-in-Ok-Members-clause-stores g t0 c =
     let ms = c.in-Ok-Members.members in
     members_store L a.cx.now.options core c.store_parts.new.cx.core.now a.place (shape_of t a.ty) (shapes_of t ms) a.at (names_of ms) (values_of ms) a.value.now c.store_parts.result c.requires.room (omega arith) lies has count
     (subst (λ (n : ℕ). PartsStoreTo L.seen L.moves a.cx.now.options core c.store_parts.new.cx.core.now a.place (shapes_of t ms) 0 a.at (names_of ms) (values_of ms) n c.store_parts.result) c.saturating_add.ensures c.store_parts.ensures.stores)
+
+pub store_value-overflow_add-inner : goal.store_value-overflow_add-inner
+store_value-overflow_add-inner g t0 c =
+    let wants = case_wants (types_of c.args.cx.now.core.now) (shape_of (types_of c.args.cx.now.core.now) c.args.ty) c.args.value.now c.in-Ok-Case.case c.args.at c.requires.built (rw c.in-Ok-Case.field-0-is at (rw c.types.ensures at c.in-Ok-Case.ensures)) in
+    omega (arith, wants.room, c.requires.room, c.requires.small, c.from.ensures)
+
+pub store_value-put_low_bytes-requires : goal.store_value-put_low_bytes-requires
+store_value-put_low_bytes-requires g t0 c =
+    let wants = case_wants (types_of c.args.cx.now.core.now) (shape_of (types_of c.args.cx.now.core.now) c.args.ty) c.args.value.now c.in-Ok-Case.case c.args.at c.requires.built (rw c.in-Ok-Case.field-0-is at (rw c.types.ensures at c.in-Ok-Case.ensures)) in
+    record { few = omega (arith, wants.few, c.byte_size-size.ensures); room = omega (arith, c.requires.room, wants.inside, c.byte_size-size.ensures, ap length c.as_slice_mut.ensures.value) }
+
+pub store_value-store_parts-requires-in-Ok-Case : goal.store_value-store_parts-requires-in-Ok-Case
+store_value-store_parts-requires-in-Ok-Case g t0 c =
+    let core = c.args.cx.now.core.now in
+    let wants = case_wants (types_of core) (shape_of (types_of core) c.args.ty) c.args.value.now c.in-Ok-Case.case c.args.at c.requires.built (rw c.in-Ok-Case.field-0-is at (rw c.types.ensures at c.in-Ok-Case.ensures)) in
+    let long = written_length core.memory c.as_slice_mut.result.now c.put_low_bytes.new.memory _ c.as_slice_mut.ensures.value c.put_low_bytes.ensures.writes in
+    let falls : 4 * deepest (shapes_of (types_of core) c.in-Ok-Case.case.payload) + 1 < 4 * depth (shape_of (types_of core) c.args.ty) = omega (arith, wants.falls) in
+    λ κs sub. (search (rules, the_lemmas, falls), (sub.0, (sub.1, (wants.known, (wants.built, (wants.count, (omega (arith, long, c.requires.small), omega (arith, long, c.requires.room, wants.room, c.from.ensures))))))))
+
+pub store_value-returns-in-Ok-Case-clause-stores : goal.store_value-returns-in-Ok-Case-clause-stores
+store_value-returns-in-Ok-Case-clause-stores g t0 c =
+    let a = c.args in
+    let core = a.cx.now.core.now in
+    let x = c.in-Ok-Case.case in
+    let L : GuestLaws _ = record { seen = g.G.Guest.seen; moves = g.G.Guest.moves; stays = g.met.G.Guest.stays; goes_on = g.met.G.Guest.goes_on } in
+    let put : num (narrow c.put_low_bytes.new.memory) a.at c.byte_size-size.result ≡ x.tag % 256 ^ c.byte_size-size.result = c.put_low_bytes.ensures.stored ∙ ap (λ (n : ℕ). n % 256 ^ c.byte_size-size.result) c.from-in-Ok-Case.ensures in
+    case_stored L a.cx.now.options (types_of core) core c.store_parts-in-Ok-Case.new.cx.core.now c.put_low_bytes.new.memory c.as_slice_mut.result.now (shape_of (types_of core) a.ty) a.at c.byte_size-size.result (a.at + c.from.result) x a.value.now a.place
+    c.saturating_add-in-Ok-Case.result c.store_parts-in-Ok-Case.result c.requires.small c.requires.room (rw c.in-Ok-Case.field-0-is at (rw c.types.ensures at c.in-Ok-Case.ensures)) c.byte_size-size.ensures (ap (λ (o : ℕ). a.at + o) c.from.ensures)
+    c.as_slice_mut.ensures.value c.put_low_bytes.ensures.writes put c.saturating_add-in-Ok-Case.ensures c.store_parts-in-Ok-Case.ensures.stores
 
 pub store_value-returns-in-Err-clause-stores : goal.store_value-returns-in-Err-clause-stores
 store_value-returns-in-Err-clause-stores g t0 c =

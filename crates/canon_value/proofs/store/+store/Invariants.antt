@@ -1,8 +1,9 @@
 -- A type is deeper than its members; between them stand its members, or its block and its items.
-use Rattle.std.proofs.Common.{◌≡◌, ◌+◌, ◌*◌}
+use Rattle.std.proofs.Common.{◌≡◌, ◌+◌, ◌*◌, ◌-◌}
 use Rattle.canon_types.specs.Depth.{deepest, depth}
 use Rattle.canon_types.specs.Table.{shape_of}
 use Rattle.canon_value.specs.Core.{types_of}
+use Rattle.canon_value.specs.Elements.{element_in, list_shape}
 use Rattle.canon_value.specs.View.{names_of, shapes_of, values_of}
 use Rattle.canon_value.proofs.WalkLoops.{PartsAreStored}
 use Rattle.canon_value.proofs.store.+store.Given as goal
@@ -14,10 +15,10 @@ abbrev pub decreases-store_parts : goal.decreases-store_parts
 decreases-store_parts g l = 4 * deepest (shapes_of (types_of l.cx.now.core.now) l.members.now) + 1
 
 abbrev pub decreases-store_list : goal.decreases-store_list
-decreases-store_list g l = 4 * depth (shape_of (types_of l.cx.now.core.now) l.element) + 3
+decreases-store_list g l = 4 * depth (list_shape (types_of l.cx.now.core.now) (element_in l.list.now)) - 1
 
 abbrev pub decreases-place_list : goal.decreases-place_list
-decreases-place_list g l = 4 * depth (shape_of (types_of l.cx.now.core.now) l.element.now) + 2
+decreases-place_list g l = 4 * depth (list_shape (types_of l.cx.now.core.now) (element_in l.list.now)) - 2
 
 abbrev pub invariant-store_parts-loop-k : goal.invariant-store_parts-loop-k
 invariant-store_parts-loop-k g l = record {

@@ -2,4 +2,9 @@ use Rattle.canon_value.proofs.Scalars.{built_scalar}
 use Rattle.canon_value.proofs.view.view_of.Goals as goal
 
 pub scalar_view-requires : goal.scalar_view-requires
-scalar_view-requires c = record { scalar = built_scalar c.args.types.now c.args.ty.now c.requires.known c.requires.built (λ i e. c.in_default.not-Record i e) (λ i e. c.in_default.not-Tuple i e) (λ e. c.in_default.not-String e) (λ i e. c.in_default.not-List i e) (λ i e. c.in_default.not-FixedLengthList i e) }
+scalar_view-requires c =
+    let d = c.in_default in
+    record {
+      scalar = built_scalar c.args.types.now c.args.ty.now c.requires.built (λ i e. d.not-Record i e) (λ i e. d.not-Tuple i e) (λ e. d.not-String e) (λ i e. d.not-List i e) (λ i e. d.not-FixedLengthList i e)
+          (λ i e. d.not-Map i e) (λ i e. d.not-Variant i e) (λ i e. d.not-Enum i e) (λ i e. d.not-Option i e) (λ i e. d.not-Result i e) (λ i e. d.not-Flags i e);
+    }

@@ -21,4 +21,4 @@ returns-clause-info c =
       tag = c.enum_numbers.ensures.tag;
       offset = c.enum_numbers.ensures.offset;
     } in
-    enum_info c.enum_numbers.result.0 c.enum_numbers.result.1 c.args.count is
+    enum_info c.enum_numbers.result.0 c.enum_numbers.result.1 c.args.count is c.requires.few

@@ -1,6 +1,6 @@
 use Rattle.std.proofs.Common.{◌≡◌, arith, List, length, Ok, ap, ◌∙◌, ℕ, ◌<◌, sym, subst}
 use Rattle.canon_handles.specs.Step.{and_then}
-use Rattle.canon_ledger.specs.Handles.{Handles, Answer, OpenScope, borrow_added, one_borrow_more, scope_at}
+use Rattle.canon_ledger.specs.Handles.{Handles, StepAnswer, OpenScope, borrow_added, one_borrow_more, scope_at}
 use Rattle.canon_ledger.specs.Books.{Context, handles_of}
 use Rattle.canon_ledger.proofs.ScopeLemmas.{scope_changed, scope_read, borrow_count_le, live_inserted}
 use Rattle.canon_ledger.proofs.handles.StoreHandles.insert_borrow.Goals as goal
@@ -18,5 +18,5 @@ add_borrow-requires c =
 
 pub returns : goal.returns
 returns c =
-    ap (λ (a : Answer ℕ). and_then a (λ (i, h'). Ok (i, borrow_added h' c.args.number))) c.in_ok-index.ensures.step
+    ap (λ (a : StepAnswer ℕ). and_then a (λ (i, h'). Ok (i, borrow_added h' c.args.number))) c.in_ok-index.ensures.step
     ∙ ap (λ (m : Handles). Ok (c.in_ok-index.index, m)) (sym (scope_changed c.insert_entry.new.self.tables.items c.insert_entry.new.self.counter c.insert_entry.new.self.scopes.items c.args.number c.index_mut.result.now (subst (λ (l : List Context). c.args.number < length l) (sym c.insert_entry.ensures.scopes) c.requires.scope_open) c.index_mut.ensures.value one_borrow_more c.add_borrow.new.self c.add_borrow.ensures))

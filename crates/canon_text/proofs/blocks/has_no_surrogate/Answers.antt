@@ -1,0 +1,5 @@
+use Rattle.canon_text.proofs.Plain.{plain_by_mask}
+use Rattle.canon_text.proofs.blocks.has_no_surrogate.Goals as goal
+
+pub returns : goal.returns
+returns c = plain_by_mask c.args.block c.fits-block.0 c.fits-block.1

@@ -1,0 +1,5 @@
+use Rattle.canon_text.proofs.Copied.{copies-more}
+use Rattle.canon_text.proofs.copy.copy_blocks.Goals as goal
+
+pub loop-count-preserved : goal.loop-count-preserved
+loop-count-preserved g c = copies-more 128 c.args.src.now c.args.dst.now c.loop-count.dst _ c.args.from c.args.at c.loop-count.count c.copy_block-block.result c.loop-count.invariant c.copy_block-block.ensures

@@ -1,0 +1,27 @@
+use Rattle.std.proofs.Common.{◌≤◌, ◌+◌, arith, length}
+use Rattle.canon_indices.specs.Options.{encoding_of}
+use Rattle.canon_lowering.specs.Storing.{narrow}
+use Rattle.canon_model.specs.Layout.{flags_size}
+use Rattle.canon_value.specs.Flags.{flag_names}
+use Rattle.canon_value.proofs.FlagLifting.{flags_blamed, flags_loaded}
+use Rattle.canon_value.proofs.FlagNames.{flags_are}
+use Rattle.canon_value.proofs.FlagSteps.{size_flags}
+use Rattle.canon_value.proofs.flags.load_flags.Goals.{After-flags-flags}
+use Rattle.canon_value.proofs.flags.load_flags.Goals as goal
+
+room : (c : After-flags-flags) → c.args.at + flags_size (length (flag_names c.args.source.now.types.now c.args.i)) ≤ length c.args.source.now.memory.now
+room c = omega (arith, c.requires.inside, size_flags _ _ (flags_are c.args.source.now.types.now c.args.i c.flags-flags.result.now c.flags-flags.ensures.entry))
+
+pub flags_of-requires-clause-room : goal.flags_of-requires-clause-room
+flags_of-requires-clause-room c = room (goal.at.flags_of-requires-clause-room c).After-flags-flags
+
+pub returns-clause-ok : goal.returns-clause-ok
+returns-clause-ok c =
+    let s = c.args.source.now in
+    flags_loaded (encoding_of s.encoding) (narrow s.memory.now) (flag_names s.types.now c.args.i) c.args.fuel.now _ c.args.at c.flags_of.new.fuel c.flags_of.result (flags_are s.types.now c.args.i c.flags-flags.result.now c.flags-flags.ensures.entry)
+    (room (goal.at.returns-clause-ok c).After-flags-flags) c.flags_of.ensures.ok
+
+pub returns-clause-err : goal.returns-clause-err
+returns-clause-err c =
+    let s = c.args.source.now in
+    flags_blamed (encoding_of s.encoding) (narrow s.memory.now) (flag_names s.types.now c.args.i) c.args.fuel.now _ c.args.at c.flags_of.result (flags_are s.types.now c.args.i c.flags-flags.result.now c.flags-flags.ensures.entry) c.flags_of.ensures.err
