@@ -15,13 +15,13 @@ use Rattle.canon_lowering.proofs.Lowerings.{lawful_second}
 use Rattle.canon_lowering.specs.Attempt.{AnyPointer, LowersArgs}
 use Rattle.canon_lowering.specs.Lowering.{Accepted, AllGood, AllLawful, Answer, LastIs, Meets, Trap, addresses_of, done, events_of, marks_of}
 use Rattle.canon_lowering.specs.Storing.{narrow}
-use Rattle.canon_value.specs.Fails.{AreSmall, BlamesMembers, Failure, MemberFails, field_name, mismatch, overflow, payload_expected, payload_not_expected, too_long, unknown_case, unknown_flag, wrong_length}
+use Rattle.canon_value.specs.Fails.{AreSmall, BlamesMembers, Failure, IsTypeFailure, MemberFails, field_name, mismatch, payload_expected, payload_not_expected, unknown_case, unknown_flag, wrong_length}
 use Rattle.canon_value.proofs.Values.{failure_excludes}
 use Rattle.canon_value.specs.Lifts.{AreResults}
-use Rattle.canon_value.specs.Lowers.{fault_ending}
+use Rattle.canon_context.specs.Lowers.{fault_ending}
 use Rattle.canon_value.specs.Value.{HaveTrees}
-use Rattle.canon_value.specs.declared.fault.Fault.{Fault}
-use Rattle.canon_value.specs.declared.fault.Fault.TheVariants as fault
+use Rattle.canon_context.specs.declared.fault.Fault.{Fault}
+use Rattle.canon_context.specs.declared.fault.Fault.TheVariants as fault
 use Rattle.canon_value.specs.declared.val.Val.{Val}
 use Rattle.canon_func.specs.Call.{Advances, AsksNothing, Cause, IsCall, IsStart, lowering_ending, words_within}
 use Rattle.canon_func.specs.Runs.{Each, EndsIn, Grows, IsAnswer, IsNoAsk, IsNoPost, IsNoResume, IsNoStart, IsPrefixOfRun, IsTrap, OnReturn, OnStart}
@@ -63,11 +63,12 @@ pub record IsReady (callee : Callee) (params : List Val) (entry mid : Moment) (w
 
 module _ (callee : Callee) (params : List Val) (entry mid : Moment) (words : List ℕ) where
   pub ready : (low : LowersArgs false entry mid callee.encoding callee.params (HaveTrees callee.params params) words done) → length words ≡ words_within max_params callee.params
-      → AsksNothing callee.params low.answers low.trap → IsReady callee params entry mid words low.answers
-  ready low count quiet = record {
+      → AsksNothing callee.params low.answers low.trap → AreSmall callee.encoding callee.params params → IsReady callee params entry mid words low.answers
+  ready low count quiet small = record {
     start = record {
       trees = low.shown.it;
       have = low.shown.is;
+      small = small;
       represented = λ lawful. blocks_are_read.values low.fresh max_params true callee.encoding (narrow mid.bytes) words callee.params low.shown.it (low.shown.rep lawful (inl (λ i h. absurd h)));
       homes = subst (λ xs. ParamsHome AnyPointer callee.encoding false words callee.params low.shown.it xs []) (append-nil (addresses_of low.answers)) (low.shown.homes []);
       memory_homes = λ lawful. subst (λ xs. ParamsHome (PointsTo (narrow mid.bytes)) callee.encoding false words callee.params low.shown.it xs []) (append-nil (addresses_of low.answers)) (low.shown.memory_homes lawful (inl (λ i h. absurd h)) []);
@@ -92,6 +93,7 @@ cause_after callee fuel params entry mid after xs ys (error.Fault fault.GuestTra
 cause_after callee fuel params entry mid after xs ys (error.Fault (fault.PointerMisaligned at)) g h = ends_after _ xs ys h
 cause_after callee fuel params entry mid after xs ys (error.Fault (fault.PointerOutOfBounds at)) g h = ends_after _ xs ys h
 cause_after callee fuel params entry mid after xs ys (error.Fault (fault.InvalidUtf8 at)) g h = ends_after _ xs ys h
+cause_after callee fuel params entry mid after xs ys (error.Fault (fault.InvalidUtf16 at)) g h = ends_after _ xs ys h
 cause_after callee fuel params entry mid after xs ys (error.Fault (fault.InvalidChar at)) g h = ends_after _ xs ys h
 cause_after callee fuel params entry mid after xs ys (error.Fault (fault.BadDiscriminant at d)) g h = ends_after _ xs ys h
 cause_after callee fuel params entry mid after xs ys (error.Fault fault.HostcallFuelExhausted) g h = ends_after _ xs ys h
@@ -131,6 +133,7 @@ accepted_after callee fuel mid after ys answers (error.Fault fault.OutOfMemory) 
 accepted_after callee fuel mid after ys answers (error.Fault (fault.PointerMisaligned at)) h good = good
 accepted_after callee fuel mid after ys answers (error.Fault (fault.PointerOutOfBounds at)) h good = good
 accepted_after callee fuel mid after ys answers (error.Fault (fault.InvalidUtf8 at)) h good = good
+accepted_after callee fuel mid after ys answers (error.Fault (fault.InvalidUtf16 at)) h good = good
 accepted_after callee fuel mid after ys answers (error.Fault (fault.InvalidChar at)) h good = good
 accepted_after callee fuel mid after ys answers (error.Fault (fault.BadDiscriminant at d)) h good = good
 accepted_after callee fuel mid after ys answers (error.Fault fault.HostcallFuelExhausted) h good = good
@@ -240,7 +243,7 @@ record Refused (callee : Callee) (fuel : ℕ) (params : List Val) (entry after :
   late : TrapsLate (length entry.bytes) trap
   accepted : Accepted (fault_ending f) (length after.bytes) answers
   cause : Cause callee fuel params entry after events (error.Fault f)
-  valid : (ts : Trees) → HaveTrees callee.params params ts → AreSmall callee.params params → AllLawful answers → ¬ EndsIn IsTrap events → f ≡ fault.OutOfMemory
+  valid : (ts : Trees) → HaveTrees callee.params params ts → AreSmall callee.encoding callee.params params → AllLawful answers → ¬ EndsIn IsTrap events → f ≡ fault.OutOfMemory
 
 module _ (Leaves : List ℕ → List ℕ → Type 0) (callee : Callee) (fuel : ℕ) (params : List Val) (entry after : Moment) where
   made : (results : List Val) (f : Fault) (answers : List Answer) (trap : Option Trap) → Advances entry after → AsksNothing callee.params answers trap → after.guest.marks ≡ entry.guest.marks ++ marks_of answers
@@ -281,14 +284,21 @@ module _ (Leaves : List ℕ → List ℕ → Type 0) (callee : Callee) (fuel : �
   abbrev Why : (f : Fault) (words : List ℕ) → Low words f → Type 0
   Why f words low = Refused callee fuel params entry after (events_of low.answers low.trap) low.answers low.trap f
 
+  -- the parameters aren't of their types, or one is too large
+  abbrev Unlike : Type 0
+  Unlike = (ts : Trees) → HaveTrees callee.params params ts → AreSmall callee.encoding callee.params params → ⊥
+
+  unfit : (how : Failure) (j : ℕ) → IsTypeFailure how → MemberFails how callee.params params j → Unlike
+  unfit how j is fails ts have small = failure_excludes how callee.params params j ts is fails have
+
   -- no request trapped, and the value is to blame
-  blamed : (f : Fault) (answers : List Answer) (trap : Option Trap) (how : Failure) (j : ℕ) → trap ≡ None → Accepted (fault_ending f) (length after.bytes) answers → MemberFails how callee.params params j → Cause callee fuel params entry after (events_of answers trap) (error.Fault f)
+  blamed : (f : Fault) (answers : List Answer) (trap : Option Trap) → trap ≡ None → Accepted (fault_ending f) (length after.bytes) answers → Unlike → Cause callee fuel params entry after (events_of answers trap) (error.Fault f)
       → Refused callee fuel params entry after (events_of answers trap) answers trap f
-  blamed f answers trap how j none accepted fails cause = record {
+  blamed f answers trap none accepted unlike cause = record {
     late = subst (λ o. TrapsLate (length entry.bytes) o) (sym none) tt;
     accepted = accepted;
     cause = cause;
-    valid = λ ts have small lawful calm. absurd (failure_excludes how callee.params params j ts (small how j fails) fails have);
+    valid = λ ts have small lawful calm. absurd (unlike ts have small);
   }
 
   none_started : (answers : List Answer) (trap : Option Trap) → Each IsNoStart (events_of answers trap)
@@ -302,16 +312,17 @@ module _ (Leaves : List ℕ → List ℕ → Type 0) (callee : Callee) (fuel : �
   none_trapped : (answers : List Answer) (trap : Option Trap) → trap ≡ None → ¬ EndsIn IsTrap (events_of answers trap)
   none_trapped answers trap none h = no_trap answers (subst (λ o. EndsIn IsTrap (events_of answers o)) none h)
 
-  refused_by : (f : Fault) (words : List ℕ) (low : Low words f) → BlamesMembers callee.params params f → Why f words low
-  refused_by (fault.TypeMismatch k) words low blames = blamed (fault.TypeMismatch k) low.answers low.trap mismatch blames.0 low.lowering.cause low.lowering.accepted blames.2 (none_started low.answers low.trap, none_trapped low.answers low.trap low.lowering.cause, blames)
-  refused_by (fault.FieldName k) words low blames = blamed (fault.FieldName k) low.answers low.trap field_name blames.0 low.lowering.cause low.lowering.accepted blames.2 (none_started low.answers low.trap, none_trapped low.answers low.trap low.lowering.cause, blames)
-  refused_by (fault.UnknownCase k) words low blames = blamed (fault.UnknownCase k) low.answers low.trap unknown_case blames.0 low.lowering.cause low.lowering.accepted blames.2 (none_started low.answers low.trap, none_trapped low.answers low.trap low.lowering.cause, blames)
-  refused_by (fault.UnknownFlag k) words low blames = blamed (fault.UnknownFlag k) low.answers low.trap unknown_flag blames.0 low.lowering.cause low.lowering.accepted blames.2 (none_started low.answers low.trap, none_trapped low.answers low.trap low.lowering.cause, blames)
-  refused_by (fault.PayloadExpected k) words low blames = blamed (fault.PayloadExpected k) low.answers low.trap payload_expected blames.0 low.lowering.cause low.lowering.accepted blames.2 (none_started low.answers low.trap, none_trapped low.answers low.trap low.lowering.cause, blames)
-  refused_by (fault.PayloadNotExpected k) words low blames = blamed (fault.PayloadNotExpected k) low.answers low.trap payload_not_expected blames.0 low.lowering.cause low.lowering.accepted blames.2 (none_started low.answers low.trap, none_trapped low.answers low.trap low.lowering.cause, blames)
-  refused_by (fault.LengthMismatch k) words low blames = blamed (fault.LengthMismatch k) low.answers low.trap wrong_length blames.0 low.lowering.cause low.lowering.accepted blames.2 (none_started low.answers low.trap, none_trapped low.answers low.trap low.lowering.cause, blames)
-  refused_by (fault.StringTooLong n) words low blames = blamed (fault.StringTooLong n) low.answers low.trap (too_long n) blames.0 low.lowering.cause low.lowering.accepted blames.1 (none_started low.answers low.trap, none_trapped low.answers low.trap low.lowering.cause, blames)
-  refused_by (fault.SizeOverflow n) words low blames = blamed (fault.SizeOverflow n) low.answers low.trap (overflow n) blames.0 low.lowering.cause low.lowering.accepted blames.1 (none_started low.answers low.trap, none_trapped low.answers low.trap low.lowering.cause, blames)
+  refused_by : (f : Fault) (words : List ℕ) (low : Low words f) → BlamesMembers callee.encoding callee.params params f → Why f words low
+  refused_by (fault.TypeMismatch k) words low blames = blamed (fault.TypeMismatch k) low.answers low.trap low.lowering.cause low.lowering.accepted (unfit mismatch blames.0 tt blames.2) (none_started low.answers low.trap, none_trapped low.answers low.trap low.lowering.cause, blames)
+  refused_by (fault.FieldName k) words low blames = blamed (fault.FieldName k) low.answers low.trap low.lowering.cause low.lowering.accepted (unfit field_name blames.0 tt blames.2) (none_started low.answers low.trap, none_trapped low.answers low.trap low.lowering.cause, blames)
+  refused_by (fault.UnknownCase k) words low blames = blamed (fault.UnknownCase k) low.answers low.trap low.lowering.cause low.lowering.accepted (unfit unknown_case blames.0 tt blames.2) (none_started low.answers low.trap, none_trapped low.answers low.trap low.lowering.cause, blames)
+  refused_by (fault.UnknownFlag k) words low blames = blamed (fault.UnknownFlag k) low.answers low.trap low.lowering.cause low.lowering.accepted (unfit unknown_flag blames.0 tt blames.2) (none_started low.answers low.trap, none_trapped low.answers low.trap low.lowering.cause, blames)
+  refused_by (fault.PayloadExpected k) words low blames = blamed (fault.PayloadExpected k) low.answers low.trap low.lowering.cause low.lowering.accepted (unfit payload_expected blames.0 tt blames.2) (none_started low.answers low.trap, none_trapped low.answers low.trap low.lowering.cause, blames)
+  refused_by (fault.PayloadNotExpected k) words low blames = blamed (fault.PayloadNotExpected k) low.answers low.trap low.lowering.cause low.lowering.accepted
+      (unfit payload_not_expected blames.0 tt blames.2) (none_started low.answers low.trap, none_trapped low.answers low.trap low.lowering.cause, blames)
+  refused_by (fault.LengthMismatch k) words low blames = blamed (fault.LengthMismatch k) low.answers low.trap low.lowering.cause low.lowering.accepted (unfit wrong_length blames.0 tt blames.2) (none_started low.answers low.trap, none_trapped low.answers low.trap low.lowering.cause, blames)
+  refused_by (fault.StringTooLong n) words low blames = blamed (fault.StringTooLong n) low.answers low.trap low.lowering.cause low.lowering.accepted (λ ts have small. small.texts n blames.0 blames.1) (none_started low.answers low.trap, none_trapped low.answers low.trap low.lowering.cause, blames)
+  refused_by (fault.SizeOverflow n) words low blames = blamed (fault.SizeOverflow n) low.answers low.trap low.lowering.cause low.lowering.accepted (λ ts have small. small.lists n blames.0 blames.1) (none_started low.answers low.trap, none_trapped low.answers low.trap low.lowering.cause, blames)
   refused_by (fault.ReallocMisaligned a) words low blames = record {
     late = subst (λ o. TrapsLate (length entry.bytes) o) (sym low.lowering.cause.0) tt;
     accepted = low.lowering.accepted;
@@ -326,7 +337,8 @@ module _ (Leaves : List ℕ → List ℕ → Type 0) (callee : Callee) (fuel : �
     accepted = low.lowering.accepted;
     cause = (
       none_started low.answers low.trap,
-      ends_in_answer (λ c answer. (answer ≡ a) × (a % c.align ≡ 0) × ¬ (a + c.new_size ≤ length after.bytes)) low.answers low.trap a _ low.lowering.cause.0 (λ x is bad. (is, subst (λ n. n % x.call.align ≡ 0) is bad.0, λ q. bad.1 (subst (λ n. n + x.call.new_size ≤ length after.bytes) (sym is) q))) low.lowering.cause.1,
+      ends_in_answer (λ c answer. (answer ≡ a) × (a % c.align ≡ 0) × ¬ (a + c.new_size ≤ length after.bytes)) low.answers low.trap a _ low.lowering.cause.0
+          (λ x is bad. (is, subst (λ n. n % x.call.align ≡ 0) is bad.0, λ q. bad.1 (subst (λ n. n + x.call.new_size ≤ length after.bytes) (sym is) q))) low.lowering.cause.1,
     );
     valid = λ ts have small lawful calm. absurd (last_lawful low.answers a _ (λ x bad. bad.2) low.lowering.cause.1 lawful);
   }
@@ -347,11 +359,12 @@ module _ (Leaves : List ℕ → List ℕ → Type 0) (callee : Callee) (fuel : �
   refused_by (fault.PointerMisaligned at) words low blames = absurd blames
   refused_by (fault.PointerOutOfBounds at) words low blames = absurd blames
   refused_by (fault.InvalidUtf8 at) words low blames = absurd blames
+  refused_by (fault.InvalidUtf16 at) words low blames = absurd blames
   refused_by (fault.InvalidChar at) words low blames = absurd blames
   refused_by (fault.BadDiscriminant at d) words low blames = absurd blames
   refused_by fault.HostcallFuelExhausted words low blames = absurd blames
 
-  pub refused_call : (f : Fault) (words : List ℕ) (low : LowersArgs false entry after callee.encoding callee.params (HaveTrees callee.params params) words (fault_ending f)) → BlamesMembers callee.params params f
+  pub refused_call : (f : Fault) (words : List ℕ) (low : LowersArgs false entry after callee.encoding callee.params (HaveTrees callee.params params) words (fault_ending f)) → BlamesMembers callee.encoding callee.params params f
       → AsksNothing callee.params low.answers low.trap → CoreCall Leaves callee fuel params entry after (Err (error.Fault f)) (events_of low.answers low.trap)
   refused_call f words low blames quiet results =
       made results f low.answers low.trap (goes_advance entry after _ _ low.lowering.goes) quiet low.lowering.goes.marks (λ ts have. ((low.requested ts have).rest, (low.requested ts have).met)) (refused_by f words low blames)

@@ -12,7 +12,7 @@ use Rattle.canon_lowering.proofs.Lowerings.{goes_none, goes_then}
 use Rattle.canon_lowering.specs.Attempt.{LowersArgs}
 use Rattle.canon_lowering.specs.Lowering.{done, events_of, marks_of}
 use Rattle.canon_value.specs.Value.{HaveTrees}
-use Rattle.canon_value.specs.declared.fault.Fault.TheVariants as fault
+use Rattle.canon_context.specs.declared.fault.Fault.TheVariants as fault
 use Rattle.canon_value.specs.declared.val.Val.{Val}
 use Rattle.canon_func.specs.Call.{Adding, IsCall, Left, OnAnswered}
 use Rattle.canon_func.specs.Runs.{posts}
@@ -162,7 +162,7 @@ module _ (Leaves : List ℕ → List ℕ → Type 0) (callee : Callee) (fuel : �
         added = (goes_then a b c (marks_of low.answers) [] xs ys low.lowering.goes second.goes).events;
         moves = λ there. f xs ys (subst M first.so.1 (first.moves there)) second.moves;
         so = subst (λ o. CoreCall Leaves callee fuel params a c answer (events_of low.answers o ++ ys)) (sym low.lowering.cause)
-            (joined Leaves callee fuel params a b c words.items low.answers ys answer (ready callee params a b words.items low first.so.2 first.so.3) (goes_advance a b _ _ low.lowering.goes) (goes_advance b c _ _ second.goes) (second.goes.marks ∙ append-nil b.guest.marks) second.so);
+            (joined Leaves callee fuel params a b c words.items low.answers ys answer (ready callee params a b words.items low first.so.2 first.so.3 first.so.4) (goes_advance a b _ _ low.lowering.goes) (goes_advance b c _ _ second.goes) (second.goes.marks ∙ append-nil b.guest.marks) second.so);
       }
 
   -- they weren't

@@ -8,9 +8,9 @@ use Rattle.canon_model.specs.Layout.{flat, members_flat}
 use Rattle.canon_model.specs.Shape.{Members, Shape, member_count, of_places, product}
 use Rattle.canon_types.specs.Table.{Table, members_of}
 use Rattle.canon_types.specs.declared.types.InterfaceType.{InterfaceType}
-use Rattle.canon_value.specs.Built.{are_built, is_built}
-use Rattle.canon_value.specs.declared.component.Component.{Component}
-use Rattle.canon_value.specs.declared.component.Export.{Export}
+use Rattle.canon_plan.specs.Built.{are_built, is_built}
+use Rattle.canon_context.specs.declared.component.Component.{Component}
+use Rattle.canon_context.specs.declared.component.Export.{Export}
 use Rattle.canon_func.specs.Call.{refusal, words_within}
 use Rattle.canon_func.specs.Stores.{Callee, export_callee, params_in, results_in}
 use Rattle.canon_func.specs.declared.error.Error.TheVariants as error

@@ -13,13 +13,13 @@ use Rattle.canon_memory.specs.Guest.{GuestIn, Moment, Seen}
 use Rattle.canon_memory.specs.Journal.{Adds}
 use Rattle.canon_lowering.specs.Attempt.{LowersArgs}
 use Rattle.canon_lowering.specs.Lowering.{Answer, CauseOf, Ending, Trap, done, events_of, marks_of, refused}
-use Rattle.canon_value.specs.Fails.{BlamesMembers}
-use Rattle.canon_value.specs.Lowers.{fault_ending}
-use Rattle.canon_value.specs.Moves.{Moves}
-use Rattle.canon_value.specs.Quiet.{have_block}
+use Rattle.canon_value.specs.Fails.{AreSmall, BlamesMembers}
+use Rattle.canon_context.specs.Lowers.{fault_ending}
+use Rattle.canon_context.specs.Moves.{Moves}
+use Rattle.canon_context.specs.Quiet.{have_block}
 use Rattle.canon_value.specs.Value.{HaveTrees}
-use Rattle.canon_value.specs.declared.fault.Fault.{Fault}
-use Rattle.canon_value.specs.declared.fault.Fault.TheVariants as fault
+use Rattle.canon_context.specs.declared.fault.Fault.{Fault}
+use Rattle.canon_context.specs.declared.fault.Fault.TheVariants as fault
 use Rattle.canon_value.specs.declared.val.Val.{Val}
 use Rattle.canon_func.specs.Call.{Adding, AsksNothing, OnAnswered, words_within}
 use Rattle.canon_func.specs.declared.error.Error.TheVariants as error
@@ -53,6 +53,7 @@ refused_moves V seen moves g h fault.GuestTrap m l es p q = m l es p q
 refused_moves V seen moves g h (fault.PointerMisaligned at) m l es p q = m l es p q
 refused_moves V seen moves g h (fault.PointerOutOfBounds at) m l es p q = m l es p q
 refused_moves V seen moves g h (fault.InvalidUtf8 at) m l es p q = m l es p q
+refused_moves V seen moves g h (fault.InvalidUtf16 at) m l es p q = m l es p q
 refused_moves V seen moves g h (fault.InvalidChar at) m l es p q = m l es p q
 refused_moves V seen moves g h (fault.BadDiscriminant at d) m l es p q = m l es p q
 refused_moves V seen moves g h fault.HostcallFuelExhausted m l es p q = m l es p q
@@ -75,20 +76,21 @@ module _ (a b : Moment) (enc : Encoding) (ms ns : Members) (params : List Val) (
       subst (λ ks. AsksNothing ks answers trap) is (λ near quiet. (none_answered a b answers (same near quiet) marks, none quiet near))
 
   pub lowered_done : (words dst : List ℕ) (M : List Event → Type 0) → words ≡ dst → length words ≡ words_within max_params ms → (members_flat ms ≤ max_params → have_block ms ≡ false → b ≡ a)
-      → LowersArgs false a b enc ms (HaveTrees ms params) dst done → ((l es : List Event) → a.guest.journal ≡ Some l → b.guest.journal ≡ Some (l ++ es) → M es) → Adding a b M (λ es. (low : LowersArgs false a b enc ns (HaveTrees ns params) words done) × (es ≡ events_of low.answers low.trap) × (length words ≡ words_within max_params ns) × AsksNothing ns low.answers low.trap)
-  lowered_done words dst M e count same low new =
+      → LowersArgs false a b enc ms (HaveTrees ms params) dst done → AreSmall enc ms params → ((l es : List Event) → a.guest.journal ≡ Some l → b.guest.journal ≡ Some (l ++ es) → M es)
+      → Adding a b M (λ es. (low : LowersArgs false a b enc ns (HaveTrees ns params) words done) × (es ≡ events_of low.answers low.trap) × (length words ≡ words_within max_params ns) × AsksNothing ns low.answers low.trap × AreSmall enc ns params)
+  lowered_done words dst M e count same low small new =
       let mine : LowersArgs false a b enc ns (HaveTrees ns params) words done =
       subst (λ ks. LowersArgs false a b enc ks (HaveTrees ks params) words done) is (subst (λ ws. LowersArgs false a b enc ms (HaveTrees ms params) ws done) (sym e) low) in
       record {
         events = events_of mine.answers mine.trap;
         added = mine.lowering.goes.events;
         moves = told a.guest.journal b.guest.journal (events_of mine.answers mine.trap) M mine.lowering.goes.events new;
-        so = (mine, refl, count ∙ ap (λ ks. words_within max_params ks) is, asks_nothing done mine.answers mine.trap mine.lowering.goes.marks (λ quiet near. mine.lowering.cause) same);
+        so = (mine, refl, count ∙ ap (λ ks. words_within max_params ks) is, asks_nothing done mine.answers mine.trap mine.lowering.goes.marks (λ quiet near. mine.lowering.cause) same, subst (λ ks. AreSmall enc ks params) is small);
       }
 
-  pub lowered_refused : (f : Fault) (dst : List ℕ) (M : List Event → Type 0) → LowersArgs false a b enc ms (HaveTrees ms params) dst (fault_ending f) → BlamesMembers ms params f
+  pub lowered_refused : (f : Fault) (dst : List ℕ) (M : List Event → Type 0) → LowersArgs false a b enc ms (HaveTrees ms params) dst (fault_ending f) → BlamesMembers enc ms params f
       → (members_flat ms ≤ max_params → have_block ms ≡ false → (b ≡ a) × (fault_ending f ≡ refused)) → ((l es : List Event) → a.guest.journal ≡ Some l → b.guest.journal ≡ Some (l ++ es) → M es)
-      → Adding a b M (λ es. ((f ≡ fault.OutOfMemory) × (b ≡ a) × (es ≡ [])) ⊎ ((words : List ℕ) × (low : LowersArgs false a b enc ns (HaveTrees ns params) words (fault_ending f)) × BlamesMembers ns params f × (es ≡ events_of low.answers low.trap) × AsksNothing ns low.answers low.trap))
+      → Adding a b M (λ es. ((f ≡ fault.OutOfMemory) × (b ≡ a) × (es ≡ [])) ⊎ ((words : List ℕ) × (low : LowersArgs false a b enc ns (HaveTrees ns params) words (fault_ending f)) × BlamesMembers enc ns params f × (es ≡ events_of low.answers low.trap) × AsksNothing ns low.answers low.trap))
   lowered_refused f dst M low blames same new =
       let mine : LowersArgs false a b enc ns (HaveTrees ns params) dst (fault_ending f) = subst (λ ks. LowersArgs false a b enc ks (HaveTrees ks params) dst (fault_ending f)) is low in
       record {
@@ -98,7 +100,7 @@ module _ (a b : Moment) (enc : Encoding) (ms ns : Members) (params : List Val) (
         so = inr (
           dst,
           mine,
-          subst (λ ks. BlamesMembers ks params f) is blames,
+          subst (λ ks. BlamesMembers enc ks params f) is blames,
           refl,
           asks_nothing (fault_ending f) mine.answers mine.trap mine.lowering.goes.marks
               (λ quiet near. subst (λ end. CauseOf a b mine.answers mine.trap end) (same near quiet).1 mine.lowering.cause) (λ near quiet. (same near quiet).0),

@@ -1,5 +1,5 @@
 -- What the events from the start on say.
-use Rattle.std.proofs.Common.{Err, List, None, Ok, Option, Result, Some, Vec, Global, [], arith, length, refl, subst, sym, ℕ, ⊎_elim, ◌∷◌, ◌≡◌, ◌≤◌, ◌<◌}
+use Rattle.std.proofs.Common.{Err, List, None, Ok, Option, Result, Some, Vec, Global, [], arith, length, refl, subst, sym, true, ℕ, ⊎_elim, ◌∷◌, ◌≡◌, ◌≤◌, ◌<◌}
 use Rattle.std.specs.Prelude.{false}
 use Rattle.std.proofs.lemmas.Bool.{cases_lt, le-leb, lt-leb}
 use Rattle.canon_model.specs.Cost.{members_cost}
@@ -20,9 +20,9 @@ use Rattle.canon_memory.specs.Journal.{trap_event}
 use Rattle.canon_lowering.specs.Storing.{narrow}
 use Rattle.canon_value.proofs.Values.{have_count}
 use Rattle.canon_value.specs.Lifts.{AreResults}
-use Rattle.canon_value.specs.declared.fault.At.{At}
+use Rattle.canon_context.specs.declared.fault.At.{At}
 use Rattle.canon_value.specs.Loads.{place_of}
-use Rattle.canon_value.specs.declared.fault.Fault.TheVariants as fault
+use Rattle.canon_context.specs.declared.fault.Fault.TheVariants as fault
 use Rattle.canon_value.specs.declared.val.Val.{Val}
 use Rattle.canon_func.specs.Call.{Advances, HasFault, Left, result_words}
 use Rattle.canon_func.specs.Runs.{Each, Grows, IsNoRequest, IsNoResume, IsPrefixOfRun, OnReturn, OnStart, posts}
@@ -121,6 +121,7 @@ module _ (Leaves : List ℕ → List ℕ → Type 0) (callee : Callee) (fuel : �
   rest_of_start (error.Fault (fault.PointerMisaligned at)) events h = absurd h
   rest_of_start (error.Fault (fault.PointerOutOfBounds at)) events h = absurd h
   rest_of_start (error.Fault (fault.InvalidUtf8 at)) events h = absurd h
+  rest_of_start (error.Fault (fault.InvalidUtf16 at)) events h = absurd h
   rest_of_start (error.Fault (fault.InvalidChar at)) events h = absurd h
   rest_of_start (error.Fault (fault.BadDiscriminant at d)) events h = absurd h
   rest_of_start (error.Fault fault.HostcallFuelExhausted) events h = absurd h
@@ -158,6 +159,7 @@ module _ (Leaves : List ℕ → List ℕ → Type 0) (callee : Callee) (fuel : �
     lifted_made (error.Fault (fault.PointerMisaligned at)) n h = returned_made (error.Fault (fault.PointerMisaligned at)) h (excludes (error.Fault (fault.PointerMisaligned at)) _ _ h)
     lifted_made (error.Fault (fault.PointerOutOfBounds at)) n h = returned_made (error.Fault (fault.PointerOutOfBounds at)) h (excludes (error.Fault (fault.PointerOutOfBounds at)) _ _ h)
     lifted_made (error.Fault (fault.InvalidUtf8 at)) n h = returned_made (error.Fault (fault.InvalidUtf8 at)) h (excludes (error.Fault (fault.InvalidUtf8 at)) _ _ h)
+    lifted_made (error.Fault (fault.InvalidUtf16 at)) n h = returned_made (error.Fault (fault.InvalidUtf16 at)) h (excludes (error.Fault (fault.InvalidUtf16 at)) _ _ h)
     lifted_made (error.Fault (fault.InvalidChar at)) n h = returned_made (error.Fault (fault.InvalidChar at)) h (excludes (error.Fault (fault.InvalidChar at)) _ _ h)
     lifted_made (error.Fault (fault.BadDiscriminant at d)) n h = returned_made (error.Fault (fault.BadDiscriminant at d)) h (excludes (error.Fault (fault.BadDiscriminant at d)) _ _ h)
     lifted_made (error.Fault fault.HostcallFuelExhausted) n h = returned_made (error.Fault fault.HostcallFuelExhausted) h
@@ -192,14 +194,15 @@ module _ (Leaves : List ℕ → List ℕ → Type 0) (callee : Callee) (fuel : �
       start = ((refl, refl), (tt, each_post (OnStart (λ ws m. (ws ≡ words) × (m ≡ before.bytes))) (λ p ws. tt) callee.post returned));
       only_results = (tt, ((left, results), each_post (OnReturn (λ ws m. (rest : ℕ) × AreResults callee.encoding (narrow m) callee.results ws fuel rest vals.items)) (λ p ws. tt) callee.post returned));
       posted = λ some. (tt, ((left, vals.items, results), each_post (OnReturn (λ ws m. (rest : ℕ) × (vs : List Val) × AreResults callee.encoding (narrow m) callee.results ws fuel rest vs)) (λ p ws. tt) callee.post returned));
-      count = have_count callee.results vals.items results.its_trees results.have;
+      count = have_count true callee.results vals.items results.its_trees results.have;
       leaves = (tt, (kept, each_post (OnReturn (λ ws m. Left Leaves callee.post m after.bytes)) (λ p ws. tt) callee.post returned));
       cause = tt;
       valid = λ calm quiet right. tt;
     }
 
 -- post-return trapped
-post_trapped_made : (Leaves : List ℕ → List ℕ → Type 0) (callee : Callee) (fuel : ℕ) (words : List ℕ) (before after : Moment) (returned memory : List ℕ) (p : ℕ) → length before.bytes ≤ length memory → length memory ≤ length after.bytes → callee.post ≡ Some p → Rose before.guest.traps after.guest.traps → ((vals : Vec Val Global) × Lifted callee fuel returned memory (Ok vals))
+post_trapped_made : (Leaves : List ℕ → List ℕ → Type 0) (callee : Callee) (fuel : ℕ) (words : List ℕ) (before after : Moment) (returned memory : List ℕ) (p : ℕ) → length before.bytes ≤ length memory
+    → length memory ≤ length after.bytes → callee.post ≡ Some p → Rose before.guest.traps after.guest.traps → ((vals : Vec Val Global) × Lifted callee fuel returned memory (Ok vals))
     → IsRest Leaves callee fuel words before after (Err (error.Fault fault.GuestTrap)) (event.Start callee.func words before.bytes ∷ event.Return returned memory ∷ event.Post p returned ∷ trap_event (length memory) ∷ [])
 post_trapped_made Leaves callee fuel words before after returned memory p first second e rose (vals, (left, results)) = record {
   one_run = tt;

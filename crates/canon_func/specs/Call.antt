@@ -8,7 +8,7 @@ use Rattle.canon_model.specs.Memory.{InBlocks}
 use Rattle.canon_model.specs.Reach.{Kind, ValuesFault, badly_spelled, misaligned, no_case, no_scalar, out_of_bounds, values_reach}
 use Rattle.canon_model.specs.Requests.{Request, params_requests}
 use Rattle.canon_model.specs.Shape.{Members, member_count}
-use Rattle.canon_model.specs.Text.{in_utf8}
+use Rattle.canon_model.specs.Text.{in_utf16, in_utf8}
 use Rattle.canon_model.specs.Tree.{Trees}
 use Rattle.canon_memory.specs.declared.event.Event.{Event}
 use Rattle.canon_memory.specs.Counts.{Rose}
@@ -20,13 +20,13 @@ use Rattle.canon_lowering.specs.Storing.{narrow}
 use Rattle.canon_types.specs.Refusal.{first_error}
 use Rattle.canon_value.specs.Fails.{AreSmall, BlamesMembers}
 use Rattle.canon_value.specs.Lifts.{AreResults}
-use Rattle.canon_value.specs.Lowers.{fault_ending}
+use Rattle.canon_context.specs.Lowers.{fault_ending}
 use Rattle.canon_value.specs.Loads.{place_of}
-use Rattle.canon_value.specs.Quiet.{have_block}
+use Rattle.canon_context.specs.Quiet.{have_block}
 use Rattle.canon_value.specs.Value.{HaveTrees}
-use Rattle.canon_value.specs.declared.fault.At.{At}
-use Rattle.canon_value.specs.declared.fault.Fault.{Fault}
-use Rattle.canon_value.specs.declared.fault.Fault.TheVariants as fault
+use Rattle.canon_context.specs.declared.fault.At.{At}
+use Rattle.canon_context.specs.declared.fault.Fault.{Fault}
+use Rattle.canon_context.specs.declared.fault.Fault.TheVariants as fault
 use Rattle.canon_value.specs.declared.val.Val.{Val}
 use Rattle.canon_func.specs.Runs.{AsksImport, Each, EndsIn, Grows, IsAnswer, IsNoAsk, IsNoPost, IsNoRequest, IsNoResume, IsNoStart, IsOneRun, IsPrefixOfRun, IsReturn, IsTrap, OnReturn, OnStart}
 use Rattle.canon_func.specs.Stores.{Callee}
@@ -64,6 +64,8 @@ words_within most ms = if nat_le (members_flat ms) most then members_flat ms els
 pub record IsStart (callee : Callee) (params : List Val) (entry : List ℕ) (answers : List Answer) (words memory : List ℕ) : Type 0 where
   pub trees : Trees
   pub have : HaveTrees callee.params params trees
+  -- no text among them is too long, and no list or map too large
+  pub small : AreSmall callee.encoding callee.params params
   -- memory isn't shorter than at the call's entry
   pub no_shorter : length entry ≤ length memory
   -- there are as many words as the parameters take; each answer is aligned, and its block ends inside memory
@@ -102,15 +104,15 @@ IsPastFuel callee fuel words memory = (length words ≡ result_words callee.resu
 
 -- why a call was refused with this fault
 abbrev pub FaultCause : Callee → ℕ → List Val → Moment → Moment → List Event → Fault → Type 0
-FaultCause callee fuel params before after events (fault.TypeMismatch k) = Each IsNoStart events × ¬ EndsIn IsTrap events × BlamesMembers callee.params params (fault.TypeMismatch k)
-FaultCause callee fuel params before after events (fault.FieldName k) = Each IsNoStart events × ¬ EndsIn IsTrap events × BlamesMembers callee.params params (fault.FieldName k)
-FaultCause callee fuel params before after events (fault.UnknownCase k) = Each IsNoStart events × ¬ EndsIn IsTrap events × BlamesMembers callee.params params (fault.UnknownCase k)
-FaultCause callee fuel params before after events (fault.UnknownFlag k) = Each IsNoStart events × ¬ EndsIn IsTrap events × BlamesMembers callee.params params (fault.UnknownFlag k)
-FaultCause callee fuel params before after events (fault.PayloadExpected k) = Each IsNoStart events × ¬ EndsIn IsTrap events × BlamesMembers callee.params params (fault.PayloadExpected k)
-FaultCause callee fuel params before after events (fault.PayloadNotExpected k) = Each IsNoStart events × ¬ EndsIn IsTrap events × BlamesMembers callee.params params (fault.PayloadNotExpected k)
-FaultCause callee fuel params before after events (fault.LengthMismatch k) = Each IsNoStart events × ¬ EndsIn IsTrap events × BlamesMembers callee.params params (fault.LengthMismatch k)
-FaultCause callee fuel params before after events (fault.StringTooLong n) = Each IsNoStart events × ¬ EndsIn IsTrap events × BlamesMembers callee.params params (fault.StringTooLong n)
-FaultCause callee fuel params before after events (fault.SizeOverflow n) = Each IsNoStart events × ¬ EndsIn IsTrap events × BlamesMembers callee.params params (fault.SizeOverflow n)
+FaultCause callee fuel params before after events (fault.TypeMismatch k) = Each IsNoStart events × ¬ EndsIn IsTrap events × BlamesMembers callee.encoding callee.params params (fault.TypeMismatch k)
+FaultCause callee fuel params before after events (fault.FieldName k) = Each IsNoStart events × ¬ EndsIn IsTrap events × BlamesMembers callee.encoding callee.params params (fault.FieldName k)
+FaultCause callee fuel params before after events (fault.UnknownCase k) = Each IsNoStart events × ¬ EndsIn IsTrap events × BlamesMembers callee.encoding callee.params params (fault.UnknownCase k)
+FaultCause callee fuel params before after events (fault.UnknownFlag k) = Each IsNoStart events × ¬ EndsIn IsTrap events × BlamesMembers callee.encoding callee.params params (fault.UnknownFlag k)
+FaultCause callee fuel params before after events (fault.PayloadExpected k) = Each IsNoStart events × ¬ EndsIn IsTrap events × BlamesMembers callee.encoding callee.params params (fault.PayloadExpected k)
+FaultCause callee fuel params before after events (fault.PayloadNotExpected k) = Each IsNoStart events × ¬ EndsIn IsTrap events × BlamesMembers callee.encoding callee.params params (fault.PayloadNotExpected k)
+FaultCause callee fuel params before after events (fault.LengthMismatch k) = Each IsNoStart events × ¬ EndsIn IsTrap events × BlamesMembers callee.encoding callee.params params (fault.LengthMismatch k)
+FaultCause callee fuel params before after events (fault.StringTooLong n) = Each IsNoStart events × ¬ EndsIn IsTrap events × BlamesMembers callee.encoding callee.params params (fault.StringTooLong n)
+FaultCause callee fuel params before after events (fault.SizeOverflow n) = Each IsNoStart events × ¬ EndsIn IsTrap events × BlamesMembers callee.encoding callee.params params (fault.SizeOverflow n)
 FaultCause callee fuel params before after events (fault.ReallocMisaligned a) =
     Each IsNoStart events × EndsIn (IsAnswer (λ c answer. (answer ≡ a) × ¬ (a % c.align ≡ 0))) events
 FaultCause callee fuel params before after events (fault.ReallocOutOfBounds a) =
@@ -119,6 +121,7 @@ FaultCause callee fuel params before after events fault.GuestTrap = Rose before.
 FaultCause callee fuel params before after events (fault.PointerMisaligned at) = EndsIn (IsReturn (HasFault callee misaligned at)) events
 FaultCause callee fuel params before after events (fault.PointerOutOfBounds at) = EndsIn (IsReturn (HasFault callee out_of_bounds at)) events
 FaultCause callee fuel params before after events (fault.InvalidUtf8 at) = EndsIn (IsReturn (HasFault callee (badly_spelled in_utf8) at)) events
+FaultCause callee fuel params before after events (fault.InvalidUtf16 at) = EndsIn (IsReturn (HasFault callee (badly_spelled in_utf16) at)) events
 FaultCause callee fuel params before after events (fault.InvalidChar at) = EndsIn (IsReturn (HasFault callee no_scalar at)) events
 FaultCause callee fuel params before after events (fault.BadDiscriminant at d) = EndsIn (IsReturn (HasFault callee (no_case d) at)) events
 FaultCause callee fuel params before after events fault.HostcallFuelExhausted = EndsIn (IsReturn (IsPastFuel callee fuel)) events
@@ -183,7 +186,7 @@ pub record IsCall (Leaves : List ℕ → List ℕ → Type 0) (callee : Callee) 
   -- A valid call answers Ok or want of memory: the parameters are of their types, no text among them is too long and no
   -- list too large, `realloc` kept its law, the guest doesn't trap and asks for no import, and what it returns represents
   -- results that cost no more than the fuel.
-  pub valid : (ts : Trees) → HaveTrees callee.params params ts → AreSmall callee.params params → AllLawful answers → ¬ EndsIn IsTrap events → Each IsNoAsk events
+  pub valid : (ts : Trees) → HaveTrees callee.params params ts → AreSmall callee.encoding callee.params params → AllLawful answers → ¬ EndsIn IsTrap events → Each IsNoAsk events
       → Each (OnReturn (λ words m. (us : Trees) × RepResults false callee.encoding (narrow m) words callee.results us × (members_cost callee.results us ≤ fuel))) events
       → IsOkUnless answer (error.Fault fault.OutOfMemory)
 

@@ -5,7 +5,7 @@ use Rattle.canon_model.specs.Cost.{members_cost}
 use Rattle.canon_model.specs.Flat.{RepResults, max_params}
 use Rattle.canon_model.specs.Reach.{badly_spelled, misaligned, no_case, no_scalar, out_of_bounds}
 use Rattle.canon_model.specs.Shape.{member_count}
-use Rattle.canon_model.specs.Text.{in_utf8}
+use Rattle.canon_model.specs.Text.{in_utf16, in_utf8}
 use Rattle.canon_model.specs.Tree.{Trees}
 use Rattle.canon_memory.specs.declared.event.Event.{Event}
 use Rattle.canon_memory.specs.declared.event.Event.TheVariants as event
@@ -15,12 +15,12 @@ use Rattle.canon_memory.specs.Journal.{trap_event}
 use Rattle.canon_lowering.specs.Attempt.{LowersArgs}
 use Rattle.canon_lowering.specs.Lowering.{done, events_of}
 use Rattle.canon_lowering.specs.Storing.{narrow}
-use Rattle.canon_value.specs.Fails.{BlamesMembers}
+use Rattle.canon_value.specs.Fails.{AreSmall, BlamesMembers}
 use Rattle.canon_value.specs.Lifts.{AreResults}
 use Rattle.canon_value.specs.Loads.{LiftBlames}
-use Rattle.canon_value.specs.Lowers.{fault_ending}
+use Rattle.canon_context.specs.Lowers.{fault_ending}
 use Rattle.canon_value.specs.Value.{HaveTrees}
-use Rattle.canon_value.specs.declared.fault.Fault.TheVariants as fault
+use Rattle.canon_context.specs.declared.fault.Fault.TheVariants as fault
 use Rattle.canon_value.specs.declared.val.Val.{Val}
 use Rattle.canon_func.specs.Call.{AsksNothing, HasFault, IsCall, IsPastFuel, Left, refused_by, result_words, words_within}
 use Rattle.canon_func.specs.Runs.{AsksImport, Each, EndsIn, Grows, IsNoAsk, IsNoPost, IsNoRequest, IsNoResume, IsOneRun, IsPrefixOfRun, IsReturn, IsTrap, OnReturn, OnStart, posts}
@@ -44,10 +44,11 @@ abbrev pub LoweredArgs : Callee → List Val → Moment → Moment → Result (V
 LoweredArgs callee params before after (Ok words) events =
     (low : LowersArgs false before after callee.encoding callee.params (HaveTrees callee.params params) words.items done) × (events ≡ events_of low.answers low.trap)
     × (length words.items ≡ words_within max_params callee.params) × AsksNothing callee.params low.answers low.trap
+    × AreSmall callee.encoding callee.params params
 LoweredArgs callee params before after (Err (error.Fault f)) events =
     ((f ≡ fault.OutOfMemory) × (after ≡ before) × (events ≡ []))
     ⊎ ((words : List ℕ) × (low : LowersArgs false before after callee.encoding callee.params (HaveTrees callee.params params) words (fault_ending f))
-    × BlamesMembers callee.params params f × (events ≡ events_of low.answers low.trap) × AsksNothing callee.params low.answers low.trap)
+    × BlamesMembers callee.encoding callee.params params f × (events ≡ events_of low.answers low.trap) × AsksNothing callee.params low.answers low.trap)
 LoweredArgs callee params before after (Err _) events = ⊥
 
 -- ---- the start
@@ -95,6 +96,7 @@ RestCause callee fuel before after events (error.Fault fault.GuestTrap) = Rose b
 RestCause callee fuel before after events (error.Fault (fault.PointerMisaligned at)) = EndsIn (IsReturn (HasFault callee misaligned at)) events
 RestCause callee fuel before after events (error.Fault (fault.PointerOutOfBounds at)) = EndsIn (IsReturn (HasFault callee out_of_bounds at)) events
 RestCause callee fuel before after events (error.Fault (fault.InvalidUtf8 at)) = EndsIn (IsReturn (HasFault callee (badly_spelled in_utf8) at)) events
+RestCause callee fuel before after events (error.Fault (fault.InvalidUtf16 at)) = EndsIn (IsReturn (HasFault callee (badly_spelled in_utf16) at)) events
 RestCause callee fuel before after events (error.Fault (fault.InvalidChar at)) = EndsIn (IsReturn (HasFault callee no_scalar at)) events
 RestCause callee fuel before after events (error.Fault (fault.BadDiscriminant at d)) = EndsIn (IsReturn (HasFault callee (no_case d) at)) events
 RestCause callee fuel before after events (error.Fault fault.HostcallFuelExhausted) = EndsIn (IsReturn (IsPastFuel callee fuel)) events

@@ -5,11 +5,11 @@ use Rattle.canon_model.specs.Text.{Encoding, utf8}
 use Rattle.canon_indices.specs.declared.options.CanonicalOptions.{CanonicalOptions}
 use Rattle.canon_types.specs.declared.types.TypeFunc.{TypeFunc}
 use Rattle.canon_types.specs.Table.{Table, param_members, result_members}
-use Rattle.canon_value.specs.Built.{AreBuilt}
-use Rattle.canon_value.specs.Component.{encoding_at}
-use Rattle.canon_value.specs.Core.{Parts}
-use Rattle.canon_value.specs.declared.component.Component.{Component}
-use Rattle.canon_value.specs.declared.component.Export.{Export}
+use Rattle.canon_plan.specs.Built.{AreBuilt}
+use Rattle.canon_context.specs.Component.{encoding_at}
+use Rattle.canon_context.specs.Core.{Parts}
+use Rattle.canon_context.specs.declared.component.Component.{Component}
+use Rattle.canon_context.specs.declared.component.Export.{Export}
 
 -- what contracts see of a store
 pub record StoreView (T G : Type 0) : Type 0 where

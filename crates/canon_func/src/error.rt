@@ -1,5 +1,5 @@
 ghost use Rattle.std.specs.Prelude.{◌≡◌};
-ghost use Rattle.canon_value.specs.declared.fault.Fault.TheVariants as fault;
+ghost use Rattle.canon_context.specs.declared.fault.Fault.TheVariants as fault;
 ghost use Rattle.canon_func.specs.declared.error.Error.TheVariants as error;
 
 use canon_value::Fault;

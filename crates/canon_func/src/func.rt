@@ -1,7 +1,7 @@
 ghost use Rattle.std.specs.Prelude.{◌≡◌, ◌↔◌, Err, Ok, Some, IfSome, IsNone, IsTrue, OnErr, OnOk, length, slice_get, true};
 ghost use Rattle.canon_types.specs.Table.{IsOver};
-ghost use Rattle.canon_value.specs.Component.{IsInside};
-ghost use Rattle.canon_value.specs.Core.{guest_of, moment_of, types_of};
+ghost use Rattle.canon_context.specs.Component.{IsInside};
+ghost use Rattle.canon_context.specs.Core.{guest_of, moment_of, types_of};
 ghost use Rattle.canon_func.specs.Call.{Adding, IsCall, OnAnswered, refusal, refused_by};
 ghost use Rattle.canon_func.specs.Stores.{IsCallable, IsOwned, Named, callee_of, type_of};
 

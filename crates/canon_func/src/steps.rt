@@ -1,19 +1,19 @@
 //! The steps of a call.
 
-ghost use Rattle.std.specs.Prelude.{◌≡◌, ◌≤◌, ◌==◌, ◌&&◌, ◌↔◌, IfErr, IfOk, IsTrue, false, length, slice_get};
+ghost use Rattle.std.specs.Prelude.{◌≡◌, ◌≤◌, ◌==◌, ◌&&◌, ◌↔◌, IfErr, IfOk, IsTrue, OnOk, false, length, slice_get};
 ghost use Rattle.canon_model.specs.Flat.{max_params};
 ghost use Rattle.canon_model.specs.Layout.{members_flat};
 ghost use Rattle.canon_model.specs.Shape.{member_count};
 ghost use Rattle.canon_memory.specs.Guest.{OnAnswer};
 ghost use Rattle.canon_types.specs.Table.{HasFunc, HasTuple, tuple_members};
-ghost use Rattle.canon_value.specs.Built.{AreBuilt};
-ghost use Rattle.canon_value.specs.Component.{HasOptions, IsInside};
-ghost use Rattle.canon_value.specs.Core.{encoding_by, guest_of, moment_of, types_of};
+ghost use Rattle.canon_plan.specs.Built.{AreBuilt};
+ghost use Rattle.canon_context.specs.Component.{HasOptions, IsInside};
+ghost use Rattle.canon_context.specs.Core.{encoding_by, guest_of, moment_of, types_of};
 ghost use Rattle.canon_lowering.specs.Attempt.{LowersArgs};
-ghost use Rattle.canon_value.specs.Fails.{BlamesMembers};
-ghost use Rattle.canon_value.specs.Lowers.{ending_of};
-ghost use Rattle.canon_value.specs.Moves.{Moves};
-ghost use Rattle.canon_value.specs.Quiet.{Quiet, have_block};
+ghost use Rattle.canon_value.specs.Fails.{AreSmall, BlamesMembers};
+ghost use Rattle.canon_context.specs.Lowers.{ending_of};
+ghost use Rattle.canon_context.specs.Moves.{Moves};
+ghost use Rattle.canon_context.specs.Quiet.{Quiet, have_block};
 ghost use Rattle.canon_value.specs.Value.{HaveTrees};
 ghost use Rattle.canon_func.specs.Call.{Adding, OnAnswered, words_within};
 ghost use Rattle.canon_func.specs.Steps.{Concluded, CoreCall, Proceeds, IsLate, IsRest, Lifted, LoweredArgs, Posted, Started};
@@ -127,7 +127,8 @@ fn lower_into<T, G: Guest>(
     requires words { length words.old ≡ words_within max_params (tuple_members (types_of core.old) tuple) }
     ensures lowered { LowersArgs false (moment_of G.seen core.old) (moment_of G.seen core.new) (encoding_by core.old export.now.options)
         (tuple_members (types_of core.old) tuple) (HaveTrees (tuple_members (types_of core.old) tuple) params.now) words.new (ending_of result) }
-    ensures cause { IfErr result (BlamesMembers (tuple_members (types_of core.old) tuple) params.now) }
+    ensures cause { IfErr result (BlamesMembers (encoding_by core.old export.now.options) (tuple_members (types_of core.old) tuple) params.now) }
+    ensures small { OnOk result (AreSmall (encoding_by core.old export.now.options) (tuple_members (types_of core.old) tuple) params.now) }
     ensures quiet { members_flat (tuple_members (types_of core.old) tuple) ≤ max_params → Quiet (have_block (tuple_members (types_of core.old) tuple)) (core.new ≡ core.old) result }
     ensures moves { Moves G.seen G.moves (guest_of core.old) (guest_of core.new) (ending_of result) }
     ensures same { core.new ≡ record core.old { guest = core.new.guest; memory = core.new.memory } }

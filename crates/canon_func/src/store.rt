@@ -24,7 +24,7 @@ impl<T, G> Store<T, G> {
     ghost use Rattle.std.specs.Borrow.{Lends, sem};
     ghost use Rattle.canon_func.specs.Stores.{IsOwned};
     ghost use Rattle.canon_func.specs.contracts.store.Store.{the_row};
-    ghost use Rattle.canon_value.specs.contracts.core_data.Core as core_type;
+    ghost use Rattle.canon_context.specs.contracts.core_data.Core as core_type;
 
     /// A store that no call has trapped.
     pub fn new(core: Core<T, G>) -> Self

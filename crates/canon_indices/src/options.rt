@@ -4,6 +4,9 @@ use crate::RuntimeInstance;
 #[derive(Clone, Copy, Debug, PartialEq, Eq)]
 pub enum StringEncoding {
     Utf8,
+    Utf16,
+    /// Latin-1, or UTF-16 with the tag bit of the length set (`latin1+utf16`).
+    CompactUtf16,
 }
 
 /// The canonical options of a function (CanonicalABI.md, `canonopt`).

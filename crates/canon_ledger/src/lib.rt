@@ -20,6 +20,4 @@ pub use ledger::Ledger;
 pub use tables::ResourceTables;
 
 #[cfg(test)]
-mod host_tests;
-#[cfg(test)]
 mod tests;

@@ -123,11 +123,12 @@ module _ (wide : Bool) (enc : Encoding) (blocks more : List Block) (xs ys : List
     flat_homes_kept (own x) i t ps qs f h = h
     flat_homes_kept (borrow x) i t ps qs f h = h
     flat_homes_kept (list l s) i t ps qs (f, below) (zs, is, h) =
+        let There = Stored (InsideBlocks blocks (memory_of xs wide)) true enc (memory_of xs wide) s in
         let narrow : ptr (memory_of xs wide) (slice_index ws i) ≡ slice_index ws i = ptr_same wide xs (slice_index ws i) (λ nar. below refl nar i (omega arith) (omega arith)) in (
           zs,
           is,
-          each_home_along (Stored (InsideBlocks blocks (memory_of xs wide)) true enc (memory_of xs wide) s) (Homes (PointsTo (memory_of xs wide)) enc wide s) (Homes (PointsTo (memory_of ys wide)) enc wide s) (λ b u vs us m g. value_homes_kept wide enc blocks more xs ys k s b u vs us m g) (size wide s) (slice_index ws i) (trees_of t) zs qs
-              (subst₂ (λ p us. EachAt (Stored (InsideBlocks blocks (memory_of xs wide)) true enc (memory_of xs wide) s) (size wide s) p us) narrow (ap trees_of (sym f.is)) f.each) h,
+          each_home_along There (Homes (PointsTo (memory_of xs wide)) enc wide s) (Homes (PointsTo (memory_of ys wide)) enc wide s) (λ b u vs us m g. value_homes_kept wide enc blocks more xs ys k s b u vs us m g)
+              (size wide s) (slice_index ws i) (trees_of t) zs qs (subst₂ (λ p us. EachAt There (size wide s) p us) narrow (ap trees_of (sym f.is)) f.each) h,
         )
     flat_homes_kept (fixed n s) i t ps qs f h = each_home_along (Flat (InsideBlocks blocks (memory_of xs wide)) true enc (memory_of xs wide) ws s) (FlatHomes (PointsTo (memory_of xs wide)) enc wide ws s) (FlatHomes (PointsTo (memory_of ys wide)) enc wide ws s)
         (λ j u vs us g w. flat_homes_kept s j u vs us g w) (flat s) i (trees_of t) ps qs (subst (λ us. EachAt (Flat (InsideBlocks blocks (memory_of xs wide)) true enc (memory_of xs wide) ws s) (flat s) i us) (ap trees_of (sym f.is)) f.each) h

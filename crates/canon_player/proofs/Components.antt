@@ -4,10 +4,11 @@ use Rattle.std.specs.Prelude.{slice_get, slice_index_or, unwrap_or}
 use Rattle.std.proofs.Math.ListN.{drop_of_length-le}
 use Rattle.std.proofs.lemmas.Option.{get_or_from_slice_get, slice_get_cases, slice_get_within}
 use Rattle.canon_indices.specs.declared.options.CanonicalOptions.{CanonicalOptions}
+use Rattle.canon_indices.specs.declared.options.StringEncoding.{StringEncoding}
 use Rattle.canon_types.specs.Table.{Table}
-use Rattle.canon_value.specs.Component.{IsInside, IsComponent}
-use Rattle.canon_value.specs.declared.component.Component.{Component}
-use Rattle.canon_value.specs.declared.component.Export.{Export}
+use Rattle.canon_context.specs.Component.{IsInside, IsComponent}
+use Rattle.canon_context.specs.declared.component.Component.{Component}
+use Rattle.canon_context.specs.declared.component.Export.{Export}
 use Rattle.canon_script.specs.Script.{Play}
 use Rattle.canon_player.specs.Session.{played_callee}
 use Rattle.canon_player.specs.Stores.{IsScripted, callee_at, export_for, exports_from, options_for, options_from}
@@ -18,27 +19,27 @@ exports_len : (i : ℕ) (posts : List Bool) → length (exports_from i posts) �
 exports_len i [] = refl
 exports_len i (p ∷ posts) = ap suc (exports_len (i + 1) posts)
 
-options_len : (t : Table) (i : ℕ) (posts : List Bool) → length (options_from t i posts) ≡ length posts
-options_len t i [] = refl
-options_len t i (p ∷ posts) = ap suc (options_len t (i + 1) posts)
+options_len : (t : Table) (encoding : StringEncoding) (i : ℕ) (posts : List Bool) → length (options_from t encoding i posts) ≡ length posts
+options_len t encoding i [] = refl
+options_len t encoding i (p ∷ posts) = ap suc (options_len t encoding (i + 1) posts)
 
 exports_at : (i : ℕ) (posts : List Bool) (k : ℕ) → k < length posts → slice_get (exports_from i posts) k ≡ Some (export_for (i + k))
 exports_at i [] k h = absurd (omega (arith, h))
 exports_at i (p ∷ posts) zero h = let e : i ≡ i + 0 = omega arith in ap (λ n. Some (export_for n)) e
 exports_at i (p ∷ posts) (suc k) h = let e : i + 1 + k ≡ i + suc k = omega arith in exports_at (i + 1) posts k (omega (arith, h)) ∙ ap (λ n. Some (export_for n)) e
 
-options_at : (t : Table) (i : ℕ) (posts : List Bool) (k : ℕ) (p : Bool) → slice_get posts k ≡ Some p → slice_get (options_from t i posts) k ≡ Some (options_for t (i + k) p)
-options_at t i [] k p h = absurd (omega (arith, slice_get_within [] k p h))
-options_at t i (q ∷ posts) zero p h = let e : i ≡ i + 0 = omega arith in ap (λ o. Some (options_for t i (unwrap_or o q))) h ∙ ap (λ n. Some (options_for t n p)) e
-options_at t i (q ∷ posts) (suc k) p h = let e : i + 1 + k ≡ i + suc k = omega arith in options_at t (i + 1) posts k p h ∙ ap (λ n. Some (options_for t n p)) e
+options_at : (t : Table) (encoding : StringEncoding) (i : ℕ) (posts : List Bool) (k : ℕ) (p : Bool) → slice_get posts k ≡ Some p → slice_get (options_from t encoding i posts) k ≡ Some (options_for t encoding (i + k) p)
+options_at t encoding i [] k p h = absurd (omega (arith, slice_get_within [] k p h))
+options_at t encoding i (q ∷ posts) zero p h = let e : i ≡ i + 0 = omega arith in ap (λ o. Some (options_for t encoding i (unwrap_or o q))) h ∙ ap (λ n. Some (options_for t encoding n p)) e
+options_at t encoding i (q ∷ posts) (suc k) p h = let e : i + 1 + k ≡ i + suc k = omega arith in options_at t encoding (i + 1) posts k p h ∙ ap (λ n. Some (options_for t encoding n p)) e
 
 -- all of them
 module _ (i : ℕ) (posts : List Bool) (past : length posts ≤ i) where
   none_left : drop i posts ≡ []
   none_left = drop_of_length-le posts past
 
-  pub all_options : (t : Table) (os : List CanonicalOptions) → os ++ options_from t i (drop i posts) ≡ options_from t 0 posts → os ≡ options_from t 0 posts
-  all_options t os h = sym (append-nil os) ∙ (ap (λ (ps : List Bool). os ++ options_from t i ps) (sym none_left) ∙ h)
+  pub all_options : (t : Table) (encoding : StringEncoding) (os : List CanonicalOptions) → os ++ options_from t encoding i (drop i posts) ≡ options_from t encoding 0 posts → os ≡ options_from t encoding 0 posts
+  all_options t encoding os h = sym (append-nil os) ∙ (ap (λ (ps : List Bool). os ++ options_from t encoding i ps) (sym none_left) ∙ h)
 
   pub all_exports : (es : List Export) → es ++ exports_from i (drop i posts) ≡ exports_from 0 posts → es ≡ exports_from 0 posts
   all_exports es h = sym (append-nil es) ∙ (ap (λ (ps : List Bool). es ++ exports_from i ps) (sym none_left) ∙ h)
@@ -49,7 +50,7 @@ found xs i h = ⊎_elim (λ at. (at.0, at.2)) (λ past. absurd (omega (arith, h,
 
 -- ---- the component
 
-module _ (t : Table) (posts : List Bool) (c : Component) (h : IsScripted t posts c) where
+module _ (t : Table) (encoding : StringEncoding) (posts : List Bool) (c : Component) (h : IsScripted t encoding posts c) where
   pub export_at : (i : ℕ) → i < length posts → slice_get c.exports.items i ≡ Some (export_for i)
   export_at i lt = let e : 0 + i ≡ i = omega arith in ap (λ es. slice_get es i) h.exports ∙ (exports_at 0 posts i lt ∙ ap (λ n. Some (export_for n)) e)
 
@@ -60,18 +61,18 @@ module _ (t : Table) (posts : List Bool) (c : Component) (h : IsScripted t posts
   scripted_sound told k d lt =
       let inside : k < length posts = omega (arith, lt, export_count) in
       let e : slice_index_or c.exports.items k d ≡ export_for k = get_or_from_slice_get c.exports.items k (export_for k) d (export_at k inside) in
-      let count : length c.options.items ≡ length posts = ap length h.options ∙ options_len t 0 posts in
+      let count : length c.options.items ≡ length posts = ap length h.options ∙ options_len t encoding 0 posts in
       let funcs : length c.types.types.funcs ≡ length t.funcs = ap (λ (u : Table). length u.funcs) h.table in
       subst (IsInside c) (sym e) (record { func = omega (arith, inside, told, funcs); options = omega (arith, inside, count) })
 
 -- an export of the component is the function of the script
-pub scripted_callee : (play : Play) (c : Component) → IsScripted play.types play.posts c → length play.posts ≡ length play.types.funcs
+pub scripted_callee : (play : Play) (c : Component) → IsScripted play.types play.encoding play.posts c → length play.posts ≡ length play.types.funcs
     → (i : ℕ) → i < length play.types.funcs → callee_at c i ≡ played_callee play i
 scripted_callee play c h told i lt =
     let inside : i < length play.posts = omega (arith, lt, told) in
     let e : 0 + i ≡ i = omega arith in
     let (f, func) = found play.types.funcs i lt in
     let (p, post) = found play.posts i inside in
-    let export = export_at play.types play.posts c h i inside in
-    let options : slice_get c.options.items i ≡ Some (options_for play.types i p) = ap (λ os. slice_get os i) h.options ∙ (options_at play.types 0 play.posts i p post ∙ ap (λ n. Some (options_for play.types n p)) e) in
+    let export = export_at play.types play.encoding play.posts c h i inside in
+    let options : slice_get c.options.items i ≡ Some (options_for play.types play.encoding i p) = ap (λ os. slice_get os i) h.options ∙ (options_at play.types play.encoding 0 play.posts i p post ∙ ap (λ n. Some (options_for play.types play.encoding n p)) e) in
     simp (export, h.table, options, func, post)

@@ -8,9 +8,9 @@ use Rattle.std.proofs.lemmas.Option.{none-some}
 use Rattle.canon_memory.specs.declared.event.Event.{Event}
 use Rattle.canon_memory.specs.Guest.{Moment, Recorded, Seen, of_guest}
 use Rattle.canon_scripted.specs.Scripted.{CarriesOut, Doing, ScriptMoves, seen_of, traps_after}
-use Rattle.canon_value.specs.Core.{Parts, guest_of, moment_of}
-use Rattle.canon_value.specs.declared.fault.Fault.{Fault}
-use Rattle.canon_value.specs.declared.fault.Fault.TheVariants as fault
+use Rattle.canon_context.specs.Core.{Parts, guest_of, moment_of}
+use Rattle.canon_context.specs.declared.fault.Fault.{Fault}
+use Rattle.canon_context.specs.declared.fault.Fault.TheVariants as fault
 use Rattle.canon_value.specs.declared.val.Val.{Val}
 use Rattle.canon_types.specs.Refusal.{first_error}
 use Rattle.canon_func.specs.Call.{Adding, IsCall, OnAnswered, refusal, refused_by}
@@ -80,6 +80,7 @@ on_answered (Err (error.Fault f)) P n p = by f n p
     by (fault.PointerMisaligned a) n p = p
     by (fault.PointerOutOfBounds a) n p = p
     by (fault.InvalidUtf8 a) n p = p
+    by (fault.InvalidUtf16 a) n p = p
     by (fault.InvalidChar a) n p = p
     by (fault.BadDiscriminant a d) n p = p
     by fault.HostcallFuelExhausted n p = p

@@ -5,7 +5,7 @@ use Rattle.std.specs.Prelude.{Some, slice_get, slice_index_or}
 use Rattle.std.proofs.lemmas.Option.{get_or_from_slice_get}
 use Rattle.canon_types.specs.Table.{HasFunc}
 use Rattle.canon_types.specs.declared.types.TypeFunc.{TypeFunc}
-use Rattle.canon_value.specs.declared.component.Component.{Component}
+use Rattle.canon_context.specs.declared.component.Component.{Component}
 use Rattle.canon_func.specs.Stores.{Callee, IsCallable}
 use Rattle.canon_script.specs.Script.{ScriptCall, IsBuiltFunc, IsWellFormed, Play, item_view}
 use Rattle.canon_script.specs.declared.script.Item.{Item}
@@ -74,9 +74,9 @@ plays_same callees others fuel (call ∷ calls) s (r ∷ records) same (after, p
   plays_same callees others fuel calls after records (All-tail (λ (c : ScriptCall). callees c.func ≡ others c.func) call calls same) rest,
 )
 
-module _ (play : Play) (c : Component) (store : ScriptStore) (posts : List Bool) (sound : IsWellFormed play) (told : posts ≡ play.posts) (built_so : IsScripted play.types posts c) (fresh : store ≡ fresh_store play.memory play.heap play.fuel c) where
-  h : IsScripted play.types play.posts c
-  h = subst (λ (ps : List Bool). IsScripted play.types ps c) told built_so
+module _ (play : Play) (c : Component) (store : ScriptStore) (posts : List Bool) (sound : IsWellFormed play) (told : posts ≡ play.posts) (built_so : IsScripted play.types play.encoding posts c) (fresh : store ≡ fresh_store play.memory play.heap play.fuel c) where
+  h : IsScripted play.types play.encoding play.posts c
+  h = subst (λ (ps : List Bool). IsScripted play.types play.encoding ps c) told built_so
 
   known : (call : ScriptCall) → HasFunc play.types call.func → callee_at c call.func ≡ played_callee play call.func
   known call there = scripted_callee play c h sound.posts_told call.func there
@@ -96,7 +96,7 @@ module _ (play : Play) (c : Component) (store : ScriptStore) (posts : List Bool)
       let it = known call there in
       let can : IsCallable (played_callee play call.func) = rw func (record { params = b.params; results = b.results }) in
       record {
-        export = omega (arith, there, sound.posts_told, export_count play.types play.posts c h);
+        export = omega (arith, there, sound.posts_told, export_count play.types play.encoding play.posts c h);
         callee = subst IsCallable (sym it) can;
         orders = sound.orders_narrow k d lt;
       }

@@ -1,14 +1,14 @@
 -- What a script, played, leaves: one record for each call, in order, and the store between them.
 use Rattle.std.specs.Prelude.{Bool, Err, List, None, Ok, Option, Result, Some, [], false, if◌then◌else◌, is_err, length, replicate, slice_get, ℕ, ⊤, ◌++◌, ◌∷◌, ◌≡◌, ◌≢◌}
 use Rattle.canon_model.specs.Shape.{no_members}
-use Rattle.canon_model.specs.Text.{utf8}
+use Rattle.canon_indices.specs.Options.{encoding_of}
 use Rattle.canon_types.specs.Table.{param_members, result_members}
 use Rattle.canon_types.specs.declared.types.TypeFunc.{TypeFunc}
 use Rattle.canon_memory.specs.declared.event.Event.{Event}
 use Rattle.canon_memory.specs.Guest.{Mark, Moment, moment}
 use Rattle.canon_scripted.specs.Allocator.{Allocator}
 use Rattle.canon_scripted.specs.Scripted.{CarriesOut, Plan, traps_after}
-use Rattle.canon_value.specs.declared.fault.Fault.TheVariants as fault
+use Rattle.canon_context.specs.declared.fault.Fault.TheVariants as fault
 use Rattle.canon_value.specs.declared.val.Val.{Val}
 use Rattle.canon_func.specs.Call.{IsCall, refusal}
 use Rattle.canon_func.specs.Stores.{Callee}
@@ -29,12 +29,12 @@ post_of i None = None
 post_of i (Some has_post) = if has_post then Some i else None
 
 abbrev pub callee_with : Play → ℕ → Option TypeFunc → Callee
-callee_with play i None = record { func = i; params = no_members; results = no_members; encoding = utf8; post = None; async_ = false }
+callee_with play i None = record { func = i; params = no_members; results = no_members; encoding = encoding_of play.encoding; post = None; async_ = false }
 callee_with play i (Some f) = record {
   func = i;
   params = param_members play.types f;
   results = result_members play.types f;
-  encoding = utf8;
+  encoding = encoding_of play.encoding;
   post = post_of i (slice_get play.posts i);
   async_ = f.async_;
 }

@@ -2,13 +2,13 @@
 use Rattle.std.specs.Prelude.{Bool, List, None, Option, Some, [], length, replicate, slice_get, false, ℕ, ◌+◌, ◌<◌, ◌∷◌, ◌≡◌}
 use Rattle.canon_memory.specs.Guest.{Recorded}
 use Rattle.canon_indices.specs.declared.options.CanonicalOptions.{CanonicalOptions}
-use Rattle.canon_indices.specs.declared.options.StringEncoding.TheVariants.{Utf8}
+use Rattle.canon_indices.specs.declared.options.StringEncoding.{StringEncoding}
 use Rattle.canon_types.specs.Table.{Table}
 use Rattle.canon_types.specs.declared.types.TypeFunc.{TypeFunc}
 use Rattle.canon_scripted.specs.Orders.{AreNarrow}
 use Rattle.canon_scripted.specs.Scripted.{Doing, Plan}
-use Rattle.canon_value.specs.declared.component.Component.{Component}
-use Rattle.canon_value.specs.declared.component.Export.{Export}
+use Rattle.canon_context.specs.declared.component.Component.{Component}
+use Rattle.canon_context.specs.declared.component.Export.{Export}
 use Rattle.canon_func.specs.Stores.{Callee, IsCallable, StoreView, callee_in}
 use Rattle.canon_script.specs.Script.{ScriptCall}
 use Rattle.canon_player.specs.Session.{State, post_of}
@@ -21,25 +21,25 @@ is_async None = false
 is_async (Some f) = f.async_
 
 -- the options and the export of function i, which has a post-return function or not
-abbrev pub options_for : Table → ℕ → Bool → CanonicalOptions
-options_for t i has_post = record { instance = 0; string_encoding = Utf8; async_ = is_async (slice_get t.funcs i); post_return = post_of i (Some has_post) }
+abbrev pub options_for : Table → StringEncoding → ℕ → Bool → CanonicalOptions
+options_for t encoding i has_post = record { instance = 0; string_encoding = encoding; async_ = is_async (slice_get t.funcs i); post_return = post_of i (Some has_post) }
 
 abbrev pub export_for : ℕ → Export
 export_for i = record { ty = i; func = i; options = i }
 
 -- of the functions from number i on
-abbrev pub options_from : Table → ℕ → List Bool → List CanonicalOptions
-options_from t i [] = []
-options_from t i (has_post ∷ posts) = options_for t i has_post ∷ options_from t (i + 1) posts
+abbrev pub options_from : Table → StringEncoding → ℕ → List Bool → List CanonicalOptions
+options_from t encoding i [] = []
+options_from t encoding i (has_post ∷ posts) = options_for t encoding i has_post ∷ options_from t encoding (i + 1) posts
 
 abbrev pub exports_from : ℕ → List Bool → List Export
 exports_from i [] = []
 exports_from i (has_post ∷ posts) = export_for i ∷ exports_from (i + 1) posts
 
 -- one export for each function of the table, each with its own options
-pub record IsScripted (t : Table) (posts : List Bool) (component : Component) : Type 0 where
+pub record IsScripted (t : Table) (encoding : StringEncoding) (posts : List Bool) (component : Component) : Type 0 where
   pub table : component.types.types ≡ t
-  pub options : component.options.items ≡ options_from t 0 posts
+  pub options : component.options.items ≡ options_from t encoding 0 posts
   pub exports : component.exports.items ≡ exports_from 0 posts
 
 -- the callee of export i

@@ -2,7 +2,7 @@
 
 ghost use Rattle.std.specs.Prelude.{◌≡◌, ◌≤◌, length, IfOk};
 ghost use Rattle.canon_types.specs.Table.{HasFunc};
-ghost use Rattle.canon_value.specs.Component.{IsComponent};
+ghost use Rattle.canon_context.specs.Component.{IsComponent};
 ghost use Rattle.canon_player.specs.Stores.{IsScripted, fresh_store, options_for};
 
 use canon_func::Store;
@@ -26,18 +26,19 @@ pub(crate) type ScriptStore = Store<(), Journaled<ScriptedGuest>>;
 pub(crate) fn component_of(
     alloc: Global,
     types: ComponentTypes,
+    encoding: StringEncoding,
     posts: &[bool],
 ) -> Result<Component, OutOfMemory>
     requires told { length posts.now ≡ length types.funcs }
     requires few { length types.funcs ≤ 1048576 }
     ensures sound { IfOk result IsComponent }
-    ensures scripted { IfOk result (IsScripted types posts.now) }
+    ensures scripted { IfOk result (IsScripted types encoding posts.now) }
 {
     let mut options = Vec::new(alloc);
     let mut exports = Vec::new(alloc);
     for (i, has_post) in posts.iter().enumerate() {
         let i = i as u32;
-        options.push(options_of(&types, i, *has_post))?;
+        options.push(options_of(&types, encoding, i, *has_post))?;
         exports.push(Export {
             ty: TypeFuncIndex::from_u32(i),
             func: i,
@@ -52,13 +53,18 @@ pub(crate) fn component_of(
 }
 
 /// The options of a function.
-fn options_of(types: &ComponentTypes, i: u32, has_post: bool) -> CanonicalOptions
+fn options_of(
+    types: &ComponentTypes,
+    encoding: StringEncoding,
+    i: u32,
+    has_post: bool,
+) -> CanonicalOptions
     requires { HasFunc types.now i }
-    ensures { result ≡ options_for types.now i has_post }
+    ensures { result ≡ options_for types.now encoding i has_post }
 {
     CanonicalOptions {
         instance: RuntimeInstance::from_u32(0),
-        string_encoding: StringEncoding::Utf8,
+        string_encoding: encoding,
         async_: types.func(TypeFuncIndex::from_u32(i)).async_,
         post_return: if has_post { Some(i) } else { None },
     }

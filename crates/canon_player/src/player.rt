@@ -22,11 +22,12 @@ pub fn play(alloc: Global, script: Script, transcript: &mut Transcript) -> Resul
         memory,
         heap,
         fuel,
+        encoding,
         types,
         posts,
         items,
     } = script;
-    let component = component_of(alloc, types, &posts)?;
+    let component = component_of(alloc, types, encoding, &posts)?;
     let store = store_of(alloc, component, memory, heap, fuel)?;
     *transcript = play_items(alloc, store, items)?;
     Ok(())

@@ -9,8 +9,8 @@ use Rattle.canon_types.specs.Table.{Definition, Table, TupleType, all_shapes, de
 use Rattle.canon_types.specs.declared.types.InterfaceType.{InterfaceType}
 use Rattle.canon_types.specs.declared.types.InterfaceType.TheVariants as ty
 use Rattle.canon_types.specs.declared.types.TypeFunc.{TypeFunc}
-use Rattle.canon_value.specs.Built.{are_built, is_built}
-use Rattle.canon_value.proofs.BuiltKinds.{built_defined}
+use Rattle.canon_plan.specs.Built.{are_built, is_built}
+use Rattle.canon_plan.proofs.BuiltKinds.{built_defined}
 use Rattle.canon_script.specs.Script.{IsBuiltFunc}
 
 -- not a handle

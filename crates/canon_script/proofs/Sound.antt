@@ -17,6 +17,7 @@ use Rattle.canon_script.specs.Actions.{action_of, ordered_of}
 use Rattle.canon_scripted.specs.declared.orders.Ordered.{Ordered}
 use Rattle.canon_scripted.specs.declared.orders.Ordered.TheVariants as order
 use Rattle.canon_scripted.specs.Orders.{AreNarrow, IsNarrow}
+use Rattle.canon_indices.specs.declared.options.StringEncoding.{StringEncoding}
 use Rattle.canon_script.specs.Script.{ScriptCall, IsWellFormed, Play, call_item_of, call_of_func, call_with, final_memory, fits, heap_of, if_fits, max_memory, max_work, optional_call_members, play_of, play_with, played, reallocs_of, result_count, slots_of, turns}
 use Rattle.canon_script.specs.Types.{funcs_of}
 use Rattle.canon_script.specs.Values.{value_of}
@@ -76,8 +77,8 @@ pub heap_is : (memory heap : ℕ) (d : Option Data) → heap_of memory d ≡ Som
 heap_is memory heap d e = option_and_then_some (λ h. if nat_le h memory then Some h else None) (option_map_or word_of d (Some 1024)) heap e (λ h s f.
     by_test (nat_le h memory) (Some h) heap f (λ le is. subst (λ (n : ℕ). n ≤ memory) (same_Some h heap is) (leb-true h memory le)))
 
-fits_sound : (memory heap fuel : ℕ) (fs : Funcs) (calls : List ScriptCall) → heap ≤ memory → Told fs → AllByRecursion (Stands fs.table) calls → IsTrue (fits memory calls) → IsWellFormed (play_with memory heap fuel fs calls)
-fits_sound memory heap fuel fs calls inside told stand fit =
+fits_sound : (memory heap fuel : ℕ) (encoding : StringEncoding) (fs : Funcs) (calls : List ScriptCall) → heap ≤ memory → Told fs → AllByRecursion (Stands fs.table) calls → IsTrue (fits memory calls) → IsWellFormed (play_with memory heap fuel encoding fs calls)
+fits_sound memory heap fuel encoding fs calls inside told stand fit =
     let last = final_memory memory calls in
     let fit2 = and_parts (nat_le last max_memory) (nat_le (last * 2 * turns calls) max_work) fit in
     let all : All (Stands fs.table) calls = All-from_recursion (Stands fs.table) calls stand in
@@ -92,14 +93,14 @@ fits_sound memory heap fuel fs calls inside told stand fit =
       orders_narrow = λ k d lt. (all k d lt).narrow;
     }
 
-played_sound : (memory heap fuel : ℕ) (types funcs items : Items) (p : Play) → heap ≤ memory → played memory heap fuel types funcs items ≡ Some p → IsWellFormed p
-played_sound memory heap fuel types funcs items p inside e =
-    option_and_then_some (λ fs. option_and_then (if_fits memory heap fuel fs) (each (call_item_of fs.table) items)) (funcs_of types funcs) p e (λ fs s1 e1.
-    option_and_then_some (if_fits memory heap fuel fs) (each (call_item_of fs.table) items) p e1 (λ calls s2 e2.
-    by_test (fits memory calls) (Some (play_with memory heap fuel fs calls)) p e2 (λ fit is.
-    subst IsWellFormed (same_Some (play_with memory heap fuel fs calls) p is)
-    (fits_sound memory heap fuel fs calls inside (funcs_told types funcs fs s1) (each_all (Stands fs.table) (call_item_of fs.table) (call_stands fs.table) items calls s2) fit))))
+played_sound : (memory heap fuel : ℕ) (encoding : StringEncoding) (types funcs items : Items) (p : Play) → heap ≤ memory → played memory heap fuel encoding types funcs items ≡ Some p → IsWellFormed p
+played_sound memory heap fuel encoding types funcs items p inside e =
+    option_and_then_some (λ fs. option_and_then (if_fits memory heap fuel encoding fs) (each (call_item_of fs.table) items)) (funcs_of types funcs) p e (λ fs s1 e1.
+    option_and_then_some (if_fits memory heap fuel encoding fs) (each (call_item_of fs.table) items) p e1 (λ calls s2 e2.
+    by_test (fits memory calls) (Some (play_with memory heap fuel encoding fs calls)) p e2 (λ fit is.
+    subst IsWellFormed (same_Some (play_with memory heap fuel encoding fs calls) p is)
+    (fits_sound memory heap fuel encoding fs calls inside (funcs_told types funcs fs s1) (each_all (Stands fs.table) (call_item_of fs.table) (call_stands fs.table) items calls s2) fit))))
 
-pub reads_sound : (memory heap fuel : ℕ) (types funcs items : Items) (r : Result Script ScriptError) → heap ≤ memory → Gives play_of r (played memory heap fuel types funcs items) → IfOk r (λ s. IsWellFormed (play_of s))
-reads_sound memory heap fuel types funcs items (Ok s) inside h = played_sound memory heap fuel types funcs items (play_of s) inside h
-reads_sound memory heap fuel types funcs items (Err e) inside h = tt
+pub reads_sound : (memory heap fuel : ℕ) (encoding : StringEncoding) (types funcs items : Items) (r : Result Script ScriptError) → heap ≤ memory → Gives play_of r (played memory heap fuel encoding types funcs items) → IfOk r (λ s. IsWellFormed (play_of s))
+reads_sound memory heap fuel encoding types funcs items (Ok s) inside h = played_sound memory heap fuel encoding types funcs items (play_of s) inside h
+reads_sound memory heap fuel encoding types funcs items (Err e) inside h = tt

@@ -1,16 +1,19 @@
 -- The script that a JSON value stands for.
-use Rattle.std.specs.Prelude.{◌≡◌, ℕ, ◌≤◌, ◌+◌, ◌*◌, ◌&&◌, All, List, [], length, map, sum_by, slice_get, Bool, false, nat_le, if◌then◌else◌, codes, Option, None, Some, option_map, option_and_then}
+use Rattle.std.specs.Prelude.{◌≡◌, ℕ, ◌≤◌, ◌+◌, ◌*◌, ◌&&◌, All, List, [], length, map, sum_by, slice_get, Bool, false, nat_eq, nat_le, if◌then◌else◌, codes, Option, None, Some, option_map, option_and_then}
+use lib.Pointwise.{pointwise}
 use Rattle.std.specs.Option.{option_map_or}
 use Rattle.serde_json.specs.Data.{Data, Items}
-use Rattle.serde_json.specs.Find.{as_bool, as_object, get}
+use Rattle.serde_json.specs.Find.{as_bool, as_object, as_str, get}
 use Rattle.canon_json.specs.Json.{each, each_of, has_len, items_of, there, u32_of, word_of}
+use Rattle.canon_indices.specs.declared.options.StringEncoding.{StringEncoding}
+use Rattle.canon_indices.specs.declared.options.StringEncoding.TheVariants as encoding
 use Rattle.canon_types.specs.Table.{HasFunc, Table, param_members, result_members, types_of}
 use Rattle.canon_types.specs.declared.types.TypeFunc.{TypeFunc}
 use Rattle.canon_layout.specs.Asked.{Funcs}
 use Rattle.canon_scripted.specs.declared.actions.Action.{Action}
 use Rattle.canon_scripted.specs.Orders.{AreNarrow}
 use Rattle.canon_scripted.specs.declared.orders.Ordered.{Ordered}
-use Rattle.canon_value.specs.Built.{AreBuilt}
+use Rattle.canon_plan.specs.Built.{AreBuilt}
 use Rattle.canon_script.specs.Actions.{action_of, ask_count, growth, ordered_of}
 use Rattle.canon_script.specs.Literals.{Literal, literals_view}
 use Rattle.canon_script.specs.Numbers.{number_to}
@@ -96,16 +99,18 @@ pub record Play : Type 0 where
   pub heap : ℕ
   -- the fuel that each lifting begins with
   pub fuel : ℕ
+  -- how texts are spelled in memory
+  pub encoding : StringEncoding
   pub types : Table
   -- for each function whether it has a post-return function
   pub posts : List Bool
   pub calls : List ScriptCall
 
-abbrev pub play_with : ℕ → ℕ → ℕ → Funcs → List ScriptCall → Play
-play_with memory heap fuel funcs calls = record { memory = memory; heap = heap; fuel = fuel; types = funcs.table; posts = funcs.posts; calls = calls }
+abbrev pub play_with : ℕ → ℕ → ℕ → StringEncoding → Funcs → List ScriptCall → Play
+play_with memory heap fuel encoding funcs calls = record { memory = memory; heap = heap; fuel = fuel; encoding = encoding; types = funcs.table; posts = funcs.posts; calls = calls }
 
-abbrev pub if_fits : ℕ → ℕ → ℕ → Funcs → List ScriptCall → Option Play
-if_fits memory heap fuel funcs calls = if fits memory calls then Some (play_with memory heap fuel funcs calls) else None
+abbrev pub if_fits : ℕ → ℕ → ℕ → StringEncoding → Funcs → List ScriptCall → Option Play
+if_fits memory heap fuel encoding funcs calls = if fits memory calls then Some (play_with memory heap fuel encoding funcs calls) else None
 
 abbrev pub memory_len_of : Option Data → Option ℕ
 memory_len_of d = option_map_or (number_to max_memory) d (Some 65536)
@@ -117,21 +122,32 @@ heap_of memory d = option_and_then (λ heap. if nat_le heap memory then Some hea
 abbrev pub fuel_of : Option Data → Option ℕ
 fuel_of d = option_map_or word_of d (Some 1000000)
 
+abbrev pub encoding_named : List ℕ → Option StringEncoding
+encoding_named name =
+    if pointwise nat_eq name (codes "utf8") then Some encoding.Utf8
+    else (if pointwise nat_eq name (codes "utf16") then Some encoding.Utf16
+    else (if pointwise nat_eq name (codes "compact") then Some encoding.CompactUtf16 else None))
+
+abbrev pub encoding_of : Option Data → Option StringEncoding
+encoding_of d = option_map_or (λ x. option_and_then encoding_named (as_str x)) d (Some encoding.Utf8)
+
 -- the functions over their types, and the calls of these functions
-abbrev pub played : ℕ → ℕ → ℕ → Items → Items → Items → Option Play
-played memory heap fuel types funcs items = option_and_then (λ fs. option_and_then (if_fits memory heap fuel fs) (each (call_item_of fs.table) items)) (funcs_of types funcs)
+abbrev pub played : ℕ → ℕ → ℕ → StringEncoding → Items → Items → Items → Option Play
+played memory heap fuel encoding types funcs items = option_and_then (λ fs. option_and_then (if_fits memory heap fuel encoding fs) (each (call_item_of fs.table) items)) (funcs_of types funcs)
 
 abbrev pub script_members : Data → ℕ
-script_members d = there (get (codes "memory") d) + (there (get (codes "heap") d) + (there (get (codes "fuel") d) + (there (get (codes "types") d) + (there (get (codes "funcs") d) + there (get (codes "items") d)))))
+script_members d = there (get (codes "memory") d) + (there (get (codes "heap") d) + (there (get (codes "fuel") d) + (there (get (codes "encoding") d)
+    + (there (get (codes "types") d) + (there (get (codes "funcs") d) + there (get (codes "items") d))))))
 
--- an object of these six members, each of which may be missing
+-- an object of these seven members, each of which may be missing
 abbrev pub script_of : Data → Option Play
 script_of d =
     if has_len (script_members d) (as_object d)
-    then option_and_then (λ memory. option_and_then (λ heap. option_and_then (λ fuel. option_and_then (λ types. option_and_then (λ funcs. option_and_then (played memory heap fuel types funcs)
+    then option_and_then (λ memory. option_and_then (λ heap. option_and_then (λ fuel. option_and_then (λ encoding. option_and_then (λ types. option_and_then (λ funcs. option_and_then (played memory heap fuel encoding types funcs)
     (items_of (get (codes "items") d)))
     (items_of (get (codes "funcs") d)))
     (items_of (get (codes "types") d)))
+    (encoding_of (get (codes "encoding") d)))
     (fuel_of (get (codes "fuel") d)))
     (heap_of memory (get (codes "heap") d)))
     (memory_len_of (get (codes "memory") d))
@@ -146,7 +162,7 @@ abbrev pub item_view : Item → ScriptCall
 item_view (item.Call c) = call_item_view c
 
 abbrev pub play_of : Script → Play
-play_of s = record { memory = s.memory; heap = s.heap; fuel = s.fuel; types = s.types; posts = s.posts.items; calls = map item_view s.items.items }
+play_of s = record { memory = s.memory; heap = s.heap; fuel = s.fuel; encoding = s.encoding; types = s.types; posts = s.posts.items; calls = map item_view s.items.items }
 
 -- values can be given to the function, and it can give values
 pub record IsBuiltFunc (t : Table) (f : TypeFunc) : Type 0 where

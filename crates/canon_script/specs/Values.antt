@@ -39,7 +39,8 @@ value_word kind.Flags = codes "flags"
 value_word kind.FixedLengthList = codes "fixed"
 
 abbrev pub value_kinds : List ValueKind
-value_kinds = kind.Bool ∷ kind.S8 ∷ kind.U8 ∷ kind.S16 ∷ kind.U16 ∷ kind.S32 ∷ kind.U32 ∷ kind.S64 ∷ kind.U64 ∷ kind.Float32 ∷ kind.Float64 ∷ kind.Char ∷ kind.String ∷ kind.List ∷ kind.Map ∷ kind.Record ∷ kind.Tuple ∷ kind.Variant ∷ kind.Enum ∷ kind.Option ∷ kind.Result ∷ kind.Flags ∷ kind.FixedLengthList ∷ []
+value_kinds = kind.Bool ∷ kind.S8 ∷ kind.U8 ∷ kind.S16 ∷ kind.U16 ∷ kind.S32 ∷ kind.U32 ∷ kind.S64 ∷ kind.U64 ∷ kind.Float32 ∷ kind.Float64 ∷ kind.Char
+    ∷ kind.String ∷ kind.List ∷ kind.Map ∷ kind.Record ∷ kind.Tuple ∷ kind.Variant ∷ kind.Enum ∷ kind.Option ∷ kind.Result ∷ kind.Flags ∷ kind.FixedLengthList ∷ []
 
 abbrev pub value_kind_named : List ℕ → Option ValueKind
 value_kind_named name = find (λ k. pointwise nat_eq name (value_word k)) value_kinds

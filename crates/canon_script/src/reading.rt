@@ -8,6 +8,7 @@ use crate::limits::{MAX_MEMORY, fits};
 use crate::script::Script;
 use crate::types::funcs_of_json;
 use canon_json::{ScriptError, each, has_len, items_of, there};
+use canon_types::StringEncoding;
 use serde_json::Value;
 use std::alloc::Global;
 
@@ -28,6 +29,9 @@ pub fn script_of_json(alloc: Global, v: &Value) -> Result<Script, ScriptError>
     let Some(fuel) = fuel_of(v.get("fuel")) else {
         return Err(ScriptError::BadScript);
     };
+    let Some(encoding) = encoding_of(v.get("encoding")) else {
+        return Err(ScriptError::BadScript);
+    };
     let Some(types) = items_of(v.get("types")) else {
         return Err(ScriptError::BadScript);
     };
@@ -37,7 +41,7 @@ pub fn script_of_json(alloc: Global, v: &Value) -> Result<Script, ScriptError>
     let Some(items) = items_of(v.get("items")) else {
         return Err(ScriptError::BadScript);
     };
-    played(alloc, memory, heap, fuel, types, funcs, items)
+    played(alloc, memory, heap, fuel, encoding, types, funcs, items)
 }
 
 /// How many of its members there are.
@@ -47,7 +51,8 @@ fn script_members(v: &Value) -> usize
     there(v.get("memory"))
         + (there(v.get("heap"))
             + (there(v.get("fuel"))
-                + (there(v.get("types")) + (there(v.get("funcs")) + there(v.get("items"))))))
+                + (there(v.get("encoding"))
+                    + (there(v.get("types")) + (there(v.get("funcs")) + there(v.get("items")))))))
 }
 
 fn memory_len_of(v: Option<&Value>) -> Option<u64>
@@ -81,17 +86,41 @@ fn fuel_of(v: Option<&Value>) -> Option<u64>
     }
 }
 
+fn encoding_of(v: Option<&Value>) -> Option<StringEncoding>
+    ensures { result ≡ spec.encoding_of (option_map (λ x. view x.now) v.entry) }
+{
+    let Some(v) = v else {
+        return Some(StringEncoding::Utf8);
+    };
+    encoding_named(v.as_str()?)
+}
+
+fn encoding_named(name: &str) -> Option<StringEncoding>
+    ensures { result ≡ spec.encoding_named name.now }
+{
+    if name == "utf8" {
+        Some(StringEncoding::Utf8)
+    } else if name == "utf16" {
+        Some(StringEncoding::Utf16)
+    } else if name == "compact" {
+        Some(StringEncoding::CompactUtf16)
+    } else {
+        None
+    }
+}
+
 /// The functions over their types, and the calls of these functions.
 fn played(
     alloc: Global,
     memory: u64,
     heap: u64,
     fuel: u64,
+    encoding: StringEncoding,
     types: &[Value],
     funcs: &[Value],
     items: &[Value],
 ) -> Result<Script, ScriptError>
-    ensures { Gives spec.play_of result (spec.played memory heap fuel (items_view types.now) (items_view funcs.now) (items_view items.now)) }
+    ensures { Gives spec.play_of result (spec.played memory heap fuel encoding (items_view types.now) (items_view funcs.now) (items_view items.now)) }
 {
     let (types, posts) = funcs_of_json(alloc, types, funcs)?;
     let items = each(alloc, &Items { types: &types }, items)?;
@@ -102,6 +131,7 @@ fn played(
         memory,
         heap,
         fuel,
+        encoding,
         types,
         posts,
         items,

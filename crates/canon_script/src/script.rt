@@ -1,5 +1,5 @@
 use canon_scripted::{Action, Ordered};
-use canon_types::ComponentTypes;
+use canon_types::{ComponentTypes, StringEncoding};
 use canon_value::Val;
 
 /// One call of a function.
@@ -35,6 +35,8 @@ pub struct Script {
     pub heap: u64,
     /// The fuel that each lifting begins with.
     pub fuel: u64,
+    /// How texts are spelled in memory.
+    pub encoding: StringEncoding,
     /// The types and the functions, in the order of the script.
     pub types: ComponentTypes,
     /// For each function whether it has a post-return function.

@@ -1,7 +1,7 @@
 //! Values, actions and scripts, as they are read and as they are refused.
 
 use crate::{Item, Script, actions_of_json, script_of_json, value_of_json};
-use canon_indices::TypeFuncIndex;
+use canon_indices::{StringEncoding, TypeFuncIndex};
 use canon_json::ScriptError;
 use canon_memory::ValRaw;
 use canon_scripted::{Action, Ordered};
@@ -188,9 +188,12 @@ fn what_is_no_action_is_refused(rt: HostRuntime) -> Result<(), Fail> {
 #[test]
 fn a_whole_script_is_read(rt: HostRuntime) -> Result<(), Fail> {
     let text =
-        r#"{"memory":131072,"heap":2048,"types":[{"record":[["a","u8"],["b","char"]]},{"tuple":[0,"f64"]}],"funcs":[{"params":[1,"s16"],"results":[0,"u32"],"post":true},{"params":[],"results":[],"async":true}],"items":[{"call":0,"params":[{"u8":1}],"guest":[],"reallocs":[4294967295,"trap",null],"post_trap":true},{"call":1,"params":[],"guest":[{"trap":true}],"slots":1000}]}"#;
+        r#"{"memory":131072,"heap":2048,"encoding":"compact","types":[{"record":[["a","u8"],["b","char"]]},{"tuple":[0,"f64"]}],
+"funcs":[{"params":[1,"s16"],"results":[0,"u32"],"post":true},{"params":[],"results":[],"async":true}],
+"items":[{"call":0,"params":[{"u8":1}],"guest":[],"reallocs":[4294967295,"trap",null],"post_trap":true},{"call":1,"params":[],"guest":[{"trap":true}],"slots":1000}]}"#;
     let script = script(rt.alloc(), text)?.expect(&rt, "a script");
     assert_eq!(rt; (script.memory, script.heap), (131_072, 2048));
+    assert_eq!(rt; script.encoding, StringEncoding::CompactUtf16);
     assert_eq!(rt; script.posts.as_slice(), [true, false].as_slice());
     let late = TypeFuncIndex::from_u32(1);
     assert!(rt; script.types.contains_func(late) && script.types.func(late).async_);
@@ -230,6 +233,7 @@ fn what_is_missing_has_its_default(rt: HostRuntime) -> Result<(), Fail> {
     let script = script(rt.alloc(), "{}")?.expect(&rt, "a script");
     assert_eq!(rt; (script.memory, script.heap), (65536, 1024));
     assert_eq!(rt; script.fuel, 1_000_000);
+    assert_eq!(rt; script.encoding, StringEncoding::Utf8);
     assert!(rt; script.posts.is_empty() && script.items.is_empty());
     Ok(())
 }
@@ -268,6 +272,9 @@ fn what_is_no_script_is_refused(rt: HostRuntime) -> Result<(), Fail> {
         r#"{"fuel":-1}"#,
         r#"{"fuel":18446744073709551616}"#,
         r#"{"fuel":"1"}"#,
+        r#"{"encoding":"UTF8"}"#,
+        r#"{"encoding":"latin1"}"#,
+        r#"{"encoding":null}"#,
         r#"{"turns":1}"#,
         r#"{"types":[{"own":0}]}"#,
         r#"{"types":[{"flags":[]}]}"#,

@@ -1,5 +1,5 @@
 -- A UTF-8 text that is read by runs of ASCII and by characters, and written as UTF-16.
-use Rattle.std.proofs.Common.{IsUtf8, List, [], ap, append_assoc, arith, drop, drop-drop, flat_map, length, length-drop, refl, subst, suc, sym, take, ℕ, ◌*◌, ◌++◌, ◌+◌, ◌-◌, ◌<◌, ◌∙◌, ◌∷◌, ◌≡◌, ◌≤◌}
+use Rattle.std.proofs.Common.{IsUtf8, List, [], ap, append_assoc, arith, drop, drop-drop, flat_map, length, length-drop, refl, subst, suc, sym, ℕ, ◌*◌, ◌++◌, ◌+◌, ◌<◌, ◌∙◌, ◌∷◌, ◌≡◌, ◌≤◌}
 use Rattle.std.proofs.lemmas.Grind.{flat_map-append}
 use Rattle.std.proofs.lemmas.List.{append-nil, length-append, take-append-drop}
 use Rattle.std.proofs.lemmas.Str.{encode_ascii, length-le-encodes}
@@ -8,7 +8,7 @@ use Rattle.std.specs.Char.Escape.{encode_utf16}
 use Rattle.std.specs.Str.{encode_utf8_all}
 use Rattle.canon_model.specs.Text.{in_utf16, in_utf8, unit_bytes}
 use Rattle.canon_text.specs.Answers.{Converts}
-use Rattle.canon_text.specs.Runs.{AllBelow, Copies, run}
+use Rattle.canon_text.specs.Runs.{AllBelow, Copies, Spreads, run}
 use Rattle.canon_text.specs.Writing.{over, placed}
 use Rattle.canon_text.proofs.Ascii.{ascii_units}
 use Rattle.canon_text.proofs.Bytes.{placed-more, placed-nil}
@@ -94,14 +94,11 @@ advancing_bytes-room source old now at read end h room =
     let few = read_few source read h.scalars h.so_far.read room in
     omega arith
 
-pub slice_run : (xs : List ℕ) (at n : ℕ) → take (at + n - at) (drop at xs) ≡ run xs at n
-slice_run xs at n = ap (λ k. take k (drop at xs)) (omega arith)
-
-pub advancing_bytes-run : (source old now new : List ℕ) (at read end end2 n : ℕ) → end2 ≡ end + 2 * n → at ≤ length old → AdvancingBytes source old now at read end → read + n ≤ length source → AllBelow 128 (run source read n) → new ≡ placed now end (flat_map unit_bytes (run source read n)) → AdvancingBytes source old new at (read + n) end2
-advancing_bytes-run source old now new at read end end2 n is room h inside small w =
+pub advancing_bytes-run : (source old now new : List ℕ) (at read end n : ℕ) → at ≤ length old → AdvancingBytes source old now at read end → Spreads source now new read end n → AdvancingBytes source old new at (read + n) (end + 2 * n)
+advancing_bytes-run source old now new at read end n room h g =
     let cs = h.scalars in
     let xs = run source read n in
-    let joined = units-run cs xs small in
+    let joined = units-run cs xs g.below in
     let before : end ≡ at + 2 * length (flat_map encode_utf16 cs) = h.so_far.count in
     let all : flat_map unit_bytes (flat_map encode_utf16 cs) ++ flat_map unit_bytes xs ≡ flat_map unit_bytes (flat_map encode_utf16 (cs ++ xs)) =
     sym (flat_map-append unit_bytes (flat_map encode_utf16 cs) xs) ∙ ap (λ l. flat_map unit_bytes l) joined in
@@ -109,9 +106,9 @@ advancing_bytes-run source old now new at read end end2 n is room h inside small
     record {
       scalars = cs ++ xs;
       so_far = record {
-        read = read-run source read n cs h.so_far.read small;
-        count = omega (arith, length-append (flat_map encode_utf16 cs) xs, ap length joined, length-run source read n inside);
-        writes = w ∙ placed-more old now (flat_map unit_bytes (flat_map encode_utf16 cs)) (flat_map unit_bytes xs) at end room h.so_far.writes long ∙ ap (λ l. placed old at l) all;
+        read = read-run source read n cs h.so_far.read g.below;
+        count = omega (arith, length-append (flat_map encode_utf16 cs) xs, ap length joined, length-run source read n g.inside);
+        writes = g.writes ∙ placed-more old now (flat_map unit_bytes (flat_map encode_utf16 cs)) (flat_map unit_bytes xs) at end room h.so_far.writes long ∙ ap (λ l. placed old at l) all;
       };
     }
 

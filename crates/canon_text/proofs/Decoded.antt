@@ -1,61 +1,104 @@
 -- Texts out of bytes.
-use Rattle.std.proofs.Common.{All, Err, IsUtf8, List, Ok, Result, [], ap, ⊎_elim, arith, drop, flat_map, get_or, length, refl, sym, take, ℕ, ◌%◌, ◌*◌, ◌++◌, ◌+◌, ◌/◌, ◌<◌, ◌∙◌, ◌∷◌, ◌≡◌, ◌≤◌}
+use Rattle.std.proofs.Common.{All, Err, IsUtf8, List, Ok, Result, [], ap, append_assoc, ⊎_elim, arith, drop, drop-drop, false, flat_map, length-drop, get_or, length, refl, subst, sym, take, ℕ, ◌%◌, ◌*◌, ◌++◌, ◌+◌, ◌-◌, ◌/◌, ◌<◌, ◌∙◌, ◌∷◌, ◌≡◌, ◌≤◌}
 use Rattle.std.proofs.lemmas.Bool.{cases_lt}
-use Rattle.std.proofs.lemmas.List.{get_or_past, take_all, take_more}
+use Rattle.std.proofs.lemmas.List.{append-nil, drop_all, get_or_past, length-append, take_all}
 use Rattle.std.specs.Prelude.{OnErr}
-use Rattle.std.specs.Char.{encode_utf8}
 use Rattle.std.specs.Char.Escape.{encode_utf16}
 use Rattle.std.specs.Str.{IsAscii, encode_utf8_all}
 use Rattle.std.proofs.lemmas.Str.{encodes-IsAscii}
-use Rattle.canon_model.specs.Text.{Spells, in_latin1, in_utf16, in_utf8, unit_bytes}
+use Rattle.canon_model.proofs.Passes.{can_spell-append, encode_utf8_all-append, units-append}
+use Rattle.canon_model.specs.Text.{Form, Spells, in_latin1, in_utf16, in_utf8, unit_bytes, units}
+use Rattle.canon_text.specs.Runs.{run}
 use Rattle.canon_text.specs.Decoding.{Decodes, SpellsNothing, units_in}
 use Rattle.canon_text.specs.declared.error.TextError.{TextError}
-use Rattle.canon_text.specs.Laws.{Reads, UnitsOfBytes}
-use Rattle.canon_text.proofs.Lawful.{one_fault}
-use Rattle.canon_text.specs.Faults.{Begins, IllFormedAt, IsFirstFault, error_place}
+use Rattle.canon_text.specs.Answers.{PassFails, Passed}
+use Rattle.canon_text.specs.Laws.{Reads, UnitsOfBytes, WroteFront}
+use Rattle.canon_text.proofs.Lawful.{one_fault, pass_reads, passed_front}
+use Rattle.canon_text.specs.Faults.{IllFormedAt, IsFirstFault, error_form, error_place}
 use Rattle.canon_text.proofs.Bytes.{latin1_from}
-use Rattle.canon_text.proofs.Pairs.{length-units_in, units-one, units_in-bytes}
-use Rattle.canon_text.proofs.Reading.{IsFront, front-all, front-more, front-nil}
-use Rattle.canon_text.proofs.Widths.{encode-push}
+use Rattle.canon_text.proofs.Pairs.{units_in-bytes}
+use Rattle.canon_text.proofs.Splits.{nil_can, units-nil}
+use Rattle.canon_text.proofs.Kept.{wide_can}
 
 pub decodes8 : (bytes text : List ℕ) → text ≡ bytes → IsUtf8 bytes → Decodes in_utf8 bytes text
 decodes8 bytes text e u = record { scalars = u.0; spells = record { can = u.1.0; is = u.1.1 }; is = e ∙ sym u.1.1 }
 
--- the text so far, of units before a place
-pub record Decoding16 (source text : List ℕ) (at : ℕ) : Type 0 where
-  pub scalars : List ℕ
-  pub front : IsFront in_utf16 source at scalars
-  pub is : text ≡ encode_utf8_all scalars
+-- The text of the units before a place.
+pub record Decoding (form : Form) (source text : List ℕ) (at : ℕ) : Type 0 where
+  pub inside : at ≤ length source
+  pub wrote : WroteFront form source (drop at source) text
 
-pub decoding-nil : (source text : List ℕ) → text ≡ [] → Decoding16 source text 0
-decoding-nil source text e = record { scalars = []; front = front-nil in_utf16 source; is = e }
-
-pub decoding-more : (source text text2 : List ℕ) (at end c : ℕ) → Decoding16 source text at → Begins in_utf16 c (drop at source) → end ≡ at + length (encode_utf16 c) → text2 ≡ text ++ encode_utf8 c → Decoding16 source text2 end
-decoding-more source text text2 at end c h b e k = record {
-  scalars = h.scalars ++ c ∷ [];
-  front = front-more in_utf16 source at end c h.scalars h.front b (e ∙ ap (λ us. at + length us) (sym (units-one c)));
-  is = k ∙ ap (λ l. l ++ encode_utf8 c) h.is ∙ encode-push h.scalars c;
+pub decoding-nil : (form : Form) (source : List ℕ) → Decoding form source [] 0
+decoding-nil form source = record {
+  inside = omega arith;
+  wrote = record { scalars = []; can = nil_can form; reads = ap (λ l. l ++ source) (sym (units-nil form)); writes = refl };
 }
 
-pub decoding-end : (bytes text : List ℕ) (at : ℕ) → Decoding16 (units_in bytes) text at → length bytes / 2 ≤ at → ((k : ℕ) → get_or bytes k 0 < 256) → length bytes % 2 ≡ 0 → Decodes in_utf16 bytes text
-decoding-end bytes text at h e small even =
-    let whole : units_in bytes ≡ flat_map encode_utf16 h.scalars = front-all in_utf16 (units_in bytes) at h.scalars h.front (omega (arith, length-units_in bytes)) in
+pub rest-run : (source : List ℕ) (at : ℕ) → run source at (length source - at) ≡ drop at source
+rest-run source at = take_all (length source - at) (drop at source) (omega (arith, length-drop at source))
+
+pub rest-is : (items source : List ℕ) (at : ℕ) → items ≡ source → run items at (length items - at) ≡ drop at source
+rest-is items source at same = rest-run items at ∙ ap (λ l. drop at l) same
+
+-- a pass over the rest
+pub decoding-more : (form : Form) (source rest text old new : List ℕ) (at read written : ℕ) → Decoding form source text at → rest ≡ drop at source → Passed form false rest old new read written → Decoding form source (text ++ take written new) (at + read)
+decoding-more form source rest text old new at read written h left pass =
+    let g : Passed form false (drop at source) old new read written = subst (λ l. Passed form false l old new read written) left pass in
+    let p = passed_front form false (drop at source) old new read written g in
+    let cs = h.wrote.scalars in
+    let both = units form (cs ++ g.scalars) in
     record {
-      scalars = h.scalars;
-      spells = record { can = h.front.can; is = ap (λ us. flat_map unit_bytes us) (sym whole) ∙ units_in-bytes bytes small even };
-      is = h.is;
+      inside = let front : at ≤ length source = h.inside in omega (arith, g.reads, ap length g.pass.reads, length-append (units form g.scalars) g.rest, length-drop at source);
+      wrote = record {
+        scalars = cs ++ g.scalars;
+        can = can_spell-append form cs g.scalars h.wrote.can g.pass.can;
+        reads = h.wrote.reads ∙ ap (λ l. units form cs ++ l) g.pass.reads ∙ sym (append_assoc (units form cs) (units form g.scalars) g.rest)
+            ∙ ap (λ l. l ++ g.rest) (sym (units-append form cs g.scalars)) ∙ ap (λ l. both ++ l) (sym p.0 ∙ drop-drop read at source);
+        writes = ap (λ l. l ++ take written new) h.wrote.writes ∙ ap (λ l. encode_utf8_all cs ++ l) p.1 ∙ sym (encode_utf8_all-append cs g.scalars);
+      };
     }
 
--- ---- Latin-1
-pub latin1-more : (bytes text text2 : List ℕ) (i c : ℕ) → text ≡ encode_utf8_all (take i bytes) → i < length bytes → c ≡ get_or bytes i 0 → text2 ≡ text ++ encode_utf8 c → text2 ≡ encode_utf8_all (take (i + 1) bytes)
-latin1-more bytes text text2 i c h small is e =
-    e ∙ ap (λ l. l ++ encode_utf8 c) h ∙ encode-push (take i bytes) c ∙ ap encode_utf8_all (ap (λ x. take i bytes ++ x ∷ []) is ∙ sym (take_more bytes i 0 small))
+-- a pass with room reads something
+pub decoding-reads : (form : Form) (source rest old new : List ℕ) (at read written : ℕ) → rest ≡ drop at source → Passed form false rest old new read written → at < length source → 4 ≤ length old → 0 < read
+decoding-reads form source rest old new at read written left g small room = pass_reads form rest old new read written g room (λ e. omega (arith, ap length (sym left ∙ e), length-drop at source))
 
-pub decodes1 : (bytes text : List ℕ) (i : ℕ) → text ≡ encode_utf8_all (take i bytes) → length bytes ≤ i → ((k : ℕ) → get_or bytes k 0 < 256) → Decodes in_latin1 bytes text
-decodes1 bytes text i h e small = record {
-  scalars = bytes;
-  spells = record { can = latin1_from bytes small; is = refl };
-  is = h ∙ ap encode_utf8_all (take_all i bytes e);
+-- a pass over the rest comes to the first fault
+pub decoding-fault : (form : Form) (source rest text old new : List ℕ) (at : ℕ) (error moved : TextError) → Decoding form source text at → rest ≡ drop at source → PassFails form false rest old new error → error_form moved ≡ error_form error → error_place moved ≡ at + error_place error → IsFirstFault form source moved
+decoding-fault form source rest text old new at error moved h left pass same place =
+    let g : PassFails form false (drop at source) old new error = subst (λ l. PassFails form false l old new error) left pass in
+    let cs = h.wrote.scalars in
+    let inside : at ≤ length source = h.inside in
+    let front : at ≡ length (units form cs) = omega (arith, ap length h.wrote.reads, length-append (units form cs) (drop at source), length-drop at source) in
+    record {
+      form_is = same ∙ g.form_is;
+      at = record {
+        scalars = cs ++ g.scalars;
+        rest = g.rest;
+        can = can_spell-append form cs g.scalars h.wrote.can g.front.can;
+        is = h.wrote.reads ∙ ap (λ l. units form cs ++ l) g.is ∙ sym (append_assoc (units form cs) (units form g.scalars) g.rest) ∙ ap (λ l. l ++ g.rest) (sym (units-append form cs g.scalars));
+        place = omega (arith, place, front, g.place, ap length (units-append form cs g.scalars), length-append (units form cs) (units form g.scalars));
+        fault = g.fault;
+      };
+    }
+
+pub decoding-utf8 : (form : Form) (source text : List ℕ) (at : ℕ) → Decoding form source text at → IsUtf8 text
+decoding-utf8 form source text at h = (h.wrote.scalars, (wide_can form h.wrote.scalars h.wrote.can, sym h.wrote.writes))
+
+decoding-all : (form : Form) (source text : List ℕ) (at : ℕ) (h : Decoding form source text at) → length source ≤ at → source ≡ units form h.wrote.scalars
+decoding-all form source text at h e = h.wrote.reads ∙ ap (λ l. units form h.wrote.scalars ++ l) (drop_all at source e) ∙ append-nil (units form h.wrote.scalars)
+
+pub decodes16 : (bytes text : List ℕ) (at : ℕ) → Decoding in_utf16 (units_in bytes) text at → length (units_in bytes) ≤ at → ((k : ℕ) → get_or bytes k 0 < 256) → length bytes % 2 ≡ 0 → Decodes in_utf16 bytes text
+decodes16 bytes text at h e small even = record {
+  scalars = h.wrote.scalars;
+  spells = record { can = h.wrote.can; is = ap (λ us. flat_map unit_bytes us) (sym (decoding-all in_utf16 (units_in bytes) text at h e)) ∙ units_in-bytes bytes small even };
+  is = h.wrote.writes;
+}
+
+pub decodes1 : (bytes text : List ℕ) (at : ℕ) → Decoding in_latin1 bytes text at → length bytes ≤ at → Decodes in_latin1 bytes text
+decodes1 bytes text at h e = record {
+  scalars = h.wrote.scalars;
+  spells = record { can = h.wrote.can; is = sym (decoding-all in_latin1 bytes text at h e) };
+  is = h.wrote.writes;
 }
 
 pub decodes_ascii : (bytes text : List ℕ) → text ≡ bytes → IsAscii bytes → Decodes in_latin1 bytes text

@@ -25,38 +25,46 @@ pub record Told (c : ℕ) (bs : List ℕ) : Type 0 where
   pub two : 128 ≤ get_or bs 0 0 → get_or bs 0 0 < 224 → c ≡ get_or bs 0 0 % 32 * 64 + get_or bs 1 0 % 64
   pub three : 224 ≤ get_or bs 0 0 → get_or bs 0 0 < 240 → c ≡ get_or bs 0 0 % 16 * 4096 + get_or bs 1 0 % 64 * 64 + get_or bs 2 0 % 64
   pub four : 240 ≤ get_or bs 0 0 → c ≡ get_or bs 0 0 % 8 * 262144 + get_or bs 1 0 % 64 * 4096 + get_or bs 2 0 % 64 * 64 + get_or bs 3 0 % 64
+  pub wide1 : get_or bs 0 0 < 128 → length (encode_utf8 c) ≡ 1
+  pub wide2 : 128 ≤ get_or bs 0 0 → get_or bs 0 0 < 224 → length (encode_utf8 c) ≡ 2
+  pub wide3 : 224 ≤ get_or bs 0 0 → get_or bs 0 0 < 240 → length (encode_utf8 c) ≡ 3
+  pub wide4 : 240 ≤ get_or bs 0 0 → length (encode_utf8 c) ≡ 4
   pub long2 : 128 ≤ get_or bs 0 0 → 2 ≤ length bs
   pub long3 : 224 ≤ get_or bs 0 0 → 3 ≤ length bs
   pub long4 : 240 ≤ get_or bs 0 0 → 4 ≤ length bs
 
 told-one : (c : ℕ) (bs rest : List ℕ) → c < 128 → bs ≡ c ∷ rest → Told c bs
 told-one c bs rest h e =
+    let wide = ap length (encode_ascii c h) in
     let b0 : get_or bs 0 0 ≡ c = ap (λ l. get_or l 0 0) e in
-    record { one = λ a. omega arith; two = λ a b. omega arith; three = λ a b. omega arith; four = λ a. omega arith; long2 = λ a. omega arith; long3 = λ a. omega arith; long4 = λ a. omega arith }
+    record { one = λ a. omega arith; two = λ a b. omega arith; three = λ a b. omega arith; four = λ a. omega arith; wide1 = λ a. omega arith; wide2 = λ a b. omega arith; wide3 = λ a b. omega arith; wide4 = λ a. omega arith; long2 = λ a. omega arith; long3 = λ a. omega arith; long4 = λ a. omega arith }
 
 told-two : (c : ℕ) (bs rest : List ℕ) → 128 ≤ c → c < 2048 → bs ≡ (192 + c / 64) ∷ (128 + c % 64) ∷ rest → Told c bs
 told-two c bs rest h k e =
+    let wide = ap length (encode-two c h k) in
     let b0 : get_or bs 0 0 ≡ 192 + c / 64 = ap (λ l. get_or l 0 0) e in
     let b1 : get_or bs 1 0 ≡ 128 + c % 64 = ap (λ l. get_or l 1 0) e in
     let long = ap length e in
-    record { one = λ a. omega arith; two = λ a b. omega arith; three = λ a b. omega arith; four = λ a. omega arith; long2 = λ a. omega arith; long3 = λ a. omega arith; long4 = λ a. omega arith }
+    record { one = λ a. omega arith; two = λ a b. omega arith; three = λ a b. omega arith; four = λ a. omega arith; wide1 = λ a. omega arith; wide2 = λ a b. omega arith; wide3 = λ a b. omega arith; wide4 = λ a. omega arith; long2 = λ a. omega arith; long3 = λ a. omega arith; long4 = λ a. omega arith }
 
 told-three : (c : ℕ) (bs rest : List ℕ) → 2048 ≤ c → c < 65536 → bs ≡ (224 + c / 4096) ∷ (128 + c / 64 % 64) ∷ (128 + c % 64) ∷ rest → Told c bs
 told-three c bs rest h k e =
+    let wide = ap length (encode-three c h k) in
     let b0 : get_or bs 0 0 ≡ 224 + c / 4096 = ap (λ l. get_or l 0 0) e in
     let b1 : get_or bs 1 0 ≡ 128 + c / 64 % 64 = ap (λ l. get_or l 1 0) e in
     let b2 : get_or bs 2 0 ≡ 128 + c % 64 = ap (λ l. get_or l 2 0) e in
     let long = ap length e in
-    record { one = λ a. omega arith; two = λ a b. omega arith; three = λ a b. omega arith; four = λ a. omega arith; long2 = λ a. omega arith; long3 = λ a. omega arith; long4 = λ a. omega arith }
+    record { one = λ a. omega arith; two = λ a b. omega arith; three = λ a b. omega arith; four = λ a. omega arith; wide1 = λ a. omega arith; wide2 = λ a b. omega arith; wide3 = λ a b. omega arith; wide4 = λ a. omega arith; long2 = λ a. omega arith; long3 = λ a. omega arith; long4 = λ a. omega arith }
 
 told-four : (c : ℕ) (bs rest : List ℕ) → 65536 ≤ c → c < 1114112 → bs ≡ (240 + c / 262144) ∷ (128 + c / 4096 % 64) ∷ (128 + c / 64 % 64) ∷ (128 + c % 64) ∷ rest → Told c bs
 told-four c bs rest h k e =
+    let wide = ap length (encode-four c h) in
     let b0 : get_or bs 0 0 ≡ 240 + c / 262144 = ap (λ l. get_or l 0 0) e in
     let b1 : get_or bs 1 0 ≡ 128 + c / 4096 % 64 = ap (λ l. get_or l 1 0) e in
     let b2 : get_or bs 2 0 ≡ 128 + c / 64 % 64 = ap (λ l. get_or l 2 0) e in
     let b3 : get_or bs 3 0 ≡ 128 + c % 64 = ap (λ l. get_or l 3 0) e in
     let long = ap length e in
-    record { one = λ a. omega arith; two = λ a b. omega arith; three = λ a b. omega arith; four = λ a. omega arith; long2 = λ a. omega arith; long3 = λ a. omega arith; long4 = λ a. omega arith }
+    record { one = λ a. omega arith; two = λ a b. omega arith; three = λ a b. omega arith; four = λ a. omega arith; wide1 = λ a. omega arith; wide2 = λ a b. omega arith; wide3 = λ a b. omega arith; wide4 = λ a. omega arith; long2 = λ a. omega arith; long3 = λ a. omega arith; long4 = λ a. omega arith }
 
 told : (c : ℕ) (bs rest : List ℕ) → c < 1114112 → bs ≡ encode_utf8 c ++ rest → Told c bs
 told c bs rest top e = ⊎_elim
@@ -92,6 +100,10 @@ begins_with xs at n s e =
     let is : drop at xs ≡ encode_utf8 n ++ s.rest = s.is ∙ ap (λ k. encode_utf8 k ++ s.rest) (sym e) in
     is ∙ ap (λ l. encode_utf8 n ++ l) (sym (sym (drop-drop (length (encode_utf8 n)) at xs) ∙ ap (λ l. drop (length (encode_utf8 n)) l) is ∙ drop_at (encode_utf8 n) s.rest (length (encode_utf8 n)) refl))
 
+-- so long is the scalar value that was read
+pub has_width : (c n k : ℕ) → n ≡ c → length (encode_utf8 c) ≡ k → k ≡ length (encode_utf8 n)
+has_width c n k e h = sym (ap (λ m. length (encode_utf8 m)) e ∙ h)
+
 -- the same, in terms of the bytes at the place
 pub record StartsAt (xs : List ℕ) (at : ℕ) : Type 0 where
   pub start : Starts (drop at xs)
@@ -118,6 +130,10 @@ pub record ReadAt (xs : List ℕ) (at : ℕ) : Type 0 where
   pub two : 128 ≤ get_or xs at 0 → get_or xs at 0 < 224 → get_or xs at 0 % 32 * 64 + get_or xs (at + 1) 0 % 64 ≡ start.c
   pub three : 224 ≤ get_or xs at 0 → get_or xs at 0 < 240 → get_or xs at 0 % 16 * 4096 + get_or xs (at + 1) 0 % 64 * 64 + get_or xs (at + 2) 0 % 64 ≡ start.c
   pub four : 240 ≤ get_or xs at 0 → get_or xs at 0 % 8 * 262144 + get_or xs (at + 1) 0 % 64 * 4096 + get_or xs (at + 2) 0 % 64 * 64 + get_or xs (at + 3) 0 % 64 ≡ start.c
+  pub wide1 : get_or xs at 0 < 128 → length (encode_utf8 start.c) ≡ 1
+  pub wide2 : 128 ≤ get_or xs at 0 → get_or xs at 0 < 224 → length (encode_utf8 start.c) ≡ 2
+  pub wide3 : 224 ≤ get_or xs at 0 → get_or xs at 0 < 240 → length (encode_utf8 start.c) ≡ 3
+  pub wide4 : 240 ≤ get_or xs at 0 → length (encode_utf8 start.c) ≡ 4
   pub long2 : 128 ≤ get_or xs at 0 → at + 1 < length xs
   pub long3 : 224 ≤ get_or xs at 0 → at + 2 < length xs
   pub long4 : 240 ≤ get_or xs at 0 → at + 3 < length xs
@@ -132,6 +148,10 @@ read_at xs at u h =
       two = λ a b. omega (arith, s.b0, s.b1, t.two (omega (arith, s.b0)) (omega (arith, s.b0)));
       three = λ a b. omega (arith, s.b0, s.b1, s.b2, t.three (omega (arith, s.b0)) (omega (arith, s.b0)));
       four = λ a. omega (arith, s.b0, s.b1, s.b2, s.b3, t.four (omega (arith, s.b0)));
+      wide1 = λ a. t.wide1 (omega (arith, s.b0));
+      wide2 = λ a b. t.wide2 (omega (arith, s.b0)) (omega (arith, s.b0));
+      wide3 = λ a b. t.wide3 (omega (arith, s.b0)) (omega (arith, s.b0));
+      wide4 = λ a. t.wide4 (omega (arith, s.b0));
       long2 = λ a. omega (arith, s.long, t.long2 (omega (arith, s.b0)));
       long3 = λ a. omega (arith, s.long, t.long3 (omega (arith, s.b0)));
       long4 = λ a. omega (arith, s.long, t.long4 (omega (arith, s.b0)));

@@ -106,7 +106,7 @@ wrote_wide form source old new cs ds n h r s =
     units_determine form cs h.scalars r.can h.can (sym r.is ∙ h.reads) ∙ wide_same form h.scalars ds h.can (subst (λ l. Spells in_utf16 l ds) front s)
 
 -- ---- behind a Latin-1 text
-wide_can : (form : Form) (cs : List ℕ) → can_spell form cs ≡ true → can_spell in_utf16 cs ≡ true
+pub wide_can : (form : Form) (cs : List ℕ) → can_spell form cs ≡ true → can_spell in_utf16 cs ≡ true
 wide_can in_utf8 cs h = h
 wide_can in_utf16 cs h = h
 wide_can in_latin1 cs h = latin1_scalars cs h

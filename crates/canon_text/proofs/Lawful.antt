@@ -65,7 +65,7 @@ pass_refuses = record {
 }
 
 -- ---- runs
-passed_front : (form : Form) (first : Bool) (source old new : List ℕ) (read written : ℕ) (h : Passed form first source old new read written) → (drop read source ≡ h.rest) × (take written new ≡ encode_utf8_all h.scalars)
+pub passed_front : (form : Form) (first : Bool) (source old new : List ℕ) (read written : ℕ) (h : Passed form first source old new read written) → (drop read source ≡ h.rest) × (take written new ≡ encode_utf8_all h.scalars)
 passed_front form first source old new read written h =
     (ap (λ l. drop read l) h.pass.reads ∙ drop_at (units form h.scalars) h.rest read (sym h.reads), ap (λ l. take written l) h.writes ∙ take_at (encode_utf8_all h.scalars) _ written (sym h.count))
 

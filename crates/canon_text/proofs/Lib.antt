@@ -10,6 +10,7 @@ pub mod Lanes
 pub mod Copied
 pub mod Ascii
 pub mod Plain
+pub mod Spreading
 pub mod FirstChar
 pub mod UnitBlocks
 pub mod Advancing

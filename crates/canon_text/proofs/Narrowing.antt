@@ -1,5 +1,5 @@
 -- Characters up to U+00FF, as bytes.
-use Rattle.std.proofs.Common.{IsTrue, List, MatchOption, None, Option, Some, [], ap, arith, drop, get_or, inl, inr, le-ltb, length, lt-ltb, nat_lt, refl, set, slice_get, subst, sym, ℕ, ⊎_elim, ◌*◌, ◌++◌, ◌+◌, ◌-◌, ◌/◌, ◌%◌, ◌<◌, ◌∙◌, ◌∷◌, ◌≡◌, ◌≤◌, ◌⊎◌}
+use Rattle.std.proofs.Common.{IsTrue, List, [], ap, arith, drop, get_or, inl, inr, le-ltb, length, lt-ltb, nat_lt, refl, set, slice_get, subst, sym, ℕ, ⊎_elim, ◌*◌, ◌++◌, ◌+◌, ◌-◌, ◌/◌, ◌%◌, ◌<◌, ◌∙◌, ◌∷◌, ◌≡◌, ◌≤◌, ◌⊎◌}
 use Rattle.std.proofs.lemmas.Bool.{and_from, cases_lt, cond-false, cond-true}
 use Rattle.std.proofs.lemmas.List.{append-nil, drop_all, drop_more, get_or-drop, length-append, length-drop, length_push}
 use Rattle.std.proofs.lemmas.Str.{encode_ascii, length-le-encodes}
@@ -10,7 +10,7 @@ use Rattle.canon_model.proofs.Passes.{can_spell-append}
 use Rattle.canon_model.specs.Text.{Form, all_latin1, in_latin1, in_utf16, in_utf8, units}
 use Rattle.canon_text.specs.Answers.{Narrows}
 use Rattle.canon_text.specs.Faults.{Begins, BeginsNoLatin1}
-use Rattle.canon_text.specs.TwoBytes.{IsNotTwoBytes, IsTwoBytes}
+use Rattle.canon_text.specs.TwoBytes.{IsTwoBytes}
 use Rattle.canon_text.specs.Writing.{over}
 use Rattle.canon_text.proofs.Bytes.{one_latin1, over-set}
 use Rattle.canon_text.proofs.Pairs.{begins_char, units-one}
@@ -157,7 +157,11 @@ no_latin1 xs n h cause c small b =
     let long : length (drop n xs) ≡ length xs - n = length-drop n xs in
     clash c (drop n xs) small (starts c (drop n xs) small b) (omega arith, ⊎_elim (λ l. inl (omega arith)) (λ r. ⊎_elim (λ l. inr (inl (omega arith))) (λ r2. ⊎_elim (λ l. inr (inr (inl (omega arith)))) (λ r3. ⊎_elim (λ l. inr (inr (inr (inl (omega arith))))) (λ l. inr (inr (inr (inr (omega arith))))) r3) r2) r) cause)
 
--- what two bytes at a place tell
-pub two_begin : (xs : List ℕ) (n : ℕ) (r : Option ℕ) → 128 ≤ get_or xs n 0 → n + 1 < length xs → MatchOption r (IsNotTwoBytes (get_or xs n 0) (get_or xs (n + 1) 0)) (λ c. IsTwoBytes (get_or xs n 0) (get_or xs (n + 1) 0) c) → MatchOption r (BeginsNoLatin1 in_utf8 (drop n xs)) (λ c. Begins in_utf8 c (drop n xs))
-two_begin xs n None h k a = no_latin1 xs n h (inr a)
-two_begin xs n (Some c) h k a = begins_two xs n c k a.0 a.1 a.2 a.3 a.4
+-- such a character has two bytes
+pub two_long : (first second c : ℕ) → IsTwoBytes first second c → 2 ≡ length (encode_utf8 c)
+two_long first second c a =
+    let low : 194 ≤ first = a.0 in
+    let high : first ≤ 195 = a.1 in
+    let is : c ≡ (first - 192) * 64 + (second - 128) = a.4 in
+    let top : second < 192 = a.3 in
+    sym (ap length (encode_two c (omega arith) (omega arith)))

@@ -1,7 +1,7 @@
 -- The characters of UTF-16, of one unit or a pair of surrogates.
-use Rattle.std.proofs.Common.{IfSome, IsSomeAnd, List, MatchOption, None, Option, Some, [], ap, arith, drop, flat_map, get_or, inl, inr, le-ltb, length, lt-ltb, nat_lt, refl, slice_get, subst, suc, sym, true, zero, ℕ, ⊎_elim, ◌*◌, ◌++◌, ◌+◌, ◌-◌, ◌/◌, ◌%◌, ◌<◌, ◌∙◌, ◌∷◌, ◌≡◌, ◌≤◌, ◌⊎◌}
+use Rattle.std.proofs.Common.{IfSome, IsSomeAnd, List, MatchOption, None, Option, Some, [], ap, arith, drop, flat_map, get_or, inl, inr, le-ltb, length, lt-ltb, nat_lt, refl, set, slice_get, subst, take, suc, sym, true, zero, ℕ, ⊎_elim, ◌*◌, ◌++◌, ◌+◌, ◌-◌, ◌/◌, ◌%◌, ◌<◌, ◌∙◌, ◌∷◌, ◌≡◌, ◌≤◌, ◌⊎◌}
 use Rattle.std.proofs.lemmas.Bool.{and_from, and_parts, cases_lt, cond-false, cond-true, le-leb}
-use Rattle.std.proofs.lemmas.List.{append-nil, drop_more}
+use Rattle.std.proofs.lemmas.List.{append-nil, drop_more, length-set, take_more, take_more_set}
 use Rattle.std.proofs.lemmas.Option.{slice_get-get_or}
 use Rattle.std.specs.Char.Escape.{encode_utf16}
 use Rattle.std.specs.Char.Utf16.{surrogate_pair_char}
@@ -112,23 +112,17 @@ char_begins xs n u next r h is k e a =
     subst (λ l. IsAnswer l r) whole (answer u next r (drop (n + 1) xs) k (e ∙ next_of xs (n + 1)) a)
 
 -- the units that bytes hold
-pub unit_in_some : (bytes : List ℕ) (n k : ℕ) → k ≡ 2 * n → suc k < length bytes → slice_get (units_in bytes) n ≡ Some (get_or bytes k 0 + 256 * get_or bytes (suc k) 0)
-unit_in_some [] n k e h = absurd (omega arith)
-unit_in_some (low ∷ []) n k e h = absurd (omega arith)
-unit_in_some (low ∷ high ∷ bytes) zero zero e h = refl
-unit_in_some (low ∷ high ∷ bytes) zero (suc k) e h = absurd (omega arith)
-unit_in_some (low ∷ high ∷ bytes) (suc n) zero e h = absurd (omega arith)
-unit_in_some (low ∷ high ∷ bytes) (suc n) (suc zero) e h = absurd (omega arith)
-unit_in_some (low ∷ high ∷ bytes) (suc n) (suc (suc k)) e h = unit_in_some bytes n k (omega arith) (omega arith)
+unit_in : (bytes : List ℕ) (n k : ℕ) → k ≡ 2 * n → suc k < length bytes → get_or (units_in bytes) n 0 ≡ get_or bytes k 0 + 256 * get_or bytes (suc k) 0
+unit_in [] n k e h = absurd (omega arith)
+unit_in (low ∷ []) n k e h = absurd (omega arith)
+unit_in (low ∷ high ∷ bytes) zero zero e h = refl
+unit_in (low ∷ high ∷ bytes) zero (suc k) e h = absurd (omega arith)
+unit_in (low ∷ high ∷ bytes) (suc n) zero e h = absurd (omega arith)
+unit_in (low ∷ high ∷ bytes) (suc n) (suc zero) e h = absurd (omega arith)
+unit_in (low ∷ high ∷ bytes) (suc n) (suc (suc k)) e h = unit_in bytes n k (omega arith) (omega arith)
 
-pub unit_in_none : (bytes : List ℕ) (n k : ℕ) → k ≡ 2 * n → length bytes ≤ suc k → slice_get (units_in bytes) n ≡ None
-unit_in_none [] n k e h = refl
-unit_in_none (low ∷ []) n k e h = refl
-unit_in_none (low ∷ high ∷ bytes) zero zero e h = absurd (omega arith)
-unit_in_none (low ∷ high ∷ bytes) zero (suc k) e h = absurd (omega arith)
-unit_in_none (low ∷ high ∷ bytes) (suc n) zero e h = absurd (omega arith)
-unit_in_none (low ∷ high ∷ bytes) (suc n) (suc zero) e h = absurd (omega arith)
-unit_in_none (low ∷ high ∷ bytes) (suc n) (suc (suc k)) e h = unit_in_none bytes n k (omega arith) (omega arith)
+one_more : (k : ℕ) → k + 1 ≡ suc k
+one_more k = omega arith
 
 pub length-units_in : (bytes : List ℕ) → length (units_in bytes) ≡ length bytes / 2
 length-units_in [] = refl
@@ -149,10 +143,6 @@ units_back (low ∷ high ∷ bytes) half small even =
 -- bytes are the bytes of the units that they hold
 pub units_in-bytes : (bytes : List ℕ) → ((k : ℕ) → get_or bytes k 0 < 256) → length bytes % 2 ≡ 0 → flat_map unit_bytes (units_in bytes) ≡ bytes
 units_in-bytes bytes small even = units_back bytes (length bytes / 2) small (omega arith)
-
--- no unit stands past the end
-pub none_past : (xs : List ℕ) (n : ℕ) → n < length xs → None ≡ slice_get xs n → ⊥
-none_past xs n h e = let some = slice_get-get_or xs n 0 h in cc
 
 same_units : (c d : ℕ) (us vs xs ys : List ℕ) → IsUnits c us → IsUnits d vs → us ++ xs ≡ vs ++ ys → (c ≡ d) × (xs ≡ ys)
 unfolding IsUnits
@@ -175,3 +165,11 @@ same_units c d us vs xs ys (inr (hi, lo, h, h1, h2, h3, h4, h5)) (inr (hj, lj, g
 -- no character's units begin another's
 pub char_same : (c d : ℕ) (xs ys : List ℕ) → scalar c ≡ true → scalar d ≡ true → encode_utf16 c ++ xs ≡ encode_utf16 d ++ ys → (c ≡ d) × (xs ≡ ys)
 char_same c d xs ys h g e = same_units c d (encode_utf16 c) (encode_utf16 d) xs ys (units_of c h) (units_of d g) e
+
+-- one unit more of what bytes hold
+pub units-set : (bytes now : List ℕ) (i u : ℕ) → length now ≡ length bytes / 2 → take i now ≡ take i (units_in bytes) → i < length bytes / 2 → u ≡ get_or bytes (2 * i) 0 + 256 * get_or bytes (2 * i + 1) 0
+    → (length (set now i u) ≡ length bytes / 2) × (take (i + 1) (set now i u) ≡ take (i + 1) (units_in bytes))
+units-set bytes now i u long h small is = (
+  length-set now i u ∙ long,
+  take_more_set now i u (omega arith) ∙ ap (λ l. l ++ u ∷ []) h ∙ ap (λ x. take i (units_in bytes) ++ x ∷ []) (is ∙ ap (λ k. get_or bytes (2 * i) 0 + 256 * get_or bytes k 0) (one_more (2 * i)) ∙ sym (unit_in bytes i (2 * i) refl (omega arith))) ∙ sym (take_more (units_in bytes) i 0 (omega (arith, length-units_in bytes))),
+)

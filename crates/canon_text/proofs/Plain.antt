@@ -32,12 +32,12 @@ none_low (x ∷ xs) h e zero = go (ltb (above x 55296) 2048) refl (omega arith)
         ⊎_elim (λ l. inl l) (λ g. inr (omega arith)) (cases_lt x 55296)
 none_low (x ∷ xs) h e (suc k) = none_low xs h.1 (omega arith) k
 
-pub plain_by_mask : (xs : List ℕ) → length xs ≡ 32 → Each1 (Fits w16) xs → eqb (mask_l (map (top 15) (zip2 is_low (zip2 above xs (replicate 32 55296)) (replicate 32 2048))) % 2 ^ 64) 0 ≡ true → HasNoSurrogate xs
-plain_by_mask xs long h e =
-    let ds = zip2 above xs (replicate 32 55296) in
-    let wide : length ds ≡ 32 = length-zip2 above xs (replicate 32 55296) (long ∙ sym (length-replicate {A = ℕ} 32 55296)) ∙ long in
-    let small : mask_l (map (top 15) (zip2 is_low ds (replicate 32 2048))) % 2 ^ 64 ≡ mask_l (map (top 15) (zip2 is_low ds (replicate 32 2048))) =
-    mask_l-mod _ 64 (omega (arith, length-map (zip2 is_low ds (replicate 32 2048)) (top 15), length-zip2 is_low ds (replicate 32 2048) (wide ∙ sym (length-replicate {A = ℕ} 32 2048)))) in
+pub plain_by_mask : (n : ℕ) (xs : List ℕ) → n ≤ 64 → length xs ≡ n → Each1 (Fits w16) xs → eqb (mask_l (map (top 15) (zip2 is_low (zip2 above xs (replicate n 55296)) (replicate n 2048))) % 2 ^ 64) 0 ≡ true → HasNoSurrogate xs
+plain_by_mask n xs few long h e =
+    let ds = zip2 above xs (replicate n 55296) in
+    let wide : length ds ≡ n = length-zip2 above xs (replicate n 55296) (long ∙ sym (length-replicate {A = ℕ} n 55296)) ∙ long in
+    let small : mask_l (map (top 15) (zip2 is_low ds (replicate n 2048))) % 2 ^ 64 ≡ mask_l (map (top 15) (zip2 is_low ds (replicate n 2048))) =
+    mask_l-mod _ 64 (omega (arith, length-map (zip2 is_low ds (replicate n 2048)) (top 15), length-zip2 is_low ds (replicate n 2048) (wide ∙ sym (length-replicate {A = ℕ} n 2048)))) in
     none_low xs h (ap (λ k. mask_l (map (top 15) (zip2 is_low (zip2 above xs (replicate k 55296)) (replicate k 2048)))) long ∙ sym small ∙ eqb-true _ _ e)
 
 plain-append : (xs ys : List ℕ) → HasNoSurrogate xs → HasNoSurrogate ys → HasNoSurrogate (xs ++ ys)

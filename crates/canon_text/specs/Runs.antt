@@ -1,5 +1,6 @@
 -- Units that stand in a source and are written as they are.
-use Rattle.std.specs.Prelude.{List, drop, get_or, length, take, ℕ, ◌+◌, ◌<◌, ◌≡◌, ◌≤◌}
+use Rattle.std.specs.Prelude.{List, drop, flat_map, get_or, length, take, ℕ, ◌*◌, ◌+◌, ◌<◌, ◌≡◌, ◌≤◌}
+use Rattle.canon_model.specs.Text.{unit_bytes}
 use Rattle.canon_text.specs.Writing.{placed}
 
 -- so many units from a place on
@@ -16,3 +17,10 @@ pub record Copies (limit : ℕ) (source old new : List ℕ) (from at count : ℕ
   pub room : at + count ≤ length old
   pub below : AllBelow limit (run source from count)
   pub writes : new ≡ placed old at (run source from count)
+
+-- The same, where each unit is written as its bytes.
+pub record Spreads (source old new : List ℕ) (from at count : ℕ) : Type 0 where
+  pub inside : from + count ≤ length source
+  pub room : at + 2 * count ≤ length old
+  pub below : AllBelow 128 (run source from count)
+  pub writes : new ≡ placed old at (flat_map unit_bytes (run source from count))

@@ -11,9 +11,6 @@ pub(crate) const LONG: usize = 32;
 
 pub(crate) const SHORT: usize = 8;
 
-// How many bytes are tested before they are written.
-const CACHED: usize = 4096;
-
 #[inline(always)]
 pub(crate) fn is_ascii<const N: usize>(block: Simd<u8, N>) -> bool
     requires { N ≤ 64 }
@@ -31,78 +28,74 @@ pub(crate) fn is_below<const N: usize>(block: Simd<u16, N>, limit: u16) -> bool
     block.simd_ge(Simd::<u16, N>::splat(limit)).to_bitmask() == 0
 }
 
-// How many bytes of ASCII stand from a place on, in whole blocks, as far as a cache holds them.
-#[inline(always)]
-fn ascii_blocks(src: &[u8], from: usize) -> usize
-    requires { from ≤ length src.now }
-    ensures inside { from + result ≤ length src.now }
-    ensures ascii { AllBelow 128 (run src.now from result) }
-{
-    let mut count = 0;
-    while count < CACHED && src.len() - (from + count) >= LONG {
-        if !is_ascii::<LONG>(u8x32::from_slice(&src[from + count..])) {
-            break;
-        }
-        count += LONG;
-    }
-    count
-}
-
-// How many bytes of ASCII stand from a place on.
-#[inline(always)]
-pub(crate) fn ascii_run(src: &[u8], from: usize) -> usize
-    requires { from ≤ length src.now }
-    ensures inside { from + result ≤ length src.now }
-    ensures ascii { AllBelow 128 (run src.now from result) }
-{
-    let mut count = ascii_blocks(src, from);
-    while from + count < src.len() && src[from + count] < 128 {
-        count += 1;
-    }
-    count
-}
-
 // A surrogate less 0xD800 is below 0x800, and no other unit is, since the difference wraps.
 #[inline(always)]
-fn has_no_surrogate(block: u16x32) -> bool
-    ensures { IsTrue result → HasNoSurrogate block }
+fn has_no_surrogate<const N: usize>(block: Simd<u16, N>) -> bool
+    requires { N ≤ 64 }
+    ensures { IsTrue result → HasNoSurrogate block.entry }
 {
-    let above = block - u16x32::splat(0xD800);
-    above.simd_lt(u16x32::splat(0x800)).to_bitmask() == 0
+    let above = block - Simd::<u16, N>::splat(0xD800);
+    above.simd_lt(Simd::<u16, N>::splat(0x800)).to_bitmask() == 0
 }
 
-// How many units that are no surrogates stand from a place on, in whole blocks.
+// How many units that are no surrogates stand from a place on, in whole blocks of N.
 #[inline(always)]
-pub(crate) fn plain_blocks(src: &[u16], from: usize) -> usize
-    requires { from ≤ length src.now }
+fn plain_blocks<const N: usize>(src: &[u16], from: usize) -> usize
+    requires lanes { (0 < N) × (N ≤ 64) }
+    requires from { from ≤ length src.now }
     ensures inside { from + result ≤ length src.now }
     ensures plain { HasNoSurrogate (run src.now from result) }
     ensures small { AllBelow 65536 (run src.now from result) }
 {
     let mut count = 0;
-    while src.len() - (from + count) >= LONG {
-        if !has_no_surrogate(u16x32::from_slice(&src[from + count..])) {
+    while src.len() - (from + count) >= N {
+        if !has_no_surrogate::<N>(Simd::<u16, N>::from_slice(&src[from + count..])) {
             break;
         }
-        count += LONG;
+        count += N;
     }
     count
 }
 
-// How many units below a limit stand from a place on, in whole blocks.
+// The same in long blocks and then in short ones.
 #[inline(always)]
-pub(crate) fn blocks_below(src: &[u16], from: usize, limit: u16) -> usize
+pub(crate) fn plain_run(src: &[u16], from: usize) -> usize
+    requires { from ≤ length src.now }
+    ensures inside { from + result ≤ length src.now }
+    ensures plain { HasNoSurrogate (run src.now from result) }
+    ensures small { AllBelow 65536 (run src.now from result) }
+{
+    let long = plain_blocks::<LONG>(src, from);
+    long + plain_blocks::<SHORT>(src, from + long)
+}
+
+// How many units below a limit stand from a place on, in whole blocks of N.
+#[inline(always)]
+fn blocks_below<const N: usize>(src: &[u16], from: usize, limit: u16) -> usize
+    requires lanes { (0 < N) × (N ≤ 64) }
     requires from { from ≤ length src.now }
     requires limit { 0 < limit }
     ensures inside { from + result ≤ length src.now }
     ensures below { AllBelow limit (run src.now from result) }
 {
     let mut count = 0;
-    while src.len() - (from + count) >= LONG {
-        if !is_below::<LONG>(u16x32::from_slice(&src[from + count..]), limit) {
+    while src.len() - (from + count) >= N {
+        if !is_below::<N>(Simd::<u16, N>::from_slice(&src[from + count..]), limit) {
             break;
         }
-        count += LONG;
+        count += N;
     }
     count
+}
+
+// The same in long blocks and then in short ones.
+#[inline(always)]
+pub(crate) fn run_below(src: &[u16], from: usize, limit: u16) -> usize
+    requires from { from ≤ length src.now }
+    requires limit { 0 < limit }
+    ensures inside { from + result ≤ length src.now }
+    ensures below { AllBelow limit (run src.now from result) }
+{
+    let long = blocks_below::<LONG>(src, from, limit);
+    long + blocks_below::<SHORT>(src, from + long, limit)
 }

@@ -7,13 +7,14 @@ ghost use Rattle.canon_text.specs.Answers.{Compacts, Widens, bytes_before, infla
 ghost use Rattle.canon_text.specs.Faults.{IsFirstFault};
 ghost use Rattle.canon_text.specs.Writing.{over};
 
-use crate::blocks::{ascii_run, blocks_below};
+use crate::blocks::run_below;
 use crate::error::TextError;
-use crate::scalars::{scalar_at, utf8_len};
+use crate::scalars::scalar_at;
+use crate::spread::spread_ascii;
 use crate::unit_blocks::inflate_blocks;
 use crate::units::first_fault;
 use crate::utf8::fault_in;
-use crate::writing::{write_latin1, write_unit, write_units, write_utf16_bytes};
+use crate::writing::{write_unit, write_units, write_utf16_bytes};
 
 /// The bit of a compact length that says UTF-16.
 pub const UTF16_TAG: u64 = 1 << 31;
@@ -80,13 +81,13 @@ pub fn utf8_to_compact_utf16(
     let mut read = 0;
     let mut end = 2 * count;
     while read < src.len() {
-        let run = ascii_run(src, read);
-        end = write_latin1(dst, end, &src[read..read + run]);
+        let run = spread_ascii(src, read, dst, end);
         read += run;
+        end += 2 * run;
         if read < src.len() {
-            let code = scalar_at(src, read);
-            end = write_utf16_bytes(dst, end, code);
-            read += utf8_len(code);
+            let scalar = scalar_at(src, read);
+            end = write_utf16_bytes(dst, end, scalar.code);
+            read += scalar.len;
         }
     }
     Ok((end / 2) as u64)
@@ -122,7 +123,7 @@ fn is_latin1(src: &[u16]) -> bool
 {
     let mut at = 0;
     while at < src.len() {
-        at += blocks_below(src, at, 256);
+        at += run_below(src, at, 256);
         if at < src.len() {
             if src[at] > 255 {
                 return false;

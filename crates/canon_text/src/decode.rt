@@ -8,10 +8,15 @@ ghost use Rattle.canon_text.specs.Decoding.{Decodes, IsDecodeFault, IsNoText, Sp
 
 use crate::cow::CowStr;
 use crate::error::{DecodeError, TextError};
-use crate::units::{char_in, utf16_len};
+use crate::latin1::latin1_to_utf8;
+use crate::units::units_of;
 use crate::utf8::text_of;
+use crate::utf16::utf16_to_utf8;
 use canon_indices::OutOfMemory;
 use std::alloc::Global;
+
+// How many bytes a pass writes at a time.
+const PIECE: usize = 512;
 
 /// The text of UTF-8 bytes, which is borrowed (CanonicalABI.md, "load_string_from_range").
 pub fn decode_utf8(src: &[u8]) -> Result<CowStr<'_>, TextError>
@@ -33,17 +38,20 @@ pub fn decode_utf16(alloc: Global, src: &[u8]) -> Result<CowStr<'_>, DecodeError
         (λ e. IsDecodeFault in_utf16 (units_in src.now) e) }
     ensures no_text { IfErr result (λ e. IsNoText in_utf16 src.now e) }
 {
-    let mut text = String::new(alloc);
-    let count = src.len() / 2;
-    let mut at = 0;
-    while at < count {
-        let Some(c) = char_in(src, at) else {
-            return Err(DecodeError::Text(TextError::InvalidUtf16(at as u64)));
-        };
-        text.push(c)?;
-        at += utf16_len(c);
+    let units = units_of(alloc, src)?;
+    let mut text = Vec::with_capacity(alloc, units.len())?;
+    let mut piece = [0; PIECE];
+    let mut read = 0;
+    while read < units.len() {
+        match utf16_to_utf8(&units[read..], &mut piece, false) {
+            Ok(pass) => {
+                text.extend_from_slice(&piece[..pass.dst_written as usize])?;
+                read += pass.src_read as usize;
+            }
+            Err(error) => return Err(DecodeError::Text(error.after(read as u64))),
+        }
     }
-    Ok(CowStr::Owned(text))
+    Ok(CowStr::Owned(unsafe { String::from_utf8_unchecked(text) }))
 }
 
 // The bytes as a text, where all are below 128.
@@ -53,10 +61,7 @@ fn ascii_text(src: &[u8]) -> Option<&str>
     if !src.is_ascii() {
         return None;
     }
-    match std::str::from_utf8(src) {
-        Ok(text) => Some(text),
-        Err(_) => None,
-    }
+    Some(unsafe { std::str::from_utf8_unchecked(src) })
 }
 
 /// The text of Latin-1 bytes. It is borrowed exactly where all bytes are below 128, and takes no memory
@@ -69,9 +74,13 @@ pub fn decode_latin1(alloc: Global, src: &[u8]) -> Result<CowStr<'_>, OutOfMemor
     if let Some(text) = ascii_text(src) {
         return Ok(CowStr::Borrowed(text));
     }
-    let mut text = String::new(alloc);
-    for byte in src {
-        text.push(char::from(*byte))?;
+    let mut text = Vec::with_capacity(alloc, src.len())?;
+    let mut piece = [0; PIECE];
+    let mut read = 0;
+    while read < src.len() {
+        let pass = latin1_to_utf8(&src[read..], &mut piece, false);
+        text.extend_from_slice(&piece[..pass.dst_written as usize])?;
+        read += pass.src_read as usize;
     }
-    Ok(CowStr::Owned(text))
+    Ok(CowStr::Owned(unsafe { String::from_utf8_unchecked(text) }))
 }

@@ -1,6 +1,7 @@
 //! What conversions answer.
 
-ghost use Rattle.std.specs.Prelude.{◌≡◌};
+ghost use Rattle.std.specs.Prelude.{◌≡◌, ◌+◌, ◌<◌, ◌^◌};
+ghost use Rattle.canon_text.specs.Faults.{error_form, error_place};
 ghost use Rattle.canon_text.specs.declared.error.DecodeError.TheVariants as refused;
 
 use std::alloc::{AllocError, AllocFailed};
@@ -11,6 +12,20 @@ use std::alloc::{AllocError, AllocFailed};
 pub enum TextError {
     InvalidUtf8(u64),
     InvalidUtf16(u64),
+}
+
+impl TextError {
+    // The same fault, counted from so many units before.
+    pub(crate) fn after(self, units: u64) -> TextError
+        requires { units + error_place self < 2 ^ 64 }
+        ensures form { error_form result ≡ error_form self }
+        ensures place { error_place result ≡ units + error_place self }
+    {
+        match self {
+            TextError::InvalidUtf8(at) => TextError::InvalidUtf8(units + at),
+            TextError::InvalidUtf16(at) => TextError::InvalidUtf16(units + at),
+        }
+    }
 }
 
 /// Why bytes give no text.

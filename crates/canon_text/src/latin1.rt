@@ -1,6 +1,7 @@
 //! Conversions of and into Latin-1.
 
 ghost use Rattle.std.specs.Prelude.{◌≡◌, ◌<◌, ◌≤◌, length, drop, MatchOption};
+ghost use Rattle.std.specs.Char.{encode_utf8};
 ghost use Rattle.canon_model.specs.Text.{in_latin1, in_utf16, in_utf8};
 ghost use Rattle.canon_text.specs.Answers.{Converts, Narrows, Passed};
 ghost use Rattle.canon_text.specs.Faults.{Begins, BeginsNoLatin1};
@@ -49,7 +50,7 @@ pub fn latin1_to_utf8(src: &[u8], dst: &mut [u8], first_pass: bool) -> SizePair
                     dst_written: written as u64,
                 };
             }
-            written = write_utf8(dst, written, c);
+            written = write_utf8(dst, written, c).end;
             read += 1;
         }
     }
@@ -72,15 +73,15 @@ pub fn utf8_to_latin1(src: &[u8], dst: &mut [u8]) -> SizePair
         read += run;
         written += run;
         if read < src.len() {
-            let Some(byte) = latin1_at(src, read) else {
+            let Some(found) = latin1_at(src, read) else {
                 return SizePair {
                     src_read: read as u64,
                     dst_written: written as u64,
                 };
             };
-            dst[written] = byte;
+            dst[written] = found.byte;
             written += 1;
-            read += char::from(byte).len_utf8();
+            read += found.len;
         }
     }
     SizePair {
@@ -89,19 +90,32 @@ pub fn utf8_to_latin1(src: &[u8], dst: &mut [u8]) -> SizePair
     }
 }
 
-// The character up to U+00FF that begins at a place of UTF-8.
-fn latin1_at(src: &[u8], at: usize) -> Option<u8>
+// A character up to U+00FF, and how many bytes it has in UTF-8.
+#[derive(Clone, Copy)]
+struct Narrow {
+    byte: u8,
+    len: usize,
+}
+
+// The character up to U+00FF that begins at a place of UTF-8. Each branch tells its own length, which the next place then doesn't wait for.
+fn latin1_at(src: &[u8], at: usize) -> Option<Narrow>
     requires { at < length src.now }
-    ensures { MatchOption result (BeginsNoLatin1 in_utf8 (drop at src.now)) (λ c. Begins in_utf8 c (drop at src.now)) }
+    ensures { MatchOption result (BeginsNoLatin1 in_utf8 (drop at src.now)) (λ c. Begins in_utf8 c.byte (drop at src.now) × (c.len ≡ length (encode_utf8 c.byte)) × (0 < c.len) × (c.len ≤ 2)) }
 {
     let first = src[at];
     if first < 128 {
-        return Some(first);
+        return Some(Narrow {
+            byte: first,
+            len: 1,
+        });
     }
     if at + 1 >= src.len() {
         return None;
     }
-    latin1_of(first, src[at + 1])
+    match latin1_of(first, src[at + 1]) {
+        Some(byte) => Some(Narrow { byte, len: 2 }),
+        None => None,
+    }
 }
 
 // The character from U+0080 to U+00FF that two bytes are.

@@ -11,6 +11,7 @@ mod latin1;
 pub mod laws;
 mod narrow;
 mod scalars;
+mod spread;
 mod unit_blocks;
 mod units;
 mod utf16;

@@ -318,15 +318,26 @@ fn bytes_agree(alloc: Global, forms: &Forms) -> Result<bool, Fail> {
     let mut same = Vec::from_elem(alloc, 0u16, forms.latin1.len())?;
     latin1_to_utf16(&forms.latin1, &mut same);
     let kept = bytes == forms.latin1 && units == forms.utf16 && same == forms.utf16;
-    let decoded = decode_latin1(alloc, &forms.latin1)?;
-    Ok(
-        copied
-            && widened
-            && spelled
-            && narrowed
-            && kept
-            && decoded.as_str().as_bytes() == forms.utf8.as_slice(),
-    )
+    Ok(copied && widened && spelled && narrowed && kept)
+}
+
+// Whether the decoders, a copy of Latin-1 and an inflation in place give these forms.
+fn decoders_agree(alloc: Global, forms: &Forms) -> Result<bool, Fail> {
+    let count = forms.latin1.len();
+    if count > 65 || forms.utf16_bytes.len() % 2 != 0 {
+        return Ok(false);
+    }
+    let whole = decode_utf8(&forms.utf8)?;
+    let narrow = decode_latin1(alloc, &forms.latin1)?;
+    let wide = decode_utf16(alloc, &forms.utf16_bytes)?;
+    let same = narrow.as_str() == whole.as_str() && wide.as_str() == whole.as_str();
+    let mut copy = Vec::from_elem(alloc, 0u8, count)?;
+    latin1_to_latin1(&forms.latin1, &mut copy);
+    let copied = copy == forms.latin1;
+    copy.extend_from_slice(&forms.latin1)?;
+    let rest = inflate_latin1_bytes(&mut copy, count as u64).len();
+    let is_text = whole.as_str().as_bytes() == forms.utf8.as_slice();
+    Ok(is_text && same && copied && rest == 0 && copy == forms.utf16_bytes)
 }
 
 // Whether the conversions from UTF-16 and into the compact form give these forms.
@@ -370,6 +381,7 @@ fn runs_are_converted_as_a_plain_loop_converts_them(rt: HostRuntime) -> Result<(
             let forms = spelled(rt.alloc(), count, accent)?;
             assert!(rt; bytes_agree(rt.alloc(), &forms)?);
             assert!(rt; units_agree(rt.alloc(), &forms)?);
+            assert!(rt; decoders_agree(rt.alloc(), &forms)?);
         }
     }
     Ok(())

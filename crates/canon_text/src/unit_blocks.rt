@@ -5,39 +5,24 @@ ghost use Rattle.canon_model.specs.Text.{unit_bytes};
 ghost use Rattle.canon_text.specs.Runs.{AllBelow};
 ghost use Rattle.canon_text.specs.Writing.{inflating, placed};
 
-use crate::blocks::LONG;
+use crate::blocks::SHORT;
 use std::simd::prelude::*;
 
 #[inline(always)]
-fn store_units(block: u16x32, dst: &mut [u8], at: usize)
-    requires { at + 2 * LONG ≤ length dst.old }
+fn store_units(block: u16x8, dst: &mut [u8], at: usize)
+    requires { at + 2 * SHORT ≤ length dst.old }
     ensures { dst.new ≡ placed dst.old at (flat_map unit_bytes block) }
 {
     block.to_le_bytes().copy_to_slice(&mut dst[at..]);
 }
 
+// Bytes that become units.
 #[inline(always)]
-fn store_bytes(block: u8x32, dst: &mut [u8], at: usize)
-    requires { at + 2 * LONG ≤ length dst.old }
+pub(crate) fn store_bytes(block: u8x8, dst: &mut [u8], at: usize)
+    requires { at + 2 * SHORT ≤ length dst.old }
     ensures { dst.new ≡ placed dst.old at (flat_map unit_bytes block) }
 {
     store_units(block.cast::<u16>(), dst, at);
-}
-
-// Writes blocks of Latin-1 as units, and says how many.
-#[inline(always)]
-pub(crate) fn write_latin1_blocks(dst: &mut [u8], at: usize, src: &[u8]) -> usize
-    requires { at + 2 * length src.now ≤ length dst.old }
-    ensures inside { result ≤ length src.now }
-    ensures writes { dst.new ≡ placed dst.old at (flat_map unit_bytes (take result src.now)) }
-{
-    let mut count = 0;
-    while src.len() - count >= LONG {
-        let block = u8x32::from_slice(&src[count..]);
-        store_bytes(block, dst, at + 2 * count);
-        count += LONG;
-    }
-    count
 }
 
 // Writes blocks of units as bytes, and says how many units.
@@ -48,10 +33,10 @@ pub(crate) fn write_unit_blocks(dst: &mut [u8], at: usize, units: &[u16]) -> usi
     ensures writes { dst.new ≡ placed dst.old at (flat_map unit_bytes (take result units.now)) }
 {
     let mut count = 0;
-    while units.len() - count >= LONG {
-        let block = u16x32::from_slice(&units[count..]);
+    while units.len() - count >= SHORT {
+        let block = u16x8::from_slice(&units[count..]);
         store_units(block, dst, at + 2 * count);
-        count += LONG;
+        count += SHORT;
     }
     count
 }
@@ -65,9 +50,9 @@ pub(crate) fn inflate_blocks(dst: &mut [u8], count: usize) -> usize
     ensures writes { dst.new ≡ inflating dst.old count result }
 {
     let mut left = count;
-    while left >= LONG {
-        left -= LONG;
-        let block = u8x32::from_slice(&dst[left..]);
+    while left >= SHORT {
+        left -= SHORT;
+        let block = u8x8::from_slice(&dst[left..]);
         store_bytes(block, dst, 2 * left);
     }
     left

@@ -1,13 +1,14 @@
 //! Characters out of UTF-16.
 
-ghost use Rattle.std.specs.Prelude.{◌≡◌, ◌+◌, ◌*◌, ◌<◌, length, drop, MatchOption, ◌≤◌, slice_get};
+ghost use Rattle.std.specs.Prelude.{◌≡◌, ◌+◌, ◌*◌, ◌<◌, length, drop, MatchOption, IfOk, ◌≤◌, slice_get};
 ghost use Rattle.std.specs.Char.Escape.{encode_utf16};
 ghost use Rattle.canon_model.specs.Text.{in_utf16};
 ghost use Rattle.canon_text.specs.Faults.{Begins, IllFormed, WellFormed, IllFormedAt};
 ghost use Rattle.canon_text.specs.Decoding.{units_in};
 ghost use Rattle.canon_text.specs.Surrogates.{IsCharOf, IsLone};
 
-use crate::blocks::plain_blocks;
+use crate::blocks::plain_run;
+use std::alloc::{AllocError, Global};
 
 // The character of a unit and the one after it, if there is one; None at a surrogate without its partner.
 pub(crate) fn char_of(unit: u16, next: Option<u16>) -> Option<char>
@@ -46,28 +47,16 @@ pub(crate) fn char_at(src: &[u16], at: usize) -> Option<char>
     char_of(src[at], unit_at(src, at + 1))
 }
 
-// The unit of this number, if there is one.
-fn unit_in(src: &[u8], number: usize) -> Option<u16>
-    requires { number ≤ length (units_in src.now) }
-    ensures { result ≡ slice_get (units_in src.now) number }
+// The units that bytes hold, the low byte first.
+pub(crate) fn units_of(alloc: Global, src: &[u8]) -> Result<Vec<u16>, AllocError>
+    ensures { IfOk result (λ us. us.items ≡ units_in src.now) }
 {
-    if number < src.len() / 2 {
-        let low = 2 * number;
-        Some(u16::from(src[low]) + 256 * u16::from(src[low + 1]))
-    } else {
-        None
+    let count = src.len() / 2;
+    let mut units = vec![in alloc; 0; count]?;
+    for i in 0..count {
+        units[i] = u16::from(src[2 * i]) + 256 * u16::from(src[2 * i + 1]);
     }
-}
-
-// The character that begins at a unit of this number.
-pub(crate) fn char_in(src: &[u8], number: usize) -> Option<char>
-    requires { number < length (units_in src.now) }
-    ensures { MatchOption result (IllFormed in_utf16 (drop number (units_in src.now))) (λ c. Begins in_utf16 c (drop number (units_in src.now))) }
-{
-    match unit_in(src, number) {
-        Some(unit) => char_of(unit, unit_in(src, number + 1)),
-        None => None,
-    }
+    Ok(units)
 }
 
 // The place of the first surrogate without its partner.
@@ -76,7 +65,7 @@ pub(crate) fn first_fault(src: &[u16]) -> Option<usize>
 {
     let mut at = 0;
     while at < src.len() {
-        at += plain_blocks(src, at);
+        at += plain_run(src, at);
         if at < src.len() {
             let Some(c) = char_at(src, at) else {
                 return Some(at)

@@ -9,7 +9,7 @@ ghost use Rattle.canon_text.specs.Answers.{Converts, Passed, PassFails};
 
 use crate::error::{SizePair, TextError};
 use crate::narrow::narrow_below;
-use crate::units::{char_at, first_fault, utf16_len};
+use crate::units::{char_at, first_fault};
 use crate::writing::write_utf8;
 
 /// Copies UTF-16 into as many units. A refusal has copied the units before its place, and leaves
@@ -59,8 +59,9 @@ pub fn utf16_to_utf8(src: &[u16], dst: &mut [u8], first_pass: bool) -> Result<Si
                     dst_written: written as u64,
                 });
             }
-            written = write_utf8(dst, written, c);
-            read += utf16_len(c);
+            let wrote = write_utf8(dst, written, c);
+            written = wrote.end;
+            read += wrote.units;
         }
     }
     Ok(SizePair {

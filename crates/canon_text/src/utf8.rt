@@ -1,12 +1,12 @@
 //! Conversions of UTF-8 that read the whole source.
 
-ghost use Rattle.std.specs.Prelude.{◌≡◌, ◌≤◌, length, MatchOption, MatchResult, IsUtf8};
+ghost use Rattle.std.specs.Prelude.{◌≡◌, ◌≤◌, length, MatchOption, MatchResult, IsTrue, IsUtf8};
 ghost use Rattle.canon_model.specs.Text.{in_utf8, in_utf16};
 ghost use Rattle.canon_text.specs.Faults.{IsFirstFault};
 ghost use Rattle.canon_text.specs.Answers.{Converts};
 
 use crate::error::TextError;
-use crate::scalars::{scalar_at, utf8_len};
+use crate::scalars::scalar_at;
 use crate::widen::widen_ascii;
 use crate::writing::write_utf16;
 
@@ -20,11 +20,21 @@ pub(crate) fn text_of(src: &[u8]) -> Result<&str, TextError>
     }
 }
 
+// Whether the source is UTF-8, first of a short one whether it is ASCII.
+fn is_text(src: &[u8]) -> bool
+    ensures { IsTrue result → IsUtf8 src.now }
+{
+    if src.len() < 64 && src.is_ascii() {
+        return true;
+    }
+    simdutf8::is_utf8(src)
+}
+
 // The first fault of a source.
 pub(crate) fn fault_in(src: &[u8]) -> Option<TextError>
     ensures { MatchOption result (IsUtf8 src.now) (λ e. IsFirstFault in_utf8 src.now e) }
 {
-    if src.len() >= 64 && simdutf8::is_utf8(src) {
+    if is_text(src) {
         return None;
     }
     text_of(src).err()
@@ -62,9 +72,9 @@ pub fn utf8_to_utf16(src: &[u8], dst: &mut [u16]) -> Result<u64, TextError>
         read += run;
         written += run;
         if read < src.len() {
-            let code = scalar_at(src, read);
-            written = write_utf16(dst, written, code);
-            read += utf8_len(code);
+            let scalar = scalar_at(src, read);
+            written = write_utf16(dst, written, scalar.code);
+            read += scalar.len;
         }
     }
     Ok(written as u64)

@@ -6,7 +6,7 @@ ghost use Rattle.std.specs.Char.Escape.{encode_utf16};
 ghost use Rattle.canon_model.specs.Text.{unit_bytes};
 ghost use Rattle.canon_text.specs.Writing.{placed};
 
-use crate::unit_blocks::{write_latin1_blocks, write_unit_blocks};
+use crate::unit_blocks::write_unit_blocks;
 
 // The stores stand apart, since an array of them would go through memory.
 #[inline(always)]
@@ -36,32 +36,52 @@ fn write_four(dst: &mut [u8], at: usize, a: u8, b: u8, c: u8, d: u8)
     write_three(dst, at + 1, b, c, d);
 }
 
-// Writes a character in UTF-8, and says where it ends.
+// Where the bytes of a character end, and how many units of UTF-16 it has.
+#[derive(Clone, Copy)]
+pub(crate) struct Written {
+    pub(crate) end: usize,
+    pub(crate) units: usize,
+}
+
+// Writes a character in UTF-8. Each branch tells its own lengths, which the next place then doesn't wait for.
 #[inline(always)]
-pub(crate) fn write_utf8(dst: &mut [u8], at: usize, c: char) -> usize
+pub(crate) fn write_utf8(dst: &mut [u8], at: usize, c: char) -> Written
     requires { at + length (encode_utf8 c) ≤ length dst.old }
-    ensures end { result ≡ at + length (encode_utf8 c) }
+    ensures end { result.end ≡ at + length (encode_utf8 c) }
+    ensures units { result.units ≡ length (encode_utf16 c) }
     ensures writes { dst.new ≡ placed dst.old at (encode_utf8 c) }
 {
     let code = c as u32;
     if code < 0x80 {
         dst[at] = code as u8;
-        return at + 1;
+        return Written {
+            end: at + 1,
+            units: 1,
+        };
     }
     let last = (0x80 + code % 64) as u8;
     if code < 0x800 {
         write_two(dst, at, (0xC0 + code / 64) as u8, last);
-        return at + 2;
+        return Written {
+            end: at + 2,
+            units: 1,
+        };
     }
     let middle = (0x80 + code / 64 % 64) as u8;
     if code < 0x1_0000 {
         write_three(dst, at, (0xE0 + code / 4096) as u8, middle, last);
-        return at + 3;
+        return Written {
+            end: at + 3,
+            units: 1,
+        };
     }
     let second = (0x80 + code / 4096 % 64) as u8;
     let first = (0xF0 + code / 262_144) as u8;
     write_four(dst, at, first, second, middle, last);
-    at + 4
+    Written {
+        end: at + 4,
+        units: 2,
+    }
 }
 
 // Writes a scalar value's units, and says where they end.
@@ -101,19 +121,6 @@ pub(crate) fn write_units(dst: &mut [u8], at: usize, units: &[u16])
     for i in blocks..units.len() {
         write_unit(dst, at + 2 * i, units[i]);
     }
-}
-
-// Writes Latin-1 as units, which are bytes, and says where they end.
-pub(crate) fn write_latin1(dst: &mut [u8], at: usize, src: &[u8]) -> usize
-    requires { at + 2 * length src.now ≤ length dst.old }
-    ensures end { result ≡ at + 2 * length src.now }
-    ensures writes { dst.new ≡ placed dst.old at (flat_map unit_bytes src.now) }
-{
-    let blocks = write_latin1_blocks(dst, at, src);
-    for i in blocks..src.len() {
-        write_unit(dst, at + 2 * i, u16::from(src[i]));
-    }
-    at + 2 * src.len()
 }
 
 // Writes a scalar value's units as bytes, and says where they end.

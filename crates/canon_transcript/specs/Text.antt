@@ -7,10 +7,10 @@ use Rattle.std.specs.declared.alloc.Global.{Global}
 use Rattle.hex.specs.Hex.{encode_lower}
 use Rattle.canon_memory.specs.declared.event.Event.{Event}
 use Rattle.canon_memory.specs.declared.event.Event.TheVariants as event
-use Rattle.canon_value.specs.declared.fault.At.{At}
-use Rattle.canon_value.specs.declared.fault.At.TheVariants as at
-use Rattle.canon_value.specs.declared.fault.Fault.{Fault}
-use Rattle.canon_value.specs.declared.fault.Fault.TheVariants as fault
+use Rattle.canon_context.specs.declared.fault.At.{At}
+use Rattle.canon_context.specs.declared.fault.At.TheVariants as at
+use Rattle.canon_context.specs.declared.fault.Fault.{Fault}
+use Rattle.canon_context.specs.declared.fault.Fault.TheVariants as fault
 use Rattle.canon_value.specs.declared.val.Val.{Val}
 use Rattle.canon_value.specs.declared.val.Val.TheFolds.{fold-Val}
 use Rattle.canon_value.specs.declared.val.Val.TheOpen.{Val-F}
@@ -164,6 +164,7 @@ fault_text fault.GuestTrap = codes "GuestTrap"
 fault_text (fault.PointerMisaligned a) = codes "PointerMisaligned " ++ at_text a
 fault_text (fault.PointerOutOfBounds a) = codes "PointerOutOfBounds " ++ at_text a
 fault_text (fault.InvalidUtf8 a) = codes "InvalidUtf8 " ++ at_text a
+fault_text (fault.InvalidUtf16 a) = codes "InvalidUtf16 " ++ at_text a
 fault_text (fault.InvalidChar a) = codes "InvalidChar " ++ at_text a
 fault_text (fault.BadDiscriminant a number) = codes "BadDiscriminant " ++ at_text a ++ codes " " ++ decimal number
 fault_text fault.HostcallFuelExhausted = codes "HostcallFuelExhausted"

@@ -47,6 +47,7 @@ fn print_fault(text: &mut String, fault: Fault) -> Result<(), AllocError>
         Fault::PointerMisaligned(at) => print_at(text, "PointerMisaligned ", at),
         Fault::PointerOutOfBounds(at) => print_at(text, "PointerOutOfBounds ", at),
         Fault::InvalidUtf8(at) => print_at(text, "InvalidUtf8 ", at),
+        Fault::InvalidUtf16(at) => print_at(text, "InvalidUtf16 ", at),
         Fault::InvalidChar(at) => print_at(text, "InvalidChar ", at),
         Fault::BadDiscriminant(at, number) => {
             print_at(text, "BadDiscriminant ", at)?;

@@ -1,5 +1,5 @@
 -- The value of a case, put together from its payload.
-use Rattle.std.proofs.Common.{◌≡◌, ◌≤◌, ◌<◌, ◌≢◌, ◌∙◌, List, None, Option, Some, String, [], ◌∷◌, ap, arith, length, map, refl, slice_get, string_bytes, subst, suc, sym, zero, ℕ}
+use Rattle.std.proofs.Common.{◌≡◌, ◌≤◌, ◌<◌, ◌≢◌, ◌∙◌, List, None, Option, Some, String, [], ◌∷◌, ap, arith, length, map, refl, slice_get, string_bytes, subst, suc, sym, true, zero, ℕ}
 use Rattle.std.specs.Prelude.{AllPairs}
 use Rattle.std.specs.Option.{option_map}
 use Rattle.std.proofs.lemmas.Option.{get_or_from_slice_get, slice_get-map, slice_get_within}
@@ -12,10 +12,11 @@ use Rattle.canon_types.specs.Valid.{NamesDiffer}
 use Rattle.canon_types.specs.declared.types.InterfaceType.{InterfaceType}
 use Rattle.canon_types.specs.declared.types.InterfaceType.TheVariants as ty
 use Rattle.canon_value.specs.Plan.{IsCaseRebuilt}
-use Rattle.canon_value.specs.Value.{HasTree, IsCase, IsFirst, case_names}
+use Rattle.canon_value.specs.Value.{IsLiftedFrom, IsCase, IsFirst, case_names}
 use Rattle.canon_value.specs.declared.val.Val.{Val}
-use Rattle.canon_value.proofs.CasePlans.{as_cases}
-use Rattle.canon_value.proofs.CaseViews.{bare_members, enum_names}
+use Rattle.canon_plan.proofs.CasePlans.{as_cases}
+use Rattle.canon_plan.proofs.Flats.{bare_members}
+use Rattle.canon_value.proofs.CaseViews.{enum_names}
 use Rattle.canon_value.proofs.Cases.{case_has}
 
 pub one_payload : (cs : Cases) (i : ℕ) → member_count (case_members cs i) ≤ 1
@@ -26,7 +27,7 @@ one_payload (payload name s cs) zero = omega arith
 one_payload (payload name s cs) (suc i) = one_payload cs i
 
 pub case_rebuilt : (s : Shape) (k : VariantKind) (i : ℕ) (vs : List Val) (v : Val) → s ≡ variant k (variant_cases s) → i < case_count (variant_cases s) → IsCase k (variant_cases s) i vs v → IsCaseRebuilt s i vs v
-case_rebuilt s k i vs v e lt is = λ ts have. subst (λ (x : Shape). HasTree x v (case_tree i ts)) (sym e) (i, vs, ts, is, refl, case_has (variant_cases s) i vs ts lt have)
+case_rebuilt s k i vs v e lt is = λ ts have. subst (λ (x : Shape). IsLiftedFrom x v (case_tree i ts)) (sym e) (i, vs, ts, is, refl, case_has true (variant_cases s) i vs ts lt have)
 
 -- ---- names
 

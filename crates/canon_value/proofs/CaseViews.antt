@@ -1,5 +1,5 @@
 -- Views of cases, by what a look-up gives.
-use Rattle.std.proofs.Common.{◌≡◌, ◌≤◌, ◌<◌, ◌∙◌, ◌^◌, All, Bool, Err, List, None, Ok, Option, Some, String, [], ◌∷◌, ap, arith, false, get_or, inl, length, map, refl, slice_get, string_bytes, subst, suc, sym, true, zero, if◌then◌else◌, not, ℕ}
+use Rattle.std.proofs.Common.{◌≡◌, ◌≤◌, ◌<◌, ◌∙◌, ◌^◌, All, Bool, Err, List, None, Ok, Option, Some, String, [], ◌∷◌, ap, arith, false, get_or, inl, length, map, refl, slice_get, string_bytes, if◌then◌else◌, subst, suc, sym, true, zero, not, ℕ}
 use Rattle.std.specs.Prelude.{Box, position}
 use Rattle.std.specs.List.{position_or_len}
 use Rattle.std.specs.Map.{keys_of}
@@ -24,20 +24,21 @@ use Rattle.canon_types.specs.Table.{Knows, KnowsPayload, ResultType, Table, all_
 use Rattle.canon_types.specs.declared.types.InterfaceType.{InterfaceType}
 use Rattle.canon_value.specs.CaseView.{IsPayload, Misses}
 use Rattle.canon_value.specs.Fails.{Blames, FailsAt, payload_expected, payload_not_expected, unknown_case}
-use Rattle.canon_value.specs.Lowers.{fault_ending}
+use Rattle.canon_context.specs.Lowers.{fault_ending}
 use Rattle.canon_value.specs.Value.{IsCase, IsFirst, case_names, member_names, result_case, result_payload, unboxed}
 use Rattle.canon_value.specs.View.{AreKnown, IsMember, names_of, shapes_of, values_of}
 use Rattle.canon_value.specs.Viewed.{IsCaseSeen}
-use Rattle.canon_value.specs.declared.fault.Fault.{Fault}
-use Rattle.canon_value.specs.declared.fault.Fault.TheVariants as fault
+use Rattle.canon_context.specs.declared.fault.Fault.{Fault}
+use Rattle.canon_context.specs.declared.fault.Fault.TheVariants as fault
 use Rattle.canon_value.specs.declared.members.Member.{Member}
 use Rattle.canon_value.specs.declared.members.Members.{Members as Parts}
 use Rattle.canon_value.specs.declared.members.Members.TheVariants as members
 use Rattle.canon_value.specs.declared.val.Val.{Val}
 use Rattle.canon_value.specs.declared.val.Val.TheVariants as val
 use Rattle.canon_value.proofs.Cases.{Both, first_below, same_enum, same_variant}
-use Rattle.canon_value.proofs.Flats.{first_known, second_known}
+use Rattle.canon_plan.proofs.Flats.{first_known, second_known, bare_members, two_cases}
 use Rattle.canon_value.proofs.Steps.{own_failure}
+use Rattle.canon_model.specs.Text.{Encoding}
 
 -- of one member without a name
 pub one_at : (t : Table) (k : ℕ) (m : Member) → k < 1 → Knows t m.ty → m.is_named ≡ true → IsMember t (member [] (shape_of t m.ty) no_members) ([] ∷ []) (m.value.now ∷ []) k m
@@ -97,11 +98,6 @@ pub enum_names : (names : List Name) → case_names (bare_cases names) ≡ names
 enum_names [] = refl
 enum_names (name ∷ names) = ap (λ ns. name ∷ ns) (enum_names names)
 
-pub bare_members : (names : List Name) (i : ℕ) → case_members (bare_cases names) i ≡ no_members
-bare_members [] i = refl
-bare_members (name ∷ names) zero = refl
-bare_members (name ∷ names) (suc i) = bare_members names i
-
 -- ---- a payload as members
 
 -- of a case's type, if it has one
@@ -142,12 +138,6 @@ pub second_members : (t : Table) (first : Option Shape) (type : Option Interface
 second_members t None type cs = first_members t type cs
 second_members t (Some s) type cs = first_members t type cs
 
-pub two_cases : (a b : Option Shape) → case_count (case_for a (case_for b no_cases)) ≡ 2
-two_cases None None = refl
-two_cases None (Some s) = refl
-two_cases (Some s) None = refl
-two_cases (Some s) (Some r) = refl
-
 -- what the members of a payload are
 pub record IsSeen (t : Table) (type : Option InterfaceType) (p : Option (Box Val Global)) (ms : Parts) : Type 0 where
   pub known : AreKnown t ms
@@ -166,7 +156,7 @@ payload_seen t (Some type) (Some b) ms known (v, e, ev) =
 -- ---- how a value fails
 
 abbrev IsBlamed : Shape → Val → ℕ → Fault → Type 0
-IsBlamed s v place e = (fault_ending e ≡ refused) × Blames (λ how j. FailsAt how s v j) place e
+IsBlamed s v place e = (fault_ending e ≡ refused) × ((enc : Encoding) → Blames enc (λ how j. FailsAt how s v j) place e)
 
 -- its payload is there though its case has none, or the other way round
 pub missed : (t : Table) (k : VariantKind) (cs : Cases) (d : ℕ) (type : Option InterfaceType) (p : Option (Box Val Global)) (s : Shape) (v : Val) (place : ℕ) (e : Fault) → s ≡ variant k cs → place < 2 ^ 64
@@ -174,9 +164,9 @@ pub missed : (t : Table) (k : VariantKind) (cs : Cases) (d : ℕ) (type : Option
 missed t k cs d None None s v place e es few members of miss = absurd miss
 missed t k cs d (Some type) (Some b) s v place e es few members of miss = absurd miss
 missed t k cs d (Some type) None s v place e es few members of miss =
-    subst (λ (x : Fault). IsBlamed s v place x) (sym miss) (refl, own_failure payload_expected (variant k cs) s v place es few (inl (refl, (d, of, ap member_count members))))
+    subst (λ (x : Fault). IsBlamed s v place x) (sym miss) (refl, λ enc. own_failure payload_expected (variant k cs) s v place es few (inl (refl, (d, of, ap member_count members))))
 missed t k cs d None (Some b) s v place e es few members of miss =
-    subst (λ (x : Fault). IsBlamed s v place x) (sym miss) (refl, own_failure payload_not_expected (variant k cs) s v place es few (inl (refl, (d, b.value, of, ap member_count members))))
+    subst (λ (x : Fault). IsBlamed s v place x) (sym miss) (refl, λ enc. own_failure payload_not_expected (variant k cs) s v place es few (inl (refl, (d, b.value, of, ap member_count members))))
 
 -- ---- an enum
 
@@ -212,7 +202,7 @@ module _ (t : Table) (s : Shape) (v : Val) (info : VariantInfo) (ks : List (Stri
   pub enum_unknown : (place : ℕ) → place < 2 ^ 64 → position (λ k. bytes_eq xs (string_bytes k)) ks ≡ None → IsBlamed s v place (fault.UnknownCase place)
   enum_unknown place few e = (
     refl,
-    own_failure unknown_case (variant of_names (bare_cases spellings)) s v place shape few
+    λ enc. own_failure unknown_case (variant of_names (bare_cases spellings)) s v place shape few
         (inl (
           refl,
           (
@@ -239,7 +229,7 @@ module _ (t : Table) (s : Shape) (v : Val) (info : VariantInfo) (entries : List 
   pub variant_unknown : (place : ℕ) → place < 2 ^ 64 → position (λ k. bytes_eq xs (string_bytes k)) (keys_of entries) ≡ None → IsBlamed s v place (fault.UnknownCase place)
   variant_unknown place few e = (
     refl,
-    own_failure unknown_case (variant of_cases cs) s v place shape few
+    λ enc. own_failure unknown_case (variant of_cases cs) s v place shape few
         (inl (
           refl,
           (

@@ -10,46 +10,46 @@ use Rattle.canon_model.specs.Same.{Carried, CarriedTrees}
 use Rattle.canon_model.specs.Text.{Encoding}
 use Rattle.canon_model.specs.Tree.{Trees, no_trees, tree}
 use Rattle.canon_types.specs.Depth.{deepest, deepest_case}
-use Rattle.canon_value.specs.Built.{AreBuilt, cases_built, is_built}
+use Rattle.canon_plan.specs.Built.{AreBuilt, cases_built, is_built}
 use Rattle.canon_value.specs.Fails.{CaseFails, Failure, IsOtherCase, MemberFails}
-use Rattle.canon_value.specs.Quiet.{cases_have_block, has_block, have_block}
-use Rattle.canon_value.specs.Value.{CaseHas, HaveTrees, IsCase, IsFirst, all_places, case_names, places, result_case, result_payload, unboxed}
+use Rattle.canon_context.specs.Quiet.{cases_have_block, has_block, have_block}
+use Rattle.canon_value.specs.Value.{CaseHas, IsCase, IsFirst, all_places, case_names, places, result_case, result_payload, unboxed, HaveTreesAs}
 use Rattle.canon_value.specs.declared.val.Val.{Val, out-Val, the_lemmas}
 use Rattle.canon_value.specs.declared.val.Val.TheOpen.{Val-F as F}
 use Rattle.canon_value.specs.declared.val.Val.TheVariants as val
-use Rattle.canon_value.proofs.Lookups.{both}
+use Rattle.canon_plan.proofs.Lookups.{both}
 use Rattle.canon_value.proofs.Steps.{no_first, no_later}
 
 -- ---- the payload of a case, as members
 
-pub case_has : (cs : Cases) (i : ℕ) (vs : List Val) (ts : Trees) → i < case_count cs → HaveTrees (case_members cs i) vs ts → CaseHas cs i vs ts
-case_has no_cases i vs ts lt h = absurd (omega (arith, lt))
-case_has (bare name cs) zero vs ts lt h = h
-case_has (bare name cs) (suc i) vs ts lt h = case_has cs i vs ts (omega (arith, lt)) h
-case_has (payload name s cs) zero vs ts lt (v, others, t, rest, ev, et, has, (eo, er)) = (v, t, ev ∙ ap (λ xs. v ∷ xs) eo, et ∙ ap (λ us. tree t us) er, has)
-case_has (payload name s cs) (suc i) vs ts lt h = case_has cs i vs ts (omega (arith, lt)) h
+pub case_has : (lifted : Bool) (cs : Cases) (i : ℕ) (vs : List Val) (ts : Trees) → i < case_count cs → HaveTreesAs lifted (case_members cs i) vs ts → CaseHas lifted cs i vs ts
+case_has lifted no_cases i vs ts lt h = absurd (omega (arith, lt))
+case_has lifted (bare name cs) zero vs ts lt h = h
+case_has lifted (bare name cs) (suc i) vs ts lt h = case_has lifted cs i vs ts (omega (arith, lt)) h
+case_has lifted (payload name s cs) zero vs ts lt (v, others, t, rest, ev, et, has, (eo, er)) = (v, t, ev ∙ ap (λ xs. v ∷ xs) eo, et ∙ ap (λ us. tree t us) er, has)
+case_has lifted (payload name s cs) (suc i) vs ts lt h = case_has lifted cs i vs ts (omega (arith, lt)) h
 
-pub has_case : (cs : Cases) (i : ℕ) (vs : List Val) (ts : Trees) → CaseHas cs i vs ts → HaveTrees (case_members cs i) vs ts
-has_case no_cases i vs ts h = absurd h
-has_case (bare name cs) zero vs ts h = h
-has_case (bare name cs) (suc i) vs ts h = has_case cs i vs ts h
-has_case (payload name s cs) zero vs ts (v, t, ev, et, has) = (v, [], t, no_trees, ev, et, has, (refl, refl))
-has_case (payload name s cs) (suc i) vs ts h = has_case cs i vs ts h
+pub has_case : (lifted : Bool) (cs : Cases) (i : ℕ) (vs : List Val) (ts : Trees) → CaseHas lifted cs i vs ts → HaveTreesAs lifted (case_members cs i) vs ts
+has_case lifted no_cases i vs ts h = absurd h
+has_case lifted (bare name cs) zero vs ts h = h
+has_case lifted (bare name cs) (suc i) vs ts h = has_case lifted cs i vs ts h
+has_case lifted (payload name s cs) zero vs ts (v, t, ev, et, has) = (v, [], t, no_trees, ev, et, has, (refl, refl))
+has_case lifted (payload name s cs) (suc i) vs ts h = has_case lifted cs i vs ts h
 
-pub case_back : (cs : Cases) (i d : ℕ) (vs : List Val) (ts : Trees) → CaseHas cs i vs ts → payload_trees (case_tree d ts) ≡ ts
-case_back no_cases i d vs ts h = absurd h
-case_back (bare name cs) zero d vs ts (ev, et) = ap (λ us. payload_trees (case_tree d us)) et ∙ sym et
-case_back (bare name cs) (suc i) d vs ts h = case_back cs i d vs ts h
-case_back (payload name s cs) zero d vs ts (v, t, ev, et, has) = ap (λ us. payload_trees (case_tree d us)) et ∙ sym et
-case_back (payload name s cs) (suc i) d vs ts h = case_back cs i d vs ts h
+pub case_back : (lifted : Bool) (cs : Cases) (i d : ℕ) (vs : List Val) (ts : Trees) → CaseHas lifted cs i vs ts → payload_trees (case_tree d ts) ≡ ts
+case_back lifted no_cases i d vs ts h = absurd h
+case_back lifted (bare name cs) zero d vs ts (ev, et) = ap (λ us. payload_trees (case_tree d us)) et ∙ sym et
+case_back lifted (bare name cs) (suc i) d vs ts h = case_back lifted cs i d vs ts h
+case_back lifted (payload name s cs) zero d vs ts (v, t, ev, et, has) = ap (λ us. payload_trees (case_tree d us)) et ∙ sym et
+case_back lifted (payload name s cs) (suc i) d vs ts h = case_back lifted cs i d vs ts h
 
 -- its tree has a payload where the case has one
-pub case_is : (wide : Bool) (enc : Encoding) (cs : Cases) (i d : ℕ) (vs : List Val) (ts : Trees) → CaseHas cs i vs ts → CaseIs wide enc (case_members cs i) d (case_tree d ts)
-case_is wide enc no_cases i d vs ts h = absurd h
-case_is wide enc (bare name cs) zero d vs ts (ev, et) = ap (λ us. case_tree d us) et
-case_is wide enc (bare name cs) (suc i) d vs ts h = case_is wide enc cs i d vs ts h
-case_is wide enc (payload name s cs) zero d vs ts (v, t, ev, et, has) = (t, ap (λ us. case_tree d us) et)
-case_is wide enc (payload name s cs) (suc i) d vs ts h = case_is wide enc cs i d vs ts h
+pub case_is : (lifted wide : Bool) (enc : Encoding) (cs : Cases) (i d : ℕ) (vs : List Val) (ts : Trees) → CaseHas lifted cs i vs ts → CaseIs wide enc (case_members cs i) d (case_tree d ts)
+case_is lifted wide enc no_cases i d vs ts h = absurd h
+case_is lifted wide enc (bare name cs) zero d vs ts (ev, et) = ap (λ us. case_tree d us) et
+case_is lifted wide enc (bare name cs) (suc i) d vs ts h = case_is lifted wide enc cs i d vs ts h
+case_is lifted wide enc (payload name s cs) zero d vs ts (v, t, ev, et, has) = (t, ap (λ us. case_tree d us) et)
+case_is lifted wide enc (payload name s cs) (suc i) d vs ts h = case_is lifted wide enc cs i d vs ts h
 
 pub case_carried : (d : ℕ) (ts us : Trees) → CarriedTrees ts us → Carried (case_tree d ts) (case_tree d us)
 case_carried d no_trees us e = ap (λ xs. case_tree d xs) e
@@ -120,7 +120,7 @@ same_result p q e =
     let g : out-Val (val.Result q) ≡ F.Result q = search (rules, the_lemmas) in
     let h : F.Result p ≡ F.Result q = sym f ∙ (ap out-Val e ∙ g) in cc
 
-same_some : (n m : Name) (o : Option Name) → o ≡ Some n → o ≡ Some m → n ≡ m
+pub same_some : (n m : Name) (o : Option Name) → o ≡ Some n → o ≡ Some m → n ≡ m
 same_some n m o e f = cc
 
 -- a name has one first place

@@ -1,7 +1,6 @@
 -- A number by its digits, which have w bits each, the lowest first.
-use Rattle.std.proofs.Common.{◌≡◌, ◌≤◌, ◌<◌, ◌+◌, ◌-◌, ◌*◌, ◌/◌, ◌%◌, ◌^◌, ◌∙◌, ◌⊎◌, List, ap, arith, false, inl, inr, length, refl, slice_index, subst, suc, sym, zero, ℕ, ⊎_elim}
+use Rattle.std.proofs.Common.{◌≡◌, ◌≤◌, ◌<◌, ◌+◌, ◌-◌, ◌*◌, ◌/◌, ◌%◌, ◌^◌, ◌∙◌, ◌⊎◌, List, ap, arith, false, inl, inr, length, refl, slice_index, subst, suc, sym, zero, ℕ, ⊎_elim, length-set, set}
 use Rattle.std.specs.Int.{bit_at}
-use Rattle.std.proofs.Common.{length-set, set}
 use Rattle.std.proofs.lemmas.List.{get_or-set_other, get_or-set_same}
 use Rattle.canon_value.specs.Flags.{SetsBit}
 use Rattle.std.proofs.Math.Nat.{div-add-mod, mod-lt, mul-add, mul_assoc, pow-succ'}

@@ -15,8 +15,8 @@ use Rattle.canon_model.specs.Tree.{bits}
 use Rattle.canon_value.specs.Flags.{AreFlags, AreUnpaid}
 use Rattle.canon_value.specs.Lifts.{LiftsTo}
 use Rattle.canon_value.specs.Loads.{Exactly, IsLoaded, LiftBlames, ToldAt}
-use Rattle.canon_value.specs.declared.fault.Fault.{Fault}
-use Rattle.canon_value.specs.declared.fault.Fault.TheVariants as fault
+use Rattle.canon_context.specs.declared.fault.Fault.{Fault}
+use Rattle.canon_context.specs.declared.fault.Fault.TheVariants as fault
 use Rattle.canon_value.specs.declared.val.Val.{Val}
 
 module _ (enc : Encoding) (m : Memory) (names : List Name) (before : ℕ) where

@@ -22,7 +22,7 @@ use Rattle.canon_types.specs.Valid.{NamesDiffer}
 use Rattle.canon_types.specs.declared.types.InterfaceType.TheVariants as ty
 use Rattle.canon_types.specs.declared.types.TypeFlags.{TypeFlags}
 use Rattle.canon_value.specs.Flags.{AreSet, flag_names, names_in_flags}
-use Rattle.canon_value.specs.Value.{AreMarked, Occurs}
+use Rattle.canon_value.specs.Value.{AreMarked, Occurs, chosen}
 use Rattle.canon_value.proofs.FlagBits.{Gains}
 
 -- ---- what occurs
@@ -119,12 +119,6 @@ pub marked_all : (names set : List Name) (n : ℕ) → IsMarked names set n → 
 marked_all names set n h all = (bits_below (length names) n h.none, marked_bits names set n h.there, all)
 
 -- ---- the names that are set, in the order of the type
-
-abbrev pub chosen : List Name → List Bool → List Name
-chosen [] bs = []
-chosen (name ∷ names) [] = []
-chosen (name ∷ names) (true ∷ bs) = name ∷ chosen names bs
-chosen (name ∷ names) (false ∷ bs) = chosen names bs
 
 chosen_among : (x : Name) (names : List Name) (bs : List Bool) → Occurs x (chosen names bs) → Occurs x names
 chosen_among x [] bs h = h

@@ -1,25 +1,22 @@
 -- Flags that are read one after another, and charged.
-use Rattle.std.proofs.Common.{◌≡◌, ◌≤◌, ◌<◌, ◌+◌, ◌-◌, ◌*◌, ◌/◌, ◌%◌, ◌^◌, ◌∙◌, ◌++◌, ◌==◌, Bool, List, Vec, String, [], ◌∷◌, ap, ap₂, append_assoc, arith, drop, drop-cons, false, get_or, inl, inr, length, map, refl, slice_index, string_bytes, subst, suc, sym, take, true, zero, ℕ, ⊎_elim}
+use Rattle.std.proofs.Common.{◌≡◌, ◌≤◌, ◌<◌, ◌+◌, ◌-◌, ◌/◌, ◌%◌, ◌^◌, ◌∙◌, ◌++◌, ◌==◌, Bool, List, Vec, String, [], ◌∷◌, ap, ap₂, append_assoc, arith, drop, drop-cons, false, get_or, inr, length, refl, subst, suc, sym, true, ℕ, IfErr, IsErr, IsErrAnd, Result}
 use Rattle.std.specs.Int.{bit_at}
 use Rattle.std.specs.declared.alloc.Global.{Global}
-use Rattle.std.proofs.Common.{IfErr, IsErr, IsErrAnd, Result}
 use Rattle.canon_value.proofs.Loading.{handed_on}
 use Rattle.std.proofs.Math.Seq.{drop-length}
 use Rattle.std.proofs.lemmas.List.{append-nil}
 use Rattle.canon_model.specs.Cost.{set_length}
 use Rattle.canon_model.specs.Rep.{bits_of}
 use Rattle.canon_model.specs.Shape.{Name, Shape, flags}
-use Rattle.canon_model.specs.Tree.{bits}
 use Rattle.canon_types.specs.Keeps.{names_of}
-use Rattle.canon_value.specs.Flags.{AreFlags, AreUnpaid, HasRoom, digit_of, marked_number, names_in_flags, width_of}
-use Rattle.canon_value.specs.Value.{HasTree}
-use Rattle.canon_value.specs.declared.fault.Fault.{Fault}
-use Rattle.canon_value.specs.declared.fault.Fault.TheVariants as fault
+use Rattle.canon_value.specs.Flags.{AreFlags, AreUnpaid, HasRoom, digit_of, marked_number, width_of}
+use Rattle.canon_value.specs.Value.{chosen}
+use Rattle.canon_context.specs.declared.fault.Fault.{Fault}
+use Rattle.canon_context.specs.declared.fault.Fault.TheVariants as fault
 use Rattle.canon_value.specs.declared.flags.Marks.{Marks}
-use Rattle.canon_value.specs.declared.val.Val.{Val}
 use Rattle.canon_value.specs.declared.val.Val.TheVariants as val
 use Rattle.canon_value.proofs.FlagDigits.{bit_read}
-use Rattle.canon_value.proofs.FlagNames.{Differ, bits_count, bits_from, chosen, chosen_known, chosen_marked, chosen_set, chosen_unset}
+use Rattle.canon_value.proofs.FlagNames.{Differ, bits_count, bits_from, chosen_known, chosen_marked, chosen_set, chosen_unset}
 
 -- the bits of these names
 abbrev pub bits_in : Marks → List Name → List Bool
@@ -71,7 +68,7 @@ read_end ms names before now set s es differ h =
     let all : names_of set.items ≡ chosen names bs = sym (append-nil _) ∙ (ap (λ (xs : List Name). names_of set.items ++ chosen xs (drop (length names) bs)) (sym none) ∙ h.so_far) in
     let paid : before ≡ now + set_length names bs = omega (arith, h.paid, ap (λ (xs : List Name). set_length xs (drop (length names) bs)) none) in
     subst (λ (x : Shape). AreFlags x (marked_number ms (length names)) before now (val.Flags set)) (sym es)
-    ((chosen names bs, bs, (set, refl, sym all), chosen_known names bs, refl, chosen_marked names bs differ (bits_count (length names) (marked_number ms (length names)))), paid)
+    ((chosen names bs, bs, (set, refl, sym all), chosen_known names bs, refl, chosen_marked names bs differ (bits_count (length names) (marked_number ms (length names))), λ _. refl), paid)
 
 -- ---- of the names of a type
 

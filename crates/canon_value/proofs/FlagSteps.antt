@@ -1,17 +1,16 @@
 -- Flags as values: stored and lowered, or refused for a name.
-use Rattle.std.proofs.Common.{◌≡◌, ◌≤◌, ◌<◌, ◌+◌, ◌/◌, ◌%◌, ◌^◌, ◌∙◌, ◌++◌, ◌∷◌, Err, List, None, Ok, String, Vec, [], ap, arith, false, get_or, length, refl, slice_index, subst, sym, true, ℕ}
+use Rattle.std.proofs.Common.{◌≡◌, ◌≤◌, ◌<◌, ◌+◌, ◌/◌, ◌%◌, ◌^◌, ◌∙◌, ◌++◌, ◌∷◌, Err, List, None, Ok, String, Vec, [], ap, arith, false, get_or, length, refl, slice_index, subst, sym, ℕ}
 use Rattle.std.specs.Int.{div_ceil}
 use Rattle.std.specs.declared.alloc.Global.{Global}
 use Rattle.std.proofs.lemmas.List.{length-map}
 use Rattle.canon_abi.specs.Abi.{HasLayout}
-use Rattle.canon_memory.specs.Guest.{Moment, moment}
+use Rattle.canon_memory.specs.Guest.{Moment}
 use Rattle.canon_memory.specs.Memory.{written_over}
 use Rattle.canon_memory.specs.Realloc.{block}
 use Rattle.canon_lowering.proofs.AimedAt.{flags_stored}
 use Rattle.canon_lowering.proofs.AimedWords.{flags_words}
 use Rattle.canon_lowering.proofs.Attempts.{attempt_refused}
 use Rattle.canon_lowering.proofs.Lowerings.{lowering_write, requested_later}
-use Rattle.canon_lowering.specs.Attempt.{StoresValue}
 use Rattle.canon_lowering.specs.Lowering.{Lowering, done, refused}
 use Rattle.canon_lowering.specs.Steps.{Writes}
 use Rattle.canon_lowering.specs.Storing.{narrow}
@@ -22,18 +21,19 @@ use Rattle.canon_types.specs.Keeps.{flags_type, names_of}
 use Rattle.canon_types.specs.Table.{IsDefined, Table, shape_of}
 use Rattle.canon_types.specs.declared.types.InterfaceType.TheVariants as ty
 use Rattle.canon_types.specs.declared.types.TypeFlags.{TypeFlags}
-use Rattle.canon_value.specs.Core.{Parts, encoding_by, guest_of, moment_of, types_of}
+use Rattle.canon_context.specs.Core.{Parts, encoding_by, guest_of, moment_of, types_of}
 use Rattle.canon_value.specs.Flags.{AreSetInWords, SetsBit, SomeUnknown, flag_names}
 use Rattle.canon_value.specs.Stores.{StoresTo}
-use Rattle.canon_value.specs.Value.{HasTree, Occurs, cap}
+use Rattle.canon_value.specs.Value.{HasTree, cap}
 use Rattle.canon_value.specs.Words.{LowersTo, WordsStay}
-use Rattle.canon_value.specs.declared.fault.Fault.TheVariants as fault
+use Rattle.canon_context.specs.declared.fault.Fault.TheVariants as fault
 use Rattle.canon_value.specs.declared.lower.Spot.{Spot}
 use Rattle.canon_value.specs.declared.val.Val.TheVariants as val
 use Rattle.canon_value.proofs.FlagNames.{Differ, flags_are, marked_all, names_are}
 use Rattle.canon_value.proofs.FlagWriting.{AreStored, stored_begin, stored_more}
-use Rattle.canon_value.proofs.MapsAndFlags.{places_flags}
-use Rattle.canon_value.proofs.Moves.{GuestLaws, moves_none, moves_written}
+use Rattle.canon_value.proofs.MapsAndFlags.{places_flags, any_order}
+use Rattle.canon_context.proofs.Moves.{GuestLaws, moves_none, moves_written}
+use Rattle.canon_value.proofs.Sizes.{flags_small}
 use Rattle.canon_value.proofs.StoreSteps.{written_whole}
 
 -- how many bytes flags take
@@ -71,8 +71,8 @@ module _ {T G : Type 0} (L : GuestLaws G) (options : ℕ) (a : Parts T G) (names
         let (least, marked, known) = marked_all names (names_of set.items) (num (narrow m) at (flags_size (length names))) there.marked there.known in
         subst (λ (x : Shape). StoresTo L.seen L.moves options a (record a { memory = m }) x at (val.Flags set) place (Ok next)) (sym is) (record {
           storing = flags_stored false (L.seen a.guest) a.memory m (encoding_by a options) at (HasTree (flags names) (val.Flags set)) small names (omega (arith, room, many)) there.writes least
-              (names_of set.items, _, (set, refl, refl), known, refl, marked);
-          counted = omega (arith, counted, places_flags (names_of set.items) (val.Flags set) (set, refl, refl));
+              (names_of set.items, _, (set, refl, refl), known, refl, marked, λ h. any_order h);
+          counted = (omega (arith, counted, places_flags (names_of set.items) (val.Flags set) (set, refl, refl)), flags_small (encoding_by a options) names (val.Flags set));
           moved = moves_written L (guest_of a) a.guest a.memory m done h.writes.same_length (moves_none L (guest_of a) done);
           same = refl;
           quiet = λ none. (refl, tt);
@@ -103,10 +103,10 @@ module _ {T G : Type 0} (L : GuestLaws G) (options : ℕ) (a : Parts T G) (names
     pub flags_lower : (to : Spot) → AreSetInWords names (names_of set.items) dst2 from.word → to.word ≡ from.word + flag_words (length names) → to.place ≡ cap (place + 1) → LowersTo L.seen L.moves options a a dst dst2 from (Ok to) s (val.Flags set)
     unfolding flat
     flags_lower to (below, (least, marked, known)) ew ep = subst (λ (x : Shape). LowersTo L.seen L.moves options a a dst dst2 from (Ok to) x (val.Flags set)) (sym is) (record {
-      lowered = flags_words false (moment_of L.seen a) (encoding_by a options) dst2 from.word (HasTree (flags names) (val.Flags set)) small names below least (names_of set.items, _, (set, refl, refl), known, refl, marked);
+      lowered = flags_words false (moment_of L.seen a) (encoding_by a options) dst2 from.word (HasTree (flags names) (val.Flags set)) small names below least (names_of set.items, _, (set, refl, refl), known, refl, marked, λ h. any_order h);
       stays = stays;
       passed = ew;
-      counted = omega (arith, ep, is_place, places_flags (names_of set.items) (val.Flags set) (set, refl, refl));
+      counted = (omega (arith, ep, is_place, places_flags (names_of set.items) (val.Flags set) (set, refl, refl)), flags_small (encoding_by a options) names (val.Flags set));
       moved = moves_none L (guest_of a) done;
       same = refl;
       quiet = λ none. (refl, tt);

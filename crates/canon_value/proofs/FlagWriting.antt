@@ -1,9 +1,8 @@
 -- Flags that are written one after another: into bytes of memory, and into words.
-use Rattle.std.proofs.Common.{◌≡◌, ◌≤◌, ◌<◌, ◌+◌, ◌-◌, ◌*◌, ◌/◌, ◌%◌, ◌^◌, ◌∙◌, ◌++◌, All, List, None, Some, String, Vec, [], ◌∷◌, ap, arith, false, get_or, inl, inr, length, map, refl, slice_index, string_bytes, subst, sym, true, ℕ, ⊎_elim}
+use Rattle.std.proofs.Common.{◌≡◌, ◌≤◌, ◌<◌, ◌+◌, ◌-◌, ◌*◌, ◌/◌, ◌%◌, ◌^◌, ◌∙◌, ◌++◌, All, List, None, Some, String, Vec, [], ◌∷◌, ap, arith, false, get_or, inl, inr, length, map, refl, slice_index, string_bytes, subst, sym, true, ℕ, ⊎_elim, take}
 use Rattle.std.specs.Int.{bit_at}
 use Rattle.std.specs.List.{Any}
 use Rattle.std.specs.declared.alloc.Global.{Global}
-use Rattle.std.proofs.Common.{take}
 use Rattle.std.proofs.Math.Nat.{mod-eq_of_lt}
 use Rattle.std.proofs.Math.Seq.{take-length}
 use Rattle.std.proofs.lemmas.List.{get_or-map, length-map, map_more}

@@ -1,5 +1,5 @@
 -- A case in words: its faults, its charges and its tree, by its payload as no member or one.
-use Rattle.std.proofs.Common.{◌≡◌, ◌≤◌, ◌<◌, ◌+◌, ◌*◌, ◌-◌, ◌∙◌, Err, IfErr, IfOk, List, Ok, Result, ap, arith, false, inl, inr, length, refl, subst, suc, sym, zero, ℕ}
+use Rattle.std.proofs.Common.{◌≡◌, ◌≤◌, ◌<◌, ◌+◌, ◌*◌, ◌-◌, ◌∙◌, Err, IfErr, IfOk, List, Ok, Result, ap, arith, false, inl, inr, length, refl, subst, suc, sym, true, zero, ℕ}
 use Rattle.canon_lowering.specs.Copies.{case_members, case_tree}
 use Rattle.canon_model.proofs.Reached.{reach_is_the_cost}
 use Rattle.canon_model.specs.Cost.{names_length, val_cost}
@@ -12,15 +12,16 @@ use Rattle.canon_model.specs.Text.{Encoding}
 use Rattle.canon_model.specs.Tree.{Trees}
 use Rattle.canon_types.specs.Depth.{deepest, depth, variant_cases}
 use Rattle.canon_types.specs.Table.{Table}
-use Rattle.canon_value.specs.Built.{AreBuilt, IsBuilt}
+use Rattle.canon_plan.specs.Built.{AreBuilt, IsBuilt}
 use Rattle.std.specs.Prelude.{slice_index}
-use Rattle.canon_value.specs.CasePlan.{IsCaseSlots, case_name_cost, name_charge}
+use Rattle.canon_plan.specs.CasePlan.{IsCaseSlots, case_name_cost, name_charge}
 use Rattle.canon_value.specs.Lifts.{AreTaken, LiftsTo}
 use Rattle.canon_value.specs.Loads.{LiftBlames, ToldAt}
-use Rattle.canon_value.specs.Plan.{IsCaseRebuilt, IsVariant, shapes_of}
-use Rattle.canon_value.specs.declared.case_plan.CaseSlots.{CaseSlots}
-use Rattle.canon_value.specs.declared.fault.Fault.{Fault}
-use Rattle.canon_value.specs.declared.fault.Fault.TheVariants as fault
+use Rattle.canon_value.specs.Plan.{IsCaseRebuilt}
+use Rattle.canon_plan.specs.Plan.{IsVariant, shapes_of}
+use Rattle.canon_plan.specs.declared.case_plan.CaseSlots.{CaseSlots}
+use Rattle.canon_context.specs.declared.fault.Fault.{Fault}
+use Rattle.canon_context.specs.declared.fault.Fault.TheVariants as fault
 use Rattle.canon_value.specs.declared.val.Val.{Val}
 use Rattle.canon_value.proofs.LoadCases.{payload_nameless, variant_built, variant_charges, variant_depth}
 use Rattle.canon_value.proofs.Loading.{told_by}
@@ -139,7 +140,7 @@ case_weighs_words enc m ws s i tag is read built t c h =
       shallow = variant_depth s tag is;
       built = variant_built s tag is built;
       room = variant_words s tag is;
-      count = λ to mid late vs (ts, reps, have, spent, moved). have_count (case_members (variant_cases s) tag) vs ts have;
+      count = λ to mid late vs (ts, reps, have, spent, moved). have_count true (case_members (variant_cases s) tag) vs ts have;
       nameless = λ to before mid late vs charged lifted. flat_name_unpaid enc m ws s i tag is read h.there to before mid late vs charged lifted;
       lifted = λ to before mid late end after vs charged lifted. case_lifted enc m ws s i tag is read h.there to before mid late vs charged lifted end after;
     })

@@ -1,5 +1,5 @@
 -- Members in words, as a value of each shape has them.
-use Rattle.std.proofs.Common.{◌≡◌, ◌<◌, ◌+◌, ◌*◌, Err, IfErr, IfOk, List, Ok, Result, Vec, ap, arith, false, inl, inr, length, refl, subst, suc, sym, zero, ℕ, suc-mul}
+use Rattle.std.proofs.Common.{◌≡◌, ◌<◌, ◌+◌, ◌*◌, Err, IfErr, IfOk, List, Ok, Result, Vec, ap, arith, false, inl, inr, length, refl, subst, suc, sym, true, zero, ℕ, suc-mul}
 use Rattle.std.specs.declared.alloc.Global.{Global}
 use Rattle.canon_lowering.proofs.Copying.{copies_flat, copies_in_words}
 use Rattle.canon_lowering.specs.Copies.{copies}
@@ -13,15 +13,15 @@ use Rattle.canon_types.specs.Table.{Table, members_of}
 use Rattle.canon_types.specs.declared.types.InterfaceType.{InterfaceType}
 use Rattle.canon_value.specs.Lifts.{ArePartsLifted, AreTaken, LiftsTo, MembersLiftTo, PartsLiftTo}
 use Rattle.canon_value.specs.Loads.{LiftBlames, ToldAt}
-use Rattle.canon_value.specs.Plan.{IsRebuilt, Unnamed, parts_of, whole}
-use Rattle.canon_value.specs.Viewed.{LiesAs}
-use Rattle.canon_value.specs.declared.fault.Fault.{Fault}
-use Rattle.canon_value.specs.declared.fault.Fault.TheVariants as fault
+use Rattle.canon_value.specs.Plan.{IsRebuilt, parts_of, whole}
+use Rattle.canon_plan.specs.Plan.{Unnamed, LiesAs}
+use Rattle.canon_context.specs.declared.fault.Fault.{Fault}
+use Rattle.canon_context.specs.declared.fault.Fault.TheVariants as fault
 use Rattle.canon_value.specs.declared.val.Val.{Val}
 use Rattle.canon_value.proofs.Loading.{told_by}
 use Rattle.canon_value.proofs.LoadingParts.{copies_cost, copies_nameless}
-use Rattle.canon_value.proofs.Planning.{no_length}
-use Rattle.canon_value.proofs.Steps.{copies_count}
+use Rattle.canon_plan.proofs.TypeKinds.{no_length}
+use Rattle.canon_plan.proofs.Lookups.{copies_count}
 use Rattle.canon_value.proofs.Values.{have_count}
 
 module _ (enc : Encoding) (m : Memory) (ws : List ℕ) where
@@ -77,7 +77,7 @@ module _ (enc : Encoding) (m : Memory) (ws : List ℕ) where
 
   module _ (s : Shape) (from to before after : ℕ) where
     pub lifted_count : (vs : List Val) → ArePartsLifted enc m ws from to before after s vs → length vs ≡ member_count (parts_of s (length vs))
-    lifted_count vs (ts, rep, have, spent, moved) = have_count (parts_of s (length vs)) vs ts have
+    lifted_count vs (ts, rep, have, spent, moved) = have_count true (parts_of s (length vs)) vs ts have
 
     -- what is rebuilt of them
     pub whole_lifted : (vs : List Val) (r : Result Val Fault) → ArePartsLifted enc m ws from to before after s vs → IfOk r (IsRebuilt s vs) → IfErr r (λ e. e ≡ fault.OutOfMemory) → LiftsTo enc m ws from to before after s r

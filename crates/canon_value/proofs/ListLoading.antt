@@ -1,5 +1,5 @@
 -- The elements of a list or a map, loaded as members in a row.
-use Rattle.std.proofs.Common.{◌≡◌, ◌≤◌, ◌<◌, ◌+◌, ◌*◌, ◌/◌, ◌%◌, ◌∙◌, List, ap, ap₂, arith, eq-eqb, false, inl, inr, le-leb, length, max, refl, subst, suc, suc-mul, sym, zero, ℕ}
+use Rattle.std.proofs.Common.{◌≡◌, ◌≤◌, ◌<◌, ◌+◌, ◌*◌, ◌/◌, ◌%◌, ◌∙◌, List, ap, arith, eq-eqb, false, inl, inr, le-leb, length, refl, subst, suc, suc-mul, sym, true, zero, ℕ}
 use Rattle.std.proofs.lemmas.Bool.{cond-true}
 use Rattle.std.proofs.Math.Nat.{zero-mod}
 use Rattle.std.proofs.lemmas.Nat.Gcd.{dvd_of_mod-eq-zero}
@@ -13,26 +13,25 @@ use Rattle.canon_model.specs.Cost.{cost, pair_cost, val_cost}
 use Rattle.canon_model.specs.Layout.{align, begins, ends, flat, members_align, size}
 use Rattle.canon_model.specs.Memory.{Inside, Memory, length_at, pointer_at, ptr}
 use Rattle.canon_model.specs.Reach.{At, FlatFault, Kind, MemberFault, SomeElement, StoredFault, address, flat_reach, members_reach, pair_parts_reach, reach_cost, sum_at, word}
-use Rattle.canon_model.specs.Rep.{IsList, Stored}
 use Rattle.canon_model.specs.Shape.{ListKind, Shape, list, map_of, of_items, of_pairs}
 use Rattle.canon_model.specs.Text.{Encoding}
-use Rattle.canon_model.specs.Tree.{Trees, tree_count}
 use Rattle.canon_types.specs.Depth.{element_shape}
 use Rattle.canon_types.specs.Table.{Table, shape_of}
 use Rattle.canon_types.specs.declared.types.InterfaceType.TheVariants as ty
-use Rattle.canon_value.specs.Elements.{IsKnown, ItemsFault, element_cost, element_reach, first_of, items_reach, list_shape, row_of, second_of}
+use Rattle.canon_plan.specs.Element.{IsKnown, ItemsFault, element_cost, element_reach, first_of, items_reach, list_shape, row_of, second_of}
 use Rattle.canon_value.specs.Lifts.{ArePartsLifted}
 use Rattle.canon_value.specs.Loads.{AreCharged, Exactly, IsPlace, LiftBlames, ToldAt, charged_reach, place_of}
-use Rattle.canon_value.specs.Plan.{ArePartsLoaded, IsListLoaded, parts_of, whole}
-use Rattle.canon_value.specs.Value.{HaveTrees}
-use Rattle.canon_value.specs.declared.elements.Element.{Element}
-use Rattle.canon_value.specs.declared.elements.Element.TheVariants as element
-use Rattle.canon_value.specs.declared.fault.At.{At as Place}
-use Rattle.canon_value.specs.declared.fault.Fault.{Fault}
+use Rattle.canon_value.specs.Plan.{ArePartsLoaded, IsListLoaded}
+use Rattle.canon_value.specs.Value.{AreLiftedFrom}
+use Rattle.canon_plan.specs.declared.element.Element.{Element}
+use Rattle.canon_plan.specs.declared.element.Element.TheVariants as element
+use Rattle.canon_context.specs.declared.fault.At.{At as Place}
+use Rattle.canon_context.specs.declared.fault.Fault.{Fault}
 use Rattle.canon_value.specs.declared.val.Val.{Val}
 use Rattle.canon_value.proofs.Loading.{aligned_part, blamed_by, list_told}
 use Rattle.canon_value.proofs.LoadingParts.{copies_cost, copies_nameless, row_aligned, row_blame, row_low}
-use Rattle.canon_value.proofs.PairRows.{count_pairs, pairs_cost, pairs_nameless}
+use Rattle.canon_plan.proofs.Pairs.{count_pairs}
+use Rattle.canon_value.proofs.PairRows.{pairs_cost, pairs_nameless}
 use Rattle.canon_value.proofs.Values.{have_count}
 use Rattle.canon_value.proofs.Walks.{copies_have}
 
@@ -97,10 +96,10 @@ module _ (enc : Encoding) (bytes : List ℕ) where
     aligned = row_aligned enc bytes n p s;
     loaded = λ aligned inside before mid after vs charged (ts, stored, have, spent).
         let (each, count) = copies_stored (Inside (narrow bytes)) false enc (narrow bytes) n 0 s p p ts (dvd_of_mod-eq-zero (align false s) (zero-mod _)) (omega arith) stored in
-        let same : length vs ≡ n = (copies_have n s vs ts have).0 in (
+        let same : length vs ≡ n = (copies_have true n s vs ts have).0 in (
           ts,
           record { trees = ts; is = refl; count = count; aligned = aligned; inside = inside; each = each },
-          subst (λ j. HaveTrees (copies j s) vs ts) (sym same) have,
+          subst (λ j. AreLiftedFrom (copies j s) vs ts) (sym same) have,
           omega (arith, charged, spent, copies_nameless n s, copies_cost n s ts count, ap (λ j. j * val_cost) count),
         );
   }
@@ -116,10 +115,10 @@ module _ (enc : Encoding) (bytes : List ℕ) where
     aligned = λ e. aligned_part p (members_align false (pairs_of n s u)) (align false (pair_shape s u)) (members_alignment false (pairs_of n s u)) (alignment false (pair_shape s u)) (pairs_align n s u) e;
     loaded = λ aligned inside before mid after vs charged (ts, stored, have, spent).
         let (each, count) = pairs_stored (Inside (narrow bytes)) false enc (narrow bytes) s u n 0 0 p p ts (at_start false s u) (omega arith) (λ c l q. omega (arith, q, inside)) stored in
-        let same : length vs / 2 ≡ n = omega (arith, have_count (pairs_of n s u) vs ts have, count_pairs n s u) in (
+        let same : length vs / 2 ≡ n = omega (arith, have_count true (pairs_of n s u) vs ts have, count_pairs n s u) in (
           ts,
           record { trees = paired ts; is = refl; count = paired_count n ts count; aligned = aligned; inside = inside; each = each },
-          subst (λ j. HaveTrees (pairs_of j s u) vs ts) (sym same) have,
+          subst (λ j. AreLiftedFrom (pairs_of j s u) vs ts) (sym same) have,
           omega (arith, charged, spent, pairs_nameless n s u, pairs_cost n s u ts count, ap (λ j. j * pair_cost) (paired_count n ts count)),
         );
   }

@@ -13,13 +13,14 @@ use Rattle.canon_model.specs.Tree.{Tree, Trees, items, tree_count, trees_of}
 use Rattle.canon_types.specs.Depth.{deepest, depth, element_shape}
 use Rattle.canon_types.specs.Table.{Table, shape_of}
 use Rattle.canon_types.specs.declared.types.InterfaceType.TheVariants as ty
-use Rattle.canon_value.specs.Built.{AreBuilt, IsBuilt}
-use Rattle.canon_value.specs.Elements.{IsKnown, IsMap, by_turns, element_in, first_of, list_length, list_shape, list_value, row_of, second_of, values_listed}
-use Rattle.canon_value.specs.Fails.{Failure, FailsAt, MemberFails, overflow}
-use Rattle.canon_value.specs.Quiet.{has_block}
+use Rattle.canon_plan.specs.Built.{AreBuilt, IsBuilt}
+use Rattle.canon_plan.specs.Element.{IsKnown, IsMap, first_of, list_shape, row_of, second_of}
+use Rattle.canon_value.specs.Elements.{by_turns, element_in, list_length, list_value, values_listed}
+use Rattle.canon_value.specs.Fails.{Failure, Fails, FailsAt, MemberFails, overflow}
+use Rattle.canon_context.specs.Quiet.{has_block}
 use Rattle.canon_value.specs.Value.{EachHas, HasTree, PairHas, all_places, member_names, no_names, places}
-use Rattle.canon_value.specs.declared.elements.Element.{Element}
-use Rattle.canon_value.specs.declared.elements.Element.TheVariants as element
+use Rattle.canon_plan.specs.declared.element.Element.{Element}
+use Rattle.canon_plan.specs.declared.element.Element.TheVariants as element
 use Rattle.canon_value.specs.declared.elements.Elements.{Elements}
 use Rattle.canon_value.specs.declared.elements.Elements.TheVariants as elements
 use Rattle.canon_value.specs.declared.val.Val.{Val}
@@ -27,6 +28,7 @@ use Rattle.canon_value.specs.declared.val.Val.TheVariants as val
 use Rattle.canon_value.proofs.Contents.{places_list}
 use Rattle.canon_value.proofs.MapsAndFlags.{one_pairs}
 use Rattle.canon_value.proofs.PairRows.{have_pairs, pairs_built, pairs_deepest, pairs_fail, pairs_have, pairs_named, places_map}
+use Rattle.canon_value.proofs.Sizes.{items_fit, items_inner, pairs_fit, pairs_inner}
 use Rattle.canon_value.proofs.StoreSteps.{Named}
 use Rattle.canon_value.proofs.Viewing.{block_size}
 use Rattle.canon_value.proofs.Walks.{copies_built, copies_deepest, copies_fail, copies_names, row_back, row_is}
@@ -44,6 +46,8 @@ pub record IsListOf (whole : Shape) (v : Val) (n : ℕ) (ms : Members) (vs : Lis
   pub back : (t : Tree) → HasTree (list kind part) v t → Named ms (no_names vs) vs (ungroup t) × (trees_of t ≡ group (ungroup t))
   pub fails : (how : Failure) (j : ℕ) → MemberFails how ms vs j → FailsAt how (list kind part) v (1 + j)
   pub overflows : (2 ^ 32 ≤ n) ⊎ (2 ^ 32 ≤ n * size false part) → FailsAt (overflow n) (list kind part) v 0
+  pub inner : (how : Failure) (j : ℕ) → ¬ Fails how (list kind part) v → FailsAt how (list kind part) v j → (i : ℕ) × MemberFails how ms vs i
+  pub fits : (m : ℕ) → n < 2 ^ 32 → n * size false part < 2 ^ 32 → ¬ Fails (overflow m) (list kind part) v
   pub counted : places v ≡ 1 + all_places vs
   pub named : no_names vs ≡ member_names ms
 
@@ -60,6 +64,8 @@ items_listed s xs = record {
   back = λ t has. (row_back (length xs.items) s xs refl t has, refl);
   fails = λ how j f. inr (xs.items, j, (xs, refl, refl), refl, copies_fail how (length xs.items) s xs.items j f);
   overflows = λ many. inl (refl, (xs.items, (xs, refl, refl), refl, many));
+  inner = items_inner s xs;
+  fits = items_fit s xs;
   counted = places_list xs;
   named = copies_names (length xs.items) s xs.items refl;
 }
@@ -73,13 +79,15 @@ pairs_listed s u xs = record {
   group = λ ts. paired ts;
   ungroup = λ t. unpaired (trees_of t);
   row = λ enc. pairs_row false enc s u (length xs.items);
-  is = λ ts (named, have). let (each, count) = pairs_have s u xs.items ts have in ((refl, (xs.items, paired ts, (xs, refl, refl), refl, each)), count);
+  is = λ ts (named, have). let (each, count) = pairs_have false s u xs.items ts have in ((refl, (xs.items, paired ts, (xs, refl, refl), refl, each)), count);
   back = λ t (two, (ps, ts, p, et, each)).
       let same : ps ≡ xs.items = one_pairs xs.items ps (val.Map xs) (xs, refl, refl) p in
-      let (have, e) = have_pairs s u xs.items ts (subst (λ qs. EachHas (λ q x. PairHas (pair_shape s u) q x) qs ts) same each) in
+      let (have, e) = have_pairs s u xs.items ts (subst (λ qs. EachHas (λ q x. PairHas false (pair_shape s u) q x) qs ts) same each) in
       subst (λ x. Named (pairs_of (length xs.items) s u) (no_names (by_turns xs.items)) (by_turns xs.items) (unpaired (trees_of x)) × (trees_of x ≡ paired (unpaired (trees_of x)))) (sym et) ((pairs_named s u xs.items, have), e);
   fails = λ how j f. inr (xs.items, j, (xs, refl, refl), refl, pairs_fail how s u xs.items j f);
   overflows = λ many. inl (refl, (xs.items, (xs, refl, refl), refl, many));
+  inner = pairs_inner s u xs;
+  fits = pairs_fit (pair_shape s u) xs;
   counted = places_map xs;
   named = pairs_named s u xs.items;
 }

@@ -1,5 +1,5 @@
 -- A case in memory: its faults, its charges and its tree, by its payload as no member or one.
-use Rattle.std.proofs.Common.{◌≡◌, ◌≤◌, ◌<◌, ◌+◌, ◌*◌, ◌%◌, ◌-◌, ◌∙◌, List, None, Option, Some, ap, arith, false, inl, inr, length, refl, subst, subst₂, suc, sym, zero, ℕ}
+use Rattle.std.proofs.Common.{◌≡◌, ◌≤◌, ◌<◌, ◌+◌, ◌*◌, ◌%◌, ◌-◌, ◌∙◌, List, None, Option, Some, ap, arith, false, inl, inr, length, refl, subst, subst₂, suc, sym, true, zero, ℕ}
 use Rattle.std.proofs.Math.Nat.{zero-mod}
 use Rattle.std.proofs.lemmas.Nat.Gcd.{dvd_of_mod-eq-zero}
 use Rattle.canon_abi.specs.Abi.{HasInfo}
@@ -20,14 +20,15 @@ use Rattle.canon_model.specs.Shape.{Cases, Members, Shape, VariantKind, bare, ca
 use Rattle.canon_model.specs.Text.{Encoding}
 use Rattle.canon_model.specs.Tree.{Trees, no_trees, payload_of, tree}
 use Rattle.canon_types.specs.Depth.{deepest, depth, variant_cases}
-use Rattle.canon_value.specs.Built.{AreBuilt, IsBuilt}
-use Rattle.canon_value.specs.CasePlan.{IsCaseSlots, TellsCase, case_name_cost, name_charge}
+use Rattle.canon_plan.specs.Built.{AreBuilt, IsBuilt}
+use Rattle.canon_plan.specs.CasePlan.{IsCaseSlots, TellsCase, case_name_cost, name_charge}
 use Rattle.canon_value.specs.Loads.{AreCharged, Exactly, IsLoaded, LiftBlames, charged_reach, place_of}
-use Rattle.canon_value.specs.Plan.{IsCaseRebuilt, IsVariant, shapes_of}
+use Rattle.canon_value.specs.Plan.{IsCaseRebuilt}
+use Rattle.canon_plan.specs.Plan.{IsVariant, shapes_of}
 use Rattle.canon_types.specs.Table.{Table}
-use Rattle.canon_value.specs.Value.{HaveTrees}
-use Rattle.canon_value.specs.declared.case_plan.CaseSlots.{CaseSlots}
-use Rattle.canon_value.specs.declared.fault.Fault.{Fault}
+use Rattle.canon_value.specs.Value.{AreLiftedFrom}
+use Rattle.canon_plan.specs.declared.case_plan.CaseSlots.{CaseSlots}
+use Rattle.canon_context.specs.declared.fault.Fault.{Fault}
 use Rattle.canon_value.specs.declared.val.Val.{Val}
 use Rattle.canon_value.proofs.Cases.{case_built, case_shallow}
 use Rattle.canon_value.proofs.Loading.{blamed_by}
@@ -54,7 +55,7 @@ payload_align (payload name s cs) zero = omega (arith, (alignment false s))
 payload_align (payload name s cs) (suc i) = payload_align cs i
 
 -- the charges of a case: those of its name and of its payload
-pub case_charges : (k : VariantKind) (cs : Cases) (i d : ℕ) (vs : List Val) (ts : Trees) → HaveTrees (case_members cs i) vs ts
+pub case_charges : (k : VariantKind) (cs : Cases) (i d : ℕ) (vs : List Val) (ts : Trees) → AreLiftedFrom (case_members cs i) vs ts
     → case_cost k cs i (payload_of (case_tree d ts)) ≡ case_name_cost k cs i + (member_count (case_members cs i) * val_cost + members_cost (case_members cs i) ts)
 unfolding cost
 case_charges k no_cases i d vs ts h = refl
@@ -64,7 +65,7 @@ case_charges k (payload name s cs) zero d vs no_trees (v, others, t, rest, ev, e
 case_charges k (payload name s cs) zero d vs (tree t ts) h = omega arith
 case_charges k (payload name s cs) (suc i) d vs ts h = case_charges k cs i d vs ts h
 
-pub variant_charges : (s : Shape) (i : ℕ) (vs : List Val) (ts : Trees) → IsVariant s → HaveTrees (case_members (variant_cases s) i) vs ts
+pub variant_charges : (s : Shape) (i : ℕ) (vs : List Val) (ts : Trees) → IsVariant s → AreLiftedFrom (case_members (variant_cases s) i) vs ts
     → cost s (case_tree i ts) ≡ name_charge s i + (member_count (case_members (variant_cases s) i) * val_cost + members_cost (case_members (variant_cases s) i) ts)
 unfolding cost
 variant_charges s i vs ts (k, e) h =
@@ -171,8 +172,8 @@ module _ (enc : Encoding) (bytes : List ℕ) where
               let (ts, stored, have, spent) = loaded in
               (case_tree tag ts, case_represented ts stored, made ts have, omega (arith, named, charged, spent, payload_nameless (variant_cases s) tag, variant_charges s tag vs ts is have))
 
-payload_count : (cs : Cases) (tag : ℕ) (vs : List Val) (ts : Trees) → HaveTrees (case_members cs tag) vs ts → length vs ≡ member_count (case_members cs tag)
-payload_count cs tag vs ts h = have_count (case_members cs tag) vs ts h
+payload_count : (cs : Cases) (tag : ℕ) (vs : List Val) (ts : Trees) → AreLiftedFrom (case_members cs tag) vs ts → length vs ≡ member_count (case_members cs tag)
+payload_count cs tag vs ts h = have_count true (case_members cs tag) vs ts h
 
 -- the discriminant is inside memory
 pub tag_inside : (s : Shape) (info : VariantInfo) (a n : ℕ) → IsVariant s → HasInfo info (variant_cases s) → a + size false s ≤ n → a + tag_bytes info.size ≤ n

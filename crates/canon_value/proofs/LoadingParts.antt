@@ -1,5 +1,5 @@
 -- Members in memory, as a value of each shape has them.
-use Rattle.std.proofs.Common.{◌≡◌, ◌≤◌, ◌<◌, ◌+◌, ◌*◌, ◌%◌, ◌∙◌, List, ap, ap₂, arith, false, inl, inr, length, refl, subst, suc, suc-mul, sym, zero, ℕ}
+use Rattle.std.proofs.Common.{◌≡◌, ◌≤◌, ◌<◌, ◌+◌, ◌*◌, ◌%◌, ◌∙◌, List, ap, ap₂, arith, false, inl, inr, length, refl, subst, suc, suc-mul, sym, true, zero, ℕ}
 use Rattle.std.proofs.Math.Nat.{zero-mod}
 use Rattle.std.proofs.lemmas.Nat.Gcd.{dvd_of_mod-eq-zero}
 use Rattle.std.specs.Int.{◌∣◌}
@@ -15,12 +15,12 @@ use Rattle.canon_model.specs.Shape.{Members, Shape, borrow, fixed, flags, list, 
 use Rattle.canon_model.specs.Text.{Encoding}
 use Rattle.canon_model.specs.Tree.{Trees, items, no_trees, sum_of, tree, tree_count}
 use Rattle.canon_value.specs.Loads.{AreCharged, Exactly, IsLoaded, LiftBlames, charged_reach, place_of}
-use Rattle.canon_value.specs.Plan.{ArePartsLoaded, IsRebuilt, Unnamed, parts_of, whole}
-use Rattle.canon_value.specs.Viewed.{LiesAs}
-use Rattle.canon_value.specs.declared.fault.Fault.{Fault}
+use Rattle.canon_value.specs.Plan.{ArePartsLoaded, IsRebuilt, parts_of, whole}
+use Rattle.canon_plan.specs.Plan.{Unnamed, LiesAs}
+use Rattle.canon_context.specs.declared.fault.Fault.{Fault}
 use Rattle.canon_value.specs.declared.val.Val.{Val}
 use Rattle.canon_value.proofs.Loading.{aligned_part, blamed_by, RowFault, row_reach}
-use Rattle.canon_value.proofs.Steps.{copies_count}
+use Rattle.canon_plan.proofs.Lookups.{copies_count}
 use Rattle.canon_value.proofs.Values.{have_count}
 use Rattle.canon_value.proofs.Walks.{copies_have, have_copies}
 
@@ -125,7 +125,7 @@ parts_refused enc bytes s these a before mid w charged e h =
     (λ k x f. w.blames k (place_of x) f) (λ (low : mid < charged_reach enc (narrow bytes) these 0 a). w.low before (omega (arith, low, charged))) e h
 
 pub parts_count : (enc : Encoding) (bytes : List ℕ) (s : Shape) (a before after : ℕ) (vs : List Val) → ArePartsLoaded enc (narrow bytes) s a before after vs → length vs ≡ member_count (parts_of s (length vs))
-parts_count enc bytes s a before after vs (ts, rep, have, spent) = have_count (parts_of s (length vs)) vs ts have
+parts_count enc bytes s a before after vs (ts, rep, have, spent) = have_count true (parts_of s (length vs)) vs ts have
 
 -- where a text stands, 8 bytes are inside
 pub text_room : (bytes : List ℕ) (s : Shape) (a : ℕ) → s ≡ string → a + size false s ≤ length bytes → a + 8 ≤ length bytes

@@ -1,6 +1,7 @@
 -- Maps and flags: what they hold, their places, and which flags are set.
 use Rattle.std.proofs.Common.{◌≡◌, ◌<◌, ◌∙◌, All, Bool, IsTrue, List, String, Vec, [], ◌∷◌, ap, arith, false, get_or, length, map, refl, rules, string_bytes, subst, suc, sym, true, zero, ℕ}
 use Rattle.std.specs.Prelude.{◌↔◌, Any}
+use Rattle.std.proofs.lemmas.Bool.{false≢true}
 use Rattle.std.proofs.lemmas.List.Elements.{All-cons, All-nil}
 use Rattle.std.specs.declared.alloc.Global.{Global}
 use Rattle.canon_model.specs.Shape.{Name}
@@ -67,6 +68,10 @@ pub marked_too : (set other names : List Name) (bs : List Bool) → All (λ n. O
 marked_too set other names bs all h g n (k, x, lt, at, same) =
     let there : Occurs n names = subst (λ m. Occurs m names) same (subst (λ m. Occurs m names) at (all k x lt)) in
     marked_at set other names bs h g n there.1 there.0 there.2 there.3 there.4 (k, x, lt, at, same)
+
+-- the flags of a value that wasn't lifted stand in any order
+pub any_order : {A : Type 0} → IsTrue false → A
+any_order h = absurd (false≢true h)
 
 -- it isn't so that there are no marks
 are_set : (P : Type 0) → ((b : Bool) → (IsTrue b ↔ P) → ⊥) → ⊥

@@ -1,12 +1,11 @@
 -- Values have one list of trees, but for spelled lengths, and trees are those of one list of values.
-use Rattle.std.proofs.Common.{◌≡◌, ◌∙◌, List, [], ◌∷◌, ap, pos, refl, subst, subst₂, suc, sym, zero, ℕ}
+use Rattle.std.proofs.Common.{◌≡◌, ◌∙◌, List, [], ◌∷◌, ap, false, pos, refl, subst, subst₂, suc, sym, zero, ℕ}
 use Rattle.canon_lowering.proofs.AimedCases.{number_of}
 use Rattle.canon_lowering.specs.Copies.{case_tree, payload_trees}
 use Rattle.canon_model.proofs.Images.{carried_itself}
 use Rattle.canon_model.specs.Same.{Carried, CarriedTrees}
 use Rattle.canon_model.specs.Shape.{Cases, Members, Scalar, Shape, bare, bool, borrow, char, f32, f64, fixed, flags, list, member, no_cases, no_members, of_items, of_pairs, own, payload, product, s16, s32, s64, s8, scalar, string, u16, u32, u64, u8, variant}
 use Rattle.canon_model.specs.Tree.{Tree, Trees, bits, case_number, code_point, items, no_trees, number, parts, text, tree, truth}
-use Rattle.canon_value.specs.Laws.{OneValue}
 use Rattle.canon_value.specs.Value.{AreMarked, AreSame, CaseHas, CaseSame, EachHas, EachSame, HasScalar, HasTree, HaveTrees, IsCase, IsSame, IsText, PairHas, PairSame, member_names}
 use Rattle.canon_value.specs.declared.val.Val.{Val}
 use Rattle.canon_value.specs.declared.val.Val.TheVariants as val
@@ -51,7 +50,7 @@ scalar_tree f32 v t u (b, e, f) (c, g, h) = let same : val.Float32 b ≡ val.Flo
 scalar_tree f64 v t u (b, e, f) (c, g, h) = let same : val.Float64 b ≡ val.Float64 c = sym e ∙ g in let d : b ≡ c = cc in f ∙ (ap (λ n. number (pos n)) d ∙ sym h)
 scalar_tree char v t u (b, e, f) (c, g, h) = let same : val.Char b ≡ val.Char c = sym e ∙ g in let d : b ≡ c = cc in f ∙ (ap code_point d ∙ sym h)
 
-scalar_value : (k : Scalar) (v w : Val) (t : Tree) → HasScalar k v t → HasScalar k w t → v ≡ w
+pub scalar_value : (k : Scalar) (v w : Val) (t : Tree) → HasScalar k v t → HasScalar k w t → v ≡ w
 scalar_value bool v w t (b, e, f) (c, g, h) = let same : truth b ≡ truth c = sym f ∙ h in let d : b ≡ c = cc in e ∙ (ap val.Bool d ∙ sym g)
 scalar_value s8 v w t (b, e, f) (c, g, h) = let same : number b ≡ number c = sym f ∙ h in let d : b ≡ c = cc in e ∙ (ap val.S8 d ∙ sym g)
 scalar_value u8 v w t (b, e, f) (c, g, h) = let same : number (pos b) ≡ number (pos c) = sym f ∙ h in let d : b ≡ c = cc in e ∙ (ap val.U8 d ∙ sym g)
@@ -76,8 +75,8 @@ mutual
   tree_one (own r) v t u h g = absurd h
   tree_one (borrow r) v t u h g = absurd h
   tree_one (list of_pairs s) v t u (is, (ps, ts, p, et, have)) (js, (qs, us, q, eu, have2)) =
-      let have3 : EachHas (PairHas s) ps us = subst (λ xs. EachHas (PairHas s) xs us) (one_pairs ps qs v p q) have2 in
-      subst₂ Carried (sym et) (sym eu) (us, refl, each_carried (PairHas s) (λ w x y h g. pair_one s w x y h g) ps ts us have have3)
+      let have3 : EachHas (PairHas false s) ps us = subst (λ xs. EachHas (PairHas false s) xs us) (one_pairs ps qs v p q) have2 in
+      subst₂ Carried (sym et) (sym eu) (us, refl, each_carried (PairHas false s) (λ w x y h g. pair_one s w x y h g) ps ts us have have3)
   tree_one (list of_items s) v t u (vs, ts, p, et, have) (ws, us, q, eu, have2) =
       let have3 : EachHas (HasTree s) vs us = subst (λ xs. EachHas (HasTree s) xs us) (list_values ws vs v q p) have2 in
       subst₂ Carried (sym et) (sym eu) (us, refl, each_carried (HasTree s) (λ w x y h g. tree_one s w x y h g) vs ts us have have3)
@@ -86,14 +85,14 @@ mutual
       subst₂ Carried (sym et) (sym eu) (us, refl, each_carried (HasTree s) (λ w x y h g. tree_one s w x y h g) vs ts us have have3)
   tree_one (variant k cs) v t u (d, vs, ts, is, et, have) (e, ws, us, js, eu, have2) =
       let same = one_case k cs d e vs ws v is js in
-      let have3 : CaseHas cs d vs us = subst₂ (λ n xs. CaseHas cs n xs us) same.0 same.1 have2 in
+      let have3 : CaseHas false cs d vs us = subst₂ (λ n xs. CaseHas false cs n xs us) same.0 same.1 have2 in
       let same_tree : u ≡ case_tree d us = eu ∙ ap (λ n. case_tree n us) same.0 in
       subst₂ Carried (sym et) (sym same_tree) (case_carried d ts us (case_one cs d vs ts us have have3))
-  tree_one (flags names) v t u (set, bs, is, all, et, marked) (other, cs, js, all2, eu, marked2) =
+  tree_one (flags names) v t u (set, bs, is, all, et, marked, any) (other, cs, js, all2, eu, marked2, any2) =
       let marked3 : AreMarked set names cs = subst (λ xs. AreMarked xs names cs) (one_flags set other v is js) marked2 in
       subst₂ Carried (sym et) (sym eu) (ap bits (marked_once set names cs bs marked3 marked))
 
-  trees_one : (ms : Members) (vs : List Val) (ts us : Trees) → HaveTrees ms vs ts → HaveTrees ms vs us → CarriedTrees ts us
+  pub trees_one : (ms : Members) (vs : List Val) (ts us : Trees) → HaveTrees ms vs ts → HaveTrees ms vs us → CarriedTrees ts us
   trees_one no_members vs ts us h g = subst₂ CarriedTrees (sym h.1) (sym g.1) refl
   trees_one (member name s ms) vs ts us (v, others, t, rest, ev, et, has, have) (w, those, u, last, ew, eu, has2, have2) =
       let same : v ∷ others ≡ w ∷ those = sym ev ∙ ew in
@@ -103,7 +102,7 @@ mutual
       let have3 : HaveTrees ms others last = subst (λ xs. HaveTrees ms xs last) tail have2 in
       subst₂ CarriedTrees (sym et) (sym eu) (u, last, refl, tree_one s v t u has has3, trees_one ms others rest last have have3)
 
-  pair_one : (s : Shape) (p : Val × Val) (t u : Tree) → PairHas s p t → PairHas s p u → Carried t u
+  pair_one : (s : Shape) (p : Val × Val) (t u : Tree) → PairHas false s p t → PairHas false s p u → Carried t u
   pair_one (product l ms) p t u (ts, et, have) (us, eu, have2) = subst₂ Carried (sym et) (sym eu) (us, refl, trees_one ms (p.0 ∷ p.1 ∷ []) ts us have have2)
   pair_one (scalar c) p t u h g = absurd h
   pair_one string p t u h g = absurd h
@@ -114,7 +113,7 @@ mutual
   pair_one (variant l cs) p t u h g = absurd h
   pair_one (flags names) p t u h g = absurd h
 
-  case_one : (cs : Cases) (d : ℕ) (vs : List Val) (ts us : Trees) → CaseHas cs d vs ts → CaseHas cs d vs us → CarriedTrees ts us
+  case_one : (cs : Cases) (d : ℕ) (vs : List Val) (ts us : Trees) → CaseHas false cs d vs ts → CaseHas false cs d vs us → CarriedTrees ts us
   case_one no_cases d vs ts us h g = absurd h
   case_one (bare name cs) zero vs ts us h g = subst₂ CarriedTrees (sym h.1) (sym g.1) refl
   case_one (bare name cs) (suc d) vs ts us h g = case_one cs d vs ts us h g
@@ -125,7 +124,7 @@ mutual
   case_one (payload name s cs) (suc d) vs ts us h g = case_one cs d vs ts us h g
 
 mutual
-  value_one : (s : Shape) (v w : Val) (t : Tree) → HasTree s v t → HasTree s w t → IsSame s v w
+  pub value_one : (s : Shape) (v w : Val) (t : Tree) → HasTree s v t → HasTree s w t → IsSame s v w
   value_one (scalar k) v w t h g = scalar_value k v w t h g
   value_one (product k ms) v w t (vs, ts, p, et, have) (ws, us, q, eu, have2) =
       let same : parts ts ≡ parts us = sym et ∙ eu in
@@ -140,7 +139,7 @@ mutual
   value_one (list of_pairs s) v w t (is, (ps, ts, p, et, have)) (js, (qs, us, q, eu, have2)) =
       let same : items ts ≡ items us = sym et ∙ eu in
       let trees : us ≡ ts = cc in
-      (ps, qs, p, q, each_same (PairHas s) (PairSame s) (λ x y u h g. pair_same s x y u h g) ps qs ts have (subst (EachHas (PairHas s) qs) trees have2))
+      (ps, qs, p, q, each_same (PairHas false s) (PairSame s) (λ x y u h g. pair_same s x y u h g) ps qs ts have (subst (EachHas (PairHas false s) qs) trees have2))
   value_one (list of_items s) v w t (vs, ts, p, et, have) (ws, us, q, eu, have2) =
       let same : items ts ≡ items us = sym et ∙ eu in
       let trees : us ≡ ts = cc in
@@ -152,16 +151,16 @@ mutual
   value_one (variant k cs) v w t (d, vs, ts, is, et, have) (e, ws, us, js, eu, have2) =
       let same : case_tree d ts ≡ case_tree e us = sym et ∙ eu in
       let number : e ≡ d = sym (number_of e us) ∙ (ap case_number (sym same) ∙ number_of d ts) in
-      let trees : us ≡ ts = sym (case_back cs e e ws us have2) ∙ (ap payload_trees (sym same) ∙ case_back cs d d vs ts have) in
-      let have3 : CaseHas cs d ws ts = subst₂ (λ n xs. CaseHas cs n ws xs) number trees have2 in
+      let trees : us ≡ ts = sym (case_back false cs e e ws us have2) ∙ (ap payload_trees (sym same) ∙ case_back false cs d d vs ts have) in
+      let have3 : CaseHas false cs d ws ts = subst₂ (λ n xs. CaseHas false cs n ws xs) number trees have2 in
       (d, vs, ws, is, subst (λ n. IsCase k cs n ws w) number js, case_same cs d vs ws ts have have3)
-  value_one (flags names) v w t (set, bs, is, all, et, marked) (other, cs, js, all2, eu, marked2) =
+  value_one (flags names) v w t (set, bs, is, all, et, marked, any) (other, cs, js, all2, eu, marked2, any2) =
       let same : bits bs ≡ bits cs = sym et ∙ eu in
       let flags_same : cs ≡ bs = cc in
       let marked3 : AreMarked other names bs = subst (AreMarked other names) flags_same marked2 in
       (set, other, is, js, λ n. (marked_too set other names bs all marked marked3 n, marked_too other set names bs all2 marked3 marked n))
 
-  values_one : (ms : Members) (vs ws : List Val) (ts : Trees) → HaveTrees ms vs ts → HaveTrees ms ws ts → AreSame ms vs ws
+  pub values_one : (ms : Members) (vs ws : List Val) (ts : Trees) → HaveTrees ms vs ts → HaveTrees ms ws ts → AreSame ms vs ws
   values_one no_members vs ws ts h g = (h.0, g.0)
   values_one (member name s ms) vs ws ts (v, others, t, rest, ev, et, has, have) (w, those, u, last, ew, eu, has2, have2) =
       let same : tree t rest ≡ tree u last = sym et ∙ eu in
@@ -171,7 +170,7 @@ mutual
       let have3 : HaveTrees ms those rest = subst (λ xs. HaveTrees ms those xs) tail have2 in
       (v, w, others, those, ev, ew, value_one s v w t has has3, values_one ms others those rest have have3)
 
-  pair_same : (s : Shape) (p q : Val × Val) (t : Tree) → PairHas s p t → PairHas s q t → PairSame s p q
+  pair_same : (s : Shape) (p q : Val × Val) (t : Tree) → PairHas false s p t → PairHas false s q t → PairSame s p q
   pair_same (product l ms) p q t (ts, et, have) (us, eu, have2) =
       let same : parts ts ≡ parts us = sym et ∙ eu in
       let trees : us ≡ ts = cc in
@@ -185,7 +184,7 @@ mutual
   pair_same (variant l cs) p q t h g = absurd h
   pair_same (flags names) p q t h g = absurd h
 
-  case_same : (cs : Cases) (d : ℕ) (vs ws : List Val) (ts : Trees) → CaseHas cs d vs ts → CaseHas cs d ws ts → CaseSame cs d vs ws
+  case_same : (cs : Cases) (d : ℕ) (vs ws : List Val) (ts : Trees) → CaseHas false cs d vs ts → CaseHas false cs d ws ts → CaseSame cs d vs ws
   case_same no_cases d vs ws ts h g = absurd h
   case_same (bare name cs) zero vs ws ts h g = (h.0, g.0)
   case_same (bare name cs) (suc d) vs ws ts h g = case_same cs d vs ws ts h g
@@ -194,6 +193,3 @@ mutual
       let first : u ≡ t = cc in
       (v, w, ev, ew, value_one s v w t has (subst (λ x. HasTree s w x) first has2))
   case_same (payload name s cs) (suc d) vs ws ts h g = case_same cs d vs ws ts h g
-
-pub one_value : OneValue
-one_value = record { trees = trees_one; values = values_one }

@@ -1,42 +1,23 @@
 -- The keys and values of a map by turns, as members: their trees, their faults, and each by its number.
-use Rattle.std.proofs.Common.{◌≡◌, ◌++◌, ◌≤◌, ◌<◌, ◌+◌, ◌*◌, ◌/◌, ◌%◌, ◌∙◌, ◌&&◌, Bool, List, Vec, [], ◌∷◌, add-one, ap, arith, drop, false, get_or, inl, inr, length, map, refl, rules, subst, suc, suc-mul, sym, true, zero, ℕ}
+use Rattle.std.proofs.Common.{◌≡◌, ◌++◌, ◌≤◌, ◌<◌, ◌+◌, ◌/◌, ◌%◌, ◌∙◌, ◌&&◌, List, Vec, [], ◌∷◌, ap, arith, drop, get_or, inl, inr, length, map, refl, rules, subst, suc, sym, true, zero, ℕ, Bool, false}
 use Rattle.std.specs.declared.alloc.Global.{Global}
 use Rattle.canon_lowering.proofs.Pairing.{pair_shape}
 use Rattle.canon_lowering.specs.Copies.{paired, pairs_of, unpaired}
 use Rattle.canon_model.specs.Cost.{cost, members_cost, names_length, pair_parts_cost}
-use Rattle.canon_model.specs.Shape.{Members, Name, Shape, map_of, member, member_count}
-use Rattle.canon_model.specs.Tree.{Tree, Trees, no_trees, parts, sum_of, tree, tree_count}
-use Rattle.canon_types.specs.Depth.{deepest, depth, element_shape}
-use Rattle.canon_types.specs.Keeps.{map_type}
-use Rattle.canon_types.specs.Table.{IsDefined, Knows, Table, shape_of}
-use Rattle.canon_types.specs.declared.types.InterfaceType.TheVariants as ty
-use Rattle.canon_types.specs.declared.types.TypeMap.{TypeMap}
-use Rattle.canon_value.specs.Built.{AreBuilt, IsBuilt, is_built}
-use Rattle.canon_value.specs.Elements.{IsMap, by_turns, first_of, row_of, second_of}
+use Rattle.canon_model.specs.Shape.{Name, Shape, map_of}
+use Rattle.canon_model.specs.Tree.{Trees, no_trees, parts, sum_of, tree, tree_count}
+use Rattle.canon_types.specs.Depth.{deepest, depth}
+use Rattle.canon_plan.specs.Built.{AreBuilt, IsBuilt, is_built}
+use Rattle.canon_value.specs.Elements.{by_turns}
 use Rattle.canon_value.specs.Fails.{Failure, MemberFails, PairFails, SomeFails}
-use Rattle.canon_value.specs.Value.{EachHas, HasTree, HaveTrees, PairHas, all_places, member_names, no_names, pair_places, places, total}
-use Rattle.canon_value.specs.View.{members_from}
+use Rattle.canon_value.specs.Value.{EachHas, HasTree, HaveTrees, PairHas, all_places, member_names, no_names, pair_places, places, total, HasTreeAs, HaveTreesAs}
 use Rattle.canon_value.specs.declared.val.Val.{Val, the_lemmas}
 use Rattle.canon_value.specs.declared.val.Val.TheShapes.{former-Val-Map-0-at-2}
 use Rattle.canon_value.specs.declared.val.Val.TheVariants as val
-use Rattle.canon_value.proofs.Lookups.{both}
+use Rattle.canon_plan.proofs.Lookups.{both}
+use Rattle.canon_plan.proofs.Pairs.{twice, even-is, odd-is, half_below}
 
 -- ---- numbers
-
-twice : ℕ → ℕ
-twice zero = zero
-twice (suc n) = suc (suc (twice n))
-
-twice-is : (n : ℕ) → twice n ≡ n + n
-unfolding twice
-twice-is zero = refl
-twice-is (suc n) = omega (arith, twice-is n)
-
-even-is : (k : ℕ) → k % 2 ≡ 0 → k ≡ twice (k / 2)
-even-is k e = omega (arith, e, twice-is (k / 2))
-
-odd-is : (k : ℕ) → ¬ (k % 2 ≡ 0) → k ≡ suc (twice (k / 2))
-odd-is k e = omega (arith, e, twice-is (k / 2))
 
 pub count_turns : (ps : List (Val × Val)) → length (by_turns ps) ≡ length ps + length ps
 count_turns [] = refl
@@ -45,17 +26,6 @@ count_turns (p ∷ ps) = omega (arith, count_turns ps)
 pub turns_push : (ps : List (Val × Val)) (p : Val × Val) → by_turns (ps ++ p ∷ []) ≡ by_turns ps ++ p.0 ∷ p.1 ∷ []
 turns_push [] p = refl
 turns_push (q ∷ ps) p = ap (λ vs. q.0 ∷ q.1 ∷ vs) (turns_push ps p)
-
-pub count_pairs : (n : ℕ) (s u : Shape) → member_count (pairs_of n s u) ≡ n + n
-count_pairs zero s u = refl
-count_pairs (suc n) s u = omega (arith, count_pairs n s u)
-
--- of a map's shape
-pub pair_slots : (s : Shape) (n : ℕ) → IsMap s → 2 * n ≡ member_count (row_of s n)
-pair_slots s n e = omega (arith, ap (λ (x : Shape). member_count (row_of x n)) e, count_pairs n (first_of (element_shape s)) (second_of (element_shape s)))
-
-pub half_below : (k n : ℕ) → k < n + n → k / 2 < n
-half_below k n h = omega (arith, h)
 
 -- ---- one of them by its number
 
@@ -83,75 +53,30 @@ value_at ps k d x odd e h =
     let after : suc (suc (twice (k / 2))) ≡ k + 1 = omega (arith, odd-is k odd) in
     ap (λ i. drop i (by_turns ps)) (odd-is k odd) ∙ (second_turn ps (k / 2) d x e lt ∙ ap (λ i. x.1 ∷ drop i (by_turns ps)) after)
 
-first_member : (n j : ℕ) (s u : Shape) → j < n → members_from (twice j) (pairs_of n s u) ≡ member [] s (members_from (suc (twice j)) (pairs_of n s u))
-unfolding twice
-first_member zero j s u h = absurd (omega (arith, h))
-first_member (suc n) zero s u h = refl
-first_member (suc n) (suc j) s u h = first_member n j s u (omega (arith, h))
-
-second_member : (n j : ℕ) (s u : Shape) → j < n → members_from (suc (twice j)) (pairs_of n s u) ≡ member [] u (members_from (suc (suc (twice j))) (pairs_of n s u))
-unfolding twice
-second_member zero j s u h = absurd (omega (arith, h))
-second_member (suc n) zero s u h = refl
-second_member (suc n) (suc j) s u h = second_member n j s u (omega (arith, h))
-
-key_member : (n k : ℕ) (s u : Shape) → k % 2 ≡ 0 → k < n + n → members_from k (pairs_of n s u) ≡ member [] s (members_from (k + 1) (pairs_of n s u))
-key_member n k s u even h =
-    let after : suc (twice (k / 2)) ≡ k + 1 = omega (arith, even-is k even) in
-    ap (λ i. members_from i (pairs_of n s u)) (even-is k even) ∙ (first_member n (k / 2) s u (half_below k n h) ∙ ap (λ i. member [] s (members_from i (pairs_of n s u))) after)
-
-value_member : (n k : ℕ) (s u : Shape) → ¬ (k % 2 ≡ 0) → k < n + n → members_from k (pairs_of n s u) ≡ member [] u (members_from (k + 1) (pairs_of n s u))
-value_member n k s u odd h =
-    let after : suc (suc (twice (k / 2))) ≡ k + 1 = omega (arith, odd-is k odd) in
-    ap (λ i. members_from i (pairs_of n s u)) (odd-is k odd) ∙ (second_member n (k / 2) s u (half_below k n h) ∙ ap (λ i. member [] u (members_from i (pairs_of n s u))) after)
-
 -- ---- by a look-up of the map
-
-module _ (t : Table) (i : ℕ) (m : TypeMap) (h : IsDefined t (ty.Map i) (map_type m)) where
-  pub map_shape : shape_of t (ty.Map i) ≡ map_of (shape_of t m.key) (shape_of t m.value)
-  map_shape = h.shape
-
-  pub key_known : Knows t m.key
-  key_known = h.known 0 m.key (omega arith)
-
-  pub value_known : Knows t m.value
-  value_known = h.known 1 m.value (omega arith)
-
-  map_row : (n : ℕ) → pairs_of n (shape_of t m.key) (shape_of t m.value) ≡ row_of (shape_of t (ty.Map i)) n
-  map_row n = ap (λ (x : Shape). row_of x n) (sym map_shape)
-
-  pub map_count : (n : ℕ) → member_count (row_of (shape_of t (ty.Map i)) n) ≡ n + n
-  map_count n = ap member_count (sym (map_row n)) ∙ count_pairs n (shape_of t m.key) (shape_of t m.value)
-
-  module _ (n k : ℕ) (lt : k < n + n) where
-    pub key_here : k % 2 ≡ 0 → members_from k (row_of (shape_of t (ty.Map i)) n) ≡ member [] (shape_of t m.key) (members_from (k + 1) (row_of (shape_of t (ty.Map i)) n))
-    key_here even = subst (λ (r : Members). members_from k r ≡ member [] (shape_of t m.key) (members_from (k + 1) r)) (map_row n) (key_member n k (shape_of t m.key) (shape_of t m.value) even lt)
-
-    pub value_here : ¬ (k % 2 ≡ 0) → members_from k (row_of (shape_of t (ty.Map i)) n) ≡ member [] (shape_of t m.value) (members_from (k + 1) (row_of (shape_of t (ty.Map i)) n))
-    value_here odd = subst (λ (r : Members). members_from k r ≡ member [] (shape_of t m.value) (members_from (k + 1) r)) (map_row n) (value_member n k (shape_of t m.key) (shape_of t m.value) odd lt)
 
 -- ---- their trees and their faults
 
-pub pairs_have : (s u : Shape) (ps : List (Val × Val)) (ts : Trees) → HaveTrees (pairs_of (length ps) s u) (by_turns ps) ts → EachHas (λ p t. PairHas (pair_shape s u) p t) ps (paired ts) × (tree_count ts ≡ length ps + length ps)
-pairs_have s u [] ts (ev, et) = (ap paired et, ap tree_count et)
-pairs_have s u (p ∷ ps) ts (v, others, t, rest, ev, et, has, (w, last, x, more, ew, ex, has2, have)) =
+pub pairs_have : (lifted : Bool) (s u : Shape) (ps : List (Val × Val)) (ts : Trees) → HaveTreesAs lifted (pairs_of (length ps) s u) (by_turns ps) ts → EachHas (λ p t. PairHas lifted (pair_shape s u) p t) ps (paired ts) × (tree_count ts ≡ length ps + length ps)
+pairs_have lifted s u [] ts (ev, et) = (ap paired et, ap tree_count et)
+pairs_have lifted s u (p ∷ ps) ts (v, others, t, rest, ev, et, has, (w, last, x, more, ew, ex, has2, have)) =
     let first : v ≡ p.0 = cc in
     let then : others ≡ p.1 ∷ by_turns ps = cc in
     let second : w ≡ p.1 = cc in
     let tail : last ≡ by_turns ps = cc in
-    let (each, count) = pairs_have s u ps more (subst (λ vs. HaveTrees (pairs_of (length ps) s u) vs more) tail have) in
+    let (each, count) = pairs_have lifted s u ps more (subst (λ vs. HaveTreesAs lifted (pairs_of (length ps) s u) vs more) tail have) in
     let is : ts ≡ tree t (tree x more) = et ∙ ap (λ us. tree t us) ex in (
-      subst (λ us. EachHas (λ q y. PairHas (pair_shape s u) q y) (p ∷ ps) (paired us)) (sym is) (
+      subst (λ us. EachHas (λ q y. PairHas lifted (pair_shape s u) q y) (p ∷ ps) (paired us)) (sym is) (
         _,
         paired more,
         refl,
-        (tree t (tree x no_trees), refl, (p.0, p.1 ∷ [], t, tree x no_trees, refl, refl, subst (λ y. HasTree s y t) first has, (p.1, [], x, no_trees, refl, refl, subst (λ y. HasTree u y x) second has2, (refl, refl)))),
+        (tree t (tree x no_trees), refl, (p.0, p.1 ∷ [], t, tree x no_trees, refl, refl, subst (λ y. HasTreeAs lifted s y t) first has, (p.1, [], x, no_trees, refl, refl, subst (λ y. HasTreeAs lifted u y x) second has2, (refl, refl)))),
         each,
       ),
       ap tree_count is ∙ omega (arith, count),
     )
 
-pub have_pairs : (s u : Shape) (ps : List (Val × Val)) (ts : Trees) → EachHas (λ p t. PairHas (pair_shape s u) p t) ps ts → HaveTrees (pairs_of (length ps) s u) (by_turns ps) (unpaired ts) × (ts ≡ paired (unpaired ts))
+pub have_pairs : (s u : Shape) (ps : List (Val × Val)) (ts : Trees) → EachHas (λ p t. PairHas false (pair_shape s u) p t) ps ts → HaveTrees (pairs_of (length ps) s u) (by_turns ps) (unpaired ts) × (ts ≡ paired (unpaired ts))
 have_pairs s u [] ts e = ((refl, ap unpaired e), e ∙ sym (ap (λ us. paired (unpaired us)) e))
 have_pairs s u (p ∷ ps) ts (t, rest, et, (us, eu, (v, others, a, ra, ev, ea, has, (w, last, b, rb, ew, eb, has2, (el, er)))), each) =
     let first : v ≡ p.0 = cc in
@@ -169,6 +94,13 @@ pairs_fail how s u [] k f = absurd f
 pairs_fail how s u (p ∷ ps) k (inl f) = inl (inl f)
 pairs_fail how s u (p ∷ ps) k (inr (j, e, inl f)) = inl (inr (j, e, inl f))
 pairs_fail how s u (p ∷ ps) k (inr (j, e, inr (i, e2, f))) = inr (i, omega (arith, e, e2), pairs_fail how s u ps i f)
+
+pub pairs_failed : (how : Failure) (s u : Shape) (ps : List (Val × Val)) (k : ℕ) → SomeFails pair_places (λ p i. PairFails how (pair_shape s u) p i) ps k → MemberFails how (pairs_of (length ps) s u) (by_turns ps) k
+pairs_failed how s u [] k f = absurd f
+pairs_failed how s u (p ∷ ps) k (inl (inl f)) = inl f
+pairs_failed how s u (p ∷ ps) k (inl (inr (j, e, inl f))) = inr (j, e, inl f)
+pairs_failed how s u (p ∷ ps) k (inl (inr (j, e, inr (i, e2, f)))) = absurd f
+pairs_failed how s u (p ∷ ps) k (inr (j, e, f)) = inr (places p.1 + j, omega (arith, e), inr (j, refl, pairs_failed how s u ps j f))
 
 -- ---- what they are as a row
 

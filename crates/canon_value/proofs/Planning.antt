@@ -1,28 +1,24 @@
 -- What a type's values are lifted as, by what a look-up gives, and what members make up.
-use Rattle.std.proofs.Common.{◌≡◌, ◌+◌, ◌++◌, ◌/◌, ◌%◌, ◌∙◌, List, Vec, [], ◌∷◌, ap, append-nil, append_assoc, arith, length, refl, subst, sym, ℕ}
+use Rattle.std.proofs.Common.{◌≡◌, ◌+◌, ◌++◌, ◌/◌, ◌%◌, ◌∙◌, List, Vec, [], ◌∷◌, ap, append-nil, append_assoc, arith, length, refl, subst, sym, ℕ, true}
 use Rattle.std.specs.declared.alloc.Global.{Global}
 use Rattle.canon_model.specs.Cost.{names_length}
 use Rattle.canon_lowering.specs.Copies.{paired, pairs_of}
 use Rattle.canon_model.specs.Shape.{Members, Name, Shape, fixed, list, map_of, member, member_count, no_members, of_fields, of_items, of_places, product}
 use Rattle.canon_types.specs.Depth.{element_shape, product_members}
-use Rattle.canon_types.specs.Table.{Table, members_of}
-use Rattle.canon_types.specs.declared.types.InterfaceType.{InterfaceType}
+use Rattle.canon_plan.specs.Element.{IsMap, first_of, second_of}
+use Rattle.canon_value.specs.Elements.{by_turns}
+use Rattle.canon_value.specs.Plan.{IsRebuilt, parts_of}
+use Rattle.canon_value.specs.Value.{IsPairs, IsProduct, member_names, no_names, AreLiftedFrom}
+use Rattle.canon_plan.specs.Plan.{members_from}
 use Rattle.canon_types.specs.declared.types.InterfaceType.TheVariants as ty
-use Rattle.canon_value.specs.Elements.{IsMap, by_turns, first_of, second_of}
-use Rattle.canon_value.specs.Plan.{IsKind, IsRebuilt, parts_of}
-use Rattle.canon_value.specs.Value.{HaveTrees, IsPairs, IsProduct, member_names, no_names}
-use Rattle.canon_value.specs.View.{members_from}
 use Rattle.canon_value.specs.declared.val.Val.{Val}
 use Rattle.canon_value.specs.declared.val.Val.TheVariants as val
-use Rattle.canon_value.proofs.PairRows.{count_pairs, count_turns, pairs_have}
+use Rattle.canon_plan.proofs.Pairs.{count_pairs}
+use Rattle.canon_value.proofs.PairRows.{count_turns, pairs_have}
 use Rattle.canon_value.proofs.Values.{have_count}
 use Rattle.canon_value.proofs.Walks.{copies_have}
 
 -- ---- members of a tuple
-
-pub no_length : (t : Table) (types : List InterfaceType) → names_length (members_of t types) ≡ 0
-no_length t [] = refl
-no_length t (type ∷ types) = omega (arith, no_length t types)
 
 pub empty_names : (ms : Members) (vs : List Val) → names_length ms ≡ 0 → length vs ≡ member_count ms → member_names ms ≡ no_names vs
 empty_names no_members [] e n = refl
@@ -33,34 +29,6 @@ empty_names (member (b ∷ name) s ms) (v ∷ vs) e n = absurd (omega (arith, e)
 
 -- ---- kinds
 
--- of the kinds that are rebuilt a list is left
-pub list_left : (type : InterfaceType) (s : Shape) → IsKind type s → ((i : ℕ) → type ≡ ty.Record i → ⊥) → ((i : ℕ) → type ≡ ty.Tuple i → ⊥) → ((i : ℕ) → type ≡ ty.FixedLengthList i → ⊥) → ((i : ℕ) → type ≡ ty.Map i → ⊥) → s ≡ list of_items (element_shape s)
-list_left (ty.List i) s h no_record no_tuple no_fixed no_map = h
-list_left (ty.Record i) s h no_record no_tuple no_fixed no_map = absurd (no_record i refl)
-list_left (ty.Tuple i) s h no_record no_tuple no_fixed no_map = absurd (no_tuple i refl)
-list_left (ty.FixedLengthList i) s h no_record no_tuple no_fixed no_map = absurd (no_fixed i refl)
-list_left ty.Bool s h no_record no_tuple no_fixed no_map = absurd h
-list_left ty.S8 s h no_record no_tuple no_fixed no_map = absurd h
-list_left ty.U8 s h no_record no_tuple no_fixed no_map = absurd h
-list_left ty.S16 s h no_record no_tuple no_fixed no_map = absurd h
-list_left ty.U16 s h no_record no_tuple no_fixed no_map = absurd h
-list_left ty.S32 s h no_record no_tuple no_fixed no_map = absurd h
-list_left ty.U32 s h no_record no_tuple no_fixed no_map = absurd h
-list_left ty.S64 s h no_record no_tuple no_fixed no_map = absurd h
-list_left ty.U64 s h no_record no_tuple no_fixed no_map = absurd h
-list_left ty.Float32 s h no_record no_tuple no_fixed no_map = absurd h
-list_left ty.Float64 s h no_record no_tuple no_fixed no_map = absurd h
-list_left ty.Char s h no_record no_tuple no_fixed no_map = absurd h
-list_left ty.String s h no_record no_tuple no_fixed no_map = absurd h
-list_left (ty.Own i) s h no_record no_tuple no_fixed no_map = absurd h
-list_left (ty.Borrow i) s h no_record no_tuple no_fixed no_map = absurd h
-list_left (ty.Map i) s h no_record no_tuple no_fixed no_map = absurd (no_map i refl)
-list_left (ty.Variant i) s h no_record no_tuple no_fixed no_map = absurd h
-list_left (ty.Enum i) s h no_record no_tuple no_fixed no_map = absurd h
-list_left (ty.Option i) s h no_record no_tuple no_fixed no_map = absurd h
-list_left (ty.Result i) s h no_record no_tuple no_fixed no_map = absurd h
-list_left (ty.Flags i) s h no_record no_tuple no_fixed no_map = absurd h
-
 -- ---- what is put together
 
 pub record_count : (s : Shape) (n : ℕ) → s ≡ product of_fields (product_members s) → n ≡ member_count (parts_of s n) → n ≡ member_count (product_members s)
@@ -70,13 +38,13 @@ pub record_rebuilt : (s : Shape) (ms : Members) (vs : List Val) (v : Val) → s 
 record_rebuilt s ms vs v e p = subst (λ (y : Shape). IsRebuilt y vs v) (sym e) (λ ts have. (vs, ts, p, refl, have))
 
 pub tuple_rebuilt : (s : Shape) (ms : Members) (w : Vec Val Global) → s ≡ product of_places ms → names_length ms ≡ 0 → IsRebuilt s w.items (val.Tuple w)
-tuple_rebuilt s ms w e none = subst (λ (y : Shape). IsRebuilt y w.items (val.Tuple w)) (sym e) (λ ts have. (w.items, ts, (w, refl, empty_names ms w.items none (have_count ms w.items ts have), refl), refl, have))
+tuple_rebuilt s ms w e none = subst (λ (y : Shape). IsRebuilt y w.items (val.Tuple w)) (sym e) (λ ts have. (w.items, ts, (w, refl, empty_names ms w.items none (have_count true ms w.items ts have), refl), refl, have))
 
 pub fixed_rebuilt : (s part : Shape) (n : ℕ) (w : Vec Val Global) → s ≡ fixed n part → IsRebuilt s w.items (val.FixedLengthList w)
-fixed_rebuilt s part n w e = subst (λ (y : Shape). IsRebuilt y w.items (val.FixedLengthList w)) (sym e) (λ ts have. let (count, each) = copies_have n part w.items ts have in (w.items, ts, (w, refl, refl), count, refl, each))
+fixed_rebuilt s part n w e = subst (λ (y : Shape). IsRebuilt y w.items (val.FixedLengthList w)) (sym e) (λ ts have. let (count, each) = copies_have true n part w.items ts have in (w.items, ts, (w, refl, refl), count, refl, each))
 
 pub list_rebuilt : (s part : Shape) (w : Vec Val Global) → s ≡ list of_items part → IsRebuilt s w.items (val.List w)
-list_rebuilt s part w e = subst (λ (y : Shape). IsRebuilt y w.items (val.List w)) (sym e) (λ ts have. let (count, each) = copies_have (length w.items) part w.items ts have in (w.items, ts, (w, refl, refl), refl, each))
+list_rebuilt s part w e = subst (λ (y : Shape). IsRebuilt y w.items (val.List w)) (sym e) (λ ts have. let (count, each) = copies_have true (length w.items) part w.items ts have in (w.items, ts, (w, refl, refl), refl, each))
 
 pub map_even : (s : Shape) (n : ℕ) → IsMap s → n ≡ member_count (parts_of s n) → n % 2 ≡ 0
 map_even s n is e =
@@ -89,7 +57,7 @@ map_rebuilt s vs v is (ps, p, e) =
     let b : Shape = second_of (element_shape s) in
     subst (λ (y : Shape). IsRebuilt y vs v) (sym is) (subst (λ (ws : List Val). IsRebuilt (map_of a b) ws v) e (λ ts have.
     let half : length (by_turns ps) / 2 ≡ length ps = omega (arith, count_turns ps) in
-    let (each, count) = pairs_have a b ps ts (subst (λ (j : ℕ). HaveTrees (pairs_of j a b) (by_turns ps) ts) half have) in
+    let (each, count) = pairs_have true a b ps ts (subst (λ (j : ℕ). AreLiftedFrom (pairs_of j a b) (by_turns ps) ts) half have) in
     (refl, (ps, paired ts, p, refl, each))))
 
 -- names so far, and those of the members from a number on

@@ -12,17 +12,19 @@ use Rattle.canon_model.specs.Shape.{Members, Name, ProductKind, Scalar, Shape, b
 use Rattle.canon_model.specs.Tree.{Tree, Trees}
 use Rattle.canon_types.specs.Table.{Table, shape_of}
 use Rattle.canon_types.specs.declared.types.InterfaceType.{InterfaceType}
-use Rattle.canon_value.specs.Built.{IsScalarType}
-use Rattle.canon_value.specs.Core.{Parts, encoding_by, types_of}
-use Rattle.canon_value.specs.Fails.{Blames, FailsAt, MemberFails}
-use Rattle.canon_value.specs.Lowers.{fault_ending}
+use Rattle.canon_plan.specs.Built.{IsScalarType}
+use Rattle.canon_context.specs.Core.{Parts, encoding_by, types_of}
+use Rattle.canon_value.specs.Fails.{Blames, FailsAt, IsSmall, MemberFails}
+use Rattle.canon_context.specs.Lowers.{fault_ending}
 use Rattle.canon_value.specs.Stores.{Counts, FieldsCount, SameBut}
 use Rattle.canon_value.specs.Value.{HasTree, HaveTrees, IsProduct, all_places, cap, member_names, places}
-use Rattle.canon_value.specs.declared.fault.Fault.{Fault}
-use Rattle.canon_value.specs.declared.fault.Fault.TheVariants as fault
+use Rattle.canon_context.specs.declared.fault.Fault.{Fault}
+use Rattle.canon_context.specs.declared.fault.Fault.TheVariants as fault
 use Rattle.canon_value.specs.declared.val.Val.{Val}
+use Rattle.canon_value.proofs.Sizes.{member_small, product_small}
 use Rattle.canon_value.proofs.Steps.{blames_later, places_product}
-use Rattle.canon_value.proofs.Scalars.{scalar_shape}
+use Rattle.canon_plan.proofs.ScalarTypes.{scalar_shape}
+use Rattle.canon_model.specs.Text.{Encoding}
 
 -- ---- endings
 
@@ -42,6 +44,7 @@ not_done (fault.PointerOutOfBounds at) = tt
 not_done (fault.StringTooLong n) = tt
 not_done (fault.SizeOverflow n) = tt
 not_done (fault.InvalidUtf8 at) = tt
+not_done (fault.InvalidUtf16 at) = tt
 not_done (fault.InvalidChar at) = tt
 not_done (fault.BadDiscriminant at n) = tt
 not_done fault.HostcallFuelExhausted = tt
@@ -114,27 +117,27 @@ named_split name named s ms names v vs ts (same, (w, others, t, rest, ev, et, ha
 
 -- ---- counting
 
-pub fields_count : (place : ℕ) (name named : Name) (s : Shape) (ms : Members) (names : List Name) (v : Val) (vs : List Val) (from mid : ℕ) (r : Result ℕ Fault) → named ≡ name → mid ≡ cap (from + places v)
-    → FieldsCount place ms names vs mid r → FieldsCount place (member name s ms) (named ∷ names) (v ∷ vs) from r
-fields_count place name named s ms names v vs from mid (Ok to) en em (same, e) = (ap₂ (λ x xs. x ∷ xs) en same, omega (arith, em, e))
-fields_count place name named s ms names v vs from mid (Err e) en em (inl (is, other)) = inl (is, λ same. other (tails named name names (member_names ms) same))
-fields_count place name named s ms names v vs from mid (Err e) en em (inr b) =
-    inr (blames_later (λ how k. MemberFails how ms vs k) (λ how k. MemberFails how (member name s ms) (v ∷ vs) k) (places v) from mid e em (λ how j f. inr (j, refl, f)) b)
+pub fields_count : (enc : Encoding) (place : ℕ) (name named : Name) (s : Shape) (ms : Members) (names : List Name) (v : Val) (vs : List Val) (from mid : ℕ) (r : Result ℕ Fault) → named ≡ name → mid ≡ cap (from + places v) → IsSmall enc s v
+    → FieldsCount enc place ms names vs mid r → FieldsCount enc place (member name s ms) (named ∷ names) (v ∷ vs) from r
+fields_count enc place name named s ms names v vs from mid (Ok to) en em first (same, e, rest) = (ap₂ (λ x xs. x ∷ xs) en same, omega (arith, em, e), member_small enc name s ms v vs first rest)
+fields_count enc place name named s ms names v vs from mid (Err e) en em first (inl (is, other)) = inl (is, λ same. other (tails named name names (member_names ms) same))
+fields_count enc place name named s ms names v vs from mid (Err e) en em first (inr b) =
+    inr (blames_later enc (λ how k. MemberFails how ms vs k) (λ how k. MemberFails how (member name s ms) (v ∷ vs) k) (places v) from mid e em (λ how j f. inr (j, refl, f)) b)
 
-pub product_counts : (place : ℕ) (k : ProductKind) (ms : Members) (names : List Name) (vs : List Val) (v : Val) (r : Result ℕ Fault) → place < 2 ^ 64 → IsProduct k names vs v → length vs ≡ member_count ms
-    → FieldsCount place ms names vs (cap (place + 1)) r → Counts (λ how j. FailsAt how (product k ms) v j) place (places v) r
-product_counts place k ms names vs v (Ok to) small p count (same, e) = omega (arith, e, places_product k names vs v p)
-product_counts place k ms names vs v (Err e) small p count (inl (is, other)) =
-    subst (λ x. Blames (λ how j. FailsAt how (product k ms) v j) place x) (sym is) (0, omega (arith, small), inl (refl, (names, vs, p, count, other)))
-product_counts place k ms names vs v (Err e) small p count (inr b) =
-    blames_later (λ how j. MemberFails how ms vs j) (λ how j. FailsAt how (product k ms) v j) 1 place (cap (place + 1)) e refl (λ how j f. inr (names, vs, j, p, count, refl, f)) b
+pub product_counts : (enc : Encoding) (place : ℕ) (k : ProductKind) (ms : Members) (names : List Name) (vs : List Val) (v : Val) (r : Result ℕ Fault) → place < 2 ^ 64 → IsProduct k names vs v → length vs ≡ member_count ms
+    → FieldsCount enc place ms names vs (cap (place + 1)) r → Counts enc (λ how j. FailsAt how (product k ms) v j) place (places v) r
+product_counts enc place k ms names vs v (Ok to) small p count (same, e, fit) = (omega (arith, e, places_product k names vs v p), product_small enc k ms names vs v p fit)
+product_counts enc place k ms names vs v (Err e) small p count (inl (is, other)) =
+    subst (λ x. Blames enc (λ how j. FailsAt how (product k ms) v j) place x) (sym is) (0, omega (arith, small), inl (refl, (names, vs, p, count, other)))
+product_counts enc place k ms names vs v (Err e) small p count (inr b) =
+    blames_later enc (λ how j. MemberFails how ms vs j) (λ how j. FailsAt how (product k ms) v j) 1 place (cap (place + 1)) e refl (λ how j f. inr (names, vs, j, p, count, refl, f)) b
 
 -- of values whose names are right
-pub count_members : (place : ℕ) (ms : Members) (names : List Name) (vs : List Val) (from : ℕ) (r : Result ℕ Fault) → names ≡ member_names ms → FieldsCount place ms names vs from r
-    → Counts (λ how k. MemberFails how ms vs k) from (all_places vs) r
-count_members place ms names vs from (Ok to) same (_, e) = e
-count_members place ms names vs from (Err e) same (inl (is, other)) = absurd (other same)
-count_members place ms names vs from (Err e) same (inr b) = b
+pub count_members : (enc : Encoding) (place : ℕ) (ms : Members) (names : List Name) (vs : List Val) (from : ℕ) (r : Result ℕ Fault) → names ≡ member_names ms → FieldsCount enc place ms names vs from r
+    → Counts enc (λ how k. MemberFails how ms vs k) from (all_places vs) r
+count_members enc place ms names vs from (Ok to) same (_, e, small) = (e, small)
+count_members enc place ms names vs from (Err e) same (inl (is, other)) = absurd (other same)
+count_members enc place ms names vs from (Err e) same (inr b) = b
 
 -- ---- cores
 

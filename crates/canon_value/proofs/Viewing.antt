@@ -8,17 +8,18 @@ use Rattle.canon_model.proofs.Layouts.{members_end-le-size}
 use Rattle.canon_model.specs.Layout.{align, flat, members_end, members_flat, size}
 use Rattle.canon_model.specs.Shape.{Members, Shape, borrow, fixed, flags, list, member_count, own, product, scalar, string, variant}
 use Rattle.canon_types.specs.Depth.{deepest, depth}
-use Rattle.canon_value.specs.Built.{AreBuilt, IsBuilt}
+use Rattle.canon_plan.specs.Built.{AreBuilt, IsBuilt}
 use Rattle.canon_types.specs.Table.{Table, shape_of}
 use Rattle.canon_types.specs.declared.types.InterfaceType.TheVariants as ty
 use Rattle.canon_value.specs.Elements.{by_turns}
 use Rattle.canon_value.specs.View.{AreKnown, names_of, shapes_of, values_of}
-use Rattle.canon_value.specs.Viewed.{LiesAs}
+use Rattle.canon_plan.specs.Plan.{LiesAs}
 use Rattle.canon_value.specs.declared.members.Members.{Members as View}
 use Rattle.canon_value.specs.declared.members.Members.TheVariants as members
 use Rattle.canon_value.proofs.Lookups.{count_values, count_names, count_no_names}
-use Rattle.canon_value.proofs.PairRows.{count_turns, pair_slots}
-use Rattle.canon_value.proofs.Steps.{copies_count}
+use Rattle.canon_value.proofs.PairRows.{count_turns}
+use Rattle.canon_plan.proofs.Pairs.{pair_slots}
+use Rattle.canon_plan.proofs.Lookups.{copies_count}
 use Rattle.canon_value.proofs.Walks.{copies_built, copies_deepest}
 
 -- as many names as values

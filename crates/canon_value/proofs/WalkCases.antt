@@ -17,20 +17,21 @@ use Rattle.canon_model.specs.Text.{Encoding, utf8}
 use Rattle.canon_model.specs.Tree.{Tree, Trees, case_number}
 use Rattle.canon_types.specs.Depth.{deepest, depth}
 use Rattle.canon_types.specs.Table.{Table}
-use Rattle.canon_value.specs.Built.{AreBuilt, IsBuilt}
-use Rattle.canon_value.specs.Core.{Parts, encoding_by, guest_of, moment_of}
+use Rattle.canon_plan.specs.Built.{AreBuilt, IsBuilt}
+use Rattle.canon_context.specs.Core.{Parts, encoding_by, guest_of, moment_of}
 use Rattle.canon_value.specs.Fails.{FailsAt, MemberFails}
-use Rattle.canon_value.specs.Lowers.{ending_of}
-use Rattle.canon_value.specs.Moves.{Moves}
+use Rattle.canon_context.specs.Lowers.{ending_of}
+use Rattle.canon_context.specs.Moves.{Moves}
 use Rattle.canon_value.specs.Stores.{Counts, PartsStoreTo, StoresTo}
 use Rattle.canon_value.specs.Value.{CaseHas, HasTree, HaveTrees, IsCase, all_places, cap, member_names, places}
 use Rattle.canon_value.specs.View.{AreKnown, names_of, shapes_of, values_of}
 use Rattle.canon_value.specs.Viewed.{IsCaseSeen}
 use Rattle.canon_value.specs.declared.case_view.Case.{Case}
-use Rattle.canon_value.specs.declared.fault.Fault.{Fault}
+use Rattle.canon_context.specs.declared.fault.Fault.{Fault}
 use Rattle.canon_value.specs.declared.val.Val.{Val}
+use Rattle.canon_value.proofs.Sizes.{case_small}
 use Rattle.canon_value.proofs.Cases.{case_back, case_built, case_fails, case_has, case_is, case_places, case_quiet, case_shallow, has_case, one_case}
-use Rattle.canon_value.proofs.Moves.{GuestLaws}
+use Rattle.canon_context.proofs.Moves.{GuestLaws}
 use Rattle.canon_value.proofs.Steps.{blames_later}
 use Rattle.canon_value.proofs.StoreSteps.{Named, count_members, written_whole}
 
@@ -44,23 +45,23 @@ tag_few n = grind arith
 
 module _ (wide : Bool) (enc : Encoding) (k : VariantKind) (cs : Cases) (d : ℕ) (names : List Name) (vs : List Val) (v : Val) (lt : d < case_count cs) (of : IsCase k cs d vs v) (named : names ≡ member_names (case_members cs d)) where
   pub case_told : (ts : Trees) → Named (case_members cs d) names vs ts → HasTree (variant k cs) v (case_tree d ts) × CaseIs wide enc (case_members cs d) d (case_tree d ts)
-  case_told ts (_, have) = let has = case_has cs d vs ts lt have in ((d, vs, ts, of, refl, has), case_is wide enc cs d d vs ts has)
+  case_told ts (_, have) = let has = case_has false cs d vs ts lt have in ((d, vs, ts, of, refl, has), case_is false wide enc cs d d vs ts has)
 
   pub case_untold : (t : Tree) → HasTree (variant k cs) v t → (case_number t ≡ d) × Named (case_members cs d) names vs (payload_trees t) × CaseIs wide enc (case_members cs d) d t
   case_untold t (j, ws, ts, q, et, has) =
       let (ej, ew) = one_case k cs d j vs ws v of q in
       let et2 : t ≡ case_tree d ts = et ∙ ap (λ x. case_tree x ts) ej in
-      let has2 : CaseHas cs d vs ts = subst (λ (x : ℕ). CaseHas cs x vs ts) ej (subst (λ (xs : List Val). CaseHas cs j xs ts) ew has) in (
+      let has2 : CaseHas false cs d vs ts = subst (λ (x : ℕ). CaseHas false cs x vs ts) ej (subst (λ (xs : List Val). CaseHas false cs j xs ts) ew has) in (
         ap case_number et2 ∙ number_of d ts,
-        (named, subst (λ us. HaveTrees (case_members cs d) vs us) (sym (ap payload_trees et2 ∙ case_back cs d d vs ts has2)) (has_case cs d vs ts has2)),
-        subst (λ u. CaseIs wide enc (case_members cs d) d u) (sym et2) (case_is wide enc cs d d vs ts has2),
+        (named, subst (λ us. HaveTrees (case_members cs d) vs us) (sym (ap payload_trees et2 ∙ case_back false cs d d vs ts has2)) (has_case false cs d vs ts has2)),
+        subst (λ u. CaseIs wide enc (case_members cs d) d u) (sym et2) (case_is false wide enc cs d d vs ts has2),
       )
 
-pub case_counted : (k : VariantKind) (cs : Cases) (d : ℕ) (vs : List Val) (v : Val) (place : ℕ) (r : Result ℕ Fault) → IsCase k cs d vs v → Counts (λ how j. MemberFails how (case_members cs d) vs j) (cap (place + 1)) (all_places vs) r
-    → Counts (λ how j. FailsAt how (variant k cs) v j) place (places v) r
-case_counted k cs d vs v place (Ok to) of e = omega (arith, e, case_places k cs d vs v of)
-case_counted k cs d vs v place (Err e) of b =
-    blames_later (λ how j. MemberFails how (case_members cs d) vs j) (λ how j. FailsAt how (variant k cs) v j) 1 place (cap (place + 1)) e refl (λ how j f. inr (d, vs, j, of, refl, case_fails how cs d vs j f)) b
+pub case_counted : (enc : Encoding) (k : VariantKind) (cs : Cases) (d : ℕ) (vs : List Val) (v : Val) (place : ℕ) (r : Result ℕ Fault) → IsCase k cs d vs v → Counts enc (λ how j. MemberFails how (case_members cs d) vs j) (cap (place + 1)) (all_places vs) r
+    → Counts enc (λ how j. FailsAt how (variant k cs) v j) place (places v) r
+case_counted enc k cs d vs v place (Ok to) of (e, small) = (omega (arith, e, case_places k cs d vs v of), case_small enc k cs d vs v of small)
+case_counted enc k cs d vs v place (Err e) of b =
+    blames_later enc (λ how j. MemberFails how (case_members cs d) vs j) (λ how j. FailsAt how (variant k cs) v j) 1 place (cap (place + 1)) e refl (λ how j f. inr (d, vs, j, of, refl, case_fails how cs d vs j f)) b
 
 -- ---- what a view of a case tells a walk
 
@@ -98,7 +99,7 @@ module _ {T G : Type 0} (L : GuestLaws G) (options : ℕ) where
         (tag_written false (encoding_by a options) (L.seen a.guest) a.memory m cs at d small (omega (arith, room, tag-le-size false k cs)) w (tag ∙ mod-eq_of_lt (tag_fits (case_count cs) d lt few)))
         (HasTree (variant k cs) v) (ending_of r) (omega (arith, room, w.same_length, h.storing.lowering.goes.no_shorter))
         (case_told false (encoding_by a options) k cs d names vs v lt of named) (case_untold false (encoding_by a options) k cs d names vs v lt of named) h.storing;
-    counted = case_counted k cs d vs v place r of (count_members place (case_members cs d) names vs (cap (place + 1)) r named h.counted);
+    counted = case_counted (encoding_by a options) k cs d vs v place r of (count_members (encoding_by a options) place (case_members cs d) names vs (cap (place + 1)) r named h.counted);
     moved = subst (λ (n : ℕ). Moves L.seen L.moves (record { guest = a.guest; len = n }) (guest_of c) (ending_of r)) w.same_length h.moved;
     same = h.same;
     quiet = λ none. h.quiet (case_quiet cs d none);

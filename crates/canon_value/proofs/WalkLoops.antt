@@ -8,18 +8,19 @@ use Rattle.canon_model.specs.Shape.{Members, Name, Shape, member, member_count, 
 use Rattle.canon_types.specs.Depth.{deepest, depth}
 use Rattle.canon_types.specs.Table.{Knows, Table, shape_of}
 use Rattle.canon_types.specs.declared.types.InterfaceType.{InterfaceType}
-use Rattle.canon_value.specs.Built.{AreBuilt, IsBuilt}
-use Rattle.canon_value.specs.Core.{Parts, types_of}
+use Rattle.canon_plan.specs.Built.{AreBuilt, IsBuilt}
+use Rattle.canon_context.specs.Core.{Parts, types_of}
 use Rattle.canon_value.specs.Stores.{PartsStoreTo, SameBut, StoresTo}
 use Rattle.canon_value.specs.Value.{no_names}
-use Rattle.canon_value.specs.View.{IsMember, members_from}
-use Rattle.canon_value.specs.declared.fault.Fault.{Fault}
-use Rattle.canon_value.specs.declared.fault.Fault.TheVariants as fault
+use Rattle.canon_value.specs.View.{IsMember}
+use Rattle.canon_plan.specs.Plan.{members_from}
+use Rattle.canon_context.specs.declared.fault.Fault.{Fault}
+use Rattle.canon_context.specs.declared.fault.Fault.TheVariants as fault
 use Rattle.canon_value.specs.declared.members.Member.{Member}
 use Rattle.canon_value.specs.declared.val.Val.{Val}
-use Rattle.canon_value.proofs.Lookups.{drop_all, both, member_room, members_from-all}
+use Rattle.canon_plan.proofs.Lookups.{drop_all, both, member_room, members_from-all}
 use Rattle.canon_value.proofs.StoreSteps.{same_then, same_types}
-use Rattle.canon_value.proofs.Moves.{GuestLaws}
+use Rattle.canon_context.proofs.Moves.{GuestLaws}
 use Rattle.canon_value.proofs.Walks.{parts_cons, parts_named, parts_none, parts_stop}
 
 -- a member is no deeper than the deepest

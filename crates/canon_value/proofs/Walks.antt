@@ -23,38 +23,42 @@ use Rattle.canon_model.specs.Tree.{Tree, Trees, no_trees, parts, tree_count, tre
 use Rattle.canon_types.specs.Depth.{deepest, depth}
 use Rattle.canon_types.specs.Table.{shape_of}
 use Rattle.canon_types.specs.declared.types.InterfaceType.{InterfaceType}
-use Rattle.canon_value.specs.Built.{AreBuilt, IsBuilt}
-use Rattle.canon_value.specs.Core.{Parts, encoding_by, guest_of, moment_of, types_of}
+use Rattle.canon_plan.specs.Built.{AreBuilt, IsBuilt}
+use Rattle.canon_context.specs.Core.{Parts, encoding_by, guest_of, moment_of, types_of}
 use Rattle.canon_value.specs.Fails.{Blames, Failure, FailsAt, MemberFails, SomeFails}
-use Rattle.canon_value.specs.Lowers.{ending_of, fault_ending}
-use Rattle.canon_value.specs.Quiet.{has_block, have_block}
+use Rattle.canon_context.specs.Lowers.{ending_of, fault_ending}
+use Rattle.canon_context.specs.Quiet.{has_block, have_block}
 use Rattle.canon_value.specs.Stores.{Counts, FieldsCount, PartsStoreTo, PlacesTo, StoresTo}
-use Rattle.canon_value.specs.Value.{EachHas, HasTree, HaveTrees, IsFixed, IsProduct, all_places, cap, member_names, no_names, places}
-use Rattle.canon_value.specs.Viewed.{HasMembers, LiesAs}
+use Rattle.canon_value.specs.Value.{EachHas, HasTree, HaveTrees, IsFixed, IsProduct, all_places, cap, member_names, no_names, places, HasTreeAs, HaveTreesAs}
+use Rattle.canon_value.specs.Viewed.{HasMembers}
+use Rattle.canon_plan.specs.Plan.{LiesAs}
 use Rattle.canon_value.specs.Words.{IsWordOf}
 use Rattle.canon_value.specs.declared.blocks.Placed.{Placed}
-use Rattle.canon_value.specs.declared.fault.Fault.{Fault}
-use Rattle.canon_value.specs.declared.fault.Fault.TheVariants as fault
+use Rattle.canon_context.specs.declared.fault.Fault.{Fault}
+use Rattle.canon_context.specs.declared.fault.Fault.TheVariants as fault
 use Rattle.canon_value.specs.declared.val.Val.{Val}
 use Rattle.canon_value.specs.declared.val.Val.TheVariants as val
-use Rattle.canon_value.proofs.Contents.{each_count, fixed_same, list_trees, places_fixed, places_list}
-use Rattle.canon_value.proofs.Moves.{moves_none, moves_then, moves_written, GuestLaws}
-use Rattle.canon_value.proofs.Steps.{blocks_none, no_first, no_later, copies_count, blames_first, blames_later}
-use Rattle.canon_value.proofs.Scalars.{scalar_places, scalar_shape}
+use Rattle.canon_value.proofs.Contents.{each_count, fixed_values, list_trees, places_fixed}
+use Rattle.canon_value.proofs.Sizes.{fixed_small, none_small, scalar_small}
+use Rattle.canon_context.proofs.Moves.{moves_none, moves_then, moves_written, GuestLaws}
+use Rattle.canon_value.proofs.Steps.{blocks_none, no_first, no_later, blames_first, blames_later}
+use Rattle.canon_plan.proofs.Lookups.{copies_count}
+use Rattle.canon_value.proofs.Scalars.{scalar_places}
+use Rattle.canon_plan.proofs.ScalarTypes.{scalar_shape}
 use Rattle.canon_value.proofs.StoreSteps.{Named, count_members, fields_count, heads, least_low, named_join, named_split, not_done, product_counts, same_encoding, same_then, written_whole}
 use Rattle.canon_value.proofs.Values.{product_names, product_values}
 
 -- ---- a row of values, as members of one shape
 
-pub copies_have : (n : ℕ) (s : Shape) (vs : List Val) (ts : Trees) → HaveTrees (copies n s) vs ts → (length vs ≡ n) × EachHas (λ v t. HasTree s v t) vs ts
-copies_have zero s [] ts (ev, et) = (refl, et)
-copies_have zero s (v ∷ vs) ts (ev, et) = cc
-copies_have (suc n) s [] ts (v, others, t, rest, ev, et, has, have) = cc
-copies_have (suc n) s (x ∷ xs) ts (v, others, t, rest, ev, et, has, have) =
+pub copies_have : (lifted : Bool) (n : ℕ) (s : Shape) (vs : List Val) (ts : Trees) → HaveTreesAs lifted (copies n s) vs ts → (length vs ≡ n) × EachHas (λ v t. HasTreeAs lifted s v t) vs ts
+copies_have lifted zero s [] ts (ev, et) = (refl, et)
+copies_have lifted zero s (v ∷ vs) ts (ev, et) = cc
+copies_have lifted (suc n) s [] ts (v, others, t, rest, ev, et, has, have) = cc
+copies_have lifted (suc n) s (x ∷ xs) ts (v, others, t, rest, ev, et, has, have) =
     let first : v ≡ x = cc in
     let tail : others ≡ xs = cc in
-    let more = copies_have n s xs rest (subst (λ ws. HaveTrees (copies n s) ws rest) tail have) in
-    (ap suc more.0, (t, rest, et, subst (λ w. HasTree s w t) first has, more.1))
+    let more = copies_have lifted n s xs rest (subst (λ ws. HaveTreesAs lifted (copies n s) ws rest) tail have) in
+    (ap suc more.0, (t, rest, et, subst (λ w. HasTreeAs lifted s w t) first has, more.1))
 
 pub have_copies : (n : ℕ) (s : Shape) (vs : List Val) (ts : Trees) → length vs ≡ n → EachHas (λ v t. HasTree s v t) vs ts → HaveTrees (copies n s) vs ts
 have_copies zero s [] ts e h = (refl, h)
@@ -86,14 +90,11 @@ copies_names zero s (v ∷ vs) e = absurd (omega (arith, e))
 copies_names (suc n) s [] e = absurd (omega (arith, e))
 copies_names (suc n) s (v ∷ vs) e = ap (λ ns. [] ∷ ns) (copies_names n s vs (omega (arith, e)))
 
-fixed_values : (ws vs : List Val) (v : Val) → IsFixed ws v → IsFixed vs v → ws ≡ vs
-fixed_values ws vs v (ys, e, ey) (xs, f, ex) = fixed_same xs ws (ys, sym f ∙ e, ey) ∙ sym ex
-
-pub fixed_counted : (n : ℕ) (s : Shape) (names : List Name) (vs : List Val) (v : Val) (place : ℕ) (r : Result ℕ Fault) → length vs ≡ n → IsFixed vs v → Counts (λ how k. MemberFails how (copies n s) vs k) (cap (place + 1)) (all_places vs) r
-    → Counts (λ how k. FailsAt how (fixed n s) v k) place (places v) r
-fixed_counted n s names vs v place (Ok to) count (xs, ev, same) e = omega (arith, e, ap places ev ∙ places_fixed xs, ap all_places same)
-fixed_counted n s names vs v place (Err e) count (xs, ev, same) b =
-    blames_later (λ how k. MemberFails how (copies n s) vs k) (λ how k. FailsAt how (fixed n s) v k) 1 place (cap (place + 1)) e refl (λ how j f. inr (vs, j, (xs, ev, same), count, refl, copies_fail how n s vs j f)) b
+pub fixed_counted : (enc : Encoding) (n : ℕ) (s : Shape) (names : List Name) (vs : List Val) (v : Val) (place : ℕ) (r : Result ℕ Fault) → length vs ≡ n → IsFixed vs v → Counts enc (λ how k. MemberFails how (copies n s) vs k) (cap (place + 1)) (all_places vs) r
+    → Counts enc (λ how k. FailsAt how (fixed n s) v k) place (places v) r
+fixed_counted enc n s names vs v place (Ok to) count (xs, ev, same) (e, small) = (omega (arith, e, ap places ev ∙ places_fixed xs, ap all_places same), fixed_small enc n s vs v count (xs, ev, same) small)
+fixed_counted enc n s names vs v place (Err e) count (xs, ev, same) b =
+    blames_later enc (λ how k. MemberFails how (copies n s) vs k) (λ how k. FailsAt how (fixed n s) v k) 1 place (cap (place + 1)) e refl (λ how j f. inr (vs, j, (xs, ev, same), count, refl, copies_fail how n s vs j f)) b
 
 -- ---- a value's tree from its members' trees, and back
 
@@ -107,7 +108,7 @@ product_back k ms names vs v p t (ws, ts, q, et, have) = (
 )
 
 pub fixed_is : (n : ℕ) (s : Shape) (names : List Name) (vs : List Val) (v : Val) → length vs ≡ n → IsFixed vs v → (ts : Trees) → Named (copies n s) names vs ts → HasTree (fixed n s) v (parts ts) × (tree_count ts ≡ n)
-fixed_is n s names vs v enough p ts (_, have) = let (l, each) = copies_have n s vs ts have in ((vs, ts, p, enough, refl, each), each_count (λ w u. HasTree s w u) vs ts each ∙ enough)
+fixed_is n s names vs v enough p ts (_, have) = let (l, each) = copies_have false n s vs ts have in ((vs, ts, p, enough, refl, each), each_count (λ w u. HasTree s w u) vs ts each ∙ enough)
 
 pub fixed_back : (n : ℕ) (s : Shape) (names : List Name) (vs : List Val) (v : Val) → names ≡ no_names vs → length vs ≡ n → IsFixed vs v → (t : Tree) → HasTree (fixed n s) v t → Named (copies n s) names vs (trees_of t)
 fixed_back n s names vs v en enough p t (ws, ts, q, l, et, each) = (
@@ -116,7 +117,7 @@ fixed_back n s names vs v en enough p t (ws, ts, q, l, et, each) = (
 )
 
 pub row_is : (n : ℕ) (s : Shape) (xs : Vec Val Global) → length xs.items ≡ n → (ts : Trees) → Named (copies n s) (no_names xs.items) xs.items ts → HasTree (list of_items s) (val.List xs) (items ts) × (tree_count ts ≡ n)
-row_is n s xs is ts (_, have) = let (l, each) = copies_have n s xs.items ts have in ((xs.items, ts, (xs, refl, refl), refl, each), each_count (λ w u. HasTree s w u) xs.items ts each ∙ is)
+row_is n s xs is ts (_, have) = let (l, each) = copies_have false n s xs.items ts have in ((xs.items, ts, (xs, refl, refl), refl, each), each_count (λ w u. HasTree s w u) xs.items ts each ∙ is)
 
 pub row_back : (n : ℕ) (s : Shape) (xs : Vec Val Global) → length xs.items ≡ n → (t : Tree) → HasTree (list of_items s) (val.List xs) t → Named (copies n s) (no_names xs.items) xs.items (trees_of t)
 row_back n s xs is t has = (copies_names n s xs.items is, have_copies n s xs.items (trees_of t) is (list_trees s xs t has))
@@ -135,7 +136,7 @@ stop_at wide a b enc s at Has ws e not h = record {
 module _ {T G : Type 0} (L : GuestLaws G) (options : ℕ) where
   -- ---- a value by itself
 
-  pub value_refused : (a : Parts T G) (s : Shape) (at : ℕ) (v : Val) (from : ℕ) (e : Fault) → length a.memory ≤ 2 ^ 32 → fault_ending e ≡ refused → Blames (λ how k. FailsAt how s v k) from e
+  pub value_refused : (a : Parts T G) (s : Shape) (at : ℕ) (v : Val) (from : ℕ) (e : Fault) → length a.memory ≤ 2 ^ 32 → fault_ending e ≡ refused → Blames (encoding_by a options) (λ how k. FailsAt how s v k) from e
       → StoresTo L.seen L.moves options a a s at v from (Err e)
   value_refused a s at v from e small is b = record {
     storing = subst (λ (end : Ending). StoresValue false (moment_of L.seen a) (moment_of L.seen a) (encoding_by a options) s at (HasTree s v) end) (sym is) (attempt_refused false (moment_of L.seen a) _ _ small);
@@ -158,7 +159,7 @@ module _ {T G : Type 0} (L : GuestLaws G) (options : ℕ) where
       (subst (λ (s : Shape). StoresTo L.seen L.moves options a (record a { memory = m }) s at v place (Ok next)) (sym shape) (record {
         storing = scalar_stored false (L.seen a.guest) a.memory m (encoding_by a options) at (HasTree (scalar k) v) small k t (omega (arith, room, bytes)) (subst (λ (j : ℕ). Writes (block at j) a.memory m) bytes writes)
             (subst (λ (j : ℕ). ScalarIs k j t) (sym there) is2) (subst (λ (j : ℕ). IsLeast k j) (sym there) least2) has;
-        counted = omega (arith, counted, scalar_places k v t has);
+        counted = (omega (arith, counted, scalar_places k v t has), scalar_small (encoding_by a options) k v);
         moved = moves_written L (guest_of a) a.guest a.memory m done writes.same_length (moves_none L (guest_of a) done);
         same = refl;
         quiet = λ none. (refl, tt);
@@ -210,7 +211,7 @@ module _ {T G : Type 0} (L : GuestLaws G) (options : ℕ) where
   unfolding requests
   parts_none a place at o from small few = record {
     storing = attempt_none false (moment_of L.seen a) _ (members_at false (encoding_by a options) no_members o at (Named no_members [] [])) no_trees small (refl, (refl, refl)) (λ ts h. refl) refl (λ pointer rest. refl);
-    counted = (refl, omega (arith, few));
+    counted = (refl, omega (arith, few), none_small (encoding_by a options));
     moved = moves_none L (guest_of a) done;
     same = refl;
     quiet = λ none. (refl, tt);
@@ -234,7 +235,8 @@ module _ {T G : Type 0} (L : GuestLaws G) (options : ℕ) where
       record {
         storing = first_and false a c enc name named s ms o at names v vs (ending_of r) en
             (members_cons false enc name s ms o at (HasTree s v) (Named ms names vs) (moment_of L.seen a) (moment_of L.seen b) (moment_of L.seen c) (ending_of r) h.storing rest);
-        counted = fields_count place name named s ms names v vs from mid r en h.counted k.counted;
+        counted = fields_count enc place name named s ms names v vs from mid r en h.counted.0 h.counted.1
+            (subst (λ (x : Encoding). FieldsCount x place ms names vs mid r) (same_encoding a b options h.same) k.counted);
         moved = moves_then L (guest_of a) (guest_of b) (guest_of c) (ending_of r) _ _ h.storing.lowering.goes.events rest.lowering.goes.events h.moved k.moved;
         same = same_then a b c h.same k.same;
         quiet = λ none. let one = h.quiet (no_first (has_block s) (have_block ms) none) in let others = k.quiet (no_later (has_block s) (have_block ms) none) in (others.0 ∙ one.0, others.1);
@@ -246,7 +248,7 @@ module _ {T G : Type 0} (L : GuestLaws G) (options : ℕ) where
   parts_stop a b place name named s ms o at names v vs from e en h = record {
     storing = first_and false a b (encoding_by a options) name named s ms o at names v vs (fault_ending e) en
         (members_stop false (encoding_by a options) name s ms o at (HasTree s v) (Named ms names vs) (moment_of L.seen a) (moment_of L.seen b) (fault_ending e) (not_done e) h.storing);
-    counted = inr (blames_first (λ how k. FailsAt how s v k) (λ how k. MemberFails how (member name s ms) (v ∷ vs) k) from e (λ how j f. inl f) h.counted);
+    counted = inr (blames_first (encoding_by a options) (λ how k. FailsAt how s v k) (λ how k. MemberFails how (member name s ms) (v ∷ vs) k) from e (λ how j f. inl f) h.counted);
     moved = h.moved;
     same = h.same;
     quiet = λ none. h.quiet (no_first (has_block s) (have_block ms) none);
@@ -271,7 +273,7 @@ module _ {T G : Type 0} (L : GuestLaws G) (options : ℕ) where
     storing = product_stored false (moment_of L.seen a) (moment_of L.seen c) (encoding_by a options) k ns at (Named ns names vs) (HasTree (product k ns) v) (ending_of r) (omega (arith, room, h.storing.lowering.goes.no_shorter))
         (product_is k ns names vs v p) (product_back k ns names vs v p)
         (subst (λ (xs : Members). StoresMembers false (moment_of L.seen a) (moment_of L.seen c) (encoding_by a options) xs 0 at (Named xs names vs) (ending_of r)) e h.storing);
-    counted = product_counts place k ns names vs v r few p (count ∙ ap member_count e) (subst (λ (xs : Members). FieldsCount place xs names vs (cap (place + 1)) r) e h.counted);
+    counted = product_counts (encoding_by a options) place k ns names vs v r few p (count ∙ ap member_count e) (subst (λ (xs : Members). FieldsCount (encoding_by a options) place xs names vs (cap (place + 1)) r) e h.counted);
     moved = h.moved;
     same = h.same;
     quiet = λ none. h.quiet (ap have_block e ∙ none);
@@ -283,7 +285,8 @@ module _ {T G : Type 0} (L : GuestLaws G) (options : ℕ) where
         storing = fixed_stored false (moment_of L.seen a) (moment_of L.seen c) (encoding_by a options) n s at (Named (copies n s) names vs) (HasTree (fixed n s) v) (ending_of r) (omega (arith, room, h.storing.lowering.goes.no_shorter))
             (fixed_is n s names vs v enough (xs, ev, same)) (fixed_back n s names vs v en enough (xs, ev, same))
             (subst (λ (ys : Members). StoresMembers false (moment_of L.seen a) (moment_of L.seen c) (encoding_by a options) ys 0 at (Named ys names vs) (ending_of r)) e h.storing);
-        counted = fixed_counted n s names vs v place r enough (xs, ev, same) (count_members place (copies n s) names vs (cap (place + 1)) r named (subst (λ (ys : Members). FieldsCount place ys names vs (cap (place + 1)) r) e h.counted));
+        counted = fixed_counted (encoding_by a options) n s names vs v place r enough (xs, ev, same)
+            (count_members (encoding_by a options) place (copies n s) names vs (cap (place + 1)) r named (subst (λ (ys : Members). FieldsCount (encoding_by a options) place ys names vs (cap (place + 1)) r) e h.counted));
         moved = h.moved;
         same = h.same;
         quiet = λ none. h.quiet (ap have_block e ∙ copies_quiet n s none);

@@ -17,20 +17,20 @@ use Rattle.canon_model.specs.Shape.{Cases, Members, Name, Shape, VariantKind, ba
 use Rattle.canon_model.specs.Text.{Encoding}
 use Rattle.canon_model.specs.Tree.{Trees}
 use Rattle.canon_types.specs.Table.{Table}
-use Rattle.canon_value.specs.Core.{Parts, encoding_by, moment_of}
+use Rattle.canon_context.specs.Core.{Parts, encoding_by, moment_of}
 use Rattle.canon_value.specs.Fails.{FailsAt}
-use Rattle.canon_value.specs.Lowers.{fault_ending}
+use Rattle.canon_context.specs.Lowers.{fault_ending}
 use Rattle.canon_value.specs.Stores.{Counts, FieldsCount}
 use Rattle.canon_value.specs.Value.{HasTree, IsCase, cap, member_names, places}
 use Rattle.canon_value.specs.View.{names_of, shapes_of, values_of}
 use Rattle.canon_value.specs.Viewed.{IsCaseSeen}
 use Rattle.canon_value.specs.Words.{Clears, LowersTo, PartsLowerTo, behind_tag}
 use Rattle.canon_value.specs.declared.case_view.Case.{Case}
-use Rattle.canon_value.specs.declared.fault.Fault.{Fault}
+use Rattle.canon_context.specs.declared.fault.Fault.{Fault}
 use Rattle.canon_value.specs.declared.lower.Spot.{Spot}
 use Rattle.canon_value.specs.declared.val.Val.{Val}
 use Rattle.canon_value.proofs.Cases.{case_quiet}
-use Rattle.canon_value.proofs.Moves.{GuestLaws}
+use Rattle.canon_context.proofs.Moves.{GuestLaws}
 use Rattle.canon_value.proofs.StoreSteps.{Named, count_members, not_done}
 use Rattle.canon_value.proofs.WalkCases.{case_counted, case_told, case_untold}
 use Rattle.canon_value.proofs.WordSteps.{have_fit}
@@ -61,9 +61,9 @@ variant_flat : (k : VariantKind) (cs : Cases) → flat (variant k cs) ≡ 1 + ca
 unfolding flat
 variant_flat k cs = refl
 
-case_words_counted : (place : ℕ) (k : VariantKind) (cs : Cases) (d : ℕ) (names : List Name) (vs : List Val) (v : Val) (r : Result ℕ Fault) → IsCase k cs d vs v → names ≡ member_names (case_members cs d) → FieldsCount place (case_members cs d) names vs (cap (place + 1)) r
-    → Counts (λ how j. FailsAt how (variant k cs) v j) place (places v) r
-case_words_counted place k cs d names vs v r of named h = case_counted k cs d vs v place r of (count_members place (case_members cs d) names vs (cap (place + 1)) r named h)
+case_words_counted : (enc : Encoding) (place : ℕ) (k : VariantKind) (cs : Cases) (d : ℕ) (names : List Name) (vs : List Val) (v : Val) (r : Result ℕ Fault) → IsCase k cs d vs v → names ≡ member_names (case_members cs d) → FieldsCount enc place (case_members cs d) names vs (cap (place + 1)) r
+    → Counts enc (λ how j. FailsAt how (variant k cs) v j) place (places v) r
+case_words_counted enc place k cs d names vs v r of named h = case_counted enc k cs d vs v place r of (count_members enc place (case_members cs d) names vs (cap (place + 1)) r named h)
 
 module _ {T G : Type 0} (L : GuestLaws G) (options : ℕ) where
   -- `dst1` has the case's number in its first word, `dst2` the payload behind it, and `dst3` zeros up to the end
@@ -92,7 +92,7 @@ module _ {T G : Type 0} (L : GuestLaws G) (options : ℕ) where
           before = λ p l. clears.before p (omega (arith, l, h.passed)) ∙ (h.stays.before p (omega (arith, l)) ∙ (ap (λ (xs : List ℕ). slice_index xs p) e1 ∙ get_or-set_other dst from.word p d 0 (omega (arith, l))));
         };
         passed = refl;
-        counted = case_words_counted from.place k cs d names vs v (Ok past.place) of named h.counted;
+        counted = case_words_counted enc from.place k cs d names vs v (Ok past.place) of named h.counted;
         moved = h.moved;
         same = h.same;
         quiet = λ none. h.quiet (case_quiet cs d none);
@@ -118,7 +118,7 @@ module _ {T G : Type 0} (L : GuestLaws G) (options : ℕ) where
           before = λ p l. h.stays.before p (omega (arith, l)) ∙ (ap (λ (xs : List ℕ). slice_index xs p) e1 ∙ get_or-set_other dst from.word p d 0 (omega (arith, l)));
         };
         passed = tt;
-        counted = case_words_counted from.place k cs d names vs v (Err e) of named h.counted;
+        counted = case_words_counted enc from.place k cs d names vs v (Err e) of named h.counted;
         moved = h.moved;
         same = h.same;
         quiet = λ none. h.quiet (case_quiet cs d none);

@@ -8,18 +8,19 @@ use Rattle.canon_model.specs.Layout.{flat, members_flat}
 use Rattle.canon_model.specs.Shape.{Members, Name, Shape, member, member_count, no_members}
 use Rattle.canon_types.specs.Table.{Knows, Table, shape_of}
 use Rattle.canon_types.specs.declared.types.InterfaceType.{InterfaceType}
-use Rattle.canon_value.specs.Built.{AreBuilt, IsBuilt}
-use Rattle.canon_value.specs.Core.{Parts, types_of}
+use Rattle.canon_plan.specs.Built.{AreBuilt, IsBuilt}
+use Rattle.canon_context.specs.Core.{Parts, types_of}
 use Rattle.canon_value.specs.Stores.{SameBut}
-use Rattle.canon_value.specs.View.{IsMember, members_from}
-use Rattle.canon_value.specs.declared.fault.Fault.{Fault}
-use Rattle.canon_value.specs.declared.fault.Fault.TheVariants as fault
+use Rattle.canon_value.specs.View.{IsMember}
+use Rattle.canon_plan.specs.Plan.{members_from}
+use Rattle.canon_context.specs.declared.fault.Fault.{Fault}
+use Rattle.canon_context.specs.declared.fault.Fault.TheVariants as fault
 use Rattle.canon_value.specs.declared.members.Member.{Member}
 use Rattle.canon_value.specs.declared.val.Val.{Val}
-use Rattle.canon_value.proofs.Lookups.{drop_all, both, members_from-all}
+use Rattle.canon_plan.proofs.Lookups.{drop_all, both, members_from-all}
 use Rattle.canon_value.proofs.StoreSteps.{same_then, same_types}
 use Rattle.canon_value.proofs.WordSteps.{parts_cons, parts_named, parts_none, parts_stop}
-use Rattle.canon_value.proofs.Moves.{GuestLaws}
+use Rattle.canon_context.proofs.Moves.{GuestLaws}
 
 module _ {T G : Type 0} (seen : G → Seen) (moves : GuestIn G → List Event → GuestIn G → Type 0) (options place : ℕ) (ms : Members) (names : List Name) (vs : List Val) (start : Parts T G) (first : List ℕ) (from : Spot) where
   -- `start` and `first` before the first member, `now` and `dst` before the one of number i, which stands at `next`
@@ -83,7 +84,7 @@ module _ {T G : Type 0} (L : GuestLaws G) (options place : ℕ) (ms : Members) (
           small = one.lowered.lowering.small;
           room = omega (arith, words, h.room, one.passed, one.stays.same_length);
           built = (both _ _ (subst (λ (xs : Members). AreBuilt xs) is.shapes h.built)).1;
-          counted = omega (arith, one.counted);
+          counted = omega (arith, one.counted.0);
           same = same_then start now now2 h.same one.same;
           rest = λ z zs r more. h.rest z zs r (told z zs r (parts_cons L options now now2 z dst dst2 zs place is.name is.named s (members_from (i + 1) ms) (drop (i + 1) names) m.value.now (drop (i + 1) vs) next next2 r (is.same.0 named) one more));
         }

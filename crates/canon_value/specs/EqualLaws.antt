@@ -1,7 +1,6 @@
 -- The test of `==` decides what it says, so `==` is an equivalence.
-use Rattle.std.specs.Prelude.{◌≡◌, ◌&&◌, ◌==◌, Bool, List, [], ◌∷◌, false, nat_eq, slice_index_or, true, ⊤, ℕ, ℤ}
+use Rattle.std.specs.Prelude.{◌≡◌, ◌&&◌, ◌==◌, Bool, List, [], ◌∷◌, false, nat_eq, slice_index_or, true, ⊤, ℕ, ℤ, Decides}
 use Rattle.std.proofs.Common.{◌∙◌, ap, refl, subst, sym}
-use Rattle.std.specs.Prelude.{Decides}
 use Rattle.std.specs.Cmp.{IsEquivalence, decided, first_so, on_equiv, second_so, signed_Decides, unsigned_Decides}
 use Rattle.std.specs.Cmp.Lexicographic.{bytes_decides, pointwise, pointwise_decides}
 use Rattle.std.specs.Ordering.{int_eq}
@@ -11,7 +10,8 @@ use Rattle.canon_value.specs.Equal.{Data, Datas, IsEqual, DataKind, all_same, co
 use Rattle.canon_value.specs.declared.val.Val.{Val}
 
 abbrev kinds : List DataKind
-kinds = equal.bool ∷ equal.s8 ∷ equal.u8 ∷ equal.s16 ∷ equal.u16 ∷ equal.s32 ∷ equal.u32 ∷ equal.s64 ∷ equal.u64 ∷ equal.f32 ∷ equal.f64 ∷ equal.char ∷ equal.string ∷ equal.list ∷ equal.pairs ∷ equal.fields ∷ equal.tuple ∷ equal.variant ∷ equal.enum ∷ equal.option ∷ equal.result ∷ equal.flags ∷ equal.fixed ∷ []
+kinds = equal.bool ∷ equal.s8 ∷ equal.u8 ∷ equal.s16 ∷ equal.u16 ∷ equal.s32 ∷ equal.u32 ∷ equal.s64 ∷ equal.u64 ∷ equal.f32 ∷ equal.f64 ∷ equal.char
+    ∷ equal.string ∷ equal.list ∷ equal.pairs ∷ equal.fields ∷ equal.tuple ∷ equal.variant ∷ equal.enum ∷ equal.option ∷ equal.result ∷ equal.flags ∷ equal.fixed ∷ []
 
 abbrev kind_at : ℕ → DataKind
 kind_at n = slice_index_or kinds n equal.bool

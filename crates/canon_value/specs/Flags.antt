@@ -12,11 +12,11 @@ use Rattle.canon_model.specs.Tree.{bits}
 use Rattle.canon_types.specs.Table.{Table, shape_of}
 use Rattle.canon_types.specs.declared.types.InterfaceType.{InterfaceType}
 use Rattle.canon_types.specs.declared.types.InterfaceType.TheVariants as ty
-use Rattle.canon_value.specs.Value.{AreMarked, HasTree, Occurs}
+use Rattle.canon_value.specs.Value.{AreMarked, IsLiftedFrom, Occurs}
 use Rattle.canon_value.specs.declared.flags.Marks.{Marks}
 use Rattle.canon_value.specs.declared.flags.Marks.TheVariants as marks
-use Rattle.canon_value.specs.declared.fault.Fault.{Fault}
-use Rattle.canon_value.specs.declared.fault.Fault.TheVariants as fault
+use Rattle.canon_context.specs.declared.fault.Fault.{Fault}
+use Rattle.canon_context.specs.declared.fault.Fault.TheVariants as fault
 use Rattle.canon_value.specs.declared.val.Val.{Val}
 
 -- ---- names
@@ -80,7 +80,7 @@ marked_number (marks.Words words from) n = low_number words.now from (flag_words
 
 -- the flags whose bits these are, and the bytes of their names were taken from the fuel
 abbrev pub AreFlags : Shape → ℕ → ℕ → ℕ → Val → Type 0
-AreFlags s n before after v = HasTree s v (bits (bits_of (length (names_in_flags s)) n)) × (before ≡ after + set_length (names_in_flags s) (bits_of (length (names_in_flags s)) n))
+AreFlags s n before after v = IsLiftedFrom s v (bits (bits_of (length (names_in_flags s)) n)) × (before ≡ after + set_length (names_in_flags s) (bits_of (length (names_in_flags s)) n))
 
 -- memory was short, or the fuel
 abbrev pub AreUnpaid : Shape → ℕ → ℕ → Fault → Type 0

@@ -1,23 +1,19 @@
 -- A value as the shape of its type sees it.
-use Rattle.std.specs.Prelude.{IsTrue, List, [], drop, length, suc, zero, ℕ, ⊤, ◌+◌, ◌<◌, ◌^◌, ◌↔◌, ◌∷◌, ◌≡◌}
+use Rattle.std.specs.Prelude.{IsTrue, List, [], drop, length, ℕ, ⊤, ◌+◌, ◌<◌, ◌^◌, ◌↔◌, ◌∷◌, ◌≡◌}
 use Rattle.canon_lowering.specs.Copies.{copies}
 use Rattle.canon_model.specs.Shape as shape
-use Rattle.canon_model.specs.Shape.{Name, Shape, borrow, fixed, flags, list, member, member_count, no_members, of_items, own, product, scalar, string, variant}
+use Rattle.canon_model.specs.Shape.{Name, member, member_count, no_members}
 use Rattle.canon_types.specs.Depth.{product_members}
 use Rattle.canon_types.specs.Table.{HasTuple, Knows, Table, shape_of, tuple_members}
 use Rattle.canon_types.specs.declared.types.InterfaceType.TheVariants as ty
-use Rattle.canon_value.specs.Elements.{IsMap, by_turns, row_of}
+use Rattle.canon_plan.specs.Element.{IsMap, row_of}
+use Rattle.canon_value.specs.Elements.{by_turns}
 use Rattle.canon_value.specs.Value.{names_in, no_names, values_in}
 use Rattle.canon_value.specs.declared.members.Member.{Member}
 use Rattle.canon_value.specs.declared.members.Members.{Members}
 use Rattle.canon_value.specs.declared.members.Members.TheVariants as members
 use Rattle.canon_value.specs.declared.val.Val.{Val}
-
--- the members from the one of this number on
-abbrev pub members_from : ℕ → shape.Members → shape.Members
-members_from zero ms = ms
-members_from (suc i) no_members = no_members
-members_from (suc i) (member name s ms) = members_from i ms
+use Rattle.canon_plan.specs.Plan.{members_from}
 
 -- their shapes, by the table, their values and their names
 abbrev pub shapes_of : Table → Members → shape.Members

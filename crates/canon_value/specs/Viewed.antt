@@ -1,31 +1,27 @@
 -- A value as the shape of its type sees it, or why it isn't of its type.
 use Rattle.std.specs.Prelude.{◌≡◌, ◌<◌, Err, List, Ok, Result, length, ℕ}
 use Rattle.canon_abi.specs.Abi.{HasInfo}
-use Rattle.canon_lowering.specs.Copies.{case_members, copies}
+use Rattle.canon_lowering.specs.Copies.{case_members}
 use Rattle.canon_lowering.specs.Lowering.{refused}
-use Rattle.canon_model.specs.Shape as shape
-use Rattle.canon_model.specs.Shape.{Cases, Name, Shape, VariantKind, case_count, fixed, list, member_count, of_items, product, string, variant}
-use Rattle.canon_types.specs.Table.{Knows, Table, shape_of}
+use Rattle.canon_model.specs.Shape.{Cases, Name, Shape, VariantKind, case_count, fixed, member_count, product, string, variant}
+use Rattle.canon_types.specs.Table.{Table, shape_of}
 use Rattle.canon_types.specs.declared.types.InterfaceType.{InterfaceType}
-use Rattle.canon_value.specs.Elements.{IsKnown, element_in, list_shape, list_value}
+use Rattle.canon_plan.specs.Element.{IsKnown, list_shape}
+use Rattle.canon_value.specs.Elements.{element_in, list_value}
 use Rattle.canon_value.specs.Fails.{Blames, FailsAt}
 use Rattle.canon_value.specs.Flags.{IsFlagsType}
-use Rattle.canon_value.specs.Lowers.{fault_ending}
+use Rattle.canon_context.specs.Lowers.{fault_ending}
 use Rattle.canon_value.specs.Value.{IsCase, IsFixed, IsProduct, member_names, no_names}
 use Rattle.canon_value.specs.View.{AreKnown, names_of, shapes_of, values_of}
 use Rattle.canon_value.specs.Words.{IsWordOf}
 use Rattle.canon_value.specs.declared.case_view.Case.{Case}
-use Rattle.canon_value.specs.declared.fault.Fault.{Fault}
+use Rattle.canon_context.specs.declared.fault.Fault.{Fault}
 use Rattle.canon_value.specs.declared.val.Val.{Val}
 use Rattle.canon_value.specs.declared.val.Val.TheVariants as val
 use Rattle.canon_value.specs.declared.view.View.{View}
 use Rattle.canon_value.specs.declared.view.View.TheVariants as view
-
--- the shape lies as these members do, from its address on and in its words
-abbrev pub LiesAs : Shape → shape.Members → Type 0
-LiesAs (product k ms) these = these ≡ ms
-LiesAs (fixed n s) these = these ≡ copies n s
-LiesAs _ these = ⊥
+use Rattle.canon_plan.specs.Plan.{LiesAs}
+use Rattle.canon_model.specs.Text.{Encoding}
 
 -- the value is of the shape's kind, and these are its members
 abbrev pub HasMembers : Shape → List Name → List Val → Val → Type 0
@@ -57,4 +53,4 @@ Views t type v (view.Flags names) = IsFlagsType type × (v ≡ val.Flags names.n
 -- of a value that has this place: it is seen so, or it isn't of its type
 abbrev pub Viewed : Table → InterfaceType → Val → ℕ → Result View Fault → Type 0
 Viewed t type v place (Ok x) = Views t type v x
-Viewed t type v place (Err e) = (fault_ending e ≡ refused) × Blames (λ how k. FailsAt how (shape_of t type) v k) place e
+Viewed t type v place (Err e) = (fault_ending e ≡ refused) × ((enc : Encoding) → Blames enc (λ how k. FailsAt how (shape_of t type) v k) place e)

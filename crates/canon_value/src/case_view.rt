@@ -15,10 +15,10 @@ use canon_types::{
 
 /// How the type's cases lie, the number of the value's, and its payload.
 #[derive(Clone, Copy)]
-pub(crate) struct Case<'a> {
-    pub(crate) info: VariantInfo,
-    pub(crate) tag: u32,
-    pub(crate) payload: Members<'a>,
+pub struct Case<'a> {
+    pub info: VariantInfo,
+    pub tag: u32,
+    pub payload: Members<'a>,
 }
 
 pub(crate) fn variant_view<'a>(

@@ -13,25 +13,24 @@ ghost use Rattle.canon_value.specs.Lifts.{LiftsTo};
 ghost use Rattle.canon_model.specs.Memory.{low};
 ghost use Rattle.canon_model.specs.Shape.{Name};
 ghost use Rattle.canon_types.specs.Table.{Knows, shape_of};
-ghost use Rattle.canon_value.specs.Core.{types_of};
+ghost use Rattle.canon_context.specs.Core.{types_of};
 ghost use Rattle.canon_value.specs.Flags.{AreFlags, AreSetInWords, AreUnpaid, HasPlace, HasRoom, IsFlagsType, SetsBit, SomeUnknown, digit_of, flag_names, marked_number, width_of};
 ghost use Rattle.canon_value.specs.Stores.{StoresTo};
 ghost use Rattle.canon_value.specs.Value.{Occurs};
 ghost use Rattle.canon_value.specs.Words.{LowersTo, WordsStay};
 ghost use Rattle.canon_value.specs.declared.val.Val.TheVariants as val;
 
-use crate::fuel::charge;
 use crate::lift::keep;
-use crate::load::Source;
 use crate::lower::Spot;
 use crate::{Fault, LowerContext, Val};
+use canon_context::{Source, charge};
 use canon_memory::{Guest, ValRaw};
 use canon_types::{ComponentTypes, InterfaceType, TypeFlagsIndex};
 use std::alloc::Global;
 
 /// The number of a name among those of the type. The table hashes its names, so that flags take time linear in the names
 /// of the type and of the value together.
-fn number_of(types: &ComponentTypes, i: TypeFlagsIndex, name: &String) -> Option<usize>
+pub fn number_of(types: &ComponentTypes, i: TypeFlagsIndex, name: &String) -> Option<usize>
     requires known { Knows types.now (InterfaceType.Flags i) }
     ensures some { IfSome result (λ k. (k < length (flag_names types.now i)) × ((d : Name) → slice_index_or (flag_names types.now i) k d ≡ string_bytes name.now)) }
     ensures none { IsNone result → ¬ Occurs (string_bytes name.now) (flag_names types.now i) }
@@ -186,7 +185,7 @@ fn clear_words(dst: &mut [ValRaw], first: usize, count: usize)
 }
 
 /// Sets the bit of this number, of those in the bytes from an address on.
-fn mark_byte(memory: &mut [u8], at: u64, k: usize)
+pub fn mark_byte(memory: &mut [u8], at: u64, k: usize)
     requires room { at + k / 8 < length memory.old }
     ensures { SetsBit 8 (at + k / 8) (k % 8) memory.old memory.new }
 {
@@ -208,7 +207,7 @@ fn mark_word(dst: &mut [ValRaw], first: usize, k: usize)
 
 /// Where the bits of flags are read: in bytes from an address on, or in the low halves of words from one on.
 #[derive(Clone, Copy)]
-pub(crate) enum Marks<'a> {
+pub enum Marks<'a> {
     Bytes(&'a [u8], u64),
     Words(&'a [ValRaw], usize),
 }
@@ -255,7 +254,7 @@ pub(crate) fn lift_flags(
 
 /// The flags whose bits are set, in the order of the type. The bytes of their names are charged. Bits past the last
 /// name aren't read.
-pub(crate) fn flags_of(
+pub fn flags_of(
     alloc: Global,
     types: &ComponentTypes,
     fuel: &mut u64,

@@ -3,39 +3,31 @@
 
 mod args;
 mod blocks;
-mod built;
-mod case_plan;
 mod case_view;
 mod clone;
-mod component;
-mod context;
-mod core_data;
 mod elements;
 mod equal;
-mod fault;
 mod flags;
-mod flat;
-mod fuel;
 pub mod laws;
 mod lift;
 mod load;
+mod load_text;
 mod lower;
 mod members;
-mod plan;
+pub mod parts;
 mod rebuild;
 mod rebuild_case;
 mod results;
 mod scalar_bytes;
 mod store;
+mod texts;
 mod val;
 mod view;
 
 pub use args::lower_args;
-pub use built::is_built;
-pub use component::{Component, Export};
-pub use context::{LiftContext, LowerContext};
-pub use core_data::Core;
-pub use fault::{At, Fault};
-pub use fuel::HostcallFuelExhausted;
+pub use canon_context::{
+    At, Component, Core, Export, Fault, HostcallFuelExhausted, LiftContext, LowerContext,
+};
+pub use canon_plan::is_built;
 pub use results::lift_results;
 pub use val::Val;

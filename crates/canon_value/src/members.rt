@@ -5,7 +5,8 @@ ghost use Rattle.canon_lowering.specs.Copies.{copies};
 ghost use Rattle.canon_model.specs.Shape.{member, member_count, no_members};
 ghost use Rattle.canon_types.specs.Depth.{product_members};
 ghost use Rattle.canon_types.specs.Table.{HasTuple, Knows, Table, shape_of, tuple_members};
-ghost use Rattle.canon_value.specs.Elements.{IsKnown, by_turns, element_in, list_length, list_shape, row_of, values_listed};
+ghost use Rattle.canon_plan.specs.Element.{IsKnown, list_shape, row_of};
+ghost use Rattle.canon_value.specs.Elements.{by_turns, element_in, list_length, values_listed};
 ghost use Rattle.canon_value.specs.Value.{names_in, no_names, values_in};
 ghost use Rattle.canon_value.specs.View.{AreFew, AreKnown, IsMember, names_of, shapes_of, values_of};
 
@@ -15,7 +16,7 @@ use canon_types::{ComponentTypes, InterfaceType, TypeMapIndex, TypeRecordIndex, 
 
 /// Values in a row, and where their types stand.
 #[derive(Clone, Copy)]
-pub(crate) enum Members<'a> {
+pub enum Members<'a> {
     Fields(TypeRecordIndex, &'a [(String, Val)]),
     Places(TypeTupleIndex, &'a [Val]),
     Items(InterfaceType, &'a [Val]),
@@ -29,14 +30,14 @@ pub(crate) enum Members<'a> {
 
 /// One of them: its type, the value, and whether it has its type's name.
 #[derive(Clone, Copy)]
-pub(crate) struct Member<'a> {
-    pub(crate) ty: InterfaceType,
-    pub(crate) value: &'a Val,
-    pub(crate) is_named: bool,
+pub struct Member<'a> {
+    pub ty: InterfaceType,
+    pub value: &'a Val,
+    pub is_named: bool,
 }
 
 /// How many there are.
-pub(crate) fn count_of(members: &Members<'_>) -> usize
+pub fn count_of(members: &Members<'_>) -> usize
     requires few { AreFew members.now }
     ensures { result ≡ length (values_of members.now) }
 {
@@ -51,7 +52,7 @@ pub(crate) fn count_of(members: &Members<'_>) -> usize
 }
 
 /// The one of this number.
-pub(crate) fn member_of<'a>(types: &ComponentTypes, members: &Members<'a>, k: usize) -> Member<'a>
+pub fn member_of<'a>(types: &ComponentTypes, members: &Members<'a>, k: usize) -> Member<'a>
     requires known { AreKnown types.now members.now }
     requires inside { k < length (values_of members.now) }
     ensures { IsMember types.now (shapes_of types.now members.now) (names_of members.now) (values_of members.now) k result }

@@ -5,7 +5,8 @@ ghost use Rattle.canon_model.specs.Shape.{member_count, of_fields};
 ghost use Rattle.canon_types.specs.Depth.{product_members};
 ghost use Rattle.canon_types.specs.Table.{Knows, shape_of};
 ghost use Rattle.canon_value.specs.Elements.{by_turns};
-ghost use Rattle.canon_value.specs.Plan.{IsKind, IsRebuilt, parts_of};
+ghost use Rattle.canon_plan.specs.Plan.{IsKind};
+ghost use Rattle.canon_value.specs.Plan.{IsRebuilt, parts_of};
 ghost use Rattle.canon_value.specs.Value.{IsPairs, IsProduct, member_names, names_in, values_in};
 
 use crate::lift::keep;
@@ -14,7 +15,7 @@ use canon_types::{ComponentTypes, InterfaceType, RecordField, TypeRecordIndex};
 use std::alloc::Global;
 
 /// The value of the type that has these members. Its names are the type's; they want memory.
-pub(crate) fn rebuild(
+pub fn rebuild(
     alloc: Global,
     types: &ComponentTypes,
     ty: &InterfaceType,

@@ -5,7 +5,8 @@ ghost use Rattle.canon_lowering.specs.Copies.{case_members};
 ghost use Rattle.canon_model.specs.Shape.{Cases, case_count, member_count, of_cases, of_names, of_option, of_result};
 ghost use Rattle.canon_types.specs.Depth.{variant_cases};
 ghost use Rattle.canon_types.specs.Table.{Knows, shape_of};
-ghost use Rattle.canon_value.specs.Plan.{IsCaseKind, IsCaseRebuilt};
+ghost use Rattle.canon_plan.specs.Plan.{IsCaseKind};
+ghost use Rattle.canon_value.specs.Plan.{IsCaseRebuilt};
 ghost use Rattle.canon_value.specs.Value.{IsCase, IsFirst, case_names, unboxed};
 
 use crate::{Fault, Val};
@@ -13,7 +14,7 @@ use canon_types::{ComponentTypes, InterfaceType, TypeEnumIndex, TypeVariantIndex
 use std::alloc::Global;
 
 /// The value of case `tag` of the type, with this payload or none. A payload and a name want memory.
-pub(crate) fn rebuild_case(
+pub fn rebuild_case(
     alloc: Global,
     types: &ComponentTypes,
     ty: &InterfaceType,

@@ -1,4 +1,4 @@
-ghost use Rattle.std.specs.Prelude.{◌≡◌, ◌≤◌, ◌<◌, ◌+◌, ◌*◌, ◌%◌, ◌^◌, false, IfErr, Ok, length};
+ghost use Rattle.std.specs.Prelude.{◌≡◌, ◌≤◌, ◌<◌, ◌+◌, ◌*◌, ◌%◌, ◌^◌, false, IfErr, Ok, OnOk, length};
 ghost use Rattle.canon_lowering.specs.Steps.{Writes};
 ghost use Rattle.canon_lowering.specs.Attempt.{StoresValue};
 ghost use Rattle.canon_lowering.specs.Storing.{IsPair, narrow};
@@ -7,33 +7,36 @@ ghost use Rattle.canon_model.specs.Layout.{align, members_end, size};
 ghost use Rattle.canon_model.specs.Memory.{num};
 ghost use Rattle.canon_model.specs.Shape.{member_count, string};
 ghost use Rattle.canon_types.specs.Table.{Knows, shape_of};
-ghost use Rattle.canon_value.specs.Built.{AreBuilt, IsBuilt};
-ghost use Rattle.canon_value.specs.Core.{encoding_by, guest_of, moment_of, types_of};
-ghost use Rattle.canon_value.specs.Elements.{IsKnown, element_in, list_shape, list_value};
-ghost use Rattle.canon_value.specs.Fails.{BlamesValue};
-ghost use Rattle.canon_value.specs.Lowers.{ending_of};
-ghost use Rattle.canon_value.specs.Moves.{Moves};
-ghost use Rattle.canon_value.specs.Quiet.{Quiet, has_block};
+ghost use Rattle.canon_plan.specs.Built.{AreBuilt, IsBuilt};
+ghost use Rattle.canon_context.specs.Core.{encoding_by, guest_of, moment_of, types_of};
+ghost use Rattle.canon_plan.specs.Element.{IsKnown, list_shape};
+ghost use Rattle.canon_value.specs.Elements.{element_in, list_value};
+ghost use Rattle.canon_value.specs.Fails.{BlamesValue, IsSmall};
+ghost use Rattle.canon_context.specs.Lowers.{ending_of};
+ghost use Rattle.canon_context.specs.Moves.{Moves};
+ghost use Rattle.canon_context.specs.Quiet.{Quiet, has_block};
 ghost use Rattle.canon_value.specs.Stores.{PartsStoreTo, PlacesTo, SameBut, StoresTo};
 ghost use Rattle.canon_value.specs.declared.val.Val.TheVariants as val;
 ghost use Rattle.canon_value.specs.Value.{HasTree};
 ghost use Rattle.canon_value.specs.View.{AreKnown, names_of, shapes_of, values_of};
 ghost use Rattle.canon_value.specs.Words.{IsWordOf};
 
-use crate::blocks::{Placed, ask_items, block_size, place_text};
-use crate::elements::{Elements, element_abi, element_count, element_of};
+use crate::blocks::{Placed, ask_items, block_size};
+use crate::elements::{Elements, element_count, element_of};
 use crate::flags::store_names;
 use crate::members::{Members, count_of, member_of, members_in};
+use crate::texts::place_text;
 use crate::view::{View, view_of};
 use crate::{Fault, LowerContext, Val};
 use canon_memory::Guest;
+use canon_plan::element_abi;
 use canon_types::InterfaceType;
 
 impl Val {
     /// Stores the value at an address of the guest's memory (CanonicalABI.md, "store"). Answers `TypeMismatch`,
-    /// `LengthMismatch`, `FieldName`, `UnknownCase`, `PayloadExpected` or `PayloadNotExpected` where the value isn't of the type,
-    /// `StringTooLong` or `SizeOverflow` where a block would be too large, and the faults of `LowerContext::realloc`. A value of a type that reaches no text and no list asks the
-    /// guest for nothing. At an error its place and its blocks may have changed.
+    /// `LengthMismatch`, `FieldName`, `UnknownCase`, `UnknownFlag`, `PayloadExpected` or `PayloadNotExpected` where the value
+    /// isn't of the type, `StringTooLong` or `SizeOverflow` where a block would be too large, and the faults of
+    /// `LowerContext::realloc`. A value of a type that reaches no text and no list asks the guest for nothing. At an error its place and its blocks may have changed.
     pub fn store<T, G: Guest>(
         &self,
         cx: &mut LowerContext<'_, T, G>,
@@ -46,7 +49,8 @@ impl Val {
         requires room { offset + size false (shape_of (types_of cx.old.core.now) ty) ≤ length cx.old.core.now.memory }
         ensures stored { StoresValue false (moment_of G.seen cx.old.core.now) (moment_of G.seen cx.new.core.now) (encoding_by cx.old.core.now cx.old.options)
             (shape_of (types_of cx.old.core.now) ty) offset (HasTree (shape_of (types_of cx.old.core.now) ty) self.now) (ending_of result) }
-        ensures cause { IfErr result (BlamesValue (shape_of (types_of cx.old.core.now) ty) self.now) }
+        ensures cause { IfErr result (BlamesValue (encoding_by cx.old.core.now cx.old.options) (shape_of (types_of cx.old.core.now) ty) self.now) }
+        ensures small { OnOk result (IsSmall (encoding_by cx.old.core.now cx.old.options) (shape_of (types_of cx.old.core.now) ty) self.now) }
         ensures quiet { Quiet (has_block (shape_of (types_of cx.old.core.now) ty)) (cx.new.core.now.guest ≡ cx.old.core.now.guest) result }
         ensures moves { Moves G.seen G.moves (guest_of cx.old.core.now) (guest_of cx.new.core.now) (ending_of result) }
         ensures same_core { SameBut cx.old.core.now cx.new.core.now }

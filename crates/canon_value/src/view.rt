@@ -3,7 +3,7 @@
 ghost use Rattle.std.specs.Prelude.{◌≡◌};
 ghost use Rattle.canon_model.specs.Shape.{string};
 ghost use Rattle.canon_types.specs.Table.{Knows, shape_of};
-ghost use Rattle.canon_value.specs.Built.{IsBuilt, IsScalarType};
+ghost use Rattle.canon_plan.specs.Built.{IsBuilt, IsScalarType};
 ghost use Rattle.canon_value.specs.Viewed.{Viewed};
 
 use crate::case_view::{Case, enum_view, option_view, result_view, variant_view};
@@ -16,7 +16,7 @@ use canon_types::{
     TypeMapIndex, TypeRecordIndex, TypeTupleIndex,
 };
 
-pub(crate) enum View<'a> {
+pub enum View<'a> {
     /// A scalar's word.
     Scalar(u64),
     Text(&'a String),
@@ -30,7 +30,7 @@ pub(crate) enum View<'a> {
 
 /// The view of a value that has this place. Answers `TypeMismatch`, `LengthMismatch`, `UnknownCase`, `PayloadExpected` or
 /// `PayloadNotExpected` where the value isn't of the type; names of fields aren't tested.
-pub(crate) fn view_of<'a>(
+pub fn view_of<'a>(
     types: &ComponentTypes,
     ty: &InterfaceType,
     value: &'a Val,

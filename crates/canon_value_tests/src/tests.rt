@@ -5,7 +5,7 @@ ghost use Rattle.canon_types.specs.Refusal.{empty_table, with_definition};
 ghost use Rattle.canon_types.specs.Table.{TupleType};
 ghost use Rattle.canon_types.specs.declared.types.InterfaceType.TheVariants as ty;
 
-use canon_memory::{Memory, Step, ValRaw, Words};
+use canon_memory::{Event, Journaled, Memory, Step, ValRaw, Words};
 use canon_scripted::{Action, ScriptedGuest};
 use canon_types::{
     CanonicalOptions, ComponentTypes, InstanceType, InterfaceType, OptionsIndex, RecordField,
@@ -100,6 +100,115 @@ fn a_text_is_stored_and_loaded(rt: HostRuntime) {
     );
     let value = Val::load(alloc, &mut cx, InterfaceType::String, 8);
     assert!(rt; matches!(&value, Ok(Val::String(text)) if text.as_str() == "é"));
+}
+
+/// A core whose texts are spelled so, and whose guest allocates from 1024 up and tells its journal.
+fn told_core(
+    rt: &impl Abort,
+    alloc: Global,
+    encoding: StringEncoding,
+) -> Core<u32, Journaled<ScriptedGuest>>
+    ensures options { length result.component.options.items ≡ 1 }
+{
+    let mut component = component_of(rt, alloc, TypeBuilder::new(alloc).finish());
+    component.options[0].string_encoding = encoding;
+    let guest = Journaled::new(alloc, ScriptedGuest::new(alloc, 1024));
+    let memory = Memory::new(alloc, 2048).expect(rt, "memory");
+    Core::new(
+        alloc,
+        StoreId::from_u64(6),
+        5,
+        guest,
+        memory,
+        component,
+        1_000,
+    )
+    .expect(rt, "memory")
+}
+
+/// Whether a block was asked for so, and answered with 1024.
+fn is_asked(event: Option<&Event>, old: u64, old_size: u64, align: u32, new_size: u64) -> bool {
+    let Some(
+        Event::Realloc {
+            old: from,
+            old_size: has,
+            align: to,
+            new_size: wants,
+            answer,
+        },
+    ) = event
+    else {
+        return false;
+    };
+    *from == old && *has == old_size && *to == align && *wants == new_size && *answer == 1024
+}
+
+#[test]
+#[tactic(auto, unfolding(canon_model::specs::Layout::flat))]
+fn a_text_in_utf16_gives_back_what_it_does_not_need(rt: HostRuntime) {
+    let alloc = rt.alloc();
+    let mut core = told_core(&rt, alloc, StringEncoding::Utf16);
+    let mut words = [ValRaw::u64(u64::MAX); 2];
+    let text = text_of(&rt, alloc, "é");
+    let mut cx = LowerContext::new(&mut core, OptionsIndex::from_u32(0));
+    assert!(rt;
+        text.lower(&mut cx, InterfaceType::String, &mut words)
+            .is_ok()
+    );
+    assert!(rt; words == [ValRaw::u64(1024), ValRaw::u64(1)]);
+    assert!(rt;
+        cx.as_slice_mut().get(1024) == Some(&0xe9) && cx.as_slice_mut().get(1025) == Some(&0)
+    );
+    let journal = core.guest_mut().take_journal();
+    assert!(rt; journal.len() == 2);
+    assert!(rt; is_asked(journal.as_slice().first(), 0, 0, 2, 4));
+    assert!(rt; is_asked(journal.as_slice().last(), 1024, 4, 2, 2));
+}
+
+#[test]
+#[tactic(auto, unfolding(canon_model::specs::Layout::flat))]
+fn a_compact_text_stays_latin1(rt: HostRuntime) {
+    let alloc = rt.alloc();
+    let mut core = told_core(&rt, alloc, StringEncoding::CompactUtf16);
+    let mut words = [ValRaw::u64(u64::MAX); 2];
+    let text = text_of(&rt, alloc, "é");
+    let mut cx = LowerContext::new(&mut core, OptionsIndex::from_u32(0));
+    assert!(rt;
+        text.lower(&mut cx, InterfaceType::String, &mut words)
+            .is_ok()
+    );
+    assert!(rt; words == [ValRaw::u64(1024), ValRaw::u64(1)]);
+    assert!(rt; cx.as_slice_mut().get(1024) == Some(&0xe9));
+    let journal = core.guest_mut().take_journal();
+    assert!(rt; journal.len() == 2);
+    assert!(rt; is_asked(journal.as_slice().first(), 0, 0, 2, 2));
+    assert!(rt; is_asked(journal.as_slice().last(), 1024, 2, 2, 1));
+}
+
+#[test]
+#[tactic(auto, unfolding(canon_model::specs::Layout::flat))]
+fn a_compact_text_becomes_utf16(rt: HostRuntime) {
+    let alloc = rt.alloc();
+    let mut core = told_core(&rt, alloc, StringEncoding::CompactUtf16);
+    let mut words = [ValRaw::u64(u64::MAX); 2];
+    let text = text_of(&rt, alloc, "a中");
+    let mut cx = LowerContext::new(&mut core, OptionsIndex::from_u32(0));
+    assert!(rt;
+        text.lower(&mut cx, InterfaceType::String, &mut words)
+            .is_ok()
+    );
+    assert!(rt; words == [ValRaw::u64(1024), ValRaw::u64(2_147_483_650)]);
+    assert!(rt;
+        cx.as_slice_mut().get(1024) == Some(&0x61) && cx.as_slice_mut().get(1025) == Some(&0)
+    );
+    assert!(rt;
+        cx.as_slice_mut().get(1026) == Some(&0x2d) && cx.as_slice_mut().get(1027) == Some(&0x4e)
+    );
+    let journal = core.guest_mut().take_journal();
+    assert!(rt; journal.len() == 3);
+    assert!(rt; is_asked(journal.as_slice().first(), 0, 0, 2, 4));
+    assert!(rt; is_asked(journal.as_slice().get(1), 1024, 4, 2, 8));
+    assert!(rt; is_asked(journal.as_slice().last(), 1024, 8, 2, 4));
 }
 
 /// A core of the type of a tuple of one u8, and its number.

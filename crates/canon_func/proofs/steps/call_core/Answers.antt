@@ -1,7 +1,7 @@
 use Rattle.std.proofs.Common.{ap, subst, ◌++◌, ◌≡◌}
 use Rattle.std.specs.Prelude.{IfOk, length}
 use Rattle.canon_model.specs.Shape.{member_count}
-use Rattle.canon_value.specs.Core.{guest_of, moment_of}
+use Rattle.canon_context.specs.Core.{guest_of, moment_of}
 use Rattle.canon_func.specs.Call.{OnAnswered}
 use Rattle.canon_func.specs.Steps.{Proceeds, IsRest}
 use Rattle.canon_func.specs.Stores.{export_callee}

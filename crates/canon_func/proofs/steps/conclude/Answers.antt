@@ -1,5 +1,5 @@
 use Rattle.std.proofs.Common.{Err, Global, Vec, [], subst, sym}
-use Rattle.canon_value.specs.Core.{guest_of, moment_of}
+use Rattle.canon_context.specs.Core.{guest_of, moment_of}
 use Rattle.canon_value.specs.declared.val.Val.{Val}
 use Rattle.canon_func.specs.Call.{OnAnswered}
 use Rattle.canon_func.specs.Steps.{Concluded, Posted, Proceeds}

@@ -3,7 +3,7 @@ use Rattle.std.specs.Prelude.{IsTrue}
 use Rattle.canon_model.specs.Shape.{of_places, product}
 use Rattle.canon_types.specs.Table.{members_of, shape_of, tuple_members}
 use Rattle.canon_types.specs.declared.types.InterfaceType.TheVariants as ty
-use Rattle.canon_value.specs.Built.{are_built}
+use Rattle.canon_plan.specs.Built.{are_built}
 use Rattle.canon_func.proofs.Counts.{product_built}
 use Rattle.canon_func.proofs.steps.has_values.Goals as goal
 

@@ -8,12 +8,12 @@ use Rattle.canon_model.specs.Text.{Encoding}
 use Rattle.canon_types.specs.Table.{Table, tuple_members}
 use Rattle.canon_types.specs.declared.types.TypeFunc.{TypeFunc}
 use Rattle.canon_lowering.specs.Storing.{narrow}
-use Rattle.canon_value.specs.Core.{encoding_by, types_of}
+use Rattle.canon_context.specs.Core.{encoding_by, types_of}
 use Rattle.canon_value.specs.Lifts.{AreResults}
 use Rattle.canon_value.specs.Loads.{Exactly, LiftBlames}
-use Rattle.canon_value.specs.declared.fault.At.{At}
-use Rattle.canon_value.specs.declared.fault.Fault.{Fault}
-use Rattle.canon_value.specs.declared.fault.Fault.TheVariants as fault
+use Rattle.canon_context.specs.declared.fault.At.{At}
+use Rattle.canon_context.specs.declared.fault.Fault.{Fault}
+use Rattle.canon_context.specs.declared.fault.Fault.TheVariants as fault
 use Rattle.canon_value.specs.declared.val.Val.{Val}
 use Rattle.canon_func.specs.Call.{result_words}
 use Rattle.canon_func.specs.Stores.{results_in}
@@ -34,6 +34,7 @@ with_fact : (n : Type 0) (F : Kind → At → Type 0) (Low : Type 0) (f : Fault)
 with_fact n F Low (fault.PointerMisaligned x) h b = (h, b)
 with_fact n F Low (fault.PointerOutOfBounds x) h b = (h, b)
 with_fact n F Low (fault.InvalidUtf8 x) h b = (h, b)
+with_fact n F Low (fault.InvalidUtf16 x) h b = (h, b)
 with_fact n F Low (fault.InvalidChar x) h b = (h, b)
 with_fact n F Low (fault.BadDiscriminant x d) h b = (h, b)
 with_fact n F Low fault.HostcallFuelExhausted h b = (h, b)

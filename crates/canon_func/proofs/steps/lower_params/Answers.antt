@@ -3,7 +3,7 @@ use Rattle.std.specs.Prelude.{slice_get}
 use Rattle.canon_model.specs.Flat.{max_params}
 use Rattle.canon_types.specs.Table.{Table, tuple_members}
 use Rattle.canon_types.specs.declared.types.TypeFunc.{TypeFunc}
-use Rattle.canon_value.specs.Core.{encoding_by, guest_of, moment_of, types_of}
+use Rattle.canon_context.specs.Core.{encoding_by, guest_of, moment_of, types_of}
 use Rattle.canon_func.specs.Call.{OnAnswered, words_within}
 use Rattle.canon_func.specs.Stores.{params_in}
 use Rattle.canon_func.specs.declared.error.Error.TheVariants as error
@@ -26,7 +26,7 @@ returns-in-Ok-clause-lowered g c =
     ap (λ (t : Table). words_within max_params (tuple_members t f.params)) same in
     lowered_done (moment_of seen before) (moment_of seen after) (encoding_by before c.args.export.now.options) (tuple_members (types_of before) f.params) _ c.args.params.now
     (members_are (types_of before) c.types-types.result.now c.args.export.now.ty f same c.func.ensures.found)
-    _ c.lower_into.new.words _ all (omega (arith, ap length all, c.lower_into.auto.words, c.deref_mut.ensures.len, c.in_ok-words.ensures.len, c.word_count.ensures, counted)) (λ near none. ap (moment_of seen) (c.in-Ok.ensures.quiet near none).0) c.in-Ok.ensures.lowered c.in-Ok.ensures.moves
+    _ c.lower_into.new.words _ all (omega (arith, ap length all, c.lower_into.auto.words, c.deref_mut.ensures.len, c.in_ok-words.ensures.len, c.word_count.ensures, counted)) (λ near none. ap (moment_of seen) (c.in-Ok.ensures.quiet near none).0) c.in-Ok.ensures.lowered c.in-Ok.ensures.small c.in-Ok.ensures.moves
 
 pub returns-in-Err-clause-lowered : goal.returns-in-Err-clause-lowered
 returns-in-Err-clause-lowered g c =

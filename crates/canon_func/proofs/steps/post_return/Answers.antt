@@ -1,5 +1,5 @@
 use Rattle.std.proofs.Common.{None, Some, ap, sym, ◌≡◌, ◌∙◌}
-use Rattle.canon_value.specs.Core.{guest_of, moment_of}
+use Rattle.canon_context.specs.Core.{guest_of, moment_of}
 use Rattle.canon_func.specs.Stores.{export_callee}
 use Rattle.canon_func.proofs.Composed.{post_trapped, posted, posted_none}
 use Rattle.canon_func.proofs.steps.post_return.Goals as goal

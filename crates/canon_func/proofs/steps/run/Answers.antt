@@ -1,5 +1,5 @@
 use Rattle.std.proofs.Common.{subst, ◌++◌}
-use Rattle.canon_value.specs.Core.{guest_of, moment_of}
+use Rattle.canon_context.specs.Core.{guest_of, moment_of}
 use Rattle.canon_func.specs.Call.{OnAnswered}
 use Rattle.canon_func.specs.Steps.{Concluded, Proceeds}
 use Rattle.canon_func.specs.Stores.{export_callee}

@@ -7,9 +7,9 @@ returns-clause-scripted c =
     let past : length c.args.posts.now ≤ c.loop-i.i = omega (arith, c.loop-i-test.false, c.loop-i.auto.i-end) in
     record {
       table = c.new.ensures.types;
-      options = all_options c.loop-i.i c.args.posts.now past c.args.types _ c.loop-i.invariant.options;
+      options = all_options c.loop-i.i c.args.posts.now past c.args.types c.args.encoding _ c.loop-i.invariant.options;
       exports = all_exports c.loop-i.i c.args.posts.now past _ c.loop-i.invariant.exports;
     }
 
 pub returns-clause-sound : goal.returns-clause-sound
-returns-clause-sound c = scripted_sound c.args.types c.args.posts.now _ (returns-clause-scripted c) c.requires.told
+returns-clause-sound c = scripted_sound c.args.types c.args.encoding c.args.posts.now _ (returns-clause-scripted c) c.requires.told

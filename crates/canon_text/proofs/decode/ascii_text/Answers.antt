@@ -1,5 +1,5 @@
 use Rattle.std.proofs.lemmas.Str.{IsUtf8-from_ascii}
 use Rattle.canon_text.proofs.decode.ascii_text.Goals as goal
 
-pub returns-in-Err : goal.returns-in-Err
-returns-in-Err c = λ a. c.in-Err.ensures.cases.0 (IsUtf8-from_ascii c.args.src.now a)
+pub from_utf8_unchecked-requires : goal.from_utf8_unchecked-requires
+from_utf8_unchecked-requires c = IsUtf8-from_ascii c.args.src.now c.if-not-is_ascii.ensures.cases

@@ -1,7 +1,10 @@
-use Rattle.std.proofs.Common.{take, ◌≡◌}
-use Rattle.std.specs.Str.{encode_utf8_all}
-use Rattle.std.specs.String.{string_bytes}
+use Rattle.std.proofs.Common.{length, ◌-◌}
+use Rattle.canon_model.specs.Text.{in_latin1}
+use Rattle.canon_text.proofs.Decoded.{Decoding}
 use Rattle.canon_text.proofs.decode.decode_latin1.Given as goal
 
-abbrev pub invariant-loop-byte : goal.invariant-loop-byte
-invariant-loop-byte l = string_bytes l.text ≡ encode_utf8_all (take l.byte-index l.src)
+abbrev pub invariant-loop-read : goal.invariant-loop-read
+invariant-loop-read l = Decoding in_latin1 l.src l.text.items l.read
+
+abbrev pub decreases-loop-read : goal.decreases-loop-read
+decreases-loop-read l = length l.src - l.read

@@ -1,11 +1,10 @@
-use Rattle.std.proofs.Common.{◌-◌}
-use Rattle.std.specs.String.{string_bytes}
-use Rattle.canon_text.specs.Decoding.{units_in}
-use Rattle.canon_text.proofs.Decoded.{Decoding16}
+use Rattle.std.proofs.Common.{length, ◌-◌}
+use Rattle.canon_model.specs.Text.{in_utf16}
+use Rattle.canon_text.proofs.Decoded.{Decoding}
 use Rattle.canon_text.proofs.decode.decode_utf16.Given as goal
 
-abbrev pub invariant-loop-at : goal.invariant-loop-at
-invariant-loop-at l = Decoding16 (units_in l.src) (string_bytes l.text) l.at
+abbrev pub invariant-loop-read : goal.invariant-loop-read
+invariant-loop-read l = Decoding in_utf16 l.units.items l.text.items l.read
 
-abbrev pub decreases-loop-at : goal.decreases-loop-at
-decreases-loop-at l = l.count - l.at
+abbrev pub decreases-loop-read : goal.decreases-loop-read
+decreases-loop-read l = length l.units.items - l.read

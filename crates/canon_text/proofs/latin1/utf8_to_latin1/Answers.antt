@@ -20,8 +20,8 @@ loop-read-preserved-then-read-src c =
     let mid = narrowing-ascii in_utf8 c.args.src.now c.args.dst.now c.loop-read.dst c.copy_ascii-run.new.dst c.loop-read.read c.loop-read.written c.copy_ascii-run.result c.loop-read.invariant c.copy_ascii-run.ensures in
     let room = narrowing_room _ _ _ _ _ mid in
     let at = c.loop-read.read + c.copy_ascii-run.result in
-    narrowing-more in_utf8 c.args.src.now c.args.dst.now c.copy_ascii-run.new.dst _ at _ (c.loop-read.written + c.copy_ascii-run.result) c.in-Some.byte mid c.in-Some.ensures (omega arith)
-    (ap (λ n. at + n) (c.len_utf8-read.ensures.len ∙ ap (λ x. length (encode_utf8 x)) c.from.ensures ∙ ap length (sym (append-nil (encode_utf8 c.in-Some.byte))))) (omega (arith, c.requires)) refl
+    narrowing-more in_utf8 c.args.src.now c.args.dst.now c.copy_ascii-run.new.dst _ at _ (c.loop-read.written + c.copy_ascii-run.result) c.in-Some.found.byte mid c.in-Some.ensures.0 (omega arith)
+    (ap (λ n. at + n) (c.in-Some.ensures.1 ∙ ap length (sym (append-nil (encode_utf8 c.in-Some.found.byte))))) (omega (arith, c.requires)) refl
 
 pub loop-read-preserved : goal.loop-read-preserved
 loop-read-preserved c = narrowing-ascii in_utf8 c.args.src.now c.args.dst.now c.loop-read.dst c.copy_ascii-run.new.dst c.loop-read.read c.loop-read.written c.copy_ascii-run.result c.loop-read.invariant c.copy_ascii-run.ensures

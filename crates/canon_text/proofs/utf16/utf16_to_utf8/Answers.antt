@@ -25,7 +25,7 @@ loop-read-preserved-then-read-src c =
     let same = length-midway in_utf16 c.args.first_pass c.args.src.now c.args.dst.now c.narrow_below-run.new.dst at (c.loop-read.written + c.narrow_below-run.result) mid in
     midway-more in_utf16 c.args.first_pass c.args.src.now c.args.dst.now c.narrow_below-run.new.dst _ at _ (c.loop-read.written + c.narrow_below-run.result) _ c.in-Some.c mid c.in-Some.ensures
     (goes_on c.ends_pass.result c.args.first_pass (length c.narrow_below-run.new.dst) (length c.args.dst.now) (c.loop-read.written + c.narrow_below-run.result) c.in-Some.c same c.if-ends_pass.false c.ends_pass.ensures.1)
-    (ap (λ n. at + n) (c.utf16_len-read.ensures ∙ ap length (sym (units-one c.in-Some.c)))) c.write_utf8-written.ensures.end c.write_utf8-written.ensures.writes
+    (ap (λ n. at + n) (c.write_utf8-wrote.ensures.units ∙ ap length (sym (units-one c.in-Some.c)))) c.write_utf8-wrote.ensures.end c.write_utf8-wrote.ensures.writes
 
 pub loop-read-preserved : goal.loop-read-preserved
 loop-read-preserved c = midway-run in_utf16 c.args.first_pass c.args.src.now c.args.dst.now c.loop-read.dst c.narrow_below-run.new.dst c.loop-read.read c.loop-read.written c.narrow_below-run.result c.loop-read.invariant c.narrow_below-run.ensures

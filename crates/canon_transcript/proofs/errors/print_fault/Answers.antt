@@ -47,6 +47,9 @@ returns-in-PointerOutOfBounds c = rw c.in-PointerOutOfBounds.is c.print_at-in-Po
 pub returns-in-InvalidUtf8 : goal.returns-in-InvalidUtf8
 returns-in-InvalidUtf8 c = rw c.in-InvalidUtf8.is c.print_at-in-InvalidUtf8.ensures
 
+pub returns-in-InvalidUtf16 : goal.returns-in-InvalidUtf16
+returns-in-InvalidUtf16 c = rw c.in-InvalidUtf16.is c.print_at-in-InvalidUtf16.ensures
+
 pub returns-in-InvalidChar : goal.returns-in-InvalidChar
 returns-in-InvalidChar c = rw c.in-InvalidChar.is c.print_at-in-InvalidChar.ensures
 

@@ -1,5 +1,5 @@
 use Rattle.canon_memory.specs.Realloc.{call}
-use Rattle.canon_value.proofs.Moves.{GuestLaws, moves_asked}
+use Rattle.canon_context.proofs.Moves.{GuestLaws, moves_asked}
 use Rattle.canon_value.proofs.blocks.ask.Goals as goal
 
 pub returns-clause-asked : goal.returns-clause-asked

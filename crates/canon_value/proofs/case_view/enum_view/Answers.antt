@@ -13,7 +13,7 @@ shape : (c : After-enum_-names) → shape_of c.args.types.now (ty.Enum c.args.i)
 shape c = c.enum_-names.ensures.entry.shape
 
 pub returns-in_default : goal.returns-in_default
-returns-in_default c = (refl, own_failure mismatch _ _ c.args.value.now c.args.place (shape (goal.at.returns-in_default c).After-enum_-names) (omega arith) (inl (refl, λ n e. c.in_default.not-Enum n e)))
+returns-in_default c = (refl, λ enc. own_failure mismatch _ _ c.args.value.now c.args.place (shape (goal.at.returns-in_default c).After-enum_-names) (omega arith) (inl (refl, λ n e. c.in_default.not-Enum n e)))
 
 pub returns-in_default-get_index_of : goal.returns-in_default-get_index_of
 returns-in_default-get_index_of c =

@@ -15,7 +15,7 @@ shape : (c : After-result-types) → shape_of c.args.types.now (ty.Result c.args
 shape c = c.result-types.ensures.entry.shape
 
 pub returns-in_default : goal.returns-in_default
-returns-in_default c = (refl, own_failure mismatch _ _ c.args.value.now c.args.place (shape (goal.at.returns-in_default c).After-result-types) (omega arith) (inl (refl, λ r e. c.in_default.not-Result r e)))
+returns-in_default c = (refl, λ enc. own_failure mismatch _ _ c.args.value.now c.args.place (shape (goal.at.returns-in_default c).After-result-types) (omega arith) (inl (refl, λ r e. c.in_default.not-Result r e)))
 
 pub returns-in-Ok-payload_of : goal.returns-in-Ok-payload_of
 returns-in-Ok-payload_of c =

@@ -15,7 +15,7 @@ shape : (c : After-variant-variant)
 shape c = c.variant-variant.ensures.entry.shape
 
 pub returns-in_default : goal.returns-in_default
-returns-in_default c = (refl, own_failure mismatch _ _ c.args.value.now c.args.place (shape (goal.at.returns-in_default c).After-variant-variant) (omega arith) (inl (refl, λ n p e. c.in_default.not-Variant n p e)))
+returns-in_default c = (refl, λ enc. own_failure mismatch _ _ c.args.value.now c.args.place (shape (goal.at.returns-in_default c).After-variant-variant) (omega arith) (inl (refl, λ n p e. c.in_default.not-Variant n p e)))
 
 pub returns-in_default-get_full : goal.returns-in_default-get_full
 returns-in_default-get_full c =

@@ -5,17 +5,17 @@ use Rattle.canon_model.specs.Shape.{Name, flags}
 use Rattle.canon_types.specs.Keeps.{names_of}
 use Rattle.canon_types.specs.Table.{Table, shape_of}
 use Rattle.canon_types.specs.declared.types.InterfaceType.TheVariants as ty
-use Rattle.canon_value.specs.Core.{Parts, types_of}
+use Rattle.canon_context.specs.Core.{Parts, types_of}
 use Rattle.canon_value.specs.Flags.{SomeUnknown, flag_names}
 use Rattle.canon_value.specs.Stores.{StoresTo}
 use Rattle.canon_value.specs.Value.{Occurs}
-use Rattle.canon_value.specs.declared.fault.Fault.TheVariants as fault
+use Rattle.canon_context.specs.declared.fault.Fault.TheVariants as fault
 use Rattle.canon_value.specs.declared.val.Val.TheVariants as val
 use Rattle.canon_value.proofs.FlagDigits.{byte_inside}
 use Rattle.canon_value.proofs.FlagNames.{flags_are}
 use Rattle.canon_value.proofs.FlagSteps.{flags_bytes, flags_not_stored, flags_store, same_names, stored_first, stored_next}
 use Rattle.canon_value.proofs.FlagWriting.{AreStored, last_name, next_name, next_unknown}
-use Rattle.canon_value.proofs.Moves.{GuestLaws}
+use Rattle.canon_context.proofs.Moves.{GuestLaws}
 use Rattle.canon_value.proofs.flags.store_flags.Given.{Over}
 use Rattle.canon_value.proofs.flags.store_flags.Goals.{After-flags}
 use Rattle.canon_value.proofs.flags.store_flags.Goals as goal

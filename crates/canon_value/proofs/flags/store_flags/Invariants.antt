@@ -1,5 +1,5 @@
 use Rattle.std.proofs.Common.{◌≡◌, map, string_bytes, take}
-use Rattle.canon_value.specs.Core.{types_of}
+use Rattle.canon_context.specs.Core.{types_of}
 use Rattle.canon_value.specs.Flags.{flag_names}
 use Rattle.canon_value.specs.Stores.{SameBut}
 use Rattle.canon_value.proofs.FlagWriting.{AreStored}

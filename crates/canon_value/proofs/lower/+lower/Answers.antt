@@ -4,14 +4,14 @@ use Rattle.canon_model.specs.Layout.{flat}
 use Rattle.canon_types.specs.Depth.{deepest, depth}
 use Rattle.canon_types.specs.Table.{Knows, Table, shape_of}
 use Rattle.canon_model.specs.Shape.{Shape}
-use Rattle.canon_value.specs.Built.{IsBuilt}
-use Rattle.canon_value.specs.Core.{types_of}
+use Rattle.canon_plan.specs.Built.{IsBuilt}
+use Rattle.canon_context.specs.Core.{types_of, encoding_by}
 use Rattle.canon_value.specs.Elements.{element_in}
 use Rattle.canon_value.specs.View.{IsMember, names_of, shapes_of, values_of}
 use Rattle.canon_value.specs.Words.{PartsLowerTo}
 use Rattle.canon_value.specs.declared.lower.Spot.{Spot}
 use Rattle.canon_value.specs.declared.val.Val.{the_lemmas}
-use Rattle.canon_value.proofs.Moves.{GuestLaws}
+use Rattle.canon_context.proofs.Moves.{GuestLaws}
 use Rattle.canon_value.proofs.Steps.{blocks_none}
 use Rattle.canon_value.proofs.StoreSteps.{same_types}
 use Rattle.canon_value.proofs.Listing.{row}
@@ -129,7 +129,7 @@ lower_value-returns-in-Err-clause-lowers g t0 c =
     let core = a.cx.now.core.now in
     let L : GuestLaws _ = record { seen = g.G.Guest.seen; moves = g.G.Guest.moves; stays = g.met.G.Guest.stays; goes_on = g.met.G.Guest.goes_on } in
     let (is, blames) = rw c.types.ensures at c.in-Err.ensures in
-    value_refused L a.cx.now.options core a.dst.now a.from (shape_of (types_of core) a.ty) a.value.now c.in-Err.fault c.requires.small is blames
+    value_refused L a.cx.now.options core a.dst.now a.from (shape_of (types_of core) a.ty) a.value.now c.in-Err.fault c.requires.small is (blames (encoding_by core a.cx.now.options))
 
 -- ---- a case
 

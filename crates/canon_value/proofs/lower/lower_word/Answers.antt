@@ -1,9 +1,9 @@
 use Rattle.std.proofs.Common.{ap, arith, refl, subst, sym, ℕ}
 use Rattle.canon_model.specs.Layout.{flat}
-use Rattle.canon_value.specs.Core.{types_of}
+use Rattle.canon_context.specs.Core.{types_of}
 use Rattle.canon_value.specs.Words.{IsWordOf}
-use Rattle.canon_value.proofs.Moves.{GuestLaws}
-use Rattle.canon_value.proofs.Scalars.{scalar_shape}
+use Rattle.canon_context.proofs.Moves.{GuestLaws}
+use Rattle.canon_plan.proofs.ScalarTypes.{scalar_shape}
 use Rattle.canon_value.proofs.WordSteps.{scalar_lowers}
 use Rattle.canon_value.proofs.lower.lower_word.Goals as goal
 

@@ -1,5 +1,6 @@
 use Rattle.std.proofs.Common.{◌<◌, arith, length, refl, string_bytes}
-use Rattle.canon_value.proofs.Lookups.{named_by, field_is_known, field_member, in_fields, names_at, values_at}
+use Rattle.canon_plan.proofs.Lookups.{named_by, field_is_known, field_member, in_fields}
+use Rattle.canon_value.proofs.Lookups.{names_at, values_at}
 use Rattle.canon_value.proofs.members.field_of.Goals.{After-record}
 use Rattle.canon_value.proofs.members.field_of.Goals as goal
 

@@ -1,6 +1,7 @@
 use Rattle.std.proofs.Common.{[], refl}
 use Rattle.canon_types.specs.Table.{shape_of}
-use Rattle.canon_value.proofs.Lookups.{copies_at, drop_at, no_names_at}
+use Rattle.canon_plan.proofs.Lookups.{copies_at, drop_at}
+use Rattle.canon_value.proofs.Lookups.{no_names_at}
 use Rattle.canon_value.proofs.members.item_of.Goals as goal
 
 pub returns : goal.returns

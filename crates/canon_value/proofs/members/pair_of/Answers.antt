@@ -1,6 +1,7 @@
 use Rattle.std.proofs.Common.{◌<◌, ◌+◌, ◌/◌, [], arith, length, refl}
 use Rattle.canon_value.proofs.Lookups.{no_names_at}
-use Rattle.canon_value.proofs.PairRows.{count_turns, half_below, key_at, key_here, key_known, value_at, value_here, value_known}
+use Rattle.canon_value.proofs.PairRows.{count_turns, key_at, value_at}
+use Rattle.canon_plan.proofs.Pairs.{half_below, key_here, key_known, value_here, value_known}
 use Rattle.canon_value.proofs.members.pair_of.Goals.{After-map-map}
 use Rattle.canon_value.proofs.members.pair_of.Goals as goal
 

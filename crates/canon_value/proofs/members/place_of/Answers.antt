@@ -1,6 +1,7 @@
 use Rattle.std.proofs.Common.{[], ap, ◌<◌, arith, length, refl}
 use Rattle.canon_types.specs.Table.{types_of}
-use Rattle.canon_value.proofs.Lookups.{tuple_is_known, count_members, drop_at, no_names_at, tuple_member}
+use Rattle.canon_plan.proofs.Lookups.{tuple_is_known, count_members, drop_at, tuple_member}
+use Rattle.canon_value.proofs.Lookups.{no_names_at}
 use Rattle.canon_value.proofs.members.place_of.Goals.{After-tuple}
 use Rattle.canon_value.proofs.members.place_of.Goals as goal
 

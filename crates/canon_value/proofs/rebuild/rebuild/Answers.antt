@@ -8,7 +8,8 @@ use Rattle.canon_value.specs.Elements.{by_turns}
 use Rattle.canon_value.specs.Value.{IsPairs, IsProduct, member_names}
 use Rattle.canon_value.specs.declared.val.Val.{Val}
 use Rattle.canon_value.proofs.Loading.{on_ok}
-use Rattle.canon_value.proofs.Planning.{fixed_rebuilt, list_left, list_rebuilt, map_even, map_rebuilt, record_count, record_rebuilt, tuple_rebuilt}
+use Rattle.canon_value.proofs.Planning.{fixed_rebuilt, list_rebuilt, map_even, map_rebuilt, record_count, record_rebuilt, tuple_rebuilt}
+use Rattle.canon_plan.proofs.TypeKinds.{list_left}
 use Rattle.canon_value.proofs.rebuild.rebuild.Goals as goal
 
 pub rebuild_record-requires-clause-count : goal.rebuild_record-requires-clause-count

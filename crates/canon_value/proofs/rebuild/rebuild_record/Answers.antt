@@ -2,20 +2,22 @@ use Rattle.std.proofs.Common.{◌≡◌, ◌<◌, ◌++◌, ◌∷◌, ◌∙◌
 use Rattle.std.proofs.lemmas.List.{length-append}
 use Rattle.std.specs.declared.alloc.Global.{Global}
 use Rattle.std.specs.Vec.Iter.{into_iter_items}
-use Rattle.canon_model.specs.Shape.{member_count}
+use Rattle.canon_model.specs.Shape.{Name, member_count}
 use Rattle.canon_types.specs.Depth.{product_members}
 use Rattle.canon_types.specs.Table.{shape_of}
 use Rattle.canon_types.specs.declared.types.InterfaceType.TheVariants as ty
 use Rattle.canon_value.specs.Value.{member_names, names_in, values_in}
 use Rattle.canon_value.specs.declared.val.Val.{Val}
 use Rattle.canon_value.proofs.Planning.{name_end, name_next, nothing_left}
-use Rattle.canon_value.proofs.Lookups.{field_member, in_fields, members_from-all}
+use Rattle.canon_plan.proofs.Lookups.{field_member, in_fields, members_from-all}
 use Rattle.canon_value.proofs.rebuild.rebuild_record.Goals as goal
 
 pub loop-value-init : goal.loop-value-init
 loop-value-init c =
     let none = c.in_ok-named.ensures.items in
-    (refl, c.into_iter-value-iterator.ensures.into_iter_gives.1 ∙ (c.args.values.ok.0 ∙ ap length (sym c.into_iter-value-iterator.ensures.into_iter_gives.0)), refl, ap values_in none, ap (λ (named : List (String Global × Val)). names_in named ++ member_names (product_members (shape_of c.args.types.now (ty.Record c.args.i)))) none)
+    let given = c.into_iter-value-iterator.ensures.into_iter_gives in
+    let all : List Name = member_names (product_members (shape_of c.args.types.now (ty.Record c.args.i))) in
+    (refl, given.1 ∙ (c.args.values.ok.0 ∙ ap length (sym given.0)), refl, ap values_in none, ap (λ (named : List (String Global × Val)). names_in named ++ all) none)
 
 pub index-requires : goal.index-requires
 index-requires c =

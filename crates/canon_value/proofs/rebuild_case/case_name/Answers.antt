@@ -6,7 +6,7 @@ use Rattle.canon_types.specs.Table.{shape_of}
 use Rattle.canon_types.specs.declared.types.InterfaceType.TheVariants as ty
 use Rattle.canon_model.specs.Shape.{Name}
 use Rattle.canon_value.specs.Value.{IsFirst, case_names}
-use Rattle.canon_value.proofs.CasePlans.{count_cases}
+use Rattle.canon_plan.proofs.CasePlans.{count_cases}
 use Rattle.canon_value.proofs.CaseValues.{first_of_cases}
 use Rattle.canon_value.proofs.rebuild_case.case_name.Goals as goal
 

@@ -4,9 +4,10 @@ use Rattle.canon_types.specs.Depth.{variant_cases}
 use Rattle.canon_types.specs.Table.{shape_of}
 use Rattle.canon_types.specs.declared.types.InterfaceType.{InterfaceType}
 use Rattle.canon_types.specs.declared.types.InterfaceType.TheVariants as ty
-use Rattle.canon_value.specs.Plan.{IsCaseKind, IsCaseRebuilt}
+use Rattle.canon_plan.specs.Plan.{IsCaseKind}
+use Rattle.canon_value.specs.Plan.{IsCaseRebuilt}
 use Rattle.canon_value.specs.Value.{IsCase}
-use Rattle.canon_value.proofs.CasePlans.{as_cases, result_left, result_cases}
+use Rattle.canon_plan.proofs.CasePlans.{as_cases, result_left, result_cases}
 use Rattle.canon_value.proofs.CaseValues.{case_rebuilt, enum_rebuilt, one_payload, option_tag}
 use Rattle.canon_value.proofs.Loading.{on_ok}
 use Rattle.canon_value.proofs.rebuild_case.rebuild_case.Goals as goal

@@ -1,35 +1,30 @@
-use Rattle.canon_value.proofs.Lookups.{begins_here, ends_here, item_size}
-use Rattle.canon_value.proofs.Steps.{blocks_none, copies_count}
-use Rattle.canon_value.specs.Value.{cap}
-use Rattle.canon_lowering.specs.Copies.{copies}
+use Rattle.canon_plan.proofs.Lookups.{begins_here, ends_here}
+use Rattle.canon_value.proofs.Steps.{blocks_none}
 use Rattle.std.proofs.Common.{Err, List, Ok, Result, ap, ap₂, arith, false, length, refl, rules, subst, sym, ℕ, ◌%◌, ◌*◌, ◌+◌, ◌-◌, ◌<◌, ◌^◌, ◌∙◌, ◌≡◌, ◌≤◌, ◌⊎◌}
 use Rattle.canon_lowering.specs.Storing.{IsPair, narrow}
 use Rattle.canon_model.specs.Memory.{num}
 use Rattle.canon_model.specs.Layout.{begins, members_end, size}
 use Rattle.canon_model.specs.Shape.{Members, Shape}
 use Rattle.canon_types.specs.Depth.{deepest, depth, element_shape}
-use Rattle.canon_types.specs.Table.{Knows, Table, shape_of}
-use Rattle.canon_value.specs.Built.{AreBuilt, IsBuilt}
-use Rattle.canon_value.specs.Core.{Parts, types_of}
+use Rattle.canon_types.specs.Table.{Table, shape_of}
+use Rattle.canon_plan.specs.Built.{AreBuilt, IsBuilt}
+use Rattle.canon_context.specs.Core.{Parts, types_of, encoding_by}
 use Rattle.canon_value.specs.Stores.{AsksFor, PartsStoreTo}
 use Rattle.canon_lowering.specs.Attempt.{items_call}
-use Rattle.canon_value.specs.Elements.{IsKnown, element_in, list_length, list_shape, row_of}
-use Rattle.canon_value.specs.declared.elements.Element.{Element}
-use Rattle.canon_value.specs.declared.fault.Fault.{Fault}
+use Rattle.canon_plan.specs.Element.{IsKnown, list_shape, row_of}
+use Rattle.canon_value.specs.Elements.{element_in, list_length}
+use Rattle.canon_plan.specs.declared.element.Element.{Element}
+use Rattle.canon_context.specs.declared.fault.Fault.{Fault}
 use Rattle.canon_value.specs.View.{IsMember, names_of, shapes_of, values_of}
 use Rattle.canon_value.specs.declared.val.Val.{the_lemmas}
 use Rattle.canon_value.proofs.StoreSteps.{same_types}
-use Rattle.canon_value.proofs.Viewing.{block_size, lies_built, lies_depth, lies_room, names_count}
+use Rattle.canon_value.proofs.Viewing.{lies_built, lies_depth, lies_room, names_count, values_count}
 use Rattle.canon_value.proofs.WalkCases.{case_stored, case_wants, written_length}
 use Rattle.canon_value.proofs.WalkLoops.{end, go_on, member_shallow, misnamed, parts_stood, stands, stop}
-use Rattle.canon_value.proofs.Moves.{GuestLaws}
-use Rattle.canon_value.proofs.Walks.{copies_built, copies_deepest, list_told, members_store, value_refused}
+use Rattle.canon_context.proofs.Moves.{GuestLaws}
+use Rattle.canon_value.proofs.Walks.{list_told, members_store, value_refused}
 use Rattle.canon_value.proofs.Listing.{element_size, listed, row}
 use Rattle.canon_value.proofs.Placing.{list_broken, list_placed, list_refused, list_too_large}
-use Rattle.canon_value.proofs.Viewing.{lies_built, lies_depth, lies_room, names_count, values_count}
-use Rattle.canon_value.proofs.WalkLoops.{end, go_on, member_shallow, misnamed, parts_stood, stands, stop}
-use Rattle.canon_value.proofs.Moves.{GuestLaws}
-use Rattle.canon_value.proofs.Walks.{list_told, members_store, value_refused}
 use Rattle.canon_value.proofs.store.+store.Given.{Over}
 use Rattle.canon_value.proofs.store.+store.Goals.{store_parts-After-member_of-member, store_parts-After-next_field32_size-start}
 use Rattle.canon_value.proofs.store.+store.Goals as goal
@@ -107,7 +102,7 @@ store_parts-loop-k-preserved g t0 c =
     record {
       stored = go_on L _ _ _ _ _ _ _ _ _ _ _ _ c.loop-k.invariant.stored m (here g t0 at.After-member_of-member)
           c.store_value.new.cx.core.now c.loop-k.cx.options c.next_field32_size-start.result c.in-Ok.after c.next_field32_size-start.new.offset c.if-not-member.false c.loop-k.invariant.options
-          (begins_at g t0 at.After-next_field32_size-start) over (omega (arith, c.in-Ok.ensures.stores.counted)) c.in-Ok.ensures.stores;
+          (begins_at g t0 at.After-next_field32_size-start) over (omega (arith, c.in-Ok.ensures.stores.counted.0)) c.in-Ok.ensures.stores;
       options = c.in-Ok.ensures.same_options ∙ c.loop-k.invariant.options;
       reference = c.in-Ok.ensures.same_reference ∙ c.loop-k.invariant.reference;
     }
@@ -183,7 +178,9 @@ place_list-returns-in-Ok-store_parts-clause-places g t0 c =
     let ask = asked_for L core asked e c.element_of-element.result k (Ok c.in-Ok.pointer) c.element_of-element.ensures given.asked in
     let ms = c.members_in-members in
     let shapes = ms.ensures.shapes now ∙ ap (λ (x : Table). row_of (list_shape x e) (list_length a.list.now)) (same_types core asked given.asked.same) in
-    list_placed _ _ _ _ _ (listed t a.list.now c.requires.known) L a.cx.now.options core asked c.store_parts.new.cx.core.now a.place k c.in-Ok.pointer c.element_count-length.ensures c.in-Some.ensures.some.1 ask c.in-Ok-store_parts.next
+    let bytes = element_size t c.types.result.now e c.element_of-element.result c.element_abi.result.now c.types.ensures c.element_of-element.ensures c.element_abi.ensures in
+    list_placed _ _ _ _ _ (listed t a.list.now c.requires.known) L a.cx.now.options core asked c.store_parts.new.cx.core.now a.place k c.in-Ok.pointer c.element_count-length.ensures c.in-Some.ensures.some.1
+    (omega (arith, c.in-Some.ensures.some.0, c.in-Some.ensures.some.2, ap (λ (x : ℕ). k * x) bytes)) ask c.in-Ok-store_parts.next
     (parts_stood L asked c.store_parts.new.cx.core.now a.cx.now.options c.ask_items.new.cx.options a.place c.in-Ok.pointer _ _ _ _ _ _ _ _ (Ok c.in-Ok-store_parts.next)
     given.same_options shapes ms.ensures.names ms.ensures.values c.saturating_add.ensures c.in-Ok-store_parts.ensures.stores)
 
@@ -201,7 +198,9 @@ place_list-returns-in-Err-store_parts-clause-places g t0 c =
     let ask = asked_for L core asked e c.element_of-element.result k (Ok c.in-Ok.pointer) c.element_of-element.ensures given.asked in
     let ms = c.members_in-members in
     let shapes = ms.ensures.shapes now ∙ ap (λ (x : Table). row_of (list_shape x e) (list_length a.list.now)) (same_types core asked given.asked.same) in
-    list_broken _ _ _ _ _ (listed t a.list.now c.requires.known) L a.cx.now.options core asked c.store_parts.new.cx.core.now a.place k c.in-Ok.pointer c.element_count-length.ensures c.in-Some.ensures.some.1 ask c.in-Err-store_parts.fault
+    let bytes = element_size t c.types.result.now e c.element_of-element.result c.element_abi.result.now c.types.ensures c.element_of-element.ensures c.element_abi.ensures in
+    list_broken _ _ _ _ _ (listed t a.list.now c.requires.known) L a.cx.now.options core asked c.store_parts.new.cx.core.now a.place k c.in-Ok.pointer c.element_count-length.ensures c.in-Some.ensures.some.1
+    (omega (arith, c.in-Some.ensures.some.0, c.in-Some.ensures.some.2, ap (λ (x : ℕ). k * x) bytes)) ask c.in-Err-store_parts.fault
     (parts_stood L asked c.store_parts.new.cx.core.now a.cx.now.options c.ask_items.new.cx.options a.place c.in-Ok.pointer _ _ _ _ _ _ _ _ (Err c.in-Err-store_parts.fault)
     given.same_options shapes ms.ensures.names ms.ensures.values c.saturating_add.ensures c.in-Err-store_parts.ensures.stores)
 
@@ -288,4 +287,4 @@ store_value-returns-in-Err-clause-stores g t0 c =
     let core = a.cx.now.core.now in
     let L : GuestLaws _ = record { seen = g.G.Guest.seen; moves = g.G.Guest.moves; stays = g.met.G.Guest.stays; goes_on = g.met.G.Guest.goes_on } in
     let (is, blames) = rw c.types.ensures at c.in-Err.ensures in
-    value_refused L a.cx.now.options core (shape_of (types_of core) a.ty) a.at a.value.now a.place c.in-Err.fault c.requires.small is blames
+    value_refused L a.cx.now.options core (shape_of (types_of core) a.ty) a.at a.value.now a.place c.in-Err.fault c.requires.small is (blames (encoding_by core a.cx.now.options))

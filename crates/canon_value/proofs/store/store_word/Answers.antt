@@ -3,9 +3,9 @@ use Rattle.canon_lowering.specs.Steps.{Writes}
 use Rattle.canon_memory.specs.Realloc.{block}
 use Rattle.canon_model.specs.Layout.{size}
 use Rattle.canon_types.specs.Table.{Table, shape_of}
-use Rattle.canon_value.specs.Core.{types_of}
+use Rattle.canon_context.specs.Core.{types_of}
 use Rattle.canon_value.proofs.StoreSteps.{scalar_type_bytes}
-use Rattle.canon_value.proofs.Moves.{GuestLaws}
+use Rattle.canon_context.proofs.Moves.{GuestLaws}
 use Rattle.canon_value.proofs.Walks.{scalar_stores}
 use Rattle.canon_value.proofs.store.store_word.Goals as goal
 

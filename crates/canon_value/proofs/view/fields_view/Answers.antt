@@ -5,7 +5,8 @@ use Rattle.canon_types.specs.Table.{shape_of}
 use Rattle.canon_types.specs.declared.types.InterfaceType.TheVariants as ty
 use Rattle.canon_value.specs.Fails.{mismatch, wrong_length}
 use Rattle.canon_value.specs.Value.{names_in, values_in}
-use Rattle.canon_value.proofs.Lookups.{count_fields, count_values, record_members, record_shape_of}
+use Rattle.canon_plan.proofs.Lookups.{count_fields, record_members, record_shape_of}
+use Rattle.canon_value.proofs.Lookups.{count_values}
 use Rattle.canon_value.proofs.Steps.{own_failure, product_seen}
 use Rattle.canon_value.proofs.view.fields_view.Goals.{After-len-count}
 use Rattle.canon_value.proofs.view.fields_view.Goals as goal
@@ -17,14 +18,14 @@ count : (c : After-len-count) → c.len-count.result ≡ member_count (product_m
 count c = omega (arith, c.len-count.ensures, c.record.result.now.fields.ok.0, ap member_count (record_members c.args.types.now c.args.types.now c.args.i c.record.result.now.fields.items refl c.record.ensures.entry), count_fields c.args.types.now c.record.result.now.fields.items)
 
 pub returns-in_default : goal.returns-in_default
-returns-in_default c = (refl, own_failure mismatch _ _ c.args.value.now c.args.place (shape (goal.at.returns-in_default c).After-len-count) (omega arith) (inl (refl, λ names vs (fields, e, en, ev). c.in_default.not-Record fields e)))
+returns-in_default c = (refl, λ enc. own_failure mismatch _ _ c.args.value.now c.args.place (shape (goal.at.returns-in_default c).After-len-count) (omega arith) (inl (refl, λ names vs (fields, e, en, ev). c.in_default.not-Record fields e)))
 
 pub returns-then-len-count : goal.returns-then-len-count
 returns-then-len-count c =
     let here = (goal.at.returns-then-len-count c).After-len-count in
     let values = c.in-Record.values in (
       refl,
-      own_failure wrong_length _ _ c.args.value.now c.args.place (shape here) (omega arith)
+      λ enc. own_failure wrong_length _ _ c.args.value.now c.args.place (shape here) (omega arith)
           (inl (refl, (names_in values.items, values_in values.items, (values, c.in-Record.is, refl, refl), λ e. c.if-len-count.true (omega (arith, e, c.len.ensures, values.ok.0, count here, count_values values.items))))),
     )
 

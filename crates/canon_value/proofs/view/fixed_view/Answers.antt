@@ -3,8 +3,8 @@ use Rattle.canon_model.specs.Shape.{fixed}
 use Rattle.canon_types.specs.Table.{shape_of}
 use Rattle.canon_types.specs.declared.types.InterfaceType.TheVariants as ty
 use Rattle.canon_value.specs.Fails.{mismatch, wrong_length}
-use Rattle.canon_value.proofs.Steps.{copies_count, fixed_seen, own_failure}
-use Rattle.canon_value.proofs.Lookups.{fixed_known, fixed_shape}
+use Rattle.canon_plan.proofs.Lookups.{copies_count, fixed_known, fixed_shape}
+use Rattle.canon_value.proofs.Steps.{fixed_seen, own_failure}
 use Rattle.canon_value.proofs.view.fixed_view.Goals.{After-fixed_length_list-list}
 use Rattle.canon_value.proofs.view.fixed_view.Goals as goal
 
@@ -12,13 +12,13 @@ shape : (c : After-fixed_length_list-list) → shape_of c.args.types.now (ty.Fix
 shape c = fixed_shape c.args.types.now c.args.types.now c.args.i c.fixed_length_list-list.result.now.size c.fixed_length_list-list.result.now.element refl c.fixed_length_list-list.ensures.entry
 
 pub returns-in_default : goal.returns-in_default
-returns-in_default c = (refl, own_failure mismatch _ _ c.args.value.now c.args.place (shape (goal.at.returns-in_default c).After-fixed_length_list-list) (omega arith) (inl (refl, λ members e. c.in_default.not-FixedLengthList members e)))
+returns-in_default c = (refl, λ enc. own_failure mismatch _ _ c.args.value.now c.args.place (shape (goal.at.returns-in_default c).After-fixed_length_list-list) (omega arith) (inl (refl, λ members e. c.in_default.not-FixedLengthList members e)))
 
 pub returns-then-len-from : goal.returns-then-len-from
 returns-then-len-from c =
     let values = c.in-FixedLengthList.values in (
       refl,
-      own_failure wrong_length _ _ c.args.value.now c.args.place (shape (goal.at.returns-then-len-from c).After-fixed_length_list-list) (omega arith)
+      λ enc. own_failure wrong_length _ _ c.args.value.now c.args.place (shape (goal.at.returns-then-len-from c).After-fixed_length_list-list) (omega arith)
           (inl (refl, (values.items, (values, c.in-FixedLengthList.is, refl), λ e. c.if-len-from.true (omega (arith, e, c.len.ensures, values.ok.0, c.from.ensures))))),
     )
 

@@ -4,7 +4,7 @@ use Rattle.canon_types.specs.Table.{shape_of, tuple_members, types_of}
 use Rattle.canon_types.specs.declared.types.InterfaceType.TheVariants as ty
 use Rattle.canon_value.specs.Fails.{mismatch, wrong_length}
 use Rattle.canon_value.specs.Value.{no_names}
-use Rattle.canon_value.proofs.Lookups.{count_members, tuple_shape_of}
+use Rattle.canon_plan.proofs.Lookups.{count_members, tuple_shape_of}
 use Rattle.canon_value.proofs.Steps.{own_failure, product_seen}
 use Rattle.canon_value.proofs.view.places_view.Goals.{After-len-count}
 use Rattle.canon_value.proofs.view.places_view.Goals as goal
@@ -16,14 +16,14 @@ count : (c : After-len-count) → c.len-count.result ≡ member_count (tuple_mem
 count c = omega (arith, c.len-count.ensures, c.tuple.result.now.types.ok.0, ap length c.tuple.ensures.types, count_members c.args.types.now (types_of c.args.types.now c.args.i))
 
 pub returns-in_default : goal.returns-in_default
-returns-in_default c = (refl, own_failure mismatch _ _ c.args.value.now c.args.place (shape (goal.at.returns-in_default c).After-len-count) (omega arith) (inl (refl, λ names vs (members, e, en, ev). c.in_default.not-Tuple members e)))
+returns-in_default c = (refl, λ enc. own_failure mismatch _ _ c.args.value.now c.args.place (shape (goal.at.returns-in_default c).After-len-count) (omega arith) (inl (refl, λ names vs (members, e, en, ev). c.in_default.not-Tuple members e)))
 
 pub returns-then-len-count : goal.returns-then-len-count
 returns-then-len-count c =
     let here = (goal.at.returns-then-len-count c).After-len-count in
     let values = c.in-Tuple.values in (
       refl,
-      own_failure wrong_length _ _ c.args.value.now c.args.place (shape here) (omega arith)
+      λ enc. own_failure wrong_length _ _ c.args.value.now c.args.place (shape here) (omega arith)
           (inl (refl, (no_names values.items, values.items, (values, c.in-Tuple.is, refl, refl), λ e. c.if-len-count.true (omega (arith, e, c.len.ensures, values.ok.0, count here))))),
     )
 

@@ -1,4 +1,4 @@
-use Rattle.canon_value.proofs.Scalars.{built_scalar}
+use Rattle.canon_plan.proofs.ScalarTypes.{built_scalar}
 use Rattle.canon_value.proofs.view.view_of.Goals as goal
 
 pub scalar_view-requires : goal.scalar_view-requires

@@ -3,7 +3,7 @@ use Rattle.canon_model.specs.Layout.{members_flat}
 use Rattle.canon_types.specs.Refusal.{empty_table, with_definition}
 use Rattle.canon_types.specs.Table.{TupleType, tuple_members}
 use Rattle.canon_types.specs.declared.types.InterfaceType.TheVariants as ty
-use Rattle.canon_value.specs.Core.{Parts, types_of}
+use Rattle.canon_context.specs.Core.{Parts, types_of}
 use Rattle.canon_value_tests.proofs.Tuples.{one_word}
 use Rattle.canon_value_tests.proofs.tests.parameters_are_lowered_and_results_lifted.Goals as goal
 

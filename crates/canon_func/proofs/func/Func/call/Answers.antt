@@ -1,6 +1,6 @@
 use Rattle.std.proofs.Common.{Err, subst, sym, ◌∙◌, ◌≡◌}
 use Rattle.std.specs.Prelude.{IfSome}
-use Rattle.canon_value.specs.Core.{guest_of, moment_of}
+use Rattle.canon_context.specs.Core.{guest_of, moment_of}
 use Rattle.canon_func.specs.Call.{Adding, OnAnswered}
 use Rattle.canon_func.specs.Steps.{CoreCall}
 use Rattle.canon_func.specs.Stores.{export_callee}
@@ -22,6 +22,7 @@ returns-in-Err-clause-call g c = λ none.
     let callee = export_callee before.component c.export_in-export.result in
     let e = c.in-Err.error in
     let made : Adding (moment_of seen before) (moment_of seen after) (λ es. OnAnswered {T = Unit {0}} (Err e) (moves (guest_of before) es (guest_of after))) (λ es. CoreCall g.G.Guest.leaves callee before.fuel c.args.params.now (moment_of seen before) (moment_of seen after) (Err e) es) =
-    subst (λ k. Adding (moment_of seen k) (moment_of seen after) (λ es. OnAnswered {T = Unit {0}} (Err e) (moves (guest_of k) es (guest_of after))) (λ es. CoreCall g.G.Guest.leaves (export_callee k.component c.export_in-export.result) k.fuel c.args.params.now (moment_of seen k) (moment_of seen after) (Err e) es))
+    subst (λ k. Adding (moment_of seen k) (moment_of seen after) (λ es. OnAnswered {T = Unit {0}} (Err e) (moves (guest_of k) es (guest_of after)))
+    (λ es. CoreCall g.G.Guest.leaves (export_callee k.component c.export_in-export.result) k.fuel c.args.params.now (moment_of seen k) (moment_of seen after) (Err e) es))
     c.core_mut.ensures.value c.in-Err.ensures.call in
     rw (c.export_in-export.ensures.found, c.trap.ensures) (call_left g.G.Guest.leaves callee before.fuel c.args.params.now (moment_of seen before) (moment_of seen after) e c.args.results.now (λ es. OnAnswered {T = Unit {0}} (Err e) (moves (guest_of before) es (guest_of after))) made)

@@ -1,0 +1,212 @@
+ghost use Rattle.std.specs.Prelude.{◌≡◌, ◌≤◌, ◌<◌, ◌^◌, [], IfOk, OnOk, length};
+ghost use Rattle.canon_lowering.specs.Lowering.{Reallocated};
+ghost use Rattle.canon_memory.specs.Guest.{Goes, HasCause, OnAnswer};
+ghost use Rattle.canon_memory.specs.Journal.{dtor_events, post_events, realloc_events, resume_events, start_events};
+ghost use Rattle.canon_memory.specs.Realloc.{call};
+ghost use Rattle.canon_model.specs.Laws.{IsAlignment};
+ghost use Rattle.canon_context.specs.Component.{IsComponent};
+ghost use Rattle.canon_indices.specs.Options.{encoding_of};
+ghost use Rattle.canon_context.specs.Core.{Parts, encoding_by, guest_of, moment_of};
+ghost use Rattle.canon_context.specs.Lowers.{answer_of, ending_of, guest_answer};
+
+use crate::{Component, Fault};
+use canon_memory::{Guest, GuestFault, Memory, Step, ValRaw};
+use canon_types::{OptionsIndex, OutOfMemory, StoreId, StringEncoding};
+use std::alloc::Global;
+use std::marker::Model;
+
+/// What a store has of its component: the host's data, the guest, its memory, the component, and the fuel that each lifting
+/// begins with. Contracts see these.
+#[derive(Drop)]
+pub struct Core<T, G> {
+    id: StoreId,
+    state: T,
+    guest: G,
+    memory: Memory,
+    component: Component,
+    fuel: u64,
+}
+
+impl<T, G> Model for Core<T, G> {
+    ghost Value = { Parts T G };
+
+    ghost view = { λ c. record { id = c.id; state = c.state; guest = c.guest; memory = c.memory; component = c.component; fuel = c.fuel } };
+
+    ghost invariant = { λ c. IsComponent c.component };
+}
+
+impl<T, G> Core<T, G> {
+    ghost use Rattle.std.specs.Prelude.{◌≡◌, ◌≤◌, ◌^◌, IfOk, length};
+    ghost use Rattle.std.specs.Borrow.{Array, Lends, sem, u8};
+    ghost use Rattle.canon_memory.specs.Memory.{written_over};
+    ghost use Rattle.canon_context.specs.Component.{IsComponent};
+    ghost use Rattle.canon_context.specs.contracts.core_data.Core.{the_row};
+
+    pub fn new(
+        _alloc: Global,
+        id: StoreId,
+        state: T,
+        guest: G,
+        memory: Memory,
+        component: Component,
+        fuel: u64,
+    ) -> Result<Self, OutOfMemory>
+        requires { IsComponent component }
+        ensures { IfOk result (λ core. core ≡ record { id = id; state = state; guest = guest; memory = memory; component = component; fuel = fuel }) }
+    {
+        Ok(Core {
+            id,
+            state,
+            guest,
+            memory,
+            component,
+            fuel,
+        })
+    }
+
+    pub fn id(&self) -> StoreId
+        ensures { result ≡ self.now.id }
+    {
+        self.id
+    }
+
+    pub fn data_mut(&mut self) -> &mut T
+        ensures* writes_back { sem 𝓛 (Lends (the_row T.row G.row) T.row self.entry result (λ x. record self.old { state = x })) }
+        ensures value { result.now ≡ self.old.state }
+    {
+        &mut self.state
+    }
+
+    pub fn guest_mut(&mut self) -> &mut G
+        ensures* writes_back { sem 𝓛 (Lends (the_row T.row G.row) G.row self.entry result (λ g. record self.old { guest = g })) }
+        ensures value { result.now ≡ self.old.guest }
+    {
+        &mut self.guest
+    }
+
+    /// The fuel that each lifting begins with.
+    pub fn fuel(&self) -> u64
+        ensures { result ≡ self.now.fuel }
+    {
+        self.fuel
+    }
+
+    pub fn set_fuel(&mut self, v: u64)
+        ensures { self.new ≡ record self.old { fuel = v } }
+    {
+        self.fuel = v;
+    }
+
+    pub fn component(&self) -> &Component
+        ensures component { result.now ≡ self.now.component }
+        ensures sound { IsComponent result.now }
+    {
+        &self.component
+    }
+
+    // How texts are spelled under the options of a number.
+    pub fn encoding(&self, options: OptionsIndex) -> StringEncoding
+        ensures { encoding_of result ≡ encoding_by self.now options }
+    {
+        match self.component.options.get(options.as_u32() as usize) {
+            Some(options) => options.string_encoding,
+            None => StringEncoding::Utf8,
+        }
+    }
+
+    pub fn memory(&self) -> &Memory
+        ensures memory { result.now ≡ self.now.memory }
+        ensures small { length self.now.memory ≤ 2 ^ 32 }
+    {
+        let _len = self.memory.len();
+        &self.memory
+    }
+
+    pub fn as_slice_mut(&mut self) -> &mut [u8]
+        ensures* writes_back { sem 𝓛 (Lends (the_row T.row G.row) (Array u8 0) self.entry result (λ w. record self.old { memory = written_over self.old.memory w })) }
+        ensures value { result.now ≡ self.old.memory }
+        ensures small { length self.old.memory ≤ 2 ^ 32 }
+    {
+        let _len = self.memory.len();
+        self.memory.as_slice_mut()
+    }
+}
+
+impl<T, G: Guest> Core<T, G> {
+    /// Starts a core function in the core's memory, as `Guest::start`.
+    pub fn start(&mut self, func: u32, words: &[ValRaw]) -> Result<Step, GuestFault>
+        ensures goes { Goes (moment_of G.seen self.old) (moment_of G.seen self.new) [] (start_events func words.now self.old.memory self.new.memory result) }
+        ensures moves { OnAnswer result (G.moves (guest_of self.old) (start_events func words.now self.old.memory self.new.memory result) (guest_of self.new)) }
+        ensures cause { HasCause (G.seen self.old.guest) (G.seen self.new.guest) result }
+        ensures same { self.new ≡ record self.old { guest = self.new.guest; memory = self.new.memory } }
+    {
+        self.guest.start(&mut self.memory, func, words)
+    }
+
+    /// Lets a guest that asked for an import go on, as `Guest::resume`.
+    pub fn resume(&mut self, words: &[ValRaw]) -> Result<Step, GuestFault>
+        ensures goes { Goes (moment_of G.seen self.old) (moment_of G.seen self.new) [] (resume_events words.now self.old.memory self.new.memory result) }
+        ensures moves { OnAnswer result (G.moves (guest_of self.old) (resume_events words.now self.old.memory self.new.memory result) (guest_of self.new)) }
+        ensures cause { HasCause (G.seen self.old.guest) (G.seen self.new.guest) result }
+        ensures same { self.new ≡ record self.old { guest = self.new.guest; memory = self.new.memory } }
+    {
+        self.guest.resume(&mut self.memory, words)
+    }
+
+    /// Tells a guest that its returned words were read, as `Guest::post_return`.
+    pub fn post_return(&mut self, func: u32, words: &[ValRaw]) -> Result<(), GuestFault>
+        ensures goes { Goes (moment_of G.seen self.old) (moment_of G.seen self.new) [] (post_events func words.now self.old.memory result) }
+        ensures moves { OnAnswer result (G.moves (guest_of self.old) (post_events func words.now self.old.memory result) (guest_of self.new)) }
+        ensures leaves { OnOk result (G.leaves self.old.memory self.new.memory) }
+        ensures cause { HasCause (G.seen self.old.guest) (G.seen self.new.guest) result }
+        ensures same { self.new ≡ record self.old { guest = self.new.guest; memory = self.new.memory } }
+    {
+        self.guest.post_return(&mut self.memory, func, words)
+    }
+
+    /// Runs the destructor of a resource of this representation, as `Guest::dtor`.
+    pub fn dtor(&mut self, func: u32, rep: u32) -> Result<(), GuestFault>
+        ensures goes { Goes (moment_of G.seen self.old) (moment_of G.seen self.new) [] (dtor_events func rep self.old.memory result) }
+        ensures moves { OnAnswer result (G.moves (guest_of self.old) (dtor_events func rep self.old.memory result) (guest_of self.new)) }
+        ensures leaves { OnOk result (G.leaves self.old.memory self.new.memory) }
+        ensures cause { HasCause (G.seen self.old.guest) (G.seen self.new.guest) result }
+        ensures same { self.new ≡ record self.old { guest = self.new.guest; memory = self.new.memory } }
+    {
+        self.guest.dtor(&mut self.memory, func, rep)
+    }
+
+    // Asks the guest for a block once, and tests its answer.
+    pub fn realloc(
+        &mut self,
+        old: u64,
+        old_size: u64,
+        old_align: u32,
+        new_size: u64,
+    ) -> Result<u64, Fault>
+        requires alignment { IsAlignment old_align }
+        requires narrow { old < 2 ^ 32 }
+        requires old_sized { old_size < 2 ^ 32 }
+        requires new_sized { new_size < 2 ^ 32 }
+        ensures does { Reallocated (moment_of G.seen self.old) (moment_of G.seen self.new) (call old old_size old_align new_size) (ending_of result) (answer_of result) }
+        ensures moves { OnAnswer (guest_answer result) (G.moves (guest_of self.old) (realloc_events (call old old_size old_align new_size) self.old.memory (guest_answer result)) (guest_of self.new)) }
+        ensures small { length self.new.memory ≤ 2 ^ 32 }
+        ensures same { self.new ≡ record self.old { guest = self.new.guest; memory = self.new.memory } }
+    {
+        let answer = self
+            .guest
+            .realloc(&mut self.memory, old, old_size, old_align, new_size);
+        let len = self.memory.len();
+        let answer = match answer {
+            Ok(answer) => answer,
+            Err(GuestFault::Trap) => return Err(Fault::GuestTrap),
+            Err(GuestFault::OutOfMemory) => return Err(Fault::OutOfMemory),
+        };
+        if answer % u64::from(old_align) != 0 {
+            return Err(Fault::ReallocMisaligned(answer));
+        }
+        if answer + new_size > len {
+            return Err(Fault::ReallocOutOfBounds(answer));
+        }
+        Ok(answer)
+    }
+}

@@ -1,0 +1,15 @@
+//! Where values cross: a component, the core that holds it with its guest and memory, the contexts of lowering and lifting, the
+//! fuel, and the faults.
+#![tactic(auto)]
+
+mod component;
+mod context;
+mod core_data;
+mod fault;
+mod fuel;
+
+pub use component::{Component, Export};
+pub use context::{LiftContext, LowerContext, Source};
+pub use core_data::Core;
+pub use fault::{At, Fault};
+pub use fuel::{HostcallFuelExhausted, charge, charge_each};

@@ -1,0 +1,5 @@
+//! Tests of the ledger by host indexes.
+#![tactic(auto)]
+
+#[cfg(test)]
+mod tests;

@@ -1,0 +1,433 @@
+//! Worked examples on host indexes and on resources of a component.
+
+use canon_handles::{TypedResource, TypedResourceIndex};
+use canon_indices::RuntimeInstance;
+use canon_ledger::{
+    HostResourceData, HostResourceIndex, HostResourceTables, Ledger, ResourceFault, ResourceTables,
+    TableSlot, resource_drop_ret,
+};
+use canon_types::{
+    ComponentTypes, ResourceKind, TypeBuilder, TypeError, TypeResourceTable, TypeResourceTableIndex,
+};
+use std::alloc::Global;
+use std::test::Fail;
+
+/// A resource of the host and one of the component, each with a table in two instances.
+#[derive(Drop)]
+struct Types {
+    types: ComponentTypes,
+    first_own: TypeResourceTableIndex,
+    second_own: TypeResourceTableIndex,
+    first_host: TypeResourceTableIndex,
+}
+
+fn table(instance: u32, kind: ResourceKind) -> TypeResourceTable {
+    TypeResourceTable {
+        instance: RuntimeInstance::from_u32(instance),
+        kind,
+        defined_here: false,
+    }
+}
+
+fn two_instances(alloc: Global) -> Result<Types, TypeError> {
+    let guest = ResourceKind::Guest { id: 4, dtor: None };
+    let mut builder = TypeBuilder::new(alloc);
+    let first_own = builder.add_resource_table(table(0, guest))?;
+    let second_own = builder.add_resource_table(table(1, guest))?;
+    let first_host = builder.add_resource_table(table(0, ResourceKind::HostDynamic(9)))?;
+    Ok(Types {
+        types: builder.finish(),
+        first_own,
+        second_own,
+        first_host,
+    })
+}
+
+// What a call in a component answers; nothing where the type isn't known.
+fn guest_lower_own(
+    ledger: &mut Ledger,
+    types: &ComponentTypes,
+    rep: u32,
+    ty: TypeResourceTableIndex,
+) -> Option<Result<u32, ResourceFault>> {
+    let current_scope = ledger.current();
+    let mut tables = HostResourceTables::from_parts(ResourceTables {
+        ledger,
+        types: Some(types),
+        current_scope,
+    });
+    if !tables.has_type(ty) {
+        return None;
+    }
+    Some(tables.guest_resource_lower_own(rep, ty))
+}
+
+fn guest_lower_borrow(
+    ledger: &mut Ledger,
+    types: &ComponentTypes,
+    rep: u32,
+    ty: TypeResourceTableIndex,
+) -> Option<Result<u32, ResourceFault>> {
+    let current_scope = ledger.current();
+    let mut tables = HostResourceTables::from_parts(ResourceTables {
+        ledger,
+        types: Some(types),
+        current_scope,
+    });
+    if !tables.has_type(ty) {
+        return None;
+    }
+    Some(tables.guest_resource_lower_borrow(rep, ty))
+}
+
+fn guest_lift_own(
+    ledger: &mut Ledger,
+    types: &ComponentTypes,
+    index: u32,
+    ty: TypeResourceTableIndex,
+) -> Option<Result<u32, ResourceFault>> {
+    let current_scope = ledger.current();
+    let mut tables = HostResourceTables::from_parts(ResourceTables {
+        ledger,
+        types: Some(types),
+        current_scope,
+    });
+    if !tables.has_type(ty) {
+        return None;
+    }
+    Some(tables.guest_resource_lift_own(index, ty))
+}
+
+fn guest_lift_borrow(
+    ledger: &mut Ledger,
+    types: &ComponentTypes,
+    index: u32,
+    ty: TypeResourceTableIndex,
+) -> Option<Result<u32, ResourceFault>> {
+    let current_scope = ledger.current();
+    let mut tables = HostResourceTables::from_parts(ResourceTables {
+        ledger,
+        types: Some(types),
+        current_scope,
+    });
+    if !tables.has_type(ty) {
+        return None;
+    }
+    Some(tables.guest_resource_lift_borrow(index, ty))
+}
+
+fn guest_drop(
+    ledger: &mut Ledger,
+    types: &ComponentTypes,
+    index: u32,
+    ty: TypeResourceTableIndex,
+) -> Option<Result<Option<u32>, ResourceFault>> {
+    let current_scope = ledger.current();
+    let mut tables = ResourceTables {
+        ledger,
+        types: Some(types),
+        current_scope,
+    };
+    if !tables.has_type(ty) {
+        return None;
+    }
+    Some(tables.resource_drop(TypedResourceIndex::Component { ty, index }))
+}
+
+fn guest_new(
+    ledger: &mut Ledger,
+    types: &ComponentTypes,
+    rep: u32,
+    ty: TypeResourceTableIndex,
+) -> Option<Result<u32, ResourceFault>> {
+    let mut tables = ResourceTables {
+        ledger,
+        types: Some(types),
+        current_scope: None,
+    };
+    if !tables.has_type(ty) {
+        return None;
+    }
+    Some(tables.resource_new(TypedResource::Component { ty, rep }))
+}
+
+fn guest_rep(
+    ledger: &mut Ledger,
+    types: &ComponentTypes,
+    index: u32,
+    ty: TypeResourceTableIndex,
+) -> Option<Result<u32, ResourceFault>> {
+    let mut tables = ResourceTables {
+        ledger,
+        types: Some(types),
+        current_scope: None,
+    };
+    if !tables.has_type(ty) {
+        return None;
+    }
+    Some(tables.resource_rep(TypedResourceIndex::Component { ty, index }))
+}
+
+// A call in the current scope.
+fn lift_borrow(ledger: &mut Ledger, idx: HostResourceIndex) -> Result<u32, ResourceFault> {
+    let current_scope = ledger.current();
+    let mut tables = HostResourceTables::from_parts(ResourceTables {
+        ledger,
+        types: None,
+        current_scope,
+    });
+    tables.host_resource_lift_borrow(idx)
+}
+
+fn lower_borrow(ledger: &mut Ledger, rep: u32) -> Result<HostResourceIndex, ResourceFault> {
+    let current_scope = ledger.current();
+    let mut tables = HostResourceTables::from_parts(ResourceTables {
+        ledger,
+        types: None,
+        current_scope,
+    });
+    tables.host_resource_lower_borrow(rep)
+}
+
+fn exit(ledger: &mut Ledger) -> Result<(), ResourceFault> {
+    let current_scope = ledger.current();
+    let mut tables = HostResourceTables::from_parts(ResourceTables {
+        ledger,
+        types: None,
+        current_scope,
+    });
+    tables.validate_scope_exit()
+}
+
+#[test]
+fn a_removed_own_handle_answers_twice_its_representation_and_one(rt: HostRuntime) {
+    assert_eq!(rt; resource_drop_ret(Some(7)), 15);
+    assert_eq!(rt; resource_drop_ret(None), 0);
+}
+
+// The generation, the instance and the destructor of a slot.
+fn kept(slot: TableSlot) -> (u32, Option<u32>, Option<u32>) {
+    let instance = match slot.instance {
+        Some(instance) => Some(instance.as_u32()),
+        None => None,
+    };
+    (slot.generation, instance, slot.dtor)
+}
+
+#[test]
+fn an_index_that_is_given_again_is_told_apart(rt: HostRuntime) -> Result<(), Fail> {
+    let alloc = rt.alloc();
+    let mut ledger = Ledger::new(alloc, 0, 100, HostResourceData::new(alloc))?;
+    let mut tables = HostResourceTables::new_host(&mut ledger);
+    let first = tables.host_resource_lower_own(7, Some(5), Some(RuntimeInstance::from_u32(3)))?;
+    assert_eq!(rt; first.index(), 1);
+    assert_eq!(rt; first.generation(), 0);
+    let slot = tables.slot(first)?.ok_or("no slot")?;
+    assert_eq!(rt; kept(slot), (0, Some(3), Some(5)));
+    let (rep, slot) = tables.host_resource_drop(first)?.ok_or("no own handle")?;
+    assert_eq!(rt; rep, 7);
+    assert_eq!(rt; kept(slot), (0, Some(3), Some(5)));
+    assert_eq!(rt;
+        tables.host_resource_lift_own(first),
+        Err(ResourceFault::UnknownHandle(1))
+    );
+    let second = tables.host_resource_lower_own(8, None, None)?;
+    assert_eq!(rt; second.index(), 1);
+    assert_eq!(rt; second.generation(), 2);
+    assert_eq!(rt;
+        tables.host_resource_lift_own(first),
+        Err(ResourceFault::HostDeallocated)
+    );
+    assert_eq!(rt;
+        tables.slot(first).err(),
+        Some(ResourceFault::HostDeallocated)
+    );
+    assert!(rt; tables.slot(HostResourceIndex::new(2, 0))?.is_none());
+    assert_eq!(rt; tables.host_resource_lift_own(second), Ok(8));
+    Ok(())
+}
+
+#[test]
+fn the_last_generation_takes_nothing_out(rt: HostRuntime) -> Result<(), Fail> {
+    let alloc = rt.alloc();
+    let host = HostResourceData::with_generation(alloc, 4_294_967_292);
+    let mut ledger = Ledger::new(alloc, 0, 100, host)?;
+    let mut tables = HostResourceTables::new_host(&mut ledger);
+    let index = tables.host_resource_lower_own(7, None, None)?;
+    assert_eq!(rt;
+        tables.host_resource_lift_own(index),
+        Err(ResourceFault::GenerationExhausted)
+    );
+    assert_eq!(rt;
+        tables.host_resource_drop(index),
+        Err(ResourceFault::GenerationExhausted)
+    );
+    assert_eq!(rt; ledger.live(), 1);
+    Ok(())
+}
+
+#[test]
+fn the_host_lends_nothing_outside_a_call(rt: HostRuntime) -> Result<(), Fail> {
+    let alloc = rt.alloc();
+    let mut ledger = Ledger::new(alloc, 0, 100, HostResourceData::new(alloc))?;
+    let mut tables = HostResourceTables::new_host(&mut ledger);
+    let index = tables.host_resource_lower_own(7, None, None)?;
+    assert_eq!(rt;
+        tables.host_resource_lift_borrow(index),
+        Err(ResourceFault::NoScope)
+    );
+    assert_eq!(rt;
+        tables.host_resource_lower_borrow(7),
+        Err(ResourceFault::NoScope)
+    );
+    assert_eq!(rt; tables.validate_scope_exit(), Err(ResourceFault::NoScope));
+    assert_eq!(rt; tables.host_resource_remove(index), Ok(7));
+    assert_eq!(rt;
+        tables.host_resource_remove(index),
+        Err(ResourceFault::UnknownHandle(1))
+    );
+    Ok(())
+}
+
+#[test]
+fn each_instance_has_a_table_of_its_own(rt: HostRuntime) -> Result<(), Fail> {
+    let alloc = rt.alloc();
+    let Types {
+        types,
+        first_own,
+        second_own,
+        first_host,
+    } = two_instances(alloc)?;
+    let mut ledger = Ledger::new(alloc, 2, 100, HostResourceData::new(alloc))?;
+    assert_eq!(rt; guest_new(&mut ledger, &types, 7, first_own), Some(Ok(1)));
+    assert_eq!(rt; guest_new(&mut ledger, &types, 8, second_own), Some(Ok(1)));
+    assert_eq!(rt; guest_new(&mut ledger, &types, 9, first_host), Some(Ok(2)));
+    assert_eq!(rt; guest_rep(&mut ledger, &types, 1, second_own), Some(Ok(8)));
+    assert_eq!(rt;
+        guest_rep(&mut ledger, &types, 2, second_own),
+        Some(Err(ResourceFault::UnknownHandle(2)))
+    );
+    assert_eq!(rt;
+        guest_lift_own(&mut ledger, &types, 1, first_host),
+        Some(Err(ResourceFault::ResourceTypeMismatch))
+    );
+    assert_eq!(rt;
+        guest_lift_own(&mut ledger, &types, 1, first_own),
+        Some(Ok(7))
+    );
+    assert_eq!(rt;
+        guest_drop(&mut ledger, &types, 1, first_own),
+        Some(Err(ResourceFault::UnknownHandle(1)))
+    );
+    assert_eq!(rt;
+        guest_drop(&mut ledger, &types, 2, first_host),
+        Some(Ok(Some(9)))
+    );
+    assert_eq!(rt; ledger.live(), 1);
+    Ok(())
+}
+
+#[test]
+fn a_type_of_no_instance_here_is_unknown(rt: HostRuntime) -> Result<(), Fail> {
+    let alloc = rt.alloc();
+    let types = two_instances(alloc)?;
+    let mut ledger = Ledger::new(alloc, 1, 100, HostResourceData::new(alloc))?;
+    assert_eq!(rt;
+        guest_new(&mut ledger, &types.types, 7, types.second_own),
+        None
+    );
+    assert_eq!(rt;
+        guest_new(&mut ledger, &types.types, 7, types.first_own),
+        Some(Ok(1))
+    );
+    Ok(())
+}
+
+#[test]
+fn a_resource_that_is_lent_to_a_call_is_not_given_to_it(rt: HostRuntime) -> Result<(), Fail> {
+    let alloc = rt.alloc();
+    let types = two_instances(alloc)?;
+    let mut ledger = Ledger::new(alloc, 2, 100, HostResourceData::new(alloc))?;
+    let index = HostResourceTables::new_host(&mut ledger).host_resource_lower_own(7, None, None)?;
+    let _scope = ledger.enter()?;
+    assert_eq!(rt; lift_borrow(&mut ledger, index), Ok(7));
+    assert_eq!(rt;
+        guest_lower_borrow(&mut ledger, &types.types, 7, types.first_host),
+        Some(Ok(1))
+    );
+    assert_eq!(rt;
+        HostResourceTables::new_host(&mut ledger).host_resource_lift_own(index),
+        Err(ResourceFault::StillLent(1))
+    );
+    assert_eq!(rt; ledger.live(), 3);
+    assert_eq!(rt; exit(&mut ledger), Err(ResourceFault::BorrowsRemain));
+    assert_eq!(rt; ledger.live(), 3);
+    assert_eq!(rt;
+        guest_drop(&mut ledger, &types.types, 1, types.first_host),
+        Some(Ok(None))
+    );
+    assert_eq!(rt; exit(&mut ledger), Ok(()));
+    assert_eq!(rt; ledger.live(), 1);
+    Ok(())
+}
+
+#[test]
+fn a_resource_that_was_given_away_is_gone(rt: HostRuntime) -> Result<(), Fail> {
+    let alloc = rt.alloc();
+    let types = two_instances(alloc)?;
+    let mut ledger = Ledger::new(alloc, 2, 100, HostResourceData::new(alloc))?;
+    let index = HostResourceTables::new_host(&mut ledger).host_resource_lower_own(7, None, None)?;
+    assert_eq!(rt;
+        HostResourceTables::new_host(&mut ledger).host_resource_lift_own(index),
+        Ok(7)
+    );
+    assert_eq!(rt;
+        guest_lower_own(&mut ledger, &types.types, 7, types.first_host),
+        Some(Ok(1))
+    );
+    assert_eq!(rt; ledger.live(), 1);
+    assert_eq!(rt;
+        HostResourceTables::new_host(&mut ledger).host_resource_lift_own(index),
+        Err(ResourceFault::UnknownHandle(1))
+    );
+    let _other = HostResourceTables::new_host(&mut ledger).host_resource_lower_own(8, None, None)?;
+    assert_eq!(rt;
+        HostResourceTables::new_host(&mut ledger).host_resource_lift_own(index),
+        Err(ResourceFault::HostDeallocated)
+    );
+    Ok(())
+}
+
+#[test]
+fn a_borrow_of_the_guest_is_a_borrow_handle_of_the_host(rt: HostRuntime) -> Result<(), Fail> {
+    let alloc = rt.alloc();
+    let types = two_instances(alloc)?;
+    let mut ledger = Ledger::new(alloc, 2, 100, HostResourceData::new(alloc))?;
+    assert_eq!(rt;
+        guest_new(&mut ledger, &types.types, 7, types.first_own),
+        Some(Ok(1))
+    );
+    let _scope = ledger.enter()?;
+    assert_eq!(rt;
+        guest_lift_borrow(&mut ledger, &types.types, 1, types.first_own),
+        Some(Ok(7))
+    );
+    let index = lower_borrow(&mut ledger, 7)?;
+    assert_eq!(rt; ledger.live(), 3);
+    assert_eq!(rt; lift_borrow(&mut ledger, index), Ok(7));
+    assert_eq!(rt; ledger.live(), 3);
+    assert_eq!(rt;
+        guest_lift_own(&mut ledger, &types.types, 1, types.first_own),
+        Some(Err(ResourceFault::StillLent(1)))
+    );
+    assert_eq!(rt;
+        HostResourceTables::new_host(&mut ledger).host_resource_drop(index),
+        Ok(None)
+    );
+    assert_eq!(rt; exit(&mut ledger), Ok(()));
+    assert_eq!(rt;
+        guest_lift_own(&mut ledger, &types.types, 1, types.first_own),
+        Some(Ok(7))
+    );
+    Ok(())
+}

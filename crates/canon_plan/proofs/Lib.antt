@@ -1,0 +1,7 @@
+pub mod BuiltKinds
+pub mod CasePlans
+pub mod Flats
+pub mod TypeKinds
+pub mod Lookups
+pub mod Pairs
+pub mod ScalarTypes

@@ -1,0 +1,80 @@
+-- The scalars of types.
+use Rattle.std.proofs.Common.{◌≡◌, ◌∙◌, Option, Some, ap, refl, sym, ℕ}
+use Rattle.canon_model.specs.Shape.{Scalar, bool, char, f32, f64, s16, s32, s64, s8, scalar, u16, u32, u64, u8}
+use Rattle.canon_types.specs.declared.types.InterfaceType.{InterfaceType}
+use Rattle.canon_types.specs.declared.types.InterfaceType.TheVariants as ty
+use Rattle.canon_types.specs.Table.{Table, plain_shape, shape_of}
+use Rattle.canon_plan.specs.Built.{IsBuilt, scalar_type, IsScalarType}
+use Rattle.canon_model.specs.Layout.{flat}
+
+-- a scalar type has the shape of its scalar, and its shape needs no table
+both_scalar : (type : InterfaceType) (k : Scalar) → scalar_type type ≡ Some k → (plain_shape type ≡ scalar k) × ((t : Table) → shape_of t type ≡ scalar k)
+both_scalar ty.Bool k e = let same : bool ≡ k = cc in (ap scalar same, λ t. ap scalar same)
+both_scalar ty.S8 k e = let same : s8 ≡ k = cc in (ap scalar same, λ t. ap scalar same)
+both_scalar ty.U8 k e = let same : u8 ≡ k = cc in (ap scalar same, λ t. ap scalar same)
+both_scalar ty.S16 k e = let same : s16 ≡ k = cc in (ap scalar same, λ t. ap scalar same)
+both_scalar ty.U16 k e = let same : u16 ≡ k = cc in (ap scalar same, λ t. ap scalar same)
+both_scalar ty.S32 k e = let same : s32 ≡ k = cc in (ap scalar same, λ t. ap scalar same)
+both_scalar ty.U32 k e = let same : u32 ≡ k = cc in (ap scalar same, λ t. ap scalar same)
+both_scalar ty.S64 k e = let same : s64 ≡ k = cc in (ap scalar same, λ t. ap scalar same)
+both_scalar ty.U64 k e = let same : u64 ≡ k = cc in (ap scalar same, λ t. ap scalar same)
+both_scalar ty.Float32 k e = let same : f32 ≡ k = cc in (ap scalar same, λ t. ap scalar same)
+both_scalar ty.Float64 k e = let same : f64 ≡ k = cc in (ap scalar same, λ t. ap scalar same)
+both_scalar ty.Char k e = let same : char ≡ k = cc in (ap scalar same, λ t. ap scalar same)
+both_scalar ty.String k e = cc
+both_scalar (ty.Own i) k e = cc
+both_scalar (ty.Borrow i) k e = cc
+both_scalar (ty.List i) k e = cc
+both_scalar (ty.Map i) k e = cc
+both_scalar (ty.Record i) k e = cc
+both_scalar (ty.Tuple i) k e = cc
+both_scalar (ty.Variant i) k e = cc
+both_scalar (ty.Enum i) k e = cc
+both_scalar (ty.Option i) k e = cc
+both_scalar (ty.Result i) k e = cc
+both_scalar (ty.Flags i) k e = cc
+both_scalar (ty.FixedLengthList i) k e = cc
+
+pub scalar_shape : (t : Table) (type : InterfaceType) (k : Scalar) → scalar_type type ≡ Some k → shape_of t type ≡ scalar k
+scalar_shape t type k e = (both_scalar type k e).1 t
+
+pub plain_scalar : (type : InterfaceType) (k : Scalar) → scalar_type type ≡ Some k → plain_shape type ≡ scalar k
+plain_scalar type k e = (both_scalar type k e).0
+
+-- a type that is built, and has no definition and is no string, is a scalar
+pub built_scalar : (t : Table) (type : InterfaceType) → IsBuilt (shape_of t type) → ((i : ℕ) → type ≡ ty.Record i → ⊥) → ((i : ℕ) → type ≡ ty.Tuple i → ⊥) → (type ≡ ty.String → ⊥) → ((i : ℕ) → type ≡ ty.List i → ⊥) → ((i : ℕ) → type ≡ ty.FixedLengthList i → ⊥)
+    → ((i : ℕ) → type ≡ ty.Map i → ⊥) → ((i : ℕ) → type ≡ ty.Variant i → ⊥) → ((i : ℕ) → type ≡ ty.Enum i → ⊥) → ((i : ℕ) → type ≡ ty.Option i → ⊥) → ((i : ℕ) → type ≡ ty.Result i → ⊥) → ((i : ℕ) → type ≡ ty.Flags i → ⊥)
+    → IsScalarType type
+built_scalar t ty.Bool h no_record no_tuple no_string no_list no_fixed no_map no_variant no_enum no_option no_result no_flags = (bool, refl)
+built_scalar t ty.S8 h no_record no_tuple no_string no_list no_fixed no_map no_variant no_enum no_option no_result no_flags = (s8, refl)
+built_scalar t ty.U8 h no_record no_tuple no_string no_list no_fixed no_map no_variant no_enum no_option no_result no_flags = (u8, refl)
+built_scalar t ty.S16 h no_record no_tuple no_string no_list no_fixed no_map no_variant no_enum no_option no_result no_flags = (s16, refl)
+built_scalar t ty.U16 h no_record no_tuple no_string no_list no_fixed no_map no_variant no_enum no_option no_result no_flags = (u16, refl)
+built_scalar t ty.S32 h no_record no_tuple no_string no_list no_fixed no_map no_variant no_enum no_option no_result no_flags = (s32, refl)
+built_scalar t ty.U32 h no_record no_tuple no_string no_list no_fixed no_map no_variant no_enum no_option no_result no_flags = (u32, refl)
+built_scalar t ty.S64 h no_record no_tuple no_string no_list no_fixed no_map no_variant no_enum no_option no_result no_flags = (s64, refl)
+built_scalar t ty.U64 h no_record no_tuple no_string no_list no_fixed no_map no_variant no_enum no_option no_result no_flags = (u64, refl)
+built_scalar t ty.Float32 h no_record no_tuple no_string no_list no_fixed no_map no_variant no_enum no_option no_result no_flags = (f32, refl)
+built_scalar t ty.Float64 h no_record no_tuple no_string no_list no_fixed no_map no_variant no_enum no_option no_result no_flags = (f64, refl)
+built_scalar t ty.Char h no_record no_tuple no_string no_list no_fixed no_map no_variant no_enum no_option no_result no_flags = (char, refl)
+built_scalar t (ty.Own r) h no_record no_tuple no_string no_list no_fixed no_map no_variant no_enum no_option no_result no_flags = cc
+built_scalar t (ty.Borrow r) h no_record no_tuple no_string no_list no_fixed no_map no_variant no_enum no_option no_result no_flags = cc
+built_scalar t (ty.Record i) h no_record no_tuple no_string no_list no_fixed no_map no_variant no_enum no_option no_result no_flags = absurd (no_record i refl)
+built_scalar t (ty.Tuple i) h no_record no_tuple no_string no_list no_fixed no_map no_variant no_enum no_option no_result no_flags = absurd (no_tuple i refl)
+built_scalar t ty.String h no_record no_tuple no_string no_list no_fixed no_map no_variant no_enum no_option no_result no_flags = absurd (no_string refl)
+built_scalar t (ty.List i) h no_record no_tuple no_string no_list no_fixed no_map no_variant no_enum no_option no_result no_flags = absurd (no_list i refl)
+built_scalar t (ty.FixedLengthList i) h no_record no_tuple no_string no_list no_fixed no_map no_variant no_enum no_option no_result no_flags = absurd (no_fixed i refl)
+built_scalar t (ty.Map i) h no_record no_tuple no_string no_list no_fixed no_map no_variant no_enum no_option no_result no_flags = absurd (no_map i refl)
+built_scalar t (ty.Variant i) h no_record no_tuple no_string no_list no_fixed no_map no_variant no_enum no_option no_result no_flags = absurd (no_variant i refl)
+built_scalar t (ty.Enum i) h no_record no_tuple no_string no_list no_fixed no_map no_variant no_enum no_option no_result no_flags = absurd (no_enum i refl)
+built_scalar t (ty.Option i) h no_record no_tuple no_string no_list no_fixed no_map no_variant no_enum no_option no_result no_flags = absurd (no_option i refl)
+built_scalar t (ty.Result i) h no_record no_tuple no_string no_list no_fixed no_map no_variant no_enum no_option no_result no_flags = absurd (no_result i refl)
+built_scalar t (ty.Flags i) h no_record no_tuple no_string no_list no_fixed no_map no_variant no_enum no_option no_result no_flags = absurd (no_flags i refl)
+
+-- the shape of a scalar type, and its one word
+pub scalar_known : (t : Table) (type : InterfaceType) → IsScalarType type → plain_shape type ≡ shape_of t type
+scalar_known t type (k, e) = plain_scalar type k e ∙ sym (scalar_shape t type k e)
+
+pub scalar_flat : (t : Table) (type : InterfaceType) → IsScalarType type → flat (shape_of t type) ≡ 1
+unfolding flat
+scalar_flat t type (k, e) = ap flat (scalar_shape t type k e)

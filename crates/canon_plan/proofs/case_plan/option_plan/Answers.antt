@@ -1,0 +1,15 @@
+use Rattle.std.proofs.Common.{◌≡◌}
+use Rattle.canon_model.specs.Shape.{of_option, variant}
+use Rattle.canon_types.specs.Depth.{variant_cases}
+use Rattle.canon_types.specs.Table.{shape_of}
+use Rattle.canon_types.specs.declared.types.InterfaceType.TheVariants as ty
+use Rattle.canon_plan.proofs.CasePlans.{as_cases}
+use Rattle.canon_plan.proofs.case_plan.option_plan.Goals as goal
+
+pub returns : goal.returns
+returns c =
+    let t = c.args.types.now in
+    let s = shape_of t (ty.Option c.args.i) in
+    let e = c.option.ensures.entry.shape in
+    let cases : s ≡ variant of_option (variant_cases s) = as_cases s of_option _ e in
+    ((shape_of t c.option.result.now.ty, e), (of_option, cases), c.option.ensures.info)

@@ -1,0 +1,4 @@
+pub mod Built
+pub mod CasePlan
+pub mod Element
+pub mod Plan
