@@ -1,0 +1,14 @@
+pub mod Fields
+pub mod Stopping
+pub mod Bytes
+pub mod Counting
+pub mod Writing
+pub mod PairsWriting
+pub mod Flagging
+pub mod Reading
+pub mod Fetching
+pub mod Spares
+pub mod PairsReading
+pub mod CaseReading
+pub mod WholeReading
+pub mod Exact

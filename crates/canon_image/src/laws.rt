@@ -1,0 +1,16 @@
+//! Laws of images, as contracts of functions that do nothing.
+
+ghost use Rattle.canon_model.specs.Laws.{ImagesDetermine};
+ghost use Rattle.canon_image.specs.Laws.{StopsOnce};
+
+/// No image begins another, and two trees are the same exactly if their images are.
+pub fn images_determine()
+    ensures { ImagesDetermine }
+{
+    canon_model::laws::images_determine()
+}
+
+/// Reading stops at one place and in one way, and nowhere in an image.
+pub fn stops_once()
+    ensures { StopsOnce }
+{}

@@ -1,0 +1,5 @@
+//! Tests of images, by their bytes.
+#![tactic(auto)]
+
+#[cfg(test)]
+mod tests;
