@@ -1,4 +1,5 @@
-ghost use Rattle.std.specs.Prelude.{◌≡◌, ◌≢◌, ◌+◌, ◌^◌, ◌≤◌, ◌<◌, ◌++◌, ◌∷◌, [], All, true, false, filter_map, length, map, option_to_list, Some, None, IfOk, OnOk, IfErr, OnErr, string_bytes, vec_capacity, vec_len};
+ghost use Rattle.std.specs.Prelude.{◌≡◌, ◌≢◌, ◌+◌, ◌^◌, ◌&&◌, ◌||◌, ◌≤◌, ◌<◌, ◌++◌, ◌∷◌, [], All, true, false, filter_map, length, map, option_to_list, Some, None, IfOk, OnOk, IfErr, OnErr, string_bytes};
+ghost use Rattle.std.specs.List.{list_all, list_any};
 ghost use Rattle.std.specs.Result.{result_err};
 ghost use Rattle.canon_abi.specs.Abi.{AreOfCases, AreOfMembers, HasInfo, HasLayout, TellsLayout};
 ghost use Rattle.canon_model.specs.Layout.{offset, size};
@@ -6,8 +7,8 @@ ghost use Rattle.canon_model.specs.Shape.{VariantKind, fixed, of_option, of_plac
 ghost use Rattle.canon_types.specs.Depth.{deepest, has_borrow, member_borrows};
 ghost use Rattle.canon_types.specs.Keeps.{IsEntry, cases_type, definition_of, fields_type, names_of};
 ghost use Rattle.canon_types.specs.Laid.{AreLaid, ArePayloadsLaid, IsPayloadLaid, unnamed_cases};
-ghost use Rattle.canon_types.specs.Refusal.{Adds, AddsFunc, AddsResource, func_parts_refusal, func_refusal, is_full_for, refusal, resource_refusal, with_definition, with_func_of};
-ghost use Rattle.canon_types.specs.Table.{EnumType, FixedListType, FlagsType, Knows, KnowsPayload, ListType, MapType, OptionType, ResultType, TupleType, all_shapes, defined_shape, is_tuple, members_of, shape_of};
+ghost use Rattle.canon_types.specs.Refusal.{Adds, AddsFunc, AddsResource, func_parts_refusal, func_refusal, is_full_for, refusal, is_unit_type, resource_refusal, with_definition, with_func_of};
+ghost use Rattle.canon_types.specs.Table.{EnumType, FixedListType, FlagsType, Knows, KnowsPayload, ListType, MapType, OptionType, ResultType, TupleType, all_shapes, defined_shape, is_tuple, knows, members_of, shape_of};
 
 use super::names::{MAX_FLAGS, MAX_NAMES, case_map, check_count, check_fields, name_set};
 use super::{ComponentTypes, Entry, Item, MAX_DEPTH};
@@ -476,13 +477,27 @@ impl ComponentTypes {
     ) -> Result<(), TypeError>
         ensures { result_err result ≡ func_parts_refusal self.now params.now results.now }
     {
-        if !self.all_known(params) || !self.all_known(results) {
+        if !self.both_known(params, results) {
             return Err(TypeError::UnknownIndex);
         }
-        if self.any_unit(params) || self.any_unit(results) {
+        if self.either_unit(params, results) {
             return Err(TypeError::Empty);
         }
         Ok(())
+    }
+
+    /// Whether each parameter and each result is known.
+    fn both_known(&self, params: &[InterfaceType], results: &[InterfaceType]) -> bool
+        ensures { result ≡ (list_all (knows self.now) params.now && list_all (knows self.now) results.now) }
+    {
+        self.all_known(params) && self.all_known(results)
+    }
+
+    /// Whether a parameter or a result is a tuple without members.
+    fn either_unit(&self, params: &[InterfaceType], results: &[InterfaceType]) -> bool
+        ensures { result ≡ (list_any (is_unit_type self.now) params.now || list_any (is_unit_type self.now) results.now) }
+    {
+        self.any_unit(params) || self.any_unit(results)
     }
 
     /// The entry of a tuple of known types, which may have no members.
@@ -532,9 +547,9 @@ impl ComponentTypes {
             results: TypeTupleIndex::from_u32(place + 1),
             async_,
         };
-        push_reserved(&mut self.entries, params);
-        push_reserved(&mut self.entries, results);
-        push_reserved(&mut self.funcs, func);
+        self.entries.push_reserved(params);
+        self.entries.push_reserved(results);
+        self.funcs.push_reserved(func);
         Ok(TypeFuncIndex::from_u32(index))
     }
 
@@ -559,13 +574,3 @@ impl ComponentTypes {
 
 /// The largest number of an instance.
 const MAX_INSTANCE: u32 = 255;
-
-/// Adds an item for which there is room.
-fn push_reserved<T: Drop>(items: &mut Vec<T>, item: T)
-    requires { vec_len items.old < vec_capacity items.old }
-    ensures added { items.new.items ≡ items.old.items ++ item ∷ [] }
-    ensures len { vec_len items.new ≡ vec_len items.old + 1 }
-    ensures capacity { vec_capacity items.old ≤ vec_capacity items.new }
-{
-    let _ = items.push(item);
-}
