@@ -159,14 +159,16 @@ module _ (r : ℕ → ℕ → Type 0) (enc : Encoding) (m : Memory) (ws : List �
   case_flat (payload name s cs) (suc i) d j e ts lt zeros h = case_flat cs i d j e ts (omega arith) zeros h
 
 module _ (wide : Bool) (enc : Encoding) (pointer : ℕ → ℕ → Type 0) (ws : List ℕ) where
-  case_flat_home : (cs : Cases) (i d j : ℕ) (ts : Trees) (xs ys : List ℕ) → CaseIs wide enc (case_members cs i) d (case_tree d ts) → MembersFlatHome pointer enc wide ws (case_members cs i) j ts xs ys
-      → CaseFlatHome pointer enc wide ws cs i j (payload_of (case_tree d ts)) xs ys
-  case_flat_home no_cases i d j ts xs ys is h = h
-  case_flat_home (bare name cs) zero d j ts xs ys is h = h
-  case_flat_home (bare name cs) (suc i) d j ts xs ys is h = case_flat_home cs i d j ts xs ys is h
-  case_flat_home (payload name s cs) zero d j no_trees xs ys (u, e) h = absurd (no_case d u e)
-  case_flat_home (payload name s cs) zero d j (tree t ts) xs ys is (zs, h, e) = subst (λ us. FlatHomes pointer enc wide ws s j t xs us) e h
-  case_flat_home (payload name s cs) (suc i) d j ts xs ys is h = case_flat_home cs i d j ts xs ys is h
+  case_flat_home : (cs : Cases) (i d j e : ℕ) (ts : Trees) (xs ys : List ℕ) → i < case_count cs → AreZero ws (j + members_flat (case_members cs i)) e → CaseIs wide enc (case_members cs i) d (case_tree d ts)
+      → MembersFlatHome pointer enc wide ws (case_members cs i) j ts xs ys → CaseFlatHome pointer enc wide ws cs i j e (payload_of (case_tree d ts)) xs ys
+  unfolding flat
+  case_flat_home no_cases i d j e ts xs ys lt zeros is h = absurd (omega arith)
+  case_flat_home (bare name cs) zero d j e ts xs ys lt zeros is h = (λ p l u. zeros p (omega (arith, l)) u, h)
+  case_flat_home (bare name cs) (suc i) d j e ts xs ys lt zeros is h = case_flat_home cs i d j e ts xs ys (omega arith) zeros is h
+  case_flat_home (payload name s cs) zero d j e no_trees xs ys lt zeros (u, same) h = absurd (no_case d u same)
+  case_flat_home (payload name s cs) zero d j e (tree t ts) xs ys lt zeros is (zs, h, same) =
+      (λ p l u. zeros p (omega (arith, l)) u, subst (λ us. FlatHomes pointer enc wide ws s j t xs us) same h)
+  case_flat_home (payload name s cs) (suc i) d j e ts xs ys lt zeros is h = case_flat_home cs i d j e ts xs ys (omega arith) zeros is h
 
 -- a tag in its word, the words of the payload, and zeros behind them
 pub variant_words : (wide : Bool) (a c : Moment) (enc : Encoding) (k : VariantKind) (cs : Cases) (ws : List ℕ) (i d : ℕ) (Have : Trees → Type 0) (Has : Tree → Type 0) (e : Ending) → d < case_count cs → slice_index ws i ≡ d → d < 2 ^ 32
@@ -186,5 +188,9 @@ variant_words wide a c enc k cs ws i d Have Has e lt first narrow zeros to from 
             (case_flat (InsideBlocks fresh (memory_of c.bytes wide)) enc (memory_of c.bytes wide) ws cs d d (i + 1) (i + 1 + cases_flat cs) ts lt zeros g),
         λ q. omega (arith, first, narrow),
       );
-      home = λ pointer ts xs ys have g. subst (λ j. CaseFlatHome pointer enc wide ws cs j (i + 1) (payload_of (case_tree d ts)) xs ys) (sym (number_of d ts)) (case_flat_home wide enc pointer ws cs d d (i + 1) ts xs ys (to ts have).1 g);
+      home = λ pointer ts xs ys have g. (
+        first ∙ sym (number_of d ts),
+        subst (λ j. CaseFlatHome pointer enc wide ws cs j (i + 1) (i + 1 + cases_flat cs) (payload_of (case_tree d ts)) xs ys) (sym (number_of d ts))
+            (case_flat_home wide enc pointer ws cs d d (i + 1) (i + 1 + cases_flat cs) ts xs ys lt zeros (to ts have).1 g),
+      );
     }) h

@@ -94,7 +94,7 @@ rows_words wide a b c enc k s n p all ms group back row Have Has e small g few t
                 }),
             λ st nar. pair_below p n g.narrow (few nar),
           );
-      home = λ pointer ts xs ys is h. (xs, refl, row.home pointer p ts xs ys (to ts is).1 h);
+      home = λ pointer ts xs ys is h. (xs, refl, sym (row.count ts (to ts is).1), row.home pointer p ts xs ys (to ts is).1 h);
     }) r
 
 pub list_words : (wide : Bool) (a b c : Moment) (enc : Encoding) (k : ListKind) (s : Shape) (n p : ℕ) (Have : Trees → Type 0) (Has : Tree → Type 0) (e : Ending) → length b.bytes ≤ 2 ^ 32 → (g : Granted a b (items_call wide s n) p)
@@ -148,7 +148,7 @@ module _ (wide : Bool) (enc : Encoding) (at p n : ℕ) (Has : Tree → Type 0) (
       subst₂ (λ q j. IsList (InsideBlocks blocks (memory_of bytes wide)) true enc (memory_of bytes wide) (Stored (InsideBlocks blocks (memory_of bytes wide)) true enc (memory_of bytes wide) s) s q j t)
           (ptr_same wide bytes p lp ∙ sym ep) (ptr_same wide bytes n ln ∙ sym en) h,
     );
-    home = λ pointer t u xs zs ys (us, is, each) (q, e). (p, us, q, is, subst (λ z. EachHome (λ b v vs us. Homes pointer enc wide s b v vs us) (size wide s) p (trees_of t) us z) e each);
+    home = λ pointer t u xs zs ys (us, is, n, each) (q, e). (p, us, q, is, subst (λ z. EachHome (λ b v vs us. Homes pointer enc wide s b v vs us) (size wide s) p (trees_of t) us z) e each);
   }
 
   string_join : Joins (value_words wide enc string (p ∷ n ∷ []) 0 Has) (pair_aim wide at p n) (value_at wide enc string at Has) (λ t u. t)
@@ -160,7 +160,7 @@ module _ (wide : Bool) (enc : Encoding) (at p n : ℕ) (Has : Tree → Type 0) (
       r,
       subst₂ (λ q j. IsText (InsideBlocks blocks (memory_of bytes wide)) true enc (memory_of bytes wide) q j t) (ptr_same wide bytes p lp ∙ sym ep) (ptr_same wide bytes n ln ∙ sym en) h,
     );
-    home = λ pointer t u xs zs ys is (q, e). (p, q, subst (λ z. IsTextHome enc t p xs z) e is);
+    home = λ pointer t u xs zs ys (n, is) (q, e). (p, q, subst (λ z. IsTextHome enc t p xs z) e is);
   }
 
   module _ (a : Moment) (g : Seen) (m m2 : List ℕ) (w : Attempt wide (moment g m) (moment g m2) (pair_place wide at ∷ []) (pair_aim wide at p n) done) where

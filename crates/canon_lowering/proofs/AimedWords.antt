@@ -60,20 +60,20 @@ words_moved wide a b enc s ws vs i j Has e fits same h = attempt_as wide a b [] 
 module _ (wide : Bool) (a : Moment) (enc : Encoding) (ws : List ℕ) (i : ℕ) (Has : Tree → Type 0) (small : length a.bytes ≤ 2 ^ 32) where
   pub scalar_words : (k : Scalar) (t : Tree) → ScalarIs k (slice_index ws i % 2 ^ flat_bits k) t → IsLeastWord k (slice_index ws i) → Has t → LowersValue wide a a enc (scalar k) ws i Has done
   unfolding requests
-  scalar_words k t is least has = attempt_none wide a [] (value_words wide enc (scalar k) ws i Has) t small has (λ u h. refl) (is, λ s. least) (λ pointer rest. refl)
+  scalar_words k t is least has = attempt_none wide a [] (value_words wide enc (scalar k) ws i Has) t small has (λ u h. refl) (is, λ s. least) (λ pointer rest. ((is, least), refl))
 
   pub own_words : (r : ℕ) → slice_index ws i < 2 ^ 32 → Has (handle (low (slice_index ws i))) → LowersValue wide a a enc (own r) ws i Has done
   unfolding requests
-  own_words r lt has = attempt_none wide a [] (value_words wide enc (own r) ws i Has) _ small has (λ u h. refl) (refl, λ s. lt) (λ pointer rest. refl)
+  own_words r lt has = attempt_none wide a [] (value_words wide enc (own r) ws i Has) _ small has (λ u h. refl) (refl, λ s. lt) (λ pointer rest. ((refl, lt), refl))
 
   pub borrow_words : (r : ℕ) → slice_index ws i < 2 ^ 32 → Has (handle (low (slice_index ws i))) → LowersValue wide a a enc (borrow r) ws i Has done
   unfolding requests
-  borrow_words r lt has = attempt_none wide a [] (value_words wide enc (borrow r) ws i Has) _ small has (λ u h. refl) (refl, λ s. lt) (λ pointer rest. refl)
+  borrow_words r lt has = attempt_none wide a [] (value_words wide enc (borrow r) ws i Has) _ small has (λ u h. refl) (refl, λ s. lt) (λ pointer rest. ((refl, lt), refl))
 
   pub flags_words : (names : List Name) → AreBelow (2 ^ 32) ws i (i + flag_words (length names)) → low_number ws i (flag_words (length names)) < 2 ^ length names
       → Has (bits (bits_of (length names) (low_number ws i (flag_words (length names))))) → LowersValue wide a a enc (flags names) ws i Has done
   unfolding requests
-  flags_words names below least has = attempt_none wide a [] (value_words wide enc (flags names) ws i Has) _ small has (λ u h. refl) (refl, λ s. (below, least)) (λ pointer rest. refl)
+  flags_words names below least has = attempt_none wide a [] (value_words wide enc (flags names) ws i Has) _ small has (λ u h. refl) (refl, λ s. (below, least)) (λ pointer rest. ((refl, below, least), refl))
 
 -- ---- members in words
 

@@ -1,16 +1,16 @@
 -- Homes by words, at either width: of the same words elsewhere, and in another memory.
-use Rattle.std.proofs.Common.{List, ap, arith, refl, subst, subst₂, suc, suc-mul, sym, true, zero, ℕ, ◌*◌, ◌+◌, ◌<◌, ◌^◌, ◌∙◌, ◌∷◌, ◌≡◌, ◌≤◌, Bool, false, []}
+use Rattle.std.proofs.Common.{Bool, List, [], ap, arith, false, length, refl, subst, subst₂, suc, suc-mul, sym, true, zero, ℕ, ◌*◌, ◌+◌, ◌-◌, ◌<◌, ◌^◌, ◌∙◌, ◌∷◌, ◌≡◌, ◌≤◌}
 use Rattle.std.specs.Prelude.{IsFalse, slice_index, ⊤}
 use Rattle.std.proofs.Math.Nat.{mod-eq_of_lt}
-use Rattle.canon_model.proofs.Along.{some_words}
-use Rattle.canon_model.specs.Flat.{CaseFlat, Flat, MembersFlat, RepFlatIn, SameWords, AreBelow}
-use Rattle.canon_model.specs.Homes.{CaseFlatHome, EachHome, FlatHomes, Homes, IsTextHome, MembersFlatHome, PointsTo}
-use Rattle.canon_model.specs.Layout.{cases_flat, flat, members_flat, size}
+use Rattle.canon_model.proofs.Along.{below_same, low_number_same, some_words}
+use Rattle.canon_model.specs.Flat.{AreBelow, CaseFlat, Flat, MembersFlat, RepFlatIn, SameWords}
+use Rattle.canon_model.specs.Homes.{CaseFlatHome, EachHome, FlatHomes, Homes, IsHandleWord, IsScalarWord, IsTextHome, IsTextLength, MembersFlatHome, PointsTo}
+use Rattle.canon_model.specs.Layout.{cases_flat, flag_words, flat, members_flat, size}
 use Rattle.canon_model.specs.Memory.{Block, InsideBlocks, Memory, memory_of, ptr}
-use Rattle.canon_model.specs.Rep.{Stored}
+use Rattle.canon_model.specs.Rep.{Stored, bits_of}
 use Rattle.canon_model.specs.Shape.{Cases, Members, Shape, bare, borrow, fixed, flags, list, member, no_cases, no_members, own, payload, product, scalar, string, variant}
 use Rattle.canon_model.specs.Text.{Encoding}
-use Rattle.canon_model.specs.Tree.{EachAt, Tree, Trees, case_number, no_trees, payload_of, tree, tree_count, trees_of}
+use Rattle.canon_model.specs.Tree.{EachAt, Tree, Trees, bits, case_number, no_trees, payload_of, tree, tree_count, trees_of}
 use Rattle.canon_lowering.proofs.Kept.{each_home_along, first_tree, other_trees}
 use Rattle.canon_lowering.proofs.Attempts.{Keeps}
 use Rattle.canon_lowering.proofs.AimedAt.{value_homes_kept}
@@ -69,19 +69,36 @@ module _ (wide : Bool) (pointer : ℕ → ℕ → Type 0) (enc : Encoding) (ws v
     unfolding flat
 
     pub flat_homes_moved : (s : Shape) (i j : ℕ) (t : Tree) (xs ys : List ℕ) → Fits s t → SameWords ws i vs j (flat s) → FlatHomes pointer enc wide ws s i t xs ys → FlatHomes pointer enc wide vs s j t xs ys
-    flat_homes_moved (scalar k) i j t xs ys f e h = h
-    flat_homes_moved string i j t xs ys f e h = subst (λ p. IsTextHome enc t p xs ys) (e i j (omega arith) (omega arith) (omega arith)) h
-    flat_homes_moved (own x) i j t xs ys f e h = h
-    flat_homes_moved (borrow x) i j t xs ys f e h = h
-    flat_homes_moved (list k s) i j t xs ys f e (zs, is, h) =
-        let w = e i j (omega arith) (omega arith) (omega arith) in
-        (zs, is ∙ ap (λ p. p ∷ zs) w, subst (λ p. EachHome (λ b u us qs. Homes pointer enc wide s b u us qs) (size wide s) p (trees_of t) zs ys) w h)
+    flat_homes_moved (scalar k) i j t xs ys f e (w, h) = (subst (λ n. IsScalarWord k n t) (e i j (omega arith) (omega arith) (omega arith)) w, h)
+    flat_homes_moved string i j t xs ys f e (n, h) = (
+      subst (λ k. IsTextLength enc k t) (e (i + 1) (j + 1) (omega arith) (omega arith) (omega arith)) n,
+      subst (λ p. IsTextHome enc t p xs ys) (e i j (omega arith) (omega arith) (omega arith)) h,
+    )
+    flat_homes_moved (own x) i j t xs ys f e (w, h) = (subst (λ n. IsHandleWord n t) (e i j (omega arith) (omega arith) (omega arith)) w, h)
+    flat_homes_moved (borrow x) i j t xs ys f e (w, h) = (subst (λ n. IsHandleWord n t) (e i j (omega arith) (omega arith) (omega arith)) w, h)
+    flat_homes_moved (list k s) i j t xs ys f e (zs, is, n, h) =
+        let w = e i j (omega arith) (omega arith) (omega arith) in (
+          zs,
+          is ∙ ap (λ p. p ∷ zs) w,
+          sym (e (i + 1) (j + 1) (omega arith) (omega arith) (omega arith)) ∙ n,
+          subst (λ p. EachHome (λ b u us qs. Homes pointer enc wide s b u us qs) (size wide s) p (trees_of t) zs ys) w h,
+        )
     flat_homes_moved (fixed n s) i j t xs ys f e h = each_home_moved ws vs (λ u. Fits s u) (λ k u zs us. FlatHomes pointer enc wide ws s k u zs us) (λ k u zs us. FlatHomes pointer enc wide vs s k u zs us) (flat s)
         (λ k l u zs us g w m. flat_homes_moved s k l u zs us g w m) i j (trees_of t) xs ys f.1 (subst (λ k. SameWords ws i vs j (k * flat s)) (sym f.0) e) h
     flat_homes_moved (product k ms) i j t xs ys f e h = members_homes_moved ms i j (trees_of t) xs ys f e h
-    flat_homes_moved (variant k cs) i j t xs ys f e h =
-        case_homes_moved cs (case_number t) (i + 1) (j + 1) (cases_flat cs) (payload_of t) xs ys (omega arith) f (some_words ws vs i j _ (i + 1) (j + 1) (cases_flat cs) e (omega arith) (omega arith) (omega arith)) h
-    flat_homes_moved (flags names) i j t xs ys f e h = h
+    flat_homes_moved (variant k cs) i j t xs ys f e (d, h) = (
+      sym (e i j (omega arith) (omega arith) (omega arith)) ∙ d,
+      case_homes_moved cs (case_number t) (i + 1) (j + 1) (cases_flat cs) (payload_of t) xs ys (omega arith) f (some_words ws vs i j _ (i + 1) (j + 1) (cases_flat cs) e (omega arith) (omega arith) (omega arith)) h,
+    )
+    flat_homes_moved (flags names) i j t xs ys f e (w, h) =
+        let same = low_number_same ws vs i j (flag_words (length names)) e in (
+          (
+            w.0 ∙ ap (λ n. bits (bits_of (length names) n)) same,
+            below_same (2 ^ 32) ws vs i j _ _ _ e (omega arith) (omega arith) w.1,
+            subst (λ n. n < 2 ^ length names) same w.2,
+          ),
+          h,
+        )
 
     pub members_homes_moved : (ms : Members) (i j : ℕ) (ts : Trees) (xs ys : List ℕ) → MembersFit ms ts → SameWords ws i vs j (members_flat ms) → MembersFlatHome pointer enc wide ws ms i ts xs ys
         → MembersFlatHome pointer enc wide vs ms j ts xs ys
@@ -93,12 +110,15 @@ module _ (wide : Bool) (pointer : ℕ → ℕ → Type 0) (enc : Encoding) (ws v
       members_homes_moved ms (i + flat s) (j + flat s) ts zs ys f.1 (some_words ws vs i j _ (i + flat s) (j + flat s) (members_flat ms) e (omega arith) (omega arith) (omega arith)) hs,
     )
 
-    case_homes_moved : (cs : Cases) (d i j n : ℕ) (u : Tree) (xs ys : List ℕ) → cases_flat cs ≤ n → CaseFits cs d u → SameWords ws i vs j n → CaseFlatHome pointer enc wide ws cs d i u xs ys
-        → CaseFlatHome pointer enc wide vs cs d j u xs ys
+    case_homes_moved : (cs : Cases) (d i j n : ℕ) (u : Tree) (xs ys : List ℕ) → cases_flat cs ≤ n → CaseFits cs d u → SameWords ws i vs j n → CaseFlatHome pointer enc wide ws cs d i (i + n) u xs ys
+        → CaseFlatHome pointer enc wide vs cs d j (j + n) u xs ys
     case_homes_moved no_cases d i j n u xs ys l f e h = h
-    case_homes_moved (bare name cs) zero i j n u xs ys l f e h = h
+    case_homes_moved (bare name cs) zero i j n u xs ys l f e (zeros, h) = (below_same 1 ws vs i j n _ _ e (omega arith) (omega arith) zeros, h)
     case_homes_moved (bare name cs) (suc d) i j n u xs ys l f e h = case_homes_moved cs d i j n u xs ys l f e h
-    case_homes_moved (payload name s cs) zero i j n u xs ys l f e h = flat_homes_moved s i j u xs ys f (some_words ws vs i j n i j (flat s) e (omega arith) (omega arith) (omega arith)) h
+    case_homes_moved (payload name s cs) zero i j n u xs ys l f e (zeros, h) = (
+      below_same 1 ws vs (i + flat s) (j + flat s) (n - flat s) _ _ (some_words ws vs i j n (i + flat s) (j + flat s) (n - flat s) e (omega arith) (omega arith) (omega arith)) (omega arith) (omega arith) zeros,
+      flat_homes_moved s i j u xs ys f (some_words ws vs i j n i j (flat s) e (omega arith) (omega arith) (omega arith)) h,
+    )
     case_homes_moved (payload name s cs) (suc d) i j n u xs ys l f e h = case_homes_moved cs d i j n u xs ys (omega arith) f e h
 
 pub ptr_same : (wide : Bool) (xs : List ℕ) (w : ℕ) → (IsFalse wide → w < 2 ^ 32) → ptr (memory_of xs wide) w ≡ w
@@ -122,19 +142,22 @@ module _ (wide : Bool) (enc : Encoding) (blocks more : List Block) (xs ys : List
     flat_homes_kept string i t ps qs f h = h
     flat_homes_kept (own x) i t ps qs f h = h
     flat_homes_kept (borrow x) i t ps qs f h = h
-    flat_homes_kept (list l s) i t ps qs (f, below) (zs, is, h) =
+    flat_homes_kept (list l s) i t ps qs (f, below) (zs, is, n, h) =
         let There = Stored (InsideBlocks blocks (memory_of xs wide)) true enc (memory_of xs wide) s in
         let narrow : ptr (memory_of xs wide) (slice_index ws i) ≡ slice_index ws i = ptr_same wide xs (slice_index ws i) (λ nar. below refl nar i (omega arith) (omega arith)) in (
           zs,
           is,
+          n,
           each_home_along There (Homes (PointsTo (memory_of xs wide)) enc wide s) (Homes (PointsTo (memory_of ys wide)) enc wide s) (λ b u vs us m g. value_homes_kept wide enc blocks more xs ys k s b u vs us m g)
               (size wide s) (slice_index ws i) (trees_of t) zs qs (subst₂ (λ p us. EachAt There (size wide s) p us) narrow (ap trees_of (sym f.is)) f.each) h,
         )
     flat_homes_kept (fixed n s) i t ps qs f h = each_home_along (Flat (InsideBlocks blocks (memory_of xs wide)) true enc (memory_of xs wide) ws s) (FlatHomes (PointsTo (memory_of xs wide)) enc wide ws s) (FlatHomes (PointsTo (memory_of ys wide)) enc wide ws s)
         (λ j u vs us g w. flat_homes_kept s j u vs us g w) (flat s) i (trees_of t) ps qs (subst (λ us. EachAt (Flat (InsideBlocks blocks (memory_of xs wide)) true enc (memory_of xs wide) ws s) (flat s) i us) (ap trees_of (sym f.is)) f.each) h
     flat_homes_kept (product k ms) i t ps qs (ts, is, f) h = members_flat_homes_kept ms i (trees_of t) ps qs (subst (λ us. MembersFlat (InsideBlocks blocks (memory_of xs wide)) true enc (memory_of xs wide) ws ms i us) (ap trees_of (sym is)) f) h
-    flat_homes_kept (variant k cs) i t ps qs (f, least) h =
-        case_flat_homes_kept cs _ _ (i + 1) _ t (case_number t) (payload_of t) ps qs f (case_flat_is (InsideBlocks blocks (memory_of xs wide)) true enc (memory_of xs wide) ws cs _ _ _ _ t f) refl h
+    flat_homes_kept (variant k cs) i t ps qs (f, least) (d, h) = (
+      d,
+      case_flat_homes_kept cs _ _ (i + 1) _ t (case_number t) (payload_of t) ps qs f (case_flat_is (InsideBlocks blocks (memory_of xs wide)) true enc (memory_of xs wide) ws cs _ _ _ _ t f) refl h,
+    )
     flat_homes_kept (flags names) i t ps qs f h = h
 
     pub members_flat_homes_kept : (ms : Members) (i : ℕ) (ts : Trees) (ps qs : List ℕ) → MembersFlat (InsideBlocks blocks (memory_of xs wide)) true enc (memory_of xs wide) ws ms i ts
@@ -148,13 +171,13 @@ module _ (wide : Bool) (enc : Encoding) (blocks more : List Block) (xs ys : List
     )
 
     case_flat_homes_kept : (cs : Cases) (c d j e : ℕ) (t : Tree) (n : ℕ) (v : Tree) (ps qs : List ℕ) → CaseFlat (InsideBlocks blocks (memory_of xs wide)) true enc (memory_of xs wide) ws cs c d j e t → n ≡ c → v ≡ payload_of t
-        → CaseFlatHome (PointsTo (memory_of xs wide)) enc wide ws cs n j v ps qs → CaseFlatHome (PointsTo (memory_of ys wide)) enc wide ws cs n j v ps qs
+        → CaseFlatHome (PointsTo (memory_of xs wide)) enc wide ws cs n j e v ps qs → CaseFlatHome (PointsTo (memory_of ys wide)) enc wide ws cs n j e v ps qs
     case_flat_homes_kept no_cases c d j e t n v ps qs f is same h = absurd f
     case_flat_homes_kept (bare name cs) c d j e t zero v ps qs f is same h = h
     case_flat_homes_kept (bare name cs) zero d j e t (suc n) v ps qs f is same h = absurd (omega arith)
     case_flat_homes_kept (bare name cs) (suc c) d j e t (suc n) v ps qs f is same h = case_flat_homes_kept cs c d j e t n v ps qs f (omega (arith, is)) same h
-    case_flat_homes_kept (payload name s cs) zero d j e t zero v ps qs (u, at, f, least) is same h =
-        flat_homes_kept s j v ps qs (subst (λ x. RepFlatIn blocks true enc (memory_of xs wide) ws j s x) (sym (same ∙ ap payload_of at)) f) h
+    case_flat_homes_kept (payload name s cs) zero d j e t zero v ps qs (u, at, f, least) is same (zeros, h) =
+        (zeros, flat_homes_kept s j v ps qs (subst (λ x. RepFlatIn blocks true enc (memory_of xs wide) ws j s x) (sym (same ∙ ap payload_of at)) f) h)
     case_flat_homes_kept (payload name s cs) (suc c) d j e t zero v ps qs f is same h = absurd (omega arith)
     case_flat_homes_kept (payload name s cs) zero d j e t (suc n) v ps qs f is same h = absurd (omega arith)
     case_flat_homes_kept (payload name s cs) (suc c) d j e t (suc n) v ps qs f is same h = case_flat_homes_kept cs c d j e t n v ps qs f (omega (arith, is)) same h
