@@ -1,3 +1,4 @@
+pub mod Asks
 pub mod Component
 pub mod Core
 pub mod Faults
@@ -5,3 +6,4 @@ pub mod Fuel
 pub mod Lowers
 pub mod Moves
 pub mod Quiet
+pub mod Told

@@ -2,12 +2,14 @@
 //! fuel, and the faults.
 #![tactic(auto)]
 
+mod blocks;
 mod component;
 mod context;
 mod core_data;
 mod fault;
 mod fuel;
 
+pub use blocks::{ask, ask_again};
 pub use component::{Component, Export};
 pub use context::{LiftContext, LowerContext, Source};
 pub use core_data::Core;

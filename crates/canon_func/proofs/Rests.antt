@@ -21,7 +21,7 @@ use Rattle.canon_lowering.specs.Storing.{narrow}
 use Rattle.canon_value.proofs.Values.{have_count}
 use Rattle.canon_value.specs.Lifts.{AreResults}
 use Rattle.canon_context.specs.declared.fault.At.{At}
-use Rattle.canon_value.specs.Loads.{place_of}
+use Rattle.canon_context.specs.Told.{place_of}
 use Rattle.canon_context.specs.declared.fault.Fault.TheVariants as fault
 use Rattle.canon_value.specs.declared.val.Val.{Val}
 use Rattle.canon_func.specs.Call.{Advances, HasFault, Left, result_words}

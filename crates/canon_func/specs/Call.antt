@@ -21,7 +21,7 @@ use Rattle.canon_types.specs.Refusal.{first_error}
 use Rattle.canon_value.specs.Fails.{AreSmall, BlamesMembers}
 use Rattle.canon_value.specs.Lifts.{AreResults}
 use Rattle.canon_context.specs.Lowers.{fault_ending}
-use Rattle.canon_value.specs.Loads.{place_of}
+use Rattle.canon_context.specs.Told.{place_of}
 use Rattle.canon_context.specs.Quiet.{have_block}
 use Rattle.canon_value.specs.Value.{HaveTrees}
 use Rattle.canon_context.specs.declared.fault.At.{At}

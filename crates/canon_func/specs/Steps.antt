@@ -17,7 +17,7 @@ use Rattle.canon_lowering.specs.Lowering.{done, events_of}
 use Rattle.canon_lowering.specs.Storing.{narrow}
 use Rattle.canon_value.specs.Fails.{AreSmall, BlamesMembers}
 use Rattle.canon_value.specs.Lifts.{AreResults}
-use Rattle.canon_value.specs.Loads.{LiftBlames}
+use Rattle.canon_context.specs.Told.{LiftBlames}
 use Rattle.canon_context.specs.Lowers.{fault_ending}
 use Rattle.canon_value.specs.Value.{HaveTrees}
 use Rattle.canon_context.specs.declared.fault.Fault.TheVariants as fault

@@ -19,7 +19,7 @@ use Rattle.canon_context.specs.declared.fault.Fault.{Fault}
 use Rattle.canon_context.specs.declared.fault.Fault.TheVariants as fault
 use Rattle.canon_model.specs.Reach as reach
 use Rattle.canon_model.specs.Reach.{StoredFault, no_scalar}
-use Rattle.canon_value.specs.Loads.{Exactly, LiftBlames}
+use Rattle.canon_context.specs.Told.{Exactly, LiftBlames}
 use Rattle.canon_model.specs.Text.{Spells, in_utf8, utf8}
 use Rattle.canon_model.specs.Tree.{Tree, bits, text}
 use Rattle.canon_types.specs.Table.{Table, shape_of}

@@ -42,13 +42,15 @@ names_of_cases known [] = refl
 names_of_cases known ((name, None) ∷ xs) = ap (λ (names : List Name). name ∷ names) (names_of_cases known xs)
 names_of_cases known ((name, Some type) ∷ xs) = ap (λ (names : List Name). name ∷ names) (names_of_cases known xs)
 
-pub first_of_cases : {Z : Type 0} (t : Table) (j : ℕ) (entries : List (String Z × Option InterfaceType)) (tag : ℕ) (name : String Z) (o : Option InterfaceType) → IsDefined t (ty.Variant j) (cases_type entries) → NamesDiffer (cases_type entries)
+pub first_of_cases : {Z : Type 0} (t : Table) (j : ℕ) (entries : List (String Z × Option InterfaceType)) (tag : ℕ) (name : String Z) (o : Option InterfaceType)
+    → IsDefined t (ty.Variant j) (cases_type entries) → NamesDiffer (cases_type entries)
     → slice_get entries tag ≡ Some (name, o) → IsFirst (string_bytes name) (case_names (variant_cases (shape_of t (ty.Variant j)))) tag
 first_of_cases {Z} t j entries tag name o defined differ e =
     let f : String Z × Option InterfaceType → Named = λ x. (string_bytes x.0, x.1) in
     let here : slice_get (map f entries) tag ≡ Some (string_bytes name, o) = slice_get-map f entries tag ∙ ap (option_map f) e in
     let there : slice_get (map (λ (c : Named). c.0) (map f entries)) tag ≡ Some (string_bytes name) = slice_get-map (λ (c : Named). c.0) (map f entries) tag ∙ ap (option_map (λ (c : Named). c.0)) here in
-    subst (λ (names : List Name). IsFirst (string_bytes name) names tag) (names_of_cases (all_shapes t) (map f entries) ∙ sym (ap (λ (s : Shape). case_names (variant_cases s)) defined.shape)) (is_first _ tag (string_bytes name) differ there)
+    subst (λ (names : List Name). IsFirst (string_bytes name) names tag) (names_of_cases (all_shapes t) (map f entries) ∙ sym (ap (λ (s : Shape). case_names (variant_cases s)) defined.shape))
+    (is_first _ tag (string_bytes name) differ there)
 
 pub first_of_names : {Z : Type 0} (t : Table) (j : ℕ) (keys : List (String Z)) (tag : ℕ) (name : String Z) → IsDefined t (ty.Enum j) (EnumType (map (λ n. string_bytes n) keys)) → NamesDiffer (EnumType (map (λ n. string_bytes n) keys))
     → slice_get keys tag ≡ Some name → IsFirst (string_bytes name) (case_names (variant_cases (shape_of t (ty.Enum j)))) tag
@@ -63,7 +65,8 @@ none_there : (vs : List Val) → length vs ≡ 0 → [] ≡ vs
 none_there [] e = refl
 none_there (v ∷ vs) e = absurd (omega (arith, e))
 
-pub enum_rebuilt : (s : Shape) (names : List Name) (i : ℕ) (vs : List Val) (v : Val) → s ≡ enum_of names → i < case_count (variant_cases s) → length vs ≡ member_count (case_members (variant_cases s) i) → IsCase of_names (variant_cases s) i [] v → IsCaseRebuilt s i vs v
+pub enum_rebuilt : (s : Shape) (names : List Name) (i : ℕ) (vs : List Val) (v : Val) → s ≡ enum_of names → i < case_count (variant_cases s)
+    → length vs ≡ member_count (case_members (variant_cases s) i) → IsCase of_names (variant_cases s) i [] v → IsCaseRebuilt s i vs v
 enum_rebuilt s names i vs v e lt count is =
     let none : length vs ≡ 0 = omega (arith, count, ap (λ (x : Shape). member_count (case_members (variant_cases x) i)) e, ap member_count (bare_members names i)) in
     case_rebuilt s of_names i vs v (as_cases s of_names (bare_cases names) e) lt (subst (λ (ws : List Val). IsCase of_names (variant_cases s) i ws v) (none_there vs none) is)

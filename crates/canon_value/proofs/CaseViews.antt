@@ -1,5 +1,6 @@
 -- Views of cases, by what a look-up gives.
-use Rattle.std.proofs.Common.{◌≡◌, ◌≤◌, ◌<◌, ◌∙◌, ◌^◌, All, Bool, Err, List, None, Ok, Option, Some, String, [], ◌∷◌, ap, arith, false, get_or, inl, length, map, refl, slice_get, string_bytes, if◌then◌else◌, subst, suc, sym, true, zero, not, ℕ}
+use Rattle.std.proofs.Common.{◌≡◌, ◌≤◌, ◌<◌, ◌∙◌, ◌^◌, All, Bool, Err, List, None, Ok, Option, Some, String, [], ◌∷◌, ap}
+use Rattle.std.proofs.Common.{arith, false, get_or, inl, length, map, refl, slice_get, string_bytes, if◌then◌else◌, subst, suc, sym, true, zero, not, ℕ}
 use Rattle.std.specs.Prelude.{Box, position}
 use Rattle.std.specs.List.{position_or_len}
 use Rattle.std.specs.Map.{keys_of}
@@ -123,7 +124,8 @@ entry_members t ((n, Some x) ∷ entries) zero k type e = ap (payload_members t)
 entry_members t ((n, None) ∷ entries) (suc i) k type e = entry_members t entries i k type e
 entry_members t ((n, Some x) ∷ entries) (suc i) k type e = entry_members t entries i k type e
 
-pub entry_known : (t : Table) (entries : List (String Global × Option InterfaceType)) (i : ℕ) (k : String Global) (type : Option InterfaceType) → slice_get entries i ≡ Some (k, type) → All (Knows t) (parts (cases_type entries)) → KnowsPayload t type
+pub entry_known : (t : Table) (entries : List (String Global × Option InterfaceType)) (i : ℕ) (k : String Global) (type : Option InterfaceType) → slice_get entries i ≡ Some (k, type)
+    → All (Knows t) (parts (cases_type entries)) → KnowsPayload t type
 entry_known t [] i k type e h = cc
 entry_known t ((n, None) ∷ entries) zero k type e h = subst (KnowsPayload t) (same_entry n k None type e) tt
 entry_known t ((n, Some x) ∷ entries) zero k type e h = subst (KnowsPayload t) (same_entry n k (Some x) type e) (h 0 x (omega arith))

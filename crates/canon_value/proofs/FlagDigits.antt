@@ -1,6 +1,6 @@
 -- The numbers that bytes and words make, by their digits.
-use Rattle.std.proofs.Common.{◌≡◌, ◌≤◌, ◌<◌, ◌+◌, ◌-◌, ◌*◌, ◌/◌, ◌%◌, ◌^◌, ◌∙◌, ◌==◌, Bool, List, [], ◌∷◌, ap, ap₂, arith, drop, drop-cons, false, get_or, length, nat_le, refl, slice_index, subst, suc, sym, take, true, zero, ℕ, ⊎_elim}
-use Rattle.std.specs.Int.{bit_at, div_ceil}
+use Rattle.std.proofs.Common.{◌≡◌, ◌≤◌, ◌<◌, ◌+◌, ◌*◌, ◌/◌, ◌%◌, ◌^◌, ◌∙◌, List, ◌∷◌, ap, arith, drop, drop-cons, get_or, length, refl, slice_index, subst, suc, take, zero, ℕ}
+use Rattle.std.specs.Int.{bit_at}
 use Rattle.std.proofs.lemmas.Bool.Decides.{nat_tests}
 use Rattle.canon_lowering.specs.Storing.{narrow}
 use Rattle.canon_model.specs.Flat.{low_number}

@@ -1,13 +1,14 @@
 -- Which names of flags are set: in a value, and as the bits of a number.
-use Rattle.std.proofs.Common.{◌≡◌, ◌≢◌, ◌≤◌, ◌<◌, ◌+◌, ◌*◌, ◌/◌, ◌%◌, ◌^◌, ◌∙◌, ◌++◌, ◌⊎◌, ◌==◌, ◌↔◌, All, AllPairs, Bool, IfSome, IsNone, IsTrue, List, None, Option, Some, String, [], ◌∷◌, ap, arith, drop, false, get_or, inl, inr, length, map, nat_lt, refl, rules, slice_index, slice_index_or, string_bytes, subst, suc, sym, true, zero, ℕ, ⊎_elim}
+use Rattle.std.proofs.Common.{◌≡◌, ◌≢◌, ◌≤◌, ◌<◌, ◌+◌, ◌/◌, ◌%◌, ◌^◌, ◌∙◌, ◌++◌, ◌⊎◌, ◌==◌, ◌↔◌, All, AllPairs, Bool, IfSome, IsNone, IsTrue, List, None, Option, Some}
+use Rattle.std.proofs.Common.{String, [], ◌∷◌, ap, arith, drop, false, get_or, inl, inr, length, refl, slice_index_or, string_bytes, subst, suc, sym, true, zero, ℕ, ⊎_elim}
 use Rattle.std.specs.Int.{bit_at}
-use Rattle.std.specs.List.{Any, Contains, position, position_or_len}
+use Rattle.std.specs.List.{Contains, position, position_or_len}
 use Rattle.std.specs.Str.{bytes_eq}
 use Rattle.std.specs.declared.alloc.Global.{Global}
 use Rattle.std.proofs.Math.Nat.{pow-succ'}
 use Rattle.std.proofs.lemmas.Bool.{cases_eq, cases_lt, eq-eqb, eqb-true, false≢true}
 use Rattle.std.proofs.lemmas.Grind.{common_steps}
-use Rattle.std.proofs.lemmas.List.Elements.{All-from_get_or, Contains-append_left, Contains-get_or, Contains-push, Contains-push_cases}
+use Rattle.std.proofs.lemmas.List.Elements.{Contains-append_left, Contains-get_or, Contains-push, Contains-push_cases}
 use Rattle.std.proofs.lemmas.List.Quantifiers.{position-Some}
 use Rattle.std.proofs.lemmas.List.Sums.{fails_before_first}
 use Rattle.std.proofs.lemmas.List as listed

@@ -1,8 +1,9 @@
 -- Flags that are read one after another, and charged.
-use Rattle.std.proofs.Common.{◌≡◌, ◌≤◌, ◌<◌, ◌+◌, ◌-◌, ◌/◌, ◌%◌, ◌^◌, ◌∙◌, ◌++◌, ◌==◌, Bool, List, Vec, String, [], ◌∷◌, ap, ap₂, append_assoc, arith, drop, drop-cons, false, get_or, inr, length, refl, subst, suc, sym, true, ℕ, IfErr, IsErr, IsErrAnd, Result}
+use Rattle.std.proofs.Common.{◌≡◌, ◌≤◌, ◌<◌, ◌+◌, ◌/◌, ◌%◌, ◌^◌, ◌∙◌, ◌++◌, ◌==◌, Bool, List, Vec, String, [], ◌∷◌, ap}
+use Rattle.std.proofs.Common.{ap₂, append_assoc, arith, drop, drop-cons, false, get_or, inr, length, refl, subst, suc, sym, true, ℕ, IfErr, IsErr, IsErrAnd, Result}
 use Rattle.std.specs.Int.{bit_at}
 use Rattle.std.specs.declared.alloc.Global.{Global}
-use Rattle.canon_value.proofs.Loading.{handed_on}
+use Rattle.canon_context.proofs.Told.{handed_on}
 use Rattle.std.proofs.Math.Seq.{drop-length}
 use Rattle.std.proofs.lemmas.List.{append-nil}
 use Rattle.canon_model.specs.Cost.{set_length}

@@ -34,7 +34,7 @@ use Rattle.canon_value.proofs.FlagWriting.{AreStored, stored_begin, stored_more}
 use Rattle.canon_value.proofs.MapsAndFlags.{places_flags, any_order}
 use Rattle.canon_context.proofs.Moves.{GuestLaws, moves_none, moves_written}
 use Rattle.canon_value.proofs.Sizes.{flags_small}
-use Rattle.canon_value.proofs.StoreSteps.{written_whole}
+use Rattle.canon_context.proofs.Cores.{written_whole}
 
 -- how many bytes flags take
 pub flags_bytes : (t u : Table) (i : ℕ) (f : TypeFlags) → u ≡ t → IsDefined u (ty.Flags i) (flags_type f) → HasLayout f.abi (shape_of u (ty.Flags i)) → f.abi.size32 ≡ flags_size (length (flag_names t i))
@@ -78,7 +78,8 @@ module _ {T G : Type 0} (L : GuestLaws G) (options : ℕ) (a : Parts T G) (names
           quiet = λ none. (refl, tt);
         })
 
-    pub flags_not_stored : (some : List Name) → AreStored a.memory m at bytes names some → SomeUnknown names (names_of set.items) → place < 2 ^ 64 → StoresTo L.seen L.moves options a (record a { memory = m }) s at (val.Flags set) place (Err (fault.UnknownFlag place))
+    pub flags_not_stored : (some : List Name) → AreStored a.memory m at bytes names some → SomeUnknown names (names_of set.items) → place < 2 ^ 64
+        → StoresTo L.seen L.moves options a (record a { memory = m }) s at (val.Flags set) place (Err (fault.UnknownFlag place))
     unfolding size
     flags_not_stored some h unknown few =
         let writes : Writes (block at (flags_size (length names))) a.memory m = subst (λ (n : ℕ). Writes (block at n) a.memory m) many h.writes in
@@ -100,7 +101,8 @@ module _ {T G : Type 0} (L : GuestLaws G) (options : ℕ) (a : Parts T G) (names
   -- ---- in words
 
   module _ (dst dst2 : List ℕ) (from : Spot) (is_place : from.place ≡ place) (stays : WordsStay from.word dst dst2) (s : Shape) (is : s ≡ flags names) where
-    pub flags_lower : (to : Spot) → AreSetInWords names (names_of set.items) dst2 from.word → to.word ≡ from.word + flag_words (length names) → to.place ≡ cap (place + 1) → LowersTo L.seen L.moves options a a dst dst2 from (Ok to) s (val.Flags set)
+    pub flags_lower : (to : Spot) → AreSetInWords names (names_of set.items) dst2 from.word → to.word ≡ from.word + flag_words (length names) → to.place ≡ cap (place + 1)
+        → LowersTo L.seen L.moves options a a dst dst2 from (Ok to) s (val.Flags set)
     unfolding flat
     flags_lower to (below, (least, marked, known)) ew ep = subst (λ (x : Shape). LowersTo L.seen L.moves options a a dst dst2 from (Ok to) x (val.Flags set)) (sym is) (record {
       lowered = flags_words false (moment_of L.seen a) (encoding_by a options) dst2 from.word (HasTree (flags names) (val.Flags set)) small names below least (names_of set.items, _, (set, refl, refl), known, refl, marked, λ h. any_order h);
@@ -139,7 +141,8 @@ module _ {T G : Type 0} (a b : Parts T G) (only : b ≡ record a { memory = b.me
       (stored_more a.memory b.memory zs at bytes names set k x room many (subst (λ (ns : List Name). Differ ns) same_names differ) h (subst (λ (ns : List Name). k < length ns) same_names l)
       (λ d. subst (λ (ns : List Name). get_or ns k d ≡ x) same_names (is d)) sets)
 
-pub stored_first : {T G : Type 0} → (a : Parts T G) (ys zs : List ℕ) (at bytes : ℕ) (names : List Name) → ys ≡ a.memory → at + bytes ≤ length a.memory → Writes (block at bytes) ys zs → ((j : ℕ) → at ≤ j → j < at + bytes → slice_index zs j ≡ 0)
+pub stored_first : {T G : Type 0} → (a : Parts T G) (ys zs : List ℕ) (at bytes : ℕ) (names : List Name) → ys ≡ a.memory → at + bytes ≤ length a.memory → Writes (block at bytes) ys zs
+    → ((j : ℕ) → at ≤ j → j < at + bytes → slice_index zs j ≡ 0)
     → AreStored a.memory (written_over a.memory zs) at bytes names []
 stored_first {T} {G} a ys zs at bytes names ey room w none =
     let writes : Writes (block at bytes) a.memory zs = subst (λ (xs : List ℕ). Writes (block at bytes) xs zs) ey w in

@@ -1,13 +1,13 @@
 -- Flags that are written one after another: into bytes of memory, and into words.
-use Rattle.std.proofs.Common.{◌≡◌, ◌≤◌, ◌<◌, ◌+◌, ◌-◌, ◌*◌, ◌/◌, ◌%◌, ◌^◌, ◌∙◌, ◌++◌, All, List, None, Some, String, Vec, [], ◌∷◌, ap, arith, false, get_or, inl, inr, length, map, refl, slice_index, string_bytes, subst, sym, true, ℕ, ⊎_elim, take}
+use Rattle.std.proofs.Common.{◌≡◌, ◌≤◌, ◌<◌, ◌+◌, ◌-◌, ◌*◌, ◌/◌, ◌%◌, ◌^◌, ◌∙◌, ◌++◌, All, List, String, []}
+use Rattle.std.proofs.Common.{◌∷◌, ap, arith, get_or, inl, length, refl, slice_index, string_bytes, subst, sym, ℕ, ⊎_elim, take}
 use Rattle.std.specs.Int.{bit_at}
-use Rattle.std.specs.List.{Any}
 use Rattle.std.specs.declared.alloc.Global.{Global}
 use Rattle.std.proofs.Math.Nat.{mod-eq_of_lt}
 use Rattle.std.proofs.Math.Seq.{take-length}
 use Rattle.std.proofs.lemmas.List.{get_or-map, length-map, map_more}
 use Rattle.canon_types.specs.Keeps.{names_of}
-use Rattle.std.proofs.lemmas.Bool.{cases_eq, cases_lt}
+use Rattle.std.proofs.lemmas.Bool.{cases_eq}
 use Rattle.std.proofs.lemmas.List.Elements.{All-nil, All-push}
 use Rattle.canon_memory.specs.Realloc.{block}
 use Rattle.canon_lowering.proofs.Steps.{writes_then}
@@ -17,12 +17,12 @@ use Rattle.canon_model.specs.Flat.{low_number}
 use Rattle.canon_model.specs.Layout.{flag_words, flags_size}
 use Rattle.canon_model.specs.Memory.{low, num}
 use Rattle.canon_model.specs.Shape.{Name}
-use Rattle.canon_value.specs.Flags.{AreSet, AreSetInWords, SetsBit, SomeUnknown}
+use Rattle.canon_value.specs.Flags.{AreSetInWords, SetsBit, SomeUnknown}
 use Rattle.canon_value.specs.Value.{Occurs}
 use Rattle.canon_value.specs.Words.{WordsStay}
 use Rattle.canon_value.proofs.FlagBits.{Gains, digit_gains, digits, digits_none, digits_same}
 use Rattle.canon_value.proofs.FlagDigits.{byte_inside, num_digits, word_inside, words_digits}
-use Rattle.canon_value.proofs.FlagNames.{Differ, IsMarked, from_contains, marked_all, marked_more, marked_none}
+use Rattle.canon_value.proofs.FlagNames.{Differ, IsMarked, marked_all, marked_more, marked_none}
 
 -- ---- a digit that gains a bit
 
@@ -58,7 +58,8 @@ stored_begin xs ys at size names room w none = record {
 occurs_at : (names : List Name) (k : ℕ) (x : Name) → k < length names → ((d : Name) → get_or names k d ≡ x) → Occurs x names
 occurs_at names k x l at = (k, x, l, at x, refl)
 
-pub stored_more : (xs ys zs : List ℕ) (at size : ℕ) (names set : List Name) (k : ℕ) (x : Name) → at + size ≤ length xs → size ≡ flags_size (length names) → Differ names → AreStored xs ys at size names set → k < length names → ((d : Name) → get_or names k d ≡ x)
+pub stored_more : (xs ys zs : List ℕ) (at size : ℕ) (names set : List Name) (k : ℕ) (x : Name) → at + size ≤ length xs → size ≡ flags_size (length names) → Differ names
+    → AreStored xs ys at size names set → k < length names → ((d : Name) → get_or names k d ≡ x)
     → SetsBit 8 (at + k / 8) (k % 8) ys zs → AreStored xs zs at size names (set ++ x ∷ [])
 stored_more xs ys zs at size names set k x room es differ h l is s =
     let inside : k / 8 < size = omega (arith, byte_inside (length names) k l, es) in

@@ -5,13 +5,10 @@ pub mod Far
 pub mod LiftLoops
 pub mod LiftSteps
 pub mod LoadedBytes
-pub mod TextLoading
 pub mod Lookups
 pub mod NearFaults
 pub mod Placing
-pub mod TextForms
-pub mod TextBlocks
-pub mod TextPaths
+pub mod PlacedTexts
 pub mod Pointed
 pub mod Steps
 pub mod Scalars

@@ -16,7 +16,7 @@ use Rattle.canon_plan.specs.Built.{AreBuilt, IsBuilt}
 use Rattle.std.specs.Prelude.{slice_index}
 use Rattle.canon_plan.specs.CasePlan.{IsCaseSlots, case_name_cost, name_charge}
 use Rattle.canon_value.specs.Lifts.{AreTaken, LiftsTo}
-use Rattle.canon_value.specs.Loads.{LiftBlames, ToldAt}
+use Rattle.canon_context.specs.Told.{LiftBlames, ToldAt}
 use Rattle.canon_value.specs.Plan.{IsCaseRebuilt}
 use Rattle.canon_plan.specs.Plan.{IsVariant, shapes_of}
 use Rattle.canon_plan.specs.declared.case_plan.CaseSlots.{CaseSlots}
@@ -24,7 +24,7 @@ use Rattle.canon_context.specs.declared.fault.Fault.{Fault}
 use Rattle.canon_context.specs.declared.fault.Fault.TheVariants as fault
 use Rattle.canon_value.specs.declared.val.Val.{Val}
 use Rattle.canon_value.proofs.LoadCases.{payload_nameless, variant_built, variant_charges, variant_depth}
-use Rattle.canon_value.proofs.Loading.{told_by}
+use Rattle.canon_context.proofs.Told.{told_by}
 use Rattle.canon_value.proofs.Values.{have_count}
 
 case_words : (cs : Cases) (i : ℕ) → members_flat (case_members cs i) ≤ cases_flat cs

@@ -1,15 +1,16 @@
 -- Lifted values are values, and have one list of data for their trees.
-use Rattle.std.proofs.Common.{◌≡◌, ◌∙◌, Err, List, None, Ok, Option, Result, Some, String, Vec, [], ◌∷◌, ap, ap₂, false, map, pos, refl, rules, slice_get, string_bytes, subst, subst₂, suc, sym, true, zero, ℕ}
-use Rattle.std.specs.Prelude.{Box}
+use Rattle.std.proofs.Common.{◌≡◌, ◌∙◌, Err, List, None, Ok, Some, String, Vec, [], ◌∷◌, ap, ap₂, false, map, pos, refl, rules, string_bytes, subst, subst₂, suc, sym, true, zero, ℕ}
 use Rattle.std.specs.declared.alloc.Global.{Global}
 use Rattle.canon_lowering.proofs.AimedCases.{number_of}
 use Rattle.canon_lowering.specs.Copies.{case_tree, payload_trees}
-use Rattle.canon_model.specs.Shape.{Cases, Members, Name, ProductKind, Shape, VariantKind, bare, borrow, fixed, flags, list, member, no_cases, no_members, of_cases, of_fields, of_items, of_names, of_option, of_pairs, of_places, of_result, own, payload, product, scalar, string, variant}
+use Rattle.canon_model.specs.Shape.{Cases, Members, Name, ProductKind, Shape, VariantKind, bare, borrow, fixed, flags, list, member, no_cases, no_members}
+use Rattle.canon_model.specs.Shape.{of_cases, of_fields, of_items, of_names, of_option, of_pairs, of_places, of_result, own, payload, product, scalar, string, variant}
 use Rattle.canon_model.specs.Tree.{Tree, Trees, bits, case_number, items, no_trees, parts, text, tree}
 use Rattle.canon_value.specs.Equal as equal
 use Rattle.canon_value.specs.Equal.{Data, Datas, data_of, no_data, pair_data, row, value}
 use Rattle.canon_value.specs.Laws.{OneValue}
-use Rattle.canon_value.specs.Value.{AreLiftedFrom, CaseHas, EachHas, HasTree, HasTreeAs, HaveTrees, IsCase, IsFixed, IsFlags, IsItems, IsLiftedFrom, IsPairs, IsProduct, IsText, PairHas, chosen, member_names, names_in, result_case, result_payload, unboxed, values_in}
+use Rattle.canon_value.specs.Value.{AreLiftedFrom, CaseHas, EachHas, HasTree, HaveTrees, IsCase, IsFixed, IsFlags, IsItems, IsLiftedFrom}
+use Rattle.canon_value.specs.Value.{IsPairs, IsProduct, IsText, PairHas, chosen, member_names, result_case, result_payload, unboxed}
 use Rattle.canon_value.specs.declared.val.Val.{Val, the_lemmas}
 use Rattle.canon_value.specs.declared.val.Val.TheVariants as val
 use Rattle.canon_value.proofs.Cases.{Both, Payload, case_back, same_some}
@@ -120,7 +121,8 @@ data_result (Err (Some b)) = search (rules, the_lemmas)
 -- of one case, with equal payloads
 case_data : (k : VariantKind) (cs : Cases) (d : ℕ) (vs ws : List Val) (v w : Val) → IsCase k cs d vs v → IsCase k cs d ws w → datas vs ≡ datas ws → data_of v ≡ data_of w
 case_data of_cases cs d vs ws v w (n, p, ev, es, f) (m, q, ew, et, g) e =
-    ap data_of ev ∙ (data_variant n p ∙ (ap₂ (λ (name : Name) (ds : List Data). value equal.variant (pos 0) (name ∷ []) (row ds)) (same_some _ _ _ f.0 g.0) (sym (ap datas es) ∙ (e ∙ ap datas et)) ∙ (sym (data_variant m q) ∙ sym (ap data_of ew))))
+    ap data_of ev ∙ (data_variant n p ∙ (ap₂ (λ (name : Name) (ds : List Data). value equal.variant (pos 0) (name ∷ []) (row ds)) (same_some _ _ _ f.0 g.0)
+    (sym (ap datas es) ∙ (e ∙ ap datas et)) ∙ (sym (data_variant m q) ∙ sym (ap data_of ew))))
 case_data of_names cs d vs ws v w (n, ev, es, f) (m, ew, et, g) e =
     ap data_of ev ∙ (data_enum n ∙ (ap (λ (name : Name). value equal.enum (pos 0) (name ∷ []) no_data) (same_some _ _ _ f.0 g.0) ∙ (sym (data_enum m) ∙ sym (ap data_of ew))))
 case_data of_option cs d vs ws v w (p, ev, es, ei, li) (q, ew, et, ej, lj) e =

@@ -12,13 +12,13 @@ use Rattle.canon_model.specs.Text.{Encoding}
 use Rattle.canon_types.specs.Table.{Table, members_of}
 use Rattle.canon_types.specs.declared.types.InterfaceType.{InterfaceType}
 use Rattle.canon_value.specs.Lifts.{ArePartsLifted, AreTaken, LiftsTo, MembersLiftTo, PartsLiftTo}
-use Rattle.canon_value.specs.Loads.{LiftBlames, ToldAt}
+use Rattle.canon_context.specs.Told.{LiftBlames, ToldAt}
 use Rattle.canon_value.specs.Plan.{IsRebuilt, parts_of, whole}
 use Rattle.canon_plan.specs.Plan.{Unnamed, LiesAs}
 use Rattle.canon_context.specs.declared.fault.Fault.{Fault}
 use Rattle.canon_context.specs.declared.fault.Fault.TheVariants as fault
 use Rattle.canon_value.specs.declared.val.Val.{Val}
-use Rattle.canon_value.proofs.Loading.{told_by}
+use Rattle.canon_context.proofs.Told.{told_by}
 use Rattle.canon_value.proofs.LoadingParts.{copies_cost, copies_nameless}
 use Rattle.canon_plan.proofs.TypeKinds.{no_length}
 use Rattle.canon_plan.proofs.Lookups.{copies_count}
@@ -90,7 +90,9 @@ module _ (enc : Encoding) (m : Memory) (ws : List ℕ) where
       told_by (MemberFlatFault enc m ws these i) (FlatFault enc m ws s i) _ _ w.blames (λ (low : mid < names_length these + members_flat_reach enc m ws these i). w.low before (omega (arith, low, charged))) e h
 
   -- a tuple's members, as results
-  pub unnamed_lifted : (t : Table) (types : List InterfaceType) (from to before after : ℕ) (r : Result (Vec Val Global) Fault) → PartsLiftTo enc m ws from to before after (members_of t types) r → MembersLiftTo enc m ws from to before after (members_of t types) r
+  pub unnamed_lifted : (t : Table) (types : List InterfaceType) (from to before after : ℕ) (r : Result (Vec Val Global) Fault)
+      → PartsLiftTo enc m ws from to before after (members_of t types) r → MembersLiftTo enc m ws from to before after (members_of t types) r
   unnamed_lifted t types from to before after (Ok values) (ts, reps, have, spent, moved) = (ts, reps, have, omega (arith, spent, no_length t types), moved)
   unnamed_lifted t types from to before after (Err e) h =
-      told_by (MemberFlatFault enc m ws (members_of t types) from) (MemberFlatFault enc m ws (members_of t types) from) _ _ (λ k x f. f) (λ (low : before < names_length (members_of t types) + members_flat_reach enc m ws (members_of t types) from). omega (arith, low, no_length t types)) e h
+      told_by (MemberFlatFault enc m ws (members_of t types) from) (MemberFlatFault enc m ws (members_of t types) from) _ _ (λ k x f. f)
+      (λ (low : before < names_length (members_of t types) + members_flat_reach enc m ws (members_of t types) from). omega (arith, low, no_length t types)) e h

@@ -20,7 +20,8 @@ use Rattle.canon_types.specs.Table.{Table, shape_of}
 use Rattle.canon_types.specs.declared.types.InterfaceType.TheVariants as ty
 use Rattle.canon_plan.specs.Element.{IsKnown, ItemsFault, element_cost, element_reach, first_of, items_reach, list_shape, row_of, second_of}
 use Rattle.canon_value.specs.Lifts.{ArePartsLifted}
-use Rattle.canon_value.specs.Loads.{AreCharged, Exactly, IsPlace, LiftBlames, ToldAt, charged_reach, place_of}
+use Rattle.canon_context.specs.Told.{Exactly, IsPlace, LiftBlames, ToldAt, place_of}
+use Rattle.canon_value.specs.Loads.{AreCharged, charged_reach}
 use Rattle.canon_value.specs.Plan.{ArePartsLoaded, IsListLoaded}
 use Rattle.canon_value.specs.Value.{AreLiftedFrom}
 use Rattle.canon_plan.specs.declared.element.Element.{Element}
@@ -28,7 +29,8 @@ use Rattle.canon_plan.specs.declared.element.Element.TheVariants as element
 use Rattle.canon_context.specs.declared.fault.At.{At as Place}
 use Rattle.canon_context.specs.declared.fault.Fault.{Fault}
 use Rattle.canon_value.specs.declared.val.Val.{Val}
-use Rattle.canon_value.proofs.Loading.{aligned_part, blamed_by, list_told}
+use Rattle.canon_context.proofs.Told.{blamed_by, list_told}
+use Rattle.canon_value.proofs.Loading.{aligned_part}
 use Rattle.canon_value.proofs.LoadingParts.{copies_cost, copies_nameless, row_aligned, row_blame, row_low}
 use Rattle.canon_plan.proofs.Pairs.{count_pairs}
 use Rattle.canon_value.proofs.PairRows.{pairs_cost, pairs_nameless}
@@ -195,7 +197,8 @@ module _ (enc : Encoding) (m : Memory) where
           → LiftBlames (ToldAt (FlatFault enc m ws s i)) (before < flat_reach enc m ws s i) e
       list_unlifted at e here h =
           let k : Shape = list kind part in
-          let mine : LiftBlames (Exactly (ItemsFault enc m k (place_of at) p n)) (before < items_reach enc m k p n) e = subst (λ (x : Shape). LiftBlames (Exactly (ItemsFault enc m x (place_of at) p n)) (before < items_reach enc m x p n) e) is h in
+          let mine : LiftBlames (Exactly (ItemsFault enc m k (place_of at) p n)) (before < items_reach enc m k p n) e =
+          subst (λ (x : Shape). LiftBlames (Exactly (ItemsFault enc m x (place_of at) p n)) (before < items_reach enc m x p n) e) is h in
           let told : LiftBlames (ToldAt (ItemsFault enc m k (word i) p n)) (before < items_reach enc m k p n) e = blamed_by _ _ _ _ (list_told at (word i) here enc m (StoredFault enc m part) part p n) (λ low. low) e mine in
           subst (λ (x : Shape). LiftBlames (ToldAt (FlatFault enc m ws x i)) (before < flat_reach enc m ws x i) e) (sym is)
           (subst (λ (low : ℕ). LiftBlames (ToldAt (FlatFault enc m ws k i)) (before < low) e) (sym (flat_reached ws kind part i))

@@ -8,13 +8,13 @@ use Rattle.canon_lowering.proofs.Pairing.{at_start, pair_shape, pairs_end}
 use Rattle.canon_lowering.specs.Copies.{copies, paired, pairs_of, unpaired}
 use Rattle.canon_model.specs.Layout.{align, flat, members_end, size}
 use Rattle.canon_model.specs.Shape.{ListKind, Members, Shape, list, map_of, of_items, of_pairs}
-use Rattle.canon_model.specs.Text.{Encoding, utf8}
+use Rattle.canon_model.specs.Text.{Encoding}
 use Rattle.canon_model.specs.Tree.{Tree, Trees, items, tree_count, trees_of}
 use Rattle.canon_types.specs.Depth.{deepest, depth, element_shape}
 use Rattle.canon_types.specs.Table.{Table, shape_of}
 use Rattle.canon_types.specs.declared.types.InterfaceType.TheVariants as ty
 use Rattle.canon_plan.specs.Built.{AreBuilt, IsBuilt}
-use Rattle.canon_plan.specs.Element.{IsKnown, IsMap, first_of, list_shape, row_of, second_of}
+use Rattle.canon_plan.specs.Element.{IsKnown, first_of, list_shape, row_of, second_of}
 use Rattle.canon_value.specs.Elements.{by_turns, element_in, list_length, list_value, values_listed}
 use Rattle.canon_value.specs.Fails.{Failure, Fails, FailsAt, MemberFails, overflow}
 use Rattle.canon_context.specs.Quiet.{has_block}

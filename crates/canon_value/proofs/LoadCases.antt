@@ -22,7 +22,8 @@ use Rattle.canon_model.specs.Tree.{Trees, no_trees, payload_of, tree}
 use Rattle.canon_types.specs.Depth.{deepest, depth, variant_cases}
 use Rattle.canon_plan.specs.Built.{AreBuilt, IsBuilt}
 use Rattle.canon_plan.specs.CasePlan.{IsCaseSlots, TellsCase, case_name_cost, name_charge}
-use Rattle.canon_value.specs.Loads.{AreCharged, Exactly, IsLoaded, LiftBlames, charged_reach, place_of}
+use Rattle.canon_context.specs.Told.{Exactly, LiftBlames, place_of}
+use Rattle.canon_value.specs.Loads.{AreCharged, IsLoaded, charged_reach}
 use Rattle.canon_value.specs.Plan.{IsCaseRebuilt}
 use Rattle.canon_plan.specs.Plan.{IsVariant, shapes_of}
 use Rattle.canon_types.specs.Table.{Table}
@@ -31,7 +32,7 @@ use Rattle.canon_plan.specs.declared.case_plan.CaseSlots.{CaseSlots}
 use Rattle.canon_context.specs.declared.fault.Fault.{Fault}
 use Rattle.canon_value.specs.declared.val.Val.{Val}
 use Rattle.canon_value.proofs.Cases.{case_built, case_shallow}
-use Rattle.canon_value.proofs.Loading.{blamed_by}
+use Rattle.canon_context.proofs.Told.{blamed_by}
 use Rattle.canon_value.proofs.Values.{have_count}
 
 -- ---- a payload

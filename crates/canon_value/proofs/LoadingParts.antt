@@ -9,20 +9,21 @@ use Rattle.canon_lowering.specs.Storing.{narrow}
 use Rattle.canon_model.proofs.Layouts.{alignment, members_alignment}
 use Rattle.canon_model.specs.Cost.{cost, members_cost, names_length, val_cost}
 use Rattle.canon_model.specs.Layout.{align, begins, ends, members_align, size}
-use Rattle.canon_model.specs.Memory.{Inside, length_at, pointer_at}
+use Rattle.canon_model.specs.Memory.{Inside}
 use Rattle.canon_model.specs.Reach.{At, Kind, MemberFault, StoredFault, members_reach, reach_cost}
-use Rattle.canon_model.specs.Shape.{Members, Shape, borrow, fixed, flags, list, member_count, of_fields, of_items, of_places, own, product, scalar, string, variant}
+use Rattle.canon_model.specs.Shape.{Members, Shape, borrow, fixed, flags, list, member_count, of_fields, of_places, own, product, scalar, string, variant}
 use Rattle.canon_model.specs.Text.{Encoding}
-use Rattle.canon_model.specs.Tree.{Trees, items, no_trees, sum_of, tree, tree_count}
-use Rattle.canon_value.specs.Loads.{AreCharged, Exactly, IsLoaded, LiftBlames, charged_reach, place_of}
+use Rattle.canon_model.specs.Tree.{Trees, no_trees, sum_of, tree, tree_count}
+use Rattle.canon_context.specs.Told.{Exactly, LiftBlames, place_of}
+use Rattle.canon_value.specs.Loads.{AreCharged, IsLoaded, charged_reach}
 use Rattle.canon_value.specs.Plan.{ArePartsLoaded, IsRebuilt, parts_of, whole}
 use Rattle.canon_plan.specs.Plan.{Unnamed, LiesAs}
 use Rattle.canon_context.specs.declared.fault.Fault.{Fault}
 use Rattle.canon_value.specs.declared.val.Val.{Val}
-use Rattle.canon_value.proofs.Loading.{aligned_part, blamed_by, RowFault, row_reach}
+use Rattle.canon_context.proofs.Told.{blamed_by}
+use Rattle.canon_value.proofs.Loading.{aligned_part, RowFault, row_reach}
 use Rattle.canon_plan.proofs.Lookups.{copies_count}
 use Rattle.canon_value.proofs.Values.{have_count}
-use Rattle.canon_value.proofs.Walks.{copies_have, have_copies}
 
 -- ---- a row, as members of one shape
 

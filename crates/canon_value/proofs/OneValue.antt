@@ -4,7 +4,8 @@ use Rattle.canon_lowering.proofs.AimedCases.{number_of}
 use Rattle.canon_lowering.specs.Copies.{case_tree, payload_trees}
 use Rattle.canon_model.proofs.Images.{carried_itself}
 use Rattle.canon_model.specs.Same.{Carried, CarriedTrees}
-use Rattle.canon_model.specs.Shape.{Cases, Members, Scalar, Shape, bare, bool, borrow, char, f32, f64, fixed, flags, list, member, no_cases, no_members, of_items, of_pairs, own, payload, product, s16, s32, s64, s8, scalar, string, u16, u32, u64, u8, variant}
+use Rattle.canon_model.specs.Shape.{Cases, Members, Scalar, Shape, bare, bool, borrow, char, f32, f64, fixed, flags, list, member, no_cases, no_members}
+use Rattle.canon_model.specs.Shape.{of_items, of_pairs, own, payload, product, s16, s32, s64, s8, scalar, string, u16, u32, u64, u8, variant}
 use Rattle.canon_model.specs.Tree.{Tree, Trees, bits, case_number, code_point, items, no_trees, number, parts, text, tree, truth}
 use Rattle.canon_value.specs.Value.{AreMarked, AreSame, CaseHas, CaseSame, EachHas, EachSame, HasScalar, HasTree, HaveTrees, IsCase, IsSame, IsText, PairHas, PairSame, member_names}
 use Rattle.canon_value.specs.declared.val.Val.{Val}

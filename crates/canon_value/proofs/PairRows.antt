@@ -57,7 +57,8 @@ value_at ps k d x odd e h =
 
 -- ---- their trees and their faults
 
-pub pairs_have : (lifted : Bool) (s u : Shape) (ps : List (Val × Val)) (ts : Trees) → HaveTreesAs lifted (pairs_of (length ps) s u) (by_turns ps) ts → EachHas (λ p t. PairHas lifted (pair_shape s u) p t) ps (paired ts) × (tree_count ts ≡ length ps + length ps)
+pub pairs_have : (lifted : Bool) (s u : Shape) (ps : List (Val × Val)) (ts : Trees) → HaveTreesAs lifted (pairs_of (length ps) s u) (by_turns ps) ts
+    → EachHas (λ p t. PairHas lifted (pair_shape s u) p t) ps (paired ts) × (tree_count ts ≡ length ps + length ps)
 pairs_have lifted s u [] ts (ev, et) = (ap paired et, ap tree_count et)
 pairs_have lifted s u (p ∷ ps) ts (v, others, t, rest, ev, et, has, (w, last, x, more, ew, ex, has2, have)) =
     let first : v ≡ p.0 = cc in

@@ -1,66 +1,38 @@
 -- A text or a list in a block of its own.
-use Rattle.std.proofs.Common.{◌≡◌, ◌≤◌, ◌<◌, ◌+◌, ◌^◌, ◌∙◌, Err, List, Ok, Result, String, [], ◌∷◌, ap, arith, length, ap₂, refl, string_bytes, subst, subst₂, sym, ℕ, false, ◌*◌, ◌⊎◌}
-use Rattle.std.specs.declared.alloc.Global.{Global}
-use Rattle.canon_lowering.proofs.TextSteps.{text_begin, text_begin_stop, text_end, text_write}
+use Rattle.std.proofs.Common.{◌≡◌, ◌≤◌, ◌<◌, ◌+◌, ◌^◌, ◌∙◌, Err, List, Ok, Result, [], ◌∷◌, ap, arith, length, ap₂, refl, subst, subst₂, sym, ℕ, false, ◌*◌, ◌⊎◌}
 use Rattle.canon_lowering.proofs.Attempts.{attempt_refused, attempt_other}
 use Rattle.canon_lowering.specs.Attempt.{LowersValue, StoresMembers, items_call, value_words}
-use Rattle.canon_lowering.specs.Lowering.{Ending, Granted, Reallocated, done, refused}
-use Rattle.canon_lowering.specs.Steps.{Writes}
-use Rattle.canon_lowering.specs.Storing.{narrow}
-use Rattle.canon_memory.specs.Guest.{Moment, Seen, moment}
-use Rattle.canon_memory.specs.Memory.{written_over}
-use Rattle.canon_memory.specs.Realloc.{block, call}
-use Rattle.canon_model.specs.Memory.{bytes_at}
-use Rattle.canon_model.specs.Requests.{Call, Request, anew, text_requests}
-use Rattle.canon_model.specs.Shape.{Members, Shape, string, list}
-use Rattle.canon_model.specs.Text.{Encoding, Spells, in_utf8, utf8}
-use Rattle.canon_model.specs.Tree.{Tree, scalars_of, tree_count, trees_of}
+use Rattle.canon_lowering.specs.Lowering.{Ending, Reallocated, refused}
+use Rattle.canon_memory.specs.Guest.{Moment}
+use Rattle.canon_model.specs.Requests.{Call}
+use Rattle.canon_model.specs.Shape.{Members, Shape, list}
+use Rattle.canon_model.specs.Text.{Encoding, utf8}
+use Rattle.canon_model.specs.Tree.{Tree, tree_count, trees_of}
 use Rattle.canon_types.specs.Depth.{element_shape}
 use Rattle.canon_context.specs.Core.{Parts, encoding_by, guest_of, moment_of}
-use Rattle.canon_value.specs.Fails.{AreSmall, Blames, Failure, FailsAt, IsSmall, MemberFails, most_bytes, overflow, too_long}
+use Rattle.canon_value.specs.Fails.{AreSmall, Blames, Failure, FailsAt, IsSmall, MemberFails, overflow, too_long}
 use Rattle.canon_context.specs.Lowers.{fault_ending, ending_of}
-use Rattle.canon_value.specs.Stores.{PlacesTo, AsksFor, Counts, FieldsCount, PartsStoreTo}
+use Rattle.canon_context.specs.Asks.{AsksFor}
+use Rattle.canon_value.specs.Stores.{PlacesTo, Counts, FieldsCount, PartsStoreTo}
 use Rattle.canon_value.specs.Value.{HasTree, all_places, cap, no_names, places}
-use Rattle.canon_value.specs.declared.blocks.Placed.{Placed}
 use Rattle.canon_context.specs.declared.fault.Fault.{Fault}
 use Rattle.canon_context.specs.declared.fault.Fault.TheVariants as fault
 use Rattle.canon_value.specs.declared.val.Val.{Val}
-use Rattle.canon_value.specs.declared.val.Val.TheVariants as val
-use Rattle.canon_value.proofs.Contents.{places_text, spelled, text_scalars}
 use Rattle.canon_value.proofs.Listing.{IsListOf}
-use Rattle.canon_context.proofs.Moves.{moves_none, moves_written, GuestLaws, moves_then}
+use Rattle.canon_context.proofs.Moves.{moves_none, GuestLaws, moves_then}
 use Rattle.canon_value.proofs.Sizes.{small_by}
-use Rattle.canon_value.proofs.StoreSteps.{not_done, written_whole, Named, count_members, same_encoding, same_then}
-use Rattle.canon_value.proofs.Steps.{blames_later}
+use Rattle.canon_context.proofs.Cores.{not_done, same_encoding, same_then}
+use Rattle.canon_value.proofs.StoreSteps.{Named, count_members}
+use Rattle.canon_value.proofs.Steps.{blames_later, blames_unless}
 use Rattle.canon_lowering.proofs.AimedPairs.{list_ungiven, rows_words}
 use Rattle.canon_model.specs.Layout.{size}
 use Rattle.canon_context.specs.Moves.{Moves}
 use Rattle.canon_context.specs.declared.fault.Fault.TheVariants as fault
-use Rattle.canon_value.specs.declared.val.Val.TheVariants as val
 
 -- ---- a block that isn't given: no value is to blame
 
-pub asked_blames : (enc : Encoding) (F : Failure → ℕ → Type 0) (from : ℕ) (a b : Moment) (c : Call) (e : Fault) (p : ℕ) → Reallocated a b c (fault_ending e) p → Blames enc F from e
-asked_blames enc F from a b c (fault.ReallocMisaligned x) p h = tt
-asked_blames enc F from a b c (fault.ReallocOutOfBounds x) p h = tt
-asked_blames enc F from a b c fault.GuestTrap p h = tt
-asked_blames enc F from a b c fault.OutOfMemory p h = tt
-asked_blames enc F from a b c (fault.TypeMismatch k) p h = absurd h
-asked_blames enc F from a b c (fault.LengthMismatch k) p h = absurd h
-asked_blames enc F from a b c (fault.FieldName k) p h = absurd h
-asked_blames enc F from a b c (fault.UnknownCase k) p h = absurd h
-asked_blames enc F from a b c (fault.UnknownFlag k) p h = absurd h
-asked_blames enc F from a b c (fault.PayloadExpected k) p h = absurd h
-asked_blames enc F from a b c (fault.PayloadNotExpected k) p h = absurd h
-asked_blames enc F from a b c (fault.StringTooLong n) p h = absurd h
-asked_blames enc F from a b c (fault.SizeOverflow n) p h = absurd h
-asked_blames enc F from a b c (fault.PointerMisaligned x) p h = absurd h
-asked_blames enc F from a b c (fault.PointerOutOfBounds x) p h = absurd h
-asked_blames enc F from a b c (fault.InvalidUtf8 x) p h = absurd h
-asked_blames enc F from a b c (fault.InvalidUtf16 x) p h = absurd h
-asked_blames enc F from a b c (fault.InvalidChar x) p h = absurd h
-asked_blames enc F from a b c (fault.BadDiscriminant x n) p h = absurd h
-asked_blames enc F from a b c fault.HostcallFuelExhausted p h = absurd h
+asked_blames : (enc : Encoding) (F : Failure → ℕ → Type 0) (from : ℕ) (a b : Moment) (c : Call) (e : Fault) (p : ℕ) → Reallocated a b c (fault_ending e) p → Blames enc F from e
+asked_blames enc F from a b c e p h = blames_unless enc F from e (λ is. absurd (subst (λ (x : Ending). Reallocated a b c x p) is h))
 
 -- ---- a value that is refused
 
@@ -92,7 +64,8 @@ module _ (whole : Shape) (v : Val) (n : ℕ) (ms : Members) (vs : List Val) (l :
   small : (enc : Encoding) → n < 2 ^ 32 → n * size false l.part < 2 ^ 32 → AreSmall enc ms vs → IsSmall enc shape v
   small enc few fit h = small_by enc (λ how k. MemberFails how ms vs k) (λ how k. FailsAt how shape v k) (λ m j f. l.inner (too_long enc m) j (λ g. g) f) (λ m j f. l.inner (overflow m) j (l.fits m few fit) f) h
 
-  counts : (enc : Encoding) (place : ℕ) (r : Result ℕ Fault) → n < 2 ^ 32 → n * size false l.part < 2 ^ 32 → Counts enc (λ how k. MemberFails how ms vs k) (cap (place + 1)) (all_places vs) r → Counts enc (λ how k. FailsAt how shape v k) place (places v) r
+  counts : (enc : Encoding) (place : ℕ) (r : Result ℕ Fault) → n < 2 ^ 32 → n * size false l.part < 2 ^ 32 → Counts enc (λ how k. MemberFails how ms vs k) (cap (place + 1)) (all_places vs) r
+      → Counts enc (λ how k. FailsAt how shape v k) place (places v) r
   counts enc place (Ok to) few fit (e, h) = (omega (arith, e, l.counted), small enc few fit h)
   counts enc place (Err e) few fit b = blames_later enc (λ how k. MemberFails how ms vs k) (λ how k. FailsAt how shape v k) 1 place (cap (place + 1)) e refl l.fails b
 
@@ -127,13 +100,16 @@ module _ (whole : Shape) (v : Val) (n : ℕ) (ms : Members) (vs : List Val) (l :
             (subst (λ (x : Encoding). StoresMembers false (moment_of L.seen b) (moment_of L.seen c) x ms 0 p (Named ms (no_names vs) vs) (ending_of r)) (same_encoding a b options g.same) h.storing)
 
         row_counted : Counts (encoding_by a options) (λ how k. FailsAt how shape v k) place (places v) r
-        row_counted = counts (encoding_by a options) place r (omega (arith, is, few)) (omega (arith, ap₂ (λ (j : ℕ) (s : Shape). j * size false s) is (ap element_shape l.shape), fit)) (count_members (encoding_by a options) place ms (no_names vs) vs (cap (place + 1)) r l.named
+        row_counted =
+            counts (encoding_by a options) place r (omega (arith, is, few)) (omega (arith, ap₂ (λ (j : ℕ) (s : Shape). j * size false s) is (ap element_shape l.shape), fit))
+            (count_members (encoding_by a options) place ms (no_names vs) vs (cap (place + 1)) r l.named
             (subst (λ (x : Encoding). FieldsCount x place ms (no_names vs) vs (cap (place + 1)) r) (same_encoding a b options g.same) h.counted))
 
         row_moves : Moves L.seen L.moves (guest_of a) (guest_of c) (ending_of r)
         row_moves = moves_then L (guest_of a) (guest_of b) (guest_of c) (ending_of r) _ _ g.does.answered.goes.events h.storing.lowering.goes.events g.moved h.moved
 
-      pub list_placed : (next : ℕ) → PartsStoreTo L.seen L.moves options b c place ms 0 p (no_names vs) vs (cap (place + 1)) (Ok next) → PlacesTo L.seen L.moves options a c whole v place (Ok (record { pointer = p; length = k; next = next }))
+      pub list_placed : (next : ℕ) → PartsStoreTo L.seen L.moves options b c place ms 0 p (no_names vs) vs (cap (place + 1)) (Ok next)
+          → PlacesTo L.seen L.moves options a c whole v place (Ok (record { pointer = p; length = k; next = next }))
       list_placed next h =
           let here : PlacesTo L.seen L.moves options a c shape v place (Ok (record { pointer = p; length = n; next = next })) = record {
             lowered = row_words (Ok next) h;
@@ -142,7 +118,8 @@ module _ (whole : Shape) (v : Val) (n : ℕ) (ms : Members) (vs : List Val) (l :
             moved = row_moves (Ok next) h;
             same = same_then a b c g.same h.same;
           } in
-          subst (λ (j : ℕ). PlacesTo L.seen L.moves options a c whole v place (Ok (record { pointer = p; length = j; next = next }))) (sym is) (by_parts (λ s. PlacesTo L.seen L.moves options a c s v place (Ok (record { pointer = p; length = n; next = next }))) here)
+          subst (λ (j : ℕ). PlacesTo L.seen L.moves options a c whole v place (Ok (record { pointer = p; length = j; next = next }))) (sym is)
+          (by_parts (λ s. PlacesTo L.seen L.moves options a c s v place (Ok (record { pointer = p; length = n; next = next }))) here)
 
       pub list_broken : (e : Fault) → PartsStoreTo L.seen L.moves options b c place ms 0 p (no_names vs) vs (cap (place + 1)) (Err e) → PlacesTo L.seen L.moves options a c whole v place (Err e)
       list_broken e h = by_parts (λ s. PlacesTo L.seen L.moves options a c s v place (Err e)) (record {

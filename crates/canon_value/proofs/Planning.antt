@@ -10,7 +10,6 @@ use Rattle.canon_value.specs.Elements.{by_turns}
 use Rattle.canon_value.specs.Plan.{IsRebuilt, parts_of}
 use Rattle.canon_value.specs.Value.{IsPairs, IsProduct, member_names, no_names, AreLiftedFrom}
 use Rattle.canon_plan.specs.Plan.{members_from}
-use Rattle.canon_types.specs.declared.types.InterfaceType.TheVariants as ty
 use Rattle.canon_value.specs.declared.val.Val.{Val}
 use Rattle.canon_value.specs.declared.val.Val.TheVariants as val
 use Rattle.canon_plan.proofs.Pairs.{count_pairs}

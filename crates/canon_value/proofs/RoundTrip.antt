@@ -2,7 +2,7 @@
 use Rattle.std.proofs.Common.{◌≡◌, ◌+◌, ◌++◌, Bool, List, [], ◌∷◌, arith, false, inl, inr, subst, sym, true, ℕ}
 use Rattle.canon_model.proofs.Frames.{blocks_are_read, strict_is_rep}
 use Rattle.canon_model.proofs.Unique.{one_tree}
-use Rattle.canon_model.specs.Flat.{RepResults, RepValues, max_params, max_results}
+use Rattle.canon_model.specs.Flat.{RepResults, RepValues, max_params}
 use Rattle.canon_model.specs.Cost.{cost, members_cost}
 use Rattle.canon_model.specs.Memory.{Memory}
 use Rattle.canon_model.specs.Shape.{Members, Shape}
@@ -10,7 +10,6 @@ use Rattle.canon_model.specs.Text.{Encoding}
 use Rattle.canon_model.specs.Tree.{Tree, Trees}
 use Rattle.canon_lowering.specs.Attempt.{value_place}
 use Rattle.canon_lowering.specs.Storing.{narrow}
-use Rattle.canon_value.specs.Lifts.{AreResults}
 use Rattle.canon_value.specs.RoundTrip.{ComeBack, ComesBack, IsOneForm, RoundTrip}
 use Rattle.canon_value.specs.Value.{AreLiftedFrom, HasTree, HaveTrees, IsLiftedFrom}
 use Rattle.canon_value.specs.declared.val.Val.{Val}

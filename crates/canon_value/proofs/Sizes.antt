@@ -1,15 +1,15 @@
 -- No text of a value is too long, and no list or map too large, where this is so of its members.
-use Rattle.std.proofs.Common.{◌≡◌, ◌≤◌, ◌<◌, ◌+◌, ◌*◌, ◌^◌, ◌∙◌, ◌⊎◌, List, String, Vec, [], ◌∷◌, ap, arith, false, inl, inr, length, refl, string_bytes, subst, subst₂, suc, sym, zero, ℕ, ⊎_elim}
+use Rattle.std.proofs.Common.{◌≡◌, ◌≤◌, ◌<◌, ◌*◌, ◌^◌, ◌∙◌, ◌⊎◌, List, String, Vec, [], ◌∷◌, ap, arith, false, inl, inr, length, refl, string_bytes, subst, suc, sym, zero, ℕ, ⊎_elim}
 use Rattle.std.specs.declared.alloc.Global.{Global}
 use Rattle.canon_lowering.proofs.Pairing.{pair_shape}
 use Rattle.canon_lowering.specs.Copies.{case_members, copies, pairs_of}
-use Rattle.canon_model.proofs.Texts.{spells_same}
 use Rattle.canon_model.specs.Layout.{size}
 use Rattle.canon_model.specs.Shape.{Cases, Members, Name, ProductKind, Scalar, Shape, VariantKind, bare, fixed, flags, list, map_of, member, no_cases, no_members, of_items, of_pairs, payload, product, scalar, string, variant}
-use Rattle.canon_model.specs.Text.{Encoding, Spells, in_utf8}
+use Rattle.canon_model.specs.Text.{Encoding}
 use Rattle.canon_value.specs.Elements.{by_turns}
-use Rattle.canon_value.specs.Fails.{AreSmall, CaseFails, Failure, Fails, FailsAt, IsSmall, IsTooLong, MemberFails, NoneTooLarge, PairFails, SomeFails, most_bytes, overflow, too_long}
-use Rattle.canon_value.specs.Value.{IsCase, IsFixed, IsItems, IsPairs, IsProduct, pair_places, places}
+use Rattle.canon_string.specs.Limits.{IsTooLong}
+use Rattle.canon_value.specs.Fails.{AreSmall, CaseFails, Failure, Fails, FailsAt, IsSmall, MemberFails, NoneTooLarge, PairFails, SomeFails, overflow, too_long}
+use Rattle.canon_value.specs.Value.{IsCase, IsFixed, IsPairs, IsProduct, pair_places, places}
 use Rattle.canon_value.specs.declared.val.Val.{Val}
 use Rattle.canon_value.specs.declared.val.Val.TheVariants as val
 use Rattle.canon_value.proofs.Cases.{one_case}
@@ -33,11 +33,6 @@ scalar_small enc c v = record { texts = λ n k f. f.1; lists = λ n k f. f.1 }
 pub flags_small : (enc : Encoding) (names : List Name) (v : Val) → IsSmall enc (flags names) v
 flags_small enc names v = record { texts = λ n k f. f.1; lists = λ n k f. f.1 }
 
-pub not_too_long : (enc : Encoding) (source cs : List ℕ) → Spells in_utf8 source cs → most_bytes enc (length source) cs < 2 ^ 31 → (n : ℕ) → ¬ IsTooLong enc source n
-not_too_long enc source cs spells short n long =
-    let many : 2 ^ 31 ≤ most_bytes enc (length source) cs = subst₂ (λ (x : ℕ) (ds : List ℕ). 2 ^ 31 ≤ most_bytes enc x ds) long.count (spells_same in_utf8 source long.scalars cs long.spelled spells) long.many in
-    omega (arith, short, many)
-
 pub text_small : (enc : Encoding) (s : String Global) → ((n : ℕ) → ¬ IsTooLong enc (string_bytes s) n) → IsSmall enc string (val.String s)
 text_small enc s fits = record {
   texts = λ n k (first, (r, is, long)). fits n (subst (λ (x : String Global). IsTooLong enc (string_bytes x) n) (sym (same_text s r is)) long);
@@ -57,7 +52,8 @@ member_small enc name s ms v vs h rest = record {
 
 -- ---- a value from its members: what fails in it, and isn't itself at fault, is one of them
 
-product_inner : (k : ProductKind) (ms : Members) (names : List Name) (vs : List Val) (v : Val) → IsProduct k names vs v → (how : Failure) (j : ℕ) → ¬ Fails how (product k ms) v → FailsAt how (product k ms) v j → (i : ℕ) × MemberFails how ms vs i
+product_inner : (k : ProductKind) (ms : Members) (names : List Name) (vs : List Val) (v : Val) → IsProduct k names vs v → (how : Failure) (j : ℕ) → ¬ Fails how (product k ms) v
+    → FailsAt how (product k ms) v j → (i : ℕ) × MemberFails how ms vs i
 product_inner k ms names vs v p how j own (inl f) = absurd (own f.1)
 product_inner k ms names vs v p how j own (inr (ns, ws, i, q, count, e, f)) = (i, subst (λ (xs : List Val). MemberFails how ms xs i) (product_values k ns names ws vs v q p) f)
 
@@ -87,7 +83,8 @@ case_failed how (payload name s cs) zero [] k f = absurd f
 case_failed how (payload name s cs) zero (v ∷ vs) k f = inl f
 case_failed how (payload name s cs) (suc d) vs k f = case_failed how cs d vs k f
 
-case_inner : (k : VariantKind) (cs : Cases) (d : ℕ) (vs : List Val) (v : Val) → IsCase k cs d vs v → (how : Failure) (j : ℕ) → ¬ Fails how (variant k cs) v → FailsAt how (variant k cs) v j → (i : ℕ) × MemberFails how (case_members cs d) vs i
+case_inner : (k : VariantKind) (cs : Cases) (d : ℕ) (vs : List Val) (v : Val) → IsCase k cs d vs v → (how : Failure) (j : ℕ) → ¬ Fails how (variant k cs) v → FailsAt how (variant k cs) v j
+    → (i : ℕ) × MemberFails how (case_members cs d) vs i
 case_inner k cs d vs v p how j own (inl f) = absurd (own f.1)
 case_inner k cs d vs v p how j own (inr (c, ws, i, q, e, f)) =
     let (ed, ew) = one_case k cs d c vs ws v p q in
@@ -113,7 +110,8 @@ items_fit s xs m few fit (ws, q, e, many) = not_many (length xs.items) m (size f
 one_map : (xs : Vec (Val × Val) Global) (ps : List (Val × Val)) → IsPairs ps (val.Map xs) → ps ≡ xs.items
 one_map xs ps q = one_pairs xs.items ps (val.Map xs) (xs, refl, refl) q
 
-pub pairs_inner : (s u : Shape) (xs : Vec (Val × Val) Global) (how : Failure) (j : ℕ) → ¬ Fails how (map_of s u) (val.Map xs) → FailsAt how (map_of s u) (val.Map xs) j → (i : ℕ) × MemberFails how (pairs_of (length xs.items) s u) (by_turns xs.items) i
+pub pairs_inner : (s u : Shape) (xs : Vec (Val × Val) Global) (how : Failure) (j : ℕ) → ¬ Fails how (map_of s u) (val.Map xs) → FailsAt how (map_of s u) (val.Map xs) j
+    → (i : ℕ) × MemberFails how (pairs_of (length xs.items) s u) (by_turns xs.items) i
 pairs_inner s u xs how j own (inl f) = absurd (own f.1)
 pairs_inner s u xs how j own (inr (ps, i, q, e, f)) = (i, pairs_failed how s u xs.items i (subst (λ (qs : List (Val × Val)). SomeFails pair_places (λ p x. PairFails how (pair_shape s u) p x) qs i) (one_map xs ps q) f))
 

@@ -1,9 +1,5 @@
 -- Steps of storing, over plain variables.
-use Rattle.std.proofs.Common.{◌≡◌, ◌≤◌, ◌<◌, ◌+◌, ◌++◌, ◌%◌, ◌^◌, ◌∙◌, Err, List, Ok, Result, [], ◌∷◌, ap, ap₂, arith, drop, false, inl, inr, length, refl, subst, sym, take, ℕ}
-use Rattle.std.proofs.Math.Seq.{drop-length, take-length}
-use Rattle.std.proofs.lemmas.List.{append-nil}
-use Rattle.canon_memory.specs.Memory.{written_over}
-use Rattle.canon_lowering.proofs.Lowerings.{NotDone}
+use Rattle.std.proofs.Common.{◌≡◌, ◌≤◌, ◌<◌, ◌+◌, ◌%◌, ◌^◌, Err, List, Ok, Result, ◌∷◌, ap₂, arith, false, inl, inr, length, refl, subst, sym, ℕ}
 use Rattle.canon_lowering.proofs.Attempts.{FirstAnd}
 use Rattle.canon_model.specs.Flat.{IsLeastWord, flat_bits}
 use Rattle.canon_model.specs.Layout.{scalar_size, size}
@@ -13,50 +9,15 @@ use Rattle.canon_model.specs.Tree.{Tree, Trees}
 use Rattle.canon_types.specs.Table.{Table, shape_of}
 use Rattle.canon_types.specs.declared.types.InterfaceType.{InterfaceType}
 use Rattle.canon_plan.specs.Built.{IsScalarType}
-use Rattle.canon_context.specs.Core.{Parts, encoding_by, types_of}
 use Rattle.canon_value.specs.Fails.{Blames, FailsAt, IsSmall, MemberFails}
-use Rattle.canon_context.specs.Lowers.{fault_ending}
-use Rattle.canon_value.specs.Stores.{Counts, FieldsCount, SameBut}
+use Rattle.canon_value.specs.Stores.{Counts, FieldsCount}
 use Rattle.canon_value.specs.Value.{HasTree, HaveTrees, IsProduct, all_places, cap, member_names, places}
 use Rattle.canon_context.specs.declared.fault.Fault.{Fault}
-use Rattle.canon_context.specs.declared.fault.Fault.TheVariants as fault
 use Rattle.canon_value.specs.declared.val.Val.{Val}
 use Rattle.canon_value.proofs.Sizes.{member_small, product_small}
 use Rattle.canon_value.proofs.Steps.{blames_later, places_product}
 use Rattle.canon_plan.proofs.ScalarTypes.{scalar_shape}
 use Rattle.canon_model.specs.Text.{Encoding}
-
--- ---- endings
-
-pub not_done : (e : Fault) → NotDone (fault_ending e)
-not_done (fault.TypeMismatch k) = tt
-not_done (fault.LengthMismatch k) = tt
-not_done (fault.FieldName k) = tt
-not_done (fault.UnknownCase k) = tt
-not_done (fault.UnknownFlag k) = tt
-not_done (fault.PayloadExpected k) = tt
-not_done (fault.PayloadNotExpected k) = tt
-not_done (fault.ReallocMisaligned a) = tt
-not_done (fault.ReallocOutOfBounds a) = tt
-not_done fault.GuestTrap = tt
-not_done (fault.PointerMisaligned at) = tt
-not_done (fault.PointerOutOfBounds at) = tt
-not_done (fault.StringTooLong n) = tt
-not_done (fault.SizeOverflow n) = tt
-not_done (fault.InvalidUtf8 at) = tt
-not_done (fault.InvalidUtf16 at) = tt
-not_done (fault.InvalidChar at) = tt
-not_done (fault.BadDiscriminant at n) = tt
-not_done fault.HostcallFuelExhausted = tt
-not_done fault.OutOfMemory = tt
-
--- ---- memory
-
--- all of it written over
-pub written_whole : (xs ws : List ℕ) → length ws ≡ length xs → written_over xs ws ≡ ws
-written_whole xs ws e =
-    let rest : drop (length ws) xs ≡ [] = ap (λ n. drop n xs) e ∙ drop-length xs in
-    ap (λ ys. take (length xs) (ws ++ ys)) rest ∙ (ap (take (length xs)) (append-nil ws) ∙ (ap (λ n. take n ws) (sym e) ∙ take-length ws))
 
 -- ---- a scalar's word, cut to the scalar's bytes
 
@@ -106,7 +67,8 @@ tails n m ns ms e = cc
 abbrev pub Named : Members → List Name → List Val → Trees → Type 0
 Named ms names vs ts = (names ≡ member_names ms) × HaveTrees ms vs ts
 
-pub named_join : (name named : Name) (s : Shape) (ms : Members) (names : List Name) (v : Val) (vs : List Val) → named ≡ name → (ts : Trees) → FirstAnd (HasTree s v) (Named ms names vs) ts → Named (member name s ms) (named ∷ names) (v ∷ vs) ts
+pub named_join : (name named : Name) (s : Shape) (ms : Members) (names : List Name) (v : Val) (vs : List Val) → named ≡ name → (ts : Trees) → FirstAnd (HasTree s v) (Named ms names vs) ts
+    → Named (member name s ms) (named ∷ names) (v ∷ vs) ts
 named_join name named s ms names v vs en ts (t, rest, is, has, (same, have)) = (ap₂ (λ x xs. x ∷ xs) en same, (v, vs, t, rest, refl, is, has, have))
 
 pub named_split : (name named : Name) (s : Shape) (ms : Members) (names : List Name) (v : Val) (vs : List Val) → (ts : Trees) → Named (member name s ms) (named ∷ names) (v ∷ vs) ts → FirstAnd (HasTree s v) (Named ms names vs) ts
@@ -138,14 +100,3 @@ pub count_members : (enc : Encoding) (place : ℕ) (ms : Members) (names : List 
 count_members enc place ms names vs from (Ok to) same (_, e, small) = (e, small)
 count_members enc place ms names vs from (Err e) same (inl (is, other)) = absurd (other same)
 count_members enc place ms names vs from (Err e) same (inr b) = b
-
--- ---- cores
-
-pub same_then : {T G : Type 0} → (a b c : Parts T G) → SameBut a b → SameBut b c → SameBut a c
-same_then {T} {G} a b c e f = f ∙ ap (λ (x : Parts T G). record x { guest = c.guest; memory = c.memory }) e
-
-pub same_encoding : {T G : Type 0} → (a b : Parts T G) (options : ℕ) → SameBut a b → encoding_by b options ≡ encoding_by a options
-same_encoding {T} {G} a b options e = ap (λ (x : Parts T G). encoding_by x options) e
-
-pub same_types : {T G : Type 0} → (a b : Parts T G) → SameBut a b → types_of b ≡ types_of a
-same_types {T} {G} a b e = ap (λ (x : Parts T G). types_of x) e

@@ -2,7 +2,7 @@
 use Rattle.std.proofs.Common.{◌≡◌, ◌≤◌, ◌<◌, ◌+◌, ◌*◌, ◌%◌, ◌^◌, ◌∙◌, Bool, Err, List, Ok, Result, ap, arith, false, inr, length, refl, subst, sym, ℕ}
 use Rattle.std.proofs.Math.Nat.{mod-eq_of_lt}
 use Rattle.canon_abi.specs.Sizes.{tag_bytes}
-use Rattle.canon_lowering.proofs.AimedCases.{CaseIs, case_room, number_of, tag_span, tag_written, variant_stored}
+use Rattle.canon_lowering.proofs.AimedCases.{CaseIs, case_room, number_of, tag_written, variant_stored}
 use Rattle.canon_lowering.specs.Copies.{case_members, case_tree, payload_trees}
 use Rattle.canon_lowering.specs.Steps.{Writes}
 use Rattle.canon_lowering.specs.Storing.{narrow}
@@ -33,7 +33,8 @@ use Rattle.canon_value.proofs.Sizes.{case_small}
 use Rattle.canon_value.proofs.Cases.{case_back, case_built, case_fails, case_has, case_is, case_places, case_quiet, case_shallow, has_case, one_case}
 use Rattle.canon_context.proofs.Moves.{GuestLaws}
 use Rattle.canon_value.proofs.Steps.{blames_later}
-use Rattle.canon_value.proofs.StoreSteps.{Named, count_members, written_whole}
+use Rattle.canon_context.proofs.Cores.{written_whole}
+use Rattle.canon_value.proofs.StoreSteps.{Named, count_members}
 
 -- ---- a value's tree from its payload's trees, and back
 
@@ -57,7 +58,8 @@ module _ (wide : Bool) (enc : Encoding) (k : VariantKind) (cs : Cases) (d : ℕ)
         subst (λ u. CaseIs wide enc (case_members cs d) d u) (sym et2) (case_is false wide enc cs d d vs ts has2),
       )
 
-pub case_counted : (enc : Encoding) (k : VariantKind) (cs : Cases) (d : ℕ) (vs : List Val) (v : Val) (place : ℕ) (r : Result ℕ Fault) → IsCase k cs d vs v → Counts enc (λ how j. MemberFails how (case_members cs d) vs j) (cap (place + 1)) (all_places vs) r
+pub case_counted : (enc : Encoding) (k : VariantKind) (cs : Cases) (d : ℕ) (vs : List Val) (v : Val) (place : ℕ) (r : Result ℕ Fault) → IsCase k cs d vs v
+    → Counts enc (λ how j. MemberFails how (case_members cs d) vs j) (cap (place + 1)) (all_places vs) r
     → Counts enc (λ how j. FailsAt how (variant k cs) v j) place (places v) r
 case_counted enc k cs d vs v place (Ok to) of (e, small) = (omega (arith, e, case_places k cs d vs v of), case_small enc k cs d vs v of small)
 case_counted enc k cs d vs v place (Err e) of b =
@@ -91,8 +93,10 @@ written_length xs ys ws b e w = let same : length ws ≡ length xs = w.same_leng
 -- ---- its number, and then its payload
 
 module _ {T G : Type 0} (L : GuestLaws G) (options : ℕ) where
-  case_stores : (a c : Parts T G) (m : List ℕ) (k : VariantKind) (cs : Cases) (at d : ℕ) (names : List Name) (vs : List Val) (v : Val) (place : ℕ) (r : Result ℕ Fault) → length a.memory ≤ 2 ^ 32 → at + size false (variant k cs) ≤ length a.memory
-      → d < case_count cs → d < 2 ^ 32 → IsCase k cs d vs v → names ≡ member_names (case_members cs d) → Writes (block at (tag_size (case_count cs))) a.memory m → num (narrow m) at (tag_size (case_count cs)) ≡ d % 256 ^ tag_size (case_count cs)
+  case_stores : (a c : Parts T G) (m : List ℕ) (k : VariantKind) (cs : Cases) (at d : ℕ) (names : List Name) (vs : List Val) (v : Val) (place : ℕ) (r : Result ℕ Fault)
+      → length a.memory ≤ 2 ^ 32 → at + size false (variant k cs) ≤ length a.memory
+      → d < case_count cs → d < 2 ^ 32 → IsCase k cs d vs v → names ≡ member_names (case_members cs d) → Writes (block at (tag_size (case_count cs))) a.memory m
+      → num (narrow m) at (tag_size (case_count cs)) ≡ d % 256 ^ tag_size (case_count cs)
       → PartsStoreTo L.seen L.moves options (record a { memory = m }) c place (case_members cs d) 0 (at + payload_offset false cs) names vs (cap (place + 1)) r → StoresTo L.seen L.moves options a c (variant k cs) at v place r
   case_stores a c m k cs at d names vs v place r small room lt few of named w tag h = record {
     storing = variant_stored false (encoding_by a options) k cs at d lt (Named (case_members cs d) names vs) (moment_of L.seen a) (moment (L.seen a.guest) m) (moment_of L.seen c)

@@ -1,6 +1,5 @@
 -- The loop that stores members: what is left completes what is done.
 use Rattle.std.proofs.Common.{◌≡◌, ◌≤◌, ◌<◌, ◌+◌, ◌^◌, Err, IsTrue, List, Ok, Result, [], ◌∷◌, ap, arith, drop, false, length, subst, suc, sym, zero, ℕ}
-use Rattle.canon_lowering.specs.Copies.{copies}
 use Rattle.canon_memory.specs.Guest.{GuestIn, Seen}
 use Rattle.canon_memory.specs.declared.event.Event.{Event}
 use Rattle.canon_model.specs.Layout.{begins, ends, members_end, size}
@@ -10,8 +9,8 @@ use Rattle.canon_types.specs.Table.{Knows, Table, shape_of}
 use Rattle.canon_types.specs.declared.types.InterfaceType.{InterfaceType}
 use Rattle.canon_plan.specs.Built.{AreBuilt, IsBuilt}
 use Rattle.canon_context.specs.Core.{Parts, types_of}
-use Rattle.canon_value.specs.Stores.{PartsStoreTo, SameBut, StoresTo}
-use Rattle.canon_value.specs.Value.{no_names}
+use Rattle.canon_context.specs.Asks.{SameBut}
+use Rattle.canon_value.specs.Stores.{PartsStoreTo, StoresTo}
 use Rattle.canon_value.specs.View.{IsMember}
 use Rattle.canon_plan.specs.Plan.{members_from}
 use Rattle.canon_context.specs.declared.fault.Fault.{Fault}
@@ -19,7 +18,7 @@ use Rattle.canon_context.specs.declared.fault.Fault.TheVariants as fault
 use Rattle.canon_value.specs.declared.members.Member.{Member}
 use Rattle.canon_value.specs.declared.val.Val.{Val}
 use Rattle.canon_plan.proofs.Lookups.{drop_all, both, member_room, members_from-all}
-use Rattle.canon_value.proofs.StoreSteps.{same_then, same_types}
+use Rattle.canon_context.proofs.Cores.{same_then, same_types}
 use Rattle.canon_context.proofs.Moves.{GuestLaws}
 use Rattle.canon_value.proofs.Walks.{parts_cons, parts_named, parts_none, parts_stop}
 

@@ -45,7 +45,8 @@ use Rattle.canon_value.proofs.Steps.{blocks_none, no_first, no_later, blames_fir
 use Rattle.canon_plan.proofs.Lookups.{copies_count}
 use Rattle.canon_value.proofs.Scalars.{scalar_places}
 use Rattle.canon_plan.proofs.ScalarTypes.{scalar_shape}
-use Rattle.canon_value.proofs.StoreSteps.{Named, count_members, fields_count, heads, least_low, named_join, named_split, not_done, product_counts, same_encoding, same_then, written_whole}
+use Rattle.canon_context.proofs.Cores.{not_done, same_encoding, same_then, written_whole}
+use Rattle.canon_value.proofs.StoreSteps.{Named, count_members, fields_count, heads, least_low, named_join, named_split, product_counts}
 use Rattle.canon_value.proofs.Values.{product_names, product_values}
 
 -- ---- a row of values, as members of one shape
@@ -90,7 +91,8 @@ copies_names zero s (v ∷ vs) e = absurd (omega (arith, e))
 copies_names (suc n) s [] e = absurd (omega (arith, e))
 copies_names (suc n) s (v ∷ vs) e = ap (λ ns. [] ∷ ns) (copies_names n s vs (omega (arith, e)))
 
-pub fixed_counted : (enc : Encoding) (n : ℕ) (s : Shape) (names : List Name) (vs : List Val) (v : Val) (place : ℕ) (r : Result ℕ Fault) → length vs ≡ n → IsFixed vs v → Counts enc (λ how k. MemberFails how (copies n s) vs k) (cap (place + 1)) (all_places vs) r
+pub fixed_counted : (enc : Encoding) (n : ℕ) (s : Shape) (names : List Name) (vs : List Val) (v : Val) (place : ℕ) (r : Result ℕ Fault) → length vs ≡ n → IsFixed vs v
+    → Counts enc (λ how k. MemberFails how (copies n s) vs k) (cap (place + 1)) (all_places vs) r
     → Counts enc (λ how k. FailsAt how (fixed n s) v k) place (places v) r
 fixed_counted enc n s names vs v place (Ok to) count (xs, ev, same) (e, small) = (omega (arith, e, ap places ev ∙ places_fixed xs, ap all_places same), fixed_small enc n s vs v count (xs, ev, same) small)
 fixed_counted enc n s names vs v place (Err e) count (xs, ev, same) b =
@@ -179,7 +181,8 @@ module _ {T G : Type 0} (L : GuestLaws G) (options : ℕ) where
       words_stop : StoresValue false (moment_of L.seen a) (moment_of L.seen b) (encoding_by a options) s at (HasTree s v) (fault_ending e)
       words_stop = stop_at false (moment_of L.seen a) (moment_of L.seen b) (encoding_by a options) s at (HasTree s v) [] (fault_ending e) (not_done e) h.lowered
 
-  module _ (a b : Parts T G) (m : List ℕ) (at : ℕ) (v : Val) (place : ℕ) (x : Placed) (room : at + 8 ≤ length b.memory) (small : length b.memory ≤ 2 ^ 32) (lp : x.pointer < 2 ^ 32) (ln : x.length < 2 ^ 32) (w : IsPair b.memory m at x.pointer x.length) where
+  module _ (a b : Parts T G) (m : List ℕ) (at : ℕ) (v : Val) (place : ℕ) (x : Placed) (room : at + 8 ≤ length b.memory) (small : length b.memory ≤ 2 ^ 32) (lp : x.pointer < 2 ^ 32)
+      (ln : x.length < 2 ^ 32) (w : IsPair b.memory m at x.pointer x.length) where
     abbrev told : Parts T G → Shape → Type 0
     told c s = StoresTo L.seen L.moves options a c s at v place (Ok x.next)
 

@@ -1,5 +1,5 @@
 -- Lowering a case to words: its number, the words of its payload, and zeros behind them.
-use Rattle.std.proofs.Common.{◌≡◌, ◌≤◌, ◌<◌, ◌+◌, ◌*◌, ◌^◌, ◌∙◌, ◌∷◌, [], Bool, Err, List, Ok, Result, ap, arith, false, inl, inr, length, refl, set, subst, suc, sym, zero, ℕ}
+use Rattle.std.proofs.Common.{◌≡◌, ◌≤◌, ◌<◌, ◌+◌, ◌^◌, ◌∙◌, ◌∷◌, [], Bool, Err, List, Ok, Result, ap, arith, false, inl, inr, length, refl, set, subst, suc, sym, zero, ℕ}
 use Rattle.std.specs.Prelude.{◌⊎◌, slice_index}
 use Rattle.std.proofs.lemmas.Bool.{cases_order}
 use Rattle.std.proofs.lemmas.List.{get_or_past, get_or-set_other, get_or-set_same, length-set}
@@ -31,7 +31,8 @@ use Rattle.canon_value.specs.declared.lower.Spot.{Spot}
 use Rattle.canon_value.specs.declared.val.Val.{Val}
 use Rattle.canon_value.proofs.Cases.{case_quiet}
 use Rattle.canon_context.proofs.Moves.{GuestLaws}
-use Rattle.canon_value.proofs.StoreSteps.{Named, count_members, not_done}
+use Rattle.canon_context.proofs.Cores.{not_done}
+use Rattle.canon_value.proofs.StoreSteps.{Named, count_members}
 use Rattle.canon_value.proofs.WalkCases.{case_counted, case_told, case_untold}
 use Rattle.canon_value.proofs.WordSteps.{have_fit}
 
@@ -61,7 +62,8 @@ variant_flat : (k : VariantKind) (cs : Cases) → flat (variant k cs) ≡ 1 + ca
 unfolding flat
 variant_flat k cs = refl
 
-case_words_counted : (enc : Encoding) (place : ℕ) (k : VariantKind) (cs : Cases) (d : ℕ) (names : List Name) (vs : List Val) (v : Val) (r : Result ℕ Fault) → IsCase k cs d vs v → names ≡ member_names (case_members cs d) → FieldsCount enc place (case_members cs d) names vs (cap (place + 1)) r
+case_words_counted : (enc : Encoding) (place : ℕ) (k : VariantKind) (cs : Cases) (d : ℕ) (names : List Name) (vs : List Val) (v : Val) (r : Result ℕ Fault) → IsCase k cs d vs v
+    → names ≡ member_names (case_members cs d) → FieldsCount enc place (case_members cs d) names vs (cap (place + 1)) r
     → Counts enc (λ how j. FailsAt how (variant k cs) v j) place (places v) r
 case_words_counted enc place k cs d names vs v r of named h = case_counted enc k cs d vs v place r of (count_members enc place (case_members cs d) names vs (cap (place + 1)) r named h)
 
@@ -145,7 +147,8 @@ module _ {T G : Type 0} (L : GuestLaws G) (options : ℕ) where
     pub case_stopped : (e : Fault) → payload_lowered (Err e) → LowersTo L.seen L.moves options a c dst dst2 from (Err e) s v
     case_stopped e h =
         subst (λ (y : Shape). LowersTo L.seen L.moves options a c dst dst2 from (Err e) y v) (sym seen.shape)
-        (case_stops a c dst dst1 dst2 from seen.kind seen.cases x.tag (names_of x.payload) (values_of x.payload) v e seen.inside (omega (arith, seen.inside, seen.info.few)) seen.is (seen.names ∙ ap member_names seen.shapes) e1 (by_case (Err e) h))
+        (case_stops a c dst dst1 dst2 from seen.kind seen.cases x.tag (names_of x.payload) (values_of x.payload) v e seen.inside (omega (arith, seen.inside, seen.info.few)) seen.is
+        (seen.names ∙ ap member_names seen.shapes) e1 (by_case (Err e) h))
 
 -- the words of a case and of its payload are within the type's
 pub case_room : (t : Table) (s : Shape) (v : Val) (c : Case) → IsCaseSeen t s v c → 1 + members_flat (shapes_of t c.payload) ≤ flat s

@@ -10,7 +10,7 @@ use Rattle.canon_types.specs.Table.{Knows, Table, shape_of}
 use Rattle.canon_types.specs.declared.types.InterfaceType.{InterfaceType}
 use Rattle.canon_plan.specs.Built.{AreBuilt, IsBuilt}
 use Rattle.canon_context.specs.Core.{Parts, types_of}
-use Rattle.canon_value.specs.Stores.{SameBut}
+use Rattle.canon_context.specs.Asks.{SameBut}
 use Rattle.canon_value.specs.View.{IsMember}
 use Rattle.canon_plan.specs.Plan.{members_from}
 use Rattle.canon_context.specs.declared.fault.Fault.{Fault}
@@ -18,7 +18,7 @@ use Rattle.canon_context.specs.declared.fault.Fault.TheVariants as fault
 use Rattle.canon_value.specs.declared.members.Member.{Member}
 use Rattle.canon_value.specs.declared.val.Val.{Val}
 use Rattle.canon_plan.proofs.Lookups.{drop_all, both, members_from-all}
-use Rattle.canon_value.proofs.StoreSteps.{same_then, same_types}
+use Rattle.canon_context.proofs.Cores.{same_then, same_types}
 use Rattle.canon_value.proofs.WordSteps.{parts_cons, parts_named, parts_none, parts_stop}
 use Rattle.canon_context.proofs.Moves.{GuestLaws}
 
@@ -86,7 +86,8 @@ module _ {T G : Type 0} (L : GuestLaws G) (options place : ℕ) (ms : Members) (
           built = (both _ _ (subst (λ (xs : Members). AreBuilt xs) is.shapes h.built)).1;
           counted = omega (arith, one.counted.0);
           same = same_then start now now2 h.same one.same;
-          rest = λ z zs r more. h.rest z zs r (told z zs r (parts_cons L options now now2 z dst dst2 zs place is.name is.named s (members_from (i + 1) ms) (drop (i + 1) names) m.value.now (drop (i + 1) vs) next next2 r (is.same.0 named) one more));
+          rest = λ z zs r more. h.rest z zs r (told z zs r
+              (parts_cons L options now now2 z dst dst2 zs place is.name is.named s (members_from (i + 1) ms) (drop (i + 1) names) m.value.now (drop (i + 1) vs) next next2 r (is.same.0 named) one more));
         }
 
     pub stop : (now2 : Parts T G) (dst2 : List ℕ) (options2 : ℕ) (e : Fault) → IsTrue m.is_named → options2 ≡ options → LowersTo L.seen L.moves options2 now now2 dst dst2 next (Err e) (shape_of (types_of now) m.ty) m.value.now

@@ -1,6 +1,5 @@
 -- A list or a map with its elements.
 use Rattle.std.specs.Prelude.{List, [], ◌∷◌, length, ℕ}
-use Rattle.canon_model.specs.Shape.{list}
 use Rattle.canon_plan.specs.declared.element.Element.{Element}
 use Rattle.canon_plan.specs.declared.element.Element.TheVariants as element
 use Rattle.canon_value.specs.declared.elements.Elements.{Elements}

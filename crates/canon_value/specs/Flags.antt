@@ -1,5 +1,5 @@
 -- Flags as bits: in bytes of memory, or in the low halves of words, the first name's the lowest.
-use Rattle.std.specs.Prelude.{◌≡◌, ◌≤◌, ◌<◌, ◌+◌, ◌/◌, ◌%◌, ◌*◌, ◌^◌, ◌⊎◌, All, Any, List, [], length, slice_index, ℕ}
+use Rattle.std.specs.Prelude.{◌≡◌, ◌≤◌, ◌<◌, ◌+◌, ◌%◌, ◌^◌, ◌⊎◌, All, Any, List, [], length, slice_index, ℕ}
 use Rattle.std.specs.Int.{bit_at}
 use Rattle.canon_lowering.specs.Storing.{narrow}
 use Rattle.canon_model.specs.Cost.{set_length}

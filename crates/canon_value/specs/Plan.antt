@@ -10,9 +10,6 @@ use Rattle.canon_model.specs.Tree.{Tree, Trees, items, parts}
 use Rattle.canon_types.specs.Depth.{element_shape, variant_cases}
 use Rattle.canon_plan.specs.Element.{row_of}
 use Rattle.canon_value.specs.Value.{IsLiftedFrom, AreLiftedFrom}
-use Rattle.canon_types.specs.declared.types.InterfaceType.TheVariants as ty
-use Rattle.canon_plan.specs.declared.plan.Plan.TheVariants as plan
-use Rattle.canon_plan.specs.declared.plan.Slots.TheVariants as slots
 use Rattle.canon_value.specs.declared.val.Val.{Val}
 
 -- the members of a value of the shape that has n of them; of a map they are keys and values

@@ -1,12 +1,12 @@
 -- What was lowered comes back: the laws of lowering and lifting together. Each is proved as the contract of a function in
 -- src/laws.rt.
-use Rattle.std.specs.Prelude.{◌≡◌, ◌≤◌, ◌<◌, ◌+◌, ◌⊎◌, [], ◌∷◌, List, false, true, ℕ}
+use Rattle.std.specs.Prelude.{◌≡◌, ◌≤◌, ◌<◌, ◌+◌, ◌⊎◌, [], ◌∷◌, List, false, ℕ}
 use Rattle.canon_lowering.specs.Attempt.{AreHeld, LowersArgs, LowersValue, StoresValue, value_place}
 use Rattle.canon_lowering.specs.Lowering.{AllLawful, done}
 use Rattle.canon_lowering.specs.Storing.{narrow}
 use Rattle.canon_memory.specs.Guest.{Moment}
 use Rattle.canon_model.specs.Cost.{cost, members_cost}
-use Rattle.canon_model.specs.Flat.{RepResults, max_params, max_results}
+use Rattle.canon_model.specs.Flat.{max_params, max_results}
 use Rattle.canon_model.specs.Layout.{members_flat}
 use Rattle.canon_model.specs.Shape.{Members, Shape}
 use Rattle.canon_model.specs.Text.{Encoding}

@@ -1,15 +1,13 @@
 -- How values are stored one after another: each at its place of memory, and its fault, if it fails, at its place among the
 -- values. A core goes from one to another.
-use Rattle.std.specs.Prelude.{◌≡◌, ◌≤◌, ◌+◌, ◌<◌, ◌^◌, ◌⊎◌, Err, IfOk, List, Ok, Result, [], ◌∷◌, false, length, ℕ}
-use Rattle.canon_lowering.specs.Lowering.{Reallocated}
-use Rattle.canon_model.specs.Requests.{Call}
+use Rattle.std.specs.Prelude.{◌≡◌, ◌+◌, ◌<◌, ◌^◌, ◌⊎◌, Err, IfOk, List, Ok, Result, [], ◌∷◌, false, ℕ}
 use Rattle.canon_lowering.specs.Attempt.{LowersValue, StoresMembers, StoresValue}
 use Rattle.canon_memory.specs.Guest.{GuestIn, Seen}
 use Rattle.canon_memory.specs.declared.event.Event.{Event}
 use Rattle.canon_model.specs.Shape.{Members, Name, Shape}
 use Rattle.canon_context.specs.Core.{Parts, encoding_by, guest_of, moment_of}
 use Rattle.canon_value.specs.Fails.{AreSmall, Blames, Failure, FailsAt, MemberFails, NoneTooLarge}
-use Rattle.canon_context.specs.Lowers.{answer_of, ending_of}
+use Rattle.canon_context.specs.Lowers.{ending_of}
 use Rattle.canon_context.specs.Moves.{Moves}
 use Rattle.canon_context.specs.Quiet.{Quiet, has_block, have_block}
 use Rattle.canon_value.specs.Value.{HasTree, HaveTrees, all_places, cap, member_names, places}
@@ -18,6 +16,7 @@ use Rattle.canon_context.specs.declared.fault.Fault.{Fault}
 use Rattle.canon_context.specs.declared.fault.Fault.TheVariants as fault
 use Rattle.canon_value.specs.declared.val.Val.{Val}
 use Rattle.canon_model.specs.Text.{Encoding}
+use Rattle.canon_context.specs.Asks.{SameBut}
 
 -- n places were counted from `from` on and nothing there is too large, or the fault is told at its place
 abbrev pub Counts : Encoding → (Failure → ℕ → Type 0) → ℕ → ℕ → Result ℕ Fault → Type 0
@@ -29,10 +28,6 @@ abbrev pub FieldsCount : Encoding → ℕ → Members → List Name → List Val
 FieldsCount enc place ms names vs from (Ok next) = (names ≡ member_names ms) × (next ≡ cap (from + all_places vs)) × AreSmall enc ms vs
 FieldsCount enc place ms names vs from (Err e) = ((e ≡ fault.FieldName place) × ¬ (names ≡ member_names ms)) ⊎ Blames enc (λ how k. MemberFails how ms vs k) from e
 
--- only the guest and its memory may differ
-abbrev pub SameBut : {T G : Type 0} → Parts T G → Parts T G → Type 0
-SameBut before after = after ≡ record before { guest = after.guest; memory = after.memory }
-
 -- the two words of a block, and the place after what stands there
 abbrev pub placed_words : Result Placed Fault → List ℕ
 placed_words (Ok b) = b.pointer ∷ b.length ∷ []
@@ -41,13 +36,6 @@ placed_words (Err e) = []
 abbrev pub placed_next : Result Placed Fault → Result ℕ Fault
 placed_next (Ok b) = Ok b.next
 placed_next (Err e) = Err e
-
--- a block was asked for by this call
-pub record AsksFor {T G : Type 0} (seen : G → Seen) (moves : GuestIn G → List Event → GuestIn G → Type 0) (before after : Parts T G) (c : Call) (result : Result ℕ Fault) : Type 0 where
-  pub does : Reallocated (moment_of seen before) (moment_of seen after) c (ending_of result) (answer_of result)
-  pub moved : Moves seen moves (guest_of before) (guest_of after) (ending_of result)
-  pub same : SameBut before after
-  pub small : length after.memory ≤ 2 ^ 32
 
 module _ {T G : Type 0} (seen : G → Seen) (moves : GuestIn G → List Event → GuestIn G → Type 0) (options : ℕ) (before after : Parts T G) where
   -- a value of the shape s at the address `at`

@@ -11,7 +11,6 @@ mod flags;
 pub mod laws;
 mod lift;
 mod load;
-mod load_text;
 mod lower;
 mod members;
 pub mod parts;
@@ -20,7 +19,6 @@ mod rebuild_case;
 mod results;
 mod scalar_bytes;
 mod store;
-mod texts;
 mod val;
 mod view;
 

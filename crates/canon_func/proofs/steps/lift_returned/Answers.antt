@@ -10,7 +10,7 @@ use Rattle.canon_types.specs.declared.types.TypeFunc.{TypeFunc}
 use Rattle.canon_lowering.specs.Storing.{narrow}
 use Rattle.canon_context.specs.Core.{encoding_by, types_of}
 use Rattle.canon_value.specs.Lifts.{AreResults}
-use Rattle.canon_value.specs.Loads.{Exactly, LiftBlames}
+use Rattle.canon_context.specs.Told.{Exactly, LiftBlames}
 use Rattle.canon_context.specs.declared.fault.At.{At}
 use Rattle.canon_context.specs.declared.fault.Fault.{Fault}
 use Rattle.canon_context.specs.declared.fault.Fault.TheVariants as fault

@@ -6,7 +6,7 @@ use Rattle.canon_model.specs.Requests.{Call}
 use Rattle.canon_types.specs.Depth.{element_shape}
 use Rattle.canon_context.specs.Core.{types_of}
 use Rattle.canon_plan.specs.Element.{list_shape}
-use Rattle.canon_value.specs.Stores.{AsksFor}
+use Rattle.canon_context.specs.Asks.{AsksFor}
 use Rattle.canon_value.proofs.Listing.{element_align}
 use Rattle.canon_value.proofs.blocks.ask_items.Goals as goal
 

@@ -6,7 +6,7 @@ use Rattle.canon_model.specs.Shape.{of_places, product}
 use Rattle.canon_types.specs.Table.{shape_of, tuple_members}
 use Rattle.canon_types.specs.declared.types.InterfaceType.TheVariants as ty
 use Rattle.canon_context.specs.Core.{types_of}
-use Rattle.canon_value.specs.Stores.{AsksFor}
+use Rattle.canon_context.specs.Asks.{AsksFor}
 use Rattle.canon_value.proofs.Far.{tuple_call, tuple_shape_of_now}
 use Rattle.canon_value.proofs.blocks.ask_tuple.Goals as goal
 

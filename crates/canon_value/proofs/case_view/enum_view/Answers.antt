@@ -19,17 +19,25 @@ pub returns-in_default-get_index_of : goal.returns-in_default-get_index_of
 returns-in_default-get_index_of c =
     let names = c.enum_-names.result.now in
     let here = shape (goal.at.returns-in_default-get_index_of c).After-enum_-names in
-    enum_unknown c.args.types.now _ c.args.value.now names.info names.names.keys c.in-Enum.name c.as_str.result.now here c.enum_-names.ensures.info c.in-Enum.is c.as_str.ensures.value c.args.place (omega arith) (sym c.get_index_of.ensures.index ∙ c.in_default-get_index_of.is)
+    enum_unknown c.args.types.now _ c.args.value.now names.info names.names.keys c.in-Enum.name c.as_str.result.now here c.enum_-names.ensures.info c.in-Enum.is c.as_str.ensures.value
+    c.args.place (omega arith) (sym c.get_index_of.ensures.index ∙ c.in_default-get_index_of.is)
 
 pub overflow_cast-result : goal.overflow_cast-result
 overflow_cast-result c =
     let names = c.enum_-names.result.now in
     let here = shape (goal.at.overflow_cast-result c).After-enum_-names in
-    let first = enum_first c.args.types.now _ c.args.value.now names.info names.names.keys c.in-Enum.name c.as_str.result.now here c.enum_-names.ensures.info c.in-Enum.is c.as_str.ensures.value c.in-Some.tag (sym c.get_index_of.ensures.index ∙ c.in-Some.is) in
-    omega (arith, name_few _ names.info _ c.in-Some.tag (enum_info c.args.types.now _ c.args.value.now names.info names.names.keys c.in-Enum.name c.as_str.result.now here c.enum_-names.ensures.info c.in-Enum.is c.as_str.ensures.value) first)
+    let first =
+    enum_first c.args.types.now _ c.args.value.now names.info names.names.keys c.in-Enum.name c.as_str.result.now here c.enum_-names.ensures.info c.in-Enum.is c.as_str.ensures.value
+    c.in-Some.tag (sym c.get_index_of.ensures.index ∙ c.in-Some.is) in
+    omega (
+      arith,
+      name_few _ names.info _ c.in-Some.tag
+          (enum_info c.args.types.now _ c.args.value.now names.info names.names.keys c.in-Enum.name c.as_str.result.now here c.enum_-names.ensures.info c.in-Enum.is c.as_str.ensures.value) first,
+    )
 
 pub returns : goal.returns
 returns c =
     let names = c.enum_-names.result.now in
     let here = shape (goal.at.returns c).After-enum_-names in
-    enum_seen c.args.types.now _ c.args.value.now names.info names.names.keys c.in-Enum.name c.as_str.result.now here c.enum_-names.ensures.info c.in-Enum.is c.as_str.ensures.value c.in-Some.tag (sym c.get_index_of.ensures.index ∙ c.in-Some.is)
+    enum_seen c.args.types.now _ c.args.value.now names.info names.names.keys c.in-Enum.name c.as_str.result.now here c.enum_-names.ensures.info c.in-Enum.is c.as_str.ensures.value
+    c.in-Some.tag (sym c.get_index_of.ensures.index ∙ c.in-Some.is)

@@ -26,7 +26,8 @@ returns-in-Ok-payload_of c =
       | in-Ok w ↦ subst Is (sym w.tag-is) (chosen_ok c.args.types.now x.ok x.err c.in-Result.payload _ known w.in-Ok.is)
       | in-Err w ↦ subst Is (sym w.tag-is) (chosen_error c.args.types.now x.ok x.err c.in-Result.payload _ known w.in-Err.is)
     ] in
-    result_seen c.args.types.now _ c.args.value.now x.info x.ok x.err c.in-Result.payload c.match-payload.tag.0 c.match-payload.tag.1 c.match-payload.tag.2.now (shape (goal.at.returns-in-Ok-payload_of c).After-result-types) c.result-types.ensures.info c.in-Result.is chosen
+    result_seen c.args.types.now _ c.args.value.now x.info x.ok x.err c.in-Result.payload c.match-payload.tag.0 c.match-payload.tag.1 c.match-payload.tag.2.now
+    (shape (goal.at.returns-in-Ok-payload_of c).After-result-types) c.result-types.ensures.info c.in-Result.is chosen
     c.in-Ok-payload_of.payload c.in-Ok-payload_of.ensures.ok
 
 pub returns-in-Err-payload_of : goal.returns-in-Err-payload_of
@@ -38,5 +39,6 @@ returns-in-Err-payload_of c =
       | in-Ok w ↦ subst Is (sym w.tag-is) (chosen_ok c.args.types.now x.ok x.err c.in-Result.payload _ known w.in-Ok.is)
       | in-Err w ↦ subst Is (sym w.tag-is) (chosen_error c.args.types.now x.ok x.err c.in-Result.payload _ known w.in-Err.is)
     ] in
-    result_missed c.args.types.now _ c.args.value.now x.info x.ok x.err c.in-Result.payload c.match-payload.tag.0 c.match-payload.tag.1 c.match-payload.tag.2.now (shape (goal.at.returns-in-Err-payload_of c).After-result-types) c.result-types.ensures.info c.in-Result.is chosen
+    result_missed c.args.types.now _ c.args.value.now x.info x.ok x.err c.in-Result.payload c.match-payload.tag.0 c.match-payload.tag.1 c.match-payload.tag.2.now
+    (shape (goal.at.returns-in-Err-payload_of c).After-result-types) c.result-types.ensures.info c.in-Result.is chosen
     c.args.place c.in-Err-payload_of.fault (omega arith) c.in-Err-payload_of.ensures.err

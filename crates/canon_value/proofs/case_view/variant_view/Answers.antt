@@ -21,14 +21,21 @@ pub returns-in_default-get_full : goal.returns-in_default-get_full
 returns-in_default-get_full c =
     let x = c.variant-variant.result.now in
     let here = shape (goal.at.returns-in_default-get_full c).After-variant-variant in
-    variant_unknown c.args.types.now _ c.args.value.now x.info x.cases.entries c.in-Variant.name c.in-Variant.payload c.as_str.result.now here c.variant-variant.ensures.info c.in-Variant.is c.as_str.ensures.value c.args.place (omega arith) (sym c.in_default-get_full.ensures.index)
+    variant_unknown c.args.types.now _ c.args.value.now x.info x.cases.entries c.in-Variant.name c.in-Variant.payload c.as_str.result.now here c.variant-variant.ensures.info c.in-Variant.is
+    c.as_str.ensures.value c.args.place (omega arith) (sym c.in_default-get_full.ensures.index)
 
 pub overflow_cast-result : goal.overflow_cast-result
 overflow_cast-result c =
     let x = c.variant-variant.result.now in
     let here = shape (goal.at.overflow_cast-result c).After-variant-variant in
-    let first = variant_first c.args.types.now _ c.args.value.now x.info x.cases.entries c.in-Variant.name c.in-Variant.payload c.as_str.result.now here c.variant-variant.ensures.info c.in-Variant.is c.as_str.ensures.value c.in-Some.tag (sym c.in-Some.ensures.index) in
-    omega (arith, name_few _ x.info _ c.in-Some.tag (variant_info c.args.types.now _ c.args.value.now x.info x.cases.entries c.in-Variant.name c.in-Variant.payload c.as_str.result.now here c.variant-variant.ensures.info c.in-Variant.is c.as_str.ensures.value) first)
+    let first =
+    variant_first c.args.types.now _ c.args.value.now x.info x.cases.entries c.in-Variant.name c.in-Variant.payload c.as_str.result.now here c.variant-variant.ensures.info c.in-Variant.is
+    c.as_str.ensures.value c.in-Some.tag (sym c.in-Some.ensures.index) in
+    omega (
+      arith,
+      name_few _ x.info _ c.in-Some.tag
+          (variant_info c.args.types.now _ c.args.value.now x.info x.cases.entries c.in-Variant.name c.in-Variant.payload c.as_str.result.now here c.variant-variant.ensures.info c.in-Variant.is c.as_str.ensures.value) first,
+    )
 
 pub returns-in-Ok : goal.returns-in-Ok
 returns-in-Ok c =

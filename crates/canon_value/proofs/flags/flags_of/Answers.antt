@@ -1,4 +1,4 @@
-use Rattle.std.proofs.Common.{◌≡◌, ◌≤◌, ◌<◌, ◌+◌, ◌/◌, ◌^◌, ◌∙◌, ◌++◌, ◌∷◌, List, String, [], ap, arith, get_or, length, map, refl, rules, string_bytes, subst, sym, ℕ, ⊎_elim}
+use Rattle.std.proofs.Common.{◌≡◌, ◌≤◌, ◌<◌, ◌+◌, ◌/◌, ◌^◌, ◌∙◌, ◌++◌, ◌∷◌, List, String, [], ap, arith, get_or, length, refl, rules, string_bytes, subst, sym, ℕ, ⊎_elim}
 use Rattle.std.specs.declared.alloc.Global.{Global}
 use Rattle.std.proofs.lemmas.Bool.{cases_lt}
 use Rattle.std.proofs.lemmas.List.{get_or-map, length-map, map-append}
@@ -57,7 +57,8 @@ loop-k-preserved c =
             let copied : string_bytes w.in_ok-name.name ≡ string_bytes w.index-names-k-then-is_set.result = search rules in
             let paid : c.loop-k.fuel ≡ w.charge.new.fuel + length (string_bytes name) = omega (arith, w.in_ok-charge.ensures, w.len.ensures) in
             let kept : names_of w.keep.new.items.items ≡ before ++ string_bytes name ∷ [] = kept_name c.loop-k.set.items w.keep.new.items.items w.in_ok-name.name (string_bytes name) w.in_ok-keep.ensures.ok (copied ∙ (sym again ∙ is)) in
-            rw (w.fuel-is, w.set-is, kept) (read_set ms ns k c.args.fuel.now c.loop-k.fuel before c.loop-k.invariant.reading l room c.loop-k.invariant.below (string_bytes name) is (sym w.if-is_set.true ∙ c.is_set.ensures.bit) w.charge.new.fuel paid)
+            rw (w.fuel-is, w.set-is, kept) (read_set ms ns k c.args.fuel.now c.loop-k.fuel before c.loop-k.invariant.reading l room c.loop-k.invariant.below (string_bytes name) is
+            (sym w.if-is_set.true ∙ c.is_set.ensures.bit) w.charge.new.fuel paid)
         | else-is_set w ↦
             rw (w.fuel-is, w.set-is) (read_unset ms ns k c.args.fuel.now c.loop-k.fuel before c.loop-k.invariant.reading l room c.loop-k.invariant.below (get_or ns k []) refl (sym w.if-is_set.false ∙ c.is_set.ensures.bit))
       ];

@@ -1,4 +1,4 @@
-use Rattle.std.proofs.Common.{◌≡◌, ◌≤◌, ◌<◌, ◌+◌, ◌/◌, ◌^◌, ℕ}
+use Rattle.std.proofs.Common.{◌<◌, ◌/◌, ◌^◌, ℕ}
 use Rattle.canon_types.specs.Keeps.{names_of}
 use Rattle.canon_value.specs.Flags.{digit_of, width_of}
 use Rattle.canon_value.proofs.FlagReading.{IsReading}

@@ -1,4 +1,4 @@
-use Rattle.std.proofs.Common.{◌≡◌, ◌+◌, ◌∙◌, arith, length}
+use Rattle.std.proofs.Common.{◌+◌, ◌∙◌, arith}
 use Rattle.canon_indices.specs.Options.{encoding_of}
 use Rattle.canon_lowering.specs.Storing.{narrow}
 use Rattle.canon_value.specs.Flags.{flag_names}

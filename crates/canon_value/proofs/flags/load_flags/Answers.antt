@@ -18,10 +18,12 @@ flags_of-requires-clause-room c = room (goal.at.flags_of-requires-clause-room c)
 pub returns-clause-ok : goal.returns-clause-ok
 returns-clause-ok c =
     let s = c.args.source.now in
-    flags_loaded (encoding_of s.encoding) (narrow s.memory.now) (flag_names s.types.now c.args.i) c.args.fuel.now _ c.args.at c.flags_of.new.fuel c.flags_of.result (flags_are s.types.now c.args.i c.flags-flags.result.now c.flags-flags.ensures.entry)
+    flags_loaded (encoding_of s.encoding) (narrow s.memory.now) (flag_names s.types.now c.args.i) c.args.fuel.now _ c.args.at c.flags_of.new.fuel c.flags_of.result
+    (flags_are s.types.now c.args.i c.flags-flags.result.now c.flags-flags.ensures.entry)
     (room (goal.at.returns-clause-ok c).After-flags-flags) c.flags_of.ensures.ok
 
 pub returns-clause-err : goal.returns-clause-err
 returns-clause-err c =
     let s = c.args.source.now in
-    flags_blamed (encoding_of s.encoding) (narrow s.memory.now) (flag_names s.types.now c.args.i) c.args.fuel.now _ c.args.at c.flags_of.result (flags_are s.types.now c.args.i c.flags-flags.result.now c.flags-flags.ensures.entry) c.flags_of.ensures.err
+    flags_blamed (encoding_of s.encoding) (narrow s.memory.now) (flag_names s.types.now c.args.i) c.args.fuel.now _ c.args.at c.flags_of.result
+    (flags_are s.types.now c.args.i c.flags-flags.result.now c.flags-flags.ensures.entry) c.flags_of.ensures.err

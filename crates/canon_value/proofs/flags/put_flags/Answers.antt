@@ -1,5 +1,4 @@
-use Rattle.std.proofs.Common.{◌≡◌, List, arith, rules, string_bytes, subst, sym, take, ℕ}
-use Rattle.canon_model.specs.Layout.{flag_words}
+use Rattle.std.proofs.Common.{List, arith, rules, string_bytes, subst, sym, take, ℕ}
 use Rattle.canon_model.specs.Shape.{Name}
 use Rattle.canon_types.specs.Keeps.{names_of}
 use Rattle.canon_value.specs.Flags.{flag_names}
@@ -22,7 +21,8 @@ loop-name-preserved c =
     let next = next_name c.args.set.now.items ys c.deref-name-items.ensures.value i c.name-item.result (omega arith) c.name-item.is in
     let (inside, at) = c.in-Some.ensures.some in
     subst (λ (xs : List Name). ArePut c.args.dst.now c.mark_word.new.dst c.args.first c.args.count names xs) (sym next)
-    (put_more c.args.dst.now c.loop-name.dst c.mark_word.new.dst c.args.first c.args.count names set c.in-Some.k (string_bytes c.name-item.result) c.requires.count c.number_of.ensures.differ c.loop-name.invariant inside at c.mark_word.ensures)
+    (put_more c.args.dst.now c.loop-name.dst c.mark_word.new.dst c.args.first c.args.count names set c.in-Some.k (string_bytes c.name-item.result) c.requires.count c.number_of.ensures.differ
+    c.loop-name.invariant inside at c.mark_word.ensures)
 
 pub returns-clause-put : goal.returns-clause-put
 returns-clause-put c =

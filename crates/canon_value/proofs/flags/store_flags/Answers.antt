@@ -1,4 +1,4 @@
-use Rattle.std.proofs.Common.{◌≡◌, ◌≤◌, ◌<◌, ◌+◌, ◌/◌, ◌∙◌, Err, List, false, Ok, ap, arith, length, refl, rules, string_bytes, subst, sym, take, ℕ}
+use Rattle.std.proofs.Common.{◌≡◌, ◌≤◌, ◌<◌, ◌+◌, ◌∙◌, Err, List, false, Ok, ap, arith, length, refl, rules, string_bytes, subst, sym, take}
 use Rattle.canon_memory.specs.Memory.{written_over}
 use Rattle.canon_model.specs.Layout.{flags_size, size}
 use Rattle.canon_model.specs.Shape.{Name, flags}
@@ -6,7 +6,7 @@ use Rattle.canon_types.specs.Keeps.{names_of}
 use Rattle.canon_types.specs.Table.{Table, shape_of}
 use Rattle.canon_types.specs.declared.types.InterfaceType.TheVariants as ty
 use Rattle.canon_context.specs.Core.{Parts, types_of}
-use Rattle.canon_value.specs.Flags.{SomeUnknown, flag_names}
+use Rattle.canon_value.specs.Flags.{flag_names}
 use Rattle.canon_value.specs.Stores.{StoresTo}
 use Rattle.canon_value.specs.Value.{Occurs}
 use Rattle.canon_context.specs.declared.fault.Fault.TheVariants as fault
@@ -35,7 +35,8 @@ pub loop-name-init : goal.loop-name-init
 loop-name-init g c =
     let at = (goal.at.loop-name-init g c).After-flags in
     record {
-      stored = stored_first c.args.cx.now.core.now c.as_slice_mut.result.now c.clear_bytes.new.memory c.args.at c.flags.result.now.abi.size32 _ c.as_slice_mut.ensures.value (bytes_room g at) c.clear_bytes.ensures.writes c.clear_bytes.ensures.none;
+      stored = stored_first c.args.cx.now.core.now c.as_slice_mut.result.now c.clear_bytes.new.memory c.args.at c.flags.result.now.abi.size32 _ c.as_slice_mut.ensures.value (bytes_room g at)
+          c.clear_bytes.ensures.writes c.clear_bytes.ensures.none;
       same = refl;
       options = refl;
       reference = refl;
@@ -53,7 +54,8 @@ returns-in_default-clause-stores g c =
     let other : Occurs (string_bytes c.name-item.result) names → ⊥ = subst (λ (ns : List Name). Occurs (string_bytes c.name-item.result) ns → ⊥) same (search (rules, c.in_default.ensures.none)) in
     let unknown = next_unknown a.set.now.items c.deref-name-items.result.now c.deref-name-items.ensures.value c.loop-name.name-index c.name-item.result (omega arith) c.name-item.is names other in
     subst (λ (x : Parts _ _). StoresTo L.seen L.moves a.cx.now.options core x (shape_of (types_of core) (ty.Flags a.i)) a.at (val.Flags a.set.now) a.place (Err (fault.UnknownFlag a.place))) (sym inv.same)
-    (flags_not_stored L a.cx.now.options core names a.set.now c.requires.small a.place c.loop-name.cx.core.now.memory _ (its_shape g at) a.at c.flags.result.now.abi.size32 (bytes_many g at) (bytes_room g at) _ inv.stored unknown (omega arith))
+    (flags_not_stored L a.cx.now.options core names a.set.now c.requires.small a.place c.loop-name.cx.core.now.memory _ (its_shape g at) a.at c.flags.result.now.abi.size32 (bytes_many g at)
+    (bytes_room g at) _ inv.stored unknown (omega arith))
 
 pub mark_byte-requires : goal.mark_byte-requires
 mark_byte-requires g c =
@@ -80,7 +82,8 @@ loop-name-preserved g c =
     let m = written_over now.memory c.mark_byte.new.memory in
     record {
       stored = subst (λ (xs : List Name). AreStored core.memory m a.at bytes names xs) (sym next)
-          (stored_next core now inv.same c.types-in-loop-name.result.now c.types-in-loop-name.ensures a.i c.as_slice_mut-in-loop-name.result.now c.mark_byte.new.memory a.at bytes (names_of (take i ys)) c.in-Some.k (string_bytes c.name-item.result)
+          (stored_next core now inv.same c.types-in-loop-name.result.now c.types-in-loop-name.ensures a.i c.as_slice_mut-in-loop-name.result.now c.mark_byte.new.memory a.at bytes
+          (names_of (take i ys)) c.in-Some.k (string_bytes c.name-item.result)
           c.as_slice_mut-in-loop-name.ensures.value (bytes_room g at) (bytes_many g at) c.number_of.ensures.differ inv.stored inside here c.mark_byte.ensures);
       same = ap (λ (x : Parts _ _). record x { memory = m }) inv.same;
       options = inv.options;

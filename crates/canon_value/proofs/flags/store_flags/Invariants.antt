@@ -1,7 +1,6 @@
 use Rattle.std.proofs.Common.{◌≡◌, map, string_bytes, take}
 use Rattle.canon_context.specs.Core.{types_of}
 use Rattle.canon_value.specs.Flags.{flag_names}
-use Rattle.canon_value.specs.Stores.{SameBut}
 use Rattle.canon_value.proofs.FlagWriting.{AreStored}
 use Rattle.canon_value.proofs.flags.store_flags.Given as goal
 

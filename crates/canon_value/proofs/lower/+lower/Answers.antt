@@ -13,7 +13,7 @@ use Rattle.canon_value.specs.declared.lower.Spot.{Spot}
 use Rattle.canon_value.specs.declared.val.Val.{the_lemmas}
 use Rattle.canon_context.proofs.Moves.{GuestLaws}
 use Rattle.canon_value.proofs.Steps.{blocks_none}
-use Rattle.canon_value.proofs.StoreSteps.{same_types}
+use Rattle.canon_context.proofs.Cores.{same_types}
 use Rattle.canon_value.proofs.Listing.{row}
 use Rattle.canon_value.proofs.Viewing.{lies_built, lies_depth, lies_words, names_count}
 use Rattle.canon_value.proofs.WalkCases.{case_wants}
@@ -57,14 +57,16 @@ pub lower_parts-returns-in-Err-clause-lowers : goal.lower_parts-returns-in-Err-c
 lower_parts-returns-in-Err-clause-lowers g t0 c =
     let L : GuestLaws _ = record { seen = g.G.Guest.seen; moves = g.G.Guest.moves; stays = g.met.G.Guest.stays; goes_on = g.met.G.Guest.goes_on } in
     let is = here g t0 (goal.at.lower_parts-returns-in-Err-clause-lowers g t0 c).After-member_of-member in
-    stop L _ _ _ _ _ _ _ _ _ _ _ _ c.loop-k.invariant.lowered c.member_of-member.result is c.lower_value.new.cx.core.now c.lower_value.new.dst c.loop-k.cx.options c.in-Err.fault c.if-not-member.false c.loop-k.invariant.options c.in-Err.ensures.lowers
+    stop L _ _ _ _ _ _ _ _ _ _ _ _ c.loop-k.invariant.lowered c.member_of-member.result is c.lower_value.new.cx.core.now c.lower_value.new.dst c.loop-k.cx.options c.in-Err.fault
+    c.if-not-member.false c.loop-k.invariant.options c.in-Err.ensures.lowers
 
 pub lower_parts-loop-k-preserved : goal.lower_parts-loop-k-preserved
 lower_parts-loop-k-preserved g t0 c =
     let L : GuestLaws _ = record { seen = g.G.Guest.seen; moves = g.G.Guest.moves; stays = g.met.G.Guest.stays; goes_on = g.met.G.Guest.goes_on } in
     let is = here g t0 (goal.at.lower_parts-loop-k-preserved g t0 c).After-member_of-member in
     record {
-      lowered = go_on L _ _ _ _ _ _ _ _ _ _ _ _ c.loop-k.invariant.lowered c.member_of-member.result is c.lower_value.new.cx.core.now c.lower_value.new.dst c.loop-k.cx.options c.in-Ok.after c.if-not-member.false c.loop-k.invariant.options c.in-Ok.ensures.lowers;
+      lowered = go_on L _ _ _ _ _ _ _ _ _ _ _ _ c.loop-k.invariant.lowered c.member_of-member.result is c.lower_value.new.cx.core.now c.lower_value.new.dst c.loop-k.cx.options c.in-Ok.after
+          c.if-not-member.false c.loop-k.invariant.options c.in-Ok.ensures.lowers;
       options = c.in-Ok.ensures.same_options ∙ c.loop-k.invariant.options;
       reference = c.in-Ok.ensures.same_reference ∙ c.loop-k.invariant.reference;
     }
@@ -101,7 +103,10 @@ lower_value-lower_parts-requires g t0 c =
     let ms = shapes_of t c.in-Ok-Members.members in
     let s = shape_of t c.args.ty in
     let falls : 4 * deepest ms + 1 < 4 * depth s = lies_depth s ms lies in
-    λ κs sub. (search (rules, the_lemmas, falls), (sub.0, (sub.1, (known, (lies_built s ms lies c.requires.built, (count, (c.requires.small, omega (arith, c.requires.room, lies_words s ms lies, ap (λ (x : Spot). x.word) c.inside.ensures))))))))
+    λ κs sub. (
+      search (rules, the_lemmas, falls),
+      (sub.0, (sub.1, (known, (lies_built s ms lies c.requires.built, (count, (c.requires.small, omega (arith, c.requires.room, lies_words s ms lies, ap (λ (x : Spot). x.word) c.inside.ensures))))))),
+    )
 
 pub lower_value-returns-in-Ok-Members-clause-lowers : goal.lower_value-returns-in-Ok-Members-clause-lowers
 lower_value-returns-in-Ok-Members-clause-lowers g t0 c =
@@ -144,7 +149,14 @@ lower_case-bounds-dst-from g t0 c = omega (arith, c.requires.room, case_room (ty
 
 pub lower_case-behind_tag-requires : goal.lower_case-behind_tag-requires
 lower_case-behind_tag-requires g t0 c =
-    omega (arith, c.word_after-end.ensures, c.word_after-end.type_inv, ap (λ (x : Table). flat (shape_of x c.args.ty.now)) c.types.ensures, case_room (types_of c.args.cx.now.core.now) (shape_of (types_of c.args.cx.now.core.now) c.args.ty.now) c.args.value.now c.args.case.now c.requires.seen)
+    omega (
+      arith,
+      c.word_after-end.ensures,
+      c.word_after-end.type_inv,
+      ap (λ (x : Table). flat (shape_of x c.args.ty.now)) c.types.ensures,
+      case_room (types_of c.args.cx.now.core.now)
+          (shape_of (types_of c.args.cx.now.core.now) c.args.ty.now) c.args.value.now c.args.case.now c.requires.seen,
+    )
 
 pub lower_case-lower_parts-requires : goal.lower_case-lower_parts-requires
 lower_case-lower_parts-requires g t0 c =

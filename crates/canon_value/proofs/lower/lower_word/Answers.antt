@@ -17,4 +17,5 @@ pub returns-clause-lowers : goal.returns-clause-lowers
 returns-clause-lowers g c =
     let a = c.args in
     let L : GuestLaws _ = record { seen = g.G.Guest.seen; moves = g.G.Guest.moves; stays = g.met.G.Guest.stays; goes_on = g.met.G.Guest.goes_on } in
-    scalar_lowers L a.cx.now.options a.cx.now.core.now a.dst.now a.from _ a.ty a.value.now c.u64.result c.requires.small c.requires.room (subst (λ (w : ℕ). IsWordOf a.ty a.value.now w) (sym c.u64.ensures) c.requires.word) refl c.saturating_add.ensures
+    scalar_lowers L a.cx.now.options a.cx.now.core.now a.dst.now a.from _ a.ty a.value.now c.u64.result c.requires.small c.requires.room
+    (subst (λ (w : ℕ). IsWordOf a.ty a.value.now w) (sym c.u64.ensures) c.requires.word) refl c.saturating_add.ensures

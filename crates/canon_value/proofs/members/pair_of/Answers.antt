@@ -1,4 +1,4 @@
-use Rattle.std.proofs.Common.{◌<◌, ◌+◌, ◌/◌, [], arith, length, refl}
+use Rattle.std.proofs.Common.{◌<◌, ◌+◌, [], arith, length, refl}
 use Rattle.canon_value.proofs.Lookups.{no_names_at}
 use Rattle.canon_value.proofs.PairRows.{count_turns, key_at, value_at}
 use Rattle.canon_plan.proofs.Pairs.{half_below, key_here, key_known, value_here, value_known}

@@ -7,7 +7,7 @@ use Rattle.canon_value.specs.Plan.{IsRebuilt}
 use Rattle.canon_value.specs.Elements.{by_turns}
 use Rattle.canon_value.specs.Value.{IsPairs, IsProduct, member_names}
 use Rattle.canon_value.specs.declared.val.Val.{Val}
-use Rattle.canon_value.proofs.Loading.{on_ok}
+use Rattle.canon_context.proofs.Told.{on_ok}
 use Rattle.canon_value.proofs.Planning.{fixed_rebuilt, list_rebuilt, map_even, map_rebuilt, record_count, record_rebuilt, tuple_rebuilt}
 use Rattle.canon_plan.proofs.TypeKinds.{list_left}
 use Rattle.canon_value.proofs.rebuild.rebuild.Goals as goal

@@ -14,12 +14,33 @@ left ps rest values e = omega (arith, ap length e, length-append (by_turns ps) r
 pub loop-preserved-in_default : goal.loop-preserved-in_default
 loop-preserved-in_default c =
     let at = c.loop in
-    absurd (omega (arith, left at.pairs.items (into_iter_items at.rest) c.args.values.items at.invariant.0, at.invariant.1, at.invariant.2, c.in_default.ensures.cases.0, c.loop-test.true, at.auto.counter-end, c.len-count.ensures, c.args.values.ok.0))
+    absurd (omega (
+      arith,
+      left at.pairs.items (into_iter_items at.rest) c.args.values.items at.invariant.0,
+      at.invariant.1,
+      at.invariant.2,
+      c.in_default.ensures.cases.0,
+      c.loop-test.true,
+      at.auto.counter-end,
+      c.len-count.ensures,
+      c.args.values.ok.0,
+    ))
 
 pub loop-preserved-in_default-next : goal.loop-preserved-in_default-next
 loop-preserved-in_default-next c =
     let at = c.loop in
-    absurd (omega (arith, left at.pairs.items (into_iter_items at.rest) c.args.values.items at.invariant.0, at.invariant.1, at.invariant.2, c.in-Some.ensures.cases.1, c.in_default-next.ensures.cases.0, c.loop-test.true, at.auto.counter-end, c.len-count.ensures, c.args.values.ok.0))
+    absurd (omega (
+      arith,
+      left at.pairs.items (into_iter_items at.rest) c.args.values.items at.invariant.0,
+      at.invariant.1,
+      at.invariant.2,
+      c.in-Some.ensures.cases.1,
+      c.in_default-next.ensures.cases.0,
+      c.loop-test.true,
+      at.auto.counter-end,
+      c.len-count.ensures,
+      c.args.values.ok.0,
+    ))
 
 pub loop-preserved : goal.loop-preserved
 loop-preserved c =

@@ -9,7 +9,7 @@ use Rattle.canon_value.specs.Plan.{IsCaseRebuilt}
 use Rattle.canon_value.specs.Value.{IsCase}
 use Rattle.canon_plan.proofs.CasePlans.{as_cases, result_left, result_cases}
 use Rattle.canon_value.proofs.CaseValues.{case_rebuilt, enum_rebuilt, one_payload, option_tag}
-use Rattle.canon_value.proofs.Loading.{on_ok}
+use Rattle.canon_context.proofs.Told.{on_ok}
 use Rattle.canon_value.proofs.rebuild_case.rebuild_case.Goals as goal
 
 pub variant_value-requires-clause-few : goal.variant_value-requires-clause-few
@@ -63,6 +63,7 @@ returns-in_default c =
     let (ok, error, e) = subst (λ (x : InterfaceType). IsCaseKind x s) left c.requires.kind in
     let two = result_cases s ok error e in
     record {
-      ok = on_ok c.result_value.result (λ v. IsCase of_result cs tag vs v) (λ v. IsCaseRebuilt s tag vs v) (λ v h. case_rebuilt s of_result tag vs v (as_cases s of_result _ e) c.requires.tag h) (c.result_value.ensures.ok cs two (omega (arith, two, c.requires.tag)));
+      ok = on_ok c.result_value.result (λ v. IsCase of_result cs tag vs v) (λ v. IsCaseRebuilt s tag vs v) (λ v h. case_rebuilt s of_result tag vs v (as_cases s of_result _ e) c.requires.tag h)
+          (c.result_value.ensures.ok cs two (omega (arith, two, c.requires.tag)));
       err = c.result_value.ensures.err;
     }

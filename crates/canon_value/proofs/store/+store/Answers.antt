@@ -9,7 +9,8 @@ use Rattle.canon_types.specs.Depth.{deepest, depth, element_shape}
 use Rattle.canon_types.specs.Table.{Table, shape_of}
 use Rattle.canon_plan.specs.Built.{AreBuilt, IsBuilt}
 use Rattle.canon_context.specs.Core.{Parts, types_of, encoding_by}
-use Rattle.canon_value.specs.Stores.{AsksFor, PartsStoreTo}
+use Rattle.canon_context.specs.Asks.{AsksFor}
+use Rattle.canon_value.specs.Stores.{PartsStoreTo}
 use Rattle.canon_lowering.specs.Attempt.{items_call}
 use Rattle.canon_plan.specs.Element.{IsKnown, list_shape, row_of}
 use Rattle.canon_value.specs.Elements.{element_in, list_length}
@@ -17,7 +18,7 @@ use Rattle.canon_plan.specs.declared.element.Element.{Element}
 use Rattle.canon_context.specs.declared.fault.Fault.{Fault}
 use Rattle.canon_value.specs.View.{IsMember, names_of, shapes_of, values_of}
 use Rattle.canon_value.specs.declared.val.Val.{the_lemmas}
-use Rattle.canon_value.proofs.StoreSteps.{same_types}
+use Rattle.canon_context.proofs.Cores.{same_types}
 use Rattle.canon_value.proofs.Viewing.{lies_built, lies_depth, lies_room, names_count, values_count}
 use Rattle.canon_value.proofs.WalkCases.{case_stored, case_wants, written_length}
 use Rattle.canon_value.proofs.WalkLoops.{end, go_on, member_shallow, misnamed, parts_stood, stands, stop}
@@ -59,7 +60,8 @@ store_parts-next_field32_size-start-requires g t0 c =
       fits = omega (
         arith,
         fit.fits,
-        ends_here (types_of core) c.types-types.result.now c.member_of-member.result.ty c.canonical_abi.result.now c.loop-k.end (c.types-types.ensures ∙ same_types core c.loop-k.cx.core.now c.loop-k.invariant.stored.same) c.canonical_abi.ensures,
+        ends_here (types_of core) c.types-types.result.now c.member_of-member.result.ty c.canonical_abi.result.now c.loop-k.end
+            (c.types-types.ensures ∙ same_types core c.loop-k.cx.core.now c.loop-k.invariant.stored.same) c.canonical_abi.ensures,
       );
     }
 
@@ -98,7 +100,9 @@ store_parts-loop-k-preserved g t0 c =
     let m = c.member_of-member.result in
     let L : GuestLaws _ = record { seen = g.G.Guest.seen; moves = g.G.Guest.moves; stays = g.met.G.Guest.stays; goes_on = g.met.G.Guest.goes_on } in
     let at = goal.at.store_parts-loop-k-preserved g t0 c in
-    let over = c.next_field32_size-start.ensures.end ∙ ends_here (types_of core) c.types-types.result.now m.ty c.canonical_abi.result.now c.loop-k.end (c.types-types.ensures ∙ same_types core c.loop-k.cx.core.now c.loop-k.invariant.stored.same) c.canonical_abi.ensures in
+    let over =
+    c.next_field32_size-start.ensures.end ∙ ends_here (types_of core) c.types-types.result.now m.ty c.canonical_abi.result.now c.loop-k.end
+    (c.types-types.ensures ∙ same_types core c.loop-k.cx.core.now c.loop-k.invariant.stored.same) c.canonical_abi.ensures in
     record {
       stored = go_on L _ _ _ _ _ _ _ _ _ _ _ _ c.loop-k.invariant.stored m (here g t0 at.After-member_of-member)
           c.store_value.new.cx.core.now c.loop-k.cx.options c.next_field32_size-start.result c.in-Ok.after c.next_field32_size-start.new.offset c.if-not-member.false c.loop-k.invariant.options
@@ -214,7 +218,8 @@ store_list-returns-in-Ok-clause-stores g t0 c =
     let l = listed (types_of core) a.list.now c.requires.known in
     let L : GuestLaws _ = record { seen = g.G.Guest.seen; moves = g.G.Guest.moves; stays = g.met.G.Guest.stays; goes_on = g.met.G.Guest.goes_on } in
     let pair : IsPair placed.memory c.put_pair.new.memory a.at b.pointer b.length = subst (λ (xs : List ℕ). IsPair xs c.put_pair.new.memory a.at b.pointer b.length) c.as_slice_mut.ensures.value c.put_pair.ensures in
-    list_told L a.cx.now.options core placed c.put_pair.new.memory a.at _ a.place b (omega (arith, c.requires.room, there.lowered.lowering.goes.no_shorter)) there.lowered.lowering.small there.narrow.0 there.narrow.1 pair _ l.part l.kind l.shape there
+    list_told L a.cx.now.options core placed c.put_pair.new.memory a.at _ a.place b (omega (arith, c.requires.room, there.lowered.lowering.goes.no_shorter)) there.lowered.lowering.small
+    there.narrow.0 there.narrow.1 pair _ l.part l.kind l.shape there
 
 -- ---- a value
 
@@ -239,7 +244,10 @@ store_value-store_parts-requires g t0 c =
     let (known, lies, has, count) = rw c.in-Ok-Members.field-0-is at (rw c.types.ensures at c.in-Ok-Members.ensures) in
     let ms = shapes_of t c.in-Ok-Members.members in
     let falls : 4 * deepest ms + 1 < 4 * depth (shape_of t c.args.ty) = lies_depth (shape_of t c.args.ty) ms lies in
-    λ κs sub. (search (rules, the_lemmas, falls), (sub.0, (sub.1, (known, (lies_built (shape_of t c.args.ty) ms lies c.requires.built, (count, (c.requires.small, omega (arith, c.requires.room, lies_room (shape_of t c.args.ty) ms lies))))))))
+    λ κs sub. (
+      search (rules, the_lemmas, falls),
+      (sub.0, (sub.1, (known, (lies_built (shape_of t c.args.ty) ms lies c.requires.built, (count, (c.requires.small, omega (arith, c.requires.room, lies_room (shape_of t c.args.ty) ms lies))))))),
+    )
 
 pub store_value-returns-in-Ok-Members-clause-stores : goal.store_value-returns-in-Ok-Members-clause-stores
 store_value-returns-in-Ok-Members-clause-stores g t0 c =
@@ -250,16 +258,21 @@ store_value-returns-in-Ok-Members-clause-stores g t0 c =
     let (known, lies, has, count) = rw c.in-Ok-Members.field-0-is at (rw c.types.ensures at c.in-Ok-Members.ensures) in
     let ms = c.in-Ok-Members.members in
     members_store L a.cx.now.options core c.store_parts.new.cx.core.now a.place (shape_of t a.ty) (shapes_of t ms) a.at (names_of ms) (values_of ms) a.value.now c.store_parts.result c.requires.room (omega arith) lies has count
-    (subst (λ (n : ℕ). PartsStoreTo L.seen L.moves a.cx.now.options core c.store_parts.new.cx.core.now a.place (shapes_of t ms) 0 a.at (names_of ms) (values_of ms) n c.store_parts.result) c.saturating_add.ensures c.store_parts.ensures.stores)
+    (subst (λ (n : ℕ). PartsStoreTo L.seen L.moves a.cx.now.options core c.store_parts.new.cx.core.now a.place (shapes_of t ms) 0 a.at (names_of ms) (values_of ms) n c.store_parts.result)
+    c.saturating_add.ensures c.store_parts.ensures.stores)
 
 pub store_value-overflow_add-inner : goal.store_value-overflow_add-inner
 store_value-overflow_add-inner g t0 c =
-    let wants = case_wants (types_of c.args.cx.now.core.now) (shape_of (types_of c.args.cx.now.core.now) c.args.ty) c.args.value.now c.in-Ok-Case.case c.args.at c.requires.built (rw c.in-Ok-Case.field-0-is at (rw c.types.ensures at c.in-Ok-Case.ensures)) in
+    let wants =
+    case_wants (types_of c.args.cx.now.core.now) (shape_of (types_of c.args.cx.now.core.now) c.args.ty) c.args.value.now c.in-Ok-Case.case c.args.at c.requires.built
+    (rw c.in-Ok-Case.field-0-is at (rw c.types.ensures at c.in-Ok-Case.ensures)) in
     omega (arith, wants.room, c.requires.room, c.requires.small, c.from.ensures)
 
 pub store_value-put_low_bytes-requires : goal.store_value-put_low_bytes-requires
 store_value-put_low_bytes-requires g t0 c =
-    let wants = case_wants (types_of c.args.cx.now.core.now) (shape_of (types_of c.args.cx.now.core.now) c.args.ty) c.args.value.now c.in-Ok-Case.case c.args.at c.requires.built (rw c.in-Ok-Case.field-0-is at (rw c.types.ensures at c.in-Ok-Case.ensures)) in
+    let wants =
+    case_wants (types_of c.args.cx.now.core.now) (shape_of (types_of c.args.cx.now.core.now) c.args.ty) c.args.value.now c.in-Ok-Case.case c.args.at c.requires.built
+    (rw c.in-Ok-Case.field-0-is at (rw c.types.ensures at c.in-Ok-Case.ensures)) in
     record { few = omega (arith, wants.few, c.byte_size-size.ensures); room = omega (arith, c.requires.room, wants.inside, c.byte_size-size.ensures, ap length c.as_slice_mut.ensures.value) }
 
 pub store_value-store_parts-requires-in-Ok-Case : goal.store_value-store_parts-requires-in-Ok-Case
@@ -277,8 +290,10 @@ store_value-returns-in-Ok-Case-clause-stores g t0 c =
     let x = c.in-Ok-Case.case in
     let L : GuestLaws _ = record { seen = g.G.Guest.seen; moves = g.G.Guest.moves; stays = g.met.G.Guest.stays; goes_on = g.met.G.Guest.goes_on } in
     let put : num (narrow c.put_low_bytes.new.memory) a.at c.byte_size-size.result ≡ x.tag % 256 ^ c.byte_size-size.result = c.put_low_bytes.ensures.stored ∙ ap (λ (n : ℕ). n % 256 ^ c.byte_size-size.result) c.from-in-Ok-Case.ensures in
-    case_stored L a.cx.now.options (types_of core) core c.store_parts-in-Ok-Case.new.cx.core.now c.put_low_bytes.new.memory c.as_slice_mut.result.now (shape_of (types_of core) a.ty) a.at c.byte_size-size.result (a.at + c.from.result) x a.value.now a.place
-    c.saturating_add-in-Ok-Case.result c.store_parts-in-Ok-Case.result c.requires.small c.requires.room (rw c.in-Ok-Case.field-0-is at (rw c.types.ensures at c.in-Ok-Case.ensures)) c.byte_size-size.ensures (ap (λ (o : ℕ). a.at + o) c.from.ensures)
+    case_stored L a.cx.now.options (types_of core) core c.store_parts-in-Ok-Case.new.cx.core.now c.put_low_bytes.new.memory c.as_slice_mut.result.now (shape_of (types_of core) a.ty) a.at
+    c.byte_size-size.result (a.at + c.from.result) x a.value.now a.place
+    c.saturating_add-in-Ok-Case.result c.store_parts-in-Ok-Case.result c.requires.small c.requires.room (rw c.in-Ok-Case.field-0-is at (rw c.types.ensures at c.in-Ok-Case.ensures))
+    c.byte_size-size.ensures (ap (λ (o : ℕ). a.at + o) c.from.ensures)
     c.as_slice_mut.ensures.value c.put_low_bytes.ensures.writes put c.saturating_add-in-Ok-Case.ensures c.store_parts-in-Ok-Case.ensures.stores
 
 pub store_value-returns-in-Err-clause-stores : goal.store_value-returns-in-Err-clause-stores

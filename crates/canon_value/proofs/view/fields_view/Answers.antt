@@ -15,7 +15,15 @@ shape : (c : After-len-count) → shape_of c.args.types.now (ty.Record c.args.i)
 shape c = record_shape_of c.args.types.now c.args.types.now c.args.i c.record.result.now.fields.items refl c.record.ensures.entry
 
 count : (c : After-len-count) → c.len-count.result ≡ member_count (product_members (shape_of c.args.types.now (ty.Record c.args.i)))
-count c = omega (arith, c.len-count.ensures, c.record.result.now.fields.ok.0, ap member_count (record_members c.args.types.now c.args.types.now c.args.i c.record.result.now.fields.items refl c.record.ensures.entry), count_fields c.args.types.now c.record.result.now.fields.items)
+count c =
+    omega (
+      arith,
+      c.len-count.ensures,
+      c.record.result.now.fields.ok.0,
+      ap member_count
+          (record_members c.args.types.now c.args.types.now c.args.i c.record.result.now.fields.items refl c.record.ensures.entry),
+      count_fields c.args.types.now c.record.result.now.fields.items,
+    )
 
 pub returns-in_default : goal.returns-in_default
 returns-in_default c = (refl, λ enc. own_failure mismatch _ _ c.args.value.now c.args.place (shape (goal.at.returns-in_default c).After-len-count) (omega arith) (inl (refl, λ names vs (fields, e, en, ev). c.in_default.not-Record fields e)))

@@ -12,7 +12,8 @@ shape : (c : After-fixed_length_list-list) → shape_of c.args.types.now (ty.Fix
 shape c = fixed_shape c.args.types.now c.args.types.now c.args.i c.fixed_length_list-list.result.now.size c.fixed_length_list-list.result.now.element refl c.fixed_length_list-list.ensures.entry
 
 pub returns-in_default : goal.returns-in_default
-returns-in_default c = (refl, λ enc. own_failure mismatch _ _ c.args.value.now c.args.place (shape (goal.at.returns-in_default c).After-fixed_length_list-list) (omega arith) (inl (refl, λ members e. c.in_default.not-FixedLengthList members e)))
+returns-in_default c =
+    (refl, λ enc. own_failure mismatch _ _ c.args.value.now c.args.place (shape (goal.at.returns-in_default c).After-fixed_length_list-list) (omega arith) (inl (refl, λ members e. c.in_default.not-FixedLengthList members e)))
 
 pub returns-then-len-from : goal.returns-then-len-from
 returns-then-len-from c =

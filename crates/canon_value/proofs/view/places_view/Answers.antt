@@ -16,7 +16,8 @@ count : (c : After-len-count) → c.len-count.result ≡ member_count (tuple_mem
 count c = omega (arith, c.len-count.ensures, c.tuple.result.now.types.ok.0, ap length c.tuple.ensures.types, count_members c.args.types.now (types_of c.args.types.now c.args.i))
 
 pub returns-in_default : goal.returns-in_default
-returns-in_default c = (refl, λ enc. own_failure mismatch _ _ c.args.value.now c.args.place (shape (goal.at.returns-in_default c).After-len-count) (omega arith) (inl (refl, λ names vs (members, e, en, ev). c.in_default.not-Tuple members e)))
+returns-in_default c =
+    (refl, λ enc. own_failure mismatch _ _ c.args.value.now c.args.place (shape (goal.at.returns-in_default c).After-len-count) (omega arith) (inl (refl, λ names vs (members, e, en, ev). c.in_default.not-Tuple members e)))
 
 pub returns-then-len-count : goal.returns-then-len-count
 returns-then-len-count c =
@@ -33,5 +34,7 @@ returns c =
     let values = c.in-Tuple.values in
     let vs = c.deref.result.now in
     let enough : length vs ≡ member_count (tuple_members c.args.types.now c.args.i) = omega (arith, c.if-len-count.false, c.len.ensures, values.ok.0, count here, ap length c.deref.ensures.value) in
-    let seen = product_seen of_places (tuple_members c.args.types.now c.args.i) (shape_of c.args.types.now (ty.Tuple c.args.i)) (no_names vs) vs c.args.value.now (shape here) (values, c.in-Tuple.is, ap no_names c.deref.ensures.value, c.deref.ensures.value) in
+    let seen =
+    product_seen of_places (tuple_members c.args.types.now c.args.i) (shape_of c.args.types.now (ty.Tuple c.args.i)) (no_names vs) vs c.args.value.now (shape here)
+    (values, c.in-Tuple.is, ap no_names c.deref.ensures.value, c.deref.ensures.value) in
     ((c.requires.known, enough), seen.0, seen.1, enough)

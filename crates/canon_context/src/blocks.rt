@@ -1,0 +1,41 @@
+//! Blocks that the guest is asked for.
+
+ghost use Rattle.std.specs.Prelude.{◌≡◌, ◌<◌, ◌^◌};
+ghost use Rattle.canon_memory.specs.Realloc.{call};
+ghost use Rattle.canon_model.specs.Laws.{IsAlignment};
+ghost use Rattle.canon_context.specs.Asks.{AsksFor};
+
+use crate::{Fault, LowerContext};
+use canon_memory::Guest;
+
+/// Asks the guest for a block of its own.
+pub fn ask<T, G: Guest>(
+    cx: &mut LowerContext<'_, T, G>,
+    align: u32,
+    size: u64,
+) -> Result<u64, Fault>
+    requires alignment { IsAlignment align }
+    requires sized { size < 2 ^ 32 }
+    ensures asked { AsksFor G.seen G.moves cx.old.core.now cx.new.core.now (call 0 0 align size) result }
+    ensures same_reference { cx.new.core.ghost_name ≡ cx.old.core.ghost_name }
+    ensures same_options { cx.new.options ≡ cx.old.options }
+{
+    cx.realloc(0, 0, align, size)
+}
+
+/// Asks the guest for a text's block in another size.
+pub fn ask_again<T, G: Guest>(
+    cx: &mut LowerContext<'_, T, G>,
+    old: u64,
+    old_size: u64,
+    size: u64,
+) -> Result<u64, Fault>
+    requires narrow { old < 2 ^ 32 }
+    requires old_sized { old_size < 2 ^ 32 }
+    requires sized { size < 2 ^ 32 }
+    ensures asked { AsksFor G.seen G.moves cx.old.core.now cx.new.core.now (call old old_size 2 size) result }
+    ensures same_reference { cx.new.core.ghost_name ≡ cx.old.core.ghost_name }
+    ensures same_options { cx.new.options ≡ cx.old.options }
+{
+    cx.realloc(old, old_size, 2, size)
+}

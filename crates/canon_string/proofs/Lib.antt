@@ -1,0 +1,4 @@
+pub mod TextForms
+pub mod TextBlocks
+pub mod TextPaths
+pub mod TextLoading
