@@ -1,8 +1,8 @@
 //! Images of which the bytes are known.
 
-use canon_image::{image, read_image};
+use canon_image::{ImageError, image, read_image};
 use canon_types::{ComponentTypes, InterfaceType, RecordField, TypeBuilder};
-use canon_value::Val;
+use canon_value::{Fault, Val};
 use std::alloc::Global;
 use std::process::Abort;
 
@@ -133,4 +133,22 @@ fn a_field_that_spells_nothing_is_told_by_its_place(rt: HostRuntime) {
     assert!(rt; read(&rt, alloc, &types, &ty, &[1, 2]).as_str() == "Err(Malformed(1))");
     assert!(rt; read(&rt, alloc, &types, &ty, &[0, 0xff]).as_str() == "Err(Trailing(1))");
     assert!(rt; read(&rt, alloc, &types, &ty, &[1, 1]).as_str() == "Ok(Option(Some(Bool(true))))");
+}
+
+#[test]
+fn errors_print_their_names(rt: HostRuntime) {
+    let alloc = rt.alloc();
+    for (error, want) in [
+        (ImageError::Resource, "Resource"),
+        (
+            ImageError::NotOfType(Fault::TypeMismatch(3)),
+            "TypeMismatch 3",
+        ),
+        (ImageError::Truncated(10), "Truncated 10"),
+        (ImageError::Malformed(1), "Malformed 1"),
+        (ImageError::Trailing(1), "Trailing 1"),
+    ] {
+        let text = format!(in alloc; "{error}").expect(&rt, "memory");
+        assert!(rt; text.as_str() == want);
+    }
 }
