@@ -12,3 +12,4 @@ pub mod PairsReading
 pub mod CaseReading
 pub mod WholeReading
 pub mod Exact
+pub mod Returning

@@ -66,7 +66,7 @@ scalar_value f64 v w t (b, e, f) (c, g, h) = let same : number (pos b) ≡ numbe
 scalar_value char v w t (b, e, f) (c, g, h) = let same : code_point b ≡ code_point c = sym f ∙ h in let d : b ≡ c = cc in e ∙ (ap val.Char d ∙ sym g)
 
 mutual
-  tree_one : (s : Shape) (v : Val) (t u : Tree) → HasTree s v t → HasTree s v u → Carried t u
+  pub tree_one : (s : Shape) (v : Val) (t u : Tree) → HasTree s v t → HasTree s v u → Carried t u
   tree_one (scalar k) v t u h g = subst (Carried t) (scalar_tree k v t u h g) (carried_itself t)
   tree_one (product k ms) v t u (vs, ts, p, et, have) (ws, us, q, eu, have2) =
       let have3 : HaveTrees ms vs us = subst (λ xs. HaveTrees ms xs us) (product_values k (member_names ms) (member_names ms) ws vs v q p) have2 in
