@@ -5,6 +5,7 @@ use Rattle.std.proofs.lemmas.List.{append-nil}
 use Rattle.canon_model.specs.Cost.{members_cost}
 use Rattle.canon_model.specs.Flat.{RepResults, max_params}
 use Rattle.canon_model.specs.Homes.{ParamsHome, PointsTo}
+use Rattle.canon_model.specs.Shape.{Members}
 use Rattle.canon_model.specs.Requests.{Call, Request, params_requests}
 use Rattle.canon_model.specs.Tree.{Trees}
 use Rattle.canon_model.proofs.Frames.{blocks_are_read}
@@ -13,7 +14,7 @@ use Rattle.canon_memory.specs.declared.event.Event.TheVariants as event
 use Rattle.canon_memory.specs.Guest.{Goes, Mark, Moment}
 use Rattle.canon_lowering.proofs.Lowerings.{lawful_second}
 use Rattle.canon_lowering.specs.Attempt.{AnyPointer, LowersArgs}
-use Rattle.canon_lowering.specs.Lowering.{Accepted, AllGood, AllLawful, Answer, LastIs, Meets, Trap, addresses_of, done, events_of, marks_of}
+use Rattle.canon_lowering.specs.Lowering.{Accepted, AllGood, AllLawful, Answer, Ending, LastIs, Meets, Trap, addresses_of, done, short, events_of, marks_of}
 use Rattle.canon_lowering.specs.Storing.{narrow}
 use Rattle.canon_value.specs.Fails.{AreSmall, BlamesMembers, Failure, IsTypeFailure, MemberFails, field_name, mismatch, payload_expected, payload_not_expected, unknown_case, unknown_flag, wrong_length}
 use Rattle.canon_value.proofs.Values.{failure_excludes}
@@ -23,7 +24,7 @@ use Rattle.canon_value.specs.Value.{HaveTrees}
 use Rattle.canon_context.specs.declared.fault.Fault.{Fault}
 use Rattle.canon_context.specs.declared.fault.Fault.TheVariants as fault
 use Rattle.canon_value.specs.declared.val.Val.{Val}
-use Rattle.canon_func.specs.Call.{Advances, AsksNothing, Cause, IsCall, IsStart, lowering_ending, words_within}
+use Rattle.canon_func.specs.Call.{Advances, AsksByTypes, Cause, IsCall, IsStart, lowering_ending, words_within}
 use Rattle.canon_func.specs.Runs.{Each, EndsIn, Grows, IsAnswer, IsNoAsk, IsNoPost, IsNoResume, IsNoStart, IsPrefixOfRun, IsTrap, OnReturn, OnStart}
 use Rattle.canon_func.specs.Steps.{CoreCall, IsRest, RestCause}
 use Rattle.canon_func.specs.Stores.{Callee}
@@ -58,12 +59,12 @@ MetAll requests answers = (last : ℕ) → Meets last requests answers None []
 pub record IsReady (callee : Callee) (params : List Val) (entry mid : Moment) (words : List ℕ) (answers : List Answer) : Type 0 where
   pub start : IsStart callee params entry.bytes answers words mid.bytes
   pub marks : mid.guest.marks ≡ entry.guest.marks ++ marks_of answers
-  pub quiet : AsksNothing callee.params answers None
+  pub quiet : AsksByTypes callee.params done answers None
   pub requested : (ts : Trees) → HaveTrees callee.params params ts → MetAll (params_requests false callee.encoding callee.params ts) answers
 
 module _ (callee : Callee) (params : List Val) (entry mid : Moment) (words : List ℕ) where
   pub ready : (low : LowersArgs false entry mid callee.encoding callee.params (HaveTrees callee.params params) words done) → length words ≡ words_within max_params callee.params
-      → AsksNothing callee.params low.answers low.trap → AreSmall callee.encoding callee.params params → IsReady callee params entry mid words low.answers
+      → AsksByTypes callee.params done low.answers low.trap → AreSmall callee.encoding callee.params params → IsReady callee params entry mid words low.answers
   ready low count quiet small = record {
     start = record {
       trees = low.shown.it;
@@ -78,7 +79,7 @@ module _ (callee : Callee) (params : List Val) (entry mid : Moment) (words : Lis
       frame = λ tidy i h out. low.lowering.tidy tt tidy i h (λ q. q) out;
     };
     marks = low.lowering.goes.marks;
-    quiet = subst (λ o. AsksNothing callee.params low.answers o) low.lowering.cause quiet;
+    quiet = subst (λ o. AsksByTypes callee.params done low.answers o) low.lowering.cause quiet;
     requested = λ ts have last. subst (λ o. Meets last (params_requests false callee.encoding callee.params ts) low.answers o []) low.lowering.cause
         (subst (λ rs. Meets last (params_requests false callee.encoding callee.params ts) low.answers low.trap rs) (low.requested ts have).all ((low.requested ts have).met last));
   }
@@ -147,6 +148,14 @@ accepted_after callee fuel mid after ys answers (error.Fault (fault.LengthMismat
 accepted_after callee fuel mid after ys answers (error.Fault (fault.StringTooLong k)) h good = absurd h
 accepted_after callee fuel mid after ys answers (error.Fault (fault.SizeOverflow k)) h good = absurd h
 
+not_short : done ≡ short → ⊥
+not_short e = cc
+
+-- once the parameters were lowered, what was asked for stays so however the call ends
+asks_started : (ms : Members) (e : Ending) (answers : List Answer) → AsksByTypes ms done answers None → AsksByTypes ms e answers None
+asks_started ms e [] h = (h.0, λ far. absurd (not_short (h.1 far).0))
+asks_started ms e (x ∷ answers) h = h
+
 -- a fact for each start, of whatever words
 each_start : (P : Type 0) → P → (events : List Event) → Each (OnStart (λ ws m. P)) events
 each_start P p [] = tt
@@ -197,7 +206,7 @@ module _ (Leaves : List ℕ → List ℕ → Type 0) (callee : Callee) (fuel : �
     accepted = accepted_after callee fuel mid after later answers e rest.cause (good_later (length mid.bytes) (length after.bytes) answers second.no_shorter low.start.good);
     marks = marks ∙ low.marks;
     requested = λ ts have. record { left = []; met = low.requested ts have; all = each_start ([] ≡ []) refl later };
-    quiet = low.quiet;
+    quiet = asks_started callee.params (lowering_ending (Err e)) answers low.quiet;
     start = each_then _ (events_of answers None) later (each_answer _ (λ c a. tt) (λ c n. tt) answers None) (on_start words mid.bytes _ low.start later rest.start);
     only_results = tt;
     posted = posted_after rest.posted;
@@ -246,7 +255,7 @@ record Refused (callee : Callee) (fuel : ℕ) (params : List Val) (entry after :
   valid : (ts : Trees) → HaveTrees callee.params params ts → AreSmall callee.encoding callee.params params → AllLawful answers → ¬ EndsIn IsTrap events → f ≡ fault.OutOfMemory
 
 module _ (Leaves : List ℕ → List ℕ → Type 0) (callee : Callee) (fuel : ℕ) (params : List Val) (entry after : Moment) where
-  made : (results : List Val) (f : Fault) (answers : List Answer) (trap : Option Trap) → Advances entry after → AsksNothing callee.params answers trap → after.guest.marks ≡ entry.guest.marks ++ marks_of answers
+  made : (results : List Val) (f : Fault) (answers : List Answer) (trap : Option Trap) → Advances entry after → AsksByTypes callee.params (fault_ending f) answers trap → after.guest.marks ≡ entry.guest.marks ++ marks_of answers
       → ((ts : Trees) → HaveTrees callee.params params ts → (left : List Request) × ((last : ℕ) → Meets last (params_requests false callee.encoding callee.params ts) answers trap left))
       → Refused callee fuel params entry after (events_of answers trap) answers trap f → IsCall Leaves callee fuel params entry after (Err (error.Fault f)) results (events_of answers trap)
   made results f answers trap advances quiet marks met refused = record {
@@ -274,7 +283,7 @@ module _ (Leaves : List ℕ → List ℕ → Type 0) (callee : Callee) (fuel : �
 
   -- memory ran out before a request
   pub short_call : after ≡ entry → CoreCall Leaves callee fuel params entry after (Err (error.Fault fault.OutOfMemory)) []
-  short_call e results = made results fault.OutOfMemory [] None (subst (λ m. Advances entry m) (sym e) (record { no_shorter = omega arith; traps_later = omega arith; shortages_later = omega arith })) (λ near none. (refl, refl)) (ap (λ m. m.guest.marks) e ∙ sym (append-nil entry.guest.marks))
+  short_call e results = made results fault.OutOfMemory [] None (subst (λ m. Advances entry m) (sym e) (record { no_shorter = omega arith; traps_later = omega arith; shortages_later = omega arith })) (λ near none. (refl, refl), λ far. (refl, λ none. tt)) (ap (λ m. m.guest.marks) e ∙ sym (append-nil entry.guest.marks))
       (λ ts have. (params_requests false callee.encoding callee.params ts, λ last. refl))
       (record { late = tt; accepted = tt; cause = tt; valid = λ ts have small lawful calm. refl })
 
@@ -365,6 +374,6 @@ module _ (Leaves : List ℕ → List ℕ → Type 0) (callee : Callee) (fuel : �
   refused_by fault.HostcallFuelExhausted words low blames = absurd blames
 
   pub refused_call : (f : Fault) (words : List ℕ) (low : LowersArgs false entry after callee.encoding callee.params (HaveTrees callee.params params) words (fault_ending f)) → BlamesMembers callee.encoding callee.params params f
-      → AsksNothing callee.params low.answers low.trap → CoreCall Leaves callee fuel params entry after (Err (error.Fault f)) (events_of low.answers low.trap)
+      → AsksByTypes callee.params (fault_ending f) low.answers low.trap → CoreCall Leaves callee fuel params entry after (Err (error.Fault f)) (events_of low.answers low.trap)
   refused_call f words low blames quiet results =
       made results f low.answers low.trap (goes_advance entry after _ _ low.lowering.goes) quiet low.lowering.goes.marks (λ ts have. ((low.requested ts have).rest, (low.requested ts have).met)) (refused_by f words low blames)

@@ -1,6 +1,6 @@
 -- What lowering the parameters did.
 use Rattle.std.proofs.Common.{Err, List, None, Option, Some, [], ap, arith, inr, length, refl, subst, sym, ℕ, ◌++◌, ◌∙◌, ◌∷◌, ◌≡◌, ◌≤◌, ◌⊎◌}
-use Rattle.std.proofs.lemmas.List.{append-nil, append_cancel_left}
+use Rattle.std.proofs.lemmas.List.{append-nil}
 use Rattle.std.specs.Prelude.{IsSome, drop, false, take}
 use Rattle.std.proofs.Math.Seq.{take-append_seam}
 use Rattle.std.proofs.lemmas.Bool.{false≢true}
@@ -11,8 +11,10 @@ use Rattle.canon_model.specs.Text.{Encoding}
 use Rattle.canon_memory.specs.declared.event.Event.{Event}
 use Rattle.canon_memory.specs.Guest.{GuestIn, Moment, Seen}
 use Rattle.canon_memory.specs.Journal.{Adds}
+use Rattle.canon_lowering.proofs.Lowerings.{none_answered}
 use Rattle.canon_lowering.specs.Attempt.{LowersArgs}
 use Rattle.canon_lowering.specs.Lowering.{Answer, CauseOf, Ending, Trap, done, events_of, marks_of, refused}
+use Rattle.canon_value.specs.Args.{LowersParams}
 use Rattle.canon_value.specs.Fails.{AreSmall, BlamesMembers}
 use Rattle.canon_context.specs.Lowers.{fault_ending}
 use Rattle.canon_context.specs.Moves.{Moves}
@@ -21,7 +23,7 @@ use Rattle.canon_value.specs.Value.{HaveTrees}
 use Rattle.canon_context.specs.declared.fault.Fault.{Fault}
 use Rattle.canon_context.specs.declared.fault.Fault.TheVariants as fault
 use Rattle.canon_value.specs.declared.val.Val.{Val}
-use Rattle.canon_func.specs.Call.{Adding, AsksNothing, OnAnswered, words_within}
+use Rattle.canon_func.specs.Call.{Adding, AsksByTypes, AsksNothing, OnAnswered, words_within}
 use Rattle.canon_func.specs.declared.error.Error.TheVariants as error
 
 -- a fact of the new events of a told journal
@@ -58,41 +60,32 @@ refused_moves V seen moves g h (fault.InvalidChar at) m l es p q = m l es p q
 refused_moves V seen moves g h (fault.BadDiscriminant at d) m l es p q = m l es p q
 refused_moves V seen moves g h fault.HostcallFuelExhausted m l es p q = m l es p q
 
--- no answer was marked
-no_marks : (xs : List Answer) → [] ≡ marks_of xs → xs ≡ []
-no_marks [] e = refl
-no_marks (x ∷ xs) e = absurd (omega (arith, ap length e))
-
--- a guest that stayed as it was answered nothing
-none_answered : (a b : Moment) (answers : List Answer) → b ≡ a → b.guest.marks ≡ a.guest.marks ++ marks_of answers → answers ≡ []
-none_answered a b answers same e =
-    no_marks answers (append_cancel_left a.guest.marks [] (marks_of answers) (append-nil a.guest.marks ∙ (ap (λ (m : Moment). m.guest.marks) (sym same) ∙ e)))
-
 module _ (a b : Moment) (enc : Encoding) (ms ns : Members) (params : List Val) (is : ms ≡ ns) where
   -- where nothing was asked for
   asks_nothing : (e : Ending) (answers : List Answer) (trap : Option Trap) → b.guest.marks ≡ a.guest.marks ++ marks_of answers → (have_block ms ≡ false → members_flat ms ≤ max_params → trap ≡ None)
       → (members_flat ms ≤ max_params → have_block ms ≡ false → b ≡ a) → AsksNothing ns answers trap
   asks_nothing e answers trap marks none same =
-      subst (λ ks. AsksNothing ks answers trap) is (λ near quiet. (none_answered a b answers (same near quiet) marks, none quiet near))
+      subst (λ ks. AsksNothing ks answers trap) is (λ near quiet. (none_answered a.guest.marks answers (ap (λ (m : Moment). m.guest.marks) (sym (same near quiet)) ∙ marks), none quiet near))
 
   pub lowered_done : (words dst : List ℕ) (M : List Event → Type 0) → words ≡ dst → length words ≡ words_within max_params ms → (members_flat ms ≤ max_params → have_block ms ≡ false → b ≡ a)
-      → LowersArgs false a b enc ms (HaveTrees ms params) dst done → AreSmall enc ms params → ((l es : List Event) → a.guest.journal ≡ Some l → b.guest.journal ≡ Some (l ++ es) → M es)
-      → Adding a b M (λ es. (low : LowersArgs false a b enc ns (HaveTrees ns params) words done) × (es ≡ events_of low.answers low.trap) × (length words ≡ words_within max_params ns) × AsksNothing ns low.answers low.trap × AreSmall enc ns params)
+      → LowersParams a b enc ms (HaveTrees ms params) dst done → AreSmall enc ms params → ((l es : List Event) → a.guest.journal ≡ Some l → b.guest.journal ≡ Some (l ++ es) → M es)
+      → Adding a b M (λ es. (low : LowersArgs false a b enc ns (HaveTrees ns params) words done) × (es ≡ events_of low.answers low.trap) × (length words ≡ words_within max_params ns) × AsksByTypes ns done low.answers low.trap × AreSmall enc ns params)
   lowered_done words dst M e count same low small new =
-      let mine : LowersArgs false a b enc ns (HaveTrees ns params) words done =
-      subst (λ ks. LowersArgs false a b enc ks (HaveTrees ks params) words done) is (subst (λ ws. LowersArgs false a b enc ms (HaveTrees ms params) ws done) (sym e) low) in
+      let both : LowersParams a b enc ns (HaveTrees ns params) words done = subst (λ ks. LowersParams a b enc ks (HaveTrees ks params) words done) is (subst (λ ws. LowersParams a b enc ms (HaveTrees ms params) ws done) (sym e) low) in
+      let mine = both.lowered in
       record {
         events = events_of mine.answers mine.trap;
         added = mine.lowering.goes.events;
         moves = told a.guest.journal b.guest.journal (events_of mine.answers mine.trap) M mine.lowering.goes.events new;
-        so = (mine, refl, count ∙ ap (λ ks. words_within max_params ks) is, asks_nothing done mine.answers mine.trap mine.lowering.goes.marks (λ quiet near. mine.lowering.cause) same, subst (λ ks. AreSmall enc ks params) is small);
+        so = (mine, refl, count ∙ ap (λ ks. words_within max_params ks) is, (asks_nothing done mine.answers mine.trap mine.lowering.goes.marks (λ quiet near. mine.lowering.cause) same, both.asks), subst (λ ks. AreSmall enc ks params) is small);
       }
 
-  pub lowered_refused : (f : Fault) (dst : List ℕ) (M : List Event → Type 0) → LowersArgs false a b enc ms (HaveTrees ms params) dst (fault_ending f) → BlamesMembers enc ms params f
+  pub lowered_refused : (f : Fault) (dst : List ℕ) (M : List Event → Type 0) → LowersParams a b enc ms (HaveTrees ms params) dst (fault_ending f) → BlamesMembers enc ms params f
       → (members_flat ms ≤ max_params → have_block ms ≡ false → (b ≡ a) × (fault_ending f ≡ refused)) → ((l es : List Event) → a.guest.journal ≡ Some l → b.guest.journal ≡ Some (l ++ es) → M es)
-      → Adding a b M (λ es. ((f ≡ fault.OutOfMemory) × (b ≡ a) × (es ≡ [])) ⊎ ((words : List ℕ) × (low : LowersArgs false a b enc ns (HaveTrees ns params) words (fault_ending f)) × BlamesMembers enc ns params f × (es ≡ events_of low.answers low.trap) × AsksNothing ns low.answers low.trap))
+      → Adding a b M (λ es. ((f ≡ fault.OutOfMemory) × (b ≡ a) × (es ≡ [])) ⊎ ((words : List ℕ) × (low : LowersArgs false a b enc ns (HaveTrees ns params) words (fault_ending f)) × BlamesMembers enc ns params f × (es ≡ events_of low.answers low.trap) × AsksByTypes ns (fault_ending f) low.answers low.trap))
   lowered_refused f dst M low blames same new =
-      let mine : LowersArgs false a b enc ns (HaveTrees ns params) dst (fault_ending f) = subst (λ ks. LowersArgs false a b enc ks (HaveTrees ks params) dst (fault_ending f)) is low in
+      let both : LowersParams a b enc ns (HaveTrees ns params) dst (fault_ending f) = subst (λ ks. LowersParams a b enc ks (HaveTrees ks params) dst (fault_ending f)) is low in
+      let mine = both.lowered in
       record {
         events = events_of mine.answers mine.trap;
         added = mine.lowering.goes.events;
@@ -102,7 +95,7 @@ module _ (a b : Moment) (enc : Encoding) (ms ns : Members) (params : List Val) (
           mine,
           subst (λ ks. BlamesMembers enc ks params f) is blames,
           refl,
-          asks_nothing (fault_ending f) mine.answers mine.trap mine.lowering.goes.marks
-              (λ quiet near. subst (λ end. CauseOf a b mine.answers mine.trap end) (same near quiet).1 mine.lowering.cause) (λ near quiet. (same near quiet).0),
+          (asks_nothing (fault_ending f) mine.answers mine.trap mine.lowering.goes.marks
+              (λ quiet near. subst (λ end. CauseOf a b mine.answers mine.trap end) (same near quiet).1 mine.lowering.cause) (λ near quiet. (same near quiet).0), both.asks),
         );
       }

@@ -18,6 +18,7 @@ use Rattle.canon_lowering.specs.Lowering.{Accepted, AllGood, AllLawful, AllTidy,
 use Rattle.canon_lowering.specs.Attempt.{AnyPointer}
 use Rattle.canon_lowering.specs.Storing.{narrow}
 use Rattle.canon_types.specs.Refusal.{first_error}
+use Rattle.canon_value.specs.Args.{AsksTuple}
 use Rattle.canon_value.specs.Fails.{AreSmall, BlamesMembers}
 use Rattle.canon_value.specs.Lifts.{AreResults}
 use Rattle.canon_context.specs.Lowers.{fault_ending}
@@ -87,6 +88,10 @@ pub record MetFirst (requests : List Request) (answers : List Answer) (trap : Op
 -- parameters in a row that reach no text and no list ask for nothing, whatever their values
 abbrev pub AsksNothing : Members → List Answer → Option Trap → Type 0
 AsksNothing ms answers trap = members_flat ms ≤ max_params → have_block ms ≡ false → (answers ≡ []) × (trap ≡ None)
+
+-- what parameters ask for by their types alone, where lowering them ended so: of more words, the block of their tuple first
+abbrev pub AsksByTypes : Members → Ending → List Answer → Option Trap → Type 0
+AsksByTypes ms ending answers trap = AsksNothing ms answers trap × AsksTuple ms ending answers trap
 
 -- ---- causes
 
@@ -174,7 +179,7 @@ pub record IsCall (Leaves : List ℕ → List ℕ → Type 0) (callee : Callee) 
   pub accepted : Accepted (lowering_ending answer) (length after.bytes) answers
   pub marks : after.guest.marks ≡ before.guest.marks ++ marks_of answers
   pub requested : (ts : Trees) → HaveTrees callee.params params ts → MetFirst (params_requests false callee.encoding callee.params ts) answers trap later
-  pub quiet : AsksNothing callee.params answers trap
+  pub quiet : AsksByTypes callee.params (lowering_ending answer) answers trap
   pub start : Each (OnStart (IsStart callee params before.bytes answers)) events
   -- The results are the only values that the returned words and memory represent, and cost no more than the fuel; that
   -- memory is left, as far as a post-return leaves it.

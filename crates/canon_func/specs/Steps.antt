@@ -22,7 +22,7 @@ use Rattle.canon_context.specs.Lowers.{fault_ending}
 use Rattle.canon_value.specs.Value.{HaveTrees}
 use Rattle.canon_context.specs.declared.fault.Fault.TheVariants as fault
 use Rattle.canon_value.specs.declared.val.Val.{Val}
-use Rattle.canon_func.specs.Call.{AsksNothing, HasFault, IsCall, IsPastFuel, Left, refused_by, result_words, words_within}
+use Rattle.canon_func.specs.Call.{AsksByTypes, HasFault, IsCall, IsPastFuel, Left, refused_by, result_words, words_within}
 use Rattle.canon_func.specs.Runs.{AsksImport, Each, EndsIn, Grows, IsNoAsk, IsNoPost, IsNoRequest, IsNoResume, IsOneRun, IsPrefixOfRun, IsReturn, IsTrap, OnReturn, OnStart, posts}
 use Rattle.canon_func.specs.Stores.{Callee}
 use Rattle.canon_func.specs.declared.error.Error.{Error}
@@ -43,12 +43,12 @@ pub record Proceeds (before after : Moment) (Moves IsSo : List Event → Type 0)
 abbrev pub LoweredArgs : Callee → List Val → Moment → Moment → Result (Vec ℕ Global) Error → List Event → Type 0
 LoweredArgs callee params before after (Ok words) events =
     (low : LowersArgs false before after callee.encoding callee.params (HaveTrees callee.params params) words.items done) × (events ≡ events_of low.answers low.trap)
-    × (length words.items ≡ words_within max_params callee.params) × AsksNothing callee.params low.answers low.trap
+    × (length words.items ≡ words_within max_params callee.params) × AsksByTypes callee.params done low.answers low.trap
     × AreSmall callee.encoding callee.params params
 LoweredArgs callee params before after (Err (error.Fault f)) events =
     ((f ≡ fault.OutOfMemory) × (after ≡ before) × (events ≡ []))
     ⊎ ((words : List ℕ) × (low : LowersArgs false before after callee.encoding callee.params (HaveTrees callee.params params) words (fault_ending f))
-    × BlamesMembers callee.encoding callee.params params f × (events ≡ events_of low.answers low.trap) × AsksNothing callee.params low.answers low.trap)
+    × BlamesMembers callee.encoding callee.params params f × (events ≡ events_of low.answers low.trap) × AsksByTypes callee.params (fault_ending f) low.answers low.trap)
 LoweredArgs callee params before after (Err _) events = ⊥
 
 -- ---- the start

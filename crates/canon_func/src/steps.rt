@@ -9,7 +9,7 @@ ghost use Rattle.canon_types.specs.Table.{HasFunc, HasTuple, tuple_members};
 ghost use Rattle.canon_plan.specs.Built.{AreBuilt};
 ghost use Rattle.canon_context.specs.Component.{HasOptions, IsInside};
 ghost use Rattle.canon_context.specs.Core.{encoding_by, guest_of, moment_of, types_of};
-ghost use Rattle.canon_lowering.specs.Attempt.{LowersArgs};
+ghost use Rattle.canon_value.specs.Args.{LowersParams};
 ghost use Rattle.canon_value.specs.Fails.{AreSmall, BlamesMembers};
 ghost use Rattle.canon_context.specs.Lowers.{ending_of};
 ghost use Rattle.canon_context.specs.Moves.{Moves};
@@ -125,7 +125,7 @@ fn lower_into<T, G: Guest>(
     requires built { AreBuilt (tuple_members (types_of core.old) tuple) }
     requires params { length params.now ≡ member_count (tuple_members (types_of core.old) tuple) }
     requires words { length words.old ≡ words_within max_params (tuple_members (types_of core.old) tuple) }
-    ensures lowered { LowersArgs false (moment_of G.seen core.old) (moment_of G.seen core.new) (encoding_by core.old export.now.options)
+    ensures lowered { LowersParams (moment_of G.seen core.old) (moment_of G.seen core.new) (encoding_by core.old export.now.options)
         (tuple_members (types_of core.old) tuple) (HaveTrees (tuple_members (types_of core.old) tuple) params.now) words.new (ending_of result) }
     ensures cause { IfErr result (BlamesMembers (encoding_by core.old export.now.options) (tuple_members (types_of core.old) tuple) params.now) }
     ensures small { OnOk result (AreSmall (encoding_by core.old export.now.options) (tuple_members (types_of core.old) tuple) params.now) }

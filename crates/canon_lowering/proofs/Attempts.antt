@@ -9,9 +9,9 @@ use Rattle.canon_model.specs.Requests.{Call, Request, call_of}
 use Rattle.canon_memory.specs.Guest.{Moment, Seen, moment}
 use Rattle.canon_memory.specs.Realloc.{new_block, block}
 use Rattle.canon_lowering.specs.Steps.{Apart, Writes}
-use Rattle.canon_lowering.specs.Lowering.{AllLawful, Answer, Ending, Granted, Lowering, Reallocated, Requested, WhenDone, addresses_of, done, misaligned, out_of_bounds, refused, short, trapped}
+use Rattle.canon_lowering.specs.Lowering.{AllLawful, Answer, AtMostOne, BeginsWith, Ending, Granted, Lowering, Reallocated, Requested, WhenDone, addresses_of, done, misaligned, out_of_bounds, refused, short, trapped}
 use Rattle.canon_lowering.specs.Attempt.{Aim, AnyPointer, AreHeld, Attempt, Shown}
-use Rattle.canon_lowering.proofs.Lowerings.{NotDone, addresses_append, answer, lowering_anew, lowering_filled, lowering_write, requested_cons, requested_stopped, stopped, in_first, in_second, lawful_first, lawful_second, lowering_none, lowering_refused, lowering_then, lowering_within, requested_later, requested_none, requested_part, requested_then, tidy_first, tidy_second, when, when_not}
+use Rattle.canon_lowering.proofs.Lowerings.{NotDone, addresses_append, answer, lowering_anew, lowering_filled, lowering_write, requested_cons, requested_stopped, stopped, stopped_asked, in_first, in_second, lawful_first, lawful_second, lowering_none, lowering_refused, lowering_then, lowering_within, requested_later, requested_none, requested_part, requested_then, tidy_first, tidy_second, when, when_not}
 
 -- blocks of one memory whose bytes another memory keeps, among these blocks
 pub record Keeps (blocks more : List Block) (xs ys : List ℕ) : Type 0 where
@@ -196,6 +196,12 @@ attempt_other wide a b places aim other e not same h = record {
   shown = when_not e _ not;
 }
 
+-- with the same answers
+pub other_asked : {X : Type 0} (wide : Bool) (a b : Moment) (places : List Block) (aim other : Aim X) (e : Ending) (not : NotDone e) (same : (x : X) → other.Is x → aim.Is x × (other.asks x ≡ aim.asks x))
+    (h : Attempt wide a b places aim e) → let r = attempt_other wide a b places aim other e not same h in (r.answers ≡ h.answers) × (r.trap ≡ h.trap)
+unfolding attempt_other
+other_asked wide a b places aim other e not same h = (refl, refl)
+
 -- ---- a block that is asked for, and what is put into it
 
 -- what stands in the block at p, as another says it that points to it
@@ -241,6 +247,16 @@ module _ {X Y : Type 0} (wide : Bool) (a b d : Moment) (c : Call) (p : ℕ) (pla
         }) r.shown;
       }
 
+  -- the block is asked for first
+  pub block_first : (r : Attempt wide b d places inner e) → let h = attempt_block r in BeginsWith c e h.answers h.trap
+  unfolding attempt_block
+  block_first r = refl
+
+  -- and alone, where filling it asks for nothing
+  pub block_only : (r : Attempt wide b d places inner e) → r.answers ≡ [] → r.trap ≡ None → let h = attempt_block r in AtMostOne h.answers h.trap
+  unfolding attempt_block
+  block_only r none calm = (none, calm)
+
 -- the block isn't given
 pub attempt_ungiven : {Y : Type 0} (wide : Bool) (a b : Moment) (c : Call) (p : ℕ) (places : List Block) (whole : Aim Y) (e : Ending) → NotDone e → length b.bytes ≤ 2 ^ 32
     → ((y : Y) → whole.Is y → (r : Request) × (rs : List Request) × (whole.asks y ≡ r ∷ rs) × ((last : ℕ) → c ≡ call_of last r)) → Reallocated a b c e p → Attempt wide a b places whole e
@@ -254,6 +270,13 @@ attempt_ungiven wide a b c p places whole e not small asks h =
       requested = λ y is. let (q, rs, same, call) = asks y is in subst (λ us. Requested us e r.answers r.trap) (sym same) (requested_stopped a b c e q rs not call r);
       shown = when_not e _ not;
     }
+
+-- it alone is asked for
+pub ungiven_asked : {Y : Type 0} (wide : Bool) (a b : Moment) (c : Call) (p : ℕ) (places : List Block) (whole : Aim Y) (e : Ending) (not : NotDone e) (small : length b.bytes ≤ 2 ^ 32)
+    (asks : (y : Y) → whole.Is y → (r : Request) × (rs : List Request) × (whole.asks y ≡ r ∷ rs) × ((last : ℕ) → c ≡ call_of last r)) (h : Reallocated a b c e p)
+    → let r = attempt_ungiven wide a b c p places whole e not small asks h in BeginsWith c e r.answers r.trap × AtMostOne r.answers r.trap
+unfolding attempt_ungiven
+ungiven_asked wide a b c p places whole e not small asks h = stopped_asked a b c e p not small h
 
 -- ---- bytes of a place
 
