@@ -14,6 +14,8 @@ use Rattle.canon_memory.specs.Journal.{Adds}
 use Rattle.canon_lowering.proofs.Lowerings.{none_answered}
 use Rattle.canon_lowering.specs.Attempt.{LowersArgs}
 use Rattle.canon_lowering.specs.Lowering.{Answer, CauseOf, Ending, Trap, done, events_of, marks_of, refused}
+use Rattle.canon_types.specs.Table.{tuple_members}
+use Rattle.canon_context.specs.Core.{Parts, encoding_by, moment_of, types_of}
 use Rattle.canon_value.specs.Args.{LowersParams}
 use Rattle.canon_value.specs.Fails.{AreSmall, BlamesMembers}
 use Rattle.canon_context.specs.Lowers.{fault_ending}
@@ -35,6 +37,12 @@ told (Some l) after events P added so there = so l events refl added
 -- words written over as many
 pub written : (words dst : List ℕ) (n : ℕ) → n ≡ length dst → take n (dst ++ drop (length dst) words) ≡ dst
 written words dst n e = ap (λ k. take k (dst ++ drop (length dst) words)) e ∙ take-append_seam dst (drop (length dst) words)
+
+-- what was lowered in a context, said of the core that it was made from
+pub lowers_in : {T G : Type 0} (seen : G → Seen) (core made : Parts T G) (b after : Moment) (options own tuple : ℕ) (params : List Val) (words : List ℕ) (ending : Ending) → made ≡ core → own ≡ options → after ≡ b
+    → LowersParams (moment_of seen made) after (encoding_by made own) (tuple_members (types_of made) tuple) (HaveTrees (tuple_members (types_of made) tuple) params) words ending
+    → LowersParams (moment_of seen core) b (encoding_by core options) (tuple_members (types_of core) tuple) (HaveTrees (tuple_members (types_of core) tuple) params) words ending
+lowers_in seen core made b after options own tuple params words ending same by ends h = rw (sym same, sym by, sym ends) h
 
 -- what a refused lowering tells of the guest's moves
 pub refused_moves : {G : Type 0} (V : Type 0) (seen : G → Seen) (moves : GuestIn G → List Event → GuestIn G → Type 0) (g h : GuestIn G) (f : Fault) → Moves seen moves g h (fault_ending f)
