@@ -1,9 +1,10 @@
 -- What was imaged comes back: a value has each tree that differs from its own in how many bytes spell a text.
-use Rattle.std.proofs.Common.{Bool, List, [], subst, sym, suc, zero, ℕ, ◌∙◌, ◌∷◌, ◌≡◌, refl}
+use Rattle.std.proofs.Common.{Bool, List, [], false, refl, subst, suc, sym, zero, ℕ, ◌∙◌, ◌∷◌, ◌≡◌}
 use Rattle.canon_model.proofs.Images.{images_determine}
 use Rattle.canon_model.specs.Same.{Carried, CarriedTrees}
 use Rattle.canon_model.specs.Shape.{Cases, Members, Scalar, Shape, bare, bool, borrow, char, f32, f64, fixed, flags, list, member, no_cases, no_members, of_items, of_pairs, own, payload, product, s16, s32, s64, s8, scalar, string, u16, u32, u64, u8, variant}
-use Rattle.canon_model.specs.Tree.{Tree, Trees, case_tree, no_trees, tree}
+use Rattle.canon_model.specs.Tree.{Tree, Trees, no_trees, tree}
+use Rattle.canon_lowering.specs.Copies.{case_tree}
 use Rattle.canon_value.proofs.LiftedValues.{unlifted}
 use Rattle.canon_value.proofs.OneValue.{tree_one, value_one}
 use Rattle.canon_value.specs.Value.{CaseHas, EachHas, HasScalar, HasTreeAs, HaveTreesAs, PairHas}
