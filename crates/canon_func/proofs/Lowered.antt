@@ -1,6 +1,5 @@
 -- What lowering the parameters did.
-use Rattle.std.proofs.Common.{Err, List, None, Option, Some, [], ap, arith, inr, length, refl, subst, sym, ℕ, ◌++◌, ◌∙◌, ◌∷◌, ◌≡◌, ◌≤◌, ◌⊎◌}
-use Rattle.std.proofs.lemmas.List.{append-nil}
+use Rattle.std.proofs.Common.{Err, List, None, Option, Some, [], ap, inr, length, refl, subst, sym, ℕ, ◌++◌, ◌∙◌, ◌≡◌, ◌≤◌, ◌⊎◌}
 use Rattle.std.specs.Prelude.{IsSome, drop, false, take}
 use Rattle.std.proofs.Math.Seq.{take-append_seam}
 use Rattle.std.proofs.lemmas.Bool.{false≢true}
@@ -103,7 +102,10 @@ module _ (a b : Moment) (enc : Encoding) (ms ns : Members) (params : List Val) (
           mine,
           subst (λ ks. BlamesMembers enc ks params f) is blames,
           refl,
-          (asks_nothing (fault_ending f) mine.answers mine.trap mine.lowering.goes.marks
-              (λ quiet near. subst (λ end. CauseOf a b mine.answers mine.trap end) (same near quiet).1 mine.lowering.cause) (λ near quiet. (same near quiet).0), both.asks),
+          (
+            asks_nothing (fault_ending f) mine.answers mine.trap mine.lowering.goes.marks
+                (λ quiet near. subst (λ end. CauseOf a b mine.answers mine.trap end) (same near quiet).1 mine.lowering.cause) (λ near quiet. (same near quiet).0),
+            both.asks,
+          ),
         );
       }
