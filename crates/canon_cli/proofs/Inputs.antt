@@ -2,8 +2,7 @@
 use Rattle.std.proofs.Common.{◌≡◌, ◌≤◌, ◌<◌, ℕ, List, ◌++◌, length, Option, None, Some, ap, sym, subst, ◌∙◌, arith, inl, inr, append-nil, length-append, ◌⊎◌}
 use Rattle.std.specs.Io.KnownBytes.{Consumes}
 use Rattle.serde_json.specs.Data.{Data}
-use Rattle.canon_cli.specs.Program.{AnswersInput, IsInput, IsJson, IsNoJson, IsStatus, IsTask, OnTold, ReadsNoJson, ReadsNoTask, ReadsTask, ReadsTooMuch, Task, max_input, task_of}
-use Rattle.canon_cli.specs.declared.command.Command.{Command}
+use Rattle.canon_cli.specs.Program.{AnswersInput, IsInput, IsJson, IsNoJson, IsStatus, IsTask, OnTold, ReadsNoJson, ReadsNoTask, ReadsTask, ReadsTooMuch, max_input}
 use Rattle.canon_cli.specs.declared.status.Status.{Status}
 
 pub status_is : (s : Status) (n : ℕ) → s.0 ≡ n → s ≡ record { 0 = n }
@@ -23,20 +22,20 @@ front_is input bytes (Some rest) h = omega (arith, ap length h, length-append by
 one_json : (bytes : List ℕ) (t u : Data) → IsJson bytes t → IsJson bytes u → t ≡ u
 one_json bytes t u h g = let e : Some t ≡ Some u = sym h.value ∙ g.value in cc
 
-differ : (asked : Command) (t u : Data) (task : Task) → t ≡ u → task_of asked t ≡ None → task_of asked u ≡ Some task → ⊥
-differ asked t u task e lacks is = let h : task_of asked t ≡ task_of asked u = ap (task_of asked) e in cc
+differ : {T : Type 0} (asks : Data → Option T) (t u : Data) (task : T) → t ≡ u → asks t ≡ None → asks u ≡ Some task → ⊥
+differ asks t u task e lacks is = let h : asks t ≡ asks u = ap asks e in cc
 
-module _ (asked : Command) (input : List ℕ) (left : Option (List ℕ)) where
-  task_short : (task : Task) → ReadsTask asked (Some input) left task → length input ≤ max_input
+module _ {T : Type 0} (asks : Data → Option T) (input : List ℕ) (left : Option (List ℕ)) where
+  task_short : (task : T) → ReadsTask asks (Some input) left task → length input ≤ max_input
   task_short task h = subst (λ (xs : List ℕ). length xs ≤ max_input) (whole_is input h.input left h.whole) h.whole.short
 
-  task_json : (task : Task) → (h : ReadsTask asked (Some input) left task) → IsJson input h.tree
+  task_json : (task : T) → (h : ReadsTask asks (Some input) left task) → IsJson input h.tree
   task_json task h = subst (λ (xs : List ℕ). IsJson xs h.tree) (whole_is input h.input left h.whole) h.json
 
-  none_short : ReadsNoTask asked (Some input) left → length input ≤ max_input
+  none_short : ReadsNoTask asks (Some input) left → length input ≤ max_input
   none_short h = subst (λ (xs : List ℕ). length xs ≤ max_input) (whole_is input h.input left h.whole) h.whole.short
 
-  none_json : (h : ReadsNoTask asked (Some input) left) → IsJson input h.tree
+  none_json : (h : ReadsNoTask asks (Some input) left) → IsJson input h.tree
   none_json h = subst (λ (xs : List ℕ). IsJson xs h.tree) (whole_is input h.input left h.whole) h.json
 
   bad_short : ReadsNoJson (Some input) left → length input ≤ max_input
@@ -49,8 +48,8 @@ module _ (asked : Command) (input : List ℕ) (left : Option (List ℕ)) where
   too_much h = omega (arith, h.long, front_is input h.input left h.taken)
 
   module _ (s : Status) (status : IsStatus s) (used : ¬ (s.0 ≡ 2)) (no_fault : ¬ (s.0 ≡ 3)) (long : s.0 ≡ 6 → ReadsTooMuch (Some input) left)
-      (bad : s.0 ≡ 7 → ReadsNoJson (Some input) left) (none : s.0 ≡ 8 → ReadsNoTask asked (Some input) left)
-      (done : s.0 ≡ 0 → (task : Task) × ReadsTask asked (Some input) left task) (cut : s.0 ≡ 4 → (task : Task) × ReadsTask asked (Some input) left task) where
+      (bad : s.0 ≡ 7 → ReadsNoJson (Some input) left) (none : s.0 ≡ 8 → ReadsNoTask asks (Some input) left)
+      (done : s.0 ≡ 0 → (task : T) × ReadsTask asks (Some input) left task) (cut : s.0 ≡ 4 → (task : T) × ReadsTask asks (Some input) left task) where
     -- by its number
     by_number : (P : Type 0) → (s.0 ≡ 6 → P) → (s.0 ≡ 7 → P) → (s.0 ≡ 8 → P) → (s.0 ≡ 0 → P) → (s.0 ≡ 4 → P) → (s.0 ≡ 5 → P) → P
     by_number P a b c d e f = elim status as (λ _. P) [
@@ -58,31 +57,32 @@ module _ (asked : Command) (input : List ℕ) (left : Option (List ℕ)) where
       | inr r ↦ elim r as (λ _. P) [ inl x ↦ d x | inr y ↦ elim y as (λ _. P) [ inl x ↦ e x | inr x ↦ f x ] ]
     ]
 
-    answers_told : AnswersInput asked input s
+    answers_told : AnswersInput asks input s
     answers_told = record {
       too_long = λ far. by_number ((s.0 ≡ 6) ⊎ (s.0 ≡ 5)) (λ e. inl e) (λ e. absurd (omega (arith, far, bad_short (bad e)))) (λ e. absurd (omega (arith, far, none_short (none e))))
           (λ e. let d = done e in absurd (omega (arith, far, task_short d.0 d.1))) (λ e. let d = cut e in absurd (omega (arith, far, task_short d.0 d.1))) (λ e. inr e);
       not_json = λ near lacks. by_number ((s.0 ≡ 7) ⊎ (s.0 ≡ 5)) (λ e. absurd (omega (arith, near, too_much (long e)))) (λ e. inl e) (λ e. let n = none e in absurd (lacks n.tree (none_json n)))
           (λ e. let d = done e in absurd (lacks d.1.tree (task_json d.0 d.1))) (λ e. let d = cut e in absurd (lacks d.1.tree (task_json d.0 d.1))) (λ e. inr e);
       bad_script = λ near tree json lacks. by_number ((s.0 ≡ 8) ⊎ (s.0 ≡ 5)) (λ e. absurd (omega (arith, near, too_much (long e)))) (λ e. absurd (bad_json (bad e) tree json)) (λ e. inl e)
-          (λ e. let d = done e in absurd (differ asked tree d.1.tree d.0 (one_json input tree d.1.tree json (task_json d.0 d.1)) lacks d.1.is))
-          (λ e. let d = cut e in absurd (differ asked tree d.1.tree d.0 (one_json input tree d.1.tree json (task_json d.0 d.1)) lacks d.1.is)) (λ e. inr e);
+          (λ e. let d = done e in absurd (differ asks tree d.1.tree d.0 (one_json input tree d.1.tree json (task_json d.0 d.1)) lacks d.1.is))
+          (λ e. let d = cut e in absurd (differ asks tree d.1.tree d.0 (one_json input tree d.1.tree json (task_json d.0 d.1)) lacks d.1.is)) (λ e. inr e);
       task = λ near tree json task is. by_number ((s.0 ≡ 0) ⊎ ((s.0 ≡ 4) ⊎ (s.0 ≡ 5))) (λ e. absurd (omega (arith, near, too_much (long e)))) (λ e. absurd (bad_json (bad e) tree json))
-          (λ e. let n = none e in absurd (differ asked n.tree tree task (one_json input n.tree tree (none_json n) json) n.none is)) (λ e. inl e) (λ e. inr (inl e)) (λ e. inr (inr e));
+          (λ e. let n = none e in absurd (differ asks n.tree tree task (one_json input n.tree tree (none_json n) json) n.none is)) (λ e. inl e) (λ e. inr (inl e)) (λ e. inr (inr e));
     }
 
-pub answers_input : (asked : Command) (left left' : Option (List ℕ)) (s : Status) → IsStatus s → ¬ (s.0 ≡ 2) → ¬ (s.0 ≡ 3) → (s.0 ≡ 6 → ReadsTooMuch left left') → (s.0 ≡ 7 → ReadsNoJson left left') → (s.0 ≡ 8 → ReadsNoTask asked left left')
-    → (s.0 ≡ 0 → (task : Task) × ReadsTask asked left left' task) → (s.0 ≡ 4 → (task : Task) × ReadsTask asked left left' task) → OnTold left (λ input. AnswersInput asked input s)
-answers_input asked None left' s status used no_fault long bad none done cut = tt
-answers_input asked (Some input) left' s status used no_fault long bad none done cut = answers_told asked input left' s status used no_fault long bad none done cut
+pub answers_input : {T : Type 0} (asks : Data → Option T) (left left' : Option (List ℕ)) (s : Status) → IsStatus s → ¬ (s.0 ≡ 2) → ¬ (s.0 ≡ 3)
+    → (s.0 ≡ 6 → ReadsTooMuch left left') → (s.0 ≡ 7 → ReadsNoJson left left') → (s.0 ≡ 8 → ReadsNoTask asks left left')
+    → (s.0 ≡ 0 → (task : T) × ReadsTask asks left left' task) → (s.0 ≡ 4 → (task : T) × ReadsTask asks left left' task) → OnTold left (λ input. AnswersInput asks input s)
+answers_input asks None left' s status used no_fault long bad none done cut = tt
+answers_input asks (Some input) left' s status used no_fault long bad none done cut = answers_told asks input left' s status used no_fault long bad none done cut
 
 -- a task is done and its text written, where the sink doesn't fail
-completes : (asked : Command) (input : List ℕ) (s : Status) → AnswersInput asked input s → ¬ (s.0 ≡ 4) → IsTask asked input → (s.0 ≡ 0) ⊎ (s.0 ≡ 5)
-completes asked input s h sound is = elim (h.task is.short is.tree is.json is.task is.is) as (λ _. (s.0 ≡ 0) ⊎ (s.0 ≡ 5)) [
+completes : {T : Type 0} (asks : Data → Option T) (input : List ℕ) (s : Status) → AnswersInput asks input s → ¬ (s.0 ≡ 4) → IsTask asks input → (s.0 ≡ 0) ⊎ (s.0 ≡ 5)
+completes asks input s h sound is = elim (h.task is.short is.tree is.json is.task is.is) as (λ _. (s.0 ≡ 0) ⊎ (s.0 ≡ 5)) [
   | inl x ↦ inl x
   | inr y ↦ elim y as (λ _. (s.0 ≡ 0) ⊎ (s.0 ≡ 5)) [ inl x ↦ absurd (sound x) | inr x ↦ inr x ]
 ]
 
-pub completes_told : (asked : Command) (left : Option (List ℕ)) (s : Status) → OnTold left (λ input. AnswersInput asked input s) → ¬ (s.0 ≡ 4) → OnTold left (λ input. IsTask asked input → (s.0 ≡ 0) ⊎ (s.0 ≡ 5))
-completes_told asked None s h sound = tt
-completes_told asked (Some input) s h sound = completes asked input s h sound
+pub completes_told : {T : Type 0} (asks : Data → Option T) (left : Option (List ℕ)) (s : Status) → OnTold left (λ input. AnswersInput asks input s) → ¬ (s.0 ≡ 4) → OnTold left (λ input. IsTask asks input → (s.0 ≡ 0) ⊎ (s.0 ≡ 5))
+completes_told asks None s h sound = tt
+completes_told asks (Some input) s h sound = completes asks input s h sound

@@ -66,18 +66,24 @@ pub record IsInput (left left' : Option (List ℕ)) (bytes : List ℕ) : Type 0 
   pub whole : IsAtEnd left'
   pub short : length bytes ≤ max_input
 
--- what was read is a task
-pub record ReadsTask (asked : Command) (left left' : Option (List ℕ)) (task : Task) : Type 0 where
+-- what was read is this JSON value
+pub record ReadsJson (left left' : Option (List ℕ)) (tree : Data) : Type 0 where
+  pub input : List ℕ
+  pub whole : IsInput left left' input
+  pub json : IsJson input tree
+
+-- what was read is a task; which one a JSON value asks for is what the program says, here and below
+pub record ReadsTask {T : Type 0} (asks : Data → Option T) (left left' : Option (List ℕ)) (task : T) : Type 0 where
   pub input : List ℕ
   pub tree : Data
   pub whole : IsInput left left' input
   pub json : IsJson input tree
-  pub is : task_of asked tree ≡ Some task
+  pub is : asks tree ≡ Some task
 
 -- what was read is a task, and this was left and is to be written
 pub record Performed (asked : Command) (left left' : Option (List ℕ)) (records : List Record) (text : List ℕ) : Type 0 where
   pub task : Task
-  pub reads : ReadsTask asked left left' task
+  pub reads : ReadsTask (task_of asked) left left' task
   pub done : TaskLeaves task records text
 
 -- what was read is no JSON
@@ -87,12 +93,12 @@ pub record ReadsNoJson (left left' : Option (List ℕ)) : Type 0 where
   pub none : IsNoJson input
 
 -- what was read is JSON and no task
-pub record ReadsNoTask (asked : Command) (left left' : Option (List ℕ)) : Type 0 where
+pub record ReadsNoTask {T : Type 0} (asks : Data → Option T) (left left' : Option (List ℕ)) : Type 0 where
   pub input : List ℕ
   pub tree : Data
   pub whole : IsInput left left' input
   pub json : IsJson input tree
-  pub none : task_of asked tree ≡ None
+  pub none : asks tree ≡ None
 
 -- more was read than an input may have
 pub record ReadsTooMuch (left left' : Option (List ℕ)) : Type 0 where
@@ -109,19 +115,19 @@ abbrev pub IsStatus : Status → Type 0
 IsStatus s = IsRefusal s ⊎ ((s.0 ≡ 0) ⊎ ((s.0 ≡ 4) ⊎ (s.0 ≡ 5)))
 
 -- The status of an input that was there to be read, where no read failed: each is answered, or want of memory.
-pub record AnswersInput (asked : Command) (input : List ℕ) (s : Status) : Type 0 where
+pub record AnswersInput {T : Type 0} (asks : Data → Option T) (input : List ℕ) (s : Status) : Type 0 where
   pub too_long : max_input < length input → (s.0 ≡ 6) ⊎ (s.0 ≡ 5)
   pub not_json : length input ≤ max_input → IsNoJson input → (s.0 ≡ 7) ⊎ (s.0 ≡ 5)
-  pub bad_script : length input ≤ max_input → (tree : Data) → IsJson input tree → task_of asked tree ≡ None → (s.0 ≡ 8) ⊎ (s.0 ≡ 5)
-  pub task : length input ≤ max_input → (tree : Data) → IsJson input tree → (task : Task) → task_of asked tree ≡ Some task → (s.0 ≡ 0) ⊎ ((s.0 ≡ 4) ⊎ (s.0 ≡ 5))
+  pub bad_script : length input ≤ max_input → (tree : Data) → IsJson input tree → asks tree ≡ None → (s.0 ≡ 8) ⊎ (s.0 ≡ 5)
+  pub task : length input ≤ max_input → (tree : Data) → IsJson input tree → (task : T) → asks tree ≡ Some task → (s.0 ≡ 0) ⊎ ((s.0 ≡ 4) ⊎ (s.0 ≡ 5))
 
 -- an input that is a task
-pub record IsTask (asked : Command) (input : List ℕ) : Type 0 where
+pub record IsTask {T : Type 0} (asks : Data → Option T) (input : List ℕ) : Type 0 where
   pub short : length input ≤ max_input
   pub tree : Data
   pub json : IsJson input tree
-  pub task : Task
-  pub is : task_of asked tree ≡ Some task
+  pub task : T
+  pub is : asks tree ≡ Some task
 
 -- a fact of the bytes that a source tells
 abbrev pub OnTold : Option (List ℕ) → (List ℕ → Type 0) → Type 0

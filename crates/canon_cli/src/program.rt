@@ -6,7 +6,7 @@ ghost use Rattle.canon_memory.specs.Counts.{Rose};
 ghost use Rattle.canon_player.specs.Session.{Session};
 ghost use Rattle.canon_script.specs.Script.{Play, play_of, script_of};
 ghost use Rattle.canon_transcript.specs.Text.{transcript_text};
-ghost use Rattle.canon_cli.specs.Program.{AnswersInput, TaskLeaves, IsJson, IsNoJson, IsRefusal, IsStatus, IsTask, OnTold, Performed, ReadsNoJson, ReadsNoTask, ReadsTask, ReadsTooMuch, Task, command_of, max_input, task_of};
+ghost use Rattle.canon_cli.specs.Program.{AnswersInput, TaskLeaves, IsJson, IsNoJson, IsRefusal, IsStatus, IsTask, OnTold, Performed, ReadsJson, ReadsNoJson, ReadsNoTask, ReadsTask, ReadsTooMuch, Task, command_of, max_input, task_of};
 ghost use Rattle.canon_cli.specs.Streams.{AppendsPrefix, TakesAtMost};
 ghost use Rattle.canon_json.specs.declared.error.ScriptError.TheVariants as refused;
 
@@ -59,17 +59,17 @@ pub fn run<S: Source, K: Sink>(
     ensures no_write_fault { ¬ (result ≡ Status.WRITE_FAULT) → K.faults sink.new ≡ K.faults sink.old }
     ensures too_long { result ≡ Status.TOO_LONG → ReadsTooMuch (S.left source.old) (S.left source.new) }
     ensures not_json { result ≡ Status.NOT_JSON → ReadsNoJson (S.left source.old) (S.left source.new) }
-    ensures bad_script { result ≡ Status.BAD_SCRIPT → IfSome (command_of words.now) (λ asked. ReadsNoTask asked (S.left source.old) (S.left source.new)) }
+    ensures bad_script { result ≡ Status.BAD_SCRIPT → IfSome (command_of words.now) (λ asked. ReadsNoTask (task_of asked) (S.left source.old) (S.left source.new)) }
 
     // A command whose reads don't fail answers an input by what it is, or by want of memory; it takes no more of it
     // than an input may have, or answers so.
     ensures answers { IfSome (command_of words.now) (λ asked. ¬ Rose (S.faults source.old) (S.faults source.new)
-        → OnTold (S.left source.old) (λ input. AnswersInput asked input result)) }
+        → OnTold (S.left source.old) (λ input. AnswersInput (task_of asked) input result)) }
     ensures taken { ¬ (result ≡ Status.TOO_LONG) → ¬ (result ≡ Status.MEMORY) → TakesAtMost max_input (S.left source.old) (S.left source.new) }
 
     // A task is done and its text written whole, or memory ran out, where nothing failed.
     ensures complete { IfSome (command_of words.now) (λ asked. ¬ Rose (S.faults source.old) (S.faults source.new) → ¬ Rose (K.faults sink.old) (K.faults sink.new)
-        → OnTold (S.left source.old) (λ input. IsTask asked input → (result.0 ≡ 0) ⊎ (result.0 ≡ 5))) }
+        → OnTold (S.left source.old) (λ input. IsTask (task_of asked) input → (result.0 ≡ 0) ⊎ (result.0 ≡ 5))) }
     ensures no_other { IsStatus result }
 {
     match command_of(words) {
@@ -105,7 +105,7 @@ fn run_command<S: Source, K: Sink>(
     ensures no_write_fault { ¬ (result ≡ Status.WRITE_FAULT) → K.faults sink.new ≡ K.faults sink.old }
     ensures too_long { result ≡ Status.TOO_LONG → ReadsTooMuch (S.left source.old) (S.left source.new) }
     ensures not_json { result ≡ Status.NOT_JSON → ReadsNoJson (S.left source.old) (S.left source.new) }
-    ensures bad_script { result ≡ Status.BAD_SCRIPT → ReadsNoTask asked (S.left source.old) (S.left source.new) }
+    ensures bad_script { result ≡ Status.BAD_SCRIPT → ReadsNoTask (task_of asked) (S.left source.old) (S.left source.new) }
     ensures taken { ¬ (result ≡ Status.TOO_LONG) → ¬ (result ≡ Status.MEMORY) → TakesAtMost max_input (S.left source.old) (S.left source.new) }
     ensures no_other { IsStatus result }
     ensures used { ¬ (result ≡ Status.USAGE) }
@@ -136,15 +136,11 @@ fn perform_input<S: Source>(
     ensures no_read_fault { ¬ (result ≡ Err Status.READ_FAULT) → S.faults source.new ≡ S.faults source.old }
     ensures too_long { result ≡ Err Status.TOO_LONG → ReadsTooMuch (S.left source.old) (S.left source.new) }
     ensures not_json { result ≡ Err Status.NOT_JSON → ReadsNoJson (S.left source.old) (S.left source.new) }
-    ensures bad_script { result ≡ Err Status.BAD_SCRIPT → ReadsNoTask asked (S.left source.old) (S.left source.new) }
+    ensures bad_script { result ≡ Err Status.BAD_SCRIPT → ReadsNoTask (task_of asked) (S.left source.old) (S.left source.new) }
     ensures taken { result ≡ Err Status.READ_FAULT → TakesAtMost max_input (S.left source.old) (S.left source.new) }
     ensures no_other { IfErr result (λ s. (s ≡ Status.READ_FAULT) ⊎ ((s ≡ Status.MEMORY) ⊎ ((s ≡ Status.TOO_LONG) ⊎ ((s ≡ Status.NOT_JSON) ⊎ (s ≡ Status.BAD_SCRIPT))))) }
 {
-    let bytes = match read_all(alloc, source) {
-        Ok(bytes) => bytes,
-        Err(status) => return Err(status),
-    };
-    let tree = match tree_of(alloc, &bytes) {
+    let tree = match read_json(alloc, source) {
         Ok(tree) => tree,
         Err(status) => return Err(status),
     };
@@ -217,6 +213,24 @@ fn perform_layout(alloc: Global, tree: &Value) -> Result<String, ScriptError>
         Ok(text) => Ok(text),
         Err(error) => Err(error),
     }
+}
+
+/// The JSON value of a source, which is read to its end. Answers READ_FAULT, MEMORY, TOO_LONG above 16,777,216 bytes, or
+/// NOT_JSON.
+pub fn read_json<S: Source>(alloc: Global, source: &mut S) -> Result<Value, Status>
+    ensures json { IfOk result (λ tree. ReadsJson (S.left source.old) (S.left source.new) (view tree)) }
+    ensures taken { result ≡ Err Status.READ_FAULT → TakesAtMost max_input (S.left source.old) (S.left source.new) }
+    ensures read_fault { result ≡ Err Status.READ_FAULT → Rose (S.faults source.old) (S.faults source.new) }
+    ensures no_read_fault { ¬ (result ≡ Err Status.READ_FAULT) → S.faults source.new ≡ S.faults source.old }
+    ensures too_long { result ≡ Err Status.TOO_LONG → ReadsTooMuch (S.left source.old) (S.left source.new) }
+    ensures not_json { result ≡ Err Status.NOT_JSON → ReadsNoJson (S.left source.old) (S.left source.new) }
+    ensures no_other { IfErr result (λ s. (s ≡ Status.READ_FAULT) ⊎ ((s ≡ Status.MEMORY) ⊎ ((s ≡ Status.TOO_LONG) ⊎ (s ≡ Status.NOT_JSON)))) }
+{
+    let bytes = match read_all(alloc, source) {
+        Ok(bytes) => bytes,
+        Err(status) => return Err(status),
+    };
+    tree_of(alloc, &bytes)
 }
 
 fn tree_of(alloc: Global, bytes: &[u8]) -> Result<Value, Status>

@@ -1,7 +1,7 @@
 use Rattle.std.proofs.Common.{sym, ◌∙◌}
 use Rattle.canon_cli.proofs.Inputs.{answers_input, completes_told, status_is}
 use Rattle.canon_cli.proofs.Listed.{some_is}
-use Rattle.canon_cli.specs.Program.{command_of}
+use Rattle.canon_cli.specs.Program.{command_of, task_of}
 use Rattle.canon_cli.proofs.program.run.Goals as goal
 
 pub returns-in-Some-clause-answers : goal.returns-in-Some-clause-answers
@@ -9,7 +9,7 @@ returns-in-Some-clause-answers g c =
     let s = c.run_command.result in
     let h = c.run_command.ensures in
     some_is _ (command_of c.args.words.now) c.in-Some.command (sym c.command_of.ensures ∙ c.in-Some.is) (λ unrisen.
-    answers_input c.in-Some.command (g.S.Source.left c.args.source.now) (g.S.Source.left c.run_command.new.source) s h.no_other
+    answers_input (task_of c.in-Some.command) (g.S.Source.left c.args.source.now) (g.S.Source.left c.run_command.new.source) s h.no_other
     (λ e. h.used (status_is s 2 e)) (λ e. unrisen (h.read_fault (status_is s 3 e))) (λ e. h.too_long (status_is s 6 e)) (λ e. h.not_json (status_is s 7 e)) (λ e. h.bad_script (status_is s 8 e))
     (λ e. let d = h.done (status_is s 0 e) in (d.1.task, d.1.reads)) (λ e. let d = h.write_fault (status_is s 4 e) in (d.1.task, d.1.reads)))
 
@@ -18,8 +18,8 @@ returns-in-Some-clause-complete g c =
     let s = c.run_command.result in
     let h = c.run_command.ensures in
     some_is _ (command_of c.args.words.now) c.in-Some.command (sym c.command_of.ensures ∙ c.in-Some.is) (λ unrisen sound.
-    completes_told c.in-Some.command (g.S.Source.left c.args.source.now) s
-    (answers_input c.in-Some.command (g.S.Source.left c.args.source.now) (g.S.Source.left c.run_command.new.source) s h.no_other
+    completes_told (task_of c.in-Some.command) (g.S.Source.left c.args.source.now) s
+    (answers_input (task_of c.in-Some.command) (g.S.Source.left c.args.source.now) (g.S.Source.left c.run_command.new.source) s h.no_other
     (λ e. h.used (status_is s 2 e)) (λ e. unrisen (h.read_fault (status_is s 3 e))) (λ e. h.too_long (status_is s 6 e)) (λ e. h.not_json (status_is s 7 e)) (λ e. h.bad_script (status_is s 8 e))
     (λ e. let d = h.done (status_is s 0 e) in (d.1.task, d.1.reads)) (λ e. let d = h.write_fault (status_is s 4 e) in (d.1.task, d.1.reads)))
     (λ e. sound (h.write_fault (status_is s 4 e)).3))
