@@ -1,4 +1,5 @@
 pub mod Conversions
+pub mod Gen
 pub mod Lines
 pub mod Program
 pub mod Streams

@@ -7,11 +7,15 @@ ghost use Rattle.canon_player.specs.Session.{Session};
 ghost use Rattle.canon_script.specs.Script.{Play, play_of, script_of};
 ghost use Rattle.canon_transcript.specs.Text.{transcript_text};
 ghost use Rattle.canon_cli.specs.Program.{AnswersInput, TaskLeaves, IsJson, IsNoJson, IsRefusal, IsStatus, IsTask, OnTold, Performed, ReadsJson, ReadsNoJson, ReadsNoTask, ReadsTask, ReadsTooMuch, Task, command_of, max_input, task_of};
+ghost use Rattle.canon_gen.specs.Lines.{Generated};
+ghost use Rattle.canon_cli.specs.Gen.{IsGenStatus, gen_of};
 ghost use Rattle.canon_cli.specs.Streams.{AppendsPrefix, TakesAtMost};
 ghost use Rattle.canon_json.specs.declared.error.ScriptError.TheVariants as refused;
 
 use crate::command::command_of;
+use crate::gen_words::gen_of;
 use crate::{Command, ScriptError, Sink, Source, Status, Transcript, text_lines};
+use canon_gen::gen_lines;
 use canon_layout::layout_lines;
 use canon_player::play;
 use canon_script::script_of_json;
@@ -24,7 +28,8 @@ const MAX_INPUT: usize = 1 << 24;
 
 /// Does what the words of the command line say. The words are those after the program's name; `run` plays the script
 /// that the source holds, and writes its transcript to the sink; `text` plays the conversions that it holds, and
-/// `layout` builds the types, and each writes their lines.
+/// `layout` builds the types, and each writes their lines. `gen N` reads nothing: it plays the script that N makes, and
+/// writes what is told of it.
 pub fn run<S: Source, K: Sink>(
     alloc: Global,
     words: &[String],
@@ -35,7 +40,7 @@ pub fn run<S: Source, K: Sink>(
     requires { transcript.old ≡ [] }
 
     // At 2, which comes exactly where the words are no command, nothing was read.
-    ensures usage { (result ≡ Status.USAGE) ↔ (command_of words.now ≡ None) }
+    ensures usage { (result ≡ Status.USAGE) ↔ ((command_of words.now ≡ None) × (gen_of words.now ≡ None)) }
     ensures unread { result ≡ Status.USAGE → source.new ≡ source.old }
 
     // At 0 the source was read to its end, what was read is a script, conversions or types, as the command asks, a
@@ -71,10 +76,43 @@ pub fn run<S: Source, K: Sink>(
     ensures complete { IfSome (command_of words.now) (λ asked. ¬ Rose (S.faults source.old) (S.faults source.new) → ¬ Rose (K.faults sink.old) (K.faults sink.new)
         → OnTold (S.left source.old) (λ input. IsTask (task_of asked) input → (result.0 ≡ 0) ⊎ (result.0 ≡ 5))) }
     ensures no_other { IsStatus result }
+
+    // `gen N` reads nothing and answers 0, 4 or 5. At 0 the session of the script that N makes is in the transcript, and the
+    // sink took its lines; at 4 a prefix of them; at 5 nothing was written, and the transcript is empty or that session.
+    ensures gen_done { result ≡ Status.DONE → IfSome (gen_of words.now) (λ n. (text : List ℕ)
+        × Generated n transcript.new text × Appends (K.taken sink.old) (K.taken sink.new) text) }
+    ensures gen_write_fault { result ≡ Status.WRITE_FAULT → IfSome (gen_of words.now) (λ n. (text : List ℕ)
+        × Generated n transcript.new text × AppendsPrefix (K.taken sink.old) (K.taken sink.new) text × Rose (K.faults sink.old) (K.faults sink.new)) }
+    ensures gen_memory { result ≡ Status.MEMORY → IfSome (gen_of words.now) (λ n. (sink.new ≡ sink.old) × ((transcript.new ≡ [])
+        ⊎ ((text : List ℕ) × Generated n transcript.new text))) }
+    ensures gen_answers { IfSome (gen_of words.now) (λ n. (source.new ≡ source.old) × IsGenStatus result) }
 {
     match command_of(words) {
         Some(command) => run_command(alloc, command, source, sink, transcript),
-        None => Status::USAGE,
+        None => match gen_of(words) {
+            Some(count) => generate(alloc, count, sink, transcript),
+            None => Status::USAGE,
+        },
+    }
+}
+
+/// Plays the script that a number makes, and writes what is told of it.
+fn generate<K: Sink>(alloc: Global, n: u32, sink: &mut K, transcript: &mut Transcript) -> Status
+    requires { transcript.old ≡ [] }
+    ensures done { result ≡ Status.DONE → (text : List ℕ) × Generated n transcript.new text × Appends (K.taken sink.old) (K.taken sink.new) text }
+    ensures write_fault { result ≡ Status.WRITE_FAULT → (text : List ℕ)
+        × Generated n transcript.new text × AppendsPrefix (K.taken sink.old) (K.taken sink.new) text × Rose (K.faults sink.old) (K.faults sink.new) }
+    ensures memory { result ≡ Status.MEMORY → (sink.new ≡ sink.old) × ((transcript.new ≡ []) ⊎ ((text : List ℕ) × Generated n transcript.new text)) }
+    ensures no_write_fault { ¬ (result ≡ Status.WRITE_FAULT) → K.faults sink.new ≡ K.faults sink.old }
+    ensures no_other { IsGenStatus result }
+{
+    let text = match gen_lines(alloc, n, transcript) {
+        Ok(text) => text,
+        Err(_) => return Status::MEMORY,
+    };
+    match write_all(sink, text.as_bytes()) {
+        Ok(()) => Status::DONE,
+        Err(status) => status,
     }
 }
 

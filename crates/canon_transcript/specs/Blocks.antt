@@ -1,5 +1,5 @@
 -- The blocks that a guest's answers of `realloc` leave, as its events tell them.
-use Rattle.std.specs.Prelude.{ℕ, ◌==◌, ◌&&◌, Bool, if◌then◌else◌, List, [], ◌∷◌, ◌++◌, fold}
+use Rattle.std.specs.Prelude.{ℕ, ◌==◌, ◌&&◌, Bool, if◌then◌else◌, List, [], ◌∷◌, ◌++◌, fold, sum_by}
 use Rattle.canon_memory.specs.declared.event.Event.{Event}
 use Rattle.canon_memory.specs.declared.event.Event.TheVariants as event
 use Rattle.canon_transcript.specs.declared.blocks.Block.{Block}
@@ -31,3 +31,10 @@ blocks_after bs (event.Trap asked len) = bs
 -- the blocks that these events leave, in order
 abbrev pub blocks_left : List Event → List Block
 blocks_left events = fold blocks_after [] events
+
+-- how many bytes blocks have
+abbrev pub bytes_of : List Block → ℕ
+bytes_of bs = sum_by (λ b. b.size) bs
+
+abbrev pub block_bytes : List Event → ℕ
+block_bytes events = bytes_of (blocks_left events)

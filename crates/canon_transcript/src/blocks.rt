@@ -2,6 +2,7 @@ ghost use Rattle.std.specs.Prelude.{◌≡◌, ◌++◌, IfOk, OnOk, string_byte
 ghost use Rattle.std.specs.List.{position};
 ghost use Rattle.canon_transcript.specs.Blocks as spec;
 
+use canon_indices::OutOfMemory;
 use canon_memory::Event;
 use std::alloc::{AllocError, Global};
 
@@ -21,6 +22,24 @@ pub(crate) fn blocks_left(alloc: Global, events: &[Event]) -> Result<Vec<Block>,
         follow(&mut blocks, event)?;
     }
     Ok(blocks)
+}
+
+/// How many bytes the blocks have that events leave.
+pub fn block_bytes(alloc: Global, events: &[Event]) -> Result<u128, OutOfMemory>
+    ensures { IfOk result (λ bytes. bytes ≡ spec.block_bytes events.now) }
+{
+    let blocks = blocks_left(alloc, events)?;
+    Ok(sum_of_sizes(&blocks))
+}
+
+fn sum_of_sizes(blocks: &[Block]) -> u128
+    ensures { result ≡ spec.bytes_of blocks.now }
+{
+    let mut bytes = 0;
+    for block in blocks {
+        bytes += u128::from(block.size);
+    }
+    bytes
 }
 
 /// Goes on from the blocks before an event to those after it.

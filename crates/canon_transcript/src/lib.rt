@@ -8,6 +8,7 @@ mod text;
 mod transcript;
 mod values;
 
+pub use blocks::block_bytes;
 pub use errors::error_text;
 pub use events::event_text;
 pub use text::{answer_text, head_text, transcript_text};

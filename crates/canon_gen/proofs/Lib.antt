@@ -1,0 +1,4 @@
+pub mod Common
+pub mod Sessions
+pub mod Sound
+pub mod Steps
