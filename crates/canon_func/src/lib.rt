@@ -5,8 +5,6 @@ mod error;
 mod func;
 mod steps;
 mod store;
-#[cfg(test)]
-mod tests;
 
 pub use error::Error;
 pub use func::Func;

@@ -13,8 +13,6 @@ pub mod laws;
 mod resource;
 mod stream;
 mod task;
-#[cfg(test)]
-mod tests;
 mod thread;
 
 pub use counter::HandleCounter;

@@ -48,6 +48,3 @@ pub use actions::actions_of_json;
 pub use reading::script_of_json;
 pub use script::{CallItem, Item, Script};
 pub use values::value_of_json;
-
-#[cfg(test)]
-mod tests;

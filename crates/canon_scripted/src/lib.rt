@@ -5,8 +5,6 @@ mod actions;
 mod allocator;
 mod guest;
 mod orders;
-#[cfg(test)]
-mod tests;
 
 pub use actions::Action;
 pub use guest::ScriptedGuest;

@@ -31,6 +31,3 @@ pub use latin1::{
 };
 pub use utf8::{utf8_to_utf8, utf8_to_utf16};
 pub use utf16::{utf16_to_utf8, utf16_to_utf16};
-
-#[cfg(test)]
-mod tests;

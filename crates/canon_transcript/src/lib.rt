@@ -14,6 +14,3 @@ pub use events::event_text;
 pub use text::{answer_text, head_text, transcript_text};
 pub use transcript::{Answer, Head, Record, Transcript};
 pub use values::value_text;
-
-#[cfg(test)]
-mod tests;

@@ -1,9 +1,9 @@
 //! Values, actions and scripts, as they are read and as they are refused.
 
-use crate::{Item, Script, actions_of_json, script_of_json, value_of_json};
 use canon_indices::{StringEncoding, TypeFuncIndex};
 use canon_json::ScriptError;
 use canon_memory::ValRaw;
+use canon_script::{Item, Script, actions_of_json, script_of_json, value_of_json};
 use canon_scripted::{Action, Ordered};
 use canon_value::Val;
 use serde_json::Value;

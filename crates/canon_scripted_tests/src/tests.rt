@@ -1,7 +1,7 @@
 //! Worked values of the allocator's five rules, and of a guest that follows a script.
 
-use super::*;
 use canon_memory::{Bytes, Guest, GuestFault, Memory, MemoryError, Step, ValRaw, Words};
+use canon_scripted::{Action, Ordered, ScriptedGuest};
 use std::alloc::Global;
 use std::process::Abort;
 use std::test::Fail;
@@ -49,14 +49,17 @@ fn assert_asks(rt: &impl Abort, step: &Step, number: u32, word: u32) {
 fn a_new_block_stands_at_the_next_multiple_of_its_alignment(rt: HostRuntime) -> Result<(), Fail> {
     let mut memory = Memory::new(rt.alloc(), 64)?;
     let mut guest = ScriptedGuest::new(rt.alloc(), 10);
-    assert_eq!(rt; guest.realloc(&mut memory, 0, 0, 4, 6), Ok(12));
-    assert_eq!(rt; guest.realloc(&mut memory, 9, 0, 8, 0), Ok(24));
-    assert_eq!(rt;
+    let answers = [
+        guest.realloc(&mut memory, 0, 0, 4, 6),
+        guest.realloc(&mut memory, 9, 0, 8, 0),
         guest.realloc(&mut memory, 0, 0, 1, 41),
-        Err(GuestFault::Trap)
+        guest.realloc(&mut memory, 0, 0, 1, 40),
+        guest.realloc(&mut memory, 0, 0, 64, 0),
+    ];
+    assert_eq!(rt;
+        answers,
+        [Ok(12), Ok(24), Err(GuestFault::Trap), Ok(24), Ok(64)]
     );
-    assert_eq!(rt; guest.realloc(&mut memory, 0, 0, 1, 40), Ok(24));
-    assert_eq!(rt; guest.realloc(&mut memory, 0, 0, 64, 0), Ok(64));
     Ok(())
 }
 
@@ -64,14 +67,14 @@ fn a_new_block_stands_at_the_next_multiple_of_its_alignment(rt: HostRuntime) -> 
 fn a_block_that_does_not_live_traps(rt: HostRuntime) -> Result<(), Fail> {
     let mut memory = Memory::new(rt.alloc(), 64)?;
     let mut guest = ScriptedGuest::new(rt.alloc(), 10);
-    assert_eq!(rt;
+    let answers = [
         guest.realloc(&mut memory, 10, 6, 1, 6),
-        Err(GuestFault::Trap)
-    );
-    assert_eq!(rt; guest.realloc(&mut memory, 0, 0, 1, 6), Ok(10));
-    assert_eq!(rt;
+        guest.realloc(&mut memory, 0, 0, 1, 6),
         guest.realloc(&mut memory, 10, 5, 1, 6),
-        Err(GuestFault::Trap)
+    ];
+    assert_eq!(rt;
+        answers,
+        [Err(GuestFault::Trap), Ok(10), Err(GuestFault::Trap)]
     );
     Ok(())
 }
@@ -80,14 +83,17 @@ fn a_block_that_does_not_live_traps(rt: HostRuntime) -> Result<(), Fail> {
 fn the_last_block_grows_where_it_is(rt: HostRuntime) -> Result<(), Fail> {
     let mut memory = Memory::new(rt.alloc(), 64)?;
     let mut guest = ScriptedGuest::new(rt.alloc(), 12);
-    assert_eq!(rt; guest.realloc(&mut memory, 0, 0, 4, 6), Ok(12));
-    assert_eq!(rt;
+    let answers = [
+        guest.realloc(&mut memory, 0, 0, 4, 6),
         guest.realloc(&mut memory, 12, 6, 4, 53),
-        Err(GuestFault::Trap)
+        guest.realloc(&mut memory, 12, 6, 4, 52),
+        guest.realloc(&mut memory, 12, 52, 4, 3),
+        guest.realloc(&mut memory, 0, 0, 1, 1),
+    ];
+    assert_eq!(rt;
+        answers,
+        [Ok(12), Err(GuestFault::Trap), Ok(12), Ok(12), Ok(15)]
     );
-    assert_eq!(rt; guest.realloc(&mut memory, 12, 6, 4, 52), Ok(12));
-    assert_eq!(rt; guest.realloc(&mut memory, 12, 52, 4, 3), Ok(12));
-    assert_eq!(rt; guest.realloc(&mut memory, 0, 0, 1, 1), Ok(15));
     Ok(())
 }
 
@@ -95,14 +101,17 @@ fn the_last_block_grows_where_it_is(rt: HostRuntime) -> Result<(), Fail> {
 fn a_block_shrinks_where_it_is(rt: HostRuntime) -> Result<(), Fail> {
     let mut memory = Memory::new(rt.alloc(), 64)?;
     let mut guest = ScriptedGuest::new(rt.alloc(), 12);
-    assert_eq!(rt; guest.realloc(&mut memory, 0, 0, 4, 6), Ok(12));
-    assert_eq!(rt; guest.realloc(&mut memory, 0, 0, 1, 1), Ok(18));
-    assert_eq!(rt; guest.realloc(&mut memory, 12, 6, 4, 2), Ok(12));
-    assert_eq!(rt;
+    let answers = [
+        guest.realloc(&mut memory, 0, 0, 4, 6),
+        guest.realloc(&mut memory, 0, 0, 1, 1),
+        guest.realloc(&mut memory, 12, 6, 4, 2),
         guest.realloc(&mut memory, 12, 6, 4, 1),
-        Err(GuestFault::Trap)
+        guest.realloc(&mut memory, 0, 0, 1, 1),
+    ];
+    assert_eq!(rt;
+        answers,
+        [Ok(12), Ok(18), Ok(12), Err(GuestFault::Trap), Ok(19)]
     );
-    assert_eq!(rt; guest.realloc(&mut memory, 0, 0, 1, 1), Ok(19));
     Ok(())
 }
 
@@ -113,14 +122,14 @@ fn a_block_moves_with_its_bytes(rt: HostRuntime) -> Result<(), Fail> {
     assert_eq!(rt; guest.realloc(&mut memory, 0, 0, 1, 3), Ok(0));
     assert_eq!(rt; guest.realloc(&mut memory, 0, 0, 1, 2), Ok(3));
     memory.as_slice_mut()[..5].copy_from_slice(&[1, 2, 3, 4, 5]);
-    // larger, and not the last
-    assert_eq!(rt; guest.realloc(&mut memory, 0, 3, 2, 4), Ok(6));
-    assert_eq!(rt;
+    let moved = [
+        // larger, and not the last
+        guest.realloc(&mut memory, 0, 3, 2, 4),
         guest.realloc(&mut memory, 0, 3, 2, 1),
-        Err(GuestFault::Trap)
-    );
-    // smaller, and not aligned
-    assert_eq!(rt; guest.realloc(&mut memory, 3, 2, 4, 1), Ok(12));
+        // smaller, and not aligned
+        guest.realloc(&mut memory, 3, 2, 4, 1),
+    ];
+    assert_eq!(rt; moved, [Ok(6), Err(GuestFault::Trap), Ok(12)]);
     assert_eq!(rt;
         memory.as_slice(),
         [1, 2, 3, 4, 5, 0, 1, 2, 3, 0, 0, 0, 4, 0].as_slice()
@@ -135,49 +144,78 @@ fn an_ordered_answer_counts_as_a_breach(rt: HostRuntime) -> Result<(), Fail> {
     let mut guest = ScriptedGuest::new(alloc, 12);
     let orders = Vec::from_slice(alloc, &[Ordered::Answer(4_000_000_001), Ordered::Trap])?;
     guest.load(Vec::new(alloc), orders, false, false);
-    assert_eq!(rt; guest.realloc(&mut memory, 0, 0, 4, 6), Ok(4_000_000_001));
-    assert_eq!(rt; guest.breaches(), 1);
-    assert_eq!(rt;
+    let told = (
         guest.realloc(&mut memory, 0, 0, 4, 6),
-        Err(GuestFault::Trap)
+        guest.breaches(),
+        guest.realloc(&mut memory, 0, 0, 4, 6),
+        guest.realloc(&mut memory, 0, 0, 4, 6),
+        guest.breaches(),
     );
-    assert_eq!(rt; guest.realloc(&mut memory, 0, 0, 4, 6), Ok(12));
-    assert_eq!(rt; guest.breaches(), 1);
+    let trap = Err(GuestFault::Trap);
+    assert_eq!(rt; told, (Ok(4_000_000_001), 1, trap, Ok(12), 1));
     Ok(())
 }
 
-#[test]
-fn a_guest_writes_grows_asks_and_returns(rt: HostRuntime) -> Result<(), Fail> {
-    let alloc = rt.alloc();
-    let mut memory = Memory::new(alloc, 3)?;
-    let mut guest = ScriptedGuest::new(alloc, 0);
+/// A write, bytes that are added, an ask for import 5 and a return.
+fn asking_actions(alloc: Global) -> Result<Vec<Action>, MemoryError> {
     let mut actions = Vec::new(alloc);
     add(&mut actions, writing(alloc, 1, &[7, 8]))?;
     add(&mut actions, Ok(Action::Grow(2)))?;
     add(&mut actions, asking(alloc, 5, 1))?;
     add(&mut actions, returning(alloc, 2))?;
-    guest.load(actions, Vec::new(alloc), false, false);
-    assert_asks(&rt, &guest.start(&mut memory, 0, &[])?, 5, 1);
-    assert_eq!(rt; memory.as_slice(), [0, 7, 8, 0, 0].as_slice());
-    assert_returns(&rt, &guest.resume(&mut memory, &[])?, 2);
-    assert!(rt; matches!(guest.start(&mut memory, 0, &[]), Err(GuestFault::Trap)));
-    Ok(())
+    Ok(actions)
 }
 
 #[test]
-fn a_write_past_the_end_traps(rt: HostRuntime) -> Result<(), Fail> {
-    let alloc = rt.alloc();
-    let mut memory = Memory::new(alloc, 3)?;
-    let mut guest = ScriptedGuest::new(alloc, 0);
+fn a_guest_writes_grows_asks_and_returns(rt: HostRuntime) -> Result<(), Fail> {
+    let mut memory = Memory::new(rt.alloc(), 3)?;
+    let mut guest = ScriptedGuest::new(rt.alloc(), 0);
+    guest.load(
+        asking_actions(rt.alloc())?,
+        Vec::new(rt.alloc()),
+        false,
+        false,
+    );
+    assert_asks(&rt, &guest.start(&mut memory, 0, &[])?, 5, 1);
+    assert_eq!(rt; memory.as_slice(), [0, 7, 8, 0, 0].as_slice());
+    assert_returns(&rt, &guest.resume(&mut memory, &[])?, 2);
+    assert_eq!(rt;
+        guest.start(&mut memory, 0, &[]).err(),
+        Some(GuestFault::Trap)
+    );
+    Ok(())
+}
+
+/// Two writes in a memory of three bytes, of which the second goes past the end, too many bytes that are added, and a
+/// return.
+fn trapping_actions(alloc: Global) -> Result<Vec<Action>, MemoryError> {
     let mut actions = Vec::new(alloc);
     add(&mut actions, writing(alloc, 0, &[7]))?;
     add(&mut actions, writing(alloc, 2, &[8, 9]))?;
     add(&mut actions, Ok(Action::Grow(4_294_967_294)))?;
     add(&mut actions, returning(alloc, 2))?;
-    guest.load(actions, Vec::new(alloc), false, false);
-    assert!(rt; matches!(guest.start(&mut memory, 0, &[]), Err(GuestFault::Trap)));
+    Ok(actions)
+}
+
+#[test]
+fn a_write_past_the_end_traps(rt: HostRuntime) -> Result<(), Fail> {
+    let mut memory = Memory::new(rt.alloc(), 3)?;
+    let mut guest = ScriptedGuest::new(rt.alloc(), 0);
+    guest.load(
+        trapping_actions(rt.alloc())?,
+        Vec::new(rt.alloc()),
+        false,
+        false,
+    );
+    assert_eq!(rt;
+        guest.start(&mut memory, 0, &[]).err(),
+        Some(GuestFault::Trap)
+    );
     assert_eq!(rt; memory.as_slice(), [7, 0, 0].as_slice());
-    assert!(rt; matches!(guest.start(&mut memory, 0, &[]), Err(GuestFault::Trap)));
+    assert_eq!(rt;
+        guest.start(&mut memory, 0, &[]).err(),
+        Some(GuestFault::Trap)
+    );
     assert_returns(&rt, &guest.start(&mut memory, 0, &[])?, 2);
     Ok(())
 }
@@ -188,13 +226,16 @@ fn post_return_and_a_destructor_trap_where_they_are_told(rt: HostRuntime) -> Res
     let mut memory = Memory::new(alloc, 3)?;
     let mut guest = ScriptedGuest::new(alloc, 0);
     guest.load(Vec::new(alloc), Vec::new(alloc), true, false);
-    assert_eq!(rt;
+    let told = (
         guest.post_return(&mut memory, 1, &[]),
-        Err(GuestFault::Trap)
+        guest.dtor(&mut memory, 1, 7),
     );
-    assert_eq!(rt; guest.dtor(&mut memory, 1, 7), Ok(()));
+    assert_eq!(rt; told, (Err(GuestFault::Trap), Ok(())));
     guest.load(Vec::new(alloc), Vec::new(alloc), false, true);
-    assert_eq!(rt; guest.post_return(&mut memory, 1, &[]), Ok(()));
-    assert_eq!(rt; guest.dtor(&mut memory, 1, 7), Err(GuestFault::Trap));
+    let told = (
+        guest.post_return(&mut memory, 1, &[]),
+        guest.dtor(&mut memory, 1, 7),
+    );
+    assert_eq!(rt; told, (Ok(()), Err(GuestFault::Trap)));
     Ok(())
 }

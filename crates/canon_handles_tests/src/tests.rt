@@ -3,7 +3,10 @@
 ghost use Rattle.std.specs.Prelude.{◌≡◌};
 ghost use Rattle.canon_handles.specs.Calls.{raw_index};
 
-use super::*;
+use canon_handles::{
+    HandleCounter, HandleError, HandleTable, RemovedResource, Scope, ThreadHandleTable,
+    TransmitLocalState, TypedResource, TypedResourceIndex, Waitable,
+};
 use canon_indices::{TypeFutureTableIndex, TypeResourceTableIndex, TypeStreamTableIndex};
 use std::test::Fail;
 

@@ -1,8 +1,7 @@
 //! What the command `layout` prints, and which inputs it refuses.
 
-use crate::words::{Kind, type_word};
-use crate::{layout_lines, listing_of_json, type_of_json, types_of_json};
 use canon_json::ScriptError;
+use canon_layout::{layout_lines, listing_of_json, type_of_json, types_of_json};
 use canon_types::InterfaceType;
 use serde_json::Value;
 use std::alloc::{AllocError, Global};
@@ -118,7 +117,7 @@ fn types_are_read_by_name_and_by_number(rt: HostRuntime) -> Result<(), Fail> {
     let (table, types) = types_of_json(rt.alloc(), &entries)?;
     assert_eq!(rt; types.len(), 2);
     assert!(rt; table.contains(&types[1]));
-    assert_eq!(rt; type_word(&types[0]), Kind::List.word());
+    assert!(rt; matches!(&types[0], InterfaceType::List(_)));
     let number = Value::from_str(rt.alloc(), "1")?;
     assert_eq!(rt; type_of_json(&number, &types), Ok(types[1]));
     let name = Value::from_str(rt.alloc(), r#""string""#)?;

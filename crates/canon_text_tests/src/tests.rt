@@ -2,7 +2,13 @@
 
 ghost use Rattle.std.specs.Prelude.{◌≤◌};
 
-use super::*;
+use canon_text::{
+    DecodeError, SizePair, TextError, decode_latin1, decode_utf8, decode_utf16,
+    inflate_latin1_bytes, inflate_latin1_parts, latin1_to_latin1, latin1_to_utf8, latin1_to_utf16,
+    utf8_to_compact_utf16, utf8_to_latin1, utf8_to_utf8, utf8_to_utf16,
+    utf16_to_compact_probably_utf16, utf16_to_compact_utf16, utf16_to_latin1, utf16_to_utf8,
+    utf16_to_utf16,
+};
 use std::alloc::Global;
 use std::test::Fail;
 

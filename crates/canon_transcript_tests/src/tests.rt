@@ -1,11 +1,11 @@
 //! The lines of values, errors, events and records.
 
-use crate::{
+use canon_func::Error;
+use canon_memory::{Bytes, Event, Events, ValRaw, Words};
+use canon_transcript::{
     Answer, Head, Record, Transcript, answer_text, error_text, event_text, head_text,
     transcript_text, value_text,
 };
-use canon_func::Error;
-use canon_memory::{Bytes, Event, Events, ValRaw, Words};
 use canon_value::{At, Fault, Val};
 use std::alloc::Global;
 use std::test::Fail;

@@ -2,7 +2,7 @@
 
 ghost use Rattle.std.specs.Prelude.{◌≡◌, [], None};
 
-use super::*;
+use canon_func::{Error, Store};
 use canon_memory::{Guest, GuestFault, Memory, Step, ValRaw, Words};
 use canon_types::{
     CanonicalOptions, ComponentTypes, ExportIndex, InstanceType, InterfaceType, OptionsIndex,

@@ -1,0 +1,5 @@
+//! Tests of calls of a small guest, by a store.
+#![tactic(auto)]
+
+#[cfg(test)]
+mod tests;

@@ -1,0 +1,5 @@
+//! Tests of the handle tables.
+#![tactic(auto)]
+
+#[cfg(test)]
+mod tests;
