@@ -39,16 +39,22 @@ fn host_index(index: u32) -> TypedResourceIndex {
 fn the_last_freed_index_comes_first(rt: HostRuntime) {
     let mut counter = HandleCounter::new(100);
     let mut table = HandleTable::new(rt.alloc());
-    assert_eq!(rt; table.resource_own_insert(&mut counter, host(7)), Ok(1));
-    assert_eq!(rt; table.resource_own_insert(&mut counter, host(7)), Ok(2));
     let removed = Ok(RemovedResource::Own { rep: 7 });
-    assert_eq!(rt; table.remove_resource(&mut counter, host_index(1)), removed);
-    assert_eq!(rt; table.resource_own_insert(&mut counter, host(7)), Ok(1));
-    assert_eq!(rt; table.remove_resource(&mut counter, host_index(1)), removed);
-    assert_eq!(rt; table.remove_resource(&mut counter, host_index(2)), removed);
-    assert_eq!(rt; table.resource_own_insert(&mut counter, host(7)), Ok(2));
-    assert_eq!(rt; table.resource_own_insert(&mut counter, host(7)), Ok(1));
-    assert_eq!(rt; table.resource_own_insert(&mut counter, host(7)), Ok(3));
+    let first = (
+        table.resource_own_insert(&mut counter, host(7)),
+        table.resource_own_insert(&mut counter, host(7)),
+        table.remove_resource(&mut counter, host_index(1)),
+        table.resource_own_insert(&mut counter, host(7)),
+    );
+    assert_eq!(rt; first, (Ok(1), Ok(2), removed, Ok(1)));
+    let second = (
+        table.remove_resource(&mut counter, host_index(1)),
+        table.remove_resource(&mut counter, host_index(2)),
+        table.resource_own_insert(&mut counter, host(7)),
+        table.resource_own_insert(&mut counter, host(7)),
+        table.resource_own_insert(&mut counter, host(7)),
+    );
+    assert_eq!(rt; second, (removed, removed, Ok(2), Ok(1), Ok(3)));
     assert_eq!(rt; counter.live(), 3);
 }
 
@@ -56,10 +62,12 @@ fn the_last_freed_index_comes_first(rt: HostRuntime) {
 fn indexes_end_before_the_limit_is_asked(rt: HostRuntime) {
     let mut counter = HandleCounter::new(2);
     let mut table = HandleTable::with_max_handle(rt.alloc(), 2);
-    assert_eq!(rt; table.resource_own_insert(&mut counter, host(7)), Ok(1));
-    assert_eq!(rt; table.resource_own_insert(&mut counter, host(7)), Ok(2));
-    let refused = Err(HandleError::IndexOverflow);
-    assert_eq!(rt; table.resource_own_insert(&mut counter, host(7)), refused);
+    let given = [
+        table.resource_own_insert(&mut counter, host(7)),
+        table.resource_own_insert(&mut counter, host(7)),
+        table.resource_own_insert(&mut counter, host(7)),
+    ];
+    assert_eq!(rt; given, [Ok(1), Ok(2), Err(HandleError::IndexOverflow)]);
     assert_eq!(rt; table.held(), 2);
 }
 
@@ -67,14 +75,19 @@ fn indexes_end_before_the_limit_is_asked(rt: HostRuntime) {
 fn the_limit_of_live_handles_is_kept(rt: HostRuntime) {
     let mut counter = HandleCounter::new(1);
     let mut table = HandleTable::new(rt.alloc());
-    assert_eq!(rt; table.resource_own_insert(&mut counter, host(7)), Ok(1));
-    let refused = Err(HandleError::HandleLimit);
-    assert_eq!(rt; table.resource_own_insert(&mut counter, host(7)), refused);
-    let lent = table.resource_lend(&mut counter, host_index(1));
-    assert_eq!(rt; lent, Err(HandleError::HandleLimit));
+    let refused = HandleError::HandleLimit;
+    let given = (
+        table.resource_own_insert(&mut counter, host(7)),
+        table.resource_own_insert(&mut counter, host(7)),
+        table.resource_lend(&mut counter, host_index(1)),
+    );
+    assert_eq!(rt; given, (Ok(1), Err(refused), Err(refused)));
     counter.set_limit(2);
-    assert_eq!(rt; counter.limit(), 2);
-    assert_eq!(rt; table.resource_own_insert(&mut counter, host(7)), Ok(2));
+    let given = (
+        counter.limit(),
+        table.resource_own_insert(&mut counter, host(7)),
+    );
+    assert_eq!(rt; given, (2, Ok(2)));
 }
 
 #[test]
@@ -83,16 +96,23 @@ fn an_end_is_taken_as_what_it_is(rt: HostRuntime) -> Result<(), Fail> {
     let mut table = HandleTable::new(rt.alloc());
     let ty = TypeStreamTableIndex::from_u32(0);
     let other = TypeStreamTableIndex::from_u32(1);
-    assert_eq!(rt; table.stream_insert_read(&mut counter, ty, 4), Ok(1));
-    let written = table.stream_remove_writable(&mut counter, ty, 1);
-    assert_eq!(rt; written, Err(HandleError::WrongEnd));
-    assert_eq!(rt; table.stream_rep(other, 1), Err(HandleError::WrongType));
+    let told = (
+        table.stream_insert_read(&mut counter, ty, 4),
+        table.stream_remove_writable(&mut counter, ty, 1),
+        table.stream_rep(other, 1),
+    );
+    let wrong_end = Err(HandleError::WrongEnd);
+    assert_eq!(rt; told, (Ok(1), wrong_end, Err(HandleError::WrongType)));
     *table.stream_state(ty, 1)? = TransmitLocalState::Busy;
-    assert_eq!(rt; table.stream_rep(ty, 1), Ok((4, TransmitLocalState::Busy)));
     assert!(rt; table.held() <= counter.live());
-    let read = table.stream_remove_readable(&mut counter, ty, 1);
-    assert_eq!(rt; read, Err(HandleError::Busy));
-    assert_eq!(rt; table.error_context_rep(1), Err(HandleError::WrongKind));
+    let told = (
+        table.stream_rep(ty, 1),
+        table.stream_remove_readable(&mut counter, ty, 1),
+        table.error_context_rep(1),
+    );
+    let busy = Ok((4, TransmitLocalState::Busy));
+    let wrong_kind = Err(HandleError::WrongKind);
+    assert_eq!(rt; told, (busy, Err(HandleError::Busy), wrong_kind));
     Ok(())
 }
 
@@ -100,22 +120,29 @@ fn an_end_is_taken_as_what_it_is(rt: HostRuntime) -> Result<(), Fail> {
 fn a_lent_handle_stays_whatever_the_type(rt: HostRuntime) {
     let mut counter = HandleCounter::new(100);
     let mut table = HandleTable::new(rt.alloc());
-    assert_eq!(rt; table.resource_own_insert(&mut counter, resource()), Ok(1));
-    assert_eq!(rt; index().raw_index(), 1);
-    assert_eq!(rt; table.resource_rep(index()), Ok(9));
-    assert_eq!(rt; table.resource_lend(&mut counter, index()), Ok((9, true)));
-    assert_eq!(rt; table.lends(1), 1);
-    assert!(rt; table.is_own(1));
-    assert_eq!(rt; table.held(), 2);
-    let refused = table.remove_resource(&mut counter, host_index(1));
-    assert_eq!(rt; refused, Err(HandleError::StillLent));
-    assert!(rt; table.lends(1) == 1);
-    assert_eq!(rt; table.resource_undo_lend(&mut counter, index()), Ok(()));
-    let refused = table.remove_resource(&mut counter, host_index(1));
-    assert_eq!(rt; refused, Err(HandleError::ResourceTypeMismatch));
-    let removed = table.remove_resource(&mut counter, index());
-    assert_eq!(rt; removed, Ok(RemovedResource::Own { rep: 9 }));
-    assert_eq!(rt; counter.live(), 0);
+    let given = table.resource_own_insert(&mut counter, resource());
+    let lent = (
+        index().raw_index(),
+        table.resource_rep(index()),
+        table.resource_lend(&mut counter, index()),
+    );
+    assert_eq!(rt; (given, lent), (Ok(1), (1, Ok(9), Ok((9, true)))));
+    let state = (table.lends(1), table.is_own(1), table.held());
+    let refused = (
+        table.remove_resource(&mut counter, host_index(1)),
+        table.lends(1),
+    );
+    let still_lent = Err(HandleError::StillLent);
+    assert_eq!(rt; (state, refused), ((1, true, 2), (still_lent, 1)));
+    let removed = (
+        table.resource_undo_lend(&mut counter, index()),
+        table.remove_resource(&mut counter, host_index(1)),
+        table.remove_resource(&mut counter, index()),
+        counter.live(),
+    );
+    let mismatch = Err(HandleError::ResourceTypeMismatch);
+    let own = Ok(RemovedResource::Own { rep: 9 });
+    assert_eq!(rt; removed, (Ok(()), mismatch, own, 0));
 }
 
 #[test]
@@ -123,18 +150,15 @@ fn a_borrow_handle_gives_its_scope_back(rt: HostRuntime) {
     let mut counter = HandleCounter::new(100);
     let mut table = HandleTable::new(rt.alloc());
     let scope = Scope::Id(5);
-    assert_eq!(rt;
+    let told = (
         table.resource_borrow_insert(&mut counter, host(7), scope),
-        Ok(1)
-    );
-    assert_eq!(rt;
         table.resource_lend(&mut counter, host_index(1)),
-        Ok((7, false))
+        table.held(),
+        table.remove_resource(&mut counter, host_index(1)),
+        table.is_empty(),
     );
-    assert_eq!(rt; table.held(), 1);
-    let removed = table.remove_resource(&mut counter, host_index(1));
-    assert_eq!(rt; removed, Ok(RemovedResource::Borrow { scope }));
-    assert_eq!(rt; table.is_empty(), true);
+    let removed = Ok(RemovedResource::Borrow { scope });
+    assert_eq!(rt; told, (Ok(1), Ok((7, false)), 1, removed, true));
 }
 
 #[test]
@@ -142,9 +166,12 @@ fn room_is_made_for_the_next_insertion(rt: HostRuntime) -> Result<(), Fail> {
     let mut counter = HandleCounter::new(100);
     let mut table = HandleTable::new(rt.alloc());
     table.reserve()?;
-    assert_eq!(rt; table.is_empty(), true);
-    assert_eq!(rt; table.error_context_insert(&mut counter, 8), Ok(1));
-    assert_eq!(rt; table.is_empty(), false);
+    let told = (
+        table.is_empty(),
+        table.error_context_insert(&mut counter, 8),
+        table.is_empty(),
+    );
+    assert_eq!(rt; told, (true, Ok(1), false));
     Ok(())
 }
 
@@ -152,18 +179,28 @@ fn room_is_made_for_the_next_insertion(rt: HostRuntime) -> Result<(), Fail> {
 fn a_vacant_cell_is_no_handle(rt: HostRuntime) -> Result<(), Fail> {
     let mut counter = HandleCounter::new(100);
     let mut table = HandleTable::with_max_handle(rt.alloc(), 2);
+    let unknown = Err(HandleError::UnknownHandle);
     table.reserve()?;
-    assert_eq!(rt; table.error_context_rep(1), Err(HandleError::UnknownHandle));
-    assert_eq!(rt; table.error_context_insert(&mut counter, 8), Ok(1));
+    let told = (
+        table.error_context_rep(1),
+        table.error_context_insert(&mut counter, 8),
+    );
+    assert_eq!(rt; told, (unknown, Ok(1)));
     table.reserve()?;
-    assert_eq!(rt; table.error_context_drop(&mut counter, 1), Ok(8));
-    assert_eq!(rt; table.error_context_insert(&mut counter, 9), Ok(1));
-    assert_eq!(rt; table.error_context_insert(&mut counter, 9), Ok(2));
-    assert_eq!(rt; table.error_context_drop(&mut counter, 1), Ok(9));
-    assert_eq!(rt; table.error_context_rep(1), Err(HandleError::UnknownHandle));
-    assert_eq!(rt; table.error_context_drop(&mut counter, 2), Ok(9));
-    assert_eq!(rt; table.is_empty(), true);
-    assert_eq!(rt; table.error_context_insert(&mut counter, 10), Ok(2));
+    let told = [
+        table.error_context_drop(&mut counter, 1),
+        table.error_context_insert(&mut counter, 9),
+        table.error_context_insert(&mut counter, 9),
+        table.error_context_drop(&mut counter, 1),
+        table.error_context_rep(1),
+        table.error_context_drop(&mut counter, 2),
+    ];
+    assert_eq!(rt; told, [Ok(8), Ok(1), Ok(2), Ok(9), unknown, Ok(9)]);
+    let told = (
+        table.is_empty(),
+        table.error_context_insert(&mut counter, 10),
+    );
+    assert_eq!(rt; told, (true, Ok(2)));
     Ok(())
 }
 
@@ -172,19 +209,20 @@ fn the_ends_of_streams(rt: HostRuntime) {
     let mut counter = HandleCounter::new(100);
     let mut table = HandleTable::new(rt.alloc());
     let ty = TypeStreamTableIndex::from_u32(2);
-    assert_eq!(rt; table.stream_insert_read(&mut counter, ty, 10), Ok(1));
-    assert_eq!(rt; table.stream_insert_write(&mut counter, ty, 11), Ok(2));
-    assert_eq!(rt;
+    let told = (
+        table.stream_insert_read(&mut counter, ty, 10),
+        table.stream_insert_write(&mut counter, ty, 11),
         table.stream_rep(ty, 1),
-        Ok((10, TransmitLocalState::Read { done: false }))
+        table.waitable_rep(1),
     );
-    assert_eq!(rt; table.waitable_rep(1), Ok((10, Waitable::Stream)));
-    assert_eq!(rt;
+    let reading = Ok((10, TransmitLocalState::Read { done: false }));
+    assert_eq!(rt; told, (Ok(1), Ok(2), reading, Ok((10, Waitable::Stream))));
+    let told = (
         table.stream_remove_readable(&mut counter, ty, 1),
-        Ok((10, false))
+        table.stream_remove_writable(&mut counter, ty, 2),
+        counter.live(),
     );
-    assert_eq!(rt; table.stream_remove_writable(&mut counter, ty, 2), Ok(11));
-    assert_eq!(rt; counter.live(), 0);
+    assert_eq!(rt; told, (Ok((10, false)), Ok(11), 0));
 }
 
 #[test]
@@ -192,24 +230,23 @@ fn the_ends_of_futures(rt: HostRuntime) -> Result<(), Fail> {
     let mut counter = HandleCounter::new(100);
     let mut table = HandleTable::new(rt.alloc());
     let ty = TypeFutureTableIndex::from_u32(2);
-    assert_eq!(rt; table.future_insert_read(&mut counter, ty, 10), Ok(1));
-    assert_eq!(rt; table.future_insert_write(&mut counter, ty, 11), Ok(2));
-    assert_eq!(rt;
+    let told = (
+        table.future_insert_read(&mut counter, ty, 10),
+        table.future_insert_write(&mut counter, ty, 11),
         table.future_rep(ty, 2),
-        Ok((11, TransmitLocalState::Write { done: false }))
-    );
-    assert_eq!(rt; table.waitable_rep(2), Ok((11, Waitable::Future)));
-    assert_eq!(rt;
+        table.waitable_rep(2),
         table.future_remove_readable(&mut counter, ty, 1),
-        Ok((10, false))
     );
+    let writing = Ok((11, TransmitLocalState::Write { done: false }));
+    let waitable = Ok((11, Waitable::Future));
+    assert_eq!(rt; told, (Ok(1), Ok(2), writing, waitable, Ok((10, false))));
     *table.future_state(ty, 2)? = TransmitLocalState::Write { done: true };
     assert!(rt; table.held() <= counter.live());
-    assert_eq!(rt;
+    let told = (
         table.future_remove_writable(&mut counter, ty, 2),
-        Ok((11, true))
+        counter.live(),
     );
-    assert_eq!(rt; counter.live(), 0);
+    assert_eq!(rt; told, (Ok((11, true)), 0));
     Ok(())
 }
 
@@ -217,30 +254,41 @@ fn the_ends_of_futures(rt: HostRuntime) -> Result<(), Fail> {
 fn error_contexts_subtasks_and_waitable_sets(rt: HostRuntime) {
     let mut counter = HandleCounter::new(100);
     let mut table = HandleTable::new(rt.alloc());
-    assert_eq!(rt; table.error_context_insert(&mut counter, 20), Ok(1));
-    assert_eq!(rt; table.subtask_insert_guest(&mut counter, 21), Ok(2));
-    assert_eq!(rt; table.subtask_insert_host(&mut counter, 22), Ok(3));
-    assert_eq!(rt; table.waitable_set_insert(&mut counter, 23), Ok(4));
-    assert_eq!(rt; table.error_context_rep(1), Ok(20));
-    assert_eq!(rt; table.subtask_rep(2), Ok((21, false)));
-    assert_eq!(rt;
+    let given = [
+        table.error_context_insert(&mut counter, 20),
+        table.subtask_insert_guest(&mut counter, 21),
+        table.subtask_insert_host(&mut counter, 22),
+        table.waitable_set_insert(&mut counter, 23),
+    ];
+    assert_eq!(rt; given, [Ok(1), Ok(2), Ok(3), Ok(4)]);
+    let told = (
+        table.error_context_rep(1),
+        table.subtask_rep(2),
         table.waitable_rep(3),
-        Ok((22, Waitable::Subtask { is_host: true }))
+        table.waitable_set_rep(4),
     );
-    assert_eq!(rt; table.waitable_set_rep(4), Ok(23));
-    assert_eq!(rt; table.error_context_drop(&mut counter, 1), Ok(20));
-    assert_eq!(rt; table.subtask_remove(&mut counter, 3), Ok((22, true)));
-    assert_eq!(rt; table.waitable_set_remove(&mut counter, 4), Ok(23));
-    assert_eq!(rt; counter.live(), 1);
+    let waitable = Ok((22, Waitable::Subtask { is_host: true }));
+    assert_eq!(rt; told, (Ok(20), Ok((21, false)), waitable, Ok(23)));
+    let removed = (
+        table.error_context_drop(&mut counter, 1),
+        table.subtask_remove(&mut counter, 3),
+        table.waitable_set_remove(&mut counter, 4),
+        counter.live(),
+    );
+    assert_eq!(rt; removed, (Ok(20), Ok((22, true)), Ok(23), 1));
 }
 
 #[test]
 fn a_removed_thread_is_unknown(rt: HostRuntime) {
     let mut counter = HandleCounter::new(100);
     let mut table = ThreadHandleTable::new(rt.alloc());
-    assert_eq!(rt; table.guest_thread_insert(&mut counter, 9), Ok(1));
-    assert_eq!(rt; table.guest_thread_rep(1), Ok(9));
-    assert_eq!(rt; table.held(), 1);
-    assert_eq!(rt; table.guest_thread_remove(&mut counter, 1), Ok(9));
-    assert_eq!(rt; table.guest_thread_rep(1), Err(HandleError::UnknownHandle));
+    let told = (
+        table.guest_thread_insert(&mut counter, 9),
+        table.guest_thread_rep(1),
+        table.held(),
+        table.guest_thread_remove(&mut counter, 1),
+        table.guest_thread_rep(1),
+    );
+    let unknown = Err(HandleError::UnknownHandle);
+    assert_eq!(rt; told, (Ok(1), Ok(9), 1, Ok(9), unknown));
 }
