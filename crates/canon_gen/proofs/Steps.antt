@@ -4,7 +4,7 @@ use Rattle.std.proofs.lemmas.List.{map-append}
 use Rattle.std.specs.Prelude.{encode_utf8}
 use Rattle.canon_value.specs.declared.val.Val.{Val}
 use Rattle.canon_script.specs.Literals.{Literal, literal_view, literals_view, text}
-use Rattle.canon_gen.specs.Draws.{after, after_text, after_texts, character, characters, drawn, next, text_drawn, texts}
+use Rattle.canon_gen.specs.Draws.{after_draws, after_text, after_texts, character, characters, drawn, next, text_drawn, texts}
 use Rattle.canon_gen.specs.Records.{after_record, record_drawn, records}
 
 less : (n i : ℕ) → i < n → n - i ≡ suc (n - (i + 1))
@@ -23,8 +23,8 @@ module _ (n i : ℕ) (lt : i < n) where
       ap (λ k. characters k x) (less n i lt) ∙ (ap (λ e. e ++ characters left (next x)) (sym front) ∙ ap (λ z. encode_utf8 ch ++ characters left z) (sym dy)) in
       ap (λ t. t ++ characters left y) dm ∙ (append_assoc done (encode_utf8 ch) (characters left y) ∙ (ap (λ t. done ++ t) (sym all) ∙ h))
 
-  pub after_step : (x y last : ℕ) → y ≡ next x → after (n - i) x ≡ last → after (n - (i + 1)) y ≡ last
-  after_step x y last dy h = ap (after left) dy ∙ (sym (ap (λ k. after k x) (less n i lt)) ∙ h)
+  pub after_step : (x y last : ℕ) → y ≡ next x → after_draws (n - i) x ≡ last → after_draws (n - (i + 1)) y ≡ last
+  after_step x y last dy h = ap (after_draws left) dy ∙ (sym (ap (λ k. after_draws k x) (less n i lt)) ∙ h)
 
   pub after_texts_step : (x y last : ℕ) → y ≡ after_text 8 x → after_texts (n - i) x ≡ last → after_texts (n - (i + 1)) y ≡ last
   after_texts_step x y last dy h = ap (after_texts left) dy ∙ (sym (ap (λ k. after_texts k x) (less n i lt)) ∙ h)

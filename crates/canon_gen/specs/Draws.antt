@@ -12,9 +12,9 @@ abbrev pub drawn : ℕ → ℕ → ℕ
 drawn k x = next x / 65536 % k
 
 -- after so many draws
-abbrev pub after : ℕ → ℕ → ℕ
-after zero x = x
-after (suc n) x = after n (next x)
+abbrev pub after_draws : ℕ → ℕ → ℕ
+after_draws zero x = x
+after_draws (suc n) x = after_draws n (next x)
 
 -- ---- texts
 
@@ -32,7 +32,7 @@ abbrev pub text_drawn : ℕ → ℕ → Name
 text_drawn k x = characters (drawn k x) (next x)
 
 abbrev pub after_text : ℕ → ℕ → ℕ
-after_text k x = after (drawn k x) (next x)
+after_text k x = after_draws (drawn k x) (next x)
 
 -- so many texts, each of a length below 8
 abbrev pub texts : ℕ → ℕ → List Name

@@ -18,12 +18,12 @@ common_text = codes "{\"memory\":16777216,\"heap\":1024,\"fuel\":1000000000,"
 unfoldable pub common : Option Play
 common = option_and_then script_of (read common_text)
 
-abbrev pub encoding_by : ℕ → StringEncoding
-encoding_by n = if n == 0 then encoding.Utf8 else (if n == 1 then encoding.Utf16 else encoding.CompactUtf16)
+abbrev pub encoding_for : ℕ → StringEncoding
+encoding_for n = if n == 0 then encoding.Utf8 else (if n == 1 then encoding.Utf16 else encoding.CompactUtf16)
 
 -- texts are spelled by the rest of n by 3
 abbrev pub encoding_made : ℕ → StringEncoding
-encoding_made n = encoding_by (n % 3)
+encoding_made n = encoding_for (n % 3)
 
 -- the guest writes a pointer and a length: a list of n items at 1024; and returns their address
 abbrev pub actions_made : ℕ → List Action

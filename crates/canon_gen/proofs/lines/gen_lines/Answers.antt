@@ -13,7 +13,8 @@ gen_text-requires c =
 pub returns-clause-done : goal.returns-clause-done
 returns-clause-done c =
     let script = c.in_ok-script in
-    IfOk-weaker c.gen_text.result _ _ (λ text told. generated c.args.n (play_of script.script) c.play.new.transcript c.in_ok-play.ensures.ok script.ensures.script told.0 told.1 c.in_ok-list.list c.in_ok-list.ensures (string_bytes text) told.2)
+    IfOk-weaker c.gen_text.result _ _ (λ text told.
+    generated c.args.n (play_of script.script) c.play.new.transcript c.in_ok-play.ensures.ok script.ensures.script told.0 told.1 c.in_ok-list.list c.in_ok-list.ensures (string_bytes text) told.2)
     c.gen_text.ensures
 
 on_err : {T E : Type 0} (r : Result T E) (P : Type 0) → P → OnErr r P
