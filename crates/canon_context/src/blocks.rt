@@ -8,7 +8,7 @@ ghost use Rattle.canon_context.specs.Asks.{AsksFor};
 use crate::{Fault, LowerContext};
 use canon_memory::Guest;
 
-/// Asks the guest for a block of its own.
+/// Asks the guest's `realloc` for a new block of so many bytes, and answers its address, or as `LowerContext::realloc`.
 pub fn ask<T, G: Guest>(
     cx: &mut LowerContext<'_, T, G>,
     align: u32,
@@ -23,7 +23,7 @@ pub fn ask<T, G: Guest>(
     cx.realloc(0, 0, align, size)
 }
 
-/// Asks the guest for a text's block in another size.
+/// Asks the guest's `realloc` for a text's block in another size, in bytes, aligned to 2; answers as `ask`.
 pub fn ask_again<T, G: Guest>(
     cx: &mut LowerContext<'_, T, G>,
     old: u64,

@@ -26,7 +26,10 @@ pub struct TextBlock {
 /// The most bytes that a text is asked for (MAX_STRING_BYTE_LENGTH).
 const MAX_STRING_BYTES: u64 = 0x7fff_ffff;
 
-/// Puts the text that these bytes of UTF-8 are into a block of its own, under the encoding of the options.
+/// Puts the text that these bytes of UTF-8 are into a block of its own in the guest's memory, under the encoding of the options
+/// (CanonicalABI.md, "store_string_into_range"). Answers the block's address, and the length that is told with it, in bytes or in units,
+/// with its tag. Refuses `StringTooLong`, with the number of these bytes, before anything is asked for; else as
+/// `LowerContext::realloc` does.
 pub fn put_text<T, G: Guest>(
     cx: &mut LowerContext<'_, T, G>,
     text: &[u8],
