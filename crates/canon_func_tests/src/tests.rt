@@ -194,3 +194,18 @@ fn a_store_has_the_fuel_of_its_calls(rt: HostRuntime) -> Result<(), Fail> {
     assert_eq!(rt; store.fuel(), 31);
     Ok(())
 }
+
+#[test]
+fn errors_print_their_names(rt: HostRuntime) -> Result<(), Fail> {
+    let alloc = rt.alloc();
+    for (error, want) in [
+        (Error::Fault(Fault::GuestTrap), "GuestTrap"),
+        (Error::Fault(Fault::TypeMismatch(3)), "TypeMismatch 3"),
+        (Error::WrongCount, "WrongCount"),
+        (Error::UnknownImport(5), "UnknownImport 5"),
+    ] {
+        let text = format!(in alloc; "{error}")?;
+        assert!(rt; text.as_str() == want);
+    }
+    Ok(())
+}
