@@ -18,6 +18,3 @@ pub use host_tables::{HostResourceTables, resource_drop_ret};
 pub use index::HostResourceIndex;
 pub use ledger::Ledger;
 pub use tables::ResourceTables;
-
-#[cfg(test)]
-mod tests;

@@ -2,7 +2,7 @@
 
 ghost use Rattle.canon_json.specs.Json.{u32_of};
 
-use crate::{
+use canon_json::{
     Reader, ScriptError, bool_or, bytes_of_hex, bytes_of_json, each, each_of, has_len, items_of,
     only, only_member, there, two, u32_of,
 };

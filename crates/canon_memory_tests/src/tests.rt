@@ -2,7 +2,9 @@
 
 ghost use Rattle.std.specs.Prelude.{◌≡◌, [], ◌∷◌, None, false, true, if◌then◌else◌};
 
-use super::*;
+use canon_memory::{
+    Bytes, Event, Events, Guest, GuestFault, Journaled, Memory, MemoryError, Step, ValRaw, Words,
+};
 use std::alloc::Global;
 use std::mem;
 use std::process::Abort;
@@ -134,22 +136,27 @@ fn assert_ask(rt: &impl Abort, event: Option<&Event>, number: u32, word: ValRaw,
 
 #[test]
 fn a_word_of_32_bits_stands_in_the_low_half(rt: HostRuntime) {
-    assert_eq!(rt; ValRaw::i32(-1).get_u64(), 4_294_967_295);
-    assert_eq!(rt; ValRaw::u32(7).get_u64(), 7);
-    assert_eq!(rt; ValRaw::f32(0x3f80_0000).get_u64(), 0x3f80_0000);
+    let whole = [
+        ValRaw::i32(-1).get_u64(),
+        ValRaw::u32(7).get_u64(),
+        ValRaw::f32(0x3f80_0000).get_u64(),
+    ];
+    assert_eq!(rt; whole, [4_294_967_295, 7, 0x3f80_0000]);
     let word = ValRaw::u64(0x1_ffff_fffe);
-    assert_eq!(rt; word.get_i32(), -2);
-    assert_eq!(rt; word.get_u32(), 0xffff_fffe);
-    assert_eq!(rt; word.get_f32(), 0xffff_fffe);
+    let low = (word.get_i32(), word.get_u32(), word.get_f32());
+    assert_eq!(rt; low, (-2, 0xffff_fffe, 0xffff_fffe));
 }
 
 #[test]
 fn a_word_of_64_bits_is_whole(rt: HostRuntime) {
-    assert_eq!(rt; ValRaw::i64(-1).get_u64(), 18_446_744_073_709_551_615);
-    assert_eq!(rt; ValRaw::u64(18_446_744_073_709_551_615).get_i64(), -1);
-    assert_eq!(rt;
+    let told = (
+        ValRaw::i64(-1).get_u64(),
+        ValRaw::u64(18_446_744_073_709_551_615).get_i64(),
         ValRaw::f64(0x3ff0_0000_0000_0000).get_f64(),
-        0x3ff0_0000_0000_0000
+    );
+    assert_eq!(rt;
+        told,
+        (18_446_744_073_709_551_615, -1, 0x3ff0_0000_0000_0000)
     );
 }
 

@@ -1,9 +1,12 @@
 //! Worked examples, and each public call once.
 
-use super::*;
 use canon_indices::{RuntimeInstance, StoreId};
 use canon_ledger::{
     HostResourceData, HostResourceIndex, HostResourceTables, Ledger, ResourceFault, ResourceTables,
+};
+use canon_resources::{
+    HostResource, HostResourceType, HostType, Resource, ResourceAny, ResourceDynamic,
+    ResourceState, ResourceType,
 };
 use std::test::Fail;
 
@@ -79,10 +82,8 @@ fn a_resource_type_tells_what_it_was_made_of(rt: HostRuntime) {
 fn a_host_resource_tells_its_state(rt: HostRuntime) -> Result<(), Fail> {
     let alloc = rt.alloc();
     let mut own = ResourceDynamic::new_own(7, 1);
-    assert_eq!(rt; own.rep(), 7);
-    assert_eq!(rt; own.ty(), 1);
-    assert!(rt; own.owned());
-    assert_eq!(rt; own.state(), ResourceState::NotInTable);
+    let told = (own.rep(), own.ty(), own.owned(), own.state());
+    assert_eq!(rt; told, (7, 1, true, ResourceState::NotInTable));
     assert_eq!(rt;
         format!(in alloc; "{own:?}")?.as_str(),
         "Resource { rep: 7, state: \"own (not in table)\" }"
@@ -101,11 +102,10 @@ fn a_host_resource_tells_its_state(rt: HostRuntime) -> Result<(), Fail> {
     );
     let mut placed: Resource<File> = Resource::new_own(9);
     placed.place(HostResourceIndex::new(1, 0));
-    assert!(rt; placed.owned());
-    assert_eq!(rt; placed.rep(), 9);
+    let state = ResourceState::Index(HostResourceIndex::new(1, 0));
     assert_eq!(rt;
-        placed.state(),
-        ResourceState::Index(HostResourceIndex::new(1, 0))
+        (placed.owned(), placed.rep(), placed.state()),
+        (true, 9, state)
     );
     assert_eq!(rt;
         format!(in alloc; "{placed:?}")?.as_str(),
@@ -122,9 +122,7 @@ fn a_kind_of_ones_own_has_host_resources(rt: HostRuntime) -> Result<(), Fail> {
     let borrow: HostResource<Numbered, u32> = HostResource::new_borrow(6, 2);
     assert!(rt; !borrow.owned());
     let mut own: HostResource<Numbered, u32> = HostResource::new_own(7, 2);
-    assert!(rt; own.owned());
-    assert_eq!(rt; own.rep(), 7);
-    assert_eq!(rt; own.ty(), 2);
+    assert_eq!(rt; (own.owned(), own.rep(), own.ty()), (true, 7, 2));
     let idx = tables.host_resource_lower_own(7, None, None)?;
     own.place(idx);
     let any = own.try_into_resource_any(&mut tables)?;
@@ -151,19 +149,19 @@ fn an_own_resource_goes_into_the_table_and_comes_out(rt: HostRuntime) -> Result<
     assert!(rt; any == again);
     assert!(rt; any.owned());
     assert!(rt; any.ty().is_host::<File>());
-    assert_eq!(rt; any.host_index(), Some(HostResourceIndex::new(1, 0)));
-    assert_eq!(rt; any.synthetic_rep(), None);
+    let index = HostResourceIndex::new(1, 0);
     assert_eq!(rt;
+        (any.host_index(), any.synthetic_rep()),
+        (Some(index), None)
+    );
+    let refused = [
         any.try_into_resource::<Socket>(&mut tables).err(),
-        Some(ResourceFault::ResourceTypeMismatch)
-    );
-    assert_eq!(rt;
         any.try_into_resource_dynamic(&mut tables).err(),
-        Some(ResourceFault::ResourceTypeMismatch)
-    );
+    ];
+    let mismatch = ResourceFault::ResourceTypeMismatch;
+    assert_eq!(rt; refused, [Some(mismatch), Some(mismatch)]);
     let file = any.try_into_resource::<File>(&mut tables)?;
-    assert_eq!(rt; file.rep(), 7);
-    assert_eq!(rt; file.state(), ResourceState::NotInTable);
+    assert_eq!(rt; (file.rep(), file.state()), (7, ResourceState::NotInTable));
     assert_eq!(rt;
         any.try_into_resource::<File>(&mut tables).err(),
         Some(ResourceFault::UnknownHandle(1))
@@ -191,8 +189,7 @@ fn a_resource_that_was_given_away_is_refused(rt: HostRuntime) -> Result<(), Fail
         Some(ResourceFault::HandleLimit)
     );
     let back = ResourceDynamic::try_from_resource_any(any, &mut tables)?;
-    assert_eq!(rt; back.rep(), 8);
-    assert_eq!(rt; back.ty(), 1);
+    assert_eq!(rt; (back.rep(), back.ty()), (8, 1));
     Ok(())
 }
 
@@ -204,13 +201,11 @@ fn a_borrow_of_the_hosts_own_making_has_no_handle(rt: HostRuntime) -> Result<(),
     let any = ResourceDynamic::new_borrow(7, 1).try_into_resource_any(&mut tables)?;
     let again = ResourceAny::new_borrow(7, ResourceType::host_dynamic(1));
     assert!(rt; any == again);
-    assert!(rt; !any.owned());
-    assert_eq!(rt; any.host_index(), None);
-    assert_eq!(rt; any.synthetic_rep(), Some(7));
+    let told = (any.owned(), any.host_index(), any.synthetic_rep());
+    assert_eq!(rt; told, (false, None, Some(7)));
     let borrow = any.try_into_resource_dynamic(&mut tables)?;
-    assert_eq!(rt; borrow.rep(), 7);
-    assert_eq!(rt; borrow.state(), ResourceState::Borrow);
-    assert_eq!(rt; ledger.live(), 0);
+    let told = (borrow.rep(), borrow.state(), ledger.live());
+    assert_eq!(rt; told, (7, ResourceState::Borrow, 0));
     Ok(())
 }
 
@@ -224,8 +219,7 @@ fn a_borrow_handle_is_dropped_where_it_is_converted(rt: HostRuntime) -> Result<(
     let any = ResourceAny::new(index, ResourceType::host::<File>(), false);
     let mut tables = HostResourceTables::new_host(&mut ledger);
     let borrow: Resource<File> = Resource::try_from_resource_any(any, &mut tables)?;
-    assert_eq!(rt; borrow.rep(), 7);
-    assert!(rt; !borrow.owned());
+    assert_eq!(rt; (borrow.rep(), borrow.owned()), (7, false));
     assert_eq!(rt;
         any.try_into_resource::<File>(&mut tables).err(),
         Some(ResourceFault::UnknownHandle(1))

@@ -1,4 +1,6 @@
-use crate::{CanonicalAbiInfo, DiscriminantSize, FlagsSize};
+//! Sizes, alignments, flat words, discriminants and flags of known types.
+
+use canon_abi::{CanonicalAbiInfo, DiscriminantSize, FlagsSize};
 
 #[test]
 fn discriminants_have_1_2_or_4_bytes(rt: HostRuntime) {

@@ -1,7 +1,7 @@
-//! Worked examples, and each public call once.
+//! Handles that are lent in the scope of a call, and what a handle is refused for.
 
-use super::*;
 use canon_handles::{CurrentScope, Scope, TypedResource, TypedResourceIndex};
+use canon_ledger::{HostResourceData, Ledger, ResourceFault, ResourceTables};
 use std::test::Fail;
 
 fn new_own(ledger: &mut Ledger, rep: u32) -> Result<u32, ResourceFault> {
@@ -108,82 +108,101 @@ fn leave(ledger: &mut Ledger) -> bool {
 }
 
 #[test]
-fn a_lent_handle_stays_until_the_call_ends(rt: HostRuntime) {
+fn a_lent_handle_stays_until_the_call_ends(rt: HostRuntime) -> Result<(), Fail> {
     let alloc = rt.alloc();
-    let Ok(mut ledger) = Ledger::new(alloc, 1, 100, HostResourceData::new(alloc)) else {
-        assert!(rt; false);
-        return;
-    };
-    assert_eq!(rt; ledger.instances(), 1);
-    assert_eq!(rt; new_own(&mut ledger, 7), Ok(1));
-    assert_eq!(rt; ledger.enter(), Ok(Scope::Id(0)));
-    assert_eq!(rt; ledger.current(), Some(CurrentScope::Id(Scope::Id(0))));
-    assert_eq!(rt; is_empty(&ledger, 0), Some(true));
-    assert_eq!(rt; lift_borrow(&mut ledger, 1), Ok(7));
-    assert_eq!(rt; counts(&ledger, 0), Some((1, 0)));
-    assert_eq!(rt; ledger.live(), 2);
-    assert_eq!(rt; lift_own(&mut ledger, 1), Err(ResourceFault::StillLent(1)));
-    assert_eq!(rt;
-        drop_handle(&mut ledger, 1),
-        Err(ResourceFault::StillLent(1))
+    let mut ledger = Ledger::new(alloc, 1, 100, HostResourceData::new(alloc))?;
+    let scope = Scope::Id(0);
+    let entered = (
+        ledger.instances(),
+        new_own(&mut ledger, 7),
+        ledger.enter(),
+        ledger.current(),
+        is_empty(&ledger, 0),
     );
-    assert!(rt; !leave(&mut ledger));
-    assert_eq!(rt; exit(&mut ledger), Ok(()));
-    assert_eq!(rt; ledger.live(), 1);
-    assert!(rt; leave(&mut ledger));
-    assert_eq!(rt; ledger.current(), None);
-    assert_eq!(rt; counts(&ledger, 0), None);
-    assert_eq!(rt; lift_own(&mut ledger, 1), Ok(7));
-    assert_eq!(rt; ledger.live(), 0);
+    let current = Some(CurrentScope::Id(scope));
+    assert!(rt; entered == (1, Ok(1), Ok(scope), current, Some(true)));
+    let lent = (
+        lift_borrow(&mut ledger, 1),
+        counts(&ledger, 0),
+        ledger.live(),
+        lift_own(&mut ledger, 1),
+        drop_handle(&mut ledger, 1),
+        leave(&mut ledger),
+    );
+    let own = Err(ResourceFault::StillLent(1));
+    let dropped = Err(ResourceFault::StillLent(1));
+    assert!(rt; lent == (Ok(7), Some((1, 0)), 2, own, dropped, false));
+    let left = (
+        exit(&mut ledger),
+        ledger.live(),
+        leave(&mut ledger),
+        ledger.current(),
+        counts(&ledger, 0),
+    );
+    assert!(rt; left == (Ok(()), 1, true, None, None));
+    let lifted = (lift_own(&mut ledger, 1), ledger.live());
+    assert!(rt; lifted == (Ok(7), 0));
+    Ok(())
 }
 
 #[test]
-fn a_borrow_handle_is_not_lifted_as_own(rt: HostRuntime) {
+fn a_borrow_handle_is_not_lifted_as_own(rt: HostRuntime) -> Result<(), Fail> {
     let alloc = rt.alloc();
-    let Ok(mut ledger) = Ledger::new(alloc, 1, 100, HostResourceData::new(alloc)) else {
-        assert!(rt; false);
-        return;
-    };
-    assert_eq!(rt; ledger.enter(), Ok(Scope::Id(0)));
-    assert_eq!(rt; lower_borrow(&mut ledger, 7), Ok(1));
-    assert_eq!(rt; lift_own(&mut ledger, 1), Err(ResourceFault::BorrowAsOwn));
-    assert_eq!(rt; counts(&ledger, 0), Some((0, 1)));
-    assert_eq!(rt; rep(&mut ledger, 1), Ok(7));
-    assert_eq!(rt; exit(&mut ledger), Err(ResourceFault::BorrowsRemain));
-    assert_eq!(rt; drop_handle(&mut ledger, 1), Ok(None));
-    assert_eq!(rt; exit(&mut ledger), Ok(()));
-    assert_eq!(rt; rep(&mut ledger, 1), Err(ResourceFault::UnknownHandle(1)));
+    let mut ledger = Ledger::new(alloc, 1, 100, HostResourceData::new(alloc))?;
+    let lowered = (
+        ledger.enter(),
+        lower_borrow(&mut ledger, 7),
+        lift_own(&mut ledger, 1),
+        counts(&ledger, 0),
+        rep(&mut ledger, 1),
+    );
+    let as_own = Err(ResourceFault::BorrowAsOwn);
+    let entered = Ok(Scope::Id(0));
+    assert!(rt; lowered == (entered, Ok(1), as_own, Some((0, 1)), Ok(7)));
+    let left = (
+        exit(&mut ledger),
+        drop_handle(&mut ledger, 1),
+        exit(&mut ledger),
+        rep(&mut ledger, 1),
+    );
+    let remain = Err(ResourceFault::BorrowsRemain);
+    let unknown = Err(ResourceFault::UnknownHandle(1));
+    assert!(rt; left == (remain, Ok(None), Ok(()), unknown));
+    Ok(())
 }
 
 #[test]
-fn no_own_handle_is_lent_outside_a_scope(rt: HostRuntime) {
+fn no_own_handle_is_lent_outside_a_scope(rt: HostRuntime) -> Result<(), Fail> {
     let alloc = rt.alloc();
-    let Ok(mut ledger) = Ledger::new(alloc, 1, 100, HostResourceData::new(alloc)) else {
-        assert!(rt; false);
-        return;
-    };
-    assert_eq!(rt; lower_own(&mut ledger, 7), Ok(1));
-    assert_eq!(rt; lift_borrow(&mut ledger, 1), Err(ResourceFault::NoScope));
-    assert_eq!(rt; lower_borrow(&mut ledger, 7), Err(ResourceFault::NoScope));
-    assert_eq!(rt; exit(&mut ledger), Err(ResourceFault::NoScope));
-    assert_eq!(rt; ledger.live(), 1);
+    let mut ledger = Ledger::new(alloc, 1, 100, HostResourceData::new(alloc))?;
+    let refused = (
+        lower_own(&mut ledger, 7),
+        lift_borrow(&mut ledger, 1),
+        lower_borrow(&mut ledger, 7),
+        exit(&mut ledger),
+        ledger.live(),
+    );
+    let lifted = Err(ResourceFault::NoScope);
+    let lowered = Err(ResourceFault::NoScope);
+    let left = Err(ResourceFault::NoScope);
+    assert!(rt; refused == (Ok(1), lifted, lowered, left, 1));
     ledger.set_limit(0);
-    assert_eq!(rt; new_own(&mut ledger, 8), Err(ResourceFault::HandleLimit));
-    assert_eq!(rt; drop_handle(&mut ledger, 1), Ok(Some(7)));
+    let told = (new_own(&mut ledger, 8), drop_handle(&mut ledger, 1));
+    assert!(rt; told == (Err(ResourceFault::HandleLimit), Ok(Some(7))));
+    Ok(())
 }
 
 #[test]
-fn nothing_is_removed_after_the_last_generation(rt: HostRuntime) {
+fn nothing_is_removed_after_the_last_generation(rt: HostRuntime) -> Result<(), Fail> {
     let alloc = rt.alloc();
     let host = HostResourceData::with_generation(alloc, 4_294_967_292);
-    let Ok(mut ledger) = Ledger::new(alloc, 0, 100, host) else {
-        assert!(rt; false);
-        return;
-    };
-    assert_eq!(rt; new_own(&mut ledger, 7), Ok(1));
-    assert_eq!(rt;
+    let mut ledger = Ledger::new(alloc, 0, 100, host)?;
+    let told = (
+        new_own(&mut ledger, 7),
         lift_own(&mut ledger, 1),
-        Err(ResourceFault::GenerationExhausted)
+        rep(&mut ledger, 1),
     );
-    assert_eq!(rt; rep(&mut ledger, 1), Ok(7));
+    let exhausted = Err(ResourceFault::GenerationExhausted);
+    assert!(rt; told == (Ok(1), exhausted, Ok(7)));
+    Ok(())
 }

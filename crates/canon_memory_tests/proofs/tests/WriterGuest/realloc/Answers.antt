@@ -1,6 +1,6 @@
 use Rattle.std.proofs.Common.{arith, rules, false, true, refl}
 use Rattle.std.proofs.lemmas.Grind.{common_steps}
-use Rattle.canon_memory.proofs.tests.WriterGuest.realloc.Goals as goal
+use Rattle.canon_memory_tests.proofs.tests.WriterGuest.realloc.Goals as goal
 
 pub returns-clause-does : goal.returns-clause-does
 returns-clause-does c = (
