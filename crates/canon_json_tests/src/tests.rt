@@ -36,10 +36,10 @@ impl Reader for Numbers {
 fn members_are_found_and_counted(rt: HostRuntime) -> Result<(), Fail> {
     let v = Value::from_str(rt.alloc(), r#"{"yes":true,"items":[1,2]}"#)?;
     assert!(rt; has_len(&v, there(v.get("yes")) + there(v.get("items"))));
-    assert_eq!(rt; there(v.get("no")), 0);
-    assert_eq!(rt; bool_or(v.get("yes"), false), Some(true));
-    assert_eq!(rt; bool_or(v.get("no"), true), Some(true));
-    assert_eq!(rt; bool_or(v.get("items"), true), None);
+    assert!(rt; there(v.get("no")) == 0);
+    assert!(rt; bool_or(v.get("yes"), false) == Some(true));
+    assert!(rt; bool_or(v.get("no"), true) == Some(true));
+    assert!(rt; bool_or(v.get("items"), true) == None);
     assert!(rt; items_of(v.get("items")).is_some_and(|items| items.len() == 2));
     assert!(rt; items_of(v.get("no")).is_some_and(|items| items.is_empty()));
     assert!(rt; only_member(&v).is_none());
@@ -54,13 +54,13 @@ fn members_are_found_and_counted(rt: HostRuntime) -> Result<(), Fail> {
 fn items_are_read_in_order(rt: HostRuntime) -> Result<(), Fail> {
     let v = Value::from_str(rt.alloc(), r#"[[4294967295],[1,2],[3,4294967296]]"#)?;
     let items = items_of(Some(&v)).expect(&rt, "an array");
-    assert_eq!(rt; items.len(), 3);
-    assert_eq!(rt; only(Some(&items[0])).and_then(u32_of), Some(u32::MAX));
+    assert!(rt; items.len() == 3);
+    assert!(rt; only(Some(&items[0])).and_then(u32_of) == Some(u32::MAX));
     assert!(rt; only(Some(&items[1])).is_none());
     assert!(rt; two(&items[0]).is_none());
     assert!(rt; two(&items[1]).is_some_and(|(a, b)| u32_of(a) == Some(1) && u32_of(b) == Some(2)));
     let numbers = each_of(rt.alloc(), &Numbers, Some(&items[1]))?;
-    assert_eq!(rt; numbers.as_slice(), [1, 2].as_slice());
+    assert!(rt; numbers.as_slice() == [1, 2].as_slice());
     let none = each(rt.alloc(), &Numbers, &[])?;
     assert!(rt; none.is_empty());
     let refused = each_of(rt.alloc(), &Numbers, Some(&items[2]));
@@ -72,9 +72,9 @@ fn items_are_read_in_order(rt: HostRuntime) -> Result<(), Fail> {
 fn hex_is_in_small_letters(rt: HostRuntime) -> Result<(), Fail> {
     let v = Value::from_str(rt.alloc(), r#"["00ff1a",7]"#)?;
     let items = items_of(Some(&v)).expect(&rt, "an array");
-    assert_eq!(rt; items.len(), 2);
+    assert!(rt; items.len() == 2);
     let bytes = bytes_of_json(rt.alloc(), &items[0])?;
-    assert_eq!(rt; bytes.as_slice(), [0, 255, 26].as_slice());
+    assert!(rt; bytes.as_slice() == [0, 255, 26].as_slice());
     let number = bytes_of_json(rt.alloc(), &items[1]);
     assert!(rt; number.is_err_and(|e| e == ScriptError::BadScript));
     for text in ["0", "0g", "1A"] {

@@ -36,7 +36,7 @@ fn each_type_and_function_prints_its_line(rt: HostRuntime) -> Result<(), Fail> {
     ];
     for (input, text) in rows {
         let lines = printed(rt.alloc(), input)?.expect(&rt, "an input of `layout`");
-        assert_eq!(rt; lines.as_str(), text, "{input}");
+        assert!(rt; lines.as_str() == text);
     }
     Ok(())
 }
@@ -101,7 +101,7 @@ fn lists(alloc: Global, depth: u32) -> Result<String, AllocError> {
 fn flags_end_at_8160_names(rt: HostRuntime) -> Result<(), Fail> {
     let most = flags(rt.alloc(), 8160)?;
     let lines = printed(rt.alloc(), most.as_str())?.expect(&rt, "8,160 flags");
-    assert_eq!(rt; lines.as_str(), "type 0 flags size 1020 align 4 flat -\n");
+    assert!(rt; lines.as_str() == "type 0 flags size 1020 align 4 flat -\n");
     Ok(())
 }
 
@@ -135,16 +135,13 @@ fn referred(
 fn types_are_read_by_name_and_by_number(rt: HostRuntime) -> Result<(), Fail> {
     let entries = Value::from_str(rt.alloc(), r#"[{"list":"u8"},{"option":0}]"#)?;
     let (table, types) = types_of_json(rt.alloc(), &entries)?;
-    assert_eq!(rt; types.len(), 2);
+    assert!(rt; types.len() == 2);
     assert!(rt; table.contains(&types[1]) && matches!(&types[0], InterfaceType::List(_)));
     let number = referred(rt.alloc(), "1", &types)?;
     let name = referred(rt.alloc(), r#""string""#, &types)?;
     let later = referred(rt.alloc(), "2", &types)?;
     let refused = Err(ScriptError::BadScript);
-    assert_eq!(rt;
-        (number, name, later),
-        (Ok(types[1]), Ok(InterfaceType::String), refused)
-    );
+    assert!(rt; (number, name, later) == (Ok(types[1]), Ok(InterfaceType::String), refused));
     Ok(())
 }
 
@@ -159,6 +156,6 @@ fn an_own_of_no_resource_is_no_type(rt: HostRuntime) -> Result<(), Fail> {
 fn an_input_has_a_type_for_each_entry(rt: HostRuntime) -> Result<(), Fail> {
     let all = Value::from_str(rt.alloc(), r#"{"types":[{"list":"u8"}]}"#)?;
     let (_, types) = listing_of_json(rt.alloc(), &all)?;
-    assert_eq!(rt; types.len(), 1);
+    assert!(rt; types.len() == 1);
     Ok(())
 }

@@ -95,7 +95,7 @@ fn what_is_no_value_is_refused(rt: HostRuntime) -> Result<(), Fail> {
     let tree = Value::from_str(rt.alloc(), NO_VALUES)?;
     for item in items_of(Some(&tree)).ok_or("an array")? {
         let read = value_of_json(rt.alloc(), item);
-        assert!(rt; matches!(read, Err(ScriptError::BadScript)), "{item:?}");
+        assert!(rt; matches!(read, Err(ScriptError::BadScript)));
     }
     Ok(())
 }
@@ -145,7 +145,7 @@ fn what_is_no_action_is_refused(rt: HostRuntime) -> Result<(), Fail> {
     let tree = Value::from_str(rt.alloc(), NO_ACTIONS)?;
     for item in items_of(Some(&tree)).ok_or("an array")? {
         let read = actions_of_json(rt.alloc(), item);
-        assert!(rt; matches!(read, Err(ScriptError::BadScript)), "{item:?}");
+        assert!(rt; matches!(read, Err(ScriptError::BadScript)));
     }
     Ok(())
 }
@@ -213,7 +213,7 @@ const SCRIPTS: &str = r#"[
 fn scripts_reach_their_limits(rt: HostRuntime) -> Result<(), Fail> {
     let tree = Value::from_str(rt.alloc(), SCRIPTS)?;
     for item in items_of(Some(&tree)).ok_or("an array")? {
-        assert!(rt; script_of_json(rt.alloc(), item).is_ok(), "{item:?}");
+        assert!(rt; script_of_json(rt.alloc(), item).is_ok());
     }
     Ok(())
 }
@@ -259,7 +259,7 @@ fn what_is_no_script_is_refused(rt: HostRuntime) -> Result<(), Fail> {
     let tree = Value::from_str(rt.alloc(), NO_SCRIPTS)?;
     for item in items_of(Some(&tree)).ok_or("an array")? {
         let read = script_of_json(rt.alloc(), item);
-        assert!(rt; matches!(read, Err(ScriptError::BadScript)), "{item:?}");
+        assert!(rt; matches!(read, Err(ScriptError::BadScript)));
     }
     Ok(())
 }
