@@ -1,7 +1,7 @@
 -- Texts out of bytes.
 use Rattle.std.proofs.Common.{All, Err, IsUtf8, List, Ok, Result, [], ap, append_assoc, ⊎_elim, arith, drop, drop-drop, false, flat_map, length-drop, get_or, length, refl, subst, sym, take, ℕ, ◌%◌, ◌*◌, ◌++◌, ◌+◌, ◌-◌, ◌/◌, ◌<◌, ◌∙◌, ◌∷◌, ◌≡◌, ◌≤◌}
 use Rattle.std.proofs.lemmas.Bool.{cases_lt}
-use Rattle.std.proofs.lemmas.List.{append-nil, drop_all, drop_at, get_or_past, length-append, length-take, length-take-le, take-append-drop, take_all}
+use Rattle.std.proofs.lemmas.List.{append-nil, drop_all, drop_at, get_or_past, length-append, length-take, length-take-le, take-append-drop}
 use Rattle.std.specs.Prelude.{OnErr}
 use Rattle.std.specs.Char.Escape.{encode_utf16}
 use Rattle.std.specs.Str.{IsAscii, encode_utf8_all}
@@ -40,7 +40,8 @@ pieced : (source : List ℕ) (at count : ℕ) → drop at source ≡ run source 
 pieced source at count = sym (take-append-drop count (drop at source)) ∙ ap (λ l. run source at count ++ l) (drop-drop count at source)
 
 -- a pass over a piece
-pub decoding-more : (form : Form) (source text old new : List ℕ) (at count read written : ℕ) → Decoding form source text at → Passed form false (run source at count) old new read written → Decoding form source (text ++ take written new) (at + read)
+pub decoding-more : (form : Form) (source text old new : List ℕ) (at count read written : ℕ) → Decoding form source text at → Passed form false (run source at count) old new read written
+    → Decoding form source (text ++ take written new) (at + read)
 decoding-more form source text old new at count read written h g =
     let p = passed_front form false (run source at count) old new read written g in
     let cs = h.wrote.scalars in
@@ -71,8 +72,8 @@ fault_inside form source old new at count error inside g =
     omega (arith, inside, g.place, ap length g.is, length-append (units form g.scalars) g.rest, length-take count (drop at source), length-drop at source)
 
 -- a pass over a piece of UTF-16 in which no pair is cut comes to the first fault
-pub decoding-fault : (source text old new : List ℕ) (at count : ℕ) (error moved : TextError) → Decoding in_utf16 source text at → PassFails in_utf16 false (run source at count) old new error → at + count ≤ length source → CutsNoPair source (at + count)
-    → error_form moved ≡ error_form error → error_place moved ≡ at + error_place error → IsFirstFault in_utf16 source moved
+pub decoding-fault : (source text old new : List ℕ) (at count : ℕ) (error moved : TextError) → Decoding in_utf16 source text at → PassFails in_utf16 false (run source at count) old new error
+    → at + count ≤ length source → CutsNoPair source (at + count) → error_form moved ≡ error_form error → error_place moved ≡ at + error_place error → IsFirstFault in_utf16 source moved
 decoding-fault source text old new at count error moved h g room whole same place =
     let cs = h.wrote.scalars in
     let tail = drop (at + count) source in

@@ -2,7 +2,6 @@
 use Rattle.std.proofs.Common.{IfSome, IsSomeAnd, List, MatchOption, None, Option, Some, [], ap, arith, drop, flat_map, get_or, inl, inr, le-ltb, length, lt-ltb, nat_lt, refl, set, slice_get, subst, subst₂, take, suc, sym, true, zero, ℕ, ⊎_elim, ◌*◌, ◌++◌, ◌+◌, ◌-◌, ◌/◌, ◌%◌, ◌<◌, ◌∙◌, ◌∷◌, ◌≡◌, ◌≤◌, ◌⊎◌}
 use Rattle.std.proofs.lemmas.Bool.{and_from, and_parts, cases_lt, cond-false, cond-true, le-leb}
 use Rattle.std.proofs.lemmas.List.{append-nil, drop_more, get_or-append_right, get_or-drop, get_or-take, get_or_past, length-append, length-drop, take_more, take_more_set}
-use Rattle.std.proofs.lemmas.Option.{slice_get-get_or}
 use Rattle.std.specs.Char.Escape.{encode_utf16}
 use Rattle.std.specs.Char.Utf16.{surrogate_pair_char}
 use lib.Utf8.{scalar, scalar_cases}
@@ -201,9 +200,9 @@ pub ill_longer : (front tail : List ℕ) → IllFormed in_utf16 front → CutsNo
 ill_longer front tail ill whole = record {
   some = let some : 0 < length front = ill.some in omega (arith, length-append front tail);
   none = λ c b.
-    let one = units-one c in
-    let found = in_front front tail b.more (encode_utf16 c) c ill.some whole (units_of c (and_parts _ _ b.can).0) (b.is ∙ ap (λ l. l ++ b.more) one) in
-    ill.none c (record { more = found.0; can = b.can; is = found.1 ∙ ap (λ l. l ++ found.0) (sym one) });
+      let one = units-one c in
+      let found = in_front front tail b.more (encode_utf16 c) c ill.some whole (units_of c (and_parts _ _ b.can).0) (b.is ∙ ap (λ l. l ++ b.more) one) in
+      ill.none c (record { more = found.0; can = b.can; is = found.1 ∙ ap (λ l. l ++ found.0) (sym one) });
 }
 
 -- one unit more of what bytes hold from a place on
@@ -220,7 +219,8 @@ pub unit_made : (source now : List ℕ) (from count k : ℕ) → take count now 
 unit_made source now from count k h small = sym (get_or-take count now k 0 small) ∙ ap (λ l. get_or l k 0) h ∙ get_or-take count (drop from source) k 0 small ∙ get_or-drop from source k 0
 
 -- behind a unit that begins no pair none is cut, nor is one at the end
-pub cuts_none_last : (source now : List ℕ) (from count at : ℕ) → at ≡ from + count → take count now ≡ run source from count → 0 < count → (get_or now (count - 1) 0 < 0xD800) ⊎ (0xDC00 ≤ get_or now (count - 1) 0) → CutsNoPair source at
+pub cuts_none_last : (source now : List ℕ) (from count at : ℕ) → at ≡ from + count → take count now ≡ run source from count → 0 < count
+    → (get_or now (count - 1) 0 < 0xD800) ⊎ (0xDC00 ≤ get_or now (count - 1) 0) → CutsNoPair source at
 cuts_none_last source now from count at e made some last =
     let is : get_or now (count - 1) 0 ≡ get_or source (at - 1) 0 = unit_made source now from count (count - 1) made (omega arith) ∙ ap (λ k. get_or source k 0) (omega arith) in
     inl (subst (λ u. (u < 0xD800) ⊎ (0xDC00 ≤ u)) is last)
