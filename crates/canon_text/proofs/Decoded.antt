@@ -1,7 +1,7 @@
 -- Texts out of bytes.
 use Rattle.std.proofs.Common.{All, Err, IsUtf8, List, Ok, Result, [], ap, append_assoc, ⊎_elim, arith, drop, drop-drop, false, flat_map, length-drop, get_or, length, refl, subst, sym, take, ℕ, ◌%◌, ◌*◌, ◌++◌, ◌+◌, ◌-◌, ◌/◌, ◌<◌, ◌∙◌, ◌∷◌, ◌≡◌, ◌≤◌}
 use Rattle.std.proofs.lemmas.Bool.{cases_lt}
-use Rattle.std.proofs.lemmas.List.{append-nil, drop_all, get_or_past, length-append, take_all}
+use Rattle.std.proofs.lemmas.List.{append-nil, drop_all, drop_at, get_or_past, length-append, length-take, length-take-le, take-append-drop}
 use Rattle.std.specs.Prelude.{OnErr}
 use Rattle.std.specs.Char.Escape.{encode_utf16}
 use Rattle.std.specs.Str.{IsAscii, encode_utf8_all}
@@ -9,6 +9,7 @@ use Rattle.std.proofs.lemmas.Str.{encodes-IsAscii}
 use Rattle.canon_model.proofs.Passes.{can_spell-append, encode_utf8_all-append, units-append}
 use Rattle.canon_model.specs.Text.{Form, Spells, in_latin1, in_utf16, in_utf8, unit_bytes, units}
 use Rattle.canon_text.specs.Runs.{run}
+use Rattle.canon_text.specs.Surrogates.{CutsNoPair}
 use Rattle.canon_text.specs.Decoding.{Decodes, SpellsNothing, units_in}
 use Rattle.canon_text.specs.declared.error.TextError.{TextError}
 use Rattle.canon_text.specs.Answers.{PassFails, Passed}
@@ -16,7 +17,7 @@ use Rattle.canon_text.specs.Laws.{Reads, UnitsOfBytes, WroteFront}
 use Rattle.canon_text.proofs.Lawful.{one_fault, pass_reads, passed_front}
 use Rattle.canon_text.specs.Faults.{IllFormedAt, IsFirstFault, error_form, error_place}
 use Rattle.canon_text.proofs.Bytes.{latin1_from}
-use Rattle.canon_text.proofs.Pairs.{units_in-bytes}
+use Rattle.canon_text.proofs.Pairs.{cuts_none_behind, ill_longer, units_in-bytes}
 use Rattle.canon_text.proofs.Splits.{nil_can, units-nil}
 use Rattle.canon_text.proofs.Kept.{wide_can}
 
@@ -34,50 +35,68 @@ decoding-nil form source = record {
   wrote = record { scalars = []; can = nil_can form; reads = ap (λ l. l ++ source) (sym (units-nil form)); writes = refl };
 }
 
-pub rest-run : (source : List ℕ) (at : ℕ) → run source at (length source - at) ≡ drop at source
-rest-run source at = take_all (length source - at) (drop at source) (omega (arith, length-drop at source))
+-- what stands behind a place: a piece, and what follows it
+pieced : (source : List ℕ) (at count : ℕ) → drop at source ≡ run source at count ++ drop (at + count) source
+pieced source at count = sym (take-append-drop count (drop at source)) ∙ ap (λ l. run source at count ++ l) (drop-drop count at source)
 
-pub rest-is : (items source : List ℕ) (at : ℕ) → items ≡ source → run items at (length items - at) ≡ drop at source
-rest-is items source at same = rest-run items at ∙ ap (λ l. drop at l) same
-
--- a pass over the rest
-pub decoding-more : (form : Form) (source rest text old new : List ℕ) (at read written : ℕ) → Decoding form source text at → rest ≡ drop at source → Passed form false rest old new read written → Decoding form source (text ++ take written new) (at + read)
-decoding-more form source rest text old new at read written h left pass =
-    let g : Passed form false (drop at source) old new read written = subst (λ l. Passed form false l old new read written) left pass in
-    let p = passed_front form false (drop at source) old new read written g in
+-- a pass over a piece
+pub decoding-more : (form : Form) (source text old new : List ℕ) (at count read written : ℕ) → Decoding form source text at → Passed form false (run source at count) old new read written
+    → Decoding form source (text ++ take written new) (at + read)
+decoding-more form source text old new at count read written h g =
+    let p = passed_front form false (run source at count) old new read written g in
     let cs = h.wrote.scalars in
     let both = units form (cs ++ g.scalars) in
+    let tail = drop (at + count) source in
+    let long : length (drop at source) ≡ length source - at = length-drop at source in
+    let all : drop at source ≡ units form g.scalars ++ (g.rest ++ tail) = pieced source at count ∙ ap (λ l. l ++ tail) g.pass.reads ∙ append_assoc (units form g.scalars) g.rest tail in
+    let left : g.rest ++ tail ≡ drop (at + read) source = sym (drop_at (units form g.scalars) (g.rest ++ tail) read (sym g.reads)) ∙ ap (λ l. drop read l) (sym all) ∙ drop-drop read at source in
     record {
-      inside = let front : at ≤ length source = h.inside in omega (arith, g.reads, ap length g.pass.reads, length-append (units form g.scalars) g.rest, length-drop at source);
+      inside = let front : at ≤ length source = h.inside in omega (arith, g.reads, ap length all, length-append (units form g.scalars) (g.rest ++ tail), long);
       wrote = record {
         scalars = cs ++ g.scalars;
         can = can_spell-append form cs g.scalars h.wrote.can g.pass.can;
-        reads = h.wrote.reads ∙ ap (λ l. units form cs ++ l) g.pass.reads ∙ sym (append_assoc (units form cs) (units form g.scalars) g.rest)
-            ∙ ap (λ l. l ++ g.rest) (sym (units-append form cs g.scalars)) ∙ ap (λ l. both ++ l) (sym p.0 ∙ drop-drop read at source);
+        reads = h.wrote.reads ∙ ap (λ l. units form cs ++ l) all ∙ sym (append_assoc (units form cs) (units form g.scalars) (g.rest ++ tail))
+            ∙ ap (λ l. l ++ (g.rest ++ tail)) (sym (units-append form cs g.scalars)) ∙ ap (λ l. both ++ l) left;
         writes = ap (λ l. l ++ take written new) h.wrote.writes ∙ ap (λ l. encode_utf8_all cs ++ l) p.1 ∙ sym (encode_utf8_all-append cs g.scalars);
       };
     }
 
 -- a pass with room reads something
-pub decoding-reads : (form : Form) (source rest old new : List ℕ) (at read written : ℕ) → rest ≡ drop at source → Passed form false rest old new read written → at < length source → 4 ≤ length old → 0 < read
-decoding-reads form source rest old new at read written left g small room = pass_reads form rest old new read written g room (λ e. omega (arith, ap length (sym left ∙ e), length-drop at source))
+pub decoding-reads : (form : Form) (source old new : List ℕ) (at count read written : ℕ) → Passed form false (run source at count) old new read written → at < length source → 0 < count → 4 ≤ length old → 0 < read
+decoding-reads form source old new at count read written g small some room =
+    pass_reads form (run source at count) old new read written g room (λ e. omega (arith, ap length e, length-take count (drop at source), length-drop at source))
 
--- a pass over the rest comes to the first fault
-pub decoding-fault : (form : Form) (source rest text old new : List ℕ) (at : ℕ) (error moved : TextError) → Decoding form source text at → rest ≡ drop at source → PassFails form false rest old new error → error_form moved ≡ error_form error → error_place moved ≡ at + error_place error → IsFirstFault form source moved
-decoding-fault form source rest text old new at error moved h left pass same place =
-    let g : PassFails form false (drop at source) old new error = subst (λ l. PassFails form false l old new error) left pass in
+-- a fault stands inside the source
+pub fault_inside : (form : Form) (source old new : List ℕ) (at count : ℕ) (error : TextError) → at ≤ length source → PassFails form false (run source at count) old new error → at + error_place error ≤ length source
+fault_inside form source old new at count error inside g =
+    omega (arith, inside, g.place, ap length g.is, length-append (units form g.scalars) g.rest, length-take count (drop at source), length-drop at source)
+
+-- a pass over a piece of UTF-16 in which no pair is cut comes to the first fault
+pub decoding-fault : (source text old new : List ℕ) (at count : ℕ) (error moved : TextError) → Decoding in_utf16 source text at → PassFails in_utf16 false (run source at count) old new error
+    → at + count ≤ length source → CutsNoPair source (at + count) → error_form moved ≡ error_form error → error_place moved ≡ at + error_place error → IsFirstFault in_utf16 source moved
+decoding-fault source text old new at count error moved h g room whole same place =
     let cs = h.wrote.scalars in
+    let tail = drop (at + count) source in
+    let both = units in_utf16 (cs ++ g.scalars) in
     let inside : at ≤ length source = h.inside in
-    let front : at ≡ length (units form cs) = omega (arith, ap length h.wrote.reads, length-append (units form cs) (drop at source), length-drop at source) in
+    let front : at ≡ length (units in_utf16 cs) = omega (arith, ap length h.wrote.reads, length-append (units in_utf16 cs) (drop at source), length-drop at source) in
+    let joined : units in_utf16 cs ++ units in_utf16 g.scalars ≡ both = sym (units-append in_utf16 cs g.scalars) in
+    let is : source ≡ both ++ (g.rest ++ tail) =
+    h.wrote.reads ∙ ap (λ l. units in_utf16 cs ++ l) (pieced source at count ∙ ap (λ l. l ++ tail) g.is ∙ append_assoc (units in_utf16 g.scalars) g.rest tail)
+    ∙ sym (append_assoc (units in_utf16 cs) (units in_utf16 g.scalars) (g.rest ++ tail)) ∙ ap (λ l. l ++ (g.rest ++ tail)) joined in
+    let some : 0 < length g.rest = g.fault.some in
+    let long : length both ≡ at + length (units in_utf16 g.scalars) = omega (arith, front, sym (ap length joined), length-append (units in_utf16 cs) (units in_utf16 g.scalars)) in
+    let made : length (run source at count) ≡ count = length-take-le count (drop at source) (omega (arith, room, length-drop at source)) in
+    let ends : at + count ≡ length both + length g.rest = omega (arith, long, made, ap length g.is, length-append (units in_utf16 g.scalars) g.rest) in
     record {
       form_is = same ∙ g.form_is;
       at = record {
         scalars = cs ++ g.scalars;
-        rest = g.rest;
-        can = can_spell-append form cs g.scalars h.wrote.can g.front.can;
-        is = h.wrote.reads ∙ ap (λ l. units form cs ++ l) g.is ∙ sym (append_assoc (units form cs) (units form g.scalars) g.rest) ∙ ap (λ l. l ++ g.rest) (sym (units-append form cs g.scalars));
-        place = omega (arith, place, front, g.place, ap length (units-append form cs g.scalars), length-append (units form cs) (units form g.scalars));
-        fault = g.fault;
+        rest = g.rest ++ tail;
+        can = can_spell-append in_utf16 cs g.scalars h.wrote.can g.front.can;
+        is = is;
+        place = omega (arith, place, g.place, long);
+        fault = ill_longer g.rest tail g.fault (cuts_none_behind both (g.rest ++ tail) (at + count) (length g.rest) ends some (subst (λ l. CutsNoPair l (at + count)) is whole));
       };
     }
 

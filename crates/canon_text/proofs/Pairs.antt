@@ -1,15 +1,15 @@
 -- The characters of UTF-16, of one unit or a pair of surrogates.
-use Rattle.std.proofs.Common.{IfSome, IsSomeAnd, List, MatchOption, None, Option, Some, [], ap, arith, drop, flat_map, get_or, inl, inr, le-ltb, length, lt-ltb, nat_lt, refl, set, slice_get, subst, take, suc, sym, true, zero, ℕ, ⊎_elim, ◌*◌, ◌++◌, ◌+◌, ◌-◌, ◌/◌, ◌%◌, ◌<◌, ◌∙◌, ◌∷◌, ◌≡◌, ◌≤◌, ◌⊎◌}
+use Rattle.std.proofs.Common.{IfSome, IsSomeAnd, List, MatchOption, None, Option, Some, [], ap, arith, drop, flat_map, get_or, inl, inr, le-ltb, length, lt-ltb, nat_lt, refl, set, slice_get, subst, subst₂, take, suc, sym, true, zero, ℕ, ⊎_elim, ◌*◌, ◌++◌, ◌+◌, ◌-◌, ◌/◌, ◌%◌, ◌<◌, ◌∙◌, ◌∷◌, ◌≡◌, ◌≤◌, ◌⊎◌}
 use Rattle.std.proofs.lemmas.Bool.{and_from, and_parts, cases_lt, cond-false, cond-true, le-leb}
-use Rattle.std.proofs.lemmas.List.{append-nil, drop_more, length-set, take_more, take_more_set}
-use Rattle.std.proofs.lemmas.Option.{slice_get-get_or}
+use Rattle.std.proofs.lemmas.List.{append-nil, drop_more, get_or-append_right, get_or-drop, get_or-take, get_or_past, length-append, length-drop, take_more, take_more_set}
 use Rattle.std.specs.Char.Escape.{encode_utf16}
 use Rattle.std.specs.Char.Utf16.{surrogate_pair_char}
 use lib.Utf8.{scalar, scalar_cases}
 use Rattle.canon_model.specs.Text.{in_utf16, unit_bytes, units}
 use Rattle.canon_text.specs.Decoding.{units_in}
 use Rattle.canon_text.specs.Faults.{Begins, IllFormed}
-use Rattle.canon_text.specs.Surrogates.{IsCharOf, IsLone}
+use Rattle.canon_text.specs.Runs.{run}
+use Rattle.canon_text.specs.Surrogates.{CutsNoPair, IsCharOf, IsLone}
 
 -- what is known of a scalar value's units
 IsUnits : ℕ → List ℕ → Type 0
@@ -166,10 +166,64 @@ same_units c d us vs xs ys (inr (hi, lo, h, h1, h2, h3, h4, h5)) (inr (hj, lj, g
 pub char_same : (c d : ℕ) (xs ys : List ℕ) → scalar c ≡ true → scalar d ≡ true → encode_utf16 c ++ xs ≡ encode_utf16 d ++ ys → (c ≡ d) × (xs ≡ ys)
 char_same c d xs ys h g e = same_units c d (encode_utf16 c) (encode_utf16 d) xs ys (units_of c h) (units_of d g) e
 
--- one unit more of what bytes hold
-pub units-set : (bytes now : List ℕ) (i u : ℕ) → length now ≡ length bytes / 2 → take i now ≡ take i (units_in bytes) → i < length bytes / 2 → u ≡ get_or bytes (2 * i) 0 + 256 * get_or bytes (2 * i + 1) 0
-    → (length (set now i u) ≡ length bytes / 2) × (take (i + 1) (set now i u) ≡ take (i + 1) (units_in bytes))
-units-set bytes now i u long h small is = (
-  length-set now i u ∙ long,
-  take_more_set now i u (omega arith) ∙ ap (λ l. l ++ u ∷ []) h ∙ ap (λ x. take i (units_in bytes) ++ x ∷ []) (is ∙ ap (λ k. get_or bytes (2 * i) 0 + 256 * get_or bytes k 0) (one_more (2 * i)) ∙ sym (unit_in bytes i (2 * i) refl (omega arith))) ∙ sym (take_more (units_in bytes) i 0 (omega (arith, length-units_in bytes))),
-)
+-- a character that begins a source begins its front, where the front ends in no half of a pair
+in_front : (front tail more us : List ℕ) (c : ℕ) → 0 < length front → CutsNoPair (front ++ tail) (length front) → IsUnits c us → front ++ tail ≡ us ++ more → (left : List ℕ) × (front ≡ us ++ left)
+unfolding IsUnits
+in_front [] tail more us c some whole is e = absurd (omega arith)
+in_front (u ∷ front) tail more us c some whole (inl h) e =
+    let e2 : u ∷ (front ++ tail) ≡ c ∷ more = e ∙ ap (λ l. l ++ more) h.0 in
+    let same : u ≡ c = cc in
+    (front, ap (λ x. x ∷ front) same ∙ ap (λ l. l ++ front) (sym h.0))
+in_front (u ∷ []) tail more us c some whole (inr (hi, lo, h, h1, h2, h3, h4, h5)) e =
+    let e2 : u ∷ tail ≡ hi ∷ lo ∷ more = e ∙ ap (λ l. l ++ more) h in
+    let same : u ≡ hi = cc in
+    let next : get_or tail 0 0 ≡ lo = ap (λ l. get_or l 1 0) e2 in
+    absurd (⊎_elim
+    (λ before. ⊎_elim (λ l. let l2 : u < 0xD800 = l in omega arith) (λ l. let l2 : 0xDC00 ≤ u = l in omega arith) before)
+    (λ behind. let l2 : get_or tail 0 0 < 0xDC00 = behind in omega arith)
+    whole)
+in_front (u ∷ v ∷ front) tail more us c some whole (inr (hi, lo, h, h1, h2, h3, h4, h5)) e =
+    let e2 : u ∷ v ∷ (front ++ tail) ≡ hi ∷ lo ∷ more = e ∙ ap (λ l. l ++ more) h in
+    let same : u ≡ hi = cc in
+    let same2 : v ≡ lo = cc in
+    (front, ap (λ x. x ∷ v ∷ front) same ∙ ap (λ x. hi ∷ x ∷ front) same2 ∙ ap (λ l. l ++ front) (sym h))
+
+-- of a whole that is cut in no pair, what stands behind a front
+pub cuts_none_behind : (front rest : List ℕ) (at n : ℕ) → at ≡ length front + n → 0 < n → CutsNoPair (front ++ rest) at → CutsNoPair rest n
+cuts_none_behind front rest at n e some whole =
+    let before : get_or (front ++ rest) (at - 1) 0 ≡ get_or rest (n - 1) 0 = get_or-append_right front rest (length front) (at - 1) 0 refl (omega arith) ∙ ap (λ k. get_or rest k 0) (omega arith) in
+    let behind : get_or (front ++ rest) at 0 ≡ get_or rest n 0 = get_or-append_right front rest (length front) at 0 refl (omega arith) ∙ ap (λ k. get_or rest k 0) (omega arith) in
+    subst₂ (λ u v. ((u < 0xD800) ⊎ (0xDC00 ≤ u)) ⊎ (v < 0xDC00)) before behind whole
+
+-- what no character begins, none begins where more follows and no pair is cut
+pub ill_longer : (front tail : List ℕ) → IllFormed in_utf16 front → CutsNoPair (front ++ tail) (length front) → IllFormed in_utf16 (front ++ tail)
+ill_longer front tail ill whole = record {
+  some = let some : 0 < length front = ill.some in omega (arith, length-append front tail);
+  none = λ c b.
+      let one = units-one c in
+      let found = in_front front tail b.more (encode_utf16 c) c ill.some whole (units_of c (and_parts _ _ b.can).0) (b.is ∙ ap (λ l. l ++ b.more) one) in
+      ill.none c (record { more = found.0; can = b.can; is = found.1 ∙ ap (λ l. l ++ found.0) (sym one) });
+}
+
+-- one unit more of what bytes hold from a place on
+pub units-set : (bytes now : List ℕ) (from i u : ℕ) → i < length now → take i now ≡ run (units_in bytes) from i → from + i < length bytes / 2 → u ≡ get_or bytes (2 * (from + i)) 0 + 256 * get_or bytes (2 * (from + i) + 1) 0
+    → take (i + 1) (set now i u) ≡ run (units_in bytes) from (i + 1)
+units-set bytes now from i u room h small is =
+    let at = from + i in
+    let here : u ≡ get_or (units_in bytes) at 0 = is ∙ ap (λ k. get_or bytes (2 * at) 0 + 256 * get_or bytes k 0) (one_more (2 * at)) ∙ sym (unit_in bytes at (2 * at) refl (omega arith)) in
+    take_more_set now i u room ∙ ap (λ l. l ++ u ∷ []) h ∙ ap (λ x. run (units_in bytes) from i ++ x ∷ []) (here ∙ sym (get_or-drop from (units_in bytes) i 0))
+    ∙ sym (take_more (drop from (units_in bytes)) i 0 (omega (arith, length-drop from (units_in bytes), length-units_in bytes)))
+
+-- a unit that was made
+pub unit_made : (source now : List ℕ) (from count k : ℕ) → take count now ≡ run source from count → k < count → get_or now k 0 ≡ get_or source (from + k) 0
+unit_made source now from count k h small = sym (get_or-take count now k 0 small) ∙ ap (λ l. get_or l k 0) h ∙ get_or-take count (drop from source) k 0 small ∙ get_or-drop from source k 0
+
+-- behind a unit that begins no pair none is cut, nor is one at the end
+pub cuts_none_last : (source now : List ℕ) (from count at : ℕ) → at ≡ from + count → take count now ≡ run source from count → 0 < count
+    → (get_or now (count - 1) 0 < 0xD800) ⊎ (0xDC00 ≤ get_or now (count - 1) 0) → CutsNoPair source at
+cuts_none_last source now from count at e made some last =
+    let is : get_or now (count - 1) 0 ≡ get_or source (at - 1) 0 = unit_made source now from count (count - 1) made (omega arith) ∙ ap (λ k. get_or source k 0) (omega arith) in
+    inl (subst (λ u. (u < 0xD800) ⊎ (0xDC00 ≤ u)) is last)
+
+pub cuts_none_end : (source : List ℕ) (at : ℕ) → length source ≤ at → CutsNoPair source at
+cuts_none_end source at past = inr (subst (λ u. u < 0xDC00) (sym (get_or_past source at 0 past)) (omega arith))

@@ -1,5 +1,5 @@
 -- How a unit and the next make a character of UTF-16.
-use Rattle.std.specs.Prelude.{IfSome, IsSomeAnd, List, Option, get_or, ℕ, ◌<◌, ◌≡◌, ◌≤◌, ◌⊎◌}
+use Rattle.std.specs.Prelude.{IfSome, IsSomeAnd, List, Option, get_or, ℕ, ◌-◌, ◌<◌, ◌≡◌, ◌≤◌, ◌⊎◌}
 use Rattle.std.specs.Char.Utf16.{surrogate_pair_char}
 
 -- c is the unit u, or the unit and the next
@@ -14,3 +14,7 @@ IsLone u next = (0xD800 ≤ u) × (u < 0xE000) × IfSome next (λ v. u < 0xDC00 
 -- no unit is a surrogate
 abbrev pub HasNoSurrogate : List ℕ → Type 0
 HasNoSurrogate us = (k : ℕ) → (get_or us k 0 < 0xD800) ⊎ (0xE000 ≤ get_or us k 0)
+
+-- no pair stands across a place: the unit before it begins none, or the unit behind it ends none
+abbrev pub CutsNoPair : List ℕ → ℕ → Type 0
+CutsNoPair us at = ((get_or us (at - 1) 0 < 0xD800) ⊎ (0xDC00 ≤ get_or us (at - 1) 0)) ⊎ (get_or us at 0 < 0xDC00)

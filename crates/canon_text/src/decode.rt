@@ -9,7 +9,7 @@ ghost use Rattle.canon_text.specs.Decoding.{Decodes, IsDecodeFault, IsNoText, Sp
 use crate::cow::CowStr;
 use crate::error::{DecodeError, TextError};
 use crate::latin1::latin1_to_utf8;
-use crate::units::units_of;
+use crate::units::make_piece;
 use crate::utf8::text_of;
 use crate::utf16::utf16_to_utf8;
 use canon_indices::OutOfMemory;
@@ -17,6 +17,9 @@ use std::alloc::Global;
 
 // How many bytes a pass writes at a time.
 const PIECE: usize = 512;
+
+// How many units of UTF-16 are made of bytes at a time.
+const UNITS: usize = 256;
 
 /// The text of UTF-8 bytes, which is borrowed (CanonicalABI.md, "load_string_from_range").
 pub fn decode_utf8(src: &[u8]) -> Result<CowStr<'_>, TextError>
@@ -38,12 +41,14 @@ pub fn decode_utf16(alloc: Global, src: &[u8]) -> Result<CowStr<'_>, DecodeError
         (λ e. IsDecodeFault in_utf16 (units_in src.now) e) }
     ensures no_text { IfErr result (λ e. IsNoText in_utf16 src.now e) }
 {
-    let units = units_of(alloc, src)?;
-    let mut text = Vec::with_capacity(alloc, units.len())?;
+    let count = src.len() / 2;
+    let mut text = Vec::with_capacity(alloc, count)?;
+    let mut units = [0; UNITS];
     let mut piece = [0; PIECE];
     let mut read = 0;
-    while read < units.len() {
-        match utf16_to_utf8(&units[read..], &mut piece, false) {
+    while read < count {
+        let made = make_piece(src, read, &mut units);
+        match utf16_to_utf8(&units[..made], &mut piece, false) {
             Ok(pass) => {
                 text.extend_from_slice(&piece[..pass.dst_written as usize])?;
                 read += pass.src_read as usize;

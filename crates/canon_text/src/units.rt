@@ -1,14 +1,14 @@
 //! Characters out of UTF-16.
 
-ghost use Rattle.std.specs.Prelude.{◌≡◌, ◌+◌, ◌*◌, ◌<◌, length, drop, MatchOption, IfOk, ◌≤◌, slice_get};
+ghost use Rattle.std.specs.Prelude.{◌≡◌, ◌+◌, ◌-◌, ◌*◌, ◌/◌, ◌<◌, length, drop, min, take, MatchOption, ◌≤◌, slice_get};
 ghost use Rattle.std.specs.Char.Escape.{encode_utf16};
 ghost use Rattle.canon_model.specs.Text.{in_utf16};
 ghost use Rattle.canon_text.specs.Faults.{Begins, IllFormed, WellFormed, IllFormedAt};
 ghost use Rattle.canon_text.specs.Decoding.{units_in};
-ghost use Rattle.canon_text.specs.Surrogates.{IsCharOf, IsLone};
+ghost use Rattle.canon_text.specs.Runs.{run};
+ghost use Rattle.canon_text.specs.Surrogates.{CutsNoPair, IsCharOf, IsLone};
 
 use crate::blocks::plain_run;
-use std::alloc::{AllocError, Global};
 
 // The character of a unit and the one after it, if there is one; None at a surrogate without its partner.
 pub(crate) fn char_of(unit: u16, next: Option<u16>) -> Option<char>
@@ -47,16 +47,37 @@ pub(crate) fn char_at(src: &[u16], at: usize) -> Option<char>
     char_of(src[at], unit_at(src, at + 1))
 }
 
-// The units that bytes hold, the low byte first.
-pub(crate) fn units_of(alloc: Global, src: &[u8]) -> Result<Vec<u16>, AllocError>
-    ensures { IfOk result (λ us. us.items ≡ units_in src.now) }
+// Makes the units that bytes hold from a place on, the low byte first, as many as there is room for. Says how many.
+fn make_units(src: &[u8], from: usize, units: &mut [u16]) -> usize
+    requires { 2 * from ≤ length src.now }
+    ensures count { result ≡ min (length src.now / 2 - from) (length units.old) }
+    ensures room { length units.new ≡ length units.old }
+    ensures made { take result units.new ≡ run (units_in src.now) from result }
 {
-    let count = src.len() / 2;
-    let mut units = vec![in alloc; 0; count]?;
+    let count = (src.len() / 2 - from).min(units.len());
     for i in 0..count {
-        units[i] = u16::from(src[2 * i]) + 256 * u16::from(src[2 * i + 1]);
+        let at = 2 * (from + i);
+        units[i] = u16::from(src[at]) + 256 * u16::from(src[at + 1]);
     }
-    Ok(units)
+    count
+}
+
+// The same, or one unit fewer, so that no pair of surrogates is cut.
+pub(crate) fn make_piece(src: &[u8], from: usize, units: &mut [u16]) -> usize
+    requires some { 2 * from + 1 < length src.now }
+    requires room { 2 ≤ length units.old }
+    ensures some { 0 < result }
+    ensures room { result ≤ length units.new }
+    ensures inside { from + result ≤ length (units_in src.now) }
+    ensures made { take result units.new ≡ run (units_in src.now) from result }
+    ensures whole { CutsNoPair (units_in src.now) (from + result) }
+{
+    let count = make_units(src, from, units);
+    let last = units[count - 1];
+    if from + count < src.len() / 2 && last >= 0xD800 && last < 0xDC00 {
+        return count - 1;
+    }
+    count
 }
 
 // The place of the first surrogate without its partner.

@@ -1,6 +1,6 @@
 //! Worked values, and short inputs against plain decoders.
 
-ghost use Rattle.std.specs.Prelude.{◌≤◌};
+ghost use Rattle.std.specs.Prelude.{◌≡◌, ◌%◌, ◌≤◌, length};
 
 use canon_text::{
     DecodeError, SizePair, TextError, decode_latin1, decode_utf8, decode_utf16,
@@ -141,6 +141,58 @@ fn decoding_names_the_lone_surrogate_by_its_unit(rt: HostRuntime) {
         Ok(_) => assert!(rt; false),
         Err(error) => assert!(rt; error == DecodeError::Text(TextError::InvalidUtf16(1))),
     }
+}
+
+// The bytes of 255 units of U+0000 and one or two more: units are made 256 at a time.
+fn in_one_piece(unit: u16) -> [u8; 512] {
+    let mut src = [0; 512];
+    src[510] = (unit % 256) as u8;
+    src[511] = (unit / 256) as u8;
+    src
+}
+
+fn in_two_pieces(unit: u16, next: u16) -> [u8; 514] {
+    let mut src = [0; 514];
+    src[510] = (unit % 256) as u8;
+    src[511] = (unit / 256) as u8;
+    src[512] = (next % 256) as u8;
+    src[513] = (next / 256) as u8;
+    src
+}
+
+fn fault_of(alloc: Global, src: &[u8]) -> Option<u64>
+    requires { length src.now % 2 ≡ 0 }
+{
+    match decode_utf16(alloc, src) {
+        Err(DecodeError::Text(TextError::InvalidUtf16(at))) => Some(at),
+        _ => None,
+    }
+}
+
+#[test]
+fn a_pair_is_decoded_across_two_pieces(rt: HostRuntime) -> Result<(), Fail> {
+    let src = in_two_pieces(0xD83D, 0xDE00);
+    let text = decode_utf16(rt.alloc(), &src)?;
+    let bytes = text.as_str().as_bytes();
+    assert_eq!(rt; bytes.len(), 259);
+    assert_eq!(rt; &bytes[255..], [0xF0, 0x9F, 0x98, 0x80].as_slice());
+    Ok(())
+}
+
+#[test]
+fn a_lone_surrogate_ends_a_piece(rt: HostRuntime) {
+    let leading = in_two_pieces(0xD83D, 0x62);
+    assert_eq!(rt; fault_of(rt.alloc(), &leading), Some(255));
+    let twice = in_two_pieces(0xD83D, 0xD83D);
+    assert_eq!(rt; fault_of(rt.alloc(), &twice), Some(255));
+}
+
+#[test]
+fn a_lone_surrogate_ends_a_text(rt: HostRuntime) {
+    let whole = in_one_piece(0xD83D);
+    assert_eq!(rt; fault_of(rt.alloc(), &whole), Some(255));
+    let behind = in_two_pieces(0x61, 0xD83D);
+    assert_eq!(rt; fault_of(rt.alloc(), &behind), Some(256));
 }
 
 // What two bytes are in UTF-8: their units, or the place of the fault.

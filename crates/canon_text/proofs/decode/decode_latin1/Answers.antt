@@ -1,9 +1,9 @@
-use Rattle.std.proofs.Common.{ap, arith, refl, subst, sym, ◌+◌, ◌≡◌}
+use Rattle.std.proofs.Common.{ap, arith, length, refl, subst, sym, ◌+◌, ◌-◌, ◌≡◌}
 use Rattle.std.proofs.lemmas.Bool.{false≢true}
 use Rattle.canon_model.specs.Text.{in_latin1}
 use Rattle.std.specs.String.{string_bytes}
 use Rattle.canon_text.specs.Decoding.{Decodes}
-use Rattle.canon_text.proofs.Decoded.{Decoding, decodes1, decodes_ascii, decoding-more, decoding-reads, decoding-utf8, rest-run}
+use Rattle.canon_text.proofs.Decoded.{Decoding, decodes1, decodes_ascii, decoding-more, decoding-reads, decoding-utf8}
 use Rattle.canon_text.proofs.decode.decode_latin1.Goals as goal
 
 pub returns-in-Some : goal.returns-in-Some
@@ -11,14 +11,14 @@ returns-in-Some c = (decodes_ascii c.args.src.now c.in-Some.text.now c.in-Some.e
 
 pub loop-read-smaller : goal.loop-read-smaller
 loop-read-smaller c =
-    let some = decoding-reads in_latin1 c.args.src.now _ c.loop-read.piece c.latin1_to_utf8-pass.new.dst c.loop-read.read _ _ (rest-run c.args.src.now c.loop-read.read) c.latin1_to_utf8-pass.ensures c.loop-read-test.true (omega arith) in
+    let some = decoding-reads in_latin1 c.args.src.now c.loop-read.piece c.latin1_to_utf8-pass.new.dst c.loop-read.read (length c.args.src.now - c.loop-read.read) _ _ c.latin1_to_utf8-pass.ensures c.loop-read-test.true (omega (arith, c.loop-read-test.true)) (omega arith) in
     omega arith
 
 pub loop-read-preserved : goal.loop-read-preserved
 loop-read-preserved c =
     let pass = c.latin1_to_utf8-pass in
     subst (λ text. Decoding in_latin1 c.args.src.now text (c.loop-read.read + pass.result.src_read)) (sym c.in_ok-extend_from_slice.ensures.items)
-    (decoding-more in_latin1 c.args.src.now _ c.loop-read.text.items c.loop-read.piece pass.new.dst c.loop-read.read pass.result.src_read pass.result.dst_written c.loop-read.invariant (rest-run c.args.src.now c.loop-read.read) pass.ensures)
+    (decoding-more in_latin1 c.args.src.now c.loop-read.text.items c.loop-read.piece pass.new.dst c.loop-read.read (length c.args.src.now - c.loop-read.read) pass.result.src_read pass.result.dst_written c.loop-read.invariant pass.ensures)
 
 pub from_utf8_unchecked-requires : goal.from_utf8_unchecked-requires
 from_utf8_unchecked-requires c = decoding-utf8 in_latin1 c.args.src.now c.loop-read.text.items c.loop-read.read c.loop-read.invariant
