@@ -101,38 +101,6 @@ fn writer_of(alloc: Global, answer: Words) -> Writer {
     }
 }
 
-/// Whether an event is this start, with one word.
-fn is_start(event: Option<&Event>, number: u32, word: ValRaw, bytes: &[u8]) -> bool {
-    match event {
-        Some(
-            Event::Start {
-                func,
-                words,
-                memory,
-            },
-        ) => {
-            *func == number && words.as_slice() == [word].as_slice() && memory.as_slice() == bytes
-        }
-        _ => false,
-    }
-}
-
-/// Whether an event is this ask, with one word.
-fn is_ask(event: Option<&Event>, number: u32, word: ValRaw, bytes: &[u8]) -> bool {
-    match event {
-        Some(
-            Event::Ask {
-                index,
-                words,
-                memory,
-            },
-        ) => {
-            *index == number && words.as_slice() == [word].as_slice() && memory.as_slice() == bytes
-        }
-        _ => false,
-    }
-}
-
 #[test]
 fn a_word_of_32_bits_stands_in_the_low_half(rt: HostRuntime) {
     let whole = [
@@ -162,17 +130,13 @@ fn lists_hold_what_was_pushed_and_copied(rt: HostRuntime) -> Result<(), Fail> {
     let mut words = Words::new(rt.alloc());
     words.push(one)?;
     words.push(two)?;
-    assert!(rt; words.len() == 2);
-    assert!(rt; words.as_slice() == [one, two].as_slice());
     let copy = Words::from_slice(rt.alloc(), words.as_slice())?;
-    assert!(rt; copy.as_slice() == [one, two].as_slice());
+    assert!(rt; copy.as_slice() == [one, two].as_slice() && words.len() == 2);
     let mut bytes = Bytes::new(rt.alloc());
     bytes.push(8)?;
     bytes.push(255)?;
-    assert!(rt; bytes.len() == 2);
-    assert!(rt; bytes.as_slice() == [8, 255].as_slice());
     let copy = Bytes::from_slice(rt.alloc(), bytes.as_slice())?;
-    assert!(rt; copy.as_slice() == [8, 255].as_slice());
+    assert!(rt; copy.as_slice() == [8, 255].as_slice() && bytes.len() == 2);
     Ok(())
 }
 
@@ -193,9 +157,7 @@ fn a_memory_grows_by_zeros_up_to_its_limit(rt: HostRuntime) -> Result<(), Fail> 
     let mut memory = Memory::new(rt.alloc(), 65_536)?;
     memory.as_slice_mut().fill(7);
     memory.grow(1)?;
-    assert!(rt; memory.len() == 65_537);
-    assert!(rt; memory.as_slice().get(65_535) == Some(&7));
-    assert!(rt; memory.as_slice().last() == Some(&0));
+    assert!(rt; memory.as_slice().get(65_535) == Some(&7) && memory.as_slice().last() == Some(&0));
     for by in [4_294_967_296, 18_446_744_073_709_551_615] {
         let past = memory.grow(by);
         assert!(rt; matches!(past, Err(MemoryError::TooLarge)));
@@ -208,25 +170,33 @@ fn a_memory_grows_by_zeros_up_to_its_limit(rt: HostRuntime) -> Result<(), Fail> 
 fn a_journal_tells_a_start_and_its_return(rt: HostRuntime) -> Result<(), Fail> {
     let alloc = rt.alloc();
     let mut memory = Memory::new(alloc, 2)?;
-    let mut guest = Journaled::new(
-        alloc,
-        writer_of(alloc, Words::from_slice(alloc, &[ValRaw::u32(5)])?),
-    );
-    assert!(rt; guest.events().len() == 0);
+    let answer = Words::from_slice(alloc, &[ValRaw::u32(5)])?;
+    let mut guest = Journaled::new(alloc, writer_of(alloc, answer));
+    let before = guest.events().len();
     let step = guest.start(&mut memory, 3, &[ValRaw::u32(7)])?;
     let Step::Return(words) = &step else {
         panic!(rt; "no return");
     };
     assert!(rt; words.as_slice() == [ValRaw::u32(5)].as_slice());
     let events = guest.take_journal();
-    assert!(rt; events.len() == 2);
-    assert!(rt; is_start(events.as_slice().first(), 3, ValRaw::u32(7), &[0, 0]));
+    assert!(rt; (before, events.len(), guest.events().len()) == (0, 2, 0));
+    let Some(
+        Event::Start {
+            func,
+            words,
+            memory,
+        },
+    ) = events.as_slice().first()
+    else {
+        panic!(rt; "no start");
+    };
+    assert!(rt; *func == 3 && words.as_slice() == [ValRaw::u32(7)].as_slice());
+    assert!(rt; memory.as_slice() == [0, 0].as_slice());
     let Some(Event::Return { words, memory }) = events.as_slice().last() else {
         panic!(rt; "no return");
     };
     assert!(rt; words.as_slice() == [ValRaw::u32(5)].as_slice());
     assert!(rt; memory.as_slice() == [9, 0].as_slice());
-    assert!(rt; guest.events().len() == 0);
     Ok(())
 }
 
@@ -234,27 +204,20 @@ fn a_journal_tells_a_start_and_its_return(rt: HostRuntime) -> Result<(), Fail> {
 fn a_journal_tells_a_start_and_its_trap(rt: HostRuntime) -> Result<(), Fail> {
     let alloc = rt.alloc();
     let mut memory = Memory::new(alloc, 2)?;
-    let mut guest = Journaled::new(
-        alloc,
-        writer_of(alloc, Words::from_slice(alloc, &[ValRaw::u32(5)])?),
-    );
+    let answer = Words::from_slice(alloc, &[ValRaw::u32(5)])?;
+    let mut guest = Journaled::new(alloc, writer_of(alloc, answer));
     guest.guest_mut().traps = 4;
-    let fault = guest.start(&mut memory, 1, &[ValRaw::u32(7)]);
-    assert!(rt; matches!(fault, Err(GuestFault::Trap)));
-    assert!(rt; guest.guest().traps == 5);
+    let fault = guest.start(&mut memory, 1, &[ValRaw::u32(7)]).err();
+    assert!(rt; fault == Some(GuestFault::Trap) && guest.guest().traps == 5);
     let events = guest.take_journal();
-    assert!(rt; events.len() == 2);
-    assert!(rt; is_start(events.as_slice().first(), 1, ValRaw::u32(7), &[0, 0]));
-    let last = events.as_slice().last();
-    assert!(rt;
-        matches!(
-            last,
-            Some(Event::Trap {
-                asked: None,
-                len: 2
-            })
-        )
-    );
+    let Some(Event::Start { func, .. }) = events.as_slice().first() else {
+        panic!(rt; "no start");
+    };
+    assert!(rt; (*func, events.len()) == (1, 2));
+    let Some(Event::Trap { asked, len }) = events.as_slice().last() else {
+        panic!(rt; "no trap");
+    };
+    assert!(rt; (*asked, *len) == (None, 2));
     Ok(())
 }
 
@@ -262,18 +225,29 @@ fn a_journal_tells_a_start_and_its_trap(rt: HostRuntime) -> Result<(), Fail> {
 fn a_journal_tells_an_ask_and_its_resume(rt: HostRuntime) -> Result<(), Fail> {
     let alloc = rt.alloc();
     let mut memory = Memory::new(alloc, 2)?;
-    let mut guest = Journaled::new(
-        alloc,
-        writer_of(alloc, Words::from_slice(alloc, &[ValRaw::u32(5)])?),
-    );
+    let answer = Words::from_slice(alloc, &[ValRaw::u32(5)])?;
+    let mut guest = Journaled::new(alloc, writer_of(alloc, answer));
     let step = guest.start(&mut memory, 2, &[ValRaw::u32(7)])?;
-    assert!(rt; matches!(&step, Step::Import { index: 6, .. }));
+    let Step::Import { index, .. } = &step else {
+        panic!(rt; "no ask");
+    };
+    assert!(rt; *index == 6);
     let step = guest.resume(&mut memory, &[ValRaw::u32(11)])?;
     assert!(rt; matches!(&step, Step::Return(_)));
     let events = guest.take_journal();
-    assert!(rt; events.len() == 4);
-    assert!(rt; is_start(events.as_slice().first(), 2, ValRaw::u32(7), &[0, 0]));
-    assert!(rt; is_ask(events.as_slice().get(1), 6, ValRaw::u32(5), &[9, 0]));
+    let Some(
+        Event::Ask {
+            index,
+            words,
+            memory,
+        },
+    ) = events.as_slice().get(1)
+    else {
+        panic!(rt; "no ask");
+    };
+    assert!(rt; (*index, events.len()) == (6, 4));
+    assert!(rt; words.as_slice() == [ValRaw::u32(5)].as_slice());
+    assert!(rt; memory.as_slice() == [9, 0].as_slice());
     let Some(Event::Resume { words, memory }) = events.as_slice().get(2) else {
         panic!(rt; "no resume");
     };
@@ -291,38 +265,29 @@ fn a_journal_tells_an_ask_and_its_resume(rt: HostRuntime) -> Result<(), Fail> {
 fn a_journal_tells_a_realloc_by_its_answer_or_its_request(rt: HostRuntime) -> Result<(), Fail> {
     let alloc = rt.alloc();
     let mut memory = Memory::new(alloc, 40)?;
-    let mut guest = Journaled::new(
-        alloc,
-        writer_of(alloc, Words::from_slice(alloc, &[ValRaw::u32(5)])?),
-    );
-    assert!(rt; guest.realloc(&mut memory, 0, 0, 4, 8)? == 16);
-    let fault = guest.realloc(&mut memory, 16, 8, 4, 20);
-    assert!(rt; matches!(fault, Err(GuestFault::Trap)));
+    let answer = Words::from_slice(alloc, &[ValRaw::u32(5)])?;
+    let mut guest = Journaled::new(alloc, writer_of(alloc, answer));
+    let given = guest.realloc(&mut memory, 0, 0, 4, 8)?;
+    let fault = guest.realloc(&mut memory, 16, 8, 4, 20).err();
+    assert!(rt; given == 16 && fault == Some(GuestFault::Trap));
     let events = guest.take_journal();
-    assert!(rt; events.len() == 2);
-    let first = events.as_slice().first();
-    assert!(rt;
-        matches!(
-            first,
-            Some(Event::Realloc {
-                old: 0,
-                old_size: 0,
-                align: 4,
-                new_size: 8,
-                answer: 16
-            })
-        )
-    );
-    let last = events.as_slice().last();
-    assert!(rt;
-        matches!(
-            last,
-            Some(Event::Trap {
-                asked: Some((16, 8, 4, 20)),
-                len: 40
-            })
-        )
-    );
+    let Some(
+        Event::Realloc {
+            old,
+            old_size,
+            align,
+            new_size,
+            answer,
+        },
+    ) = events.as_slice().first()
+    else {
+        panic!(rt; "no answer");
+    };
+    assert!(rt; (*old, *old_size, *align, *new_size, *answer) == (0, 0, 4, 8, 16));
+    let Some(Event::Trap { asked, len }) = events.as_slice().last() else {
+        panic!(rt; "no trap");
+    };
+    assert!(rt; (*asked, *len, events.len()) == (Some((16, 8, 4, 20)), 40, 2));
     Ok(())
 }
 
@@ -330,35 +295,29 @@ fn a_journal_tells_a_realloc_by_its_answer_or_its_request(rt: HostRuntime) -> Re
 fn a_journal_tells_a_post_return_and_a_destructor_that_traps(rt: HostRuntime) -> Result<(), Fail> {
     let alloc = rt.alloc();
     let mut memory = Memory::new(alloc, 2)?;
-    let mut guest = Journaled::new(
-        alloc,
-        writer_of(alloc, Words::from_slice(alloc, &[ValRaw::u32(5)])?),
-    );
+    let answer = Words::from_slice(alloc, &[ValRaw::u32(5)])?;
+    let mut guest = Journaled::new(alloc, writer_of(alloc, answer));
     guest.post_return(&mut memory, 4, &[ValRaw::u32(5)])?;
     guest.dtor(&mut memory, 3, 80)?;
-    let fault = guest.dtor(&mut memory, 1, 90);
-    assert!(rt; matches!(fault, Err(GuestFault::Trap)));
+    let fault = guest.dtor(&mut memory, 1, 90).err();
+    assert!(rt; fault == Some(GuestFault::Trap));
     let events = guest.take_journal();
-    assert!(rt; events.len() == 4);
     let Some(Event::Post { func, words }) = events.as_slice().first() else {
         panic!(rt; "no post-return");
     };
-    assert!(rt; *func == 4);
-    assert!(rt; words.as_slice() == [ValRaw::u32(5)].as_slice());
-    let ended = events.as_slice().get(1);
-    assert!(rt; matches!(ended, Some(Event::Dtor { func: 3, rep: 80 })));
-    let first = events.as_slice().get(2);
-    assert!(rt; matches!(first, Some(Event::Dtor { func: 1, rep: 90 })));
-    let last = events.as_slice().last();
-    assert!(rt;
-        matches!(
-            last,
-            Some(Event::Trap {
-                asked: None,
-                len: 2
-            })
-        )
-    );
+    assert!(rt; *func == 4 && words.as_slice() == [ValRaw::u32(5)].as_slice());
+    let Some(Event::Dtor { func, rep }) = events.as_slice().get(1) else {
+        panic!(rt; "no destructor");
+    };
+    assert!(rt; (*func, *rep) == (3, 80));
+    let Some(Event::Dtor { func, rep }) = events.as_slice().get(2) else {
+        panic!(rt; "no destructor");
+    };
+    assert!(rt; (*func, *rep) == (1, 90));
+    let Some(Event::Trap { asked, len }) = events.as_slice().last() else {
+        panic!(rt; "no trap");
+    };
+    assert!(rt; (*asked, *len, events.len()) == (None, 2, 4));
     Ok(())
 }
 
@@ -371,16 +330,9 @@ fn events_are_kept_in_order(rt: HostRuntime) -> Result<(), Fail> {
             len,
         })?;
     }
-    assert!(rt; events.len() == 2);
-    let first = events.as_slice().first();
-    assert!(rt;
-        matches!(
-            first,
-            Some(Event::Trap {
-                asked: Some((0, 0, 4, 10)),
-                len: 10
-            })
-        )
-    );
+    let Some(Event::Trap { asked, len }) = events.as_slice().first() else {
+        panic!(rt; "no trap");
+    };
+    assert!(rt; (*asked, *len, events.len()) == (Some((0, 0, 4, 10)), 10, 2));
     Ok(())
 }
