@@ -152,8 +152,10 @@ fn a_call_lowers_its_parameters_and_lifts_its_results(rt: HostRuntime) -> Result
     let mut results = [Val::Bool(false)];
     let answer = call(alloc, &mut store, &[Val::U32(7), Val::S8(-1)], &mut results);
     assert!(rt; answer == Some(Ok(())));
-    assert!(rt; matches!(&results, [Val::Bool(true)]));
-    assert!(rt; !store.is_trapped());
+    let [Val::Bool(told)] = &results else {
+        panic!(rt; "no bool");
+    };
+    assert!(rt; *told && !store.is_trapped());
     Ok(())
 }
 
@@ -165,8 +167,10 @@ fn a_refusal_traps_the_store_and_leaves_the_results(rt: HostRuntime) -> Result<(
     let answer = call(alloc, &mut store, &[], &mut results);
     let fault = Fault::InvalidChar(At::Word(0));
     assert!(rt; answer == Some(Err(Error::Fault(fault))));
-    assert!(rt; matches!(&results, [Val::Bool(false)]));
-    assert!(rt; store.is_trapped());
+    let [Val::Bool(told)] = &results else {
+        panic!(rt; "no bool");
+    };
+    assert!(rt; !*told && store.is_trapped());
     Ok(())
 }
 

@@ -81,7 +81,10 @@ fn a_text_is_lowered_to_words_and_lifted(rt: HostRuntime) {
     assert!(rt; words == [ValRaw::u64(16), ValRaw::u64(2)]);
     let mut cx = LiftContext::new(&mut core, OptionsIndex::from_u32(0));
     let value = Val::lift(alloc, &mut cx, InterfaceType::String, &words, 0);
-    assert!(rt; matches!(&value, Ok(Val::String(text)) if text.as_str() == "é"));
+    let Ok(Val::String(text)) = &value else {
+        panic!(rt; "no text");
+    };
+    assert!(rt; text.as_str() == "é");
 }
 
 #[test]
@@ -99,7 +102,10 @@ fn a_text_is_stored_and_loaded(rt: HostRuntime) {
         ])
     );
     let value = Val::load(alloc, &mut cx, InterfaceType::String, 8);
-    assert!(rt; matches!(&value, Ok(Val::String(text)) if text.as_str() == "é"));
+    let Ok(Val::String(text)) = &value else {
+        panic!(rt; "no text");
+    };
+    assert!(rt; text.as_str() == "é");
 }
 
 /// A core of the type of a tuple of one u8, and its number.
@@ -126,7 +132,10 @@ fn parameters_are_lowered_and_results_lifted(rt: HostRuntime) {
     assert!(rt; words == [ValRaw::u64(7)]);
     let mut cx = LiftContext::new(&mut core, OptionsIndex::from_u32(0));
     let values = lift_results(alloc, &mut cx, ty, &words).expect(&rt, "results");
-    assert!(rt; matches!(values.as_slice(), [Val::U8(7)]));
+    let [Val::U8(number)] = values.as_slice() else {
+        panic!(rt; "no number");
+    };
+    assert!(rt; *number == 7);
 }
 
 /// The type of a tuple of a bool, a list of u16, a string and a char.
@@ -260,12 +269,14 @@ fn a_core_gives_its_parts_and_passes_calls_on(rt: HostRuntime) {
         .expect(&rt, "memory");
     core.guest_mut()
         .load(actions, Vec::new(alloc), false, false);
-    assert!(rt;
-        matches!(core.start(4, &[]), Ok(Step::Import { index: 9, .. }))
-            && matches!(core.resume(&[]), Ok(Step::Return(_)))
-            && core.post_return(4, &[]).is_ok()
-            && core.dtor(4, 5).is_ok()
-    );
+    let asked = core.start(4, &[]);
+    let Ok(Step::Import { index, .. }) = &asked else {
+        panic!(rt; "no ask");
+    };
+    assert!(rt; *index == 9);
+    let returned = core.resume(&[]);
+    assert!(rt; matches!(&returned, Ok(Step::Return(_))));
+    assert!(rt; core.post_return(4, &[]).is_ok() && core.dtor(4, 5).is_ok());
 }
 
 #[test]
