@@ -202,14 +202,9 @@ fn exit(ledger: &mut Ledger) -> Result<(), ResourceFault> {
 }
 
 #[test]
-fn an_index_with_its_generation_is_one_number(rt: HostRuntime) -> Result<(), Fail> {
+fn an_index_is_given_back_with_its_generation(rt: HostRuntime) {
     let index = HostResourceIndex::new(5, 2);
-    let text = format!(in rt.alloc(); "{index:?}")?;
-    assert!(rt;
-        text.as_str() == "HostResourceIndex { number: 8589934597 }"
-            && (index.index(), index.generation()) == (5, 2)
-    );
-    Ok(())
+    assert!(rt; (index.index(), index.generation()) == (5, 2));
 }
 
 #[test]
