@@ -7,6 +7,7 @@ mod handles;
 mod host;
 mod host_tables;
 mod index;
+mod known;
 pub mod laws;
 mod ledger;
 mod tables;
@@ -16,6 +17,7 @@ pub use fault::ResourceFault;
 pub use host::{HostResourceData, TableSlot};
 pub use host_tables::{HostResourceTables, resource_drop_ret};
 pub use index::HostResourceIndex;
+pub use known::KnownTypes;
 pub use ledger::Ledger;
 pub use tables::ResourceTables;
 
