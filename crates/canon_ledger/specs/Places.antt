@@ -1,5 +1,5 @@
 -- Where a resource is kept: one of the host in the host's table, and one of a component in the table of the instance that its type names.
-use Rattle.std.specs.Prelude.{◌≡◌, ◌<◌, ℕ, length, Option, Some, None, slice_get}
+use Rattle.std.specs.Prelude.{◌≡◌, ◌<◌, ◌∷◌, List, [], ℕ, length, Option, Some, None, slice_get}
 use Rattle.std.specs.Option.{option_map_or}
 use Rattle.canon_types.specs.Table.{Table, HasResource}
 use Rattle.canon_types.specs.declared.types.TypeResourceTable.{TypeResourceTable}
@@ -9,6 +9,11 @@ use Rattle.canon_handles.specs.declared.handle.TypedResourceIndex.{TypedResource
 use Rattle.canon_handles.specs.declared.handle.TypedResourceIndex.TheVariants.{Host as HostIndex, Component as ComponentIndex}
 use Rattle.canon_ledger.specs.Handles.{host_table, instance_table}
 use Rattle.canon_ledger.specs.Ledger.{LedgerState}
+
+-- the first of the types that are known, if there is one
+abbrev pub first_type : List Table → Option Table
+first_type [] = None
+first_type (t ∷ ts) = Some t
 
 -- the instance that a resource type names
 abbrev pub instance_of : Table → ℕ → ℕ

@@ -11,6 +11,7 @@ ghost use Rattle.canon_ledger.specs.Books.{DidSurely, IsOpen, scope_number};
 use crate::fault::ResourceFault;
 use crate::host::TableSlot;
 use crate::index::HostResourceIndex;
+use crate::known::KnownTypes;
 use crate::ledger::Ledger;
 use crate::tables::ResourceTables;
 use canon_handles::{TypedResource, TypedResourceIndex};
@@ -56,13 +57,13 @@ impl<'a> HostResourceTables<'a> {
     pub fn new_host(ledger: &'a mut Ledger) -> Self
         ensures same_reference { reference_in result ≡ ledger.entry.ghost_name }
         ensures same_ledger { ledger_in result ≡ ledger.old }
-        ensures no_types { types_in result ≡ None }
+        ensures no_types { known_in result ≡ None }
         ensures no_scope { scope_in result ≡ None }
     {
         HostResourceTables {
             tables: ResourceTables {
                 ledger,
-                types: None,
+                types: KnownTypes::none(),
                 current_scope: None,
             },
         }

@@ -160,7 +160,7 @@ impl Ledger {
     }
 
     /// The number of the host's table.
-    pub(crate) fn host_table(&self) -> u32
+    pub fn host_table(&self) -> u32
         ensures number { result ≡ host_table }
         ensures within { result < length self.now.handles.tables }
     {
@@ -169,11 +169,7 @@ impl Ledger {
     }
 
     /// A new own handle in a table, the host's (0) or that of an instance.
-    pub(crate) fn new_at(
-        &mut self,
-        table: u32,
-        resource: TypedResource,
-    ) -> Result<u32, ResourceFault>
+    pub fn new_at(&mut self, table: u32, resource: TypedResource) -> Result<u32, ResourceFault>
         requires { table < length self.old.handles.tables }
         ensures { Did (resource_new self.old table resource) result self.old self.new }
     {
@@ -186,7 +182,7 @@ impl Ledger {
     }
 
     /// A new borrow handle of an open scope.
-    pub(crate) fn lower_borrow_at(
+    pub fn lower_borrow_at(
         &mut self,
         table: u32,
         resource: TypedResource,
@@ -205,21 +201,21 @@ impl Ledger {
     }
 
     /// The generation in which the next index of the host's table is given.
-    pub(crate) fn generation(&self) -> u32
+    pub fn generation(&self) -> u32
         ensures { result ≡ self.now.host.generation }
     {
         self.host.generation()
     }
 
     /// What the host keeps of an index of its table.
-    pub(crate) fn slot(&self, index: u32) -> Option<TableSlot>
+    pub fn slot(&self, index: u32) -> Option<TableSlot>
         ensures { result ≡ slot_at self.now.host index }
     {
         self.host.slot(index)
     }
 
     /// Whether an index of the host's table was given again since.
-    pub(crate) fn is_stale(&self, index: &HostResourceIndex) -> bool
+    pub fn is_stale(&self, index: &HostResourceIndex) -> bool
         ensures { result ≡ is_stale self.now.host index.now }
     {
         match self.slot(index.index()) {
@@ -229,7 +225,7 @@ impl Ledger {
     }
 
     /// A new own handle of the host, with what the host keeps of its index.
-    pub(crate) fn host_lower_own(
+    pub fn host_lower_own(
         &mut self,
         rep: u32,
         dtor: Option<u32>,
@@ -247,7 +243,7 @@ impl Ledger {
     }
 
     /// The representation of a handle.
-    pub(crate) fn rep_at(&self, table: u32, index: TypedResourceIndex) -> Result<u32, ResourceFault>
+    pub fn rep_at(&self, table: u32, index: TypedResourceIndex) -> Result<u32, ResourceFault>
         requires { table < length self.now.handles.tables }
         ensures { result ≡ resource_rep self.now table index }
     {
@@ -255,7 +251,7 @@ impl Ledger {
     }
 
     /// Drops a handle: gives the representation of an own handle.
-    pub(crate) fn drop_at(
+    pub fn drop_at(
         &mut self,
         table: u32,
         index: TypedResourceIndex,
@@ -268,7 +264,7 @@ impl Ledger {
     }
 
     /// Takes an own handle out.
-    pub(crate) fn lift_own_at(
+    pub fn lift_own_at(
         &mut self,
         table: u32,
         index: TypedResourceIndex,
@@ -281,7 +277,7 @@ impl Ledger {
     }
 
     /// The representation of a handle, which is lent to the call of an open scope.
-    pub(crate) fn lift_borrow_at(
+    pub fn lift_borrow_at(
         &mut self,
         table: u32,
         index: TypedResourceIndex,
@@ -295,7 +291,7 @@ impl Ledger {
     }
 
     /// The representation of a handle where there is no scope.
-    pub(crate) fn lift_borrow_in_none(
+    pub fn lift_borrow_in_none(
         &self,
         table: u32,
         index: TypedResourceIndex,
@@ -307,7 +303,7 @@ impl Ledger {
     }
 
     /// The end of the call of an open scope.
-    pub(crate) fn exit(&mut self, number: u64) -> Result<(), ResourceFault>
+    pub fn exit(&mut self, number: u64) -> Result<(), ResourceFault>
         requires { number < length self.old.handles.scopes }
         ensures { DidSurely (validate_scope_exit (Some number) self.old) result self.new }
     {

@@ -1,8 +1,8 @@
 //! The calls on resources.
 
-ghost use Rattle.std.specs.Prelude.{◌≡◌, ◌<◌, ◌↔◌, IsTrue, length, option_map};
+ghost use Rattle.std.specs.Prelude.{◌≡◌, ◌<◌, ◌↔◌, IsTrue, length};
 ghost use Rattle.canon_ledger.specs.Handles.{host_table};
-ghost use Rattle.canon_ledger.specs.Places.{HasType, IsIndexPlaced, IsPlaced, SamePlaces, table_of, table_of_index, type_table};
+ghost use Rattle.canon_ledger.specs.Places.{first_type, HasType, IsIndexPlaced, IsPlaced, SamePlaces, table_of, table_of_index, type_table};
 ghost use Rattle.canon_ledger.specs.Ledger.{Did, host_resource_lower_own, is_stale, resource_drop, resource_lift_borrow, resource_lift_own, resource_lower_borrow, resource_new, resource_rep, slot_at, validate_scope_exit};
 ghost use Rattle.canon_ledger.specs.Books.{DidSurely, IsOpen, scope_number};
 
@@ -10,10 +10,11 @@ use crate::fault::ResourceFault;
 use crate::handles::number_of;
 use crate::host::TableSlot;
 use crate::index::HostResourceIndex;
+use crate::known::KnownTypes;
 use crate::ledger::Ledger;
 use canon_handles::{CurrentScope, TypedResource, TypedResourceIndex};
 use canon_indices::RuntimeInstance;
-use canon_types::{ComponentTypes, InterfaceType, TypeResourceTableIndex};
+use canon_types::{InterfaceType, TypeResourceTableIndex};
 
 /// The ledger as a call reaches it: with the types of the component, where there is one, and the
 /// scope of the call that runs. That scope, where there is one, must be open (`Ledger::context`).
@@ -23,7 +24,7 @@ use canon_types::{ComponentTypes, InterfaceType, TypeResourceTableIndex};
 #[derive(Drop)]
 pub struct ResourceTables<'a> {
     pub ledger: &'a mut Ledger,
-    pub types: Option<&'a ComponentTypes>,
+    pub types: KnownTypes<'a>,
     pub current_scope: Option<CurrentScope>,
 }
 
@@ -40,12 +41,12 @@ impl<'a> ResourceTables<'a> {
 
     /// The number of the table of a resource type: that of the instance which the type names.
     fn type_table(&self, ty: TypeResourceTableIndex) -> u32
-        requires { HasType (option_map (λ t. t.now) self.now.types) ty self.now.ledger.now }
-        ensures number { result ≡ type_table (option_map (λ t. t.now) self.now.types) ty }
+        requires { HasType (first_type self.now.types.list.now) ty self.now.ledger.now }
+        ensures number { result ≡ type_table (first_type self.now.types.list.now) ty }
         ensures within { result < length self.now.ledger.now.handles.tables }
     {
         let _instances = self.ledger.instances();
-        let Some(types) = self.types else {
+        let Some(types) = self.types.get() else {
             unreachable!()
         };
         types.resource_table(ty).instance.as_u32() + 1
@@ -53,8 +54,8 @@ impl<'a> ResourceTables<'a> {
 
     /// The number of the table that keeps a resource.
     fn table_of(&self, resource: &TypedResource) -> u32
-        requires { IsPlaced (option_map (λ t. t.now) self.now.types) resource.now self.now.ledger.now }
-        ensures number { result ≡ table_of (option_map (λ t. t.now) self.now.types) resource.now }
+        requires { IsPlaced (first_type self.now.types.list.now) resource.now self.now.ledger.now }
+        ensures number { result ≡ table_of (first_type self.now.types.list.now) resource.now }
         ensures within { result < length self.now.ledger.now.handles.tables }
     {
         match resource {
@@ -65,8 +66,8 @@ impl<'a> ResourceTables<'a> {
 
     /// The number of the table that an index is one of.
     fn table_of_index(&self, index: &TypedResourceIndex) -> u32
-        requires { IsIndexPlaced (option_map (λ t. t.now) self.now.types) index.now self.now.ledger.now }
-        ensures number { result ≡ table_of_index (option_map (λ t. t.now) self.now.types) index.now }
+        requires { IsIndexPlaced (first_type self.now.types.list.now) index.now self.now.ledger.now }
+        ensures number { result ≡ table_of_index (first_type self.now.types.list.now) index.now }
         ensures within { result < length self.now.ledger.now.handles.tables }
     {
         match index {
@@ -78,10 +79,10 @@ impl<'a> ResourceTables<'a> {
     /// Whether a resource type is known here, and its instance is one of the ledger's: the condition
     /// of each call that names a resource of this type.
     pub fn has_type(&self, ty: TypeResourceTableIndex) -> bool
-        ensures { IsTrue result ↔ HasType (option_map (λ t. t.now) self.now.types) ty self.now.ledger.now }
+        ensures { IsTrue result ↔ HasType (first_type self.now.types.list.now) ty self.now.ledger.now }
     {
         let instances = self.ledger.instances();
-        let Some(types) = self.types else {
+        let Some(types) = self.types.get() else {
             return false;
         };
         types.contains(&InterfaceType::Own(ty))
@@ -130,11 +131,11 @@ impl<'a> ResourceTables<'a> {
     #[tactic(auto, using(crate::proofs::HoldsLemmas::same_new))]
     pub fn resource_new(&mut self, resource: TypedResource) -> Result<u32, ResourceFault>
         requires scope_open { IsOpen self.old.current_scope self.old.ledger.now }
-        requires placed { IsPlaced (option_map (λ t. t.now) self.old.types) resource self.old.ledger.now }
+        requires placed { IsPlaced (first_type self.old.types.list.now) resource self.old.ledger.now }
         ensures same_reference { self.new.ledger.ghost_name ≡ self.old.ledger.ghost_name }
         ensures same_types { self.new.types ≡ self.old.types }
         ensures same_scope { self.new.current_scope ≡ self.old.current_scope }
-        ensures step { Did (resource_new self.old.ledger.now (table_of (option_map (λ t. t.now) self.old.types) resource) resource) result self.old.ledger.now self.new.ledger.now }
+        ensures step { Did (resource_new self.old.ledger.now (table_of (first_type self.old.types.list.now) resource) resource) result self.old.ledger.now self.new.ledger.now }
         ensures places { SamePlaces self.old.ledger.now self.new.ledger.now }
     {
         let table = self.table_of(&resource);
@@ -145,11 +146,11 @@ impl<'a> ResourceTables<'a> {
     #[tactic(auto, using(crate::proofs::HoldsLemmas::same_new))]
     pub fn resource_lower_own(&mut self, resource: TypedResource) -> Result<u32, ResourceFault>
         requires scope_open { IsOpen self.old.current_scope self.old.ledger.now }
-        requires placed { IsPlaced (option_map (λ t. t.now) self.old.types) resource self.old.ledger.now }
+        requires placed { IsPlaced (first_type self.old.types.list.now) resource self.old.ledger.now }
         ensures same_reference { self.new.ledger.ghost_name ≡ self.old.ledger.ghost_name }
         ensures same_types { self.new.types ≡ self.old.types }
         ensures same_scope { self.new.current_scope ≡ self.old.current_scope }
-        ensures step { Did (resource_new self.old.ledger.now (table_of (option_map (λ t. t.now) self.old.types) resource) resource) result self.old.ledger.now self.new.ledger.now }
+        ensures step { Did (resource_new self.old.ledger.now (table_of (first_type self.old.types.list.now) resource) resource) result self.old.ledger.now self.new.ledger.now }
         ensures places { SamePlaces self.old.ledger.now self.new.ledger.now }
     {
         let table = self.table_of(&resource);
@@ -159,11 +160,11 @@ impl<'a> ResourceTables<'a> {
     /// `canon resource.rep`: the representation of a handle.
     pub fn resource_rep(&mut self, index: TypedResourceIndex) -> Result<u32, ResourceFault>
         requires scope_open { IsOpen self.old.current_scope self.old.ledger.now }
-        requires placed { IsIndexPlaced (option_map (λ t. t.now) self.old.types) index self.old.ledger.now }
+        requires placed { IsIndexPlaced (first_type self.old.types.list.now) index self.old.ledger.now }
         ensures same_reference { self.new.ledger.ghost_name ≡ self.old.ledger.ghost_name }
         ensures same_types { self.new.types ≡ self.old.types }
         ensures same_scope { self.new.current_scope ≡ self.old.current_scope }
-        ensures answer { result ≡ resource_rep self.old.ledger.now (table_of_index (option_map (λ t. t.now) self.old.types) index) index }
+        ensures answer { result ≡ resource_rep self.old.ledger.now (table_of_index (first_type self.old.types.list.now) index) index }
         ensures same_ledger { self.new.ledger.now ≡ self.old.ledger.now }
     {
         let table = self.table_of_index(&index);
@@ -174,11 +175,11 @@ impl<'a> ResourceTables<'a> {
     /// an own handle, whose destructor is to run, and nothing for a borrow handle.
     pub fn resource_drop(&mut self, index: TypedResourceIndex) -> Result<Option<u32>, ResourceFault>
         requires scope_open { IsOpen self.old.current_scope self.old.ledger.now }
-        requires placed { IsIndexPlaced (option_map (λ t. t.now) self.old.types) index self.old.ledger.now }
+        requires placed { IsIndexPlaced (first_type self.old.types.list.now) index self.old.ledger.now }
         ensures same_reference { self.new.ledger.ghost_name ≡ self.old.ledger.ghost_name }
         ensures same_types { self.new.types ≡ self.old.types }
         ensures same_scope { self.new.current_scope ≡ self.old.current_scope }
-        ensures step { DidSurely (resource_drop self.old.ledger.now (table_of_index (option_map (λ t. t.now) self.old.types) index) index) result self.new.ledger.now }
+        ensures step { DidSurely (resource_drop self.old.ledger.now (table_of_index (first_type self.old.types.list.now) index) index) result self.new.ledger.now }
         ensures places { SamePlaces self.old.ledger.now self.new.ledger.now }
     {
         let table = self.table_of_index(&index);
@@ -188,11 +189,11 @@ impl<'a> ResourceTables<'a> {
     /// `lift_own` of the Canonical ABI: takes an own handle out. A borrow handle is refused and stays.
     pub fn resource_lift_own(&mut self, index: TypedResourceIndex) -> Result<u32, ResourceFault>
         requires scope_open { IsOpen self.old.current_scope self.old.ledger.now }
-        requires placed { IsIndexPlaced (option_map (λ t. t.now) self.old.types) index self.old.ledger.now }
+        requires placed { IsIndexPlaced (first_type self.old.types.list.now) index self.old.ledger.now }
         ensures same_reference { self.new.ledger.ghost_name ≡ self.old.ledger.ghost_name }
         ensures same_types { self.new.types ≡ self.old.types }
         ensures same_scope { self.new.current_scope ≡ self.old.current_scope }
-        ensures step { DidSurely (resource_lift_own self.old.ledger.now (table_of_index (option_map (λ t. t.now) self.old.types) index) index) result self.new.ledger.now }
+        ensures step { DidSurely (resource_lift_own self.old.ledger.now (table_of_index (first_type self.old.types.list.now) index) index) result self.new.ledger.now }
         ensures places { SamePlaces self.old.ledger.now self.new.ledger.now }
     {
         let table = self.table_of_index(&index);
@@ -203,11 +204,11 @@ impl<'a> ResourceTables<'a> {
     /// the call of the current scope until that ends.
     pub fn resource_lift_borrow(&mut self, index: TypedResourceIndex) -> Result<u32, ResourceFault>
         requires scope_open { IsOpen self.old.current_scope self.old.ledger.now }
-        requires placed { IsIndexPlaced (option_map (λ t. t.now) self.old.types) index self.old.ledger.now }
+        requires placed { IsIndexPlaced (first_type self.old.types.list.now) index self.old.ledger.now }
         ensures same_reference { self.new.ledger.ghost_name ≡ self.old.ledger.ghost_name }
         ensures same_types { self.new.types ≡ self.old.types }
         ensures same_scope { self.new.current_scope ≡ self.old.current_scope }
-        ensures step { Did (resource_lift_borrow (scope_number self.old.current_scope) self.old.ledger.now (table_of_index (option_map (λ t. t.now) self.old.types) index) index) result self.old.ledger.now self.new.ledger.now }
+        ensures step { Did (resource_lift_borrow (scope_number self.old.current_scope) self.old.ledger.now (table_of_index (first_type self.old.types.list.now) index) index) result self.old.ledger.now self.new.ledger.now }
         ensures places { SamePlaces self.old.ledger.now self.new.ledger.now }
     {
         let table = self.table_of_index(&index);
@@ -222,11 +223,11 @@ impl<'a> ResourceTables<'a> {
     #[tactic(auto, using(crate::proofs::HoldsLemmas::same_lower_borrow))]
     pub fn resource_lower_borrow(&mut self, resource: TypedResource) -> Result<u32, ResourceFault>
         requires scope_open { IsOpen self.old.current_scope self.old.ledger.now }
-        requires placed { IsPlaced (option_map (λ t. t.now) self.old.types) resource self.old.ledger.now }
+        requires placed { IsPlaced (first_type self.old.types.list.now) resource self.old.ledger.now }
         ensures same_reference { self.new.ledger.ghost_name ≡ self.old.ledger.ghost_name }
         ensures same_types { self.new.types ≡ self.old.types }
         ensures same_scope { self.new.current_scope ≡ self.old.current_scope }
-        ensures step { Did (resource_lower_borrow (scope_number self.old.current_scope) self.old.ledger.now (table_of (option_map (λ t. t.now) self.old.types) resource) resource) result self.old.ledger.now self.new.ledger.now }
+        ensures step { Did (resource_lower_borrow (scope_number self.old.current_scope) self.old.ledger.now (table_of (first_type self.old.types.list.now) resource) resource) result self.old.ledger.now self.new.ledger.now }
         ensures places { SamePlaces self.old.ledger.now self.new.ledger.now }
     {
         let table = self.table_of(&resource);

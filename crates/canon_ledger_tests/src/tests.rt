@@ -5,8 +5,8 @@ mod scopes;
 use canon_handles::{TypedResource, TypedResourceIndex};
 use canon_indices::RuntimeInstance;
 use canon_ledger::{
-    HostResourceData, HostResourceIndex, HostResourceTables, Ledger, ResourceFault, ResourceTables,
-    TableSlot, resource_drop_ret,
+    HostResourceData, HostResourceIndex, HostResourceTables, KnownTypes, Ledger, ResourceFault,
+    ResourceTables, TableSlot, resource_drop_ret,
 };
 use canon_types::{
     ComponentTypes, ResourceKind, TypeBuilder, TypeError, TypeResourceTable, TypeResourceTableIndex,
@@ -55,7 +55,7 @@ fn guest_lower_own(
     let current_scope = ledger.current();
     let mut tables = HostResourceTables::from_parts(ResourceTables {
         ledger,
-        types: Some(types),
+        types: KnownTypes::of(types),
         current_scope,
     });
     if !tables.has_type(ty) {
@@ -73,7 +73,7 @@ fn guest_lower_borrow(
     let current_scope = ledger.current();
     let mut tables = HostResourceTables::from_parts(ResourceTables {
         ledger,
-        types: Some(types),
+        types: KnownTypes::of(types),
         current_scope,
     });
     if !tables.has_type(ty) {
@@ -91,7 +91,7 @@ fn guest_lift_own(
     let current_scope = ledger.current();
     let mut tables = HostResourceTables::from_parts(ResourceTables {
         ledger,
-        types: Some(types),
+        types: KnownTypes::of(types),
         current_scope,
     });
     if !tables.has_type(ty) {
@@ -109,7 +109,7 @@ fn guest_lift_borrow(
     let current_scope = ledger.current();
     let mut tables = HostResourceTables::from_parts(ResourceTables {
         ledger,
-        types: Some(types),
+        types: KnownTypes::of(types),
         current_scope,
     });
     if !tables.has_type(ty) {
@@ -127,7 +127,7 @@ fn guest_drop(
     let current_scope = ledger.current();
     let mut tables = ResourceTables {
         ledger,
-        types: Some(types),
+        types: KnownTypes::of(types),
         current_scope,
     };
     if !tables.has_type(ty) {
@@ -144,7 +144,7 @@ fn guest_new(
 ) -> Option<Result<u32, ResourceFault>> {
     let mut tables = ResourceTables {
         ledger,
-        types: Some(types),
+        types: KnownTypes::of(types),
         current_scope: None,
     };
     if !tables.has_type(ty) {
@@ -161,7 +161,7 @@ fn guest_rep(
 ) -> Option<Result<u32, ResourceFault>> {
     let mut tables = ResourceTables {
         ledger,
-        types: Some(types),
+        types: KnownTypes::of(types),
         current_scope: None,
     };
     if !tables.has_type(ty) {
@@ -175,7 +175,7 @@ fn lift_borrow(ledger: &mut Ledger, idx: HostResourceIndex) -> Result<u32, Resou
     let current_scope = ledger.current();
     let mut tables = HostResourceTables::from_parts(ResourceTables {
         ledger,
-        types: None,
+        types: KnownTypes::none(),
         current_scope,
     });
     tables.host_resource_lift_borrow(idx)
@@ -185,7 +185,7 @@ fn lower_borrow(ledger: &mut Ledger, rep: u32) -> Result<HostResourceIndex, Reso
     let current_scope = ledger.current();
     let mut tables = HostResourceTables::from_parts(ResourceTables {
         ledger,
-        types: None,
+        types: KnownTypes::none(),
         current_scope,
     });
     tables.host_resource_lower_borrow(rep)
@@ -195,7 +195,7 @@ fn exit(ledger: &mut Ledger) -> Result<(), ResourceFault> {
     let current_scope = ledger.current();
     let mut tables = HostResourceTables::from_parts(ResourceTables {
         ledger,
-        types: None,
+        types: KnownTypes::none(),
         current_scope,
     });
     tables.validate_scope_exit()

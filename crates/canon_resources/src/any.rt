@@ -98,7 +98,7 @@ impl ResourceAny {
     }
 
     /// The handle.
-    pub(crate) fn handle(&self) -> ResourceAnyHandle
+    pub fn handle(&self) -> ResourceAnyHandle
         ensures { result ≡ self.now.handle }
     {
         self.handle

@@ -9,10 +9,10 @@ mod dynamic;
 mod fixed;
 mod host;
 
-pub use any::ResourceAny;
+pub use any::{ResourceAny, ResourceAnyHandle};
 pub use canon_ledger::{
-    CallContext, HostResourceData, HostResourceIndex, HostResourceTables, Ledger, ResourceFault,
-    ResourceTables, TableSlot, resource_drop_ret,
+    CallContext, HostResourceData, HostResourceIndex, HostResourceTables, KnownTypes, Ledger,
+    ResourceFault, ResourceTables, TableSlot, resource_drop_ret,
 };
 pub use canon_types::{HostType, ResourceType};
 pub use dynamic::ResourceDynamic;

@@ -2,7 +2,8 @@
 
 use canon_indices::{RuntimeInstance, StoreId};
 use canon_ledger::{
-    HostResourceData, HostResourceIndex, HostResourceTables, Ledger, ResourceFault, ResourceTables,
+    HostResourceData, HostResourceIndex, HostResourceTables, KnownTypes, Ledger, ResourceFault,
+    ResourceTables,
 };
 use canon_resources::{
     HostResource, HostResourceType, HostType, Resource, ResourceAny, ResourceDynamic,
@@ -58,7 +59,7 @@ fn lower_borrow(ledger: &mut Ledger, rep: u32) -> Result<HostResourceIndex, Reso
     let current_scope = ledger.current();
     let mut tables = HostResourceTables::from_parts(ResourceTables {
         ledger,
-        types: None,
+        types: KnownTypes::none(),
         current_scope,
     });
     tables.host_resource_lower_borrow(rep)

@@ -8,7 +8,7 @@ fn new_own(ledger: &mut Ledger, rep: u32) -> Result<u32, ResourceFault> {
     let current_scope = ledger.current();
     let mut tables = ResourceTables {
         ledger,
-        types: None,
+        types: KnownTypes::none(),
         current_scope,
     };
     tables.resource_new(TypedResource::Host(rep))
@@ -18,7 +18,7 @@ fn lower_own(ledger: &mut Ledger, rep: u32) -> Result<u32, ResourceFault> {
     let current_scope = ledger.current();
     let mut tables = ResourceTables {
         ledger,
-        types: None,
+        types: KnownTypes::none(),
         current_scope,
     };
     tables.resource_lower_own(TypedResource::Host(rep))
@@ -28,7 +28,7 @@ fn lower_borrow(ledger: &mut Ledger, rep: u32) -> Result<u32, ResourceFault> {
     let current_scope = ledger.current();
     let mut tables = ResourceTables {
         ledger,
-        types: None,
+        types: KnownTypes::none(),
         current_scope,
     };
     tables.resource_lower_borrow(TypedResource::Host(rep))
@@ -38,7 +38,7 @@ fn rep(ledger: &mut Ledger, index: u32) -> Result<u32, ResourceFault> {
     let current_scope = ledger.current();
     let mut tables = ResourceTables {
         ledger,
-        types: None,
+        types: KnownTypes::none(),
         current_scope,
     };
     tables.resource_rep(TypedResourceIndex::Host(index))
@@ -48,7 +48,7 @@ fn drop_handle(ledger: &mut Ledger, index: u32) -> Result<Option<u32>, ResourceF
     let current_scope = ledger.current();
     let mut tables = ResourceTables {
         ledger,
-        types: None,
+        types: KnownTypes::none(),
         current_scope,
     };
     tables.resource_drop(TypedResourceIndex::Host(index))
@@ -58,7 +58,7 @@ fn lift_own(ledger: &mut Ledger, index: u32) -> Result<u32, ResourceFault> {
     let current_scope = ledger.current();
     let mut tables = ResourceTables {
         ledger,
-        types: None,
+        types: KnownTypes::none(),
         current_scope,
     };
     tables.resource_lift_own(TypedResourceIndex::Host(index))
@@ -68,7 +68,7 @@ fn lift_borrow(ledger: &mut Ledger, index: u32) -> Result<u32, ResourceFault> {
     let current_scope = ledger.current();
     let mut tables = ResourceTables {
         ledger,
-        types: None,
+        types: KnownTypes::none(),
         current_scope,
     };
     tables.resource_lift_borrow(TypedResourceIndex::Host(index))
@@ -78,7 +78,7 @@ fn exit(ledger: &mut Ledger) -> Result<(), ResourceFault> {
     let current_scope = ledger.current();
     let mut tables = ResourceTables {
         ledger,
-        types: None,
+        types: KnownTypes::none(),
         current_scope,
     };
     tables.validate_scope_exit()

@@ -1,0 +1,71 @@
+-- Handles, one after another.
+use Rattle.std.proofs.Common.{Err, List, None, Ok, Option, Result, Some, [], ap, inl, inr, refl, subst, sym, ℕ, ◌++◌, ◌∙◌, ◌≡◌, ◌∷◌}
+use Rattle.canon_ledger.specs.declared.fault.ResourceFault.{ResourceFault}
+use Rattle.canon_ledger.specs.Ledger.{LedgerState}
+use Rattle.canon_leaves.specs.Laws.{LeavesAreDetermined, LeavesCompose, StopsCompose, StopsStay}
+use Rattle.canon_leaves.specs.Parts.{LeafTakes, LeavesStop, LeavesTake, Part, Stops, Takes, do_part, last_of}
+
+-- ---- parts
+
+pub takes_then : (last : ℕ) (l m n : LedgerState) (ps qs : List Part) (xs ys : List ℕ) → Takes last l ps xs m → ((k : ℕ) → Takes k m qs ys n) → Takes last l (ps ++ qs) (xs ++ ys) n
+takes_then last l m n [] qs xs ys h k = subst (λ zs. Takes last l qs (zs ++ ys) n) (sym h.0) (subst (λ x. Takes last x qs ys n) h.1 (k last))
+takes_then last l m n (p ∷ ps) qs xs ys (a, rest, is, ok, more) k = (a, rest ++ ys, ap (λ zs. zs ++ ys) is, ok, takes_then a _ m n ps qs rest ys more k)
+
+pub stops_then : (why : Option ResourceFault) (last : ℕ) (l m n : LedgerState) (ps qs : List Part) (xs : List ℕ) → Takes last l ps xs m → ((k : ℕ) → Stops why k m qs n) → Stops why last l (ps ++ qs) n
+stops_then why last l m n [] qs xs h k = subst (λ x. Stops why last x qs n) h.1 (k last)
+stops_then None last l m n (p ∷ ps) qs xs (a, rest, is, ok, more) k = inr (inr (a, ok, stops_then None a _ m n ps qs rest more k))
+stops_then (Some e) last l m n (p ∷ ps) qs xs (a, rest, is, ok, more) k = inr (inr (a, ok, stops_then (Some e) a _ m n ps qs rest more k))
+
+same_ok : (r : Result ℕ ResourceFault) (a b : ℕ) → r ≡ Ok a → r ≡ Ok b → a ≡ b
+same_ok r a b e f = cc
+
+takes_along : (last k : ℕ) (l n : LedgerState) (ps : List Part) (ys : List ℕ) → last ≡ k → Takes k l ps ys n → Takes last l ps ys n
+takes_along last k l n ps ys e h = subst (λ x. Takes x l ps ys n) (sym e) h
+
+-- what is told and left is one
+pub takes_same : (last : ℕ) (l m n : LedgerState) (ps : List Part) (xs ys : List ℕ) → Takes last l ps xs m → Takes last l ps ys n → (xs ≡ ys) × (m ≡ n)
+takes_same last l m n [] xs ys h k = (h.0 ∙ sym k.0, h.1 ∙ sym k.1)
+takes_same last l m n (p ∷ ps) xs ys (a, as2, is, ok, more) (b, bs, is2, ok2, more2) =
+    let e : a ≡ b = same_ok _ a b ok ok2 in
+    let (f, g) = takes_same a _ m n ps as2 bs more (takes_along a b _ n ps bs e more2) in
+    (is ∙ ap (λ x. x ∷ as2) e ∙ ap (λ zs. b ∷ zs) f ∙ sym is2, g)
+
+-- ---- handles
+
+pub leaves_then : LeavesCompose
+leaves_then l m n [] ys hs ks h k = subst (λ zs. LeavesTake l ys (zs ++ ks) n) (sym h.0) (subst (λ x. LeavesTake x ys ks n) h.1 k)
+leaves_then l m n (x ∷ xs) ys hs ks (h, rest, mid, is, leaf, more) k = (h, rest ++ ks, mid, ap (λ zs. zs ++ ks) is, leaf, leaves_then mid m n xs ys rest ks more k)
+
+pub leaves_stop_then : StopsCompose
+leaves_stop_then why l m n [] ys hs h k = subst (λ x. LeavesStop why x ys n) h.1 k
+leaves_stop_then why l m n (x ∷ xs) ys hs (h, rest, mid, is, leaf, more) k = inr (h, mid, leaf, leaves_stop_then why mid m n xs ys rest more k)
+
+-- nothing was done yet
+pub stops_at_once : (l n : LedgerState) (ys : List (List Part)) → n ≡ l → LeavesStop None l ys n
+stops_at_once l n [] e = e
+stops_at_once l n ([] ∷ ys) e = inl (λ last. e)
+stops_at_once l n ((p ∷ ps) ∷ ys) e = inl (λ last. inl (refl, e))
+
+pub leaves_stop_first : StopsStay
+leaves_stop_first None l n [] ys h = stops_at_once l n ys h
+leaves_stop_first (Some e) l n [] ys h = absurd h
+leaves_stop_first why l n (x ∷ xs) ys (inl h) = inl h
+leaves_stop_first why l n (x ∷ xs) ys (inr (h, mid, leaf, more)) = inr (h, mid, leaf, leaves_stop_first why mid n xs ys more)
+
+pub leaves_one : (l n : LedgerState) (leaf : List Part) (h : ℕ) → LeafTakes l leaf h n → LeavesTake l (leaf ∷ []) (h ∷ []) n
+leaves_one l n leaf h takes = (h, [], n, refl, takes, (refl, refl))
+
+pub leaves_stop_one : (why : Option ResourceFault) (l n : LedgerState) (leaf : List Part) → ((last : ℕ) → Stops why last l leaf n) → LeavesStop why l (leaf ∷ []) n
+leaves_stop_one why l n leaf stops = inl stops
+
+pub leaf_same : (l m n : LedgerState) (leaf : List Part) (h k : ℕ) → LeafTakes l leaf h m → LeafTakes l leaf k n → (h ≡ k) × (m ≡ n)
+leaf_same l m n leaf h k a b =
+    let (e, f) = takes_same 0 l m n leaf a.answers b.answers (a.takes 0) (b.takes 0) in
+    (sym (a.handle 0) ∙ ap (λ xs. last_of 0 xs) e ∙ b.handle 0, f)
+
+pub leaves_same : LeavesAreDetermined
+leaves_same l m n [] hs ks h k = (h.0 ∙ sym k.0, h.1 ∙ sym k.1)
+leaves_same l m n (x ∷ xs) hs ks (h, rest, mid, is, leaf, more) (k, rest2, mid2, is2, leaf2, more2) =
+    let (e, f) = leaf_same l mid mid2 x h k leaf leaf2 in
+    let (g, j) = leaves_same mid m n xs rest rest2 more (subst (λ (y : LedgerState). LeavesTake y xs rest2 n) (sym f) more2) in
+    (is ∙ ap (λ y. y ∷ rest) e ∙ ap (λ zs. k ∷ zs) g ∙ sym is2, j)
