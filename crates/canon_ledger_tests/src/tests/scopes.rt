@@ -1,7 +1,7 @@
 //! Handles that are lent in the scope of a call, and what a handle is refused for.
 
 use canon_handles::{CurrentScope, Scope, TypedResource, TypedResourceIndex};
-use canon_ledger::{HostResourceData, Ledger, ResourceFault, ResourceTables};
+use canon_ledger::{HostResourceData, KnownTypes, Ledger, ResourceFault, ResourceTables};
 use std::test::Fail;
 
 fn new_own(ledger: &mut Ledger, rep: u32) -> Result<u32, ResourceFault> {
