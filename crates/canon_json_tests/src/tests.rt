@@ -55,7 +55,7 @@ fn items_are_read_in_order(rt: HostRuntime) -> Result<(), Fail> {
     let v = Value::from_str(rt.alloc(), r#"[[4294967295],[1,2],[3,4294967296]]"#)?;
     let items = items_of(Some(&v)).expect(&rt, "an array");
     assert!(rt; items.len() == 3);
-    assert!(rt; only(Some(&items[0])).and_then(u32_of) == Some(u32::MAX));
+    assert!(rt; only(Some(&items[0])).is_some_and(|item| u32_of(item) == Some(u32::MAX)));
     assert!(rt; only(Some(&items[1])).is_none());
     assert!(rt; two(&items[0]).is_none());
     assert!(rt; two(&items[1]).is_some_and(|(a, b)| u32_of(a) == Some(1) && u32_of(b) == Some(2)));
