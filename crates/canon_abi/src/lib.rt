@@ -3,8 +3,6 @@
 
 mod abi;
 mod sizes;
-#[cfg(test)]
-mod tests;
 
 pub use abi::{CanonicalAbiInfo, MAX_FLAT_PARAMS, MAX_FLAT_RESULTS, VariantInfo};
 pub use sizes::{DiscriminantSize, FlagsSize};

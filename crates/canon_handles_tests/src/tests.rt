@@ -46,7 +46,7 @@ fn the_last_freed_index_comes_first(rt: HostRuntime) {
         table.remove_resource(&mut counter, host_index(1)),
         table.resource_own_insert(&mut counter, host(7)),
     );
-    assert_eq!(rt; first, (Ok(1), Ok(2), removed, Ok(1)));
+    assert!(rt; first == (Ok(1), Ok(2), removed, Ok(1)));
     let second = (
         table.remove_resource(&mut counter, host_index(1)),
         table.remove_resource(&mut counter, host_index(2)),
@@ -54,8 +54,8 @@ fn the_last_freed_index_comes_first(rt: HostRuntime) {
         table.resource_own_insert(&mut counter, host(7)),
         table.resource_own_insert(&mut counter, host(7)),
     );
-    assert_eq!(rt; second, (removed, removed, Ok(2), Ok(1), Ok(3)));
-    assert_eq!(rt; counter.live(), 3);
+    assert!(rt; second == (removed, removed, Ok(2), Ok(1), Ok(3)));
+    assert!(rt; counter.live() == 3);
 }
 
 #[test]
@@ -67,8 +67,8 @@ fn indexes_end_before_the_limit_is_asked(rt: HostRuntime) {
         table.resource_own_insert(&mut counter, host(7)),
         table.resource_own_insert(&mut counter, host(7)),
     ];
-    assert_eq!(rt; given, [Ok(1), Ok(2), Err(HandleError::IndexOverflow)]);
-    assert_eq!(rt; table.held(), 2);
+    assert!(rt; given == [Ok(1), Ok(2), Err(HandleError::IndexOverflow)]);
+    assert!(rt; table.held() == 2);
 }
 
 #[test]
@@ -81,13 +81,13 @@ fn the_limit_of_live_handles_is_kept(rt: HostRuntime) {
         table.resource_own_insert(&mut counter, host(7)),
         table.resource_lend(&mut counter, host_index(1)),
     );
-    assert_eq!(rt; given, (Ok(1), Err(refused), Err(refused)));
+    assert!(rt; given == (Ok(1), Err(refused), Err(refused)));
     counter.set_limit(2);
     let given = (
         counter.limit(),
         table.resource_own_insert(&mut counter, host(7)),
     );
-    assert_eq!(rt; given, (2, Ok(2)));
+    assert!(rt; given == (2, Ok(2)));
 }
 
 #[test]
@@ -102,7 +102,7 @@ fn an_end_is_taken_as_what_it_is(rt: HostRuntime) -> Result<(), Fail> {
         table.stream_rep(other, 1),
     );
     let wrong_end = Err(HandleError::WrongEnd);
-    assert_eq!(rt; told, (Ok(1), wrong_end, Err(HandleError::WrongType)));
+    assert!(rt; told == (Ok(1), wrong_end, Err(HandleError::WrongType)));
     *table.stream_state(ty, 1)? = TransmitLocalState::Busy;
     assert!(rt; table.held() <= counter.live());
     let told = (
@@ -112,7 +112,7 @@ fn an_end_is_taken_as_what_it_is(rt: HostRuntime) -> Result<(), Fail> {
     );
     let busy = Ok((4, TransmitLocalState::Busy));
     let wrong_kind = Err(HandleError::WrongKind);
-    assert_eq!(rt; told, (busy, Err(HandleError::Busy), wrong_kind));
+    assert!(rt; told == (busy, Err(HandleError::Busy), wrong_kind));
     Ok(())
 }
 
@@ -126,14 +126,14 @@ fn a_lent_handle_stays_whatever_the_type(rt: HostRuntime) {
         table.resource_rep(index()),
         table.resource_lend(&mut counter, index()),
     );
-    assert_eq!(rt; (given, lent), (Ok(1), (1, Ok(9), Ok((9, true)))));
+    assert!(rt; (given, lent) == (Ok(1), (1, Ok(9), Ok((9, true)))));
     let state = (table.lends(1), table.is_own(1), table.held());
     let refused = (
         table.remove_resource(&mut counter, host_index(1)),
         table.lends(1),
     );
     let still_lent = Err(HandleError::StillLent);
-    assert_eq!(rt; (state, refused), ((1, true, 2), (still_lent, 1)));
+    assert!(rt; (state, refused) == ((1, true, 2), (still_lent, 1)));
     let removed = (
         table.resource_undo_lend(&mut counter, index()),
         table.remove_resource(&mut counter, host_index(1)),
@@ -142,7 +142,7 @@ fn a_lent_handle_stays_whatever_the_type(rt: HostRuntime) {
     );
     let mismatch = Err(HandleError::ResourceTypeMismatch);
     let own = Ok(RemovedResource::Own { rep: 9 });
-    assert_eq!(rt; removed, (Ok(()), mismatch, own, 0));
+    assert!(rt; removed == (Ok(()), mismatch, own, 0));
 }
 
 #[test]
@@ -158,7 +158,7 @@ fn a_borrow_handle_gives_its_scope_back(rt: HostRuntime) {
         table.is_empty(),
     );
     let removed = Ok(RemovedResource::Borrow { scope });
-    assert_eq!(rt; told, (Ok(1), Ok((7, false)), 1, removed, true));
+    assert!(rt; told == (Ok(1), Ok((7, false)), 1, removed, true));
 }
 
 #[test]
@@ -171,7 +171,7 @@ fn room_is_made_for_the_next_insertion(rt: HostRuntime) -> Result<(), Fail> {
         table.error_context_insert(&mut counter, 8),
         table.is_empty(),
     );
-    assert_eq!(rt; told, (true, Ok(1), false));
+    assert!(rt; told == (true, Ok(1), false));
     Ok(())
 }
 
@@ -185,7 +185,7 @@ fn a_vacant_cell_is_no_handle(rt: HostRuntime) -> Result<(), Fail> {
         table.error_context_rep(1),
         table.error_context_insert(&mut counter, 8),
     );
-    assert_eq!(rt; told, (unknown, Ok(1)));
+    assert!(rt; told == (unknown, Ok(1)));
     table.reserve()?;
     let told = [
         table.error_context_drop(&mut counter, 1),
@@ -195,12 +195,12 @@ fn a_vacant_cell_is_no_handle(rt: HostRuntime) -> Result<(), Fail> {
         table.error_context_rep(1),
         table.error_context_drop(&mut counter, 2),
     ];
-    assert_eq!(rt; told, [Ok(8), Ok(1), Ok(2), Ok(9), unknown, Ok(9)]);
+    assert!(rt; told == [Ok(8), Ok(1), Ok(2), Ok(9), unknown, Ok(9)]);
     let told = (
         table.is_empty(),
         table.error_context_insert(&mut counter, 10),
     );
-    assert_eq!(rt; told, (true, Ok(2)));
+    assert!(rt; told == (true, Ok(2)));
     Ok(())
 }
 
@@ -216,13 +216,13 @@ fn the_ends_of_streams(rt: HostRuntime) {
         table.waitable_rep(1),
     );
     let reading = Ok((10, TransmitLocalState::Read { done: false }));
-    assert_eq!(rt; told, (Ok(1), Ok(2), reading, Ok((10, Waitable::Stream))));
+    assert!(rt; told == (Ok(1), Ok(2), reading, Ok((10, Waitable::Stream))));
     let told = (
         table.stream_remove_readable(&mut counter, ty, 1),
         table.stream_remove_writable(&mut counter, ty, 2),
         counter.live(),
     );
-    assert_eq!(rt; told, (Ok((10, false)), Ok(11), 0));
+    assert!(rt; told == (Ok((10, false)), Ok(11), 0));
 }
 
 #[test]
@@ -239,14 +239,14 @@ fn the_ends_of_futures(rt: HostRuntime) -> Result<(), Fail> {
     );
     let writing = Ok((11, TransmitLocalState::Write { done: false }));
     let waitable = Ok((11, Waitable::Future));
-    assert_eq!(rt; told, (Ok(1), Ok(2), writing, waitable, Ok((10, false))));
+    assert!(rt; told == (Ok(1), Ok(2), writing, waitable, Ok((10, false))));
     *table.future_state(ty, 2)? = TransmitLocalState::Write { done: true };
     assert!(rt; table.held() <= counter.live());
     let told = (
         table.future_remove_writable(&mut counter, ty, 2),
         counter.live(),
     );
-    assert_eq!(rt; told, (Ok((11, true)), 0));
+    assert!(rt; told == (Ok((11, true)), 0));
     Ok(())
 }
 
@@ -260,7 +260,7 @@ fn error_contexts_subtasks_and_waitable_sets(rt: HostRuntime) {
         table.subtask_insert_host(&mut counter, 22),
         table.waitable_set_insert(&mut counter, 23),
     ];
-    assert_eq!(rt; given, [Ok(1), Ok(2), Ok(3), Ok(4)]);
+    assert!(rt; given == [Ok(1), Ok(2), Ok(3), Ok(4)]);
     let told = (
         table.error_context_rep(1),
         table.subtask_rep(2),
@@ -268,14 +268,14 @@ fn error_contexts_subtasks_and_waitable_sets(rt: HostRuntime) {
         table.waitable_set_rep(4),
     );
     let waitable = Ok((22, Waitable::Subtask { is_host: true }));
-    assert_eq!(rt; told, (Ok(20), Ok((21, false)), waitable, Ok(23)));
+    assert!(rt; told == (Ok(20), Ok((21, false)), waitable, Ok(23)));
     let removed = (
         table.error_context_drop(&mut counter, 1),
         table.subtask_remove(&mut counter, 3),
         table.waitable_set_remove(&mut counter, 4),
         counter.live(),
     );
-    assert_eq!(rt; removed, (Ok(20), Ok((22, true)), Ok(23), 1));
+    assert!(rt; removed == (Ok(20), Ok((22, true)), Ok(23), 1));
 }
 
 #[test]
@@ -290,5 +290,5 @@ fn a_removed_thread_is_unknown(rt: HostRuntime) {
         table.guest_thread_rep(1),
     );
     let unknown = Err(HandleError::UnknownHandle);
-    assert_eq!(rt; told, (Ok(1), Ok(9), 1, Ok(9), unknown));
+    assert!(rt; told == (Ok(1), Ok(9), 1, Ok(9), unknown));
 }

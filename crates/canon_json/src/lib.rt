@@ -10,6 +10,3 @@ pub use error::ScriptError;
 pub use read::{
     Reader, bool_or, each, each_of, has_len, items_of, only, only_member, there, two, u32_of,
 };
-
-#[cfg(test)]
-mod tests;

@@ -36,7 +36,7 @@ fn each_type_and_function_prints_its_line(rt: HostRuntime) -> Result<(), Fail> {
     ];
     for (input, text) in rows {
         let lines = printed(rt.alloc(), input)?.expect(&rt, "an input of `layout`");
-        assert_eq!(rt; lines.as_str(), text, "{input}");
+        assert!(rt; lines.as_str() == text);
     }
     Ok(())
 }
@@ -98,36 +98,64 @@ fn lists(alloc: Global, depth: u32) -> Result<String, AllocError> {
 }
 
 #[test]
-fn flags_end_at_8160_names_and_lists_at_depth_100(rt: HostRuntime) -> Result<(), Fail> {
+fn flags_end_at_8160_names(rt: HostRuntime) -> Result<(), Fail> {
     let most = flags(rt.alloc(), 8160)?;
     let lines = printed(rt.alloc(), most.as_str())?.expect(&rt, "8,160 flags");
-    assert_eq!(rt; lines.as_str(), "type 0 flags size 1020 align 4 flat -\n");
-    let more = flags(rt.alloc(), 8161)?;
-    assert!(rt; printed(rt.alloc(), more.as_str())?.is_err_and(|e| e == ScriptError::BadScript));
+    assert!(rt; lines.as_str() == "type 0 flags size 1020 align 4 flat -\n");
+    Ok(())
+}
+
+#[test]
+fn lists_end_at_depth_100(rt: HostRuntime) -> Result<(), Fail> {
     let deepest = lists(rt.alloc(), 99)?;
     assert!(rt; printed(rt.alloc(), deepest.as_str())?.is_ok());
-    let deeper = lists(rt.alloc(), 100)?;
-    assert!(rt; printed(rt.alloc(), deeper.as_str())?.is_err_and(|e| e == ScriptError::BadScript));
     Ok(())
+}
+
+#[test]
+fn more_flags_and_deeper_lists_are_refused(rt: HostRuntime) -> Result<(), Fail> {
+    for input in [flags(rt.alloc(), 8161)?, lists(rt.alloc(), 100)?] {
+        let refused = printed(rt.alloc(), input.as_str())?;
+        assert!(rt; refused.is_err_and(|e| e == ScriptError::BadScript));
+    }
+    Ok(())
+}
+
+/// What a reference is read as, where these are the types of the entries.
+fn referred(
+    alloc: Global,
+    text: &str,
+    types: &[InterfaceType],
+) -> Result<Result<InterfaceType, ScriptError>, Fail> {
+    let tree = Value::from_str(alloc, text)?;
+    Ok(type_of_json(&tree, types))
 }
 
 #[test]
 fn types_are_read_by_name_and_by_number(rt: HostRuntime) -> Result<(), Fail> {
     let entries = Value::from_str(rt.alloc(), r#"[{"list":"u8"},{"option":0}]"#)?;
     let (table, types) = types_of_json(rt.alloc(), &entries)?;
-    assert_eq!(rt; types.len(), 2);
-    assert!(rt; table.contains(&types[1]));
-    assert!(rt; matches!(&types[0], InterfaceType::List(_)));
-    let number = Value::from_str(rt.alloc(), "1")?;
-    assert_eq!(rt; type_of_json(&number, &types), Ok(types[1]));
-    let name = Value::from_str(rt.alloc(), r#""string""#)?;
-    assert_eq!(rt; type_of_json(&name, &types), Ok(InterfaceType::String));
-    let later = Value::from_str(rt.alloc(), "2")?;
-    assert_eq!(rt; type_of_json(&later, &types), Err(ScriptError::BadScript));
+    assert!(rt; types.len() == 2);
+    assert!(rt; table.contains(&types[1]) && matches!(&types[0], InterfaceType::List(_)));
+    let number = referred(rt.alloc(), "1", &types)?;
+    let name = referred(rt.alloc(), r#""string""#, &types)?;
+    let later = referred(rt.alloc(), "2", &types)?;
+    let refused = Err(ScriptError::BadScript);
+    assert!(rt; (number, name, later) == (Ok(types[1]), Ok(InterfaceType::String), refused));
+    Ok(())
+}
+
+#[test]
+fn an_own_of_no_resource_is_no_type(rt: HostRuntime) -> Result<(), Fail> {
     let owned = Value::from_str(rt.alloc(), r#"[{"own":0}]"#)?;
     assert!(rt; types_of_json(rt.alloc(), &owned).is_err_and(|e| e == ScriptError::BadScript));
+    Ok(())
+}
+
+#[test]
+fn an_input_has_a_type_for_each_entry(rt: HostRuntime) -> Result<(), Fail> {
     let all = Value::from_str(rt.alloc(), r#"{"types":[{"list":"u8"}]}"#)?;
     let (_, types) = listing_of_json(rt.alloc(), &all)?;
-    assert_eq!(rt; types.len(), 1);
+    assert!(rt; types.len() == 1);
     Ok(())
 }

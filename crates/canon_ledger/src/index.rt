@@ -50,16 +50,3 @@ impl HostResourceIndex {
         (self.number / 4_294_967_296) as u32
     }
 }
-
-#[cfg(test)]
-mod tests {
-    use super::HostResourceIndex;
-
-    #[test]
-    fn an_index_with_its_generation_is_one_number(rt: HostRuntime) {
-        let index = HostResourceIndex::new(5, 2);
-        assert_eq!(rt; index.number, 8_589_934_597);
-        assert_eq!(rt; index.index(), 5);
-        assert_eq!(rt; index.generation(), 2);
-    }
-}

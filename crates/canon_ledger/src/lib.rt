@@ -20,6 +20,3 @@ pub use index::HostResourceIndex;
 pub use known::KnownTypes;
 pub use ledger::Ledger;
 pub use tables::ResourceTables;
-
-#[cfg(test)]
-mod tests;

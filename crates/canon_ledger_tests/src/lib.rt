@@ -1,4 +1,4 @@
-//! Tests of the ledger by host indexes.
+//! Tests of the ledger: by host indexes, on resources of a component, and of the scopes of calls.
 #![tactic(auto)]
 
 #[cfg(test)]

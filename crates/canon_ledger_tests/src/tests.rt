@@ -1,5 +1,7 @@
 //! Worked examples on host indexes and on resources of a component.
 
+mod scopes;
+
 use canon_handles::{TypedResource, TypedResourceIndex};
 use canon_indices::RuntimeInstance;
 use canon_ledger::{
@@ -200,9 +202,14 @@ fn exit(ledger: &mut Ledger) -> Result<(), ResourceFault> {
 }
 
 #[test]
+fn an_index_is_given_back_with_its_generation(rt: HostRuntime) {
+    let index = HostResourceIndex::new(5, 2);
+    assert!(rt; (index.index(), index.generation()) == (5, 2));
+}
+
+#[test]
 fn a_removed_own_handle_answers_twice_its_representation_and_one(rt: HostRuntime) {
-    assert_eq!(rt; resource_drop_ret(Some(7)), 15);
-    assert_eq!(rt; resource_drop_ret(None), 0);
+    assert!(rt; (resource_drop_ret(Some(7)), resource_drop_ret(None)) == (15, 0));
 }
 
 // The generation, the instance and the destructor of a slot.
@@ -220,30 +227,23 @@ fn an_index_that_is_given_again_is_told_apart(rt: HostRuntime) -> Result<(), Fai
     let mut ledger = Ledger::new(alloc, 0, 100, HostResourceData::new(alloc))?;
     let mut tables = HostResourceTables::new_host(&mut ledger);
     let first = tables.host_resource_lower_own(7, Some(5), Some(RuntimeInstance::from_u32(3)))?;
-    assert_eq!(rt; first.index(), 1);
-    assert_eq!(rt; first.generation(), 0);
-    let slot = tables.slot(first)?.ok_or("no slot")?;
-    assert_eq!(rt; kept(slot), (0, Some(3), Some(5)));
-    let (rep, slot) = tables.host_resource_drop(first)?.ok_or("no own handle")?;
-    assert_eq!(rt; rep, 7);
-    assert_eq!(rt; kept(slot), (0, Some(3), Some(5)));
-    assert_eq!(rt;
-        tables.host_resource_lift_own(first),
-        Err(ResourceFault::UnknownHandle(1))
-    );
+    let slot = kept(tables.slot(first)?.ok_or("no slot")?);
+    let (rep, gone) = tables.host_resource_drop(first)?.ok_or("no own handle")?;
+    let want = (0, Some(3), Some(5));
+    assert!(rt; first == HostResourceIndex::new(1, 0));
+    assert!(rt; (slot, rep, kept(gone)) == (want, 7, want));
+    let unknown = tables.host_resource_lift_own(first);
     let second = tables.host_resource_lower_own(8, None, None)?;
-    assert_eq!(rt; second.index(), 1);
-    assert_eq!(rt; second.generation(), 2);
-    assert_eq!(rt;
+    assert!(rt; second == HostResourceIndex::new(1, 2));
+    let refused = (
+        unknown,
         tables.host_resource_lift_own(first),
-        Err(ResourceFault::HostDeallocated)
-    );
-    assert_eq!(rt;
         tables.slot(first).err(),
-        Some(ResourceFault::HostDeallocated)
     );
+    let gone = ResourceFault::HostDeallocated;
+    assert!(rt; refused == (Err(ResourceFault::UnknownHandle(1)), Err(gone), Some(gone)));
     assert!(rt; tables.slot(HostResourceIndex::new(2, 0))?.is_none());
-    assert_eq!(rt; tables.host_resource_lift_own(second), Ok(8));
+    assert!(rt; tables.host_resource_lift_own(second) == Ok(8));
     Ok(())
 }
 
@@ -254,15 +254,12 @@ fn the_last_generation_takes_nothing_out(rt: HostRuntime) -> Result<(), Fail> {
     let mut ledger = Ledger::new(alloc, 0, 100, host)?;
     let mut tables = HostResourceTables::new_host(&mut ledger);
     let index = tables.host_resource_lower_own(7, None, None)?;
-    assert_eq!(rt;
-        tables.host_resource_lift_own(index),
-        Err(ResourceFault::GenerationExhausted)
+    let refused = (
+        tables.host_resource_lift_own(index).err(),
+        tables.host_resource_drop(index).err(),
     );
-    assert_eq!(rt;
-        tables.host_resource_drop(index),
-        Err(ResourceFault::GenerationExhausted)
-    );
-    assert_eq!(rt; ledger.live(), 1);
+    let exhausted = Some(ResourceFault::GenerationExhausted);
+    assert!(rt; refused == (exhausted, exhausted) && ledger.live() == 1);
     Ok(())
 }
 
@@ -272,20 +269,18 @@ fn the_host_lends_nothing_outside_a_call(rt: HostRuntime) -> Result<(), Fail> {
     let mut ledger = Ledger::new(alloc, 0, 100, HostResourceData::new(alloc))?;
     let mut tables = HostResourceTables::new_host(&mut ledger);
     let index = tables.host_resource_lower_own(7, None, None)?;
-    assert_eq!(rt;
-        tables.host_resource_lift_borrow(index),
-        Err(ResourceFault::NoScope)
+    let refused = (
+        tables.host_resource_lift_borrow(index).err(),
+        tables.host_resource_lower_borrow(7).err(),
+        tables.validate_scope_exit().err(),
     );
-    assert_eq!(rt;
-        tables.host_resource_lower_borrow(7),
-        Err(ResourceFault::NoScope)
-    );
-    assert_eq!(rt; tables.validate_scope_exit(), Err(ResourceFault::NoScope));
-    assert_eq!(rt; tables.host_resource_remove(index), Ok(7));
-    assert_eq!(rt;
+    let none = Some(ResourceFault::NoScope);
+    assert!(rt; refused == (none, none, none));
+    let removed = (
         tables.host_resource_remove(index),
-        Err(ResourceFault::UnknownHandle(1))
+        tables.host_resource_remove(index),
     );
+    assert!(rt; removed == (Ok(7), Err(ResourceFault::UnknownHandle(1))));
     Ok(())
 }
 
@@ -299,31 +294,28 @@ fn each_instance_has_a_table_of_its_own(rt: HostRuntime) -> Result<(), Fail> {
         first_host,
     } = two_instances(alloc)?;
     let mut ledger = Ledger::new(alloc, 2, 100, HostResourceData::new(alloc))?;
-    assert_eq!(rt; guest_new(&mut ledger, &types, 7, first_own), Some(Ok(1)));
-    assert_eq!(rt; guest_new(&mut ledger, &types, 8, second_own), Some(Ok(1)));
-    assert_eq!(rt; guest_new(&mut ledger, &types, 9, first_host), Some(Ok(2)));
-    assert_eq!(rt; guest_rep(&mut ledger, &types, 1, second_own), Some(Ok(8)));
-    assert_eq!(rt;
+    let made = (
+        guest_new(&mut ledger, &types, 7, first_own),
+        guest_new(&mut ledger, &types, 8, second_own),
+        guest_new(&mut ledger, &types, 9, first_host),
+        guest_rep(&mut ledger, &types, 1, second_own),
+    );
+    assert!(rt; made == (Some(Ok(1)), Some(Ok(1)), Some(Ok(2)), Some(Ok(8))));
+    let taken = (
         guest_rep(&mut ledger, &types, 2, second_own),
-        Some(Err(ResourceFault::UnknownHandle(2)))
-    );
-    assert_eq!(rt;
         guest_lift_own(&mut ledger, &types, 1, first_host),
-        Some(Err(ResourceFault::ResourceTypeMismatch))
-    );
-    assert_eq!(rt;
         guest_lift_own(&mut ledger, &types, 1, first_own),
-        Some(Ok(7))
     );
-    assert_eq!(rt;
+    let unknown = Some(Err(ResourceFault::UnknownHandle(2)));
+    let mismatch = Some(Err(ResourceFault::ResourceTypeMismatch));
+    assert!(rt; taken == (unknown, mismatch, Some(Ok(7))));
+    let dropped = (
         guest_drop(&mut ledger, &types, 1, first_own),
-        Some(Err(ResourceFault::UnknownHandle(1)))
-    );
-    assert_eq!(rt;
         guest_drop(&mut ledger, &types, 2, first_host),
-        Some(Ok(Some(9)))
+        ledger.live(),
     );
-    assert_eq!(rt; ledger.live(), 1);
+    let unknown = Some(Err(ResourceFault::UnknownHandle(1)));
+    assert!(rt; dropped == (unknown, Some(Ok(Some(9))), 1));
     Ok(())
 }
 
@@ -332,14 +324,11 @@ fn a_type_of_no_instance_here_is_unknown(rt: HostRuntime) -> Result<(), Fail> {
     let alloc = rt.alloc();
     let types = two_instances(alloc)?;
     let mut ledger = Ledger::new(alloc, 1, 100, HostResourceData::new(alloc))?;
-    assert_eq!(rt;
+    let told = (
         guest_new(&mut ledger, &types.types, 7, types.second_own),
-        None
-    );
-    assert_eq!(rt;
         guest_new(&mut ledger, &types.types, 7, types.first_own),
-        Some(Ok(1))
     );
+    assert!(rt; told == (None, Some(Ok(1))));
     Ok(())
 }
 
@@ -350,24 +339,23 @@ fn a_resource_that_is_lent_to_a_call_is_not_given_to_it(rt: HostRuntime) -> Resu
     let mut ledger = Ledger::new(alloc, 2, 100, HostResourceData::new(alloc))?;
     let index = HostResourceTables::new_host(&mut ledger).host_resource_lower_own(7, None, None)?;
     let _scope = ledger.enter()?;
-    assert_eq!(rt; lift_borrow(&mut ledger, index), Ok(7));
-    assert_eq!(rt;
+    let lent = (
+        lift_borrow(&mut ledger, index),
         guest_lower_borrow(&mut ledger, &types.types, 7, types.first_host),
-        Some(Ok(1))
-    );
-    assert_eq!(rt;
         HostResourceTables::new_host(&mut ledger).host_resource_lift_own(index),
-        Err(ResourceFault::StillLent(1))
+        ledger.live(),
     );
-    assert_eq!(rt; ledger.live(), 3);
-    assert_eq!(rt; exit(&mut ledger), Err(ResourceFault::BorrowsRemain));
-    assert_eq!(rt; ledger.live(), 3);
-    assert_eq!(rt;
+    let still = Err(ResourceFault::StillLent(1));
+    assert!(rt; lent == (Ok(7), Some(Ok(1)), still, 3));
+    let left = (
+        exit(&mut ledger),
+        ledger.live(),
         guest_drop(&mut ledger, &types.types, 1, types.first_host),
-        Some(Ok(None))
+        exit(&mut ledger),
+        ledger.live(),
     );
-    assert_eq!(rt; exit(&mut ledger), Ok(()));
-    assert_eq!(rt; ledger.live(), 1);
+    let remain = Err(ResourceFault::BorrowsRemain);
+    assert!(rt; left == (remain, 3, Some(Ok(None)), Ok(()), 1));
     Ok(())
 }
 
@@ -377,24 +365,17 @@ fn a_resource_that_was_given_away_is_gone(rt: HostRuntime) -> Result<(), Fail> {
     let types = two_instances(alloc)?;
     let mut ledger = Ledger::new(alloc, 2, 100, HostResourceData::new(alloc))?;
     let index = HostResourceTables::new_host(&mut ledger).host_resource_lower_own(7, None, None)?;
-    assert_eq!(rt;
+    let given = (
         HostResourceTables::new_host(&mut ledger).host_resource_lift_own(index),
-        Ok(7)
-    );
-    assert_eq!(rt;
         guest_lower_own(&mut ledger, &types.types, 7, types.first_host),
-        Some(Ok(1))
+        ledger.live(),
     );
-    assert_eq!(rt; ledger.live(), 1);
-    assert_eq!(rt;
-        HostResourceTables::new_host(&mut ledger).host_resource_lift_own(index),
-        Err(ResourceFault::UnknownHandle(1))
-    );
+    assert!(rt; given == (Ok(7), Some(Ok(1)), 1));
+    let unknown = HostResourceTables::new_host(&mut ledger).host_resource_lift_own(index);
     let _other = HostResourceTables::new_host(&mut ledger).host_resource_lower_own(8, None, None)?;
-    assert_eq!(rt;
-        HostResourceTables::new_host(&mut ledger).host_resource_lift_own(index),
-        Err(ResourceFault::HostDeallocated)
-    );
+    let gone = HostResourceTables::new_host(&mut ledger).host_resource_lift_own(index);
+    let want = Err(ResourceFault::UnknownHandle(1));
+    assert!(rt; (unknown, gone) == (want, Err(ResourceFault::HostDeallocated)));
     Ok(())
 }
 
@@ -402,32 +383,25 @@ fn a_resource_that_was_given_away_is_gone(rt: HostRuntime) -> Result<(), Fail> {
 fn a_borrow_of_the_guest_is_a_borrow_handle_of_the_host(rt: HostRuntime) -> Result<(), Fail> {
     let alloc = rt.alloc();
     let types = two_instances(alloc)?;
+    let own = types.first_own;
     let mut ledger = Ledger::new(alloc, 2, 100, HostResourceData::new(alloc))?;
-    assert_eq!(rt;
-        guest_new(&mut ledger, &types.types, 7, types.first_own),
-        Some(Ok(1))
-    );
+    let made = guest_new(&mut ledger, &types.types, 7, own);
     let _scope = ledger.enter()?;
-    assert_eq!(rt;
-        guest_lift_borrow(&mut ledger, &types.types, 1, types.first_own),
-        Some(Ok(7))
-    );
+    let lifted = guest_lift_borrow(&mut ledger, &types.types, 1, own);
     let index = lower_borrow(&mut ledger, 7)?;
-    assert_eq!(rt; ledger.live(), 3);
-    assert_eq!(rt; lift_borrow(&mut ledger, index), Ok(7));
-    assert_eq!(rt; ledger.live(), 3);
-    assert_eq!(rt;
-        guest_lift_own(&mut ledger, &types.types, 1, types.first_own),
-        Some(Err(ResourceFault::StillLent(1)))
+    let lent = (
+        ledger.live(),
+        lift_borrow(&mut ledger, index),
+        ledger.live(),
     );
-    assert_eq!(rt;
+    assert!(rt; (made, lifted, lent) == (Some(Ok(1)), Some(Ok(7)), (3, Ok(7), 3)));
+    let left = (
+        guest_lift_own(&mut ledger, &types.types, 1, own),
         HostResourceTables::new_host(&mut ledger).host_resource_drop(index),
-        Ok(None)
+        exit(&mut ledger),
+        guest_lift_own(&mut ledger, &types.types, 1, own),
     );
-    assert_eq!(rt; exit(&mut ledger), Ok(()));
-    assert_eq!(rt;
-        guest_lift_own(&mut ledger, &types.types, 1, types.first_own),
-        Some(Ok(7))
-    );
+    let still = Some(Err(ResourceFault::StillLent(1)));
+    assert!(rt; left == (still, Ok(None), Ok(()), Some(Ok(7))));
     Ok(())
 }

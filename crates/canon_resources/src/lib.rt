@@ -18,6 +18,3 @@ pub use canon_types::{HostType, ResourceType};
 pub use dynamic::ResourceDynamic;
 pub use fixed::Resource;
 pub use host::{HostResource, HostResourceType, ResourceState};
-
-#[cfg(test)]
-mod tests;

@@ -34,15 +34,15 @@ fn assert_returns(rt: &impl Abort, step: &Step, word: u32) {
     let Step::Return(words) = step else {
         panic!(rt; "no return");
     };
-    assert_eq!(rt; words.as_slice(), [ValRaw::u32(word)].as_slice());
+    assert!(rt; words.as_slice() == [ValRaw::u32(word)].as_slice());
 }
 
 fn assert_asks(rt: &impl Abort, step: &Step, number: u32, word: u32) {
     let Step::Import { index, words } = step else {
         panic!(rt; "no ask");
     };
-    assert_eq!(rt; *index, number);
-    assert_eq!(rt; words.as_slice(), [ValRaw::u32(word)].as_slice());
+    assert!(rt; *index == number);
+    assert!(rt; words.as_slice() == [ValRaw::u32(word)].as_slice());
 }
 
 #[test]
@@ -56,10 +56,7 @@ fn a_new_block_stands_at_the_next_multiple_of_its_alignment(rt: HostRuntime) -> 
         guest.realloc(&mut memory, 0, 0, 1, 40),
         guest.realloc(&mut memory, 0, 0, 64, 0),
     ];
-    assert_eq!(rt;
-        answers,
-        [Ok(12), Ok(24), Err(GuestFault::Trap), Ok(24), Ok(64)]
-    );
+    assert!(rt; answers == [Ok(12), Ok(24), Err(GuestFault::Trap), Ok(24), Ok(64)]);
     Ok(())
 }
 
@@ -72,10 +69,7 @@ fn a_block_that_does_not_live_traps(rt: HostRuntime) -> Result<(), Fail> {
         guest.realloc(&mut memory, 0, 0, 1, 6),
         guest.realloc(&mut memory, 10, 5, 1, 6),
     ];
-    assert_eq!(rt;
-        answers,
-        [Err(GuestFault::Trap), Ok(10), Err(GuestFault::Trap)]
-    );
+    assert!(rt; answers == [Err(GuestFault::Trap), Ok(10), Err(GuestFault::Trap)]);
     Ok(())
 }
 
@@ -90,10 +84,7 @@ fn the_last_block_grows_where_it_is(rt: HostRuntime) -> Result<(), Fail> {
         guest.realloc(&mut memory, 12, 52, 4, 3),
         guest.realloc(&mut memory, 0, 0, 1, 1),
     ];
-    assert_eq!(rt;
-        answers,
-        [Ok(12), Err(GuestFault::Trap), Ok(12), Ok(12), Ok(15)]
-    );
+    assert!(rt; answers == [Ok(12), Err(GuestFault::Trap), Ok(12), Ok(12), Ok(15)]);
     Ok(())
 }
 
@@ -108,10 +99,7 @@ fn a_block_shrinks_where_it_is(rt: HostRuntime) -> Result<(), Fail> {
         guest.realloc(&mut memory, 12, 6, 4, 1),
         guest.realloc(&mut memory, 0, 0, 1, 1),
     ];
-    assert_eq!(rt;
-        answers,
-        [Ok(12), Ok(18), Ok(12), Err(GuestFault::Trap), Ok(19)]
-    );
+    assert!(rt; answers == [Ok(12), Ok(18), Ok(12), Err(GuestFault::Trap), Ok(19)]);
     Ok(())
 }
 
@@ -119,8 +107,8 @@ fn a_block_shrinks_where_it_is(rt: HostRuntime) -> Result<(), Fail> {
 fn a_block_moves_with_its_bytes(rt: HostRuntime) -> Result<(), Fail> {
     let mut memory = Memory::new(rt.alloc(), 14)?;
     let mut guest = ScriptedGuest::new(rt.alloc(), 0);
-    assert_eq!(rt; guest.realloc(&mut memory, 0, 0, 1, 3), Ok(0));
-    assert_eq!(rt; guest.realloc(&mut memory, 0, 0, 1, 2), Ok(3));
+    assert!(rt; guest.realloc(&mut memory, 0, 0, 1, 3) == Ok(0));
+    assert!(rt; guest.realloc(&mut memory, 0, 0, 1, 2) == Ok(3));
     memory.as_slice_mut()[..5].copy_from_slice(&[1, 2, 3, 4, 5]);
     let moved = [
         // larger, and not the last
@@ -129,11 +117,8 @@ fn a_block_moves_with_its_bytes(rt: HostRuntime) -> Result<(), Fail> {
         // smaller, and not aligned
         guest.realloc(&mut memory, 3, 2, 4, 1),
     ];
-    assert_eq!(rt; moved, [Ok(6), Err(GuestFault::Trap), Ok(12)]);
-    assert_eq!(rt;
-        memory.as_slice(),
-        [1, 2, 3, 4, 5, 0, 1, 2, 3, 0, 0, 0, 4, 0].as_slice()
-    );
+    assert!(rt; moved == [Ok(6), Err(GuestFault::Trap), Ok(12)]);
+    assert!(rt; memory.as_slice() == [1, 2, 3, 4, 5, 0, 1, 2, 3, 0, 0, 0, 4, 0].as_slice());
     Ok(())
 }
 
@@ -152,7 +137,7 @@ fn an_ordered_answer_counts_as_a_breach(rt: HostRuntime) -> Result<(), Fail> {
         guest.breaches(),
     );
     let trap = Err(GuestFault::Trap);
-    assert_eq!(rt; told, (Ok(4_000_000_001), 1, trap, Ok(12), 1));
+    assert!(rt; told == (Ok(4_000_000_001), 1, trap, Ok(12), 1));
     Ok(())
 }
 
@@ -177,12 +162,9 @@ fn a_guest_writes_grows_asks_and_returns(rt: HostRuntime) -> Result<(), Fail> {
         false,
     );
     assert_asks(&rt, &guest.start(&mut memory, 0, &[])?, 5, 1);
-    assert_eq!(rt; memory.as_slice(), [0, 7, 8, 0, 0].as_slice());
+    assert!(rt; memory.as_slice() == [0, 7, 8, 0, 0].as_slice());
     assert_returns(&rt, &guest.resume(&mut memory, &[])?, 2);
-    assert_eq!(rt;
-        guest.start(&mut memory, 0, &[]).err(),
-        Some(GuestFault::Trap)
-    );
+    assert!(rt; guest.start(&mut memory, 0, &[]).err() == Some(GuestFault::Trap));
     Ok(())
 }
 
@@ -207,15 +189,9 @@ fn a_write_past_the_end_traps(rt: HostRuntime) -> Result<(), Fail> {
         false,
         false,
     );
-    assert_eq!(rt;
-        guest.start(&mut memory, 0, &[]).err(),
-        Some(GuestFault::Trap)
-    );
-    assert_eq!(rt; memory.as_slice(), [7, 0, 0].as_slice());
-    assert_eq!(rt;
-        guest.start(&mut memory, 0, &[]).err(),
-        Some(GuestFault::Trap)
-    );
+    assert!(rt; guest.start(&mut memory, 0, &[]).err() == Some(GuestFault::Trap));
+    assert!(rt; memory.as_slice() == [7, 0, 0].as_slice());
+    assert!(rt; guest.start(&mut memory, 0, &[]).err() == Some(GuestFault::Trap));
     assert_returns(&rt, &guest.start(&mut memory, 0, &[])?, 2);
     Ok(())
 }
@@ -230,12 +206,12 @@ fn post_return_and_a_destructor_trap_where_they_are_told(rt: HostRuntime) -> Res
         guest.post_return(&mut memory, 1, &[]),
         guest.dtor(&mut memory, 1, 7),
     );
-    assert_eq!(rt; told, (Err(GuestFault::Trap), Ok(())));
+    assert!(rt; told == (Err(GuestFault::Trap), Ok(())));
     guest.load(Vec::new(alloc), Vec::new(alloc), false, true);
     let told = (
         guest.post_return(&mut memory, 1, &[]),
         guest.dtor(&mut memory, 1, 7),
     );
-    assert_eq!(rt; told, (Ok(()), Err(GuestFault::Trap)));
+    assert!(rt; told == (Ok(()), Err(GuestFault::Trap)));
     Ok(())
 }

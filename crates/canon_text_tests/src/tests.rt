@@ -23,124 +23,115 @@ fn pair(src_read: u64, dst_written: u64) -> SizePair {
 fn a_surrogate_pair_is_read_whole_or_not_at_all(rt: HostRuntime) {
     let mut dst = [0; 4];
     let read = utf16_to_utf8(&[0x61, 0xD83D, 0xDE00], &mut dst, false);
-    assert_eq!(rt; read, Ok(pair(1, 1)));
-    assert_eq!(rt; dst, [0x61, 0, 0, 0]);
+    assert!(rt; read == Ok(pair(1, 1)));
+    assert!(rt; dst == [0x61, 0, 0, 0]);
     let read = utf16_to_utf8(&[0xD83D, 0xDE00], &mut dst, false);
-    assert_eq!(rt; read, Ok(pair(2, 4)));
-    assert_eq!(rt; dst, [0xF0, 0x9F, 0x98, 0x80]);
+    assert!(rt; read == Ok(pair(2, 4)));
+    assert!(rt; dst == [0xF0, 0x9F, 0x98, 0x80]);
 }
 
 #[test]
 fn a_pass_stops_where_a_character_does_not_fit(rt: HostRuntime) {
     let mut dst = [0; 3];
-    assert_eq!(rt;
-        utf16_to_utf8(&[0x61, 0x4E2D], &mut dst, false),
-        Ok(pair(1, 1))
-    );
-    assert_eq!(rt; dst, [0x61, 0, 0]);
+    assert!(rt; utf16_to_utf8(&[0x61, 0x4E2D], &mut dst, false) == Ok(pair(1, 1)));
+    assert!(rt; dst == [0x61, 0, 0]);
 }
 
 #[test]
 fn a_first_pass_stops_above_u_007f(rt: HostRuntime) {
     let mut dst = [0; 4];
-    assert_eq!(rt; latin1_to_utf8(&[0x61, 0xE9], &mut dst, true), pair(1, 1));
-    assert_eq!(rt; dst, [0x61, 0, 0, 0]);
-    assert_eq!(rt; latin1_to_utf8(&[0x61, 0xE9], &mut dst, false), pair(2, 3));
-    assert_eq!(rt; dst, [0x61, 0xC3, 0xA9, 0]);
-    assert_eq!(rt; utf16_to_utf8(&[0x80], &mut dst, true), Ok(pair(0, 0)));
+    assert!(rt; latin1_to_utf8(&[0x61, 0xE9], &mut dst, true) == pair(1, 1));
+    assert!(rt; dst == [0x61, 0, 0, 0]);
+    assert!(rt; latin1_to_utf8(&[0x61, 0xE9], &mut dst, false) == pair(2, 3));
+    assert!(rt; dst == [0x61, 0xC3, 0xA9, 0]);
+    assert!(rt; utf16_to_utf8(&[0x80], &mut dst, true) == Ok(pair(0, 0)));
 }
 
 #[test]
 fn a_fault_keeps_what_was_written_before_it(rt: HostRuntime) {
     let mut dst = [0; 4];
     let refused = utf16_to_utf8(&[0x61, 0xD800], &mut dst, false);
-    assert_eq!(rt; refused, Err(TextError::InvalidUtf16(1)));
-    assert_eq!(rt; dst, [0x61, 0, 0, 0]);
+    assert!(rt; refused == Err(TextError::InvalidUtf16(1)));
+    assert!(rt; dst == [0x61, 0, 0, 0]);
     let mut units = [7; 3];
     let refused = utf16_to_utf16(&[0x61, 0xDC00, 0x62], &mut units);
-    assert_eq!(rt; refused, Err(TextError::InvalidUtf16(1)));
-    assert_eq!(rt; units, [0x61, 7, 7]);
+    assert!(rt; refused == Err(TextError::InvalidUtf16(1)));
+    assert!(rt; units == [0x61, 7, 7]);
     let mut bytes = [7; 2];
     let refused = utf8_to_utf8(&[0x61, 0xFF], &mut bytes);
-    assert_eq!(rt; refused, Err(TextError::InvalidUtf8(1)));
-    assert_eq!(rt; bytes, [7, 7]);
+    assert!(rt; refused == Err(TextError::InvalidUtf8(1)));
+    assert!(rt; bytes == [7, 7]);
 }
 
 #[test]
 fn latin1_stops_without_a_fault_above_u_00ff(rt: HostRuntime) {
     let mut dst = [0; 6];
     let read = utf8_to_latin1(&[0x61, 0xC3, 0xA9, 0xE4, 0xB8, 0xAD], &mut dst);
-    assert_eq!(rt; read, pair(3, 2));
-    assert_eq!(rt; dst, [0x61, 0xE9, 0, 0, 0, 0]);
+    assert!(rt; read == pair(3, 2));
+    assert!(rt; dst == [0x61, 0xE9, 0, 0, 0, 0]);
     let mut dst = [0; 3];
-    assert_eq!(rt; utf16_to_latin1(&[0x61, 0xE9, 0x100], &mut dst), pair(2, 2));
-    assert_eq!(rt; dst, [0x61, 0xE9, 0]);
+    assert!(rt; utf16_to_latin1(&[0x61, 0xE9, 0x100], &mut dst) == pair(2, 2));
+    assert!(rt; dst == [0x61, 0xE9, 0]);
 }
 
 #[test]
 fn a_compact_text_is_latin1_where_it_can_be(rt: HostRuntime) {
     let mut dst = [0; 4];
-    assert_eq!(rt;
-        utf16_to_compact_probably_utf16(&[0x61, 0xE9], &mut dst),
-        Ok(2)
-    );
-    assert_eq!(rt; dst, [0x61, 0xE9, 0xE9, 0]);
+    assert!(rt; utf16_to_compact_probably_utf16(&[0x61, 0xE9], &mut dst) == Ok(2));
+    assert!(rt; dst == [0x61, 0xE9, 0xE9, 0]);
     let tagged = utf16_to_compact_probably_utf16(&[0x61, 0x4E2D], &mut dst);
-    assert_eq!(rt; tagged, Ok(2_147_483_650));
-    assert_eq!(rt; dst, [0x61, 0, 0x2D, 0x4E]);
+    assert!(rt; tagged == Ok(2_147_483_650));
+    assert!(rt; dst == [0x61, 0, 0x2D, 0x4E]);
 }
 
 #[test]
 fn a_text_begun_in_latin1_goes_on_as_utf16(rt: HostRuntime) {
     let mut dst = [0x61, 0, 0, 0, 0, 0];
-    assert_eq!(rt; utf8_to_compact_utf16(&[0xC3, 0xA9], &mut dst, 1), Ok(2));
-    assert_eq!(rt; dst, [0x61, 0, 0xE9, 0, 0, 0]);
+    assert!(rt; utf8_to_compact_utf16(&[0xC3, 0xA9], &mut dst, 1) == Ok(2));
+    assert!(rt; dst == [0x61, 0, 0xE9, 0, 0, 0]);
     let mut dst = [0x61, 0xE9, 0, 0, 0, 0, 0, 0];
-    assert_eq!(rt;
-        utf16_to_compact_utf16(&[0xD83D, 0xDE00], &mut dst, 2),
-        Ok(4)
-    );
-    assert_eq!(rt; dst, [0x61, 0, 0xE9, 0, 0x3D, 0xD8, 0, 0xDE]);
+    assert!(rt; utf16_to_compact_utf16(&[0xD83D, 0xDE00], &mut dst, 2) == Ok(4));
+    assert!(rt; dst == [0x61, 0, 0xE9, 0, 0x3D, 0xD8, 0, 0xDE]);
 }
 
 #[test]
 fn inflation_hands_out_the_rest(rt: HostRuntime) {
     let mut dst = [0x61, 0xE9, 1, 2, 3];
     let rest = inflate_latin1_bytes(&mut dst, 2);
-    assert_eq!(rt; rest.len(), 1);
-    assert_eq!(rt; dst, [0x61, 0, 0xE9, 0, 3]);
+    assert!(rt; rest.len() == 1);
+    assert!(rt; dst == [0x61, 0, 0xE9, 0, 3]);
     let mut dst = [0x61, 0xE9, 1, 2, 3];
     let (first, rest) = inflate_latin1_parts(&mut dst, 2);
-    assert_eq!(rt; (first.len(), rest.len()), (4, 1));
-    assert_eq!(rt; dst, [0x61, 0, 0xE9, 0, 3]);
+    assert!(rt; (first.len(), rest.len()) == (4, 1));
+    assert!(rt; dst == [0x61, 0, 0xE9, 0, 3]);
 }
 
 #[test]
 fn whole_texts_are_copied_and_widened(rt: HostRuntime) {
     let mut bytes = [0; 3];
-    assert_eq!(rt; utf8_to_utf8(&[0xE4, 0xB8, 0xAD], &mut bytes), Ok(()));
-    assert_eq!(rt; bytes, [0xE4, 0xB8, 0xAD]);
+    assert!(rt; utf8_to_utf8(&[0xE4, 0xB8, 0xAD], &mut bytes) == Ok(()));
+    assert!(rt; bytes == [0xE4, 0xB8, 0xAD]);
     latin1_to_latin1(&[0x61, 0xE9, 0xFF], &mut bytes);
-    assert_eq!(rt; bytes, [0x61, 0xE9, 0xFF]);
+    assert!(rt; bytes == [0x61, 0xE9, 0xFF]);
     let mut units = [7; 3];
-    assert_eq!(rt; utf8_to_utf16(&[0xE4, 0xB8, 0xAD], &mut units), Ok(1));
-    assert_eq!(rt; units, [0x4E2D, 7, 7]);
-    assert_eq!(rt; utf16_to_utf16(&[0x61, 0xD83D, 0xDE00], &mut units), Ok(()));
-    assert_eq!(rt; units, [0x61, 0xD83D, 0xDE00]);
+    assert!(rt; utf8_to_utf16(&[0xE4, 0xB8, 0xAD], &mut units) == Ok(1));
+    assert!(rt; units == [0x4E2D, 7, 7]);
+    assert!(rt; utf16_to_utf16(&[0x61, 0xD83D, 0xDE00], &mut units) == Ok(()));
+    assert!(rt; units == [0x61, 0xD83D, 0xDE00]);
     latin1_to_utf16(&[0x61, 0xE9, 0xFF], &mut units);
-    assert_eq!(rt; units, [0x61, 0xE9, 0xFF]);
+    assert!(rt; units == [0x61, 0xE9, 0xFF]);
 }
 
 #[test]
 fn texts_are_borrowed_where_they_can_be(rt: HostRuntime) -> Result<(), Fail> {
     let text = decode_utf8(&[0xE4, 0xB8, 0xAD])?;
-    assert_eq!(rt; (text.as_str(), text.is_borrowed()), ("中", true));
+    assert!(rt; (text.as_str(), text.is_borrowed()) == ("中", true));
     let text = decode_latin1(rt.alloc(), b"ab")?;
-    assert_eq!(rt; (text.as_str(), text.is_borrowed()), ("ab", true));
+    assert!(rt; (text.as_str(), text.is_borrowed()) == ("ab", true));
     let text = decode_latin1(rt.alloc(), &[0x61, 0xE9])?;
-    assert_eq!(rt; (text.as_str(), text.is_borrowed()), ("aé", false));
+    assert!(rt; (text.as_str(), text.is_borrowed()) == ("aé", false));
     let text = decode_utf16(rt.alloc(), &[0x61, 0, 0x3D, 0xD8, 0, 0xDE])?;
-    assert_eq!(rt; (text.as_str(), text.is_borrowed()), ("a😀", false));
+    assert!(rt; (text.as_str(), text.is_borrowed()) == ("a😀", false));
     Ok(())
 }
 
@@ -148,7 +139,7 @@ fn texts_are_borrowed_where_they_can_be(rt: HostRuntime) -> Result<(), Fail> {
 fn decoding_names_the_lone_surrogate_by_its_unit(rt: HostRuntime) {
     match decode_utf16(rt.alloc(), &[0x61, 0, 0, 0xD8]) {
         Ok(_) => assert!(rt; false),
-        Err(error) => assert_eq!(rt; error, DecodeError::Text(TextError::InvalidUtf16(1))),
+        Err(error) => assert!(rt; error == DecodeError::Text(TextError::InvalidUtf16(1))),
     }
 }
 
@@ -183,25 +174,25 @@ fn a_pair_is_decoded_across_two_pieces(rt: HostRuntime) -> Result<(), Fail> {
     let src = in_two_pieces(0xD83D, 0xDE00);
     let text = decode_utf16(rt.alloc(), &src)?;
     let bytes = text.as_str().as_bytes();
-    assert_eq!(rt; bytes.len(), 259);
-    assert_eq!(rt; &bytes[255..], [0xF0, 0x9F, 0x98, 0x80].as_slice());
+    assert!(rt; bytes.len() == 259);
+    assert!(rt; &bytes[255..] == [0xF0, 0x9F, 0x98, 0x80].as_slice());
     Ok(())
 }
 
 #[test]
 fn a_lone_surrogate_ends_a_piece(rt: HostRuntime) {
     let leading = in_two_pieces(0xD83D, 0x62);
-    assert_eq!(rt; fault_of(rt.alloc(), &leading), Some(255));
+    assert!(rt; fault_of(rt.alloc(), &leading) == Some(255));
     let twice = in_two_pieces(0xD83D, 0xD83D);
-    assert_eq!(rt; fault_of(rt.alloc(), &twice), Some(255));
+    assert!(rt; fault_of(rt.alloc(), &twice) == Some(255));
 }
 
 #[test]
 fn a_lone_surrogate_ends_a_text(rt: HostRuntime) {
     let whole = in_one_piece(0xD83D);
-    assert_eq!(rt; fault_of(rt.alloc(), &whole), Some(255));
+    assert!(rt; fault_of(rt.alloc(), &whole) == Some(255));
     let behind = in_two_pieces(0x61, 0xD83D);
-    assert_eq!(rt; fault_of(rt.alloc(), &behind), Some(256));
+    assert!(rt; fault_of(rt.alloc(), &behind) == Some(256));
 }
 
 // What two bytes are in UTF-8: their units, or the place of the fault.
@@ -226,11 +217,10 @@ fn two_bytes_are_read_as_a_plain_decoder_reads_them(rt: HostRuntime) {
             let mut units = [0; 2];
             let answer = utf8_to_utf16(&src, &mut units);
             match plain_two(a as u8, b as u8) {
-                Ok((one, None)) => assert_eq!(rt; (answer, units), (Ok(1), [one, 0])),
-                Ok((one, Some(two))) => assert_eq!(rt; (answer, units), (Ok(2), [one, two])),
-                Err(at) => assert_eq!(rt;
-                    (answer, units),
-                    (Err(TextError::InvalidUtf8(at)), [0, 0])
+                Ok((one, None)) => assert!(rt; (answer, units) == (Ok(1), [one, 0])),
+                Ok((one, Some(two))) => assert!(rt; (answer, units) == (Ok(2), [one, two])),
+                Err(at) => assert!(rt;
+                    (answer, units) == (Err(TextError::InvalidUtf8(at)), [0, 0])
                 ),
             }
         }
@@ -243,9 +233,9 @@ fn one_byte_is_a_text_below_128(rt: HostRuntime) {
         let mut unit = [7; 1];
         let answer = utf8_to_utf16(&[a as u8], &mut unit);
         if a < 128 {
-            assert_eq!(rt; (answer, unit), (Ok(1), [a]));
+            assert!(rt; (answer, unit) == (Ok(1), [a]));
         } else {
-            assert_eq!(rt; (answer, unit), (Err(TextError::InvalidUtf8(0)), [7]));
+            assert!(rt; (answer, unit) == (Err(TextError::InvalidUtf8(0)), [7]));
         }
     }
 }
@@ -283,17 +273,17 @@ fn units_around_the_surrogates_are_read_as_a_plain_decoder_reads_them(rt: HostRu
             let passed = utf16_to_utf8(&[u, v], &mut bytes, false);
             match plain_units(u, v) {
                 Ok((_, None)) => {
-                    assert_eq!(rt; (copied, units), (Ok(()), [u, v]));
-                    assert_eq!(rt; passed, Ok(pair(2, 4)));
+                    assert!(rt; (copied, units) == (Ok(()), [u, v]));
+                    assert!(rt; passed == Ok(pair(2, 4)));
                 }
                 Ok((one, Some(two))) => {
-                    assert_eq!(rt; (copied, units), (Ok(()), [u, v]));
-                    assert_eq!(rt; passed, Ok(pair(2, plain_len(one) + plain_len(two))));
+                    assert!(rt; (copied, units) == (Ok(()), [u, v]));
+                    assert!(rt; passed == Ok(pair(2, plain_len(one) + plain_len(two))));
                 }
                 Err(at) => {
                     let kept = if at == 0 { [7, 7] } else { [u, 7] };
-                    assert_eq!(rt; (copied, units), (Err(TextError::InvalidUtf16(at)), kept));
-                    assert_eq!(rt; passed, Err(TextError::InvalidUtf16(at)));
+                    assert!(rt; (copied, units) == (Err(TextError::InvalidUtf16(at)), kept));
+                    assert!(rt; passed == Err(TextError::InvalidUtf16(at)));
                 }
             }
         }
@@ -317,13 +307,13 @@ fn plain_len(c: u32) -> u64
 fn overlong_forms_and_surrogates_are_no_utf8(rt: HostRuntime) {
     let mut units = [0; 4];
     let zero = Err(TextError::InvalidUtf8(0));
-    assert_eq!(rt; utf8_to_utf16(&[0xE0, 0x9F, 0xBF], &mut units), zero);
-    assert_eq!(rt; utf8_to_utf16(&[0xED, 0xA0, 0x80], &mut units), zero);
-    assert_eq!(rt; utf8_to_utf16(&[0xF0, 0x8F, 0xBF, 0xBF], &mut units), zero);
-    assert_eq!(rt; utf8_to_utf16(&[0xF4, 0x90, 0x80, 0x80], &mut units), zero);
-    assert_eq!(rt; units, [0, 0, 0, 0]);
-    assert_eq!(rt; utf8_to_utf16(&[0xF4, 0x8F, 0xBF, 0xBF], &mut units), Ok(2));
-    assert_eq!(rt; units, [0xDBFF, 0xDFFF, 0, 0]);
+    assert!(rt; utf8_to_utf16(&[0xE0, 0x9F, 0xBF], &mut units) == zero);
+    assert!(rt; utf8_to_utf16(&[0xED, 0xA0, 0x80], &mut units) == zero);
+    assert!(rt; utf8_to_utf16(&[0xF0, 0x8F, 0xBF, 0xBF], &mut units) == zero);
+    assert!(rt; utf8_to_utf16(&[0xF4, 0x90, 0x80, 0x80], &mut units) == zero);
+    assert!(rt; units == [0, 0, 0, 0]);
+    assert!(rt; utf8_to_utf16(&[0xF4, 0x8F, 0xBF, 0xBF], &mut units) == Ok(2));
+    assert!(rt; units == [0xDBFF, 0xDFFF, 0, 0]);
 }
 
 // A text up to U+00FF in each form, by a plain loop.

@@ -1,0 +1,73 @@
+//! Sizes, alignments, flat words, discriminants and flags of known types.
+
+use canon_abi::{CanonicalAbiInfo, DiscriminantSize, FlagsSize};
+
+#[test]
+fn discriminants_have_1_2_or_4_bytes(rt: HostRuntime) {
+    for (count, bytes) in [(1, 1), (256, 1), (257, 2), (65_536, 2), (65_537, 4)] {
+        let size = DiscriminantSize::from_count(count);
+        assert!(rt; size.map(|size| size.byte_size()) == Some(bytes));
+    }
+    assert!(rt; DiscriminantSize::from_count(4_294_967_297) == None);
+}
+
+#[test]
+fn flags_take_1_2_or_4_bytes_a_word(rt: HostRuntime) {
+    for (count, size) in [
+        (0, Some(FlagsSize::Size0)),
+        (8, Some(FlagsSize::Size1)),
+        (9, Some(FlagsSize::Size2)),
+        (16, Some(FlagsSize::Size2)),
+        (17, Some(FlagsSize::Size4Plus(1))),
+        (32, Some(FlagsSize::Size4Plus(1))),
+        (33, Some(FlagsSize::Size4Plus(2))),
+        (8_160, Some(FlagsSize::Size4Plus(255))),
+        (8_161, None),
+    ] {
+        assert!(rt; FlagsSize::from_count(count) == size);
+    }
+    let flags = CanonicalAbiInfo::flags(33);
+    assert!(rt; (flags.size32, flags.align32, flags.flat) == (8, 4, Some(2)));
+}
+
+#[test]
+fn a_record_places_each_field_at_its_alignment(rt: HostRuntime) {
+    let fields = [
+        CanonicalAbiInfo::SCALAR1,
+        CanonicalAbiInfo::SCALAR4,
+        CanonicalAbiInfo::SCALAR2,
+    ];
+    let record = CanonicalAbiInfo::record(&fields).map(|abi| (abi.size32, abi.align32, abi.flat));
+    assert!(rt; record == Some((12, 4, Some(3))));
+    let pair = CanonicalAbiInfo::POINTER_PAIR;
+    let mut offset = 5;
+    assert!(rt; pair.next_field32(&mut offset) == 8);
+    assert!(rt; offset == 16);
+    let mut far = 9;
+    assert!(rt; pair.next_field32_size(&mut far) == 12);
+    assert!(rt; far == 20);
+    assert!(rt; (pair.flat_count(2), pair.flat_count(1)) == (Some(2), None));
+}
+
+#[test]
+fn a_variant_places_its_payload_after_the_discriminant(rt: HostRuntime) {
+    let cases = [None, Some(CanonicalAbiInfo::SCALAR8)];
+    let told = CanonicalAbiInfo::variant(&cases).map(|(abi, info)| (
+        abi.size32,
+        abi.align32,
+        abi.flat,
+        info.payload_offset32,
+    ));
+    assert!(rt; told == Some((16, 8, Some(2), 8)));
+    let (abi, info) = CanonicalAbiInfo::enum_(257);
+    assert!(rt; (abi.size32, info.size) == (2, DiscriminantSize::Size2));
+}
+
+#[test]
+fn a_fixed_length_list_has_a_size_of_32_bits(rt: HostRuntime) {
+    let eight = CanonicalAbiInfo::SCALAR8;
+    let most = CanonicalAbiInfo::fixed_length_list(&eight, 536_870_911).map(|abi| abi.size32);
+    assert!(rt; most == Some(4_294_967_288));
+    let more = CanonicalAbiInfo::fixed_length_list(&eight, 536_870_912).map(|abi| abi.size32);
+    assert!(rt; more == None);
+}

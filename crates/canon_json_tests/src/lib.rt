@@ -1,0 +1,5 @@
+//! Tests of how JSON values are read.
+#![tactic(auto)]
+
+#[cfg(test)]
+mod tests;

@@ -1,0 +1,5 @@
+//! Tests of words and memories, and of the journal of a small guest.
+#![tactic(auto)]
+
+#[cfg(test)]
+mod tests;

@@ -1,0 +1,5 @@
+//! Tests of the host's resources as values.
+#![tactic(auto)]
+
+#[cfg(test)]
+mod tests;
