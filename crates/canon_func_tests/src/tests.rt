@@ -151,11 +151,9 @@ fn a_call_lowers_its_parameters_and_lifts_its_results(rt: HostRuntime) -> Result
     let mut store = store_with(alloc, &params, &[InterfaceType::Bool], 2)?;
     let mut results = [Val::Bool(false)];
     let answer = call(alloc, &mut store, &[Val::U32(7), Val::S8(-1)], &mut results);
-    assert!(rt; answer == Some(Ok(())));
-    let [Val::Bool(told)] = &results else {
-        panic!(rt; "no bool");
-    };
-    assert!(rt; *told && !store.is_trapped());
+    assert_eq!(rt; answer, Some(Ok(())));
+    assert!(rt; matches!(&results, [Val::Bool(true)]), "{results:?}");
+    assert!(rt; !store.is_trapped());
     Ok(())
 }
 
@@ -166,11 +164,9 @@ fn a_refusal_traps_the_store_and_leaves_the_results(rt: HostRuntime) -> Result<(
     let mut results = [Val::Bool(false)];
     let answer = call(alloc, &mut store, &[], &mut results);
     let fault = Fault::InvalidChar(At::Word(0));
-    assert!(rt; answer == Some(Err(Error::Fault(fault))));
-    let [Val::Bool(told)] = &results else {
-        panic!(rt; "no bool");
-    };
-    assert!(rt; !*told && store.is_trapped());
+    assert_eq!(rt; answer, Some(Err(Error::Fault(fault))));
+    assert!(rt; matches!(&results, [Val::Bool(false)]), "{results:?}");
+    assert!(rt; store.is_trapped());
     Ok(())
 }
 
@@ -183,9 +179,9 @@ fn a_function_is_of_one_store(rt: HostRuntime) -> Result<(), Fail> {
         return Err(Fail::from("no function"));
     };
     assert!(rt; store.owns(&f));
-    assert!(rt; f.export() == ExportIndex::from_u32(0));
+    assert_eq!(rt; f.export(), ExportIndex::from_u32(0));
     assert!(rt; !f.ty(&store).async_);
-    assert!(rt; f.post_return(&mut store) == Ok(()));
+    assert_eq!(rt; f.post_return(&mut store), Ok(()));
     assert!(rt; store.core_mut().guest_mut().traps == 0);
     Ok(())
 }
@@ -193,9 +189,9 @@ fn a_function_is_of_one_store(rt: HostRuntime) -> Result<(), Fail> {
 #[test]
 fn a_store_has_the_fuel_of_its_calls(rt: HostRuntime) -> Result<(), Fail> {
     let mut store = store_with(rt.alloc(), &[], &[], 0)?;
-    assert!(rt; store.fuel() == 1_000_000);
+    assert_eq!(rt; store.fuel(), 1_000_000);
     store.set_fuel(31);
-    assert!(rt; store.fuel() == 31);
+    assert_eq!(rt; store.fuel(), 31);
     Ok(())
 }
 

@@ -10,5 +10,7 @@ mod draws;
 mod lines;
 mod made;
 mod records;
+#[cfg(test)]
+mod tests;
 
 pub use lines::gen_lines;

@@ -3,5 +3,7 @@
 
 mod component;
 mod player;
+#[cfg(test)]
+mod tests;
 
 pub use player::play;
