@@ -46,3 +46,4 @@ not_done (fault.InvalidChar at) = tt
 not_done (fault.BadDiscriminant at n) = tt
 not_done fault.HostcallFuelExhausted = tt
 not_done fault.OutOfMemory = tt
+not_done (fault.Resource e) = tt

@@ -72,6 +72,7 @@ module _ {G : Type 0} (L : GuestLaws G) where
   moves_asked g h m m2 c (Err (fault.ReallocOutOfBounds a)) (mark, answered, aligned, bad) move = moves_added (guest_in g m) (guest_in h m2) _ answered.goes.events move
   moves_asked g h m m2 c (Err fault.GuestTrap) does move = moves_added (guest_in g m) (guest_in h m2) _ does.goes.events move
   moves_asked g h m m2 c (Err fault.OutOfMemory) does move = tt
+  moves_asked g h m m2 c (Err (fault.Resource e)) does move = absurd does
   moves_asked g h m m2 c (Err (fault.TypeMismatch k)) does move = absurd does
   moves_asked g h m m2 c (Err (fault.FieldName k)) does move = absurd does
   moves_asked g h m m2 c (Err (fault.UnknownCase k)) does move = absurd does

@@ -45,6 +45,7 @@ blamed_by F G Low Lower f g (fault.InvalidChar x) h = f _ _ h
 blamed_by F G Low Lower f g (fault.BadDiscriminant x n) h = f _ _ h
 blamed_by F G Low Lower f g fault.HostcallFuelExhausted h = g h
 blamed_by F G Low Lower f g fault.OutOfMemory h = h
+blamed_by F G Low Lower f g (fault.Resource e) h = h
 blamed_by F G Low Lower f g (fault.TypeMismatch k) h = h
 blamed_by F G Low Lower f g (fault.FieldName k) h = h
 blamed_by F G Low Lower f g (fault.UnknownCase k) h = h

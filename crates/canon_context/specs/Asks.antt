@@ -13,6 +13,10 @@ use Rattle.canon_context.specs.declared.fault.Fault.{Fault}
 abbrev pub SameBut : {T G : Type 0} → Parts T G → Parts T G → Type 0
 SameBut before after = after ≡ record before { guest = after.guest; memory = after.memory }
 
+-- only the guest, its memory and the ledger may differ
+abbrev pub SameButHandles : {T G : Type 0} → Parts T G → Parts T G → Type 0
+SameButHandles before after = after ≡ record before { guest = after.guest; memory = after.memory; ledger = after.ledger }
+
 -- a block was asked for by this call
 pub record AsksFor {T G : Type 0} (seen : G → Seen) (moves : GuestIn G → List Event → GuestIn G → Type 0) (before after : Parts T G) (c : Call) (result : Result ℕ Fault) : Type 0 where
   pub does : Reallocated (moment_of seen before) (moment_of seen after) c (ending_of result) (answer_of result)

@@ -1,9 +1,13 @@
 -- What contracts see of a core.
-use Rattle.std.specs.Prelude.{ℕ, List}
+use Rattle.std.specs.Prelude.{◌≡◌, List, Some, length, ℕ}
+use Rattle.canon_handles.specs.declared.handle.TypedResourceIndex.{TypedResourceIndex}
+use Rattle.canon_handles.specs.declared.handle.TypedResourceIndex.TheVariants.{Component as ComponentIndex, Host as HostIndex}
+use Rattle.canon_ledger.specs.Ledger.{LedgerState}
+use Rattle.canon_ledger.specs.Places.{table_of_index}
 use Rattle.canon_memory.specs.Guest.{GuestIn, Moment, Seen, guest_in, moment}
 use Rattle.canon_model.specs.Text.{Encoding}
-use Rattle.canon_types.specs.Table.{Table}
-use Rattle.canon_context.specs.Component.{encoding_at}
+use Rattle.canon_types.specs.Table.{HasResource, Table}
+use Rattle.canon_context.specs.Component.{IsComponent, encoding_at}
 use Rattle.canon_context.specs.declared.component.Component.{Component}
 
 pub record Parts (T G : Type 0) : Type 0 where
@@ -12,10 +16,29 @@ pub record Parts (T G : Type 0) : Type 0 where
   pub guest : G
   pub memory : List ℕ
   pub component : Component
+  pub ledger : LedgerState
   pub fuel : ℕ
 
 abbrev pub types_of : {T G : Type 0} → Parts T G → Table
 types_of core = core.component.types.types
+
+-- a component with the handles of a store that has its instances: the host's table and those of 256
+pub record IsCore (c : Component) (l : LedgerState) : Type 0 where
+  pub component : IsComponent c
+  pub tables : length l.handles.tables ≡ 257
+
+-- where the index is one of a component, its resource type is known
+abbrev pub IsKnown : Table → TypedResourceIndex → Type 0
+IsKnown types (HostIndex i) = Unit {0}
+IsKnown types (ComponentIndex ty i) = HasResource types ty
+
+-- the table that an index is one of
+abbrev pub table_by : {T G : Type 0} → Parts T G → TypedResourceIndex → ℕ
+table_by core idx = table_of_index (Some (types_of core)) idx
+
+-- only the ledger of its handles may differ
+abbrev pub SameButLedger : {T G : Type 0} → Parts T G → Parts T G → Type 0
+SameButLedger before after = after ≡ record before { ledger = after.ledger }
 
 -- the guest and its memory
 abbrev pub moment_of : {T G : Type 0} → (G → Seen) → Parts T G → Moment

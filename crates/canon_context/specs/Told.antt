@@ -1,5 +1,6 @@
 -- How the faults of lifting are told.
-use Rattle.std.specs.Prelude.{◌≡◌, ◌≤◌, ◌-◌, ◌^◌, ◌⊎◌}
+use Rattle.std.specs.Prelude.{Some, ◌≡◌, ◌≤◌, ◌-◌, ◌^◌, ◌⊎◌}
+use Rattle.canon_leaves.specs.Parts.{refusal_of}
 use Rattle.canon_model.specs.Reach as reach
 use Rattle.canon_model.specs.Reach.{Kind, badly_spelled, misaligned, no_case, no_scalar, out_of_bounds}
 use Rattle.canon_model.specs.Text.{in_utf16, in_utf8}
@@ -27,8 +28,8 @@ Exactly F k x = F k (place_of x)
 abbrev pub ToldAt : (Kind → reach.At → Type 0) → Kind → At → Type 0
 ToldAt F k x = (y : reach.At) × IsPlace x y × F k y
 
--- The fault is one of lifting, and F has one of its kind at its place; or the fuel was too low (`Low`); want of memory
--- alone is free.
+-- The fault is one of lifting, and F has one of its kind at its place; or the fuel was too low (`Low`). Why the ledger refused a handle
+-- is told by its steps, but it is never want of memory, which alone is free.
 abbrev pub LiftBlames : (Kind → At → Type 0) → Type 0 → Fault → Type 0
 LiftBlames F Low (fault.PointerMisaligned x) = F misaligned x
 LiftBlames F Low (fault.PointerOutOfBounds x) = F out_of_bounds x
@@ -38,6 +39,7 @@ LiftBlames F Low (fault.InvalidChar x) = F no_scalar x
 LiftBlames F Low (fault.BadDiscriminant x n) = F (no_case n) x
 LiftBlames F Low fault.HostcallFuelExhausted = Low
 LiftBlames F Low fault.OutOfMemory = Unit {0}
+LiftBlames F Low (fault.Resource e) = refusal_of e ≡ Some e
 LiftBlames F Low (fault.TypeMismatch k) = ⊥
 LiftBlames F Low (fault.FieldName k) = ⊥
 LiftBlames F Low (fault.LengthMismatch k) = ⊥
@@ -50,3 +52,8 @@ LiftBlames F Low (fault.SizeOverflow n) = ⊥
 LiftBlames F Low (fault.ReallocMisaligned a) = ⊥
 LiftBlames F Low (fault.ReallocOutOfBounds a) = ⊥
 LiftBlames F Low fault.GuestTrap = ⊥
+
+-- the fault is no refusal of the ledger
+abbrev pub IsNoRefusal : Fault → Type 0
+IsNoRefusal (fault.Resource e) = ⊥
+IsNoRefusal _ = Unit {0}

@@ -8,15 +8,17 @@ ghost use Rattle.canon_context.specs.Component.{HasOptions};
 ghost use Rattle.canon_indices.specs.Options.{encoding_of};
 ghost use Rattle.canon_context.specs.Core.{encoding_by, guest_of, moment_of, types_of};
 ghost use Rattle.canon_context.specs.Fuel.{Charged};
+ghost use Rattle.canon_context.specs.Lifter.{origin_in};
 ghost use Rattle.canon_context.specs.Lowers.{answer_of, ending_of, guest_answer};
 
 use crate::fuel::{charge, charge_each};
-use crate::{Core, Fault};
+use crate::{Core, Fault, Lifter};
 use canon_memory::Guest;
 use canon_types::{
     CanonicalOptions, ComponentTypes, InstanceType, OptionsIndex, RuntimeInstance, StoreId,
     StringEncoding,
 };
+use std::alloc::Global;
 
 /// Where values are lowered to: a core, under some of its options.
 #[derive(Drop)]
@@ -116,6 +118,8 @@ impl<'a, T, G: Guest> LowerContext<'a, T, G> {
 /// What values are lifted from: the types, the memory, and how texts are spelled there.
 #[derive(Clone, Copy)]
 pub struct Source<'a> {
+    /// The types in their store.
+    pub instance: &'a InstanceType,
     pub types: &'a ComponentTypes,
     pub memory: &'a [u8],
     pub encoding: StringEncoding,
@@ -169,17 +173,18 @@ impl<'a, T, G> LiftContext<'a, T, G> {
         charge_each(&mut self.fuel, len, size)
     }
 
-    // What values are lifted from.
-    pub fn source(&self) -> Source<'_>
-        ensures types { result.types.now ≡ types_of self.now.core.now }
-        ensures memory { result.memory.now ≡ self.now.core.now.memory }
-        ensures encoding { encoding_of result.encoding ≡ encoding_by self.now.core.now self.now.options }
+    /// Has something lifted from the core, with the fuel that is left.
+    pub fn lift_by<L: Lifter>(&mut self, alloc: Global, lifter: &L) -> Result<L::Lifted, Fault>
+        requires ready { L.ready lifter.now (origin_in self.old.core.now self.old.options) }
+        ensures gives { L.gives lifter.now (origin_in self.old.core.now self.old.options) self.old.core.now.ledger self.old.fuel result self.new.core.now.ledger self.new.fuel }
+        ensures same_core { self.new.core.now ≡ record self.old.core.now { ledger = self.new.core.now.ledger } }
+        ensures same_reference { self.new.core.ghost_name ≡ self.old.core.ghost_name }
+        ensures same_options { self.new.options ≡ self.old.options }
     {
-        Source {
-            types: self.types(),
-            memory: self.memory(),
-            encoding: self.core.encoding(self.options),
-        }
+        let mut fuel = self.fuel;
+        let answer = self.core.lift_by(alloc, self.options, lifter, &mut fuel);
+        self.fuel = fuel;
+        answer
     }
 
     /// The options that values are lifted under.

@@ -6,17 +6,23 @@ ghost use Rattle.canon_memory.specs.Realloc.{call};
 ghost use Rattle.canon_model.specs.Laws.{IsAlignment};
 ghost use Rattle.canon_context.specs.Component.{IsComponent};
 ghost use Rattle.canon_indices.specs.Options.{encoding_of};
-ghost use Rattle.canon_context.specs.Core.{Parts, encoding_by, guest_of, moment_of};
+ghost use Rattle.canon_context.specs.Core.{IsCore, Parts, encoding_by, guest_of, moment_of};
 ghost use Rattle.canon_context.specs.Lowers.{answer_of, ending_of, guest_answer};
 
-use crate::{Component, Fault};
+mod handles;
+
+use crate::{Component, Fault, Lifter, Source};
+use canon_ledger::{HostResourceData, Ledger};
 use canon_memory::{Guest, GuestFault, Memory, Step, ValRaw};
 use canon_types::{OptionsIndex, OutOfMemory, StoreId, StringEncoding};
 use std::alloc::Global;
 use std::marker::Model;
 
-/// What a store has of its component: the host's data, the guest, its memory, the component, and the fuel that each lifting
-/// begins with. Contracts see these.
+/// The number of the instances that a ledger has tables of: an instance's number is below it.
+const INSTANCES: u32 = 256;
+
+/// What a store has of its component: the host's data, the guest, its memory, the component, the ledger of its handles, and the
+/// fuel that each lifting begins with. Contracts see these.
 #[derive(Drop)]
 pub struct Core<T, G> {
     id: StoreId,
@@ -24,45 +30,56 @@ pub struct Core<T, G> {
     guest: G,
     memory: Memory,
     component: Component,
+    ledger: Ledger,
     fuel: u64,
 }
 
 impl<T, G> Model for Core<T, G> {
     ghost Value = { Parts T G };
 
-    ghost view = { λ c. record { id = c.id; state = c.state; guest = c.guest; memory = c.memory; component = c.component; fuel = c.fuel } };
+    ghost view = { λ c. record { id = c.id; state = c.state; guest = c.guest; memory = c.memory; component = c.component; ledger = c.ledger; fuel = c.fuel } };
 
-    ghost invariant = { λ c. IsComponent c.component };
+    ghost invariant = { λ c. IsCore c.component c.ledger };
 }
 
-impl<T, G> Core<T, G> {
-    ghost use Rattle.std.specs.Prelude.{◌≡◌, ◌≤◌, ◌^◌, IfOk, length};
-    ghost use Rattle.std.specs.Borrow.{Array, Lends, sem, u8};
-    ghost use Rattle.canon_memory.specs.Memory.{written_over};
+impl<T: Drop, G: Drop> Core<T, G> {
+    ghost use Rattle.std.specs.Prelude.{◌≡◌, IfOk};
+    ghost use Rattle.canon_ledger.specs.Ledger.{new_ledger};
     ghost use Rattle.canon_context.specs.Component.{IsComponent};
-    ghost use Rattle.canon_context.specs.contracts.core_data.Core.{the_row};
 
+    /// A core with empty handle tables.
     pub fn new(
-        _alloc: Global,
+        alloc: Global,
         id: StoreId,
         state: T,
         guest: G,
         memory: Memory,
         component: Component,
+        handle_limit: u64,
         fuel: u64,
     ) -> Result<Self, OutOfMemory>
         requires { IsComponent component }
-        ensures { IfOk result (λ core. core ≡ record { id = id; state = state; guest = guest; memory = memory; component = component; fuel = fuel }) }
+        ensures { IfOk result (λ core. core ≡ record { id = id; state = state; guest = guest; memory = memory; component = component; ledger = new_ledger 256 handle_limit 0; fuel = fuel }) }
     {
+        let ledger = Ledger::new(alloc, INSTANCES, handle_limit, HostResourceData::new(alloc))?;
         Ok(Core {
             id,
             state,
             guest,
             memory,
             component,
+            ledger,
             fuel,
         })
     }
+}
+
+impl<T, G> Core<T, G> {
+    ghost use Rattle.std.specs.Prelude.{◌≡◌, ◌≤◌, ◌^◌, length};
+    ghost use Rattle.std.specs.Borrow.{Array, Lends, sem, u8};
+    ghost use Rattle.canon_memory.specs.Memory.{written_over};
+    ghost use Rattle.canon_context.specs.Component.{IsComponent};
+    ghost use Rattle.canon_context.specs.contracts.core_data.Core.{the_row};
 
     pub fn id(&self) -> StoreId
         ensures { result ≡ self.now.id }
@@ -129,6 +146,32 @@ impl<T, G> Core<T, G> {
     {
         let _len = self.memory.len();
         self.memory.as_slice_mut()
+    }
+}
+
+impl<T, G> Core<T, G> {
+    ghost use Rattle.canon_context.specs.Lifter.{origin_in};
+
+    // Has something lifted.
+    pub fn lift_by<L: Lifter>(
+        &mut self,
+        alloc: Global,
+        options: OptionsIndex,
+        lifter: &L,
+        fuel: &mut u64,
+    ) -> Result<L::Lifted, Fault>
+        requires ready { L.ready lifter.now (origin_in self.old options) }
+        ensures gives { L.gives lifter.now (origin_in self.old options) self.old.ledger fuel.old result self.new.ledger fuel.new }
+        ensures same { self.new ≡ record self.old { ledger = self.new.ledger } }
+    {
+        let encoding = self.encoding(options);
+        let source = Source {
+            instance: &self.component.types,
+            types: self.component.types.types(),
+            memory: self.memory.as_slice(),
+            encoding,
+        };
+        lifter.lift(alloc, &source, &mut self.ledger, fuel)
     }
 }
 

@@ -1,7 +1,8 @@
 ghost use Rattle.std.specs.Prelude.{◌≡◌};
 ghost use Rattle.canon_context.specs.declared.fault.Fault.TheVariants as fault;
-ghost use Rattle.canon_context.specs.Faults.{fault_of};
+ghost use Rattle.canon_context.specs.Faults.{fault_of, faulted, resource_fault};
 
+use canon_ledger::ResourceFault;
 use canon_memory::GuestFault;
 use std::alloc::{AllocError, AllocFailed};
 use std::fmt::{self, Display, Formatter, Write};
@@ -84,6 +85,9 @@ pub enum Fault {
     /// The values that are lifted cost more than the fuel that is left.
     #[error("HostcallFuelExhausted")]
     HostcallFuelExhausted,
+    /// A handle is refused by the ledger. `Display` writes its refusal alone.
+    #[error("{0}")]
+    Resource(ResourceFault),
     #[error("OutOfMemory")]
     OutOfMemory,
 }
@@ -112,5 +116,26 @@ impl From<GuestFault> for Fault {
             GuestFault::Trap => Fault::GuestTrap,
             GuestFault::OutOfMemory => Fault::OutOfMemory,
         }
+    }
+}
+
+impl From<ResourceFault> for Fault {
+    ghost from_gives = { λ f e. e ≡ resource_fault f };
+
+    fn from(fault: ResourceFault) -> Self {
+        match fault {
+            ResourceFault::OutOfMemory => Fault::OutOfMemory,
+            other => Fault::Resource(other),
+        }
+    }
+}
+
+/// What a step of the ledger answered, its refusal as a fault.
+pub(crate) fn faulted<A>(answer: Result<A, ResourceFault>) -> Result<A, Fault>
+    ensures { result ≡ faulted answer }
+{
+    match answer {
+        Ok(told) => Ok(told),
+        Err(fault) => Err(Fault::from(fault)),
     }
 }

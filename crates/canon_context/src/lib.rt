@@ -8,6 +8,8 @@ mod context;
 mod core_data;
 mod fault;
 mod fuel;
+mod lifter;
+mod resources;
 
 pub use blocks::{ask, ask_again};
 pub use component::{Component, Export};
@@ -15,3 +17,4 @@ pub use context::{LiftContext, LowerContext, Source};
 pub use core_data::Core;
 pub use fault::{At, Fault};
 pub use fuel::{HostcallFuelExhausted, charge, charge_each};
+pub use lifter::Lifter;

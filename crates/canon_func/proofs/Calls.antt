@@ -19,6 +19,7 @@ use Rattle.canon_lowering.specs.Storing.{narrow}
 use Rattle.canon_value.specs.Fails.{AreSmall, BlamesMembers, Failure, IsTypeFailure, MemberFails, field_name, mismatch, payload_expected, payload_not_expected, unknown_case, unknown_flag, wrong_length}
 use Rattle.canon_value.proofs.Values.{failure_excludes}
 use Rattle.canon_value.specs.Lifts.{AreResults}
+use Rattle.canon_value.specs.Resources.{ledger_fault}
 use Rattle.canon_context.specs.Lowers.{fault_ending}
 use Rattle.canon_value.specs.Value.{HaveTrees}
 use Rattle.canon_context.specs.declared.fault.Fault.{Fault}
@@ -63,7 +64,7 @@ pub record IsReady (callee : Callee) (params : List Val) (entry mid : Moment) (w
   pub requested : (ts : Trees) → HaveTrees callee.params params ts → MetAll (params_requests false callee.encoding callee.params ts) answers
 
 module _ (callee : Callee) (params : List Val) (entry mid : Moment) (words : List ℕ) where
-  pub ready : (low : LowersArgs false entry mid callee.encoding callee.params (HaveTrees callee.params params) words done) → length words ≡ words_within max_params callee.params
+  pub ready : {handles : List ℕ} (low : LowersArgs false entry mid callee.encoding callee.params (HaveTrees callee.params params) words handles done) → length words ≡ words_within max_params callee.params
       → AsksByTypes callee.params done low.answers low.trap → AreSmall callee.encoding callee.params params → IsReady callee params entry mid words low.answers
   ready low count quiet small = record {
     start = record {
@@ -113,6 +114,7 @@ cause_after callee fuel params entry mid after xs ys (error.Fault (fault.StringT
 cause_after callee fuel params entry mid after xs ys (error.Fault (fault.SizeOverflow n)) g h = absurd h
 cause_after callee fuel params entry mid after xs ys (error.Fault (fault.ReallocMisaligned a)) g h = absurd h
 cause_after callee fuel params entry mid after xs ys (error.Fault (fault.ReallocOutOfBounds a)) g h = absurd h
+cause_after callee fuel params entry mid after xs ys (error.Fault (fault.Resource r)) g h = absurd h
 
 -- good answers stay good in a longer memory
 good_later : (m n : ℕ) (answers : List Answer) → m ≤ n → AllGood m answers → AllGood n answers
@@ -147,6 +149,7 @@ accepted_after callee fuel mid after ys answers (error.Fault (fault.PayloadNotEx
 accepted_after callee fuel mid after ys answers (error.Fault (fault.LengthMismatch k)) h good = absurd h
 accepted_after callee fuel mid after ys answers (error.Fault (fault.StringTooLong k)) h good = absurd h
 accepted_after callee fuel mid after ys answers (error.Fault (fault.SizeOverflow k)) h good = absurd h
+accepted_after callee fuel mid after ys answers (error.Fault (fault.Resource r)) h good = absurd h
 
 not_short : done ≡ short → ⊥
 not_short e = cc
@@ -287,11 +290,11 @@ module _ (Leaves : List ℕ → List ℕ → Type 0) (callee : Callee) (fuel : �
       (λ ts have. (params_requests false callee.encoding callee.params ts, λ last. refl))
       (record { late = tt; accepted = tt; cause = tt; valid = λ ts have small lawful calm. refl })
 
-  abbrev Low : List ℕ → Fault → Type 0
-  Low words f = LowersArgs false entry after callee.encoding callee.params (HaveTrees callee.params params) words (fault_ending f)
+  abbrev Low : List ℕ → List ℕ → Fault → Type 0
+  Low words handles f = LowersArgs false entry after callee.encoding callee.params (HaveTrees callee.params params) words handles (fault_ending f)
 
-  abbrev Why : (f : Fault) (words : List ℕ) → Low words f → Type 0
-  Why f words low = Refused callee fuel params entry after (events_of low.answers low.trap) low.answers low.trap f
+  abbrev Why : (f : Fault) (words handles : List ℕ) → Low words handles f → Type 0
+  Why f words handles low = Refused callee fuel params entry after (events_of low.answers low.trap) low.answers low.trap f
 
   -- the parameters aren't of their types, or one is too large
   abbrev Unlike : Type 0
@@ -321,18 +324,18 @@ module _ (Leaves : List ℕ → List ℕ → Type 0) (callee : Callee) (fuel : �
   none_trapped : (answers : List Answer) (trap : Option Trap) → trap ≡ None → ¬ EndsIn IsTrap (events_of answers trap)
   none_trapped answers trap none h = no_trap answers (subst (λ o. EndsIn IsTrap (events_of answers o)) none h)
 
-  refused_by : (f : Fault) (words : List ℕ) (low : Low words f) → BlamesMembers callee.encoding callee.params params f → Why f words low
-  refused_by (fault.TypeMismatch k) words low blames = blamed (fault.TypeMismatch k) low.answers low.trap low.lowering.cause low.lowering.accepted (unfit mismatch blames.0 tt blames.2) (none_started low.answers low.trap, none_trapped low.answers low.trap low.lowering.cause, blames)
-  refused_by (fault.FieldName k) words low blames = blamed (fault.FieldName k) low.answers low.trap low.lowering.cause low.lowering.accepted (unfit field_name blames.0 tt blames.2) (none_started low.answers low.trap, none_trapped low.answers low.trap low.lowering.cause, blames)
-  refused_by (fault.UnknownCase k) words low blames = blamed (fault.UnknownCase k) low.answers low.trap low.lowering.cause low.lowering.accepted (unfit unknown_case blames.0 tt blames.2) (none_started low.answers low.trap, none_trapped low.answers low.trap low.lowering.cause, blames)
-  refused_by (fault.UnknownFlag k) words low blames = blamed (fault.UnknownFlag k) low.answers low.trap low.lowering.cause low.lowering.accepted (unfit unknown_flag blames.0 tt blames.2) (none_started low.answers low.trap, none_trapped low.answers low.trap low.lowering.cause, blames)
-  refused_by (fault.PayloadExpected k) words low blames = blamed (fault.PayloadExpected k) low.answers low.trap low.lowering.cause low.lowering.accepted (unfit payload_expected blames.0 tt blames.2) (none_started low.answers low.trap, none_trapped low.answers low.trap low.lowering.cause, blames)
-  refused_by (fault.PayloadNotExpected k) words low blames = blamed (fault.PayloadNotExpected k) low.answers low.trap low.lowering.cause low.lowering.accepted
+  refused_by : (f : Fault) (words handles : List ℕ) (low : Low words handles f) → BlamesMembers callee.encoding callee.params params f → ledger_fault f ≡ None → Why f words handles low
+  refused_by (fault.TypeMismatch k) words handles low blames unheld = blamed (fault.TypeMismatch k) low.answers low.trap low.lowering.cause low.lowering.accepted (unfit mismatch blames.0 tt blames.2) (none_started low.answers low.trap, none_trapped low.answers low.trap low.lowering.cause, blames)
+  refused_by (fault.FieldName k) words handles low blames unheld = blamed (fault.FieldName k) low.answers low.trap low.lowering.cause low.lowering.accepted (unfit field_name blames.0 tt blames.2) (none_started low.answers low.trap, none_trapped low.answers low.trap low.lowering.cause, blames)
+  refused_by (fault.UnknownCase k) words handles low blames unheld = blamed (fault.UnknownCase k) low.answers low.trap low.lowering.cause low.lowering.accepted (unfit unknown_case blames.0 tt blames.2) (none_started low.answers low.trap, none_trapped low.answers low.trap low.lowering.cause, blames)
+  refused_by (fault.UnknownFlag k) words handles low blames unheld = blamed (fault.UnknownFlag k) low.answers low.trap low.lowering.cause low.lowering.accepted (unfit unknown_flag blames.0 tt blames.2) (none_started low.answers low.trap, none_trapped low.answers low.trap low.lowering.cause, blames)
+  refused_by (fault.PayloadExpected k) words handles low blames unheld = blamed (fault.PayloadExpected k) low.answers low.trap low.lowering.cause low.lowering.accepted (unfit payload_expected blames.0 tt blames.2) (none_started low.answers low.trap, none_trapped low.answers low.trap low.lowering.cause, blames)
+  refused_by (fault.PayloadNotExpected k) words handles low blames unheld = blamed (fault.PayloadNotExpected k) low.answers low.trap low.lowering.cause low.lowering.accepted
       (unfit payload_not_expected blames.0 tt blames.2) (none_started low.answers low.trap, none_trapped low.answers low.trap low.lowering.cause, blames)
-  refused_by (fault.LengthMismatch k) words low blames = blamed (fault.LengthMismatch k) low.answers low.trap low.lowering.cause low.lowering.accepted (unfit wrong_length blames.0 tt blames.2) (none_started low.answers low.trap, none_trapped low.answers low.trap low.lowering.cause, blames)
-  refused_by (fault.StringTooLong n) words low blames = blamed (fault.StringTooLong n) low.answers low.trap low.lowering.cause low.lowering.accepted (λ ts have small. small.texts n blames.0 blames.1) (none_started low.answers low.trap, none_trapped low.answers low.trap low.lowering.cause, blames)
-  refused_by (fault.SizeOverflow n) words low blames = blamed (fault.SizeOverflow n) low.answers low.trap low.lowering.cause low.lowering.accepted (λ ts have small. small.lists n blames.0 blames.1) (none_started low.answers low.trap, none_trapped low.answers low.trap low.lowering.cause, blames)
-  refused_by (fault.ReallocMisaligned a) words low blames = record {
+  refused_by (fault.LengthMismatch k) words handles low blames unheld = blamed (fault.LengthMismatch k) low.answers low.trap low.lowering.cause low.lowering.accepted (unfit wrong_length blames.0 tt blames.2) (none_started low.answers low.trap, none_trapped low.answers low.trap low.lowering.cause, blames)
+  refused_by (fault.StringTooLong n) words handles low blames unheld = blamed (fault.StringTooLong n) low.answers low.trap low.lowering.cause low.lowering.accepted (λ ts have small. small.texts n blames.0 blames.1) (none_started low.answers low.trap, none_trapped low.answers low.trap low.lowering.cause, blames)
+  refused_by (fault.SizeOverflow n) words handles low blames unheld = blamed (fault.SizeOverflow n) low.answers low.trap low.lowering.cause low.lowering.accepted (λ ts have small. small.lists n blames.0 blames.1) (none_started low.answers low.trap, none_trapped low.answers low.trap low.lowering.cause, blames)
+  refused_by (fault.ReallocMisaligned a) words handles low blames unheld = record {
     late = subst (λ o. TrapsLate (length entry.bytes) o) (sym low.lowering.cause.0) tt;
     accepted = low.lowering.accepted;
     cause = (
@@ -341,7 +344,7 @@ module _ (Leaves : List ℕ → List ℕ → Type 0) (callee : Callee) (fuel : �
     );
     valid = λ ts have small lawful calm. absurd (last_lawful low.answers a _ (λ x bad. bad.1) low.lowering.cause.1 lawful);
   }
-  refused_by (fault.ReallocOutOfBounds a) words low blames = record {
+  refused_by (fault.ReallocOutOfBounds a) words handles low blames unheld = record {
     late = subst (λ o. TrapsLate (length entry.bytes) o) (sym low.lowering.cause.0) tt;
     accepted = low.lowering.accepted;
     cause = (
@@ -351,7 +354,7 @@ module _ (Leaves : List ℕ → List ℕ → Type 0) (callee : Callee) (fuel : �
     );
     valid = λ ts have small lawful calm. absurd (last_lawful low.answers a _ (λ x bad. bad.2) low.lowering.cause.1 lawful);
   }
-  refused_by fault.GuestTrap words low blames =
+  refused_by fault.GuestTrap words handles low blames unheld =
       let (rose, (t, is, late)) = low.lowering.cause in
       record {
         late = subst (λ o. TrapsLate (length entry.bytes) o) (sym is) late;
@@ -359,21 +362,22 @@ module _ (Leaves : List ℕ → List ℕ → Type 0) (callee : Callee) (fuel : �
         cause = (rose, subst (λ o. EndsIn IsTrap (events_of low.answers o)) (sym is) (ends_in_trap low.answers t));
         valid = λ ts have small lawful calm. absurd (calm (subst (λ o. EndsIn IsTrap (events_of low.answers o)) (sym is) (ends_in_trap low.answers t)));
       }
-  refused_by fault.OutOfMemory words low blames = record {
+  refused_by fault.OutOfMemory words handles low blames unheld = record {
     late = subst (λ o. TrapsLate (length entry.bytes) o) (sym low.lowering.cause.0) tt;
     accepted = low.lowering.accepted;
     cause = tt;
     valid = λ ts have small lawful calm. refl;
   }
-  refused_by (fault.PointerMisaligned at) words low blames = absurd blames
-  refused_by (fault.PointerOutOfBounds at) words low blames = absurd blames
-  refused_by (fault.InvalidUtf8 at) words low blames = absurd blames
-  refused_by (fault.InvalidUtf16 at) words low blames = absurd blames
-  refused_by (fault.InvalidChar at) words low blames = absurd blames
-  refused_by (fault.BadDiscriminant at d) words low blames = absurd blames
-  refused_by fault.HostcallFuelExhausted words low blames = absurd blames
+  refused_by (fault.PointerMisaligned at) words handles low blames unheld = absurd blames
+  refused_by (fault.PointerOutOfBounds at) words handles low blames unheld = absurd blames
+  refused_by (fault.InvalidUtf8 at) words handles low blames unheld = absurd blames
+  refused_by (fault.InvalidUtf16 at) words handles low blames unheld = absurd blames
+  refused_by (fault.InvalidChar at) words handles low blames unheld = absurd blames
+  refused_by (fault.BadDiscriminant at d) words handles low blames unheld = absurd blames
+  refused_by fault.HostcallFuelExhausted words handles low blames unheld = absurd blames
+  refused_by (fault.Resource r) words handles low blames unheld = cc
 
-  pub refused_call : (f : Fault) (words : List ℕ) (low : LowersArgs false entry after callee.encoding callee.params (HaveTrees callee.params params) words (fault_ending f)) → BlamesMembers callee.encoding callee.params params f
-      → AsksByTypes callee.params (fault_ending f) low.answers low.trap → CoreCall Leaves callee fuel params entry after (Err (error.Fault f)) (events_of low.answers low.trap)
-  refused_call f words low blames quiet results =
-      made results f low.answers low.trap (goes_advance entry after _ _ low.lowering.goes) quiet low.lowering.goes.marks (λ ts have. ((low.requested ts have).rest, (low.requested ts have).met)) (refused_by f words low blames)
+  pub refused_call : (f : Fault) (words handles : List ℕ) (low : LowersArgs false entry after callee.encoding callee.params (HaveTrees callee.params params) words handles (fault_ending f))
+      → BlamesMembers callee.encoding callee.params params f → ledger_fault f ≡ None → AsksByTypes callee.params (fault_ending f) low.answers low.trap → CoreCall Leaves callee fuel params entry after (Err (error.Fault f)) (events_of low.answers low.trap)
+  refused_call f words handles low blames unheld quiet results =
+      made results f low.answers low.trap (goes_advance entry after _ _ low.lowering.goes) quiet low.lowering.goes.marks (λ ts have. ((low.requested ts have).rest, (low.requested ts have).met)) (refused_by f words handles low blames unheld)

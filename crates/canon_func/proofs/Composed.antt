@@ -143,7 +143,7 @@ module _ (Leaves : List ℕ → List ℕ → Type 0) (callee : Callee) (fuel : �
   core_refused : (a b : Moment) (e : Error) (es : List Event) → LoweredArgs callee params a b (Err e) es → CoreCall Leaves callee fuel params a b (Err e) es
   core_refused a b (error.Fault f) es (inl (short, same, none)) = subst (λ fs. CoreCall Leaves callee fuel params a b (Err (error.Fault f)) fs) (sym none)
       (subst (λ g. CoreCall Leaves callee fuel params a b (Err (error.Fault g)) []) (sym short) (short_call Leaves callee fuel params a b same))
-  core_refused a b (error.Fault f) es (inr (words, low, blames, is, quiet)) = subst (λ fs. CoreCall Leaves callee fuel params a b (Err (error.Fault f)) fs) (sym is) (refused_call Leaves callee fuel params a b f words low blames quiet)
+  core_refused a b (error.Fault f) es (inr (words, handles, low, blames, unheld, is, quiet)) = subst (λ fs. CoreCall Leaves callee fuel params a b (Err (error.Fault f)) fs) (sym is) (refused_call Leaves callee fuel params a b f words handles low blames unheld quiet)
   core_refused a b error.WrongCount es h = absurd h
   core_refused a b error.AsyncLifted es h = absurd h
   core_refused a b error.CannotEnterComponent es h = absurd h
@@ -154,15 +154,15 @@ module _ (Leaves : List ℕ → List ℕ → Type 0) (callee : Callee) (fuel : �
   pub call_started : (a b c : Moment) (words : Vec ℕ Global) (answer : Result (Vec Val Global) Error) (M N O : List Event → Type 0) → ((xs ys : List Event) → M xs → N ys → O (xs ++ ys))
       → Adding a b M (LoweredArgs callee params a b (Ok words)) → Proceeds b c N (IsRest Leaves callee fuel words.items b c answer) → Adding a c O (CoreCall Leaves callee fuel params a c answer)
   call_started a b c words answer M N O f first second =
-      let low : LowersArgs false a b callee.encoding callee.params (HaveTrees callee.params params) words.items done = first.so.0 in
+      let low : LowersArgs false a b callee.encoding callee.params (HaveTrees callee.params params) words.items first.so.0 done = first.so.1 in
       let xs : List Event = events_of low.answers low.trap in
       let ys : List Event = second.events in
       record {
         events = xs ++ ys;
         added = (goes_then a b c (marks_of low.answers) [] xs ys low.lowering.goes second.goes).events;
-        moves = λ there. f xs ys (subst M first.so.1 (first.moves there)) second.moves;
+        moves = λ there. f xs ys (subst M first.so.2 (first.moves there)) second.moves;
         so = subst (λ o. CoreCall Leaves callee fuel params a c answer (events_of low.answers o ++ ys)) (sym low.lowering.cause)
-            (joined Leaves callee fuel params a b c words.items low.answers ys answer (ready callee params a b words.items low first.so.2 first.so.3 first.so.4) (goes_advance a b _ _ low.lowering.goes) (goes_advance b c _ _ second.goes) (second.goes.marks ∙ append-nil b.guest.marks) second.so);
+            (joined Leaves callee fuel params a b c words.items low.answers ys answer (ready callee params a b words.items low first.so.3 first.so.4 first.so.5) (goes_advance a b _ _ low.lowering.goes) (goes_advance b c _ _ second.goes) (second.goes.marks ∙ append-nil b.guest.marks) second.so);
       }
 
   -- they weren't

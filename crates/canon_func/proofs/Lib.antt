@@ -4,3 +4,4 @@ pub mod Calls
 pub mod Counts
 pub mod Composed
 pub mod Lowered
+pub mod NoHandles

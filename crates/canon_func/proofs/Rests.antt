@@ -125,6 +125,7 @@ module _ (Leaves : List ℕ → List ℕ → Type 0) (callee : Callee) (fuel : �
   rest_of_start (error.Fault (fault.InvalidChar at)) events h = absurd h
   rest_of_start (error.Fault (fault.BadDiscriminant at d)) events h = absurd h
   rest_of_start (error.Fault fault.HostcallFuelExhausted) events h = absurd h
+  rest_of_start (error.Fault (fault.Resource r)) events h = absurd h
 
   -- ---- it returned
 
@@ -181,6 +182,7 @@ module _ (Leaves : List ℕ → List ℕ → Type 0) (callee : Callee) (fuel : �
     lifted_made (error.Fault (fault.ReallocMisaligned a)) n h = absurd h
     lifted_made (error.Fault (fault.ReallocOutOfBounds a)) n h = absurd h
     lifted_made (error.Fault fault.GuestTrap) n h = absurd h
+    lifted_made (error.Fault (fault.Resource r)) n h = absurd h
 
     -- the whole was done
     done_made : (vals : Vec Val Global) → (left : ℕ) × AreResults callee.encoding (narrow memory) callee.results returned fuel left vals.items → Left Leaves callee.post memory after.bytes

@@ -131,6 +131,7 @@ FaultCause callee fuel params before after events (fault.InvalidChar at) = EndsI
 FaultCause callee fuel params before after events (fault.BadDiscriminant at d) = EndsIn (IsReturn (HasFault callee (no_case d) at)) events
 FaultCause callee fuel params before after events fault.HostcallFuelExhausted = EndsIn (IsReturn (IsPastFuel callee fuel)) events
 FaultCause callee fuel params before after events fault.OutOfMemory = ⊤
+FaultCause callee fuel params before after events (fault.Resource e) = ⊥
 
 -- why a call was refused with this error, which isn't one of those before the guest is entered
 abbrev pub Cause : Callee → ℕ → List Val → Moment → Moment → List Event → Error → Type 0

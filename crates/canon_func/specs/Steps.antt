@@ -17,6 +17,7 @@ use Rattle.canon_lowering.specs.Lowering.{done, events_of}
 use Rattle.canon_lowering.specs.Storing.{narrow}
 use Rattle.canon_value.specs.Fails.{AreSmall, BlamesMembers}
 use Rattle.canon_value.specs.Lifts.{AreResults}
+use Rattle.canon_value.specs.Resources.{ledger_fault}
 use Rattle.canon_context.specs.Told.{LiftBlames}
 use Rattle.canon_context.specs.Lowers.{fault_ending}
 use Rattle.canon_value.specs.Value.{HaveTrees}
@@ -38,17 +39,17 @@ pub record Proceeds (before after : Moment) (Moves IsSo : List Event → Type 0)
 
 -- ---- lowering
 
--- The parameters were lowered into these words, or why not; these are the events. Where memory ran out before, nothing was
--- done.
+-- The parameters were lowered into these words, or why not, which is no refusal of the ledger; these are the events. Where memory
+-- ran out before, nothing was done.
 abbrev pub LoweredArgs : Callee → List Val → Moment → Moment → Result (Vec ℕ Global) Error → List Event → Type 0
 LoweredArgs callee params before after (Ok words) events =
-    (low : LowersArgs false before after callee.encoding callee.params (HaveTrees callee.params params) words.items done) × (events ≡ events_of low.answers low.trap)
+    (handles : List ℕ) × (low : LowersArgs false before after callee.encoding callee.params (HaveTrees callee.params params) words.items handles done) × (events ≡ events_of low.answers low.trap)
     × (length words.items ≡ words_within max_params callee.params) × AsksByTypes callee.params done low.answers low.trap
     × AreSmall callee.encoding callee.params params
 LoweredArgs callee params before after (Err (error.Fault f)) events =
     ((f ≡ fault.OutOfMemory) × (after ≡ before) × (events ≡ []))
-    ⊎ ((words : List ℕ) × (low : LowersArgs false before after callee.encoding callee.params (HaveTrees callee.params params) words (fault_ending f))
-    × BlamesMembers callee.encoding callee.params params f × (events ≡ events_of low.answers low.trap) × AsksByTypes callee.params (fault_ending f) low.answers low.trap)
+    ⊎ ((words handles : List ℕ) × (low : LowersArgs false before after callee.encoding callee.params (HaveTrees callee.params params) words handles (fault_ending f))
+    × BlamesMembers callee.encoding callee.params params f × (ledger_fault f ≡ None) × (events ≡ events_of low.answers low.trap) × AsksByTypes callee.params (fault_ending f) low.answers low.trap)
 LoweredArgs callee params before after (Err _) events = ⊥
 
 -- ---- the start
@@ -68,6 +69,7 @@ Started func words before after (Err _) events = ⊥
 abbrev pub Lifted : Callee → ℕ → List ℕ → List ℕ → Result (Vec Val Global) Error → Type 0
 Lifted callee fuel words memory (Ok vals) = (left : ℕ) × AreResults callee.encoding (narrow memory) callee.results words fuel left vals.items
 Lifted callee fuel words memory (Err error.WrongWords) = ¬ (length words ≡ result_words callee.results)
+Lifted callee fuel words memory (Err (error.Fault (fault.Resource e))) = ⊥
 Lifted callee fuel words memory (Err (error.Fault f)) = LiftBlames (λ kind at. HasFault callee kind at words memory) (IsPastFuel callee fuel words memory) f
 Lifted callee fuel words memory (Err _) = ⊥
 

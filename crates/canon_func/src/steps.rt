@@ -1,6 +1,6 @@
 //! The steps of a call.
 
-ghost use Rattle.std.specs.Prelude.{◌≡◌, ◌≤◌, ◌==◌, ◌&&◌, ◌↔◌, IfErr, IfOk, IsTrue, OnOk, false, length, slice_get};
+ghost use Rattle.std.specs.Prelude.{◌≡◌, ◌≤◌, ◌==◌, ◌&&◌, ◌↔◌, IfErr, IfOk, IsTrue, List, None, OnOk, false, length, slice_get, ℕ};
 ghost use Rattle.canon_model.specs.Flat.{max_params};
 ghost use Rattle.canon_model.specs.Layout.{members_flat};
 ghost use Rattle.canon_model.specs.Shape.{member_count};
@@ -14,6 +14,7 @@ ghost use Rattle.canon_value.specs.Fails.{AreSmall, BlamesMembers};
 ghost use Rattle.canon_context.specs.Lowers.{ending_of};
 ghost use Rattle.canon_context.specs.Moves.{Moves};
 ghost use Rattle.canon_context.specs.Quiet.{Quiet, have_block};
+ghost use Rattle.canon_value.specs.Resources.{ledger_fault};
 ghost use Rattle.canon_value.specs.Value.{HaveTrees};
 ghost use Rattle.canon_func.specs.Call.{Adding, OnAnswered, words_within};
 ghost use Rattle.canon_func.specs.Steps.{Concluded, CoreCall, Proceeds, IsLate, IsRest, Lifted, LoweredArgs, Posted, Started};
@@ -125,8 +126,9 @@ fn lower_into<T, G: Guest>(
     requires built { AreBuilt (tuple_members (types_of core.old) tuple) }
     requires params { length params.now ≡ member_count (tuple_members (types_of core.old) tuple) }
     requires words { length words.old ≡ words_within max_params (tuple_members (types_of core.old) tuple) }
-    ensures lowered { LowersParams (moment_of G.seen core.old) (moment_of G.seen core.new) (encoding_by core.old export.now.options)
-        (tuple_members (types_of core.old) tuple) (HaveTrees (tuple_members (types_of core.old) tuple) params.now) words.new (ending_of result) }
+    ensures lowered { (handles : List ℕ) × LowersParams (moment_of G.seen core.old) (moment_of G.seen core.new) (encoding_by core.old export.now.options)
+        (tuple_members (types_of core.old) tuple) (HaveTrees (tuple_members (types_of core.old) tuple) params.now) words.new handles (ending_of result) }
+    ensures unheld { IfErr result (λ f. ledger_fault f ≡ None) }
     ensures cause { IfErr result (BlamesMembers (encoding_by core.old export.now.options) (tuple_members (types_of core.old) tuple) params.now) }
     ensures small { OnOk result (AreSmall (encoding_by core.old export.now.options) (tuple_members (types_of core.old) tuple) params.now) }
     ensures quiet { members_flat (tuple_members (types_of core.old) tuple) ≤ max_params → Quiet (have_block (tuple_members (types_of core.old) tuple)) (core.new ≡ core.old) result }

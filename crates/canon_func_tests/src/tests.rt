@@ -115,7 +115,8 @@ fn store_of(
         shortages: 0,
     };
     let memory = Memory::new(alloc, 65_536)?;
-    Ok(Store::new(Core::new(alloc, id, (), guest, memory, component, 1_000_000)?))
+    let core = Core::new(alloc, id, (), guest, memory, component, 8, 1_000_000)?;
+    Ok(Store::new(core))
 }
 
 /// The same, of a function of these parameters and results.
@@ -151,9 +152,11 @@ fn a_call_lowers_its_parameters_and_lifts_its_results(rt: HostRuntime) -> Result
     let mut store = store_with(alloc, &params, &[InterfaceType::Bool], 2)?;
     let mut results = [Val::Bool(false)];
     let answer = call(alloc, &mut store, &[Val::U32(7), Val::S8(-1)], &mut results);
-    assert_eq!(rt; answer, Some(Ok(())));
-    assert!(rt; matches!(&results, [Val::Bool(true)]), "{results:?}");
-    assert!(rt; !store.is_trapped());
+    assert!(rt; answer == Some(Ok(())));
+    let [Val::Bool(told)] = &results else {
+        panic!(rt; "no bool");
+    };
+    assert!(rt; *told && !store.is_trapped());
     Ok(())
 }
 
@@ -164,9 +167,11 @@ fn a_refusal_traps_the_store_and_leaves_the_results(rt: HostRuntime) -> Result<(
     let mut results = [Val::Bool(false)];
     let answer = call(alloc, &mut store, &[], &mut results);
     let fault = Fault::InvalidChar(At::Word(0));
-    assert_eq!(rt; answer, Some(Err(Error::Fault(fault))));
-    assert!(rt; matches!(&results, [Val::Bool(false)]), "{results:?}");
-    assert!(rt; store.is_trapped());
+    assert!(rt; answer == Some(Err(Error::Fault(fault))));
+    let [Val::Bool(told)] = &results else {
+        panic!(rt; "no bool");
+    };
+    assert!(rt; !*told && store.is_trapped());
     Ok(())
 }
 
@@ -179,9 +184,9 @@ fn a_function_is_of_one_store(rt: HostRuntime) -> Result<(), Fail> {
         return Err(Fail::from("no function"));
     };
     assert!(rt; store.owns(&f));
-    assert_eq!(rt; f.export(), ExportIndex::from_u32(0));
+    assert!(rt; f.export() == ExportIndex::from_u32(0));
     assert!(rt; !f.ty(&store).async_);
-    assert_eq!(rt; f.post_return(&mut store), Ok(()));
+    assert!(rt; f.post_return(&mut store) == Ok(()));
     assert!(rt; store.core_mut().guest_mut().traps == 0);
     Ok(())
 }
@@ -189,9 +194,9 @@ fn a_function_is_of_one_store(rt: HostRuntime) -> Result<(), Fail> {
 #[test]
 fn a_store_has_the_fuel_of_its_calls(rt: HostRuntime) -> Result<(), Fail> {
     let mut store = store_with(rt.alloc(), &[], &[], 0)?;
-    assert_eq!(rt; store.fuel(), 1_000_000);
+    assert!(rt; store.fuel() == 1_000_000);
     store.set_fuel(31);
-    assert_eq!(rt; store.fuel(), 31);
+    assert!(rt; store.fuel() == 31);
     Ok(())
 }
 

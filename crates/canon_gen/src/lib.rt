@@ -10,7 +10,5 @@ mod draws;
 mod lines;
 mod made;
 mod records;
-#[cfg(test)]
-mod tests;
 
 pub use lines::gen_lines;

@@ -36,8 +36,8 @@ module _ (lifted : Bool) where
     has_along : (s : Shape) (v : Val) (t u : Tree) → HasTreeAs lifted s v t → Carried t u → HasTreeAs lifted s v u
     has_along (scalar k) v t u h c = subst (λ y. HasScalar k v y) (sym (scalar_carried k v t u h c)) h
     has_along string v t u (cs, n, is, e) c = let (m, f) = subst (λ y. Carried y u) e c in (cs, m, is, f)
-    has_along (own r) v t u h c = absurd h
-    has_along (borrow r) v t u h c = absurd h
+    has_along (own r) v t u (x, h, is, e) c = let (k, f) = subst (λ y. Carried y u) e c in (x, k, is, f)
+    has_along (borrow r) v t u (x, h, is, e) c = let (k, f) = subst (λ y. Carried y u) e c in (x, k, is, f)
     has_along (list of_items s) v t u (vs, ts, is, e, h) c =
         let (us, f, d) = subst (λ y. Carried y u) e c in
         (vs, us, is, f, each_along (λ w y. HasTreeAs lifted s w y) (λ w x y g k. has_along s w x y g k) vs ts us h d)

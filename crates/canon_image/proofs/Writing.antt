@@ -25,7 +25,7 @@ use Rattle.canon_value.specs.declared.case_view.Case.{Case}
 use Rattle.canon_value.specs.declared.members.Member.{Member}
 use Rattle.canon_value.specs.declared.val.Val.{Val}
 use Rattle.canon_value.specs.declared.val.Val.TheVariants as val
-use Rattle.canon_value.proofs.Cases.{case_has}
+use Rattle.canon_value.proofs.Cases.{case_built, case_has}
 use Rattle.canon_value.proofs.Contents.{places_list, places_text, spelled}
 use Rattle.canon_plan.proofs.Lookups.{both, copies_count, drop_all, members_from-all}
 use Rattle.canon_plan.proofs.ScalarTypes.{scalar_shape}
@@ -273,6 +273,9 @@ member_built no_members zero name s rest e h = cc
 member_built no_members (suc i) name s rest e h = cc
 member_built (member n u ms) zero name s rest e h = let same : u ≡ s = cc in subst IsBuilt same (both _ _ h).0
 member_built (member n u ms) (suc i) name s rest e h = member_built ms i name s rest e (both _ _ h).1
+
+pub seen_built : (t : Table) (s : Shape) (v : Val) (x : Case) → IsBuilt s → IsCaseSeen t s v x → AreBuilt (shapes_of t x.payload)
+seen_built t s v x h seen = subst AreBuilt (sym seen.shapes) (case_built seen.cases x.tag (subst IsBuilt seen.shape h))
 
 -- ---- what a step of the walk left, said of what it was asked
 

@@ -85,6 +85,7 @@ fn read_value(
             },
             Err(error) => Err(error),
         },
+        Plan::Handle(_) => unreachable!(),
         Plan::Flags(i) => read_flags(alloc, types, i, bytes, at),
         Plan::Case(info) => read_case(alloc, types, ty, &info, bytes, at),
     }

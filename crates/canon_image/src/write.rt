@@ -79,6 +79,7 @@ fn write_value(
             write_parts(types, &members, place, place.saturating_add(1), bytes)
         }
         Ok(View::Case(case)) => write_case(types, ty, value, &case, place, bytes),
+        Ok(View::Handle(..)) => unreachable!(),
         Ok(View::Flags(names)) => write_names(types, ty, names, place, bytes),
         Err(fault) => Err(told(fault)),
     }

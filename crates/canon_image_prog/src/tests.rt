@@ -53,8 +53,8 @@ fn an_input_is_answered_by_its_line(rt: HostRuntime) -> Result<(), Fail> {
     ];
     for (input, line) in rows {
         let (status, text) = answer(rt.alloc(), &[], input)?;
-        assert_eq!(rt; status, Status::DONE, "{input}");
-        assert_eq!(rt; text.as_str(), line, "{input}");
+        assert!(rt; status == Status::DONE);
+        assert!(rt; text.as_str() == line);
     }
     Ok(())
 }
@@ -79,12 +79,12 @@ fn other_inputs_and_words_have_their_status(rt: HostRuntime) -> Result<(), Fail>
     ];
     for (input, want) in rows {
         let (status, text) = answer(rt.alloc(), &[], input)?;
-        assert_eq!(rt; status, want, "{input}");
-        assert_eq!(rt; text.as_str(), "", "{input}");
+        assert!(rt; status == want);
+        assert!(rt; text.as_str() == "");
     }
     let (status, text) = answer(rt.alloc(), &["image"], PLAYER)?;
-    assert_eq!(rt; status, Status::USAGE);
-    assert_eq!(rt; text.as_str(), "");
+    assert!(rt; status == Status::USAGE);
+    assert!(rt; text.as_str() == "");
     Ok(())
 }
 
@@ -93,9 +93,9 @@ fn a_json_value_asks_and_is_told(rt: HostRuntime) -> Result<(), Fail> {
     let alloc = rt.alloc();
     let tree = Value::from_str(alloc, r#"{"types":[],"type":"u8","value":{"u8":7}}"#)?;
     let task = image_task_of_json(alloc, &tree)?;
-    assert_eq!(rt; task.ty, InterfaceType::U8);
+    assert!(rt; task.ty == InterfaceType::U8);
     assert!(rt; matches!(&task.given, Given::Value(Val::U8(7))));
     let line = image_line(alloc, &tree)?;
-    assert_eq!(rt; line.as_str(), "image 07\n");
+    assert!(rt; line.as_str() == "image 07\n");
     Ok(())
 }

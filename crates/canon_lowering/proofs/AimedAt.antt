@@ -1,5 +1,5 @@
 -- The aims of values and members, in memory and in words: what they need is kept, and how they are joined.
-use Rattle.std.proofs.Common.{Bool, List, [], ap, arith, inl, inr, length, refl, sym, true, ℕ, ◌+◌, ◌∷◌, ◌≡◌, ◌≤◌, ◌<◌, ◌^◌}
+use Rattle.std.proofs.Common.{Bool, List, [], ap, arith, inl, inr, length, refl, sym, true, ℕ, ◌++◌, ◌+◌, ◌∷◌, ◌≡◌, ◌≤◌, ◌<◌, ◌^◌}
 use Rattle.std.proofs.Math.Nat.{zero-mod}
 use Rattle.std.proofs.lemmas.Nat.Gcd.{dvd_of_mod-eq-zero}
 use Rattle.std.specs.Int.{◌∣◌}
@@ -8,6 +8,7 @@ use Rattle.canon_model.proofs.Frames.{same_range}
 use Rattle.canon_model.proofs.Layouts.{align_pos, align_to-le, members_end-le, members_end-le-size}
 use Rattle.canon_model.specs.Homes.{Homes, MembersHome, PointsTo}
 use Rattle.canon_model.specs.Layout.{align, begins, ends, flags_size, pointer_size, scalar_size, size}
+use Rattle.canon_model.specs.Leaves.{Leaf, leaves}
 use Rattle.canon_model.specs.Memory.{Block, InsideBlocks, Within, bytes_at, le_number, memory_of, num, pointer_at}
 use Rattle.canon_model.specs.Rep.{IsLeast, MembersStored, RepMemIn, ScalarIs, bits_of}
 use Rattle.canon_model.specs.Requests.{requests}
@@ -18,12 +19,16 @@ use Rattle.canon_memory.specs.Guest.{Moment, Seen, moment}
 use Rattle.canon_memory.specs.Realloc.{block}
 use Rattle.canon_lowering.specs.Steps.{Apart, Writes}
 use Rattle.canon_lowering.specs.Lowering.{Ending, done}
-use Rattle.canon_lowering.specs.Attempt.{StoresMembers, StoresValue, members_at, members_span, value_at, value_place}
+use Rattle.canon_lowering.specs.Attempt.{StoresMembers, StoresValue, handle_numbers, members_at, members_span, value_at, value_place}
 use Rattle.canon_lowering.proofs.Attempts.{IsFramed, Joins, Keeps, attempt_as, attempt_stop, attempt_then, attempt_write, keeps_same, FirstAnd, with_blocks, within_block}
 use Rattle.canon_lowering.specs.Copies.{copies}
-use Rattle.canon_lowering.proofs.Copying.{copies_ask, copies_end, copies_home, copies_stored}
+use Rattle.canon_lowering.proofs.Copying.{copies_ask, copies_end, copies_home, copies_leaves, copies_stored}
 use Rattle.canon_lowering.proofs.Kept.{homes_along, members_home_along}
 use Rattle.canon_lowering.proofs.Lowerings.{NotDone}
+
+pub handle_numbers_append : (xs ys : List Leaf) → handle_numbers (xs ++ ys) ≡ handle_numbers xs ++ handle_numbers ys
+handle_numbers_append [] ys = refl
+handle_numbers_append (x ∷ xs) ys = ap (λ hs. x.index ∷ hs) (handle_numbers_append xs ys)
 
 -- ---- what is read stays
 
@@ -85,24 +90,26 @@ module _ (wide : Bool) (enc : Encoding) (name : Name) (s : Shape) (ms : Members)
   apart i (inr h) g = h
 
   members_join : Joins (value_at wide enc s (at + begins wide o s) Has) (members_at wide enc ms (ends wide o s) at Have) (members_at wide enc (member name s ms) o at (FirstAnd Has Have)) (λ t ts. tree t ts)
-  unfolding requests
+  unfolding requests leaves
   members_join = record {
     is = λ t ts has have. (t, ts, refl, has, have);
     split = λ us (t, ts, e, has, have). (t, ts, e, has, have);
     asks = λ t ts. refl;
     rep = λ blocks bytes t ts h hs. (t, ts, refl, h, hs);
     home = λ pointer t ts xs zs ys h hs. (zs, h, hs);
+    handles = λ t ts. handle_numbers_append (leaves s t) _;
   }
 
-  pub members_cons : (a b c : Moment) (e : Ending) → StoresValue wide a b enc s (at + begins wide o s) Has done → StoresMembers wide b c enc ms (ends wide o s) at Have e → StoresMembers wide a c enc (member name s ms) o at (FirstAnd Has Have) e
+  pub members_cons : {hs ks : List ℕ} (a b c : Moment) (e : Ending) → StoresValue wide a b enc s (at + begins wide o s) Has hs done → StoresMembers wide b c enc ms (ends wide o s) at Have ks e
+      → StoresMembers wide a c enc (member name s ms) o at (FirstAnd Has Have) (hs ++ ks) e
   members_cons a b c e h r = attempt_then wide a b c first others big _ _ _ _ members_join (value_framed wide enc s _ Has) (members_framed wide enc ms _ at Have) first_in others_in apart h e r
 
-  pub members_stop : (a b : Moment) (e : Ending) → NotDone e → StoresValue wide a b enc s (at + begins wide o s) Has e → StoresMembers wide a b enc (member name s ms) o at (FirstAnd Has Have) e
+  pub members_stop : {hs ks : List ℕ} (a b : Moment) (e : Ending) → NotDone e → StoresValue wide a b enc s (at + begins wide o s) Has hs e → StoresMembers wide a b enc (member name s ms) o at (FirstAnd Has Have) ks e
   members_stop a b e not h = attempt_stop wide a b b first others big _ _ _ _ members_join (value_framed wide enc s _ Has) (members_framed wide enc ms _ at Have) first_in others_in apart e not h
 
-pub product_stored : (wide : Bool) (a c : Moment) (enc : Encoding) (k : ProductKind) (ms : Members) (at : ℕ) (Have : Trees → Type 0) (Has : Tree → Type 0) (e : Ending) → at + size wide (product k ms) ≤ length c.bytes
-    → ((ts : Trees) → Have ts → Has (parts ts)) → ((t : Tree) → Has t → Have (trees_of t)) → StoresMembers wide a c enc ms 0 at Have e → StoresValue wide a c enc (product k ms) at Has e
-unfolding requests
+pub product_stored : {hs : List ℕ} (wide : Bool) (a c : Moment) (enc : Encoding) (k : ProductKind) (ms : Members) (at : ℕ) (Have : Trees → Type 0) (Has : Tree → Type 0) (e : Ending) → at + size wide (product k ms) ≤ length c.bytes
+    → ((ts : Trees) → Have ts → Has (parts ts)) → ((t : Tree) → Has t → Have (trees_of t)) → StoresMembers wide a c enc ms 0 at Have hs e → StoresValue wide a c enc (product k ms) at Has hs e
+unfolding requests leaves
 product_stored wide a c enc k ms at Have Has e room to from h =
     let within : Within (members_span wide ms 0 at ∷ []) (value_place wide (product k ms) at ∷ []) = within_block _ _ _ _ (omega arith) (omega (arith, members_end-le-size wide k ms)) in
     attempt_as wide a c _ _ (members_at wide enc ms 0 at Have) (value_at wide enc (product k ms) at Has) e within (record {
@@ -116,11 +123,13 @@ product_stored wide a c enc k ms at Have Has e room to from h =
         (ts, refl, members_kept wide enc (members_span wide ms 0 at ∷ fresh) (value_place wide (product k ms) at ∷ fresh) c.bytes c.bytes (keeps_same _ _ _ (with_blocks _ _ fresh within)) ms 0 at ts g),
       );
       home = λ pointer ts xs ys is g. g;
+      handles = λ ts is. refl;
     }) h
 
-pub fixed_stored : (wide : Bool) (a c : Moment) (enc : Encoding) (n : ℕ) (s : Shape) (at : ℕ) (Have : Trees → Type 0) (Has : Tree → Type 0) (e : Ending) → at + size wide (fixed n s) ≤ length c.bytes
-    → ((ts : Trees) → Have ts → Has (parts ts) × (tree_count ts ≡ n)) → ((t : Tree) → Has t → Have (trees_of t)) → StoresMembers wide a c enc (copies n s) 0 at Have e → StoresValue wide a c enc (fixed n s) at Has e
-unfolding size requests
+pub fixed_stored : {hs : List ℕ} (wide : Bool) (a c : Moment) (enc : Encoding) (n : ℕ) (s : Shape) (at : ℕ) (Have : Trees → Type 0) (Has : Tree → Type 0) (e : Ending) → at + size wide (fixed n s) ≤ length c.bytes
+    → ((ts : Trees) → Have ts → Has (parts ts) × (tree_count ts ≡ n)) → ((t : Tree) → Has t → Have (trees_of t)) → StoresMembers wide a c enc (copies n s) 0 at Have hs e
+    → StoresValue wide a c enc (fixed n s) at Has hs e
+unfolding size requests leaves
 fixed_stored wide a c enc n s at Have Has e room to from h =
     let at0 : align wide s ∣ 0 = dvd_of_mod-eq-zero (align wide s) (zero-mod _) in
     let within : Within (members_span wide (copies n s) 0 at ∷ []) (value_place wide (fixed n s) at ∷ []) = within_block _ _ _ _ (omega arith) (omega (arith, copies_end wide n 0 s at0)) in
@@ -136,29 +145,30 @@ fixed_stored wide a c enc n s at Have Has e room to from h =
           (members_kept wide enc (members_span wide (copies n s) 0 at ∷ fresh) whole c.bytes c.bytes (keeps_same _ _ _ (with_blocks _ _ fresh within)) (copies n s) 0 at ts g) in
           ((room, λ i l u. inl (l, u)), record { trees = ts; is = refl; count = rows.1; each = rows.0 });
       home = λ pointer ts xs ys is g. copies_home wide enc pointer n 0 s at at ts xs ys at0 (omega arith) (to ts is).1 g;
+      handles = λ ts is. ap handle_numbers (copies_leaves n s ts (to ts is).1);
     }) h
 
 -- ---- values that ask for nothing: bytes written at their place
 
 module _ (wide : Bool) (g : Seen) (xs ys : List ℕ) (enc : Encoding) (at : ℕ) (Has : Tree → Type 0) (small : length xs ≤ 2 ^ 32) where
   pub scalar_stored : (k : Scalar) (t : Tree) → at + scalar_size k ≤ length xs → Writes (block at (scalar_size k)) xs ys → ScalarIs k (num (memory_of ys wide) at (scalar_size k)) t
-      → IsLeast k (num (memory_of ys wide) at (scalar_size k)) → Has t → StoresValue wide (moment g xs) (moment g ys) enc (scalar k) at Has done
-  unfolding size requests
+      → IsLeast k (num (memory_of ys wide) at (scalar_size k)) → Has t → StoresValue wide (moment g xs) (moment g ys) enc (scalar k) at Has [] done
+  unfolding size requests leaves
   scalar_stored k t room w is least has = attempt_write wide g xs ys (value_place wide (scalar k) at) (value_at wide enc (scalar k) at Has) t small w has (λ u h. refl)
       ((omega (arith, room, w.same_length), λ i l u. inl (l, u)), is, λ s. least) (λ rest. refl) (λ rest. refl)
 
   pub flags_stored : (names : List Name) → at + flags_size (length names) ≤ length xs → Writes (block at (flags_size (length names))) xs ys → num (memory_of ys wide) at (flags_size (length names)) < 2 ^ length names
-      → Has (bits (bits_of (length names) (num (memory_of ys wide) at (flags_size (length names))))) → StoresValue wide (moment g xs) (moment g ys) enc (flags names) at Has done
-  unfolding size requests
+      → Has (bits (bits_of (length names) (num (memory_of ys wide) at (flags_size (length names))))) → StoresValue wide (moment g xs) (moment g ys) enc (flags names) at Has [] done
+  unfolding size requests leaves
   flags_stored names room w least has = attempt_write wide g xs ys (value_place wide (flags names) at) (value_at wide enc (flags names) at Has) _ small w has (λ u h. refl)
       ((omega (arith, room, w.same_length), λ i l u. inl (l, u)), refl, λ s. least) (λ rest. refl) (λ rest. refl)
 
-  pub own_stored : (r : ℕ) → at + 4 ≤ length xs → Writes (block at 4) xs ys → Has (handle (num (memory_of ys wide) at 4)) → StoresValue wide (moment g xs) (moment g ys) enc (own r) at Has done
-  unfolding size requests
+  pub own_stored : (r : ℕ) → at + 4 ≤ length xs → Writes (block at 4) xs ys → Has (handle (num (memory_of ys wide) at 4)) → StoresValue wide (moment g xs) (moment g ys) enc (own r) at Has (num (memory_of ys wide) at 4 ∷ []) done
+  unfolding size requests leaves
   own_stored r room w has = attempt_write wide g xs ys (value_place wide (own r) at) (value_at wide enc (own r) at Has) _ small w has (λ u h. refl)
       ((omega (arith, room, w.same_length), λ i l u. inl (l, u)), refl) (λ rest. refl) (λ rest. refl)
 
-  pub borrow_stored : (r : ℕ) → at + 4 ≤ length xs → Writes (block at 4) xs ys → Has (handle (num (memory_of ys wide) at 4)) → StoresValue wide (moment g xs) (moment g ys) enc (borrow r) at Has done
-  unfolding size requests
+  pub borrow_stored : (r : ℕ) → at + 4 ≤ length xs → Writes (block at 4) xs ys → Has (handle (num (memory_of ys wide) at 4)) → StoresValue wide (moment g xs) (moment g ys) enc (borrow r) at Has (num (memory_of ys wide) at 4 ∷ []) done
+  unfolding size requests leaves
   borrow_stored r room w has = attempt_write wide g xs ys (value_place wide (borrow r) at) (value_at wide enc (borrow r) at Has) _ small w has (λ u h. refl)
       ((omega (arith, room, w.same_length), λ i l u. inl (l, u)), refl) (λ rest. refl) (λ rest. refl)

@@ -6,6 +6,7 @@ use Rattle.std.proofs.Math.Nat.{zero-mod, mod-eq_of_lt}
 use Rattle.canon_model.proofs.Layouts.{payloads_fit, tag-le, tag-le-size}
 use Rattle.canon_model.specs.Homes.{CaseHome, Homes, MembersHome, CaseFlatHome, MembersFlatHome, FlatHomes}
 use Rattle.canon_model.specs.Layout.{align, begins, members_end, payload_offset, payload_shape, size, tag_size, cases_flat, flat, members_flat}
+use Rattle.canon_model.specs.Leaves.{case_leaves, leaves, members_leaves}
 use Rattle.canon_model.specs.Memory.{Block, InsideBlocks, Memory, le_number, memory_of, tag_at, low}
 use Rattle.canon_model.specs.Rep.{CaseStored, MembersStored, Stored}
 use Rattle.canon_model.specs.Requests.{case_requests, members_requests, requests}
@@ -16,7 +17,7 @@ use Rattle.canon_memory.specs.Guest.{Moment, Seen, moment}
 use Rattle.canon_memory.specs.Realloc.{block}
 use Rattle.canon_lowering.specs.Steps.{Apart, Writes}
 use Rattle.canon_lowering.specs.Lowering.{Ending, done}
-use Rattle.canon_lowering.specs.Attempt.{Aim, Attempt, LowersValue, StoresMembers, StoresValue, members_at, members_span, value_at, value_place, value_words, LowersMembers, members_words}
+use Rattle.canon_lowering.specs.Attempt.{Aim, Attempt, LowersValue, StoresMembers, StoresValue, handle_numbers, members_at, members_span, value_at, value_place, value_words, LowersMembers, members_words}
 use Rattle.canon_lowering.specs.Copies.{case_members, case_tree, payload_trees}
 use Rattle.canon_lowering.proofs.AimedAt.{members_framed, reads_more, reads_same}
 use Rattle.canon_lowering.proofs.Attempts.{IsFramed, Joins, attempt_as, attempt_then, attempt_write, within_block}
@@ -57,6 +58,19 @@ module _ (wide : Bool) (enc : Encoding) where
   case_asks (payload name s cs) zero d t (u, e) = subst (λ v. requests wide enc s (payload_of v) ≡ members_requests wide enc (member [] s no_members) (payload_trees v)) (sym e) (sym (append-nil (requests wide enc s u)))
   case_asks (payload name s cs) (suc i) d t h = case_asks cs i d t h
 
+  payload_leaves : (cs : Cases) (i d : ℕ) (ts : Trees) → CaseIs (case_members cs i) d (case_tree d ts) → case_leaves cs i (payload_of (case_tree d ts)) ≡ members_leaves (case_members cs i) ts
+  unfolding leaves
+  payload_leaves no_cases i d ts is = refl
+  payload_leaves (bare name cs) zero d ts is = refl
+  payload_leaves (bare name cs) (suc i) d ts is = payload_leaves cs i d ts is
+  payload_leaves (payload name s cs) zero d no_trees (u, e) = absurd (no_case d u e)
+  payload_leaves (payload name s cs) zero d (tree t ts) is = sym (append-nil (leaves s t))
+  payload_leaves (payload name s cs) (suc i) d ts is = payload_leaves cs i d ts is
+
+  case_handles : (k : VariantKind) (cs : Cases) (d : ℕ) (ts : Trees) → CaseIs (case_members cs d) d (case_tree d ts) → handle_numbers (leaves (variant k cs) (case_tree d ts)) ≡ handle_numbers (members_leaves (case_members cs d) ts)
+  unfolding leaves
+  case_handles k cs d ts is = ap (λ i. handle_numbers (case_leaves cs i (payload_of (case_tree d ts)))) (number_of d ts) ∙ ap handle_numbers (payload_leaves cs d d ts is)
+
   case_home : (pointer : ℕ → ℕ → Type 0) (cs : Cases) (i d a : ℕ) (ts : Trees) (xs ys : List ℕ) → CaseIs (case_members cs i) d (case_tree d ts) → MembersHome pointer enc wide (case_members cs i) 0 a ts xs ys → CaseHome pointer enc wide cs i a (payload_of (case_tree d ts)) xs ys
   case_home pointer no_cases i d a ts xs ys is h = h
   case_home pointer (bare name cs) zero d a ts xs ys is h = h
@@ -74,6 +88,7 @@ module _ (wide : Bool) (enc : Encoding) where
     asks = λ u. [];
     Rep = λ blocks bytes u. InsideBlocks blocks (memory_of bytes wide) at (tag_size (case_count cs)) × (tag_at (memory_of bytes wide) at cs ≡ d);
     Home = λ pointer u xs ys. xs ≡ ys;
+    handles = λ u. [];
   }
 
   tag_apart : (cs : Cases) (at n : ℕ) → Apart (tag_span cs at ∷ []) (block (at + payload_offset wide cs + 0) (n - 0) ∷ [])
@@ -88,7 +103,7 @@ module _ (wide : Bool) (enc : Encoding) where
   }
 
   pub tag_written : (g : Seen) (m m2 : List ℕ) (cs : Cases) (at d : ℕ) → length m ≤ 2 ^ 32 → at + tag_size (case_count cs) ≤ length m → Writes (tag_span cs at) m m2 → tag_at (memory_of m2 wide) at cs ≡ d
-      → Attempt wide (moment g m) (moment g m2) (tag_span cs at ∷ []) (tag_aim cs at d) done
+      → Attempt wide (moment g m) (moment g m2) (tag_span cs at ∷ []) (tag_aim cs at d) [] done
   tag_written g m m2 cs at d small room w e = attempt_write wide g m m2 (tag_span cs at) (tag_aim cs at d) tt small w tt (λ u h. refl) ((omega (arith, room, w.same_length), λ i l u. inl (l, u)), e) (λ rest. refl) (λ rest. refl)
 
   case_end : (cs : Cases) (i : ℕ) → members_end wide 0 (case_members cs i) ≤ size wide (payload_shape cs i)
@@ -109,9 +124,10 @@ module _ (wide : Bool) (enc : Encoding) where
     asks = λ ts. members_requests wide enc (case_members cs d) ts;
     Rep = λ blocks bytes ts. (tag_at (memory_of bytes wide) at cs ≡ d) × MembersStored (InsideBlocks blocks (memory_of bytes wide)) true enc (memory_of bytes wide) (case_members cs d) 0 (at + payload_offset wide cs) ts;
     Home = λ pointer ts xs ys. MembersHome pointer enc wide (case_members cs d) 0 (at + payload_offset wide cs) ts xs ys;
+    handles = λ ts. handle_numbers (members_leaves (case_members cs d) ts);
   }
 
-  module _ (k : VariantKind) (cs : Cases) (at d : ℕ) (lt : d < case_count cs) (Have : Trees → Type 0) (a b c : Moment) (w : Attempt wide a b (tag_span cs at ∷ []) (tag_aim cs at d) done) where
+  module _ (k : VariantKind) (cs : Cases) (at d : ℕ) (lt : d < case_count cs) (Have : Trees → Type 0) (a b c : Moment) (w : Attempt wide a b (tag_span cs at ∷ []) (tag_aim cs at d) [] done) where
     abbrev inner : ℕ
     inner = at + payload_offset wide cs
 
@@ -122,10 +138,12 @@ module _ (wide : Bool) (enc : Encoding) where
       asks = λ u ts. refl;
       rep = λ blocks bytes u ts (r, e) h. (e, h);
       home = λ pointer u ts xs zs ys e h. subst (λ us. MembersHome pointer enc wide (case_members cs d) 0 inner ts us ys) (sym e) h;
+      handles = λ u ts. refl;
     }
 
-    pub variant_stored : (Has : Tree → Type 0) (e : Ending) → at + size wide (variant k cs) ≤ length c.bytes → ((ts : Trees) → Have ts → Has (case_tree d ts) × CaseIs (case_members cs d) d (case_tree d ts))
-        → ((t : Tree) → Has t → (case_number t ≡ d) × Have (payload_trees t) × CaseIs (case_members cs d) d t) → StoresMembers wide b c enc (case_members cs d) 0 inner Have e → StoresValue wide a c enc (variant k cs) at Has e
+    pub variant_stored : {hs : List ℕ} (Has : Tree → Type 0) (e : Ending) → at + size wide (variant k cs) ≤ length c.bytes → ((ts : Trees) → Have ts → Has (case_tree d ts) × CaseIs (case_members cs d) d (case_tree d ts))
+        → ((t : Tree) → Has t → (case_number t ≡ d) × Have (payload_trees t) × CaseIs (case_members cs d) d t) → StoresMembers wide b c enc (case_members cs d) 0 inner Have hs e
+        → StoresValue wide a c enc (variant k cs) at Has hs e
     unfolding requests
     variant_stored Has e room to from r =
         let whole : List Block = value_place wide (variant k cs) at ∷ [] in
@@ -141,6 +159,7 @@ module _ (wide : Bool) (enc : Encoding) where
                 (case_stored (InsideBlocks (whole ++ fresh) (memory_of c.bytes wide)) true enc (memory_of c.bytes wide) cs d d inner ts lt h),
           );
           home = λ pointer ts xs ys have h. subst (λ i. CaseHome pointer enc wide cs i inner (payload_of (case_tree d ts)) xs ys) (sym (number_of d ts)) (case_home pointer cs d d inner ts xs ys (to ts have).1 h);
+          handles = λ ts have. case_handles k cs d ts (to ts have).1;
         }) (attempt_then wide a b c (tag_span cs at ∷ []) (members_span wide (case_members cs d) 0 inner ∷ []) whole _ _ _ _ case_join (tag_framed cs at d) (members_framed wide enc (case_members cs d) 0 inner Have)
         (within_block _ _ _ _ (omega arith) (omega (arith, tag-le-size wide k cs))) (within_block _ _ _ _ (omega arith) (omega (arith, case_room k cs d lt)))
         (λ i q r. tag_apart cs at (members_end wide 0 (case_members cs d)) i q r) w e r)
@@ -171,9 +190,10 @@ module _ (wide : Bool) (enc : Encoding) (pointer : ℕ → ℕ → Type 0) (ws :
   case_flat_home (payload name s cs) (suc i) d j e ts xs ys lt zeros is h = case_flat_home cs i d j e ts xs ys (omega arith) zeros is h
 
 -- a tag in its word, the words of the payload, and zeros behind them
-pub variant_words : (wide : Bool) (a c : Moment) (enc : Encoding) (k : VariantKind) (cs : Cases) (ws : List ℕ) (i d : ℕ) (Have : Trees → Type 0) (Has : Tree → Type 0) (e : Ending) → d < case_count cs → slice_index ws i ≡ d → d < 2 ^ 32
-    → AreZero ws (i + 1 + members_flat (case_members cs d)) (i + 1 + cases_flat cs) → ((ts : Trees) → Have ts → Has (case_tree d ts) × CaseIs wide enc (case_members cs d) d (case_tree d ts))
-    → ((t : Tree) → Has t → (case_number t ≡ d) × Have (payload_trees t) × CaseIs wide enc (case_members cs d) d t) → LowersMembers wide a c enc (case_members cs d) ws (i + 1) Have e → LowersValue wide a c enc (variant k cs) ws i Has e
+pub variant_words : {hs : List ℕ} (wide : Bool) (a c : Moment) (enc : Encoding) (k : VariantKind) (cs : Cases) (ws : List ℕ) (i d : ℕ) (Have : Trees → Type 0) (Has : Tree → Type 0) (e : Ending) → d < case_count cs
+    → slice_index ws i ≡ d → d < 2 ^ 32 → AreZero ws (i + 1 + members_flat (case_members cs d)) (i + 1 + cases_flat cs) → ((ts : Trees) → Have ts → Has (case_tree d ts) × CaseIs wide enc (case_members cs d) d (case_tree d ts))
+    → ((t : Tree) → Has t → (case_number t ≡ d) × Have (payload_trees t) × CaseIs wide enc (case_members cs d) d t) → LowersMembers wide a c enc (case_members cs d) ws (i + 1) Have hs e
+    → LowersValue wide a c enc (variant k cs) ws i Has hs e
 unfolding requests
 variant_words wide a c enc k cs ws i d Have Has e lt first narrow zeros to from h =
     let tag : low (slice_index ws i) ≡ d = ap low first ∙ mod-eq_of_lt narrow in
@@ -193,4 +213,5 @@ variant_words wide a c enc k cs ws i d Have Has e lt first narrow zeros to from 
         subst (λ j. CaseFlatHome pointer enc wide ws cs j (i + 1) (i + 1 + cases_flat cs) (payload_of (case_tree d ts)) xs ys) (sym (number_of d ts))
             (case_flat_home wide enc pointer ws cs d d (i + 1) (i + 1 + cases_flat cs) ts xs ys lt zeros (to ts have).1 g),
       );
+      handles = λ ts have. case_handles wide enc k cs d ts (to ts have).1;
     }) h

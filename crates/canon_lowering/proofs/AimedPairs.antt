@@ -6,6 +6,7 @@ use Rattle.std.proofs.lemmas.Nat.Gcd.{dvd_of_mod-eq-zero}
 use Rattle.std.proofs.Math.Nat.{zero-mod}
 use Rattle.canon_model.specs.Homes.{EachHome, IsTextHome, Homes, MembersHome}
 use Rattle.canon_model.specs.Layout.{align, members_end, pointer_size, size}
+use Rattle.canon_model.specs.Leaves.{leaves, members_leaves}
 use Rattle.canon_model.specs.Memory.{Block, InsideBlocks, Within, le_number, length_at, memory_of, num, pointer_at}
 use Rattle.canon_model.specs.Rep.{IsList, IsText, MembersStored, Stored}
 use Rattle.canon_model.specs.Requests.{anew, members_requests, requests}
@@ -16,14 +17,14 @@ use Rattle.canon_memory.specs.Guest.{Moment, Seen, moment}
 use Rattle.canon_memory.specs.Realloc.{block}
 use Rattle.canon_lowering.specs.Steps.{Writes}
 use Rattle.canon_lowering.specs.Lowering.{Ending, Granted, Reallocated, done}
-use Rattle.canon_lowering.specs.Attempt.{items_call, Aim, Attempt, LowersValue, StoresMembers, StoresValue, members_at, members_span, value_at, value_words}
+use Rattle.canon_lowering.specs.Attempt.{items_call, Aim, Attempt, LowersValue, StoresMembers, StoresValue, handle_numbers, members_at, members_span, value_at, value_words}
 use Rattle.canon_lowering.specs.Copies.{copies, paired, pairs_of}
 use Rattle.canon_lowering.proofs.AimedAt.{members_framed, points_same, reads_more, reads_same}
 use Rattle.canon_lowering.proofs.AimedWords.{words_framed}
 use Rattle.canon_lowering.proofs.Attempts.{IsFramed, Joins, attempt_block, attempt_then, attempt_ungiven, attempt_write, within_block}
 use Rattle.canon_lowering.proofs.Lowerings.{NotDone}
-use Rattle.canon_lowering.proofs.Copying.{copies_ask, copies_end, copies_home, copies_stored}
-use Rattle.canon_lowering.proofs.Pairing.{at_start, pair_shape, paired_count, pairs_ask, pairs_end, pairs_home, pairs_stored}
+use Rattle.canon_lowering.proofs.Copying.{copies_ask, copies_end, copies_home, copies_leaves, copies_stored}
+use Rattle.canon_lowering.proofs.Pairing.{at_start, pair_shape, paired_count, pairs_ask, pairs_end, pairs_home, pairs_leaves, pairs_stored}
 use Rattle.canon_lowering.proofs.WordsKept.{pair_below, ptr_same}
 
 -- ---- the n items of a list, in the block that is asked for
@@ -33,6 +34,7 @@ pub record MakesRow (wide : Bool) (enc : Encoding) (s : Shape) (n : ℕ) (ms : M
   pub room : members_end wide 0 ms ≤ n * size wide s
   pub count : (ts : Trees) → tree_count ts ≡ all → tree_count (group ts) ≡ n
   pub asks : (ts : Trees) → tree_count ts ≡ all → list_of_each (λ t. requests wide enc s t) (group ts) ≡ members_requests wide enc ms ts
+  pub leaves_same : (ts : Trees) → tree_count ts ≡ all → list_of_each (λ t. leaves s t) (group ts) ≡ members_leaves ms ts
   pub home : (pointer : ℕ → ℕ → Type 0) (at : ℕ) (ts : Trees) (xs ys : List ℕ) → tree_count ts ≡ all → MembersHome pointer enc wide ms 0 at ts xs ys
       → EachHome (λ b t zs vs. Homes pointer enc wide s b t zs vs) (size wide s) at (group ts) xs ys
   pub stored : (readable : ℕ → ℕ → Type 0) (bytes : List ℕ) (at : ℕ) (ts : Trees) → ((b : ℕ) → at ≤ b → b + size wide s ≤ at + n * size wide s → readable b (size wide s))
@@ -46,6 +48,7 @@ copies_row wide enc s n = record {
   room = omega (arith, copies_end wide n 0 s (at_zero wide s));
   count = λ ts e. e;
   asks = copies_ask wide enc n s;
+  leaves_same = copies_leaves n s;
   home = λ pointer at ts xs ys e h. copies_home wide enc pointer n 0 s at at ts xs ys (at_zero wide s) (omega arith) e h;
   stored = λ readable bytes at ts r h. copies_stored readable true enc (memory_of bytes wide) n 0 s at at ts (at_zero wide s) (omega arith) h;
 }
@@ -55,15 +58,16 @@ pairs_row wide enc s u n = record {
   room = omega (arith, pairs_end wide s u n 0 0 (at_start wide s u));
   count = paired_count n;
   asks = pairs_ask wide enc s u n;
+  leaves_same = pairs_leaves s u n;
   home = λ pointer at ts xs ys e h. pairs_home wide enc s u pointer n 0 0 at at ts xs ys (at_start wide s u) (omega arith) e h;
   stored = λ readable bytes at ts r h. pairs_stored readable true enc (memory_of bytes wide) s u n 0 0 at at ts (at_start wide s u) (omega arith) r h;
 }
 
-pub rows_words : (wide : Bool) (a b c : Moment) (enc : Encoding) (k : ListKind) (s : Shape) (n p all : ℕ) (ms : Members) (group : Trees → Trees) (back : Tree → Trees) (row : MakesRow wide enc s n ms all group)
+pub rows_words : {hs : List ℕ} (wide : Bool) (a b c : Moment) (enc : Encoding) (k : ListKind) (s : Shape) (n p all : ℕ) (ms : Members) (group : Trees → Trees) (back : Tree → Trees) (row : MakesRow wide enc s n ms all group)
     (Have : Trees → Type 0) (Has : Tree → Type 0) (e : Ending) → length b.bytes ≤ 2 ^ 32 → (g : Granted a b (items_call wide s n) p) → (IsFalse wide → n < 2 ^ 32)
-    → ((ts : Trees) → Have ts → Has (items (group ts)) × (tree_count ts ≡ all)) → ((t : Tree) → Has t → Have (back t) × (trees_of t ≡ group (back t))) → StoresMembers wide b c enc ms 0 p Have e
-    → LowersValue wide a c enc (list k s) (p ∷ n ∷ []) 0 Has e
-unfolding requests
+    → ((ts : Trees) → Have ts → Has (items (group ts)) × (tree_count ts ≡ all)) → ((t : Tree) → Has t → Have (back t) × (trees_of t ≡ group (back t))) → StoresMembers wide b c enc ms 0 p Have hs e
+    → LowersValue wide a c enc (list k s) (p ∷ n ∷ []) 0 Has hs e
+unfolding requests leaves
 rows_words wide a b c enc k s n p all ms group back row Have Has e small g few to from r =
     let span : Within (members_span wide ms 0 p ∷ []) (block p (n * size wide s) ∷ []) = within_block _ _ _ _ (omega arith) (omega (arith, row.room)) in
     attempt_block wide a b c (items_call wide s n) p (members_span wide ms 0 p ∷ []) (members_at wide enc ms 0 p Have) (value_words wide enc (list k s) (p ∷ n ∷ []) 0 Has) e refl small g (members_framed wide enc _ 0 p Have)
@@ -95,17 +99,18 @@ rows_words wide a b c enc k s n p all ms group back row Have Has e small g few t
             λ st nar. pair_below p n g.narrow (few nar),
           );
       home = λ pointer ts xs ys is h. (xs, refl, sym (row.count ts (to ts is).1), row.home pointer p ts xs ys (to ts is).1 h);
+      handles = λ ts is. ap handle_numbers (row.leaves_same ts (to ts is).1);
     }) r
 
-pub list_words : (wide : Bool) (a b c : Moment) (enc : Encoding) (k : ListKind) (s : Shape) (n p : ℕ) (Have : Trees → Type 0) (Has : Tree → Type 0) (e : Ending) → length b.bytes ≤ 2 ^ 32 → (g : Granted a b (items_call wide s n) p)
-    → (IsFalse wide → n < 2 ^ 32) → ((ts : Trees) → Have ts → Has (items ts) × (tree_count ts ≡ n)) → ((t : Tree) → Has t → Have (trees_of t)) → StoresMembers wide b c enc (copies n s) 0 p Have e
-    → LowersValue wide a c enc (list k s) (p ∷ n ∷ []) 0 Has e
+pub list_words : {hs : List ℕ} (wide : Bool) (a b c : Moment) (enc : Encoding) (k : ListKind) (s : Shape) (n p : ℕ) (Have : Trees → Type 0) (Has : Tree → Type 0) (e : Ending) → length b.bytes ≤ 2 ^ 32
+    → (g : Granted a b (items_call wide s n) p) → (IsFalse wide → n < 2 ^ 32) → ((ts : Trees) → Have ts → Has (items ts) × (tree_count ts ≡ n)) → ((t : Tree) → Has t → Have (trees_of t)) → StoresMembers wide b c enc (copies n s) 0 p Have hs e
+    → LowersValue wide a c enc (list k s) (p ∷ n ∷ []) 0 Has hs e
 list_words wide a b c enc k s n p Have Has e small g few to from r =
     rows_words wide a b c enc k s n p n (copies n s) (λ ts. ts) (λ t. trees_of t) (copies_row wide enc s n) Have Has e small g few to (λ t is. (from t is, refl)) r
 
 -- the block isn't given
-pub list_ungiven : (wide : Bool) (a b : Moment) (enc : Encoding) (k : ListKind) (s : Shape) (n p : ℕ) (ws : List ℕ) (i : ℕ) (Has : Tree → Type 0) (e : Ending) → NotDone e → length b.bytes ≤ 2 ^ 32
-    → ((t : Tree) → Has t → tree_count (trees_of t) ≡ n) → Reallocated a b (items_call wide s n) e p → LowersValue wide a b enc (list k s) ws i Has e
+pub list_ungiven : {hs : List ℕ} (wide : Bool) (a b : Moment) (enc : Encoding) (k : ListKind) (s : Shape) (n p : ℕ) (ws : List ℕ) (i : ℕ) (Has : Tree → Type 0) (e : Ending) → NotDone e → length b.bytes ≤ 2 ^ 32
+    → ((t : Tree) → Has t → tree_count (trees_of t) ≡ n) → Reallocated a b (items_call wide s n) e p → LowersValue wide a b enc (list k s) ws i Has hs e
 unfolding requests
 list_ungiven wide a b enc k s n p ws i Has e not small count h = attempt_ungiven wide a b (items_call wide s n) p [] (value_words wide enc (list k s) ws i Has) e not small
     (λ t has. (anew (align wide s) (tree_count (trees_of t) * size wide s), _, refl, λ last. ap (λ j. items_call wide s j) (sym (count t has)))) h
@@ -118,6 +123,7 @@ pair_aim wide at p n = record {
   asks = λ u. [];
   Rep = λ blocks bytes u. InsideBlocks blocks (memory_of bytes wide) at (2 * pointer_size wide) × (pointer_at (memory_of bytes wide) at ≡ p) × (length_at (memory_of bytes wide) at ≡ n);
   Home = λ pointer u xs ys. pointer at p × (xs ≡ ys);
+  handles = λ u. [];
 }
 
 abbrev pub pair_place : Bool → ℕ → Block
@@ -133,7 +139,7 @@ pair_framed wide at p n = record {
 }
 
 pub pair_written : (wide : Bool) (g : Seen) (m m2 : List ℕ) (at p n : ℕ) → length m ≤ 2 ^ 32 → at + 2 * pointer_size wide ≤ length m → Writes (pair_place wide at) m m2 → pointer_at (memory_of m2 wide) at ≡ p → length_at (memory_of m2 wide) at ≡ n
-    → Attempt wide (moment g m) (moment g m2) (pair_place wide at ∷ []) (pair_aim wide at p n) done
+    → Attempt wide (moment g m) (moment g m2) (pair_place wide at ∷ []) (pair_aim wide at p n) [] done
 pair_written wide g m m2 at p n small room w ep en = attempt_write wide g m m2 (pair_place wide at) (pair_aim wide at p n) tt small w tt (λ u h. refl)
     ((omega (arith, room, w.same_length), λ i l u. inl (l, u)), ep, en) (λ rest. (tt, refl)) (λ rest. (ep, refl))
 
@@ -149,6 +155,7 @@ module _ (wide : Bool) (enc : Encoding) (at p n : ℕ) (Has : Tree → Type 0) (
           (ptr_same wide bytes p lp ∙ sym ep) (ptr_same wide bytes n ln ∙ sym en) h,
     );
     home = λ pointer t u xs zs ys (us, is, n, each) (q, e). (p, us, q, is, subst (λ z. EachHome (λ b v vs us. Homes pointer enc wide s b v vs us) (size wide s) p (trees_of t) us z) e each);
+    handles = λ t u. sym (append-nil _);
   }
 
   string_join : Joins (value_words wide enc string (p ∷ n ∷ []) 0 Has) (pair_aim wide at p n) (value_at wide enc string at Has) (λ t u. t)
@@ -161,15 +168,18 @@ module _ (wide : Bool) (enc : Encoding) (at p n : ℕ) (Has : Tree → Type 0) (
       subst₂ (λ q j. IsText (InsideBlocks blocks (memory_of bytes wide)) true enc (memory_of bytes wide) q j t) (ptr_same wide bytes p lp ∙ sym ep) (ptr_same wide bytes n ln ∙ sym en) h,
     );
     home = λ pointer t u xs zs ys (n, is) (q, e). (p, q, subst (λ z. IsTextHome enc t p xs z) e is);
+    handles = λ t u. sym (append-nil _);
   }
 
-  module _ (a : Moment) (g : Seen) (m m2 : List ℕ) (w : Attempt wide (moment g m) (moment g m2) (pair_place wide at ∷ []) (pair_aim wide at p n) done) where
-    pub list_stored : (k : ListKind) (s : Shape) → LowersValue wide a (moment g m) enc (list k s) (p ∷ n ∷ []) 0 Has done → StoresValue wide a (moment g m2) enc (list k s) at Has done
+  module _ (a : Moment) (g : Seen) (m m2 : List ℕ) (w : Attempt wide (moment g m) (moment g m2) (pair_place wide at ∷ []) (pair_aim wide at p n) [] done) where
+    pub list_stored : {hs : List ℕ} (k : ListKind) (s : Shape) → LowersValue wide a (moment g m) enc (list k s) (p ∷ n ∷ []) 0 Has hs done → StoresValue wide a (moment g m2) enc (list k s) at Has hs done
     unfolding size
-    list_stored k s h = attempt_then wide a (moment g m) (moment g m2) [] (pair_place wide at ∷ []) (pair_place wide at ∷ []) _ _ (value_at wide enc (list k s) at Has) _ (list_join k s) (words_framed wide enc (list k s) (p ∷ n ∷ []) 0 Has) (pair_framed wide at p n)
-        (λ i q. absurd q) (λ i q. q) (λ i q r. absurd q) h done w
+    list_stored {hs = hs} k s h = subst (λ xs. StoresValue wide a (moment g m2) enc (list k s) at Has xs done) (append-nil hs)
+        (attempt_then wide a (moment g m) (moment g m2) [] (pair_place wide at ∷ []) (pair_place wide at ∷ []) _ _ (value_at wide enc (list k s) at Has) _ (list_join k s)
+        (words_framed wide enc (list k s) (p ∷ n ∷ []) 0 Has) (pair_framed wide at p n) (λ i q. absurd q) (λ i q. q) (λ i q r. absurd q) h done w)
 
-    pub string_stored : LowersValue wide a (moment g m) enc string (p ∷ n ∷ []) 0 Has done → StoresValue wide a (moment g m2) enc string at Has done
+    pub string_stored : {hs : List ℕ} → LowersValue wide a (moment g m) enc string (p ∷ n ∷ []) 0 Has hs done → StoresValue wide a (moment g m2) enc string at Has hs done
     unfolding size
-    string_stored h = attempt_then wide a (moment g m) (moment g m2) [] (pair_place wide at ∷ []) (pair_place wide at ∷ []) _ _ (value_at wide enc string at Has) _ string_join (words_framed wide enc string (p ∷ n ∷ []) 0 Has) (pair_framed wide at p n)
-        (λ i q. absurd q) (λ i q. q) (λ i q r. absurd q) h done w
+    string_stored {hs = hs} h = subst (λ xs. StoresValue wide a (moment g m2) enc string at Has xs done) (append-nil hs)
+        (attempt_then wide a (moment g m) (moment g m2) [] (pair_place wide at ∷ []) (pair_place wide at ∷ []) _ _ (value_at wide enc string at Has) _ string_join
+        (words_framed wide enc string (p ∷ n ∷ []) 0 Has) (pair_framed wide at p n) (λ i q. absurd q) (λ i q. q) (λ i q r. absurd q) h done w)

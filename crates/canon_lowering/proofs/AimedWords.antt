@@ -1,9 +1,10 @@
 -- Values and members as words; lists and texts by a pointer and a length; a case by its tag and its payload.
-use Rattle.std.proofs.Common.{Bool, List, [], length, refl, true, ℕ, ◌%◌, ◌+◌, ◌<◌, ◌^◌, ◌≡◌, ◌≤◌}
+use Rattle.std.proofs.Common.{Bool, List, [], ap, length, refl, true, ℕ, ◌%◌, ◌++◌, ◌+◌, ◌<◌, ◌^◌, ◌∷◌, ◌≡◌, ◌≤◌}
 use Rattle.std.specs.Prelude.{slice_index}
 use Rattle.canon_model.proofs.Along.{flat_along, members_flat_along, same_words}
 use Rattle.canon_model.specs.Flat.{AreBelow, Flat, IsLeastWord, MembersFlat, SameWords, flat_bits, low_number}
 use Rattle.canon_model.specs.Layout.{flag_words, flat, members_flat}
+use Rattle.canon_model.specs.Leaves.{leaves}
 use Rattle.canon_model.specs.Memory.{Block, InsideBlocks, low, memory_of}
 use Rattle.canon_model.specs.Rep.{ScalarIs, bits_of}
 use Rattle.canon_model.specs.Requests.{requests}
@@ -12,11 +13,11 @@ use Rattle.canon_model.specs.Text.{Encoding}
 use Rattle.canon_model.specs.Tree.{Tree, Trees, bits, handle, parts, tree, tree_count, trees_of}
 use Rattle.canon_memory.specs.Guest.{Moment}
 use Rattle.canon_lowering.specs.Lowering.{Ending, done}
-use Rattle.canon_lowering.specs.Attempt.{LowersMembers, LowersValue, members_words, value_words}
+use Rattle.canon_lowering.specs.Attempt.{LowersMembers, LowersValue, handle_numbers, members_words, value_words}
 use Rattle.canon_lowering.specs.Copies.{copies}
-use Rattle.canon_lowering.proofs.AimedAt.{reads_more, reads_same}
+use Rattle.canon_lowering.proofs.AimedAt.{handle_numbers_append, reads_more, reads_same}
 use Rattle.canon_lowering.proofs.Attempts.{IsFramed, Joins, Keeps, attempt_as, attempt_none, attempt_other, attempt_stop, attempt_then, keeps_same, FirstAnd}
-use Rattle.canon_lowering.proofs.Copying.{copies_ask, copies_flat_home, copies_in_words}
+use Rattle.canon_lowering.proofs.Copying.{copies_ask, copies_flat_home, copies_in_words, copies_leaves}
 use Rattle.canon_lowering.proofs.Lowerings.{NotDone}
 use Rattle.canon_lowering.proofs.WordsKept.{Fits, flat_homes_kept, flat_homes_moved, members_flat_homes_kept}
 
@@ -43,8 +44,8 @@ members_words_framed wide enc ms ws i Have = record {
 }
 
 -- the same words elsewhere
-pub words_moved : (wide : Bool) (a b : Moment) (enc : Encoding) (s : Shape) (ws vs : List ℕ) (i j : ℕ) (Has : Tree → Type 0) (e : Ending) → ((t : Tree) → Has t → Fits s t) → SameWords ws i vs j (flat s)
-    → LowersValue wide a b enc s ws i Has e → LowersValue wide a b enc s vs j Has e
+pub words_moved : {hs : List ℕ} (wide : Bool) (a b : Moment) (enc : Encoding) (s : Shape) (ws vs : List ℕ) (i j : ℕ) (Has : Tree → Type 0) (e : Ending) → ((t : Tree) → Has t → Fits s t) → SameWords ws i vs j (flat s)
+    → LowersValue wide a b enc s ws i Has hs e → LowersValue wide a b enc s vs j Has hs e
 words_moved wide a b enc s ws vs i j Has e fits same h = attempt_as wide a b [] [] _ (value_words wide enc s vs j Has) e (λ k q. q) (record {
   turn = λ t. t;
   back = λ t. t;
@@ -53,53 +54,55 @@ words_moved wide a b enc s ws vs i j Has e fits same h = attempt_as wide a b [] 
   asks = λ t has. refl;
   rep = λ fresh t has g. flat_kept wide enc fresh fresh b.bytes b.bytes (keeps_same _ _ _ (λ k q. q)) ws vs s i j t same g;
   home = λ pointer t xs ys has g. flat_homes_moved wide pointer enc ws vs s i j t xs ys (fits t has) same g;
+  handles = λ t has. refl;
 }) h
 
 -- ---- values that ask for nothing
 
 module _ (wide : Bool) (a : Moment) (enc : Encoding) (ws : List ℕ) (i : ℕ) (Has : Tree → Type 0) (small : length a.bytes ≤ 2 ^ 32) where
-  pub scalar_words : (k : Scalar) (t : Tree) → ScalarIs k (slice_index ws i % 2 ^ flat_bits k) t → IsLeastWord k (slice_index ws i) → Has t → LowersValue wide a a enc (scalar k) ws i Has done
-  unfolding requests
+  pub scalar_words : (k : Scalar) (t : Tree) → ScalarIs k (slice_index ws i % 2 ^ flat_bits k) t → IsLeastWord k (slice_index ws i) → Has t → LowersValue wide a a enc (scalar k) ws i Has [] done
+  unfolding requests leaves
   scalar_words k t is least has = attempt_none wide a [] (value_words wide enc (scalar k) ws i Has) t small has (λ u h. refl) (is, λ s. least) (λ pointer rest. ((is, least), refl))
 
-  pub own_words : (r : ℕ) → slice_index ws i < 2 ^ 32 → Has (handle (low (slice_index ws i))) → LowersValue wide a a enc (own r) ws i Has done
-  unfolding requests
+  pub own_words : (r : ℕ) → slice_index ws i < 2 ^ 32 → Has (handle (low (slice_index ws i))) → LowersValue wide a a enc (own r) ws i Has (low (slice_index ws i) ∷ []) done
+  unfolding requests leaves
   own_words r lt has = attempt_none wide a [] (value_words wide enc (own r) ws i Has) _ small has (λ u h. refl) (refl, λ s. lt) (λ pointer rest. ((refl, lt), refl))
 
-  pub borrow_words : (r : ℕ) → slice_index ws i < 2 ^ 32 → Has (handle (low (slice_index ws i))) → LowersValue wide a a enc (borrow r) ws i Has done
-  unfolding requests
+  pub borrow_words : (r : ℕ) → slice_index ws i < 2 ^ 32 → Has (handle (low (slice_index ws i))) → LowersValue wide a a enc (borrow r) ws i Has (low (slice_index ws i) ∷ []) done
+  unfolding requests leaves
   borrow_words r lt has = attempt_none wide a [] (value_words wide enc (borrow r) ws i Has) _ small has (λ u h. refl) (refl, λ s. lt) (λ pointer rest. ((refl, lt), refl))
 
   pub flags_words : (names : List Name) → AreBelow (2 ^ 32) ws i (i + flag_words (length names)) → low_number ws i (flag_words (length names)) < 2 ^ length names
-      → Has (bits (bits_of (length names) (low_number ws i (flag_words (length names))))) → LowersValue wide a a enc (flags names) ws i Has done
-  unfolding requests
+      → Has (bits (bits_of (length names) (low_number ws i (flag_words (length names))))) → LowersValue wide a a enc (flags names) ws i Has [] done
+  unfolding requests leaves
   flags_words names below least has = attempt_none wide a [] (value_words wide enc (flags names) ws i Has) _ small has (λ u h. refl) (refl, λ s. (below, least)) (λ pointer rest. ((refl, below, least), refl))
 
 -- ---- members in words
 
 module _ (wide : Bool) (enc : Encoding) (name : Name) (s : Shape) (ms : Members) (i : ℕ) (Has : Tree → Type 0) (Have : Trees → Type 0) (vs : List ℕ) where
   words_join : Joins (value_words wide enc s vs i Has) (members_words wide enc ms vs (i + flat s) Have) (members_words wide enc (member name s ms) vs i (FirstAnd Has Have)) (λ t ts. tree t ts)
-  unfolding requests
+  unfolding requests leaves
   words_join = record {
     is = λ t ts has have. (t, ts, refl, has, have);
     split = λ us (t, ts, e, has, have). (t, ts, e, has, have);
     asks = λ t ts. refl;
     rep = λ blocks bytes t ts h hs. (t, ts, refl, h, hs);
     home = λ pointer t ts xs zs ys h hs. (zs, h, hs);
+    handles = λ t ts. handle_numbers_append (leaves s t) _;
   }
 
-  pub members_words_cons : (a b c : Moment) (ws : List ℕ) (e : Ending) → ((t : Tree) → Has t → Fits s t) → SameWords ws i vs i (flat s) → LowersValue wide a b enc s ws i Has done → LowersMembers wide b c enc ms vs (i + flat s) Have e
-      → LowersMembers wide a c enc (member name s ms) vs i (FirstAnd Has Have) e
+  pub members_words_cons : {hs ks : List ℕ} (a b c : Moment) (ws : List ℕ) (e : Ending) → ((t : Tree) → Has t → Fits s t) → SameWords ws i vs i (flat s) → LowersValue wide a b enc s ws i Has hs done
+      → LowersMembers wide b c enc ms vs (i + flat s) Have ks e → LowersMembers wide a c enc (member name s ms) vs i (FirstAnd Has Have) (hs ++ ks) e
   members_words_cons a b c ws e fits same h r = attempt_then wide a b c [] [] [] _ _ _ _ words_join (words_framed wide enc s vs i Has) (members_words_framed wide enc ms vs _ Have) (λ k q. q) (λ k q. q) (λ k q r. q)
       (words_moved wide a b enc s ws vs i i Has done fits same h) e r
 
-  pub members_words_stop : (a b : Moment) (ws : List ℕ) (e : Ending) → NotDone e → LowersValue wide a b enc s ws i Has e → LowersMembers wide a b enc (member name s ms) vs i (FirstAnd Has Have) e
-  members_words_stop a b ws e not h = attempt_stop wide a b b [] [] [] _ _ _ _ words_join (words_framed wide enc s vs i Has) (members_words_framed wide enc ms vs _ Have) (λ k q. q) (λ k q. q) (λ k q r. q) e not
-      (attempt_other wide a b [] _ (value_words wide enc s vs i Has) e not (λ t has. (has, refl)) h)
+  pub members_words_stop : {hs ks : List ℕ} (a b : Moment) (ws : List ℕ) (e : Ending) → NotDone e → LowersValue wide a b enc s ws i Has hs e → LowersMembers wide a b enc (member name s ms) vs i (FirstAnd Has Have) ks e
+  members_words_stop {hs = hs} a b ws e not h = attempt_stop wide a b b [] [] [] _ _ _ _ words_join (words_framed wide enc s vs i Has) (members_words_framed wide enc ms vs _ Have) (λ k q. q) (λ k q. q) (λ k q r. q) e not
+      (attempt_other {ks = hs} wide a b [] _ (value_words wide enc s vs i Has) e not (λ t has. (has, refl)) h)
 
-pub product_words : (wide : Bool) (a c : Moment) (enc : Encoding) (k : ProductKind) (ms : Members) (ws : List ℕ) (i : ℕ) (Have : Trees → Type 0) (Has : Tree → Type 0) (e : Ending)
-    → ((ts : Trees) → Have ts → Has (parts ts)) → ((t : Tree) → Has t → Have (trees_of t)) → LowersMembers wide a c enc ms ws i Have e → LowersValue wide a c enc (product k ms) ws i Has e
-unfolding requests
+pub product_words : {hs : List ℕ} (wide : Bool) (a c : Moment) (enc : Encoding) (k : ProductKind) (ms : Members) (ws : List ℕ) (i : ℕ) (Have : Trees → Type 0) (Has : Tree → Type 0) (e : Ending)
+    → ((ts : Trees) → Have ts → Has (parts ts)) → ((t : Tree) → Has t → Have (trees_of t)) → LowersMembers wide a c enc ms ws i Have hs e → LowersValue wide a c enc (product k ms) ws i Has hs e
+unfolding requests leaves
 product_words wide a c enc k ms ws i Have Has e to from h = attempt_as wide a c [] [] _ (value_words wide enc (product k ms) ws i Has) e (λ k q. q) (record {
   turn = λ ts. parts ts;
   back = λ t. trees_of t;
@@ -108,11 +111,13 @@ product_words wide a c enc k ms ws i Have Has e to from h = attempt_as wide a c 
   asks = λ t is. refl;
   rep = λ fresh ts is g. (ts, refl, g);
   home = λ pointer ts xs ys is g. g;
+  handles = λ ts is. refl;
 }) h
 
-pub fixed_words : (wide : Bool) (a c : Moment) (enc : Encoding) (n : ℕ) (s : Shape) (ws : List ℕ) (i : ℕ) (Have : Trees → Type 0) (Has : Tree → Type 0) (e : Ending)
-    → ((ts : Trees) → Have ts → Has (parts ts) × (tree_count ts ≡ n)) → ((t : Tree) → Has t → Have (trees_of t)) → LowersMembers wide a c enc (copies n s) ws i Have e → LowersValue wide a c enc (fixed n s) ws i Has e
-unfolding requests
+pub fixed_words : {hs : List ℕ} (wide : Bool) (a c : Moment) (enc : Encoding) (n : ℕ) (s : Shape) (ws : List ℕ) (i : ℕ) (Have : Trees → Type 0) (Has : Tree → Type 0) (e : Ending)
+    → ((ts : Trees) → Have ts → Has (parts ts) × (tree_count ts ≡ n)) → ((t : Tree) → Has t → Have (trees_of t)) → LowersMembers wide a c enc (copies n s) ws i Have hs e
+    → LowersValue wide a c enc (fixed n s) ws i Has hs e
+unfolding requests leaves
 fixed_words wide a c enc n s ws i Have Has e to from h = attempt_as wide a c [] [] _ (value_words wide enc (fixed n s) ws i Has) e (λ k q. q) (record {
   turn = λ ts. parts ts;
   back = λ t. trees_of t;
@@ -121,4 +126,5 @@ fixed_words wide a c enc n s ws i Have Has e to from h = attempt_as wide a c [] 
   asks = λ t is. copies_ask wide enc n s (trees_of t) (to (trees_of t) (from t is)).1;
   rep = λ fresh ts is g. let rows = copies_in_words (InsideBlocks fresh (memory_of c.bytes wide)) true enc (memory_of c.bytes wide) ws n s i ts g in record { trees = ts; is = refl; count = rows.1; each = rows.0 };
   home = λ pointer ts xs ys is g. copies_flat_home wide enc pointer ws n s i ts xs ys (to ts is).1 g;
+  handles = λ ts is. ap handle_numbers (copies_leaves n s ts (to ts is).1);
 }) h

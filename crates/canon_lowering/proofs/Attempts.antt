@@ -1,6 +1,6 @@
 -- Attempts, one after another.
 use Rattle.canon_model.specs.Tree.{Tree, Trees, tree}
-use Rattle.std.proofs.Common.{Bool, List, None, [], ap, arith, inl, inr, length, refl, subst, sym, ℕ, ⊎_elim, ◌++◌, ◌<◌, ◌^◌, ◌∙◌, ◌∷◌, ◌≡◌, ◌≤◌, ◌+◌}
+use Rattle.std.proofs.Common.{Bool, List, None, [], ap, ap₂, arith, inl, inr, length, refl, subst, sym, ℕ, ⊎_elim, ◌++◌, ◌<◌, ◌^◌, ◌∙◌, ◌∷◌, ◌≡◌, ◌≤◌, ◌+◌}
 use Rattle.std.specs.Prelude.{slice_index}
 use Rattle.canon_model.proofs.Blocks.{in_either, in_left, in_right}
 use Rattle.canon_model.specs.Homes.{PointsTo}
@@ -65,12 +65,13 @@ pub record Joins {X Y Z : Type 0} (first : Aim X) (second : Aim Y) (whole : Aim 
   pub asks : (x : X) (y : Y) → whole.asks (join x y) ≡ first.asks x ++ second.asks y
   pub rep : (blocks : List Block) (bytes : List ℕ) (x : X) (y : Y) → first.Rep blocks bytes x → second.Rep blocks bytes y → whole.Rep blocks bytes (join x y)
   pub home : (pointer : ℕ → ℕ → Type 0) (x : X) (y : Y) (xs zs ys : List ℕ) → first.Home pointer x xs zs → second.Home pointer y zs ys → whole.Home pointer (join x y) xs ys
+  pub handles : (x : X) (y : Y) → whole.handles (join x y) ≡ first.handles x ++ second.handles y
 
 module _ {X Y Z : Type 0} (wide : Bool) (a b c : Moment) (p q big : List Block) (first : Aim X) (second : Aim Y) (whole : Aim Z) (join : X → Y → Z) (joins : Joins first second whole join)
     (f1 : IsFramed wide first) (f2 : IsFramed wide second) (inside : Within p big) (inside2 : Within q big) (apart : Apart p q) where
-  module _ (h : Attempt wide a b p first done) where
+  module _ {hs : List ℕ} (h : Attempt wide a b p first hs done) where
     -- what the first showed is kept by the second
-    first_kept : (r : Attempt wide b c q second done) → AllLawful (h.answers ++ r.answers) → AreHeld a (h.answers ++ r.answers) big → Keeps (p ++ h.fresh) (big ++ (r.fresh ++ h.fresh)) b.bytes c.bytes
+    first_kept : {ks : List ℕ} (r : Attempt wide b c q second ks done) → AllLawful (h.answers ++ r.answers) → AreHeld a (h.answers ++ r.answers) big → Keeps (p ++ h.fresh) (big ++ (r.fresh ++ h.fresh)) b.bytes c.bytes
     first_kept r all held =
         let step = h.lowering.lawful tt (lawful_first h.answers r.answers all) in
         let step2 = r.lowering.lawful tt (lawful_second h.answers r.answers all) in
@@ -89,7 +90,7 @@ module _ {X Y Z : Type 0} (wide : Bool) (a b c : Moment) (p q big : List Block) 
           wider = λ i k. ⊎_elim (λ at. in_left big (r.fresh ++ h.fresh) i (inside i at)) (λ new. in_right big (r.fresh ++ h.fresh) i (in_right r.fresh h.fresh i new)) (in_either p h.fresh i k);
         }
 
-    both_shown : (r : Attempt wide b c q second done) → Shown wide a c big whole (h.answers ++ r.answers) (r.fresh ++ h.fresh)
+    both_shown : {ks : List ℕ} (r : Attempt wide b c q second ks done) → Shown wide a c big whole (h.answers ++ r.answers) (r.fresh ++ h.fresh) (hs ++ ks)
     both_shown r =
         let held1 : AreHeld a (h.answers ++ r.answers) big → AreHeld a h.answers p = λ held. held_before a h.answers r.answers big p inside held in
         let held2 : AllLawful (h.answers ++ r.answers) → AreHeld a (h.answers ++ r.answers) big → AreHeld b r.answers q =
@@ -99,6 +100,7 @@ module _ {X Y Z : Type 0} (wide : Bool) (a b c : Moment) (p q big : List Block) 
         record {
           it = join h.shown.it r.shown.it;
           is = joins.is _ _ h.shown.is r.shown.is;
+          handles = joins.handles _ _ ∙ ap₂ (λ xs ys. xs ++ ys) h.shown.handles r.shown.handles;
           rep = λ all held. joins.rep _ _ _ _ (f1.rep _ _ _ _ (first_kept r all held) _ (h.shown.rep (lawful_first h.answers r.answers all) (held1 held)))
               (f2.rep _ _ _ _ more _ (r.shown.rep (lawful_second h.answers r.answers all) (held2 all held)));
           homes = λ rest. joins.home _ _ _ _ (addresses_of r.answers ++ rest) _ (subst (λ ps. first.Home AnyPointer h.shown.it ps (addresses_of r.answers ++ rest)) (sym (addresses_append h.answers r.answers rest)) (h.shown.homes _)) (r.shown.homes rest);
@@ -108,7 +110,7 @@ module _ {X Y Z : Type 0} (wide : Bool) (a b c : Moment) (p q big : List Block) 
               (r.shown.memory_homes (lawful_second h.answers r.answers all) (held2 all held) rest);
         }
 
-    rest_shown : (e : Ending) (r : Attempt wide b c q second e) → WhenDone e (Shown wide a c big whole (h.answers ++ r.answers) (r.fresh ++ h.fresh))
+    rest_shown : {ks : List ℕ} (e : Ending) (r : Attempt wide b c q second ks e) → WhenDone e (Shown wide a c big whole (h.answers ++ r.answers) (r.fresh ++ h.fresh) (hs ++ ks))
     rest_shown done r = both_shown r
     rest_shown refused r = tt
     rest_shown (misaligned n) r = tt
@@ -116,7 +118,7 @@ module _ {X Y Z : Type 0} (wide : Bool) (a b c : Moment) (p q big : List Block) 
     rest_shown trapped r = tt
     rest_shown short r = tt
 
-    pub attempt_then : (e : Ending) → Attempt wide b c q second e → Attempt wide a c big whole e
+    pub attempt_then : {ks : List ℕ} (e : Ending) → Attempt wide b c q second ks e → Attempt wide a c big whole (hs ++ ks) e
     attempt_then e r = record {
       answers = h.answers ++ r.answers;
       trap = r.trap;
@@ -129,7 +131,7 @@ module _ {X Y Z : Type 0} (wide : Bool) (a b c : Moment) (p q big : List Block) 
     }
 
   -- the first ends it
-  pub attempt_stop : (e : Ending) → NotDone e → Attempt wide a b p first e → Attempt wide a b big whole e
+  pub attempt_stop : {hs ks : List ℕ} (e : Ending) → NotDone e → Attempt wide a b p first hs e → Attempt wide a b big whole ks e
   attempt_stop e not h = record {
     answers = h.answers;
     trap = h.trap;
@@ -144,17 +146,24 @@ module _ {X Y Z : Type 0} (wide : Bool) (a b c : Moment) (p q big : List Block) 
 
 -- nothing asked for or written, and perhaps a fault of the value itself
 pub attempt_none : {X : Type 0} (wide : Bool) (a : Moment) (places : List Block) (aim : Aim X) (x : X) → length a.bytes ≤ 2 ^ 32 → aim.Is x → ((y : X) → aim.Is y → aim.asks y ≡ []) → aim.Rep (places ++ []) a.bytes x
-    → ((pointer : ℕ → ℕ → Type 0) (rest : List ℕ) → aim.Home pointer x rest rest) → Attempt wide a a places aim done
+    → ((pointer : ℕ → ℕ → Type 0) (rest : List ℕ) → aim.Home pointer x rest rest) → Attempt wide a a places aim (aim.handles x) done
 attempt_none wide a places aim x small is none rep home = record {
   answers = [];
   trap = None;
   fresh = [];
   lowering = lowering_none a places small;
   requested = λ y h. subst (λ rs. Requested rs done [] None) (sym (none y h)) requested_none;
-  shown = record { it = x; is = is; rep = λ all held. rep; homes = λ rest. home AnyPointer rest; memory_homes = λ all held rest. home (PointsTo (memory_of a.bytes wide)) rest };
+  shown = record {
+    it = x;
+    is = is;
+    handles = refl;
+    rep = λ all held. rep;
+    homes = λ rest. home AnyPointer rest;
+    memory_homes = λ all held rest. home (PointsTo (memory_of a.bytes wide)) rest;
+  };
 }
 
-pub attempt_refused : {X : Type 0} (wide : Bool) (a : Moment) (places : List Block) (aim : Aim X) → length a.bytes ≤ 2 ^ 32 → Attempt wide a a places aim refused
+pub attempt_refused : {X : Type 0} {hs : List ℕ} (wide : Bool) (a : Moment) (places : List Block) (aim : Aim X) → length a.bytes ≤ 2 ^ 32 → Attempt wide a a places aim hs refused
 attempt_refused wide a places aim small = record { answers = []; trap = None; fresh = []; lowering = lowering_refused a places small; requested = λ x is. requested_later _ refused tt; shown = tt }
 
 -- the same said of another x, at wider places
@@ -166,18 +175,20 @@ pub record Turns {X Y : Type 0} (wide : Bool) (part whole : List Block) (aim : A
   pub asks : (y : Y) → other.Is y → other.asks y ≡ aim.asks (back y)
   pub rep : (fresh : List Block) (x : X) → aim.Is x → aim.Rep (part ++ fresh) after.bytes x → other.Rep (whole ++ fresh) after.bytes (turn x)
   pub home : (pointer : ℕ → ℕ → Type 0) (x : X) (xs ys : List ℕ) → aim.Is x → aim.Home pointer x xs ys → other.Home pointer (turn x) xs ys
+  pub handles : (x : X) → aim.Is x → other.handles (turn x) ≡ aim.handles x
 
-pub attempt_as : {X Y : Type 0} (wide : Bool) (a b : Moment) (part whole : List Block) (aim : Aim X) (other : Aim Y) (e : Ending) → Within part whole → Turns wide part whole aim other b
-    → Attempt wide a b part aim e → Attempt wide a b whole other e
-attempt_as wide a b part whole aim other e w t h = record {
+pub attempt_as : {X Y : Type 0} {hs : List ℕ} (wide : Bool) (a b : Moment) (part whole : List Block) (aim : Aim X) (other : Aim Y) (e : Ending) → Within part whole → Turns wide part whole aim other b
+    → Attempt wide a b part aim hs e → Attempt wide a b whole other hs e
+attempt_as {hs = hs} wide a b part whole aim other e w t h = record {
   answers = h.answers;
   trap = h.trap;
   fresh = h.fresh;
   lowering = lowering_within a b part whole e _ _ _ w h.lowering;
   requested = λ y is. subst (λ rs. Requested rs e h.answers h.trap) (sym (t.asks y is)) (h.requested (t.back y) (t.is_back y is));
-  shown = when e (Shown wide a b part aim h.answers h.fresh) (Shown wide a b whole other h.answers h.fresh) (λ k. record {
+  shown = when e (Shown wide a b part aim h.answers h.fresh hs) (Shown wide a b whole other h.answers h.fresh hs) (λ k. record {
     it = t.turn k.it;
     is = t.is k.it k.is;
+    handles = t.handles k.it k.is ∙ k.handles;
     rep = λ all held. t.rep h.fresh k.it k.is (k.rep all (held_within a h.answers whole part w held));
     homes = λ rest. t.home AnyPointer k.it _ _ k.is (k.homes rest);
     memory_homes = λ all held rest. t.home (PointsTo (memory_of b.bytes wide)) k.it _ _ k.is (k.memory_homes all (held_within a h.answers whole part w held) rest);
@@ -185,8 +196,8 @@ attempt_as wide a b part whole aim other e w t h = record {
 }
 
 -- where it wasn't done, it says as little of another aim
-pub attempt_other : {X : Type 0} (wide : Bool) (a b : Moment) (places : List Block) (aim other : Aim X) (e : Ending) → NotDone e → ((x : X) → other.Is x → aim.Is x × (other.asks x ≡ aim.asks x))
-    → Attempt wide a b places aim e → Attempt wide a b places other e
+pub attempt_other : {X : Type 0} {hs ks : List ℕ} (wide : Bool) (a b : Moment) (places : List Block) (aim other : Aim X) (e : Ending) → NotDone e → ((x : X) → other.Is x → aim.Is x × (other.asks x ≡ aim.asks x))
+    → Attempt wide a b places aim hs e → Attempt wide a b places other ks e
 attempt_other wide a b places aim other e not same h = record {
   answers = h.answers;
   trap = h.trap;
@@ -197,10 +208,10 @@ attempt_other wide a b places aim other e not same h = record {
 }
 
 -- with the same answers
-pub other_asked : {X : Type 0} (wide : Bool) (a b : Moment) (places : List Block) (aim other : Aim X) (e : Ending) (not : NotDone e) (same : (x : X) → other.Is x → aim.Is x × (other.asks x ≡ aim.asks x))
-    (h : Attempt wide a b places aim e) → let r = attempt_other wide a b places aim other e not same h in (r.answers ≡ h.answers) × (r.trap ≡ h.trap)
+pub other_asked : {X : Type 0} {hs : List ℕ} (wide : Bool) (a b : Moment) (places : List Block) (aim other : Aim X) (ks : List ℕ) (e : Ending) (not : NotDone e) (same : (x : X) → other.Is x → aim.Is x × (other.asks x ≡ aim.asks x))
+    (h : Attempt wide a b places aim hs e) → let r = attempt_other {ks = ks} wide a b places aim other e not same h in (r.answers ≡ h.answers) × (r.trap ≡ h.trap)
 unfolding attempt_other
-other_asked wide a b places aim other e not same h = (refl, refl)
+other_asked wide a b places aim other ks e not same h = (refl, refl)
 
 -- ---- a block that is asked for, and what is put into it
 
@@ -213,6 +224,7 @@ pub record Points {X Y : Type 0} (area : Block) (c : Call) (p : ℕ) (inner : Ai
   pub asks : (y : Y) → whole.Is y → (r : Request) × (whole.asks y ≡ r ∷ inner.asks (back y)) × ((last : ℕ) → c ≡ call_of last r)
   pub rep : (blocks : List Block) (x : X) → inner.Is x → Within (area ∷ []) blocks → inner.Rep blocks after.bytes x → whole.Rep blocks after.bytes (turn x)
   pub home : (pointer : ℕ → ℕ → Type 0) (x : X) (xs ys : List ℕ) → inner.Is x → inner.Home pointer x xs ys → whole.Home pointer (turn x) (p ∷ xs) ys
+  pub handles : (x : X) → inner.Is x → whole.handles (turn x) ≡ inner.handles x
 
 module _ {X Y : Type 0} (wide : Bool) (a b d : Moment) (c : Call) (p : ℕ) (places : List Block) (inner : Aim X) (whole : Aim Y) (e : Ending) (anew : c.old_size ≡ 0) (small : length b.bytes ≤ 2 ^ 32) (g : Granted a b c p)
     (f : IsFramed wide inner) (inside : Within places (new_block c p ∷ [])) (t : Points (new_block c p) c p inner whole d) where
@@ -225,8 +237,8 @@ module _ {X Y : Type 0} (wide : Bool) (a b d : Moment) (c : Call) (p : ℕ) (pla
   asked : Lowering a b [] done (x ∷ []) None (area ∷ [])
   asked = lowering_anew a b c p anew small g
 
-  pub attempt_block : Attempt wide b d places inner e → Attempt wide a d [] whole e
-  attempt_block r =
+  pub attempt_block : {hs : List ℕ} → Attempt wide b d places inner hs e → Attempt wide a d [] whole hs e
+  attempt_block {hs = hs} r =
       let fresh : List Block = r.fresh ++ area ∷ [] in
       let held : AllLawful (x ∷ r.answers) → AreHeld b r.answers places = λ all. inl (λ i h. (asked.lawful tt (all.0, tt)).fresh_live i (inside i h)) in
       let more : Keeps (places ++ r.fresh) fresh d.bytes d.bytes = keeps_same _ _ _ (λ i h. ⊎_elim (λ q. in_right r.fresh (area ∷ []) i (inside i q)) (λ q. in_left r.fresh (area ∷ []) i q) (in_either places r.fresh i h)) in
@@ -238,9 +250,10 @@ module _ {X Y : Type 0} (wide : Bool) (a b d : Moment) (c : Call) (p : ℕ) (pla
             (lowering_within a d places (area ∷ []) e _ _ _ inside (lowering_then a b d [] places e (x ∷ []) r.answers None r.trap (area ∷ []) r.fresh asked r.lowering));
         requested = λ y is. let (q, same, call) = t.asks y is in
             subst (λ rs. Requested rs e (x ∷ r.answers) r.trap) (sym same) (requested_cons q (inner.asks (t.back y)) c p g.mark e r.answers r.trap call (r.requested (t.back y) (t.is_back y is)));
-        shown = when e (Shown wide b d places inner r.answers r.fresh) (Shown wide a d [] whole (x ∷ r.answers) fresh) (λ k. record {
+        shown = when e (Shown wide b d places inner r.answers r.fresh hs) (Shown wide a d [] whole (x ∷ r.answers) fresh hs) (λ k. record {
           it = t.turn k.it;
           is = t.is k.it k.is;
+          handles = t.handles k.it k.is ∙ k.handles;
           rep = λ all h. t.rep fresh k.it k.is (in_right r.fresh (area ∷ [])) (f.rep _ _ _ _ more k.it (k.rep all.1 (held all)));
           homes = λ rest. t.home AnyPointer k.it _ _ k.is (k.homes rest);
           memory_homes = λ all h rest. t.home (PointsTo (memory_of d.bytes wide)) k.it _ _ k.is (k.memory_homes all.1 (held all) rest);
@@ -248,18 +261,18 @@ module _ {X Y : Type 0} (wide : Bool) (a b d : Moment) (c : Call) (p : ℕ) (pla
       }
 
   -- the block is asked for first
-  pub block_first : (r : Attempt wide b d places inner e) → let h = attempt_block r in BeginsWith c e h.answers h.trap
+  pub block_first : {hs : List ℕ} (r : Attempt wide b d places inner hs e) → let h = attempt_block r in BeginsWith c e h.answers h.trap
   unfolding attempt_block
   block_first r = refl
 
   -- and alone, where filling it asks for nothing
-  pub block_only : (r : Attempt wide b d places inner e) → r.answers ≡ [] → r.trap ≡ None → let h = attempt_block r in AtMostOne h.answers h.trap
+  pub block_only : {hs : List ℕ} (r : Attempt wide b d places inner hs e) → r.answers ≡ [] → r.trap ≡ None → let h = attempt_block r in AtMostOne h.answers h.trap
   unfolding attempt_block
   block_only r none calm = (none, calm)
 
 -- the block isn't given
-pub attempt_ungiven : {Y : Type 0} (wide : Bool) (a b : Moment) (c : Call) (p : ℕ) (places : List Block) (whole : Aim Y) (e : Ending) → NotDone e → length b.bytes ≤ 2 ^ 32
-    → ((y : Y) → whole.Is y → (r : Request) × (rs : List Request) × (whole.asks y ≡ r ∷ rs) × ((last : ℕ) → c ≡ call_of last r)) → Reallocated a b c e p → Attempt wide a b places whole e
+pub attempt_ungiven : {Y : Type 0} {hs : List ℕ} (wide : Bool) (a b : Moment) (c : Call) (p : ℕ) (places : List Block) (whole : Aim Y) (e : Ending) → NotDone e → length b.bytes ≤ 2 ^ 32
+    → ((y : Y) → whole.Is y → (r : Request) × (rs : List Request) × (whole.asks y ≡ r ∷ rs) × ((last : ℕ) → c ≡ call_of last r)) → Reallocated a b c e p → Attempt wide a b places whole hs e
 attempt_ungiven wide a b c p places whole e not small asks h =
     let r = stopped a b c e p not small h in
     record {
@@ -272,22 +285,22 @@ attempt_ungiven wide a b c p places whole e not small asks h =
     }
 
 -- it alone is asked for
-pub ungiven_asked : {Y : Type 0} (wide : Bool) (a b : Moment) (c : Call) (p : ℕ) (places : List Block) (whole : Aim Y) (e : Ending) (not : NotDone e) (small : length b.bytes ≤ 2 ^ 32)
+pub ungiven_asked : {Y : Type 0} (wide : Bool) (a b : Moment) (c : Call) (p : ℕ) (places : List Block) (whole : Aim Y) (hs : List ℕ) (e : Ending) (not : NotDone e) (small : length b.bytes ≤ 2 ^ 32)
     (asks : (y : Y) → whole.Is y → (r : Request) × (rs : List Request) × (whole.asks y ≡ r ∷ rs) × ((last : ℕ) → c ≡ call_of last r)) (h : Reallocated a b c e p)
-    → let r = attempt_ungiven wide a b c p places whole e not small asks h in BeginsWith c e r.answers r.trap × AtMostOne r.answers r.trap
+    → let r = attempt_ungiven {hs = hs} wide a b c p places whole e not small asks h in BeginsWith c e r.answers r.trap × AtMostOne r.answers r.trap
 unfolding attempt_ungiven
-ungiven_asked wide a b c p places whole e not small asks h = stopped_asked a b c e p not small h
+ungiven_asked wide a b c p places whole hs e not small asks h = stopped_asked a b c e p not small h
 
 -- ---- bytes of a place
 
 -- nothing is asked for, and the bytes of a place are written
 pub attempt_write : {X : Type 0} (wide : Bool) (g : Seen) (xs ys : List ℕ) (b : Block) (aim : Aim X) (x : X) → length xs ≤ 2 ^ 32 → Writes b xs ys → aim.Is x → ((y : X) → aim.Is y → aim.asks y ≡ []) → aim.Rep (b ∷ []) ys x
-    → ((rest : List ℕ) → aim.Home AnyPointer x rest rest) → ((rest : List ℕ) → aim.Home (PointsTo (memory_of ys wide)) x rest rest) → Attempt wide (moment g xs) (moment g ys) (b ∷ []) aim done
+    → ((rest : List ℕ) → aim.Home AnyPointer x rest rest) → ((rest : List ℕ) → aim.Home (PointsTo (memory_of ys wide)) x rest rest) → Attempt wide (moment g xs) (moment g ys) (b ∷ []) aim (aim.handles x) done
 attempt_write wide g xs ys b aim x small w is none rep home memory_home = record {
   answers = [];
   trap = None;
   fresh = [];
   lowering = lowering_write g xs ys b small w;
   requested = λ y h. subst (λ rs. Requested rs done [] None) (sym (none y h)) requested_none;
-  shown = record { it = x; is = is; rep = λ all held. rep; homes = home; memory_homes = λ all held rest. memory_home rest };
+  shown = record { it = x; is = is; handles = refl; rep = λ all held. rep; homes = home; memory_homes = λ all held rest. memory_home rest };
 }

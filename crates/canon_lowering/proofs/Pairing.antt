@@ -1,4 +1,5 @@
--- A row of n pairs of two shapes is 2n members, a first and a second one by turns: they lie, ask and stand as n products of two.
+-- A row of n pairs of two shapes is 2n members, a first and a second one by turns: they lie, ask and stand as n products of
+-- two, and have their handles.
 use Rattle.std.proofs.Common.{Bool, List, [], ap, ap₂, append-nil, arith, min, refl, subst, suc, suc-mul, sym, zero, ℕ, ⊎_elim, ◌++◌, ◌*◌, ◌+◌, ◌/◌, ◌%◌, ◌<◌, ◌∙◌, ◌∷◌, ◌≡◌, ◌≤◌}
 use Rattle.std.proofs.Math.Nat.{add-mul, add-mul-div_right, add-mul-mod_self_right, div-mul_cancel, dvd-add, zero-mod}
 use Rattle.std.proofs.lemmas.Bool.{cases_lt}
@@ -8,6 +9,7 @@ use Rattle.std.specs.Int.{◌∣◌}
 use Rattle.canon_model.proofs.Layouts.{align-dvd-align, align_pos, align_to-dvd, alignment, align_to-le, multiple}
 use Rattle.canon_model.specs.Homes.{EachHome, Homes, MembersHome}
 use Rattle.canon_model.specs.Layout.{align, align_to, begins, ends, members_end, size}
+use Rattle.canon_model.specs.Leaves.{leaves, members_leaves}
 use Rattle.canon_model.specs.Memory.{Memory}
 use Rattle.canon_model.specs.Rep.{MembersStored, Stored}
 use Rattle.canon_model.specs.Requests.{members_requests, requests}
@@ -112,6 +114,18 @@ paired_count zero (tree t ts) e = absurd (omega (arith, e))
 paired_count (suc n) no_trees e = absurd (omega (arith, e))
 paired_count (suc n) (tree t no_trees) e = absurd (omega (arith, e))
 paired_count (suc n) (tree t (tree w ts)) e = ap suc (paired_count n ts (omega (arith, e)))
+
+pub pairs_leaves : (s u : Shape) (n : ℕ) (ts : Trees) → tree_count ts ≡ n + n → list_of_each (λ t. leaves (pair_shape s u) t) (paired ts) ≡ members_leaves (pairs_of n s u) ts
+unfolding leaves
+pairs_leaves s u zero no_trees e = refl
+pairs_leaves s u zero (tree t ts) e = absurd (omega (arith, e))
+pairs_leaves s u (suc n) no_trees e = absurd (omega (arith, e))
+pairs_leaves s u (suc n) (tree t no_trees) e = absurd (omega (arith, e))
+pairs_leaves s u (suc n) (tree t (tree w ts)) e =
+    let first = leaves s t in
+    let second = leaves u w in
+    let more = list_of_each (λ v. leaves (pair_shape s u) v) (paired ts) in
+    append_assoc first (second ++ []) more ∙ (ap (λ ls. first ++ (ls ++ more)) (append-nil second) ∙ ap (λ ls. first ++ (second ++ ls)) (pairs_leaves s u n ts (omega (arith, e))))
 
 module _ (wide : Bool) (enc : Encoding) (s u : Shape) where
   pub pairs_ask : (n : ℕ) (ts : Trees) → tree_count ts ≡ n + n → list_of_each (λ t. requests wide enc (pair_shape s u) t) (paired ts) ≡ members_requests wide enc (pairs_of n s u) ts

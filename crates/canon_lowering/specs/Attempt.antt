@@ -1,8 +1,9 @@
--- An attempt to lower something: what stands at its places afterwards, with which requests, or why not.
-use Rattle.std.specs.Prelude.{Bool, List, Option, [], true, ℕ, ⊤, ◌++◌, ◌*◌, ◌+◌, ◌-◌, ◌∷◌, ◌⊎◌}
+-- An attempt to lower something: what stands at its places afterwards, with which handles and requests, or why not.
+use Rattle.std.specs.Prelude.{Bool, List, Option, [], true, ℕ, ⊤, ◌++◌, ◌*◌, ◌+◌, ◌-◌, ◌∷◌, ◌≡◌, ◌⊎◌}
 use Rattle.canon_model.specs.Flat.{Flat, MembersFlat, RepValuesIn, max_params}
 use Rattle.canon_model.specs.Homes.{FlatHomes, Homes, MembersFlatHome, MembersHome, ParamsHome, PointsTo}
 use Rattle.canon_model.specs.Layout.{align, members_align, members_end, size}
+use Rattle.canon_model.specs.Leaves.{Leaf, leaves, members_leaves}
 use Rattle.canon_model.specs.Memory.{Block, InsideBlocks, Within, memory_of}
 use Rattle.canon_model.specs.Rep.{MembersStored, RepMemIn}
 use Rattle.canon_model.specs.Requests.{Call, Request, members_requests, params_requests, requests}
@@ -14,37 +15,46 @@ use Rattle.canon_memory.specs.Realloc.{block, call}
 use Rattle.canon_lowering.specs.Steps.{Apart}
 use Rattle.canon_lowering.specs.Lowering.{AllLawful, AllTidy, Answer, Ending, Lowering, Requested, Trap, WhenDone, addresses_of, blocks_of}
 
+-- the handles of leaves, in order
+abbrev pub handle_numbers : List Leaf → List ℕ
+handle_numbers [] = []
+handle_numbers (leaf ∷ others) = leaf.index ∷ handle_numbers others
+
 -- any pointer, for homes by the answers alone
 abbrev pub AnyPointer : ℕ → ℕ → Type 0
 AnyPointer a p = ⊤
 
 -- What is to be lowered, told by an x as a tree, or trees in a row: which x it is, what it asks for, what blocks and memory
--- are to represent, and which answers are its homes.
+-- are to represent, which answers are its homes, and which handles it has, in order.
 pub record Aim (X : Type 0) : Type 1 where
   pub Is : X → Type 0
   pub asks : X → List Request
   pub Rep : List Block → List ℕ → X → Type 0
   pub Home : (ℕ → ℕ → Type 0) → X → List ℕ → List ℕ → Type 0
+  pub handles : X → List ℕ
 
 -- The places lived, or no answer came near them.
 abbrev pub AreHeld : Moment → List Answer → List Block → Type 0
 AreHeld before answers places = Within places before.guest.live ⊎ (AllTidy answers × Apart (blocks_of answers) places)
 
 module _ {X : Type 0} (wide : Bool) (before after : Moment) (places : List Block) (aim : Aim X) where
-  pub record Shown (answers : List Answer) (fresh : List Block) : Type 0 where
+  -- It stands, and these are the handles of the x that it is.
+  pub record Shown (answers : List Answer) (fresh : List Block) (hs : List ℕ) : Type 0 where
     pub it : X
     pub is : aim.Is it
+    pub handles : aim.handles it ≡ hs
     pub rep : AllLawful answers → AreHeld before answers places → aim.Rep (places ++ fresh) after.bytes it
     pub homes : (rest : List ℕ) → aim.Home AnyPointer it (addresses_of answers ++ rest) rest
     pub memory_homes : AllLawful answers → AreHeld before answers places → (rest : List ℕ) → aim.Home (PointsTo (memory_of after.bytes wide)) it (addresses_of answers ++ rest) rest
 
-  pub record Attempt (ending : Ending) : Type 0 where
+  -- Where it wasn't done, the handles say nothing.
+  pub record Attempt (hs : List ℕ) (ending : Ending) : Type 0 where
     pub answers : List Answer
     pub trap : Option Trap
     pub fresh : List Block
     pub lowering : Lowering before after places ending answers trap fresh
     pub requested : (x : X) → aim.Is x → Requested (aim.asks x) ending answers trap
-    pub shown : WhenDone ending (Shown answers fresh)
+    pub shown : WhenDone ending (Shown answers fresh hs)
 
 -- ---- the aims
 
@@ -55,6 +65,7 @@ value_at wide enc s at Has = record {
   asks = λ t. requests wide enc s t;
   Rep = λ blocks bytes t. RepMemIn blocks true enc (memory_of bytes wide) at s t;
   Home = λ pointer t xs ys. Homes pointer enc wide s at t xs ys;
+  handles = λ t. handle_numbers (leaves s t);
 }
 
 abbrev pub members_at : Bool → Encoding → Members → ℕ → ℕ → (Trees → Type 0) → Aim Trees
@@ -63,6 +74,7 @@ members_at wide enc ms o at Have = record {
   asks = λ ts. members_requests wide enc ms ts;
   Rep = λ blocks bytes ts. MembersStored (InsideBlocks blocks (memory_of bytes wide)) true enc (memory_of bytes wide) ms o at ts;
   Home = λ pointer ts xs ys. MembersHome pointer enc wide ms o at ts xs ys;
+  handles = λ ts. handle_numbers (members_leaves ms ts);
 }
 
 -- the same in words from word i on
@@ -72,6 +84,7 @@ value_words wide enc s ws i Has = record {
   asks = λ t. requests wide enc s t;
   Rep = λ blocks bytes t. Flat (InsideBlocks blocks (memory_of bytes wide)) true enc (memory_of bytes wide) ws s i t;
   Home = λ pointer t xs ys. FlatHomes pointer enc wide ws s i t xs ys;
+  handles = λ t. handle_numbers (leaves s t);
 }
 
 abbrev pub members_words : Bool → Encoding → Members → List ℕ → ℕ → (Trees → Type 0) → Aim Trees
@@ -80,6 +93,7 @@ members_words wide enc ms ws i Have = record {
   asks = λ ts. members_requests wide enc ms ts;
   Rep = λ blocks bytes ts. MembersFlat (InsideBlocks blocks (memory_of bytes wide)) true enc (memory_of bytes wide) ws ms i ts;
   Home = λ pointer ts xs ys. MembersFlatHome pointer enc wide ws ms i ts xs ys;
+  handles = λ ts. handle_numbers (members_leaves ms ts);
 }
 
 abbrev pub value_place : Bool → Shape → ℕ → Block
@@ -90,17 +104,17 @@ members_span wide ms o at = block (at + o) (members_end wide o ms - o)
 
 -- ---- the attempts
 
-abbrev pub StoresValue : Bool → Moment → Moment → Encoding → Shape → ℕ → (Tree → Type 0) → Ending → Type 0
-StoresValue wide before after enc s at Has ending = Attempt wide before after (value_place wide s at ∷ []) (value_at wide enc s at Has) ending
+abbrev pub StoresValue : Bool → Moment → Moment → Encoding → Shape → ℕ → (Tree → Type 0) → List ℕ → Ending → Type 0
+StoresValue wide before after enc s at Has hs ending = Attempt wide before after (value_place wide s at ∷ []) (value_at wide enc s at Has) hs ending
 
-abbrev pub StoresMembers : Bool → Moment → Moment → Encoding → Members → ℕ → ℕ → (Trees → Type 0) → Ending → Type 0
-StoresMembers wide before after enc ms o at Have ending = Attempt wide before after (members_span wide ms o at ∷ []) (members_at wide enc ms o at Have) ending
+abbrev pub StoresMembers : Bool → Moment → Moment → Encoding → Members → ℕ → ℕ → (Trees → Type 0) → List ℕ → Ending → Type 0
+StoresMembers wide before after enc ms o at Have hs ending = Attempt wide before after (members_span wide ms o at ∷ []) (members_at wide enc ms o at Have) hs ending
 
-abbrev pub LowersValue : Bool → Moment → Moment → Encoding → Shape → List ℕ → ℕ → (Tree → Type 0) → Ending → Type 0
-LowersValue wide before after enc s ws i Has ending = Attempt wide before after [] (value_words wide enc s ws i Has) ending
+abbrev pub LowersValue : Bool → Moment → Moment → Encoding → Shape → List ℕ → ℕ → (Tree → Type 0) → List ℕ → Ending → Type 0
+LowersValue wide before after enc s ws i Has hs ending = Attempt wide before after [] (value_words wide enc s ws i Has) hs ending
 
-abbrev pub LowersMembers : Bool → Moment → Moment → Encoding → Members → List ℕ → ℕ → (Trees → Type 0) → Ending → Type 0
-LowersMembers wide before after enc ms ws i Have ending = Attempt wide before after [] (members_words wide enc ms ws i Have) ending
+abbrev pub LowersMembers : Bool → Moment → Moment → Encoding → Members → List ℕ → ℕ → (Trees → Type 0) → List ℕ → Ending → Type 0
+LowersMembers wide before after enc ms ws i Have hs ending = Attempt wide before after [] (members_words wide enc ms ws i Have) hs ending
 
 -- ---- the blocks that are asked for
 
@@ -120,7 +134,8 @@ args_in wide enc ms ws Have = record {
   asks = λ ts. params_requests wide enc ms ts;
   Rep = λ blocks bytes ts. RepValuesIn blocks max_params true enc (memory_of bytes wide) ws ms ts;
   Home = λ pointer ts xs ys. ParamsHome pointer enc wide ws ms ts xs ys;
+  handles = λ ts. handle_numbers (members_leaves ms ts);
 }
 
-abbrev pub LowersArgs : Bool → Moment → Moment → Encoding → Members → (Trees → Type 0) → List ℕ → Ending → Type 0
-LowersArgs wide before after enc ms Have ws ending = Attempt wide before after [] (args_in wide enc ms ws Have) ending
+abbrev pub LowersArgs : Bool → Moment → Moment → Encoding → Members → (Trees → Type 0) → List ℕ → List ℕ → Ending → Type 0
+LowersArgs wide before after enc ms Have ws hs ending = Attempt wide before after [] (args_in wide enc ms ws Have) hs ending

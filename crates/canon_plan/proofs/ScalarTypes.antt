@@ -4,7 +4,7 @@ use Rattle.canon_model.specs.Shape.{Scalar, bool, char, f32, f64, s16, s32, s64,
 use Rattle.canon_types.specs.declared.types.InterfaceType.{InterfaceType}
 use Rattle.canon_types.specs.declared.types.InterfaceType.TheVariants as ty
 use Rattle.canon_types.specs.Table.{Table, plain_shape, shape_of}
-use Rattle.canon_plan.specs.Built.{IsBuilt, scalar_type, IsScalarType}
+use Rattle.canon_plan.specs.Built.{scalar_type, IsScalarType}
 use Rattle.canon_model.specs.Layout.{flat}
 
 -- a scalar type has the shape of its scalar, and its shape needs no table
@@ -41,35 +41,35 @@ scalar_shape t type k e = (both_scalar type k e).1 t
 pub plain_scalar : (type : InterfaceType) (k : Scalar) → scalar_type type ≡ Some k → plain_shape type ≡ scalar k
 plain_scalar type k e = (both_scalar type k e).0
 
--- a type that is built, and has no definition and is no string, is a scalar
-pub built_scalar : (t : Table) (type : InterfaceType) → IsBuilt (shape_of t type) → ((i : ℕ) → type ≡ ty.Record i → ⊥) → ((i : ℕ) → type ≡ ty.Tuple i → ⊥) → (type ≡ ty.String → ⊥) → ((i : ℕ) → type ≡ ty.List i → ⊥) → ((i : ℕ) → type ≡ ty.FixedLengthList i → ⊥)
+-- a type that has no definition, and is no string and no handle, is a scalar
+pub scalar_left : (type : InterfaceType) → ((i : ℕ) → type ≡ ty.Record i → ⊥) → ((i : ℕ) → type ≡ ty.Tuple i → ⊥) → (type ≡ ty.String → ⊥) → ((i : ℕ) → type ≡ ty.List i → ⊥) → ((i : ℕ) → type ≡ ty.FixedLengthList i → ⊥)
     → ((i : ℕ) → type ≡ ty.Map i → ⊥) → ((i : ℕ) → type ≡ ty.Variant i → ⊥) → ((i : ℕ) → type ≡ ty.Enum i → ⊥) → ((i : ℕ) → type ≡ ty.Option i → ⊥) → ((i : ℕ) → type ≡ ty.Result i → ⊥) → ((i : ℕ) → type ≡ ty.Flags i → ⊥)
-    → IsScalarType type
-built_scalar t ty.Bool h no_record no_tuple no_string no_list no_fixed no_map no_variant no_enum no_option no_result no_flags = (bool, refl)
-built_scalar t ty.S8 h no_record no_tuple no_string no_list no_fixed no_map no_variant no_enum no_option no_result no_flags = (s8, refl)
-built_scalar t ty.U8 h no_record no_tuple no_string no_list no_fixed no_map no_variant no_enum no_option no_result no_flags = (u8, refl)
-built_scalar t ty.S16 h no_record no_tuple no_string no_list no_fixed no_map no_variant no_enum no_option no_result no_flags = (s16, refl)
-built_scalar t ty.U16 h no_record no_tuple no_string no_list no_fixed no_map no_variant no_enum no_option no_result no_flags = (u16, refl)
-built_scalar t ty.S32 h no_record no_tuple no_string no_list no_fixed no_map no_variant no_enum no_option no_result no_flags = (s32, refl)
-built_scalar t ty.U32 h no_record no_tuple no_string no_list no_fixed no_map no_variant no_enum no_option no_result no_flags = (u32, refl)
-built_scalar t ty.S64 h no_record no_tuple no_string no_list no_fixed no_map no_variant no_enum no_option no_result no_flags = (s64, refl)
-built_scalar t ty.U64 h no_record no_tuple no_string no_list no_fixed no_map no_variant no_enum no_option no_result no_flags = (u64, refl)
-built_scalar t ty.Float32 h no_record no_tuple no_string no_list no_fixed no_map no_variant no_enum no_option no_result no_flags = (f32, refl)
-built_scalar t ty.Float64 h no_record no_tuple no_string no_list no_fixed no_map no_variant no_enum no_option no_result no_flags = (f64, refl)
-built_scalar t ty.Char h no_record no_tuple no_string no_list no_fixed no_map no_variant no_enum no_option no_result no_flags = (char, refl)
-built_scalar t (ty.Own r) h no_record no_tuple no_string no_list no_fixed no_map no_variant no_enum no_option no_result no_flags = cc
-built_scalar t (ty.Borrow r) h no_record no_tuple no_string no_list no_fixed no_map no_variant no_enum no_option no_result no_flags = cc
-built_scalar t (ty.Record i) h no_record no_tuple no_string no_list no_fixed no_map no_variant no_enum no_option no_result no_flags = absurd (no_record i refl)
-built_scalar t (ty.Tuple i) h no_record no_tuple no_string no_list no_fixed no_map no_variant no_enum no_option no_result no_flags = absurd (no_tuple i refl)
-built_scalar t ty.String h no_record no_tuple no_string no_list no_fixed no_map no_variant no_enum no_option no_result no_flags = absurd (no_string refl)
-built_scalar t (ty.List i) h no_record no_tuple no_string no_list no_fixed no_map no_variant no_enum no_option no_result no_flags = absurd (no_list i refl)
-built_scalar t (ty.FixedLengthList i) h no_record no_tuple no_string no_list no_fixed no_map no_variant no_enum no_option no_result no_flags = absurd (no_fixed i refl)
-built_scalar t (ty.Map i) h no_record no_tuple no_string no_list no_fixed no_map no_variant no_enum no_option no_result no_flags = absurd (no_map i refl)
-built_scalar t (ty.Variant i) h no_record no_tuple no_string no_list no_fixed no_map no_variant no_enum no_option no_result no_flags = absurd (no_variant i refl)
-built_scalar t (ty.Enum i) h no_record no_tuple no_string no_list no_fixed no_map no_variant no_enum no_option no_result no_flags = absurd (no_enum i refl)
-built_scalar t (ty.Option i) h no_record no_tuple no_string no_list no_fixed no_map no_variant no_enum no_option no_result no_flags = absurd (no_option i refl)
-built_scalar t (ty.Result i) h no_record no_tuple no_string no_list no_fixed no_map no_variant no_enum no_option no_result no_flags = absurd (no_result i refl)
-built_scalar t (ty.Flags i) h no_record no_tuple no_string no_list no_fixed no_map no_variant no_enum no_option no_result no_flags = absurd (no_flags i refl)
+    → ((i : ℕ) → type ≡ ty.Own i → ⊥) → ((i : ℕ) → type ≡ ty.Borrow i → ⊥) → IsScalarType type
+scalar_left ty.Bool no_record no_tuple no_string no_list no_fixed no_map no_variant no_enum no_option no_result no_flags no_own no_borrow = (bool, refl)
+scalar_left ty.S8 no_record no_tuple no_string no_list no_fixed no_map no_variant no_enum no_option no_result no_flags no_own no_borrow = (s8, refl)
+scalar_left ty.U8 no_record no_tuple no_string no_list no_fixed no_map no_variant no_enum no_option no_result no_flags no_own no_borrow = (u8, refl)
+scalar_left ty.S16 no_record no_tuple no_string no_list no_fixed no_map no_variant no_enum no_option no_result no_flags no_own no_borrow = (s16, refl)
+scalar_left ty.U16 no_record no_tuple no_string no_list no_fixed no_map no_variant no_enum no_option no_result no_flags no_own no_borrow = (u16, refl)
+scalar_left ty.S32 no_record no_tuple no_string no_list no_fixed no_map no_variant no_enum no_option no_result no_flags no_own no_borrow = (s32, refl)
+scalar_left ty.U32 no_record no_tuple no_string no_list no_fixed no_map no_variant no_enum no_option no_result no_flags no_own no_borrow = (u32, refl)
+scalar_left ty.S64 no_record no_tuple no_string no_list no_fixed no_map no_variant no_enum no_option no_result no_flags no_own no_borrow = (s64, refl)
+scalar_left ty.U64 no_record no_tuple no_string no_list no_fixed no_map no_variant no_enum no_option no_result no_flags no_own no_borrow = (u64, refl)
+scalar_left ty.Float32 no_record no_tuple no_string no_list no_fixed no_map no_variant no_enum no_option no_result no_flags no_own no_borrow = (f32, refl)
+scalar_left ty.Float64 no_record no_tuple no_string no_list no_fixed no_map no_variant no_enum no_option no_result no_flags no_own no_borrow = (f64, refl)
+scalar_left ty.Char no_record no_tuple no_string no_list no_fixed no_map no_variant no_enum no_option no_result no_flags no_own no_borrow = (char, refl)
+scalar_left (ty.Record i) no_record no_tuple no_string no_list no_fixed no_map no_variant no_enum no_option no_result no_flags no_own no_borrow = absurd (no_record i refl)
+scalar_left (ty.Tuple i) no_record no_tuple no_string no_list no_fixed no_map no_variant no_enum no_option no_result no_flags no_own no_borrow = absurd (no_tuple i refl)
+scalar_left ty.String no_record no_tuple no_string no_list no_fixed no_map no_variant no_enum no_option no_result no_flags no_own no_borrow = absurd (no_string refl)
+scalar_left (ty.List i) no_record no_tuple no_string no_list no_fixed no_map no_variant no_enum no_option no_result no_flags no_own no_borrow = absurd (no_list i refl)
+scalar_left (ty.FixedLengthList i) no_record no_tuple no_string no_list no_fixed no_map no_variant no_enum no_option no_result no_flags no_own no_borrow = absurd (no_fixed i refl)
+scalar_left (ty.Map i) no_record no_tuple no_string no_list no_fixed no_map no_variant no_enum no_option no_result no_flags no_own no_borrow = absurd (no_map i refl)
+scalar_left (ty.Variant i) no_record no_tuple no_string no_list no_fixed no_map no_variant no_enum no_option no_result no_flags no_own no_borrow = absurd (no_variant i refl)
+scalar_left (ty.Enum i) no_record no_tuple no_string no_list no_fixed no_map no_variant no_enum no_option no_result no_flags no_own no_borrow = absurd (no_enum i refl)
+scalar_left (ty.Option i) no_record no_tuple no_string no_list no_fixed no_map no_variant no_enum no_option no_result no_flags no_own no_borrow = absurd (no_option i refl)
+scalar_left (ty.Result i) no_record no_tuple no_string no_list no_fixed no_map no_variant no_enum no_option no_result no_flags no_own no_borrow = absurd (no_result i refl)
+scalar_left (ty.Flags i) no_record no_tuple no_string no_list no_fixed no_map no_variant no_enum no_option no_result no_flags no_own no_borrow = absurd (no_flags i refl)
+scalar_left (ty.Own i) no_record no_tuple no_string no_list no_fixed no_map no_variant no_enum no_option no_result no_flags no_own no_borrow = absurd (no_own i refl)
+scalar_left (ty.Borrow i) no_record no_tuple no_string no_list no_fixed no_map no_variant no_enum no_option no_result no_flags no_own no_borrow = absurd (no_borrow i refl)
 
 -- the shape of a scalar type, and its one word
 pub scalar_known : (t : Table) (type : InterfaceType) → IsScalarType type → plain_shape type ≡ shape_of t type

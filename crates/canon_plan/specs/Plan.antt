@@ -1,15 +1,16 @@
 -- What a type's values are lifted as.
-use Rattle.std.specs.Prelude.{List, Option, [], length, suc, zero, ℕ, ⊤, ◌+◌, ◌<◌, ◌^◌, ◌≡◌}
+use Rattle.std.specs.Prelude.{Bool, List, Option, [], false, length, suc, true, zero, ℕ, ⊤, ◌+◌, ◌<◌, ◌^◌, ◌≡◌}
 use Rattle.canon_abi.specs.Abi.{HasInfo}
 use Rattle.canon_lowering.specs.Copies.{copies}
 use Rattle.canon_model.specs.Cost.{names_length}
-use Rattle.canon_model.specs.Shape.{Members, Name, Shape, VariantKind, enum_of, fixed, list, member, no_members, of_cases, of_fields, of_items, of_places, option_of, product, result_of, string, variant}
+use Rattle.canon_model.specs.Shape.{Members, Name, Shape, VariantKind, borrow, enum_of, fixed, list, member, no_members, of_cases, of_fields, of_items, of_places, option_of, own, product, result_of, string, variant}
 use Rattle.canon_types.specs.Depth.{element_shape, product_members, variant_cases}
 use Rattle.canon_types.specs.Table.{HasTuple, Knows, Table, shape_of, tuple_members}
 use Rattle.canon_types.specs.declared.types.InterfaceType.{InterfaceType}
 use Rattle.canon_types.specs.declared.types.InterfaceType.TheVariants as ty
 use Rattle.canon_plan.specs.Built.{IsScalarType}
 use Rattle.canon_plan.specs.Element.{IsKnown, IsMap, list_shape, row_of}
+use Rattle.canon_plan.specs.declared.plan.HandleType.{HandleType}
 use Rattle.canon_plan.specs.declared.plan.Plan.{Plan}
 use Rattle.canon_plan.specs.declared.plan.Plan.TheVariants as plan
 use Rattle.canon_plan.specs.declared.plan.Slot.{Slot}
@@ -80,8 +81,24 @@ IsCaseKind _ s = ⊥
 abbrev pub IsVariant : Shape → Type 0
 IsVariant s = (k : VariantKind) × (s ≡ variant k (variant_cases s))
 
+-- the type of a handle, and its shape
+abbrev pub typed_handle : Bool → ℕ → InterfaceType
+typed_handle true r = ty.Own r
+typed_handle false r = ty.Borrow r
+
+abbrev pub type_of_handle : HandleType → InterfaceType
+type_of_handle h = typed_handle h.owned h.resource
+
+abbrev pub shaped_handle : Bool → ℕ → Shape
+shaped_handle true r = own r
+shaped_handle false r = borrow r
+
+abbrev pub shape_of_handle : HandleType → Shape
+shape_of_handle h = shaped_handle h.owned h.resource
+
 abbrev pub Plans : Table → InterfaceType → Plan → Type 0
 Plans t type plan.Scalar = IsScalarType type
+Plans t type (plan.Handle h) = type ≡ type_of_handle h
 Plans t type plan.Text = shape_of t type ≡ string
 Plans t type (plan.List element) = IsKnown t element × (shape_of t type ≡ list_shape t element) × IsKind type (shape_of t type)
 Plans t type (plan.Members members) = AreKnown t members × LiesAs (shape_of t type) (shapes_of t members) × IsKind type (shape_of t type) × Unnamed (shape_of t type)

@@ -11,4 +11,4 @@ pub use built::is_built;
 pub use case_plan::{CaseSlots, case_of};
 pub use element::{Element, VAL_COST, element_abi, element_cost};
 pub use flat::flat_words;
-pub use plan::{Plan, Slot, Slots, plan_of, slot_count, slot_of, slots_of};
+pub use plan::{HandleType, Plan, Slot, Slots, plan_of, slot_count, slot_of, slots_of};

@@ -5,7 +5,6 @@ ghost use Rattle.canon_lowering.specs.Copies.{copies};
 ghost use Rattle.canon_model.specs.Shape.{member_count};
 ghost use Rattle.canon_types.specs.Depth.{product_members};
 ghost use Rattle.canon_types.specs.Table.{HasTuple, Knows, Table, shape_of, tuple_members};
-ghost use Rattle.canon_plan.specs.Built.{IsBuilt};
 ghost use Rattle.canon_plan.specs.Element.{IsKnown, list_shape, row_of};
 ghost use Rattle.canon_plan.specs.Plan.{AreKnown, IsSlot, Plans, shapes_of};
 
@@ -13,7 +12,7 @@ use crate::case_plan::{enum_plan, option_plan, result_plan, variant_plan};
 use crate::element::Element;
 use canon_types::{
     ComponentTypes, InterfaceType, TypeFixedLengthListIndex, TypeFlagsIndex, TypeListIndex,
-    TypeMapIndex, TypeRecordIndex, TypeTupleIndex, VariantInfo,
+    TypeMapIndex, TypeRecordIndex, TypeResourceTableIndex, TypeTupleIndex, VariantInfo,
 };
 
 /// Where the types of values in a row stand.
@@ -36,9 +35,17 @@ pub struct Slot {
     pub name_length: u64,
 }
 
+/// The type of a handle: whether it is an own or a borrow handle, and of which resource.
+#[derive(Clone, Copy)]
+pub struct HandleType {
+    pub owned: bool,
+    pub resource: TypeResourceTableIndex,
+}
+
 pub enum Plan {
     Scalar,
     Text,
+    Handle(HandleType),
     /// A list or a map, whose elements stand in a block of their own.
     List(Element),
     Members(Slots),
@@ -142,7 +149,6 @@ pub fn slots_of(element: &Element, count: u64) -> Slots
 /// What values of the type are lifted as.
 pub fn plan_of(types: &ComponentTypes, ty: &InterfaceType) -> Plan
     requires known { Knows types.now ty.now }
-    requires built { IsBuilt (shape_of types.now ty.now) }
     ensures { Plans types.now ty.now result }
 {
     match ty {
@@ -157,6 +163,14 @@ pub fn plan_of(types: &ComponentTypes, ty: &InterfaceType) -> Plan
         InterfaceType::Map(i) => map_plan(types, *i),
         InterfaceType::String => Plan::Text,
         InterfaceType::Flags(i) => Plan::Flags(*i),
+        InterfaceType::Own(i) => Plan::Handle(HandleType {
+            owned: true,
+            resource: *i,
+        }),
+        InterfaceType::Borrow(i) => Plan::Handle(HandleType {
+            owned: false,
+            resource: *i,
+        }),
         _ => Plan::Scalar,
     }
 }

@@ -83,6 +83,7 @@ on_answered (Err (error.Fault f)) P n p = by f n p
     by (fault.InvalidUtf16 a) n p = p
     by (fault.InvalidChar a) n p = p
     by (fault.BadDiscriminant a d) n p = p
+    by (fault.Resource refusal) n p = p
     by fault.HostcallFuelExhausted n p = p
 
 -- the same call, with its results said another way

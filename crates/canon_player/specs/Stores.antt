@@ -10,6 +10,7 @@ use Rattle.canon_scripted.specs.Scripted.{Doing, Plan}
 use Rattle.canon_context.specs.declared.component.Component.{Component}
 use Rattle.canon_context.specs.declared.component.Export.{Export}
 use Rattle.canon_func.specs.Stores.{Callee, IsCallable, StoreView, callee_in}
+use Rattle.canon_ledger.specs.Ledger.{new_ledger}
 use Rattle.canon_script.specs.Script.{ScriptCall}
 use Rattle.canon_player.specs.Session.{State, post_of}
 
@@ -75,6 +76,7 @@ fresh_store memory heap fuel component = record {
     };
     memory = replicate memory 0;
     component = component;
+    ledger = new_ledger 256 1000000 0;
     fuel = fuel;
   };
   trapped = false;

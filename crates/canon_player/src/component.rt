@@ -18,6 +18,9 @@ use std::alloc::Global;
 /// The store of a script, by its number.
 const SCRIPT_STORE: u64 = 0;
 
+/// The most live handles of a script's store.
+const HANDLES: u64 = 1_000_000;
+
 /// A store whose guest follows a script.
 pub(crate) type ScriptStore = Store<(), Journaled<ScriptedGuest>>;
 
@@ -87,6 +90,6 @@ pub(crate) fn store_of(
     };
     let guest = Journaled::new(alloc, ScriptedGuest::new(alloc, heap));
     let id = StoreId::from_u64(SCRIPT_STORE);
-    let core = Core::new(alloc, id, (), guest, memory, component, fuel)?;
+    let core = Core::new(alloc, id, (), guest, memory, component, HANDLES, fuel)?;
     Ok(Store::new(core))
 }

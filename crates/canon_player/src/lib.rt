@@ -3,7 +3,5 @@
 
 mod component;
 mod player;
-#[cfg(test)]
-mod tests;
 
 pub use player::play;

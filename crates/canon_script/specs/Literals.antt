@@ -26,6 +26,8 @@ mutual
     -- the two cases of a result
     ok error : Payload → Literal
     flags : List Name → Literal
+    -- a resource, which no script writes so far
+    held : Literal
 
   pub data Literals : Type 0 where
     no_literals : Literals
@@ -92,6 +94,7 @@ literal_step (Val-F.Enum name) = enum (string_bytes name)
 literal_step (Val-F.Option p) = option (payload_of p)
 literal_step (Val-F.Result r) = result_of r
 literal_step (Val-F.Flags names) = flags (map (λ name. string_bytes name) names.items)
+literal_step (Val-F.Resource x) = held
 literal_step (Val-F.FixedLengthList members) = fixed (literals_of members.items)
 
 abbrev pub literal_view : Val → Literal

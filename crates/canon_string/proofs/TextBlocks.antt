@@ -125,7 +125,7 @@ module _ {T G : Type 0} (L : GuestLaws G) (options : ℕ) where
         → text_align enc ≡ al → length bytes ≡ text_bytes enc n → Spells (text_form enc n) bytes cs
         → IsLeastTag enc n cs → text_requests enc cs ≡ rs → PutsText L.seen L.moves options a b source (Ok (record { pointer = p; length = n }))
     text_stands b al rs p k n bytes short h few to len spelled least asks = record {
-      lowered = under (λ (x : Encoding). LowersValue false (moment_of L.seen a) (moment_of L.seen b) x string (p ∷ n ∷ []) 0 (IsTextOf source) done)
+      lowered = under (λ (x : Encoding). LowersValue false (moment_of L.seen a) (moment_of L.seen b) x string (p ∷ n ∷ []) 0 (IsTextOf source) [] done)
           (text_end false (moment_of L.seen a) (moment_of L.seen b) enc rs p k n cs bytes (IsTextOf source) h.text h.narrow few (subst (λ (x : ℕ). p % x ≡ 0) (sym to) h.aligned) len spelled least
           (cs, text_bytes enc n, spells, refl) asks (source_scalars source cs spells));
       narrow = (h.narrow, few);
@@ -137,7 +137,7 @@ module _ {T G : Type 0} (L : GuestLaws G) (options : ℕ) where
 
     pub text_unasked : (b : Parts T G) (al k : ℕ) (more : List Request) (e : Fault) → text_requests enc cs ≡ anew al k ∷ more → AsksFor L.seen L.moves a b (call 0 0 al k) (Err e) → PutsText L.seen L.moves options a b source (Err e)
     text_unasked b al k more e asks h = record {
-      lowered = under (λ (x : Encoding). LowersValue false (moment_of L.seen a) (moment_of L.seen b) x string [] 0 (IsTextOf source) (fault_ending e))
+      lowered = under (λ (x : Encoding). LowersValue false (moment_of L.seen a) (moment_of L.seen b) x string [] 0 (IsTextOf source) [] (fault_ending e))
           (text_begin_stop false (moment_of L.seen a) (moment_of L.seen b) enc al k (IsTextOf source) [] 0 (fault_ending e) 0 (not_done e) h.small (λ t has. (more, asks_of (anew al k ∷ more) asks t has)) h.does);
       narrow = tt;
       fits = tt;
@@ -149,7 +149,7 @@ module _ {T G : Type 0} (L : GuestLaws G) (options : ℕ) where
     pub text_ungrown : (b c : Parts T G) (al : ℕ) (rs : List Request) (p k n : ℕ) (bytes : List ℕ) (more : List Request) (e : Fault) → Begun a b al rs p k bytes → text_requests enc cs ≡ rs ++ resized k n ∷ more
         → AsksFor L.seen L.moves b c (call p k 2 n) (Err e) → PutsText L.seen L.moves options a c source (Err e)
     text_ungrown b c al rs p k n bytes more e h asks g = record {
-      lowered = under (λ (x : Encoding). LowersValue false (moment_of L.seen a) (moment_of L.seen c) x string [] 0 (IsTextOf source) (fault_ending e))
+      lowered = under (λ (x : Encoding). LowersValue false (moment_of L.seen a) (moment_of L.seen c) x string [] 0 (IsTextOf source) [] (fault_ending e))
           (text_resize_stop false (moment_of L.seen a) (moment_of L.seen b) (moment_of L.seen c) enc rs p k n bytes (IsTextOf source) [] 0 (fault_ending e) 0 (not_done e) g.small
           (λ t has. (more, asks_of (rs ++ resized k n ∷ more) asks t has)) h.text g.does);
       narrow = tt;

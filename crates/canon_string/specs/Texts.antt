@@ -34,7 +34,7 @@ module _ {T G : Type 0} (seen : G → Seen) (moves : GuestIn G → List Event �
   -- The text, which isn't too long, was put into a block of its own; or it is refused, since it is too long, or for an answer of
   -- the guest's (`ending_of`).
   pub record PutsText (options : ℕ) (before after : Parts T G) (bytes : List ℕ) (result : Result TextBlock Fault) : Type 0 where
-    pub lowered : LowersValue false (moment_of seen before) (moment_of seen after) (encoding_by before options) string (text_words result) 0 (IsTextOf bytes) (ending_of result)
+    pub lowered : LowersValue false (moment_of seen before) (moment_of seen after) (encoding_by before options) string (text_words result) 0 (IsTextOf bytes) [] (ending_of result)
     pub narrow : IfOk result (λ b. (b.pointer < 2 ^ 32) × (b.length < 2 ^ 32))
     pub fits : IfOk result (λ b. (n : ℕ) → ¬ IsTooLong (encoding_by before options) bytes n)
     pub blames : IfErr result (λ e. fault_ending e ≡ refused → (after ≡ before) × (n : ℕ) × (e ≡ fault.StringTooLong n) × IsTooLong (encoding_by before options) bytes n)

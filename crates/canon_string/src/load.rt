@@ -8,7 +8,7 @@ ghost use Rattle.canon_model.specs.Reach.{IsGood, PointerFault, TextFault, text_
 ghost use Rattle.canon_model.specs.Text.{compact, utf16, utf8};
 ghost use Rattle.canon_text.specs.Decoding.{cow_text};
 ghost use Rattle.canon_string.specs.Loading.{IsTextLoaded};
-ghost use Rattle.canon_context.specs.Told.{Exactly, LiftBlames, place_of};
+ghost use Rattle.canon_context.specs.Told.{Exactly, IsNoRefusal, LiftBlames, place_of};
 
 use canon_context::{At, Fault, Source, charge};
 use canon_text::{CowStr, DecodeError, UTF16_TAG, decode_latin1, decode_utf8, decode_utf16};
@@ -31,6 +31,7 @@ pub fn load_text(
     ensures ok { IfOk result (IsTextLoaded (encoding_of source.now.encoding) (narrow source.now.memory.now) pointer length fuel.old fuel.new) }
     ensures err { IfErr result (LiftBlames (Exactly (TextFault (encoding_of source.now.encoding) (narrow source.now.memory.now) (place_of at) pointer length))
         (fuel.old < text_reach (encoding_of source.now.encoding) (narrow source.now.memory.now) pointer length)) }
+    ensures unrefused { IfErr result IsNoRefusal }
     ensures falls { fuel.new ≤ fuel.old }
 {
     let memory = source.memory;
@@ -58,6 +59,7 @@ fn charged_bytes<'a>(
     ensures charged { IfOk result (λ _. fuel.old ≡ fuel.new + count) }
     ensures err { IfErr result (LiftBlames (Exactly (PointerFault (narrow memory.now) (place_of at) pointer count align))
         (IsGood (narrow memory.now) pointer count align × (fuel.old < count))) }
+    ensures unrefused { IfErr result IsNoRefusal }
     ensures falls { fuel.new ≤ fuel.old }
 {
     if pointer % align != 0 {
@@ -85,6 +87,7 @@ fn load_utf8(
     ensures ok { IfOk result (IsTextLoaded utf8 (narrow memory.now) pointer length fuel.old fuel.new) }
     ensures err { IfErr result (LiftBlames (Exactly (TextFault utf8 (narrow memory.now) (place_of at) pointer length))
         (fuel.old < text_reach utf8 (narrow memory.now) pointer length)) }
+    ensures unrefused { IfErr result IsNoRefusal }
     ensures falls { fuel.new ≤ fuel.old }
 {
     match charged_bytes(memory, fuel, pointer, length, 1, at) {
@@ -110,6 +113,7 @@ fn load_utf16(
     ensures ok { IfOk result (IsTextLoaded utf16 (narrow memory.now) pointer units fuel.old fuel.new) }
     ensures err { IfErr result (LiftBlames (Exactly (TextFault utf16 (narrow memory.now) (place_of at) pointer units))
         (fuel.old < text_reach utf16 (narrow memory.now) pointer units)) }
+    ensures unrefused { IfErr result IsNoRefusal }
     ensures falls { fuel.new ≤ fuel.old }
 {
     match charged_bytes(memory, fuel, pointer, 2 * units, 2, at) {
@@ -136,6 +140,7 @@ fn load_compact(
     ensures ok { IfOk result (IsTextLoaded compact (narrow memory.now) pointer length fuel.old fuel.new) }
     ensures err { IfErr result (LiftBlames (Exactly (TextFault compact (narrow memory.now) (place_of at) pointer length))
         (fuel.old < text_reach compact (narrow memory.now) pointer length)) }
+    ensures unrefused { IfErr result IsNoRefusal }
     ensures falls { fuel.new ≤ fuel.old }
 {
     if length >= UTF16_TAG {
@@ -159,6 +164,7 @@ fn load_latin1(
     ensures ok { IfOk result (IsTextLoaded compact (narrow memory.now) pointer length fuel.old fuel.new) }
     ensures err { IfErr result (LiftBlames (Exactly (TextFault compact (narrow memory.now) (place_of at) pointer length))
         (fuel.old < text_reach compact (narrow memory.now) pointer length)) }
+    ensures unrefused { IfErr result IsNoRefusal }
     ensures falls { fuel.new ≤ fuel.old }
 {
     match charged_bytes(memory, fuel, pointer, length, 2, at) {

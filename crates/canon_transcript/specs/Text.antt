@@ -11,6 +11,8 @@ use Rattle.canon_context.specs.declared.fault.At.{At}
 use Rattle.canon_context.specs.declared.fault.At.TheVariants as at
 use Rattle.canon_context.specs.declared.fault.Fault.{Fault}
 use Rattle.canon_context.specs.declared.fault.Fault.TheVariants as fault
+use Rattle.canon_ledger.specs.declared.fault.ResourceFault.{ResourceFault}
+use Rattle.canon_ledger.specs.declared.fault.ResourceFault.TheVariants as resource
 use Rattle.canon_value.specs.declared.val.Val.{Val}
 use Rattle.canon_value.specs.declared.val.Val.TheFolds.{fold-Val}
 use Rattle.canon_value.specs.declared.val.Val.TheOpen.{Val-F}
@@ -103,6 +105,7 @@ layer_text (Val-F.Option (Some payload)) = codes "some" ++ wrapped (Some payload
 layer_text (Val-F.Result (Ok payload)) = codes "ok" ++ wrapped payload
 layer_text (Val-F.Result (Err payload)) = codes "err" ++ wrapped payload
 layer_text (Val-F.Flags names) = flags_text names.items
+layer_text (Val-F.Resource x) = codes "#"
 layer_text (Val-F.FixedLengthList items) = codes "[" ++ joined items.items ++ codes "]"
 
 abbrev pub value_text : Val → List ℕ
@@ -147,7 +150,24 @@ abbrev pub at_text : At → List ℕ
 at_text (at.Word k) = codes "w" ++ decimal k
 at_text (at.Address a) = codes "@" ++ decimal a
 
--- the name of the variant, and what it carries after a space
+-- why the ledger refused a handle: the name of the variant, and what it carries after a space
+abbrev pub refusal_text : ResourceFault → List ℕ
+refusal_text (resource.UnknownHandle i) = codes "UnknownHandle " ++ decimal i
+refusal_text (resource.NotAResource i) = codes "NotAResource " ++ decimal i
+refusal_text resource.ResourceTypeMismatch = codes "ResourceTypeMismatch"
+refusal_text (resource.StillLent i) = codes "StillLent " ++ decimal i
+refusal_text (resource.TooManyLends i) = codes "TooManyLends " ++ decimal i
+refusal_text resource.HandleLimit = codes "HandleLimit"
+refusal_text resource.IndexOverflow = codes "IndexOverflow"
+refusal_text resource.BorrowAsOwn = codes "BorrowAsOwn"
+refusal_text resource.HostConsumed = codes "HostConsumed"
+refusal_text resource.HostDeallocated = codes "HostDeallocated"
+refusal_text resource.GenerationExhausted = codes "GenerationExhausted"
+refusal_text resource.BorrowsRemain = codes "BorrowsRemain"
+refusal_text resource.NoScope = codes "NoScope"
+refusal_text resource.OutOfMemory = codes "OutOfMemory"
+
+-- a fault, in the same way
 abbrev pub fault_text : Fault → List ℕ
 fault_text (fault.TypeMismatch place) = codes "TypeMismatch " ++ decimal place
 fault_text (fault.FieldName place) = codes "FieldName " ++ decimal place
@@ -167,6 +187,7 @@ fault_text (fault.InvalidUtf8 a) = codes "InvalidUtf8 " ++ at_text a
 fault_text (fault.InvalidUtf16 a) = codes "InvalidUtf16 " ++ at_text a
 fault_text (fault.InvalidChar a) = codes "InvalidChar " ++ at_text a
 fault_text (fault.BadDiscriminant a number) = codes "BadDiscriminant " ++ at_text a ++ codes " " ++ decimal number
+fault_text (fault.Resource e) = refusal_text e
 fault_text fault.HostcallFuelExhausted = codes "HostcallFuelExhausted"
 -- no transcript holds it: a script that wants memory ends without a record
 fault_text fault.OutOfMemory = codes "OutOfMemory"

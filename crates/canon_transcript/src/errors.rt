@@ -3,6 +3,7 @@ ghost use Rattle.canon_transcript.specs.Text as spec;
 
 use canon_func::Error;
 use canon_indices::OutOfMemory;
+use canon_ledger::ResourceFault;
 use canon_value::{At, Fault};
 use std::alloc::{AllocError, Global};
 
@@ -53,8 +54,31 @@ fn print_fault(text: &mut String, fault: Fault) -> Result<(), AllocError>
             print_at(text, "BadDiscriminant ", at)?;
             write!(text, " {number}")
         }
+        Fault::Resource(refusal) => print_refusal(text, refusal),
         Fault::HostcallFuelExhausted => text.push_str("HostcallFuelExhausted"),
         Fault::OutOfMemory => text.push_str("OutOfMemory"),
+    }
+}
+
+/// Prints why the ledger refused a handle.
+fn print_refusal(text: &mut String, refusal: ResourceFault) -> Result<(), AllocError>
+    ensures { OnOk result (string_bytes text.new ≡ string_bytes text.old ++ spec.refusal_text refusal) }
+{
+    match refusal {
+        ResourceFault::UnknownHandle(index) => write!(text, "UnknownHandle {index}"),
+        ResourceFault::NotAResource(index) => write!(text, "NotAResource {index}"),
+        ResourceFault::ResourceTypeMismatch => text.push_str("ResourceTypeMismatch"),
+        ResourceFault::StillLent(index) => write!(text, "StillLent {index}"),
+        ResourceFault::TooManyLends(index) => write!(text, "TooManyLends {index}"),
+        ResourceFault::HandleLimit => text.push_str("HandleLimit"),
+        ResourceFault::IndexOverflow => text.push_str("IndexOverflow"),
+        ResourceFault::BorrowAsOwn => text.push_str("BorrowAsOwn"),
+        ResourceFault::HostConsumed => text.push_str("HostConsumed"),
+        ResourceFault::HostDeallocated => text.push_str("HostDeallocated"),
+        ResourceFault::GenerationExhausted => text.push_str("GenerationExhausted"),
+        ResourceFault::BorrowsRemain => text.push_str("BorrowsRemain"),
+        ResourceFault::NoScope => text.push_str("NoScope"),
+        ResourceFault::OutOfMemory => text.push_str("OutOfMemory"),
     }
 }
 

@@ -58,6 +58,7 @@ fn print_value(text: &mut String, value: &Val) -> Result<(), AllocError>
             Err(payload) => print_case(text, "err", payload),
         },
         Val::Flags(names) => print_flags(text, names),
+        Val::Resource(_) => text.push_str("#"),
         Val::FixedLengthList(items) => print_row(text, "[", items, "]"),
     }
 }

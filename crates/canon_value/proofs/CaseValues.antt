@@ -65,11 +65,13 @@ none_there : (vs : List Val) → length vs ≡ 0 → [] ≡ vs
 none_there [] e = refl
 none_there (v ∷ vs) e = absurd (omega (arith, e))
 
+pub enum_none : (s : Shape) (names : List Name) (i : ℕ) (vs : List Val) → s ≡ enum_of names → length vs ≡ member_count (case_members (variant_cases s) i) → [] ≡ vs
+enum_none s names i vs e count = none_there vs (omega (arith, count, ap (λ (x : Shape). member_count (case_members (variant_cases x) i)) e, ap member_count (bare_members names i)))
+
 pub enum_rebuilt : (s : Shape) (names : List Name) (i : ℕ) (vs : List Val) (v : Val) → s ≡ enum_of names → i < case_count (variant_cases s)
     → length vs ≡ member_count (case_members (variant_cases s) i) → IsCase of_names (variant_cases s) i [] v → IsCaseRebuilt s i vs v
 enum_rebuilt s names i vs v e lt count is =
-    let none : length vs ≡ 0 = omega (arith, count, ap (λ (x : Shape). member_count (case_members (variant_cases x) i)) e, ap member_count (bare_members names i)) in
-    case_rebuilt s of_names i vs v (as_cases s of_names (bare_cases names) e) lt (subst (λ (ws : List Val). IsCase of_names (variant_cases s) i ws v) (none_there vs none) is)
+    case_rebuilt s of_names i vs v (as_cases s of_names (bare_cases names) e) lt (subst (λ (ws : List Val). IsCase of_names (variant_cases s) i ws v) (enum_none s names i vs e count) is)
 
 -- an option's case is the number of its payloads
 option_number : (some : Shape) (i n : ℕ) → i < 2 → n ≡ member_count (case_members (variant_cases (option_of some)) i) → n ≡ i

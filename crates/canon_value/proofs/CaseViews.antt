@@ -17,7 +17,8 @@ use Rattle.std.proofs.lemmas.Slice.Eq.{bytes_eq-Decides}
 use Rattle.canon_abi.specs.Abi.{HasInfo}
 use Rattle.canon_abi.specs.declared.abi.VariantInfo.{VariantInfo}
 use Rattle.canon_lowering.specs.Copies.{case_members}
-use Rattle.canon_lowering.specs.Lowering.{refused}
+use Rattle.canon_ledger.specs.declared.fault.ResourceFault.{ResourceFault}
+use Rattle.canon_lowering.specs.Lowering.{Ending, refused}
 use Rattle.canon_model.specs.Shape.{Cases, Members, Name, Shape, VariantKind, bare_cases, case_for, case_count, enum_of, member, member_count, no_cases, no_members, of_cases, of_names, of_result, result_of, variant, variant_of}
 use Rattle.canon_types.specs.Depth.{variant_cases}
 use Rattle.canon_types.specs.Keeps.{cases_type}
@@ -26,6 +27,7 @@ use Rattle.canon_types.specs.declared.types.InterfaceType.{InterfaceType}
 use Rattle.canon_value.specs.CaseView.{IsPayload, Misses}
 use Rattle.canon_value.specs.Fails.{Blames, FailsAt, payload_expected, payload_not_expected, unknown_case}
 use Rattle.canon_context.specs.Lowers.{fault_ending}
+use Rattle.canon_value.specs.Resources.{ledger_fault}
 use Rattle.canon_value.specs.Value.{IsCase, IsFirst, case_names, member_names, result_case, result_payload, unboxed}
 use Rattle.canon_value.specs.View.{AreKnown, IsMember, names_of, shapes_of, values_of}
 use Rattle.canon_value.specs.Viewed.{IsCaseSeen}
@@ -158,7 +160,7 @@ payload_seen t (Some type) (Some b) ms known (v, e, ev) =
 -- ---- how a value fails
 
 abbrev IsBlamed : Shape → Val → ℕ → Fault → Type 0
-IsBlamed s v place e = (fault_ending e ≡ refused) × ((enc : Encoding) → Blames enc (λ how j. FailsAt how s v j) place e)
+IsBlamed s v place e = ◌≡◌ {A = Ending × Option ResourceFault} (fault_ending e, ledger_fault e) (refused, None) × ((enc : Encoding) → Blames enc (λ how j. FailsAt how s v j) place e)
 
 -- its payload is there though its case has none, or the other way round
 pub missed : (t : Table) (k : VariantKind) (cs : Cases) (d : ℕ) (type : Option InterfaceType) (p : Option (Box Val Global)) (s : Shape) (v : Val) (place : ℕ) (e : Fault) → s ≡ variant k cs → place < 2 ^ 64

@@ -8,6 +8,7 @@ use Rattle.canon_value.specs.Equal as equal
 use Rattle.canon_value.specs.Equal.{Data, Datas, DataKind, all_same, compared, compared_pairs, data_and, float_key, is_equal, is_nan, pair_row, row, same, value}
 use Rattle.canon_value.specs.EqualLaws.{equal_decides}
 use Rattle.canon_value.specs.Laws.{ValueEquality}
+use Rattle.canon_value.proofs.HandleValues.{resources_told}
 use Rattle.canon_value.proofs.KeyedData.{copies_equal}
 use Rattle.canon_value.specs.Value.{names_in, values_in}
 use Rattle.canon_value.specs.declared.val.Val.{Val, the_lemmas}
@@ -83,4 +84,5 @@ value_equality = record {
   transitive = λ v w x e f. e ∙ f;
   floats = λ k n m. (λ e. key_tells (is_nan k n) (is_nan k m) n m e, key_same k n m);
   copies = λ v w e. copies_equal v w e;
+  resources = resources_told;
 }

@@ -23,6 +23,8 @@ use Rattle.canon_types.specs.declared.types.InterfaceType.TheVariants as ty
 use Rattle.canon_types.specs.declared.types.TypeFlags.{TypeFlags}
 use Rattle.canon_context.specs.Core.{Parts, encoding_by, guest_of, moment_of, types_of}
 use Rattle.canon_value.specs.Flags.{AreSetInWords, SetsBit, SomeUnknown, flag_names}
+use Rattle.canon_value.proofs.Passing.{flags_none, passes_none, passes_stopped}
+use Rattle.canon_value.specs.Resources.{passes}
 use Rattle.canon_value.specs.Stores.{StoresTo}
 use Rattle.canon_value.specs.Value.{HasTree, cap}
 use Rattle.canon_value.specs.Words.{LowersTo, WordsStay}
@@ -70,8 +72,10 @@ module _ {T G : Type 0} (L : GuestLaws G) (options : ℕ) (a : Parts T G) (names
         let there : AreStored a.memory m at (flags_size (length names)) names (names_of set.items) = subst (λ (n : ℕ). AreStored a.memory m at n names (names_of set.items)) many h in
         let (least, marked, known) = marked_all names (names_of set.items) (num (narrow m) at (flags_size (length names))) there.marked there.known in
         subst (λ (x : Shape). StoresTo L.seen L.moves options a (record a { memory = m }) x at (val.Flags set) place (Ok next)) (sym is) (record {
+          handles = [];
           storing = flags_stored false (L.seen a.guest) a.memory m (encoding_by a options) at (HasTree (flags names) (val.Flags set)) small names (omega (arith, room, many)) there.writes least
               (names_of set.items, _, (set, refl, refl), known, refl, marked, λ h. any_order h);
+          handed = passes_none a.component.types a.ledger a.ledger (passes (val.Flags set) (flags names)) refl (flags_none names set);
           counted = (omega (arith, counted, places_flags (names_of set.items) (val.Flags set) (set, refl, refl)), flags_small (encoding_by a options) names (val.Flags set));
           moved = moves_written L (guest_of a) a.guest a.memory m done h.writes.same_length (moves_none L (guest_of a) done);
           same = refl;
@@ -84,6 +88,7 @@ module _ {T G : Type 0} (L : GuestLaws G) (options : ℕ) (a : Parts T G) (names
     flags_not_stored some h unknown few =
         let writes : Writes (block at (flags_size (length names))) a.memory m = subst (λ (n : ℕ). Writes (block at n) a.memory m) many h.writes in
         subst (λ (x : Shape). StoresTo L.seen L.moves options a (record a { memory = m }) x at (val.Flags set) place (Err (fault.UnknownFlag place))) (sym is) (record {
+          handles = [];
           storing = record {
             answers = [];
             trap = None;
@@ -92,6 +97,7 @@ module _ {T G : Type 0} (L : GuestLaws G) (options : ℕ) (a : Parts T G) (names
             requested = λ x has. requested_later _ refused tt;
             shown = tt;
           };
+          handed = passes_stopped a.component.types a.ledger a.ledger (passes (val.Flags set) (flags names)) (fault.UnknownFlag place) refl refl;
           counted = (0, omega (arith, few), (refl, (names_of set.items, (set, refl, refl), unknown)));
           moved = moves_written L (guest_of a) a.guest a.memory m refused h.writes.same_length (moves_none L (guest_of a) refused);
           same = refl;
@@ -105,7 +111,9 @@ module _ {T G : Type 0} (L : GuestLaws G) (options : ℕ) (a : Parts T G) (names
         → LowersTo L.seen L.moves options a a dst dst2 from (Ok to) s (val.Flags set)
     unfolding flat
     flags_lower to (below, (least, marked, known)) ew ep = subst (λ (x : Shape). LowersTo L.seen L.moves options a a dst dst2 from (Ok to) x (val.Flags set)) (sym is) (record {
+      handles = [];
       lowered = flags_words false (moment_of L.seen a) (encoding_by a options) dst2 from.word (HasTree (flags names) (val.Flags set)) small names below least (names_of set.items, _, (set, refl, refl), known, refl, marked, λ h. any_order h);
+      handed = passes_none a.component.types a.ledger a.ledger (passes (val.Flags set) (flags names)) refl (flags_none names set);
       stays = stays;
       passed = ew;
       counted = (omega (arith, ep, is_place, places_flags (names_of set.items) (val.Flags set) (set, refl, refl)), flags_small (encoding_by a options) names (val.Flags set));
@@ -116,7 +124,9 @@ module _ {T G : Type 0} (L : GuestLaws G) (options : ℕ) (a : Parts T G) (names
 
     pub flags_not_lowered : SomeUnknown names (names_of set.items) → place < 2 ^ 64 → LowersTo L.seen L.moves options a a dst dst2 from (Err (fault.UnknownFlag from.place)) s (val.Flags set)
     flags_not_lowered unknown few = subst (λ (x : Shape). LowersTo L.seen L.moves options a a dst dst2 from (Err (fault.UnknownFlag from.place)) x (val.Flags set)) (sym is) (record {
+      handles = [];
       lowered = attempt_refused false (moment_of L.seen a) [] _ small;
+      handed = passes_stopped a.component.types a.ledger a.ledger (passes (val.Flags set) (flags names)) (fault.UnknownFlag from.place) refl refl;
       stays = stays;
       passed = tt;
       counted = (0, omega (arith, few, is_place), (refl, (names_of set.items, (set, refl, refl), unknown)));

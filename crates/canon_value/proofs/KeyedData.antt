@@ -75,6 +75,7 @@ module _ {E : Type 0} (f : E → Val) (h : (e : E) → compared (f e) ≡ keyed 
   level (F.Result (Err None)) = refl
   level (F.Result (Err (Some b))) = ap (λ (d : Data). value equal.result (pos 1) [] (data_and d no_data)) (h b.value)
   level (F.Flags names) = refl
+  level (F.Resource x) = refl
   level (F.FixedLengthList xs) = ap (λ (ds : Datas). value equal.fixed (pos 0) [] ds) (rows xs.items)
 
 compared_keyed : (v : Val) → compared v ≡ keyed (data_of v)

@@ -46,3 +46,13 @@ pub mod Listing
 pub mod ListLoading
 pub mod Copied
 pub mod KeyedData
+pub mod HandleValues
+pub mod NoResources
+pub mod PassesOf
+pub mod LeavesAt
+pub mod Lifted
+pub mod ResourcesOf
+pub mod HandleLifting
+pub mod Passing
+pub mod Crossing
+pub mod HandleSteps

@@ -5,6 +5,7 @@ use Rattle.canon_model.proofs.Reached.{reach_is_the_cost}
 use Rattle.canon_model.specs.Cost.{names_length, val_cost}
 use Rattle.canon_model.specs.Flat.{CaseFlat, MembersFlat, RepFlatAt}
 use Rattle.canon_model.specs.Layout.{cases_flat, flat, members_flat}
+use Rattle.canon_model.specs.Leaves.{flat_leaves, members_flat_leaves}
 use Rattle.canon_model.specs.Memory.{Inside, Memory, low}
 use Rattle.canon_model.specs.Reach.{At, CaseFlatFault, FlatFault, Kind, MemberFlatFault, case_flat_reach, flat_reach, members_flat_reach, no_case, word}
 use Rattle.canon_model.specs.Shape.{Cases, Members, Shape, VariantKind, bare, case_count, member_count, no_cases, payload}
@@ -12,7 +13,6 @@ use Rattle.canon_model.specs.Text.{Encoding}
 use Rattle.canon_model.specs.Tree.{Trees}
 use Rattle.canon_types.specs.Depth.{deepest, depth, variant_cases}
 use Rattle.canon_types.specs.Table.{Table}
-use Rattle.canon_plan.specs.Built.{AreBuilt, IsBuilt}
 use Rattle.std.specs.Prelude.{slice_index}
 use Rattle.canon_plan.specs.CasePlan.{IsCaseSlots, case_name_cost, name_charge}
 use Rattle.canon_value.specs.Lifts.{AreTaken, LiftsTo}
@@ -23,7 +23,8 @@ use Rattle.canon_plan.specs.declared.case_plan.CaseSlots.{CaseSlots}
 use Rattle.canon_context.specs.declared.fault.Fault.{Fault}
 use Rattle.canon_context.specs.declared.fault.Fault.TheVariants as fault
 use Rattle.canon_value.specs.declared.val.Val.{Val}
-use Rattle.canon_value.proofs.LoadCases.{payload_nameless, variant_built, variant_charges, variant_depth}
+use Rattle.canon_value.proofs.LoadCases.{payload_nameless, variant_charges, variant_depth}
+use Rattle.canon_value.proofs.LeavesAt.{payload_flat_leaves}
 use Rattle.canon_context.proofs.Told.{told_by}
 use Rattle.canon_value.proofs.Values.{have_count}
 
@@ -124,21 +125,21 @@ pub record WeighsCaseWords (enc : Encoding) (m : Memory) (ws : List ℕ) (s : Sh
   pub refused : (before mid : ℕ) → before ≡ mid + member_count ms * val_cost → (e : Fault) → LiftBlames (ToldAt (MemberFlatFault enc m ws ms (i + 1))) (mid < names_length ms + members_flat_reach enc m ws ms (i + 1)) e
       → LiftBlames (ToldAt (FlatFault enc m ws s i)) (before < flat_reach enc m ws s i) e
   pub shallow : 4 * deepest ms + 1 < 4 * depth s - 1
-  pub built : AreBuilt ms
+  pub leaves : flat_leaves m ws s i ≡ members_flat_leaves m ws ms (i + 1)
   pub room : 1 + members_flat ms ≤ flat s
   pub count : (to mid late : ℕ) (vs : List Val) → AreTaken enc m ws (i + 1) to mid late ms vs → length vs ≡ member_count (case_members (variant_cases s) tag)
   pub nameless : (to before mid late : ℕ) (vs : List Val) → before ≡ mid + member_count ms * val_cost → AreTaken enc m ws (i + 1) to mid late ms vs → late < name_charge s tag → before < flat_reach enc m ws s i
   pub lifted : (to before mid late end after : ℕ) (vs : List Val) → before ≡ mid + member_count ms * val_cost → AreTaken enc m ws (i + 1) to mid late ms vs → late ≡ after + name_charge s tag → end ≡ i + flat s
       → (r : Result Val Fault) → IfOk r (IsCaseRebuilt s tag vs) → IfErr r (λ e. e ≡ fault.OutOfMemory) → LiftsTo enc m ws i end before after s r
 
-pub case_weighs_words : (enc : Encoding) (m : Memory) (ws : List ℕ) (s : Shape) (i tag : ℕ) → IsVariant s → tag ≡ low (slice_index ws i) → IsBuilt s → (t : Table) (c : CaseSlots) → IsCaseSlots t s tag c
+pub case_weighs_words : (enc : Encoding) (m : Memory) (ws : List ℕ) (s : Shape) (i tag : ℕ) → IsVariant s → tag ≡ low (slice_index ws i) → (t : Table) (c : CaseSlots) → IsCaseSlots t s tag c
     → WeighsCaseWords enc m ws s i tag (shapes_of t c.payload)
-case_weighs_words enc m ws s i tag is read built t c h =
+case_weighs_words enc m ws s i tag is read t c h =
     subst (λ (ms : Members). WeighsCaseWords enc m ws s i tag ms) (sym h.shapes) (record {
       unpaid = flat_case_unpaid enc m ws s i tag is read;
       refused = payload_told enc m ws s i tag is read;
       shallow = variant_depth s tag is;
-      built = variant_built s tag is built;
+      leaves = payload_flat_leaves m ws s i tag is read;
       room = variant_words s tag is;
       count = λ to mid late vs (ts, reps, have, spent, moved). have_count true (case_members (variant_cases s) tag) vs ts have;
       nameless = λ to before mid late vs charged lifted. flat_name_unpaid enc m ws s i tag is read h.there to before mid late vs charged lifted;

@@ -1,14 +1,17 @@
 -- Lifted values are values, and have one list of data for their trees.
-use Rattle.std.proofs.Common.{◌≡◌, ◌∙◌, Err, List, None, Ok, Some, String, Vec, [], ◌∷◌, ap, ap₂, false, map, pos, refl, rules, string_bytes, subst, subst₂, suc, sym, true, zero, ℕ}
+use Rattle.std.proofs.Common.{◌≡◌, ◌∙◌, ◌++◌, append-nil, append_assoc, Err, List, None, Ok, Some, String, Vec, [], ◌∷◌, ap, ap₂, false, map, pos, refl, rules, string_bytes, subst, subst₂, suc, sym, true, zero, ℕ}
 use Rattle.std.specs.declared.alloc.Global.{Global}
 use Rattle.canon_lowering.proofs.AimedCases.{number_of}
 use Rattle.canon_lowering.specs.Copies.{case_tree, payload_trees}
 use Rattle.canon_model.specs.Shape.{Cases, Members, Name, ProductKind, Shape, VariantKind, bare, borrow, fixed, flags, list, member, no_cases, no_members}
 use Rattle.canon_model.specs.Shape.{of_cases, of_fields, of_items, of_names, of_option, of_pairs, of_places, of_result, own, payload, product, scalar, string, variant}
 use Rattle.canon_model.specs.Tree.{Tree, Trees, bits, case_number, items, no_trees, parts, text, tree}
+use Rattle.canon_resources.specs.Held.{Any}
+use Rattle.canon_value.specs.Elements.{by_turns}
 use Rattle.canon_value.specs.Equal as equal
 use Rattle.canon_value.specs.Equal.{Data, Datas, data_of, no_data, pair_data, row, value}
 use Rattle.canon_value.specs.Laws.{OneValue}
+use Rattle.canon_value.specs.Resources.{all_resources, joined, resources}
 use Rattle.canon_value.specs.Value.{AreLiftedFrom, CaseHas, EachHas, HasTree, HaveTrees, IsCase, IsFixed, IsFlags, IsItems, IsLiftedFrom}
 use Rattle.canon_value.specs.Value.{IsPairs, IsProduct, IsText, PairHas, chosen, member_names, result_case, result_payload, unboxed}
 use Rattle.canon_value.specs.declared.val.Val.{Val, the_lemmas}
@@ -17,6 +20,7 @@ use Rattle.canon_value.proofs.Cases.{Both, Payload, case_back, same_some}
 use Rattle.canon_value.proofs.Copied.{flags_copied, map_copied, record_copied}
 use Rattle.canon_value.proofs.MapsAndFlags.{any_order}
 use Rattle.canon_value.proofs.OneValue.{scalar_value, trees_one, values_one}
+use Rattle.canon_value.proofs.ResourcesOf.{case_resources, flags_have_none, pair_resources, product_resources, resources_fixed, resources_list, resources_resource, scalar_has_none, text_has_none}
 
 -- ---- they are values
 
@@ -132,90 +136,152 @@ case_data of_result cs d vs ws v w (r, ev, es, ei, li) (q, ew, et, ej, lj) e =
 
 -- ---- they have one list of data
 
-each_data : {A D : Type 0} → (Has : A → Tree → Type 0) (data_in : A → D) → ((v w : A) (t : Tree) → Has v t → Has w t → data_in v ≡ data_in w)
-    → (vs ws : List A) (ts : Trees) → EachHas Has vs ts → EachHas Has ws ts → map data_in vs ≡ map data_in ws
-each_data Has data_in one [] [] ts h g = refl
-each_data Has data_in one [] (w ∷ ws) ts h (u, last, eu, has2, have2) = let wrong : no_trees ≡ tree u last = sym h ∙ eu in cc
-each_data Has data_in one (v ∷ vs) [] ts (t, rest, et, has, have) g = let wrong : no_trees ≡ tree t rest = sym g ∙ et in cc
-each_data Has data_in one (v ∷ vs) (w ∷ ws) ts (t, rest, et, has, have) (u, last, eu, has2, have2) =
+-- without resources of its own
+without : (v w : Val) (xs ys : List Any) → resources v ≡ [] → resources w ≡ [] → resources v ++ xs ≡ resources w ++ ys → xs ≡ ys
+without v w xs ys none nor e = sym (ap (λ zs. zs ++ xs) none) ∙ (e ∙ ap (λ zs. zs ++ ys) nor)
+
+-- with those of others
+instead : (os bs cs ds xs ys : List Any) → os ≡ bs → cs ≡ ds → os ++ xs ≡ cs ++ ys → bs ++ xs ≡ ds ++ ys
+instead os bs cs ds xs ys e f h = sym (ap (λ zs. zs ++ xs) e) ∙ (h ∙ ap (λ zs. zs ++ ys) f)
+
+-- in two steps
+in_turn : (os bs cs ds xs ys : List Any) → (os ++ bs) ++ xs ≡ (cs ++ ds) ++ ys → os ++ (bs ++ xs) ≡ cs ++ (ds ++ ys)
+in_turn os bs cs ds xs ys e = sym (append_assoc os bs xs) ∙ (e ∙ append_assoc cs ds ys)
+
+-- the data are the same, and so are the resources behind
+abbrev Alike : {D : Type 0} → D → D → List Any → List Any → Type 0
+Alike d e xs ys = (d ≡ e) × (xs ≡ ys)
+
+each_data : {A D : Type 0} → (Has : A → Tree → Type 0) (data_in : A → D) (its : A → List Any)
+    → ((v w : A) (t : Tree) (xs ys : List Any) → Has v t → Has w t → its v ++ xs ≡ its w ++ ys → Alike (data_in v) (data_in w) xs ys)
+    → (vs ws : List A) (ts : Trees) (xs ys : List Any) → EachHas Has vs ts → EachHas Has ws ts → joined (map its vs) ++ xs ≡ joined (map its ws) ++ ys → Alike (map data_in vs) (map data_in ws) xs ys
+each_data Has data_in its one [] [] ts xs ys h g r = (refl, r)
+each_data Has data_in its one [] (w ∷ ws) ts xs ys h (u, last, eu, has2, have2) r = let wrong : no_trees ≡ tree u last = sym h ∙ eu in cc
+each_data Has data_in its one (v ∷ vs) [] ts xs ys (t, rest, et, has, have) g r = let wrong : no_trees ≡ tree t rest = sym g ∙ et in cc
+each_data Has data_in its one (v ∷ vs) (w ∷ ws) ts xs ys (t, rest, et, has, have) (u, last, eu, has2, have2) r =
     let same : tree t rest ≡ tree u last = sym et ∙ eu in
     let first : u ≡ t = cc in
     let tail : last ≡ rest = cc in
-    ap₂ (λ d ds. d ∷ ds) (one v w t has (subst (Has w) first has2)) (each_data Has data_in one vs ws rest have (subst (EachHas Has ws) tail have2))
+    let here = one v w t (joined (map its vs) ++ xs) (joined (map its ws) ++ ys) has (subst (Has w) first has2) (in_turn (its v) _ (its w) _ xs ys r) in
+    let there = each_data Has data_in its one vs ws rest xs ys have (subst (EachHas Has ws) tail have2) here.1 in
+    (ap₂ (λ d ds. d ∷ ds) here.0 there.0, there.1)
+
+-- of a key and its value
+abbrev pub both_resources : Val × Val → List Any
+both_resources p = resources p.0 ++ resources p.1
+
+pub turned : (ps : List (Val × Val)) → all_resources (by_turns ps) ≡ joined (map both_resources ps)
+turned [] = refl
+turned (p ∷ ps) = sym (append_assoc (resources p.0) (resources p.1) (all_resources (by_turns ps))) ∙ ap (λ zs. both_resources p ++ zs) (turned ps)
+
+pub items_resources : (vs : List Val) (v : Val) → IsItems vs v → resources v ≡ all_resources vs
+items_resources vs v (xs, e, ev) = ap resources e ∙ (resources_list xs ∙ ap all_resources (sym ev))
+
+pub fixed_resources : (vs : List Val) (v : Val) → IsFixed vs v → resources v ≡ all_resources vs
+fixed_resources vs v (xs, e, ev) = ap resources e ∙ (resources_fixed xs ∙ ap all_resources (sym ev))
+
+-- of one handle
+handle_data : (v w : Val) (x y : Any) (xs ys : List Any) → v ≡ val.Resource x → w ≡ val.Resource y → resources v ++ xs ≡ resources w ++ ys → Alike (data_of v) (data_of w) xs ys
+handle_data v w x y xs ys e f r =
+    let both : x ∷ xs ≡ y ∷ ys = instead (resources v) (x ∷ []) (resources w) (y ∷ []) xs ys (ap resources e ∙ resources_resource x) (ap resources f ∙ resources_resource y) r in
+    let same : x ≡ y = cc in
+    let rest : xs ≡ ys = cc in
+    (ap data_of e ∙ (ap (λ (z : Any). data_of (val.Resource z)) same ∙ sym (ap data_of f)), rest)
 
 mutual
-  one_data : (s : Shape) (v w : Val) (t : Tree) → IsLiftedFrom s v t → IsLiftedFrom s w t → data_of v ≡ data_of w
-  one_data (scalar k) v w t h g = ap data_of (scalar_value k v w t h g)
-  one_data string v w t (cs, n, h, et) (ds, m, g, eu) =
+  one_data : (s : Shape) (v w : Val) (t : Tree) (xs ys : List Any) → IsLiftedFrom s v t → IsLiftedFrom s w t → resources v ++ xs ≡ resources w ++ ys → Alike (data_of v) (data_of w) xs ys
+  one_data (scalar k) v w t xs ys h g r = (ap data_of (scalar_value k v w t h g), without v w xs ys (scalar_has_none k v t h) (scalar_has_none k w t g) r)
+  one_data string v w t xs ys (cs, n, h, et) (ds, m, g, eu) r =
       let same : text cs n ≡ text ds m = sym et ∙ eu in
       let scalars : ds ≡ cs = cc in
-      text_data cs v w h (subst (λ xs. IsText xs w) scalars g)
-  one_data (own r) v w t h g = absurd h
-  one_data (borrow r) v w t h g = absurd h
-  one_data (list of_pairs s) v w t (is, (ps, ts, p, et, have)) (js, (qs, us, q, eu, have2)) =
+      (text_data cs v w h (subst (λ zs. IsText zs w) scalars g), without v w xs ys (text_has_none cs v h) (text_has_none ds w g) r)
+  one_data (own i) v w t xs ys (x, h, e, et) (y, k, f, eu) r = handle_data v w x y xs ys e f r
+  one_data (borrow i) v w t xs ys (x, h, e, et) (y, k, f, eu) r = handle_data v w x y xs ys e f r
+  one_data (list of_pairs s) v w t xs ys (is, (ps, ts, p, et, have)) (js, (qs, us, q, eu, have2)) r =
       let same : items ts ≡ items us = sym et ∙ eu in
       let trees : us ≡ ts = cc in
-      pairs_data ps qs v w p q (each_data (PairHas true s) pair_data (λ x y u h g. one_pair s x y u h g) ps qs ts have (subst (EachHas (PairHas true s) qs) trees have2))
-  one_data (list of_items s) v w t (vs, ts, p, et, have) (ws, us, q, eu, have2) =
+      let those = instead (resources v) (joined (map both_resources ps)) (resources w) (joined (map both_resources qs)) xs ys (pair_resources ps v p ∙ turned ps) (pair_resources qs w q ∙ turned qs) r in
+      let each = each_data (PairHas true s) pair_data both_resources (λ x y u os bs h g z. one_pair s x y u os bs h g z) ps qs ts xs ys have (subst (EachHas (PairHas true s) qs) trees have2) those in
+      (pairs_data ps qs v w p q each.0, each.1)
+  one_data (list of_items s) v w t xs ys (vs, ts, p, et, have) (ws, us, q, eu, have2) r =
       let same : items ts ≡ items us = sym et ∙ eu in
       let trees : us ≡ ts = cc in
-      list_data vs ws v w p q (each_data (IsLiftedFrom s) data_of (λ x y u h g. one_data s x y u h g) vs ws ts have (subst (EachHas (IsLiftedFrom s) ws) trees have2))
-  one_data (fixed n s) v w t (vs, ts, p, l, et, have) (ws, us, q, l2, eu, have2) =
+      let those = instead (resources v) (all_resources vs) (resources w) (all_resources ws) xs ys (items_resources vs v p) (items_resources ws w q) r in
+      let each = each_data (IsLiftedFrom s) data_of resources (λ x y u os bs h g z. one_data s x y u os bs h g z) vs ws ts xs ys have (subst (EachHas (IsLiftedFrom s) ws) trees have2) those in
+      (list_data vs ws v w p q each.0, each.1)
+  one_data (fixed n s) v w t xs ys (vs, ts, p, l, et, have) (ws, us, q, l2, eu, have2) r =
       let same : parts ts ≡ parts us = sym et ∙ eu in
       let trees : us ≡ ts = cc in
-      fixed_data vs ws v w p q (each_data (IsLiftedFrom s) data_of (λ x y u h g. one_data s x y u h g) vs ws ts have (subst (EachHas (IsLiftedFrom s) ws) trees have2))
-  one_data (product k ms) v w t (vs, ts, p, et, have) (ws, us, q, eu, have2) =
+      let those = instead (resources v) (all_resources vs) (resources w) (all_resources ws) xs ys (fixed_resources vs v p) (fixed_resources ws w q) r in
+      let each = each_data (IsLiftedFrom s) data_of resources (λ x y u os bs h g z. one_data s x y u os bs h g z) vs ws ts xs ys have (subst (EachHas (IsLiftedFrom s) ws) trees have2) those in
+      (fixed_data vs ws v w p q each.0, each.1)
+  one_data (product k ms) v w t xs ys (vs, ts, p, et, have) (ws, us, q, eu, have2) r =
       let same : parts ts ≡ parts us = sym et ∙ eu in
       let trees : us ≡ ts = cc in
-      product_data k (member_names ms) vs ws v w p q (all_data ms vs ws ts have (subst (λ xs. AreLiftedFrom ms ws xs) trees have2))
-  one_data (variant k cs) v w t (d, vs, ts, is, et, have) (e, ws, us, js, eu, have2) =
+      let those = instead (resources v) (all_resources vs) (resources w) (all_resources ws) xs ys (product_resources k (member_names ms) vs v p) (product_resources k (member_names ms) ws w q) r in
+      let all = all_data ms vs ws ts xs ys have (subst (λ zs. AreLiftedFrom ms ws zs) trees have2) those in
+      (product_data k (member_names ms) vs ws v w p q all.0, all.1)
+  one_data (variant k cs) v w t xs ys (d, vs, ts, is, et, have) (e, ws, us, js, eu, have2) r =
       let same : case_tree d ts ≡ case_tree e us = sym et ∙ eu in
       let number : e ≡ d = sym (number_of e us) ∙ (ap case_number (sym same) ∙ number_of d ts) in
       let trees : us ≡ ts = sym (case_back true cs e e ws us have2) ∙ (ap payload_trees (sym same) ∙ case_back true cs d d vs ts have) in
-      let have3 : CaseHas true cs d ws ts = subst₂ (λ n xs. CaseHas true cs n ws xs) number trees have2 in
-      case_data k cs d vs ws v w is (subst (λ n. IsCase k cs n ws w) number js) (payload_data cs d vs ws ts have have3)
-  one_data (flags names) v w t (set, bs, is, all, et, marked, order) (other, cs, js, all2, eu, marked2, order2) =
+      let have3 : CaseHas true cs d ws ts = subst₂ (λ n zs. CaseHas true cs n ws zs) number trees have2 in
+      let those = instead (resources v) (all_resources vs) (resources w) (all_resources ws) xs ys (case_resources k cs d vs v is) (case_resources k cs e ws w js) r in
+      let all = payload_data cs d vs ws ts xs ys have have3 those in
+      (case_data k cs d vs ws v w is (subst (λ n. IsCase k cs n ws w) number js) all.0, all.1)
+  one_data (flags names) v w t xs ys (set, bs, is, all, et, marked, order) (other, cs, js, all2, eu, marked2, order2) r =
       let same : bits bs ≡ bits cs = sym et ∙ eu in
       let flags_same : bs ≡ cs = cc in
       let names_same : other ≡ set = order2 refl ∙ (ap (chosen names) (sym flags_same) ∙ sym (order refl)) in
-      flags_data set v w is (subst (λ xs. IsFlags xs w) names_same js)
+      (flags_data set v w is (subst (λ zs. IsFlags zs w) names_same js), without v w xs ys (flags_have_none set v is) (flags_have_none other w js) r)
 
-  all_data : (ms : Members) (vs ws : List Val) (ts : Trees) → AreLiftedFrom ms vs ts → AreLiftedFrom ms ws ts → datas vs ≡ datas ws
-  all_data no_members vs ws ts h g = ap datas (h.0 ∙ sym g.0)
-  all_data (member name s ms) vs ws ts (v, others, t, rest, ev, et, has, have) (w, those, u, last, ew, eu, has2, have2) =
+  all_data : (ms : Members) (vs ws : List Val) (ts : Trees) (xs ys : List Any) → AreLiftedFrom ms vs ts → AreLiftedFrom ms ws ts → all_resources vs ++ xs ≡ all_resources ws ++ ys → Alike (datas vs) (datas ws) xs ys
+  all_data no_members vs ws ts xs ys h g r = (ap datas (h.0 ∙ sym g.0), instead (all_resources vs) [] (all_resources ws) [] xs ys (ap all_resources h.0) (ap all_resources g.0) r)
+  all_data (member name s ms) vs ws ts xs ys (v, others, t, rest, ev, et, has, have) (w, those, u, last, ew, eu, has2, have2) r =
       let same : tree t rest ≡ tree u last = sym et ∙ eu in
       let first : u ≡ t = cc in
       let tail : last ≡ rest = cc in
       let has3 : IsLiftedFrom s w t = subst (λ x. IsLiftedFrom s w x) first has2 in
-      let have3 : AreLiftedFrom ms those rest = subst (λ xs. AreLiftedFrom ms those xs) tail have2 in
-      ap datas ev ∙ (ap₂ (λ d ds. d ∷ ds) (one_data s v w t has has3) (all_data ms others those rest have have3) ∙ sym (ap datas ew))
+      let have3 : AreLiftedFrom ms those rest = subst (λ zs. AreLiftedFrom ms those zs) tail have2 in
+      let theirs = instead (all_resources vs) (resources v ++ all_resources others) (all_resources ws) (resources w ++ all_resources those) xs ys (ap all_resources ev) (ap all_resources ew) r in
+      let here = one_data s v w t (all_resources others ++ xs) (all_resources those ++ ys) has has3 (in_turn (resources v) (all_resources others) (resources w) (all_resources those) xs ys theirs) in
+      let there = all_data ms others those rest xs ys have have3 here.1 in
+      (ap datas ev ∙ (ap₂ (λ d ds. d ∷ ds) here.0 there.0 ∙ sym (ap datas ew)), there.1)
 
-  one_pair : (s : Shape) (p q : Val × Val) (t : Tree) → PairHas true s p t → PairHas true s q t → pair_data p ≡ pair_data q
-  one_pair (product l ms) p q t (ts, et, have) (us, eu, have2) =
+  one_pair : (s : Shape) (p q : Val × Val) (t : Tree) (xs ys : List Any) → PairHas true s p t → PairHas true s q t → both_resources p ++ xs ≡ both_resources q ++ ys → Alike (pair_data p) (pair_data q) xs ys
+  one_pair (product l ms) p q t xs ys (ts, et, have) (us, eu, have2) r =
       let same : parts ts ≡ parts us = sym et ∙ eu in
       let trees : us ≡ ts = cc in
-      let both : data_of p.0 ∷ data_of p.1 ∷ [] ≡ data_of q.0 ∷ data_of q.1 ∷ [] = all_data ms (p.0 ∷ p.1 ∷ []) (q.0 ∷ q.1 ∷ []) ts have (subst (λ xs. AreLiftedFrom ms (q.0 ∷ q.1 ∷ []) xs) trees have2) in
+      let alone : (z : Val × Val) → both_resources z ≡ all_resources (z.0 ∷ z.1 ∷ []) = λ z. ap (λ zs. resources z.0 ++ zs) (sym (append-nil (resources z.1))) in
+      let all = all_data ms (p.0 ∷ p.1 ∷ []) (q.0 ∷ q.1 ∷ []) ts xs ys have (subst (λ zs. AreLiftedFrom ms (q.0 ∷ q.1 ∷ []) zs) trees have2)
+      (instead (both_resources p) (all_resources (p.0 ∷ p.1 ∷ [])) (both_resources q) (all_resources (q.0 ∷ q.1 ∷ [])) xs ys (alone p) (alone q) r) in
+      let both : data_of p.0 ∷ data_of p.1 ∷ [] ≡ data_of q.0 ∷ data_of q.1 ∷ [] = all.0 in
       let key : data_of p.0 ≡ data_of q.0 = cc in
       let value_of : data_of p.1 ≡ data_of q.1 = cc in
-      ap₂ (λ (d e : Data). (d, e)) key value_of
-  one_pair (scalar c) p q t h g = absurd h
-  one_pair string p q t h g = absurd h
-  one_pair (own r) p q t h g = absurd h
-  one_pair (borrow r) p q t h g = absurd h
-  one_pair (list l z) p q t h g = absurd h
-  one_pair (fixed n z) p q t h g = absurd h
-  one_pair (variant l cs) p q t h g = absurd h
-  one_pair (flags names) p q t h g = absurd h
+      (ap₂ (λ (d e : Data). (d, e)) key value_of, all.1)
+  one_pair (scalar c) p q t xs ys h g r = absurd h
+  one_pair string p q t xs ys h g r = absurd h
+  one_pair (own i) p q t xs ys h g r = absurd h
+  one_pair (borrow i) p q t xs ys h g r = absurd h
+  one_pair (list l z) p q t xs ys h g r = absurd h
+  one_pair (fixed n z) p q t xs ys h g r = absurd h
+  one_pair (variant l cs) p q t xs ys h g r = absurd h
+  one_pair (flags names) p q t xs ys h g r = absurd h
 
-  payload_data : (cs : Cases) (d : ℕ) (vs ws : List Val) (ts : Trees) → CaseHas true cs d vs ts → CaseHas true cs d ws ts → datas vs ≡ datas ws
-  payload_data no_cases d vs ws ts h g = absurd h
-  payload_data (bare name cs) zero vs ws ts h g = ap datas (h.0 ∙ sym g.0)
-  payload_data (bare name cs) (suc d) vs ws ts h g = payload_data cs d vs ws ts h g
-  payload_data (payload name s cs) zero vs ws ts (v, t, ev, et, has) (w, u, ew, eu, has2) =
+  payload_data : (cs : Cases) (d : ℕ) (vs ws : List Val) (ts : Trees) (xs ys : List Any) → CaseHas true cs d vs ts → CaseHas true cs d ws ts → all_resources vs ++ xs ≡ all_resources ws ++ ys → Alike (datas vs) (datas ws) xs ys
+  payload_data no_cases d vs ws ts xs ys h g r = absurd h
+  payload_data (bare name cs) zero vs ws ts xs ys h g r = (ap datas (h.0 ∙ sym g.0), instead (all_resources vs) [] (all_resources ws) [] xs ys (ap all_resources h.0) (ap all_resources g.0) r)
+  payload_data (bare name cs) (suc d) vs ws ts xs ys h g r = payload_data cs d vs ws ts xs ys h g r
+  payload_data (payload name s cs) zero vs ws ts xs ys (v, t, ev, et, has) (w, u, ew, eu, has2) r =
       let same : tree t no_trees ≡ tree u no_trees = sym et ∙ eu in
       let first : u ≡ t = cc in
-      ap datas ev ∙ (ap (λ d. d ∷ []) (one_data s v w t has (subst (λ x. IsLiftedFrom s w x) first has2)) ∙ sym (ap datas ew))
-  payload_data (payload name s cs) (suc d) vs ws ts h g = payload_data cs d vs ws ts h g
+      let theirs = instead (all_resources vs) (resources v) (all_resources ws) (resources w) xs ys (ap all_resources ev ∙ append-nil (resources v)) (ap all_resources ew ∙ append-nil (resources w)) r in
+      let here = one_data s v w t xs ys has (subst (λ x. IsLiftedFrom s w x) first has2) theirs in
+      (ap datas ev ∙ (ap (λ d. d ∷ []) here.0 ∙ sym (ap datas ew)), here.1)
+  payload_data (payload name s cs) (suc d) vs ws ts xs ys h g r = payload_data cs d vs ws ts xs ys h g r
+
+same_data : (ms : Members) (vs ws : List Val) (ts : Trees) → AreLiftedFrom ms vs ts → AreLiftedFrom ms ws ts → all_resources vs ≡ all_resources ws → datas vs ≡ datas ws
+same_data ms vs ws ts h g e = (all_data ms vs ws ts [] [] h g (ap (λ zs. zs ++ []) e)).0
 
 pub one_value : OneValue
-one_value = record { trees = trees_one; values = values_one; lifted = all_unlifted; one_lifted = all_data }
+one_value = record { trees = trees_one; values = values_one; lifted = all_unlifted; one_lifted = same_data }

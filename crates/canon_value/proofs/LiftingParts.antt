@@ -5,6 +5,7 @@ use Rattle.canon_lowering.proofs.Copying.{copies_flat, copies_in_words}
 use Rattle.canon_lowering.specs.Copies.{copies}
 use Rattle.canon_model.specs.Cost.{cost, names_length, val_cost}
 use Rattle.canon_model.specs.Layout.{flat, members_flat}
+use Rattle.canon_model.specs.Leaves.{flat_leaves, members_flat_leaves}
 use Rattle.canon_model.specs.Memory.{Inside, Memory}
 use Rattle.canon_model.specs.Reach.{At, FlatFault, Kind, MemberFlatFault, SomeElement, flat_reach, members_flat_reach, sum_at}
 use Rattle.canon_model.specs.Shape.{Members, Shape, borrow, fixed, flags, list, member_count, of_fields, of_places, own, product, scalar, string, variant}
@@ -18,6 +19,7 @@ use Rattle.canon_plan.specs.Plan.{Unnamed, LiesAs}
 use Rattle.canon_context.specs.declared.fault.Fault.{Fault}
 use Rattle.canon_context.specs.declared.fault.Fault.TheVariants as fault
 use Rattle.canon_value.specs.declared.val.Val.{Val}
+use Rattle.canon_value.proofs.LeavesAt.{fixed_flat_leaves}
 use Rattle.canon_context.proofs.Told.{told_by}
 use Rattle.canon_value.proofs.LoadingParts.{copies_cost, copies_nameless}
 use Rattle.canon_plan.proofs.TypeKinds.{no_length}
@@ -43,26 +45,30 @@ module _ (enc : Encoding) (m : Memory) (ws : List ℕ) where
     pub low : (now : ℕ) → now < member_count these * val_cost + (names_length these + members_flat_reach enc m ws these i) → now < flat_reach enc m ws s i
     pub blames : (k : Kind) (x : At) → MemberFlatFault enc m ws these i k x → FlatFault enc m ws s i k x
     pub words : members_flat these ≡ flat s
+    pub leaves : flat_leaves m ws s i ≡ members_flat_leaves m ws these i
     pub lifted : (before mid to after : ℕ) (vs : List Val) → before ≡ mid + member_count these * val_cost → AreTaken enc m ws i to mid after these vs → ArePartsLifted enc m ws i to before after s vs
 
   pub weighs_words : (s : Shape) (these : Members) (i : ℕ) → LiesAs s these → Unnamed s → WeighsWords s these i
-  unfolding flat_reach cost flat
+  unfolding flat_reach cost flat flat_leaves
   weighs_words (product of_fields ms) these i e none = subst (λ (x : Members). WeighsWords (product of_fields ms) x i) (sym e) (record {
     low = λ now h. omega (arith, h);
     blames = λ k x f. f;
     words = refl;
+    leaves = refl;
     lifted = λ before mid to after vs charged (ts, reps, have, spent, moved). (ts, (ts, refl, reps), have, omega (arith, charged, spent), moved);
   })
   weighs_words (product of_places ms) these i e none = subst (λ (x : Members). WeighsWords (product of_places ms) x i) (sym e) (record {
     low = λ now h. omega (arith, h, none);
     blames = λ k x f. f;
     words = refl;
+    leaves = refl;
     lifted = λ before mid to after vs charged (ts, reps, have, spent, moved). (ts, (ts, refl, reps), have, omega (arith, charged, spent, none), moved);
   })
   weighs_words (fixed n s) these i e none = subst (λ (x : Members). WeighsWords (fixed n s) x i) (sym e) (record {
     low = λ now h. omega (arith, h, copies_flat_reach n i s, copies_nameless n s, copies_count n s);
     blames = λ k x f. copies_flat_blame n i s k x f;
     words = copies_flat n s;
+    leaves = fixed_flat_leaves m ws n i s;
     lifted = λ before mid to after vs charged (ts, reps, have, spent, moved).
         let (each, count) = copies_in_words (Inside m) false enc m ws n s i ts reps in
         (ts, record { trees = ts; is = refl; count = count; each = each }, have, omega (arith, charged, spent, copies_nameless n s, copies_cost n s ts count, copies_count n s), omega (arith, moved, copies_flat n s));

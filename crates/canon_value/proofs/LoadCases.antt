@@ -13,6 +13,7 @@ use Rattle.canon_model.proofs.Layouts.{alignment, payloads_fit, tag-le-size}
 use Rattle.canon_model.proofs.Reached.{reach_is_the_cost}
 use Rattle.canon_model.specs.Cost.{case_cost, cost, members_cost, names_length, val_cost}
 use Rattle.canon_model.specs.Layout.{align, begins, members_align, members_end, payload_offset, payload_shape, size}
+use Rattle.canon_model.specs.Leaves.{members_reach_leaves, reach_leaves}
 use Rattle.canon_model.specs.Memory.{Inside, num, tag_at}
 use Rattle.canon_model.specs.Reach.{At, CaseFault, Kind, MemberFault, StoredFault, address, case_reach, members_reach, no_case, reach_cost}
 use Rattle.canon_model.specs.Rep.{CaseStored, MembersStored, RepMem, Stored}
@@ -20,7 +21,6 @@ use Rattle.canon_model.specs.Shape.{Cases, Members, Shape, VariantKind, bare, ca
 use Rattle.canon_model.specs.Text.{Encoding}
 use Rattle.canon_model.specs.Tree.{Trees, no_trees, payload_of, tree}
 use Rattle.canon_types.specs.Depth.{deepest, depth, variant_cases}
-use Rattle.canon_plan.specs.Built.{AreBuilt, IsBuilt}
 use Rattle.canon_plan.specs.CasePlan.{IsCaseSlots, TellsCase, case_name_cost, name_charge}
 use Rattle.canon_context.specs.Told.{Exactly, LiftBlames, place_of}
 use Rattle.canon_value.specs.Loads.{AreCharged, IsLoaded, charged_reach}
@@ -31,7 +31,8 @@ use Rattle.canon_value.specs.Value.{AreLiftedFrom}
 use Rattle.canon_plan.specs.declared.case_plan.CaseSlots.{CaseSlots}
 use Rattle.canon_context.specs.declared.fault.Fault.{Fault}
 use Rattle.canon_value.specs.declared.val.Val.{Val}
-use Rattle.canon_value.proofs.Cases.{case_built, case_shallow}
+use Rattle.canon_value.proofs.LeavesAt.{payload_leaves}
+use Rattle.canon_value.proofs.Cases.{case_shallow}
 use Rattle.canon_context.proofs.Told.{blamed_by}
 use Rattle.canon_value.proofs.Values.{have_count}
 
@@ -73,9 +74,6 @@ variant_charges s i vs ts (k, e) h =
     let cs = variant_cases s in
     ap (λ (x : Shape). cost x (case_tree i ts)) e ∙ (ap (λ (d : ℕ). case_cost k cs d (payload_of (case_tree i ts))) (number_of i ts)
     ∙ (case_charges k cs i i vs ts h ∙ ap (λ (x : Shape). name_charge x i + (member_count (case_members cs i) * val_cost + members_cost (case_members cs i) ts)) (sym e)))
-
-pub variant_built : (s : Shape) (i : ℕ) → IsVariant s → IsBuilt s → AreBuilt (case_members (variant_cases s) i)
-variant_built s i (k, e) h = case_built (variant_cases s) i (subst IsBuilt e h)
 
 pub variant_depth : (s : Shape) (i : ℕ) → IsVariant s → 4 * deepest (case_members (variant_cases s) i) + 1 < 4 * depth s - 1
 variant_depth s i (k, e) = omega (arith, case_shallow (variant_cases s) i, ap depth e)
@@ -191,7 +189,7 @@ pub record WeighsCase (enc : Encoding) (bytes : List ℕ) (s : Shape) (a tag : �
   pub refused : (before mid : ℕ) → before ≡ mid + member_count ms * val_cost → (e : Fault) → LiftBlames (Exactly (MemberFault enc (narrow bytes) ms 0 b)) (mid < charged_reach enc (narrow bytes) ms 0 b) e
       → LiftBlames (Exactly (StoredFault enc (narrow bytes) s a)) (before < reach_cost enc (narrow bytes) s a) e
   pub shallow : 4 * deepest ms + 1 < 4 * depth s - 1
-  pub built : AreBuilt ms
+  pub leaves : reach_leaves (narrow bytes) s a ≡ members_reach_leaves (narrow bytes) ms 0 b
   pub aligned : b % members_align false ms ≡ 0
   pub inside : b + members_end false 0 ms ≤ length bytes
   pub count : (mid late : ℕ) (vs : List Val) → AreCharged enc (narrow bytes) ms 0 b mid late vs → length vs ≡ member_count (case_members (variant_cases s) tag)
@@ -203,15 +201,15 @@ module _ (enc : Encoding) (bytes : List ℕ) (s : Shape) (a tag : ℕ) (is : IsV
   pub case_read : tag ≡ tag_at (narrow bytes) a (variant_cases s)
   case_read = told ∙ ap (num (narrow bytes) a) has.size
 
-  pub case_weighs : IsBuilt s → a % align false s ≡ 0 → a + size false s ≤ length bytes → (t : Table) (c : CaseSlots) → IsCaseSlots t s tag c → (n : ℕ) → n ≡ info.payload_offset32
+  pub case_weighs : a % align false s ≡ 0 → a + size false s ≤ length bytes → (t : Table) (c : CaseSlots) → IsCaseSlots t s tag c → (n : ℕ) → n ≡ info.payload_offset32
       → WeighsCase enc bytes s a tag (shapes_of t c.payload) (a + n)
-  case_weighs built aligned inside t c h n start =
+  case_weighs aligned inside t c h n start =
       let at : a + n ≡ a + payload_offset false (variant_cases s) = ap (λ (o : ℕ). a + o) (start ∙ has.offset) in
       subst₂ (λ (ms : Members) (b : ℕ). WeighsCase enc bytes s a tag ms b) (sym h.shapes) (sym at) (record {
         unpaid = case_unpaid enc bytes s a tag is case_read;
         refused = payload_refused enc bytes s a tag is case_read;
         shallow = variant_depth s tag is;
-        built = variant_built s tag is built;
+        leaves = payload_leaves bytes s a tag is case_read;
         aligned = case_aligned enc bytes s a tag is case_read h.there aligned;
         inside = case_inside enc bytes s a tag is case_read h.there inside;
         count = λ mid late vs (ts, stored, have, spent). payload_count (variant_cases s) tag vs ts have;

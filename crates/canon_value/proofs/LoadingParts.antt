@@ -9,6 +9,7 @@ use Rattle.canon_lowering.specs.Storing.{narrow}
 use Rattle.canon_model.proofs.Layouts.{alignment, members_alignment}
 use Rattle.canon_model.specs.Cost.{cost, members_cost, names_length, val_cost}
 use Rattle.canon_model.specs.Layout.{align, begins, ends, members_align, size}
+use Rattle.canon_model.specs.Leaves.{members_reach_leaves, reach_leaves}
 use Rattle.canon_model.specs.Memory.{Inside}
 use Rattle.canon_model.specs.Reach.{At, Kind, MemberFault, StoredFault, members_reach, reach_cost}
 use Rattle.canon_model.specs.Shape.{Members, Shape, borrow, fixed, flags, list, member_count, of_fields, of_places, own, product, scalar, string, variant}
@@ -23,6 +24,7 @@ use Rattle.canon_value.specs.declared.val.Val.{Val}
 use Rattle.canon_context.proofs.Told.{blamed_by}
 use Rattle.canon_value.proofs.Loading.{aligned_part, RowFault, row_reach}
 use Rattle.canon_plan.proofs.Lookups.{copies_count}
+use Rattle.canon_value.proofs.LeavesAt.{fixed_leaves}
 use Rattle.canon_value.proofs.Values.{have_count}
 
 -- ---- a row, as members of one shape
@@ -83,20 +85,23 @@ pub record Weighs (enc : Encoding) (bytes : List ℕ) (s : Shape) (these : Membe
   pub loaded : a + size false s ≤ length bytes → (before mid after : ℕ) (vs : List Val) → before ≡ mid + member_count these * val_cost → AreCharged enc (narrow bytes) these 0 a mid after vs
       → ArePartsLoaded enc (narrow bytes) s a before after vs
   pub aligned : a % align false s ≡ 0 → a % members_align false these ≡ 0
+  pub leaves : reach_leaves (narrow bytes) s a ≡ members_reach_leaves (narrow bytes) these 0 a
 
 pub weighs : (enc : Encoding) (bytes : List ℕ) (s : Shape) (these : Members) (a : ℕ) → LiesAs s these → Unnamed s → Weighs enc bytes s these a
-unfolding reach_cost cost size align
+unfolding reach_cost cost size align reach_leaves
 weighs enc bytes (product of_fields ms) these a e none = subst (λ (x : Members). Weighs enc bytes (product of_fields ms) x a) (sym e) (record {
   low = λ now h. omega (arith, h);
   blames = λ k x f. f;
   loaded = λ inside before mid after vs charged (ts, stored, have, spent). (ts, (inside, (ts, refl, stored)), have, omega (arith, charged, spent));
   aligned = λ h. h;
+  leaves = refl;
 })
 weighs enc bytes (product of_places ms) these a e none = subst (λ (x : Members). Weighs enc bytes (product of_places ms) x a) (sym e) (record {
   low = λ now h. omega (arith, h, none);
   blames = λ k x f. f;
   loaded = λ inside before mid after vs charged (ts, stored, have, spent). (ts, (inside, (ts, refl, stored)), have, omega (arith, charged, spent, none));
   aligned = λ h. h;
+  leaves = refl;
 })
 weighs enc bytes (fixed n s) these a e none = subst (λ (x : Members). Weighs enc bytes (fixed n s) x a) (sym e) (record {
   low = λ now h. omega (arith, h, row_low enc bytes n a s, copies_count n s);
@@ -105,6 +110,7 @@ weighs enc bytes (fixed n s) these a e none = subst (λ (x : Members). Weighs en
       let (each, count) = copies_stored (Inside (narrow bytes)) false enc (narrow bytes) n 0 s a a ts (no_offset (align false s)) (omega arith) stored in
       (ts, (inside, record { trees = ts; is = refl; count = count; each = each }), have, omega (arith, charged, spent, copies_nameless n s, copies_cost n s ts count, copies_count n s));
   aligned = row_aligned enc bytes n a s;
+  leaves = fixed_leaves bytes n a s;
 })
 weighs enc bytes (scalar k) these a e none = absurd e
 weighs enc bytes string these a e none = absurd e

@@ -73,8 +73,8 @@ mutual
       subst₂ Carried (sym et) (sym eu) (us, refl, trees_one ms vs ts us have have3)
   tree_one string v t u (cs, n, h, et) (ds, m, g, eu) =
       subst₂ Carried (sym et) (sym eu) (m, ap (λ xs. text xs m) (text_scalars ds cs v g h))
-  tree_one (own r) v t u h g = absurd h
-  tree_one (borrow r) v t u h g = absurd h
+  tree_one (own r) v t u (x, h, e, et) (y, k, f, eu) = subst₂ Carried (sym et) (sym eu) (k, refl)
+  tree_one (borrow r) v t u (x, h, e, et) (y, k, f, eu) = subst₂ Carried (sym et) (sym eu) (k, refl)
   tree_one (list of_pairs s) v t u (is, (ps, ts, p, et, have)) (js, (qs, us, q, eu, have2)) =
       let have3 : EachHas (PairHas false s) ps us = subst (λ xs. EachHas (PairHas false s) xs us) (one_pairs ps qs v p q) have2 in
       subst₂ Carried (sym et) (sym eu) (us, refl, each_carried (PairHas false s) (λ w x y h g. pair_one s w x y h g) ps ts us have have3)
@@ -135,8 +135,8 @@ mutual
       let same : text cs n ≡ text ds m = sym et ∙ eu in
       let scalars : ds ≡ cs = cc in
       (cs, h, subst (λ xs. IsText xs w) scalars g)
-  value_one (own r) v w t h g = absurd h
-  value_one (borrow r) v w t h g = absurd h
+  value_one (own r) v w t (x, h, e, et) (y, k, f, eu) = (x, y, e, f)
+  value_one (borrow r) v w t (x, h, e, et) (y, k, f, eu) = (x, y, e, f)
   value_one (list of_pairs s) v w t (is, (ps, ts, p, et, have)) (js, (qs, us, q, eu, have2)) =
       let same : items ts ≡ items us = sym et ∙ eu in
       let trees : us ≡ ts = cc in

@@ -2,7 +2,7 @@
 use Rattle.std.proofs.Common.{◌≡◌, ◌≤◌, ◌<◌, ◌+◌, ◌^◌, ◌∙◌, Err, List, Ok, Result, [], ◌∷◌, ap, arith, length, ap₂, refl, subst, subst₂, sym, ℕ, false, ◌*◌, ◌⊎◌}
 use Rattle.canon_lowering.proofs.Attempts.{attempt_refused, attempt_other}
 use Rattle.canon_lowering.specs.Attempt.{LowersValue, StoresMembers, items_call, value_words}
-use Rattle.canon_lowering.specs.Lowering.{Ending, Reallocated, refused}
+use Rattle.canon_lowering.specs.Lowering.{Ending, Reallocated}
 use Rattle.canon_memory.specs.Guest.{Moment}
 use Rattle.canon_model.specs.Requests.{Call}
 use Rattle.canon_model.specs.Shape.{Members, Shape, list}
@@ -19,9 +19,11 @@ use Rattle.canon_context.specs.declared.fault.Fault.{Fault}
 use Rattle.canon_context.specs.declared.fault.Fault.TheVariants as fault
 use Rattle.canon_value.specs.declared.val.Val.{Val}
 use Rattle.canon_value.proofs.Listing.{IsListOf}
+use Rattle.canon_value.proofs.Passing.{IsOwn, handles_then, own_elsewhere, own_ends, passes_as, passes_from, passes_stopped, same_handles, same_ledger, ungiven_elsewhere}
+use Rattle.canon_value.specs.Resources.{LowersHandles, all_passes, passes}
 use Rattle.canon_context.proofs.Moves.{moves_none, GuestLaws, moves_then}
 use Rattle.canon_value.proofs.Sizes.{small_by}
-use Rattle.canon_context.proofs.Cores.{not_done, same_encoding, same_then}
+use Rattle.canon_context.proofs.Cores.{not_done, same_encoding}
 use Rattle.canon_value.proofs.StoreSteps.{Named, count_members}
 use Rattle.canon_value.proofs.Steps.{blames_later, blames_unless}
 use Rattle.canon_lowering.proofs.AimedPairs.{list_ungiven, rows_words}
@@ -38,10 +40,12 @@ asked_blames enc F from a b c e p h = blames_unless enc F from e (λ is. absurd 
 
 module _ {T G : Type 0} (L : GuestLaws G) (options : ℕ) where
   -- a value refused for its own fault
-  pub unplaced : (a : Parts T G) (s : Shape) (v : Val) (place : ℕ) (e : Fault) → length a.memory ≤ 2 ^ 32 → fault_ending e ≡ refused → Blames (encoding_by a options) (λ how k. FailsAt how s v k) place e
+  pub unplaced : (a : Parts T G) (s : Shape) (v : Val) (place : ℕ) (e : Fault) → length a.memory ≤ 2 ^ 32 → IsOwn e → Blames (encoding_by a options) (λ how k. FailsAt how s v k) place e
       → PlacesTo L.seen L.moves options a a s v place (Err e)
   unplaced a s v place e small is b = record {
-    lowered = subst (λ (end : Ending). LowersValue false (moment_of L.seen a) (moment_of L.seen a) (encoding_by a options) s [] 0 (HasTree s v) end) (sym is) (attempt_refused false (moment_of L.seen a) [] _ small);
+    handles = [];
+    lowered = subst (λ (end : Ending). LowersValue false (moment_of L.seen a) (moment_of L.seen a) (encoding_by a options) s [] 0 (HasTree s v) [] end) (sym (own_ends e is)) (attempt_refused false (moment_of L.seen a) [] _ small);
+    handed = passes_stopped a.component.types a.ledger a.ledger (passes v s) e refl (own_elsewhere e is);
     narrow = tt;
     counted = b;
     moved = moves_none L (guest_of a) (fault_ending e);
@@ -50,7 +54,7 @@ module _ {T G : Type 0} (L : GuestLaws G) (options : ℕ) where
 
 -- ---- a list or a map in a block of its own
 
-module _ (whole : Shape) (v : Val) (n : ℕ) (ms : Members) (vs : List Val) (l : IsListOf whole v n ms vs) where
+module _ (whole : Shape) (v : Val) (n : ℕ) (ms : Members) (vs : List Val) (l : IsListOf whole v n ms vs) (given : passes v whole ≡ all_passes ms vs) where
   abbrev shape : Shape
   shape = list l.kind l.part
 
@@ -81,11 +85,13 @@ module _ (whole : Shape) (v : Val) (n : ℕ) (ms : Members) (vs : List Val) (l :
     list_refused a b place k e is asked =
         let h : AsksFor L.seen L.moves a b (items_call false l.part n) (Err e) = subst₂ (λ (j : ℕ) (s : Shape). AsksFor L.seen L.moves a b (items_call false s j) (Err e)) is (ap element_shape l.shape) asked in
         by_parts (λ s. PlacesTo L.seen L.moves options a b s v place (Err e)) (record {
+          handles = [];
           lowered = list_ungiven false (moment_of L.seen a) (moment_of L.seen b) (encoding_by a options) l.kind l.part n 0 [] 0 (HasTree shape v) (fault_ending e) (not_done e) h.small list_count h.does;
+          handed = passes_stopped a.component.types a.ledger b.ledger (passes v shape) e (same_ledger a b h.same) (ungiven_elsewhere (moment_of L.seen a) (moment_of L.seen b) (items_call false l.part n) e 0 h.does);
           narrow = tt;
           counted = asked_blames (encoding_by a options) (λ how k. FailsAt how shape v k) place (moment_of L.seen a) (moment_of L.seen b) (items_call false l.part n) e 0 h.does;
           moved = h.moved;
-          same = h.same;
+          same = same_handles a b h.same;
         })
 
     -- its block is given, and its members are stored there
@@ -94,10 +100,13 @@ module _ (whole : Shape) (v : Val) (n : ℕ) (ms : Members) (vs : List Val) (l :
       g = subst₂ (λ (j : ℕ) (s : Shape). AsksFor L.seen L.moves a b (items_call false s j) (Ok p)) is (ap element_shape l.shape) asked
 
       module _ (r : Result ℕ Fault) (h : PartsStoreTo L.seen L.moves options b c place ms 0 p (no_names vs) vs (cap (place + 1)) r) where
-        row_words : LowersValue false (moment_of L.seen a) (moment_of L.seen c) (encoding_by a options) shape (p ∷ n ∷ []) 0 (HasTree shape v) (ending_of r)
+        row_words : LowersValue false (moment_of L.seen a) (moment_of L.seen c) (encoding_by a options) shape (p ∷ n ∷ []) 0 (HasTree shape v) h.handles (ending_of r)
         row_words = rows_words false (moment_of L.seen a) (moment_of L.seen b) (moment_of L.seen c) (encoding_by a options) l.kind l.part n p l.all ms l.group l.ungroup (l.row (encoding_by a options))
             (Named ms (no_names vs) vs) (HasTree shape v) (ending_of r) g.small g.does (λ _. omega (arith, is, few)) l.is l.back
-            (subst (λ (x : Encoding). StoresMembers false (moment_of L.seen b) (moment_of L.seen c) x ms 0 p (Named ms (no_names vs) vs) (ending_of r)) (same_encoding a b options g.same) h.storing)
+            (subst (λ (x : Encoding). StoresMembers false (moment_of L.seen b) (moment_of L.seen c) x ms 0 p (Named ms (no_names vs) vs) h.handles (ending_of r)) (same_encoding a b options g.same) h.storing)
+
+        row_handed : LowersHandles a.component.types a.ledger c.ledger (passes v shape) h.handles r
+        row_handed = passes_as a.component.types a.ledger c.ledger (all_passes ms vs) (passes v shape) h.handles r (ap (passes v) (sym l.shape) ∙ given) (passes_from a b c.ledger (all_passes ms vs) h.handles r g.same h.handed)
 
         row_counted : Counts (encoding_by a options) (λ how k. FailsAt how shape v k) place (places v) r
         row_counted =
@@ -112,20 +121,24 @@ module _ (whole : Shape) (v : Val) (n : ℕ) (ms : Members) (vs : List Val) (l :
           → PlacesTo L.seen L.moves options a c whole v place (Ok (record { pointer = p; length = k; next = next }))
       list_placed next h =
           let here : PlacesTo L.seen L.moves options a c shape v place (Ok (record { pointer = p; length = n; next = next })) = record {
+            handles = h.handles;
             lowered = row_words (Ok next) h;
+            handed = row_handed (Ok next) h;
             narrow = (g.does.narrow, omega (arith, is, few));
             counted = row_counted (Ok next) h;
             moved = row_moves (Ok next) h;
-            same = same_then a b c g.same h.same;
+            same = handles_then a b c (same_handles a b g.same) h.same;
           } in
           subst (λ (j : ℕ). PlacesTo L.seen L.moves options a c whole v place (Ok (record { pointer = p; length = j; next = next }))) (sym is)
           (by_parts (λ s. PlacesTo L.seen L.moves options a c s v place (Ok (record { pointer = p; length = n; next = next }))) here)
 
       pub list_broken : (e : Fault) → PartsStoreTo L.seen L.moves options b c place ms 0 p (no_names vs) vs (cap (place + 1)) (Err e) → PlacesTo L.seen L.moves options a c whole v place (Err e)
       list_broken e h = by_parts (λ s. PlacesTo L.seen L.moves options a c s v place (Err e)) (record {
+        handles = h.handles;
         lowered = attempt_other false (moment_of L.seen a) (moment_of L.seen c) [] _ (value_words false (encoding_by a options) shape [] 0 (HasTree shape v)) (fault_ending e) (not_done e) (λ t has. (has, refl)) (row_words (Err e) h);
+        handed = row_handed (Err e) h;
         narrow = tt;
         counted = row_counted (Err e) h;
         moved = row_moves (Err e) h;
-        same = same_then a b c g.same h.same;
+        same = handles_then a b c (same_handles a b g.same) h.same;
       })

@@ -34,15 +34,15 @@ as_results strict enc m words ms ts (inr many) rep = record { near = λ few. abs
 
 pub round_trip : RoundTrip
 round_trip = record {
-  memory = λ before after enc s at v w fuel left stored lawful held (u, rep, has, spent).
+  memory = λ before after enc s at v w hs fuel left stored lawful held (u, rep, has, spent).
       let it = stored.shown in
       let strict = blocks_are_read.memory ((value_place false s at ∷ []) ++ stored.fresh) true enc (narrow after.bytes) at s it.it (it.rep lawful held) in
       comes_back s v w it.it it.is u fuel left (one_tree.memory false enc (narrow after.bytes) at s u it.it rep (strict_is_rep.memory enc (narrow after.bytes) at s it.it strict)) has spent;
-  words = λ before after enc s words i v w fuel left lowered lawful held (u, rep, has, spent).
+  words = λ before after enc s words i v w hs fuel left lowered lawful held (u, rep, has, spent).
       let it = lowered.shown in
       let strict = blocks_are_read.flat ([] ++ lowered.fresh) true enc (narrow after.bytes) words i s it.it (it.rep lawful held) in
       comes_back s v w it.it it.is u fuel left (one_tree.flat false enc (narrow after.bytes) words i s u it.it rep (strict_is_rep.flat enc (narrow after.bytes) words i s it.it strict)) has spent;
-  values = λ before after enc ms words vs ws fuel left form lowered lawful held results.
+  values = λ before after enc ms words vs ws hs fuel left form lowered lawful held results.
       let it = lowered.shown in
       let strict = blocks_are_read.values ([] ++ lowered.fresh) max_params true enc (narrow after.bytes) words ms it.it (it.rep lawful held) in
       let rep = as_results false enc (narrow after.bytes) words ms it.it form (strict_is_rep.values max_params enc (narrow after.bytes) words ms it.it strict) in

@@ -7,9 +7,8 @@ use Rattle.canon_model.specs.Shape.{Members, Name, Shape, member, member_count, 
 use Rattle.canon_types.specs.Depth.{deepest, depth}
 use Rattle.canon_types.specs.Table.{Knows, Table, shape_of}
 use Rattle.canon_types.specs.declared.types.InterfaceType.{InterfaceType}
-use Rattle.canon_plan.specs.Built.{AreBuilt, IsBuilt}
 use Rattle.canon_context.specs.Core.{Parts, types_of}
-use Rattle.canon_context.specs.Asks.{SameBut}
+use Rattle.canon_context.specs.Asks.{SameButHandles}
 use Rattle.canon_value.specs.Stores.{PartsStoreTo, StoresTo}
 use Rattle.canon_value.specs.View.{IsMember}
 use Rattle.canon_plan.specs.Plan.{members_from}
@@ -17,8 +16,8 @@ use Rattle.canon_context.specs.declared.fault.Fault.{Fault}
 use Rattle.canon_context.specs.declared.fault.Fault.TheVariants as fault
 use Rattle.canon_value.specs.declared.members.Member.{Member}
 use Rattle.canon_value.specs.declared.val.Val.{Val}
-use Rattle.canon_plan.proofs.Lookups.{drop_all, both, member_room, members_from-all}
-use Rattle.canon_context.proofs.Cores.{same_then, same_types}
+use Rattle.canon_plan.proofs.Lookups.{drop_all, member_room, members_from-all}
+use Rattle.canon_value.proofs.Passing.{handles_then, handles_types}
 use Rattle.canon_context.proofs.Moves.{GuestLaws}
 use Rattle.canon_value.proofs.Walks.{parts_cons, parts_named, parts_none, parts_stop}
 
@@ -35,15 +34,13 @@ module _ {T G : Type 0} (seen : G → Seen) (moves : GuestIn G → List Event �
     pub small : length now.memory ≤ 2 ^ 32
     pub longer : length start.memory ≤ length now.memory
     pub room : at + members_end false o (members_from i ms) ≤ length start.memory
-    pub built : AreBuilt (members_from i ms)
     pub counted : next < 2 ^ 64
-    pub same : SameBut start now
+    pub same : SameButHandles start now
     pub rest : (z : Parts T G) (r : Result ℕ Fault) → PartsStoreTo seen moves options now z place (members_from i ms) o at (drop i names) (drop i vs) next r → PartsStoreTo seen moves options start z place ms 0 at names vs from r
 
 -- the member of number i stands inside memory, and its storing may be called
 pub record Stands {T G : Type 0} (start now : Parts T G) (at o : ℕ) (type : InterfaceType) : Type 0 where
   pub known : Knows (types_of now) type
-  pub built : IsBuilt (shape_of (types_of now) type)
   pub room : at + begins false o (shape_of (types_of start) type) + size false (shape_of (types_of now) type) ≤ length now.memory
   pub fits : ends false o (shape_of (types_of start) type) < 2 ^ 64
   pub small : length now.memory ≤ 2 ^ 32
@@ -56,13 +53,12 @@ module _ {T G : Type 0} (L : GuestLaws G) (options place : ℕ) (ms : Members) (
 
     pub stands : Stands start now at o m.ty
     stands =
-        let same : types_of now ≡ types_of start = same_types start now h.same in
+        let same : types_of now ≡ types_of start = handles_types start now h.same in
         let end : members_end false o (members_from i ms) ≡ members_end false o (member is.name s (members_from (i + 1) ms)) = ap (members_end false o) is.shapes in
         let first = member_room is.name s (members_from (i + 1) ms) o in
         let bytes : size false (shape_of (types_of now) m.ty) ≡ size false s = ap (λ (x : Table). size false (shape_of x m.ty)) same in
         record {
           known = subst (λ (x : Table). Knows x m.ty) (sym same) is.known;
-          built = subst (λ (x : Table). IsBuilt (shape_of x m.ty)) (sym same) (both _ _ (subst (λ (xs : Members). AreBuilt xs) is.shapes h.built)).0;
           room = omega (arith, end, first, h.room, h.longer, bytes);
           fits = omega (arith, end, first, h.room, h.longer, h.small);
           small = h.small;
@@ -81,7 +77,7 @@ module _ {T G : Type 0} (L : GuestLaws G) (options place : ℕ) (ms : Members) (
         → StoresTo L.seen L.moves options now now2 s (at + begins false o s) m.value.now next r
     stood now2 options2 p r eo ep g =
         subst (λ (b : ℕ). StoresTo L.seen L.moves options now now2 s (at + b) m.value.now next r) ep
-        (subst (λ (x : Table). StoresTo L.seen L.moves options now now2 (shape_of x m.ty) (at + p) m.value.now next r) (same_types start now h.same)
+        (subst (λ (x : Table). StoresTo L.seen L.moves options now now2 (shape_of x m.ty) (at + p) m.value.now next r) (handles_types start now h.same)
         (subst (λ (n : ℕ). StoresTo L.seen L.moves n now now2 (shape_of (types_of now) m.ty) (at + p) m.value.now next r) eo g))
 
     pub go_on : (now2 : Parts T G) (options2 p next2 o2 : ℕ) → IsTrue m.is_named → options2 ≡ options → p ≡ begins false o s → o2 ≡ ends false o s → next2 < 2 ^ 64
@@ -94,9 +90,8 @@ module _ {T G : Type 0} (L : GuestLaws G) (options place : ℕ) (ms : Members) (
           small = one.storing.lowering.small;
           longer = omega (arith, h.longer, one.storing.lowering.goes.no_shorter);
           room = omega (arith, end, h.room);
-          built = (both _ _ (subst (λ (xs : Members). AreBuilt xs) is.shapes h.built)).1;
           counted = few;
-          same = same_then start now now2 h.same one.same;
+          same = handles_then start now now2 h.same one.same;
           rest = λ z r more. h.rest z r (told z r (parts_cons L options now now2 z place is.name is.named s (members_from (i + 1) ms) o at (drop (i + 1) names) m.value.now (drop (i + 1) vs) next next2 r (is.same.0 named) one more));
         })
 

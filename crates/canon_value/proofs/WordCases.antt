@@ -20,6 +20,8 @@ use Rattle.canon_types.specs.Table.{Table}
 use Rattle.canon_context.specs.Core.{Parts, encoding_by, moment_of}
 use Rattle.canon_value.specs.Fails.{FailsAt}
 use Rattle.canon_context.specs.Lowers.{fault_ending}
+use Rattle.canon_value.proofs.Passing.{passes_as}
+use Rattle.canon_value.specs.Resources.{all_passes, passes}
 use Rattle.canon_value.specs.Stores.{Counts, FieldsCount}
 use Rattle.canon_value.specs.Value.{HasTree, IsCase, cap, member_names, places}
 use Rattle.canon_value.specs.View.{names_of, shapes_of, values_of}
@@ -37,8 +39,8 @@ use Rattle.canon_value.proofs.WalkCases.{case_counted, case_told, case_untold}
 use Rattle.canon_value.proofs.WordSteps.{have_fit}
 
 -- the words of a payload stay where those behind it are written
-members_moved : (wide : Bool) (a b : Moment) (enc : Encoding) (ms : Members) (ws vs : List ℕ) (i j : ℕ) (Have : Trees → Type 0) (e : Ending) → ((ts : Trees) → Have ts → MembersFit ms ts) → SameWords ws i vs j (members_flat ms)
-    → LowersMembers wide a b enc ms ws i Have e → LowersMembers wide a b enc ms vs j Have e
+members_moved : {hs : List ℕ} (wide : Bool) (a b : Moment) (enc : Encoding) (ms : Members) (ws vs : List ℕ) (i j : ℕ) (Have : Trees → Type 0) (e : Ending) → ((ts : Trees) → Have ts → MembersFit ms ts) → SameWords ws i vs j (members_flat ms)
+    → LowersMembers wide a b enc ms ws i Have hs e → LowersMembers wide a b enc ms vs j Have hs e
 members_moved wide a b enc ms ws vs i j Have e fits same h = attempt_as wide a b [] [] _ (members_words wide enc ms vs j Have) e (λ k q. q) (record {
   turn = λ ts. ts;
   back = λ ts. ts;
@@ -47,6 +49,7 @@ members_moved wide a b enc ms ws vs i j Have e fits same h = attempt_as wide a b
   asks = λ ts have. refl;
   rep = λ fresh ts have g. members_flat_kept wide enc fresh fresh b.bytes b.bytes (keeps_same _ _ _ (λ k q. q)) ws vs ms i j ts same g;
   home = λ pointer ts xs ys have g. members_homes_moved wide pointer enc ws vs ms i j ts xs ys (fits ts have) same g;
+  handles = λ ts have. refl;
 }) h
 
 -- a payload has no more words than the longest
@@ -70,10 +73,10 @@ case_words_counted enc place k cs d names vs v r of named h = case_counted enc k
 module _ {T G : Type 0} (L : GuestLaws G) (options : ℕ) where
   -- `dst1` has the case's number in its first word, `dst2` the payload behind it, and `dst3` zeros up to the end
   case_lowers : (a c : Parts T G) (dst dst1 dst2 dst3 : List ℕ) (from past : Spot) (k : VariantKind) (cs : Cases) (d : ℕ) (names : List Name) (vs : List Val) (v : Val) → d < case_count cs → d < 2 ^ 32 → IsCase k cs d vs v
-      → names ≡ member_names (case_members cs d) → dst1 ≡ set dst from.word d → from.word + flat (variant k cs) ≤ length dst → Clears past.word (from.word + flat (variant k cs)) dst2 dst3
+      → names ≡ member_names (case_members cs d) → dst1 ≡ set dst from.word d → from.word + flat (variant k cs) ≤ length dst → Clears past.word (from.word + flat (variant k cs)) dst2 dst3 → passes v (variant k cs) ≡ all_passes (case_members cs d) vs
       → PartsLowerTo L.seen L.moves options a c dst1 dst2 (behind_tag from) (Ok past) from.place (case_members cs d) names vs
       → LowersTo L.seen L.moves options a c dst dst3 from (Ok (record { word = from.word + flat (variant k cs); place = past.place })) (variant k cs) v
-  case_lowers a c dst dst1 dst2 dst3 from past k cs d names vs v lt few of named e1 room clears h =
+  case_lowers a c dst dst1 dst2 dst3 from past k cs d names vs v lt few of named e1 room clears given h =
       let ms : Members = case_members cs d in
       let enc : Encoding = encoding_by a options in
       let end : ℕ = from.word + flat (variant k cs) in
@@ -84,11 +87,13 @@ module _ {T G : Type 0} (L : GuestLaws G) (options : ℕ) where
       let same : SameWords dst2 (from.word + 1) dst3 (from.word + 1) (members_flat ms) =
       λ p q l u is. let at : p ≡ q = omega (arith, is) in ap (slice_index dst2) at ∙ sym (clears.before q (omega (arith, u, at, h.passed))) in
       let zeros : AreZero dst3 (from.word + 1 + members_flat ms) (from.word + 1 + cases_flat cs) = λ j l u. clears.zeros j (omega (arith, l, h.passed)) (omega (arith, u, words)) in
-      let moved : LowersMembers false (moment_of L.seen a) (moment_of L.seen c) enc ms dst3 (from.word + 1) (Named ms names vs) done =
+      let moved : LowersMembers false (moment_of L.seen a) (moment_of L.seen c) enc ms dst3 (from.word + 1) (Named ms names vs) h.handles done =
       members_moved false (moment_of L.seen a) (moment_of L.seen c) enc ms dst2 dst3 (from.word + 1) (from.word + 1) (Named ms names vs) done (λ ts (_, have). have_fit ms vs ts have) same h.lowered in
       record {
+        handles = h.handles;
         lowered = variant_words false (moment_of L.seen a) (moment_of L.seen c) enc k cs dst3 from.word d (Named ms names vs) (HasTree (variant k cs) v) done lt tag3 few zeros
             (case_told false enc k cs d names vs v lt of named) (case_untold false enc k cs d names vs v lt of named) moved;
+        handed = passes_as a.component.types a.ledger c.ledger (all_passes ms vs) (passes v (variant k cs)) h.handles (Ok past) given h.handed;
         stays = record {
           same_length = clears.same_length ∙ (h.stays.same_length ∙ (ap length e1 ∙ length-set dst from.word d));
           before = λ p l. clears.before p (omega (arith, l, h.passed)) ∙ (h.stays.before p (omega (arith, l)) ∙ (ap (λ (xs : List ℕ). slice_index xs p) e1 ∙ get_or-set_other dst from.word p d 0 (omega (arith, l))));
@@ -102,19 +107,22 @@ module _ {T G : Type 0} (L : GuestLaws G) (options : ℕ) where
 
   -- its payload ended it: told of words of its own, since none are told of these
   case_stops : (a c : Parts T G) (dst dst1 dst2 : List ℕ) (from : Spot) (k : VariantKind) (cs : Cases) (d : ℕ) (names : List Name) (vs : List Val) (v : Val) (e : Fault) → d < case_count cs → d < 2 ^ 32 → IsCase k cs d vs v
-      → names ≡ member_names (case_members cs d) → dst1 ≡ set dst from.word d → PartsLowerTo L.seen L.moves options a c dst1 dst2 (behind_tag from) (Err e) from.place (case_members cs d) names vs
+      → names ≡ member_names (case_members cs d) → dst1 ≡ set dst from.word d → passes v (variant k cs) ≡ all_passes (case_members cs d) vs → PartsLowerTo L.seen L.moves options a c dst1 dst2 (behind_tag from) (Err e) from.place (case_members cs d) names vs
       → LowersTo L.seen L.moves options a c dst dst2 from (Err e) (variant k cs) v
-  case_stops a c dst dst1 dst2 from k cs d names vs v e lt few of named e1 h =
+  case_stops a c dst dst1 dst2 from k cs d names vs v e lt few of named e1 given h =
       let ms : Members = case_members cs d in
+      let stopped : Result Spot Fault = Err e in
       let enc : Encoding = encoding_by a options in
       let zeros : AreZero (d ∷ []) (1 + members_flat ms) (1 + cases_flat cs) = λ j l u. omega (arith, get_or_past (d ∷ []) j 0 (omega (arith, l))) in
-      let inner : LowersMembers false (moment_of L.seen a) (moment_of L.seen c) enc ms (d ∷ []) 1 (Named ms names vs) (fault_ending e) =
+      let inner : LowersMembers false (moment_of L.seen a) (moment_of L.seen c) enc ms (d ∷ []) 1 (Named ms names vs) h.handles (fault_ending e) =
       attempt_other false (moment_of L.seen a) (moment_of L.seen c) [] _ (members_words false enc ms (d ∷ []) 1 (Named ms names vs)) (fault_ending e) (not_done e) (λ ts have. (have, refl)) h.lowered in
-      let whole : LowersValue false (moment_of L.seen a) (moment_of L.seen c) enc (variant k cs) (d ∷ []) 0 (HasTree (variant k cs) v) (fault_ending e) =
+      let whole : LowersValue false (moment_of L.seen a) (moment_of L.seen c) enc (variant k cs) (d ∷ []) 0 (HasTree (variant k cs) v) h.handles (fault_ending e) =
       variant_words false (moment_of L.seen a) (moment_of L.seen c) enc k cs (d ∷ []) 0 d (Named ms names vs) (HasTree (variant k cs) v) (fault_ending e) lt refl few zeros
       (case_told false enc k cs d names vs v lt of named) (case_untold false enc k cs d names vs v lt of named) inner in
       record {
+        handles = h.handles;
         lowered = attempt_other false (moment_of L.seen a) (moment_of L.seen c) [] _ (value_words false enc (variant k cs) dst2 from.word (HasTree (variant k cs) v)) (fault_ending e) (not_done e) (λ t has. (has, refl)) whole;
+        handed = passes_as a.component.types a.ledger c.ledger (all_passes ms vs) (passes v (variant k cs)) h.handles stopped given h.handed;
         stays = record {
           same_length = h.stays.same_length ∙ (ap length e1 ∙ length-set dst from.word d);
           before = λ p l. h.stays.before p (omega (arith, l)) ∙ (ap (λ (xs : List ℕ). slice_index xs p) e1 ∙ get_or-set_other dst from.word p d 0 (omega (arith, l)));
@@ -126,9 +134,13 @@ module _ {T G : Type 0} (L : GuestLaws G) (options : ℕ) where
         quiet = λ none. h.quiet (case_quiet cs d none);
       }
 
-  module _ (t : Table) (a c : Parts T G) (dst dst1 dst2 : List ℕ) (from first : Spot) (s : Shape) (x : Case) (v : Val) (seen : IsCaseSeen t s v x) (e1 : dst1 ≡ set dst from.word x.tag) (ef : first ≡ behind_tag from) where
+  module _ (t : Table) (a c : Parts T G) (dst dst1 dst2 : List ℕ) (from first : Spot) (s : Shape) (x : Case) (v : Val) (seen : IsCaseSeen t s v x) (e1 : dst1 ≡ set dst from.word x.tag) (ef : first ≡ behind_tag from)
+      (given : passes v s ≡ all_passes (shapes_of t x.payload) (values_of x.payload)) where
     abbrev payload_lowered : Result Spot Fault → Type 0
     payload_lowered r = PartsLowerTo L.seen L.moves options a c dst1 dst2 first r from.place (shapes_of t x.payload) (names_of x.payload) (values_of x.payload)
+
+    given_there : passes v (variant seen.kind seen.cases) ≡ all_passes (case_members seen.cases x.tag) (values_of x.payload)
+    given_there = ap (passes v) (sym seen.shape) ∙ given ∙ ap (λ (ms : Members). all_passes ms (values_of x.payload)) seen.shapes
 
     by_case : (r : Result Spot Fault) → payload_lowered r → PartsLowerTo L.seen L.moves options a c dst1 dst2 (behind_tag from) r from.place (case_members seen.cases x.tag) (names_of x.payload) (values_of x.payload)
     by_case r h =
@@ -142,13 +154,13 @@ module _ {T G : Type 0} (L : GuestLaws G) (options : ℕ) where
         subst (λ (y : Shape). LowersTo L.seen L.moves options a c dst dst3 from (Ok to) y v) (sym seen.shape)
         (subst (λ (i : Spot). LowersTo L.seen L.moves options a c dst dst3 from (Ok i) (variant seen.kind seen.cases) v) (sym (et ∙ ap (λ (n : ℕ). record { word = n; place = past.place }) whole))
         (case_lowers a c dst dst1 dst2 dst3 from past seen.kind seen.cases x.tag (names_of x.payload) (values_of x.payload) v seen.inside (omega (arith, seen.inside, seen.info.few)) seen.is (seen.names ∙ ap member_names seen.shapes) e1
-        (omega (arith, room, ap flat seen.shape)) (subst (λ (n : ℕ). Clears past.word n dst2 dst3) whole clears) (by_case (Ok past) h)))
+        (omega (arith, room, ap flat seen.shape)) (subst (λ (n : ℕ). Clears past.word n dst2 dst3) whole clears) given_there (by_case (Ok past) h)))
 
     pub case_stopped : (e : Fault) → payload_lowered (Err e) → LowersTo L.seen L.moves options a c dst dst2 from (Err e) s v
     case_stopped e h =
         subst (λ (y : Shape). LowersTo L.seen L.moves options a c dst dst2 from (Err e) y v) (sym seen.shape)
         (case_stops a c dst dst1 dst2 from seen.kind seen.cases x.tag (names_of x.payload) (values_of x.payload) v e seen.inside (omega (arith, seen.inside, seen.info.few)) seen.is
-        (seen.names ∙ ap member_names seen.shapes) e1 (by_case (Err e) h))
+        (seen.names ∙ ap member_names seen.shapes) e1 given_there (by_case (Err e) h))
 
 -- the words of a case and of its payload are within the type's
 pub case_room : (t : Table) (s : Shape) (v : Val) (c : Case) → IsCaseSeen t s v c → 1 + members_flat (shapes_of t c.payload) ≤ flat s

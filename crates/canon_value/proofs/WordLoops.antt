@@ -8,17 +8,16 @@ use Rattle.canon_model.specs.Layout.{flat, members_flat}
 use Rattle.canon_model.specs.Shape.{Members, Name, Shape, member, member_count, no_members}
 use Rattle.canon_types.specs.Table.{Knows, Table, shape_of}
 use Rattle.canon_types.specs.declared.types.InterfaceType.{InterfaceType}
-use Rattle.canon_plan.specs.Built.{AreBuilt, IsBuilt}
 use Rattle.canon_context.specs.Core.{Parts, types_of}
-use Rattle.canon_context.specs.Asks.{SameBut}
+use Rattle.canon_context.specs.Asks.{SameButHandles}
 use Rattle.canon_value.specs.View.{IsMember}
 use Rattle.canon_plan.specs.Plan.{members_from}
 use Rattle.canon_context.specs.declared.fault.Fault.{Fault}
 use Rattle.canon_context.specs.declared.fault.Fault.TheVariants as fault
 use Rattle.canon_value.specs.declared.members.Member.{Member}
 use Rattle.canon_value.specs.declared.val.Val.{Val}
-use Rattle.canon_plan.proofs.Lookups.{drop_all, both, members_from-all}
-use Rattle.canon_context.proofs.Cores.{same_then, same_types}
+use Rattle.canon_plan.proofs.Lookups.{drop_all, members_from-all}
+use Rattle.canon_value.proofs.Passing.{handles_then, handles_types}
 use Rattle.canon_value.proofs.WordSteps.{parts_cons, parts_named, parts_none, parts_stop}
 use Rattle.canon_context.proofs.Moves.{GuestLaws}
 
@@ -27,16 +26,14 @@ module _ {T G : Type 0} (seen : G → Seen) (moves : GuestIn G → List Event �
   pub record PartsAreLowered (now : Parts T G) (dst : List ℕ) (next : Spot) (i : ℕ) : Type 0 where
     pub small : length now.memory ≤ 2 ^ 32
     pub room : next.word + members_flat (members_from i ms) ≤ length dst
-    pub built : AreBuilt (members_from i ms)
     pub counted : next.place < 2 ^ 64
-    pub same : SameBut start now
+    pub same : SameButHandles start now
     pub rest : (z : Parts T G) (zs : List ℕ) (r : Result Spot Fault) → PartsLowerTo seen moves options now z dst zs next r place (members_from i ms) (drop i names) (drop i vs)
         → PartsLowerTo seen moves options start z first zs from r place ms names vs
 
 -- the member of number i has room, and its lowering may be called
 pub record HasRoom {T G : Type 0} (now : Parts T G) (dst : List ℕ) (next : Spot) (type : InterfaceType) : Type 0 where
   pub known : Knows (types_of now) type
-  pub built : IsBuilt (shape_of (types_of now) type)
   pub room : next.word + flat (shape_of (types_of now) type) ≤ length dst
   pub small : length now.memory ≤ 2 ^ 32
 
@@ -52,11 +49,10 @@ module _ {T G : Type 0} (L : GuestLaws G) (options place : ℕ) (ms : Members) (
 
     pub has_room : HasRoom now dst next m.ty
     has_room =
-        let same : types_of now ≡ types_of start = same_types start now h.same in
+        let same : types_of now ≡ types_of start = handles_types start now h.same in
         let count : flat (shape_of (types_of now) m.ty) ≡ flat s = ap (λ (x : Table). flat (shape_of x m.ty)) same in
         record {
           known = subst (λ (x : Table). Knows x m.ty) (sym same) is.known;
-          built = subst (λ (x : Table). IsBuilt (shape_of x m.ty)) (sym same) (both _ _ (subst (λ (xs : Members). AreBuilt xs) is.shapes h.built)).0;
           room = omega (arith, words, h.room, count);
           small = h.small;
         }
@@ -73,7 +69,7 @@ module _ {T G : Type 0} (L : GuestLaws G) (options place : ℕ) (ms : Members) (
     stood : (now2 : Parts T G) (dst2 : List ℕ) (options2 : ℕ) (r : Result Spot Fault) → options2 ≡ options → LowersTo L.seen L.moves options2 now now2 dst dst2 next r (shape_of (types_of now) m.ty) m.value.now
         → LowersTo L.seen L.moves options now now2 dst dst2 next r s m.value.now
     stood now2 dst2 options2 r eo g =
-        subst (λ (x : Table). LowersTo L.seen L.moves options now now2 dst dst2 next r (shape_of x m.ty) m.value.now) (same_types start now h.same)
+        subst (λ (x : Table). LowersTo L.seen L.moves options now now2 dst dst2 next r (shape_of x m.ty) m.value.now) (handles_types start now h.same)
         (subst (λ (n : ℕ). LowersTo L.seen L.moves n now now2 dst dst2 next r (shape_of (types_of now) m.ty) m.value.now) eo g)
 
     pub go_on : (now2 : Parts T G) (dst2 : List ℕ) (options2 : ℕ) (next2 : Spot) → IsTrue m.is_named → options2 ≡ options → LowersTo L.seen L.moves options2 now now2 dst dst2 next (Ok next2) (shape_of (types_of now) m.ty) m.value.now
@@ -83,9 +79,8 @@ module _ {T G : Type 0} (L : GuestLaws G) (options place : ℕ) (ms : Members) (
         record {
           small = one.lowered.lowering.small;
           room = omega (arith, words, h.room, one.passed, one.stays.same_length);
-          built = (both _ _ (subst (λ (xs : Members). AreBuilt xs) is.shapes h.built)).1;
           counted = omega (arith, one.counted.0);
-          same = same_then start now now2 h.same one.same;
+          same = handles_then start now now2 h.same one.same;
           rest = λ z zs r more. h.rest z zs r (told z zs r
               (parts_cons L options now now2 z dst dst2 zs place is.name is.named s (members_from (i + 1) ms) (drop (i + 1) names) m.value.now (drop (i + 1) vs) next next2 r (is.same.0 named) one more));
         }

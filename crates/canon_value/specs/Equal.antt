@@ -4,12 +4,18 @@ use Rattle.std.specs.Cmp.Lexicographic.{pointwise}
 use Rattle.std.specs.Ordering.{int_eq}
 use Rattle.std.specs.declared.alloc.Global.{Global}
 use Rattle.canon_model.specs.Shape.{Name}
+use Rattle.canon_leaves.specs.Parts.{same_type}
+use Rattle.canon_resources.specs.Held.{Any}
+use Rattle.canon_resources.specs.declared.any.ResourceAnyHandle.{ResourceAnyHandle}
+use Rattle.canon_resources.specs.declared.any.ResourceAnyHandle.TheVariants as handle
+use Rattle.canon_types.specs.declared.resource.ResourceType.{ResourceType}
+use Rattle.canon_types.specs.declared.resource.ResourceType.TheVariants.{Guest, Host, HostDynamic}
 use Rattle.canon_value.specs.declared.val.Val.{Val, fold-Val}
 use Rattle.canon_value.specs.declared.val.Val.TheOpen.{Val-F}
 
 -- which variant of `Val` it is
 pub data DataKind : Type 0 where
-  bool s8 u8 s16 u16 s32 u32 s64 u64 f32 f64 char string list pairs fields tuple variant enum option result flags fixed : DataKind
+  bool s8 u8 s16 u16 s32 u32 s64 u64 f32 f64 char string list pairs fields tuple variant enum option result flags resource fixed : DataKind
 
 mutual
   -- a kind, and in order the number, the texts and the values that it holds
@@ -28,6 +34,17 @@ row (d ∷ ds) = data_and d (row ds)
 abbrev pub pair_row : List (Data × Data) → Datas
 pair_row [] = no_data
 pair_row (p ∷ ps) = data_and p.0 (data_and p.1 (pair_row ps))
+
+-- a resource: its handle and its type, as numbers that tell all of it
+abbrev pub handle_key : ResourceAnyHandle → List ℕ
+handle_key (handle.Own x) = 0 ∷ x.index ∷ x.generation ∷ []
+handle_key (handle.Borrow x) = 1 ∷ x.index ∷ x.generation ∷ []
+handle_key (handle.Synthetic rep) = 2 ∷ rep ∷ []
+
+abbrev pub type_key : ResourceType → List ℕ
+type_key (Host id) = 0 ∷ id ∷ []
+type_key (HostDynamic payload) = 1 ∷ payload ∷ []
+type_key (Guest store instance id) = 2 ∷ store ∷ instance ∷ id ∷ []
 
 -- one level of a value, by the number that stands for the bits of a float
 abbrev pub data_step : (DataKind → ℕ → ℤ) → Val-F Data → Data
@@ -58,6 +75,7 @@ data_step key (Val-F.Result (Ok (Some b))) = value result (pos 0) [] (data_and b
 data_step key (Val-F.Result (Err None)) = value result (pos 1) [] no_data
 data_step key (Val-F.Result (Err (Some b))) = value result (pos 1) [] (data_and b.value no_data)
 data_step key (Val-F.Flags names) = value flags (pos 0) (map (λ s. string_bytes s) names.items) no_data
+data_step key (Val-F.Resource x) = value resource (pos 0) (handle_key x.handle ∷ type_key x.ty ∷ []) no_data
 data_step key (Val-F.FixedLengthList xs) = value fixed (pos 0) [] (row xs.items)
 
 -- ---- the same value, and equal ones
@@ -122,7 +140,8 @@ kind_number enum = 18
 kind_number option = 19
 kind_number result = 20
 kind_number flags = 21
-kind_number fixed = 22
+kind_number resource = 22
+kind_number fixed = 23
 
 abbrev mutual
   pub same : Data → Data → Bool
@@ -136,6 +155,16 @@ abbrev mutual
 
 abbrev pub is_equal : Val → Val → Bool
 is_equal v w = same (compared v) (compared w)
+
+-- resources: of the same kind of handle, with the same numbers, and of the same type
+abbrev pub same_handle : ResourceAnyHandle → ResourceAnyHandle → Bool
+same_handle (handle.Own x) (handle.Own y) = (x.index == y.index) && (x.generation == y.generation)
+same_handle (handle.Borrow x) (handle.Borrow y) = (x.index == y.index) && (x.generation == y.generation)
+same_handle (handle.Synthetic n) (handle.Synthetic m) = n == m
+same_handle _ _ = false
+
+abbrev pub same_resource : Any → Any → Bool
+same_resource x y = same_handle x.handle y.handle && same_type x.ty y.ty
 
 -- ---- names
 
@@ -166,6 +195,7 @@ kind_text enum = codes "enum"
 kind_text option = codes "option"
 kind_text result = codes "result"
 kind_text flags = codes "flags"
+kind_text resource = codes "resource"
 kind_text fixed = codes "list<_, N>"
 
 -- ---- parts of values

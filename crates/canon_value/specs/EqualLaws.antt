@@ -11,7 +11,7 @@ use Rattle.canon_value.specs.declared.val.Val.{Val}
 
 abbrev kinds : List DataKind
 kinds = equal.bool ∷ equal.s8 ∷ equal.u8 ∷ equal.s16 ∷ equal.u16 ∷ equal.s32 ∷ equal.u32 ∷ equal.s64 ∷ equal.u64 ∷ equal.f32 ∷ equal.f64 ∷ equal.char
-    ∷ equal.string ∷ equal.list ∷ equal.pairs ∷ equal.fields ∷ equal.tuple ∷ equal.variant ∷ equal.enum ∷ equal.option ∷ equal.result ∷ equal.flags ∷ equal.fixed ∷ []
+    ∷ equal.string ∷ equal.list ∷ equal.pairs ∷ equal.fields ∷ equal.tuple ∷ equal.variant ∷ equal.enum ∷ equal.option ∷ equal.result ∷ equal.flags ∷ equal.resource ∷ equal.fixed ∷ []
 
 abbrev kind_at : ℕ → DataKind
 kind_at n = slice_index_or kinds n equal.bool
@@ -39,6 +39,7 @@ kind_back equal.enum = refl
 kind_back equal.option = refl
 kind_back equal.result = refl
 kind_back equal.flags = refl
+kind_back equal.resource = refl
 kind_back equal.fixed = refl
 
 pub same_kind : (k l : DataKind) → kind_number k ≡ kind_number l → k ≡ l

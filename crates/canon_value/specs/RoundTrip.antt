@@ -16,7 +16,7 @@ use Rattle.canon_value.specs.Loads.{IsLoaded}
 use Rattle.canon_value.specs.Value.{AreLiftedFrom, AreSame, HasTree, HaveTrees, IsLiftedFrom, IsSame}
 use Rattle.canon_value.specs.declared.val.Val.{Val}
 
--- w is v, but for how its vectors and texts are kept and that its flags stand in their type's order, each once; it took its
+-- w is v, but for how its vectors and texts are kept, which resources it has, and that its flags stand in their type's order, each once; it took its
 -- cost from the fuel
 pub record ComesBack (s : Shape) (v w : Val) (fuel left : ℕ) : Type 0 where
   pub its_tree : Tree
@@ -40,12 +40,12 @@ IsOneForm ms = (members_flat ms ≤ max_results) ⊎ (max_params < members_flat 
 -- Where `realloc` kept its law, and the place was held, what `Val::store` left `Val::load` gives back; what `Val::lower` left
 -- `Val::lift`, and what `lower_args` left `lift_results`, where their forms are one.
 pub record RoundTrip : Type 0 where
-  pub memory : (before after : Moment) (enc : Encoding) (s : Shape) (at : ℕ) (v w : Val) (fuel left : ℕ)
-      → (stored : StoresValue false before after enc s at (HasTree s v) done) → AllLawful stored.answers → AreHeld before stored.answers (value_place false s at ∷ [])
+  pub memory : (before after : Moment) (enc : Encoding) (s : Shape) (at : ℕ) (v w : Val) (hs : List ℕ) (fuel left : ℕ)
+      → (stored : StoresValue false before after enc s at (HasTree s v) hs done) → AllLawful stored.answers → AreHeld before stored.answers (value_place false s at ∷ [])
       → IsLoaded enc (narrow after.bytes) s at fuel left w → ComesBack s v w fuel left
-  pub words : (before after : Moment) (enc : Encoding) (s : Shape) (words : List ℕ) (i : ℕ) (v w : Val) (fuel left : ℕ)
-      → (lowered : LowersValue false before after enc s words i (HasTree s v) done) → AllLawful lowered.answers → AreHeld before lowered.answers []
+  pub words : (before after : Moment) (enc : Encoding) (s : Shape) (words : List ℕ) (i : ℕ) (v w : Val) (hs : List ℕ) (fuel left : ℕ)
+      → (lowered : LowersValue false before after enc s words i (HasTree s v) hs done) → AllLawful lowered.answers → AreHeld before lowered.answers []
       → IsOfWords enc (narrow after.bytes) s words i fuel left w → ComesBack s v w fuel left
-  pub values : (before after : Moment) (enc : Encoding) (ms : Members) (words : List ℕ) (vs ws : List Val) (fuel left : ℕ) → IsOneForm ms
-      → (lowered : LowersArgs false before after enc ms (HaveTrees ms vs) words done) → AllLawful lowered.answers → AreHeld before lowered.answers []
+  pub values : (before after : Moment) (enc : Encoding) (ms : Members) (words : List ℕ) (vs ws : List Val) (hs : List ℕ) (fuel left : ℕ) → IsOneForm ms
+      → (lowered : LowersArgs false before after enc ms (HaveTrees ms vs) words hs done) → AllLawful lowered.answers → AreHeld before lowered.answers []
       → AreResults enc (narrow after.bytes) ms words fuel left ws → ComeBack ms vs ws fuel left

@@ -10,13 +10,14 @@ use Rattle.canon_value.specs.Fails.{AreSmall, Blames, Failure, FailsAt, MemberFa
 use Rattle.canon_context.specs.Lowers.{ending_of}
 use Rattle.canon_context.specs.Moves.{Moves}
 use Rattle.canon_context.specs.Quiet.{Quiet, has_block, have_block}
+use Rattle.canon_value.specs.Resources.{LowersHandles, all_passes, passes}
 use Rattle.canon_value.specs.Value.{HasTree, HaveTrees, all_places, cap, member_names, places}
 use Rattle.canon_value.specs.declared.blocks.Placed.{Placed}
 use Rattle.canon_context.specs.declared.fault.Fault.{Fault}
 use Rattle.canon_context.specs.declared.fault.Fault.TheVariants as fault
 use Rattle.canon_value.specs.declared.val.Val.{Val}
 use Rattle.canon_model.specs.Text.{Encoding}
-use Rattle.canon_context.specs.Asks.{SameBut}
+use Rattle.canon_context.specs.Asks.{SameButHandles}
 
 -- n places were counted from `from` on and nothing there is too large, or the fault is told at its place
 abbrev pub Counts : Encoding → (Failure → ℕ → Type 0) → ℕ → ℕ → Result ℕ Fault → Type 0
@@ -40,24 +41,30 @@ placed_next (Err e) = Err e
 module _ {T G : Type 0} (seen : G → Seen) (moves : GuestIn G → List Event → GuestIn G → Type 0) (options : ℕ) (before after : Parts T G) where
   -- a value of the shape s at the address `at`
   pub record StoresTo (s : Shape) (at : ℕ) (v : Val) (from : ℕ) (result : Result ℕ Fault) : Type 0 where
-    pub storing : StoresValue false (moment_of seen before) (moment_of seen after) (encoding_by before options) s at (HasTree s v) (ending_of result)
+    pub handles : List ℕ
+    pub storing : StoresValue false (moment_of seen before) (moment_of seen after) (encoding_by before options) s at (HasTree s v) handles (ending_of result)
+    pub handed : LowersHandles before.component.types before.ledger after.ledger (passes v s) handles result
     pub counted : Counts (encoding_by before options) (λ how k. FailsAt how s v k) from (places v) result
     pub moved : Moves seen moves (guest_of before) (guest_of after) (ending_of result)
-    pub same : SameBut before after
+    pub same : SameButHandles before after
     pub quiet : Quiet (has_block s) (after.guest ≡ before.guest) result
 
   -- values in a row as members at `at`, where the one before them ends at offset o; the names of a record that has this place are tested
   pub record PartsStoreTo (place : ℕ) (ms : Members) (o at : ℕ) (names : List Name) (vs : List Val) (from : ℕ) (result : Result ℕ Fault) : Type 0 where
-    pub storing : StoresMembers false (moment_of seen before) (moment_of seen after) (encoding_by before options) ms o at (λ ts. (names ≡ member_names ms) × HaveTrees ms vs ts) (ending_of result)
+    pub handles : List ℕ
+    pub storing : StoresMembers false (moment_of seen before) (moment_of seen after) (encoding_by before options) ms o at (λ ts. (names ≡ member_names ms) × HaveTrees ms vs ts) handles (ending_of result)
+    pub handed : LowersHandles before.component.types before.ledger after.ledger (all_passes ms vs) handles result
     pub counted : FieldsCount (encoding_by before options) place ms names vs from result
     pub moved : Moves seen moves (guest_of before) (guest_of after) (ending_of result)
-    pub same : SameBut before after
+    pub same : SameButHandles before after
     pub quiet : Quiet (have_block ms) (after.guest ≡ before.guest) result
 
   -- a text or a list in a block of its own, which a pointer and a length tell
   pub record PlacesTo (s : Shape) (v : Val) (from : ℕ) (result : Result Placed Fault) : Type 0 where
-    pub lowered : LowersValue false (moment_of seen before) (moment_of seen after) (encoding_by before options) s (placed_words result) 0 (HasTree s v) (ending_of result)
+    pub handles : List ℕ
+    pub lowered : LowersValue false (moment_of seen before) (moment_of seen after) (encoding_by before options) s (placed_words result) 0 (HasTree s v) handles (ending_of result)
+    pub handed : LowersHandles before.component.types before.ledger after.ledger (passes v s) handles result
     pub narrow : IfOk result (λ b. (b.pointer < 2 ^ 32) × (b.length < 2 ^ 32))
     pub counted : Counts (encoding_by before options) (λ how k. FailsAt how s v k) from (places v) (placed_next result)
     pub moved : Moves seen moves (guest_of before) (guest_of after) (ending_of result)
-    pub same : SameBut before after
+    pub same : SameButHandles before after

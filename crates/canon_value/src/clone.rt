@@ -50,6 +50,7 @@ fn copy(value: &Val, alloc: Global) -> Result<Val, OutOfMemory>
             Err(payload) => Ok(Val::Result(Err(copy_payload(payload, alloc)?))),
         },
         Val::Flags(names) => Ok(Val::Flags(copy_names(names, alloc)?)),
+        Val::Resource(resource) => Ok(Val::Resource(*resource)),
         Val::FixedLengthList(members) => Ok(Val::FixedLengthList(copy_row(members, alloc)?)),
     }
 }

@@ -11,6 +11,7 @@ ghost use Rattle.canon_value.specs.EqualLaws.{equal_equivalence};
 ghost use Rattle.canon_value.specs.Value.{names_in, values_in};
 
 use crate::Val;
+use crate::equal_resources::are_resources_equal;
 
 impl PartialEq for Val {
     ghost eq = { is_equal };
@@ -56,6 +57,7 @@ fn are_equal(a: &Val, b: &Val) -> bool
             _ => false,
         },
         (Val::Flags(x), Val::Flags(y)) => are_names_equal(x, y),
+        (Val::Resource(x), Val::Resource(y)) => are_resources_equal(x, y),
         (Val::FixedLengthList(x), Val::FixedLengthList(y)) => are_rows_equal(x, y),
         _ => false,
     }

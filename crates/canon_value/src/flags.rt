@@ -1,6 +1,6 @@
 //! Flags, as bits of bytes or of words: the lowest bit of the first one is the first name's.
 
-ghost use Rattle.std.specs.Prelude.{AllPairs, ℕ, ◌≡◌, ◌≢◌, ◌≤◌, ◌<◌, ◌+◌, ◌/◌, ◌%◌, ◌^◌, ◌==◌, IfErr, IfOk, IfSome, IsNone, false, length, map, slice_index, slice_index_or, string_bytes, true};
+ghost use Rattle.std.specs.Prelude.{[], AllPairs, ℕ, ◌≡◌, ◌≢◌, ◌≤◌, ◌<◌, ◌+◌, ◌/◌, ◌%◌, ◌^◌, ◌==◌, IfErr, IfOk, IfSome, IsNone, false, length, map, slice_index, slice_index_or, string_bytes, true};
 ghost use Rattle.std.specs.Int.{bit_at};
 ghost use Rattle.canon_lowering.specs.Steps.{Writes};
 ghost use Rattle.canon_memory.specs.Realloc.{block};
@@ -8,10 +8,13 @@ ghost use Rattle.canon_model.specs.Layout.{flag_words, flat, size};
 ghost use Rattle.canon_model.specs.Reach.{StoredFault, reach_cost};
 ghost use Rattle.canon_lowering.specs.Storing.{narrow};
 ghost use Rattle.canon_indices.specs.Options.{encoding_of};
-ghost use Rattle.canon_context.specs.Told.{Exactly, LiftBlames};
+ghost use Rattle.canon_context.specs.Told.{Exactly, IsNoRefusal, LiftBlames};
 ghost use Rattle.canon_value.specs.Loads.{IsLoaded};
 ghost use Rattle.canon_value.specs.Lifts.{LiftsTo};
+ghost use Rattle.canon_ledger.specs.Ledger.{LedgerState};
+ghost use Rattle.canon_model.specs.Leaves.{flat_leaves, reach_leaves};
 ghost use Rattle.canon_model.specs.Memory.{low};
+ghost use Rattle.canon_value.specs.Resources.{LiftsHandles, resources};
 ghost use Rattle.canon_model.specs.Shape.{Name};
 ghost use Rattle.canon_types.specs.Table.{Knows, shape_of};
 ghost use Rattle.canon_context.specs.Core.{types_of};
@@ -226,6 +229,7 @@ pub(crate) fn load_flags(
     ensures ok { IfOk result (IsLoaded (encoding_of source.now.encoding) (narrow source.now.memory.now) (shape_of source.now.types.now (InterfaceType.Flags i)) at fuel.old fuel.new) }
     ensures err { IfErr result (LiftBlames (Exactly (StoredFault (encoding_of source.now.encoding) (narrow source.now.memory.now) (shape_of source.now.types.now (InterfaceType.Flags i)) at))
         (fuel.old < reach_cost (encoding_of source.now.encoding) (narrow source.now.memory.now) (shape_of source.now.types.now (InterfaceType.Flags i)) at)) }
+    ensures handles { (l : LedgerState) → LiftsHandles resources source.now.instance.now l l (reach_leaves (narrow source.now.memory.now) (shape_of source.now.types.now (InterfaceType.Flags i)) at) result }
     ensures falls { fuel.new ≤ fuel.old }
 {
     let _flags = source.types.flags(i);
@@ -245,6 +249,7 @@ pub(crate) fn lift_flags(
     requires known { Knows source.now.types.now (InterfaceType.Flags i) }
     requires room { at.old + flat (shape_of source.now.types.now (InterfaceType.Flags i)) ≤ length src.now }
     ensures lifts { LiftsTo (encoding_of source.now.encoding) (narrow source.now.memory.now) src.now at.old at.new fuel.old fuel.new (shape_of source.now.types.now (InterfaceType.Flags i)) result }
+    ensures handles { (l : LedgerState) → LiftsHandles resources source.now.instance.now l l (flat_leaves (narrow source.now.memory.now) src.now (shape_of source.now.types.now (InterfaceType.Flags i)) at.old) result }
     ensures falls { fuel.new ≤ fuel.old }
 {
     let first = *at;
@@ -255,6 +260,7 @@ pub(crate) fn lift_flags(
 
 /// The flags whose bits are set, in the order of the type. The bytes of their names are charged. Bits past the last
 /// name aren't read.
+#[tactic(auto, using(crate::proofs::ResourcesOf::set_has_none))]
 pub fn flags_of(
     alloc: Global,
     types: &ComponentTypes,
@@ -266,6 +272,8 @@ pub fn flags_of(
     requires room { HasRoom marks.now (length (flag_names types.now i)) }
     ensures ok { IfOk result (AreFlags (shape_of types.now (InterfaceType.Flags i)) (marked_number marks.now (length (flag_names types.now i))) fuel.old fuel.new) }
     ensures err { IfErr result (AreUnpaid (shape_of types.now (InterfaceType.Flags i)) (marked_number marks.now (length (flag_names types.now i))) fuel.old) }
+    ensures none { IfOk result (λ v. resources v ≡ []) }
+    ensures unrefused { IfErr result IsNoRefusal }
     ensures falls { fuel.new ≤ fuel.old }
 {
     let names = types.flags(i).names.as_slice();

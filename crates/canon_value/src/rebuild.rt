@@ -7,6 +7,7 @@ ghost use Rattle.canon_types.specs.Table.{Knows, shape_of};
 ghost use Rattle.canon_value.specs.Elements.{by_turns};
 ghost use Rattle.canon_plan.specs.Plan.{IsKind};
 ghost use Rattle.canon_value.specs.Plan.{IsRebuilt, parts_of};
+ghost use Rattle.canon_value.specs.Resources.{all_resources, resources};
 ghost use Rattle.canon_value.specs.Value.{IsPairs, IsProduct, member_names, names_in, values_in};
 
 use crate::lift::keep;
@@ -25,6 +26,7 @@ pub fn rebuild(
     requires kind { IsKind ty.now (shape_of types.now ty.now) }
     requires count { length values.items ≡ member_count (parts_of (shape_of types.now ty.now) (length values.items)) }
     ensures ok { IfOk result (IsRebuilt (shape_of types.now ty.now) values.items) }
+    ensures resources { IfOk result (λ v. resources v ≡ all_resources values.items) }
     ensures err { IfErr result (λ e. e ≡ Fault.OutOfMemory) }
 {
     match ty {

@@ -7,6 +7,7 @@ ghost use Rattle.canon_types.specs.Depth.{variant_cases};
 ghost use Rattle.canon_types.specs.Table.{Knows, shape_of};
 ghost use Rattle.canon_plan.specs.Plan.{IsCaseKind};
 ghost use Rattle.canon_value.specs.Plan.{IsCaseRebuilt};
+ghost use Rattle.canon_value.specs.Resources.{all_resources, resources};
 ghost use Rattle.canon_value.specs.Value.{IsCase, IsFirst, case_names, unboxed};
 
 use crate::{Fault, Val};
@@ -26,6 +27,7 @@ pub fn rebuild_case(
     requires tag { tag < case_count (variant_cases (shape_of types.now ty.now)) }
     requires count { length values.items ≡ member_count (case_members (variant_cases (shape_of types.now ty.now)) tag) }
     ensures ok { IfOk result (IsCaseRebuilt (shape_of types.now ty.now) tag values.items) }
+    ensures resources { IfOk result (λ v. resources v ≡ all_resources values.items) }
     ensures err { IfErr result (λ e. e ≡ Fault.OutOfMemory) }
 {
     match ty {

@@ -7,15 +7,16 @@ ghost use Rattle.canon_model.specs.Layout.{align, members_end, size};
 ghost use Rattle.canon_model.specs.Memory.{num};
 ghost use Rattle.canon_model.specs.Shape.{member_count, string};
 ghost use Rattle.canon_types.specs.Table.{Knows, shape_of};
-ghost use Rattle.canon_plan.specs.Built.{AreBuilt, IsBuilt};
+ghost use Rattle.canon_plan.specs.Plan.{shape_of_handle, type_of_handle};
 ghost use Rattle.canon_context.specs.Core.{encoding_by, guest_of, moment_of, types_of};
 ghost use Rattle.canon_plan.specs.Element.{IsKnown, list_shape};
 ghost use Rattle.canon_value.specs.Elements.{element_in, list_value};
 ghost use Rattle.canon_value.specs.Fails.{BlamesValue, IsSmall};
 ghost use Rattle.canon_context.specs.Lowers.{ending_of};
 ghost use Rattle.canon_context.specs.Moves.{Moves};
-ghost use Rattle.canon_context.specs.Quiet.{Quiet, has_block};
-ghost use Rattle.canon_context.specs.Asks.{SameBut};
+ghost use Rattle.canon_context.specs.Quiet.{has_block, has_handle};
+ghost use Rattle.canon_value.specs.Resources.{Crosses, QuietBut, passes};
+ghost use Rattle.canon_context.specs.Asks.{SameButHandles};
 ghost use Rattle.canon_value.specs.Stores.{PartsStoreTo, PlacesTo, StoresTo};
 ghost use Rattle.canon_value.specs.declared.val.Val.TheVariants as val;
 ghost use Rattle.canon_value.specs.Value.{HasTree};
@@ -25,11 +26,13 @@ ghost use Rattle.canon_value.specs.Words.{IsWordOf};
 use crate::blocks::{Placed, ask_items, block_size, place_text};
 use crate::elements::{Elements, element_count, element_of};
 use crate::flags::store_names;
+use crate::handles::{give_handle, told};
 use crate::members::{Members, count_of, member_of, members_in};
 use crate::view::{View, view_of};
 use crate::{Fault, LowerContext, Val};
 use canon_memory::Guest;
-use canon_plan::element_abi;
+use canon_plan::{HandleType, element_abi};
+use canon_resources::ResourceAny;
 use canon_types::InterfaceType;
 
 impl Val {
@@ -44,23 +47,24 @@ impl Val {
         offset: u64,
     ) -> Result<(), Fault>
         requires known { Knows (types_of cx.old.core.now) ty }
-        requires built { IsBuilt (shape_of (types_of cx.old.core.now) ty) }
         requires aligned { offset % align false (shape_of (types_of cx.old.core.now) ty) ≡ 0 }
         requires room { offset + size false (shape_of (types_of cx.old.core.now) ty) ≤ length cx.old.core.now.memory }
-        ensures stored { StoresValue false (moment_of G.seen cx.old.core.now) (moment_of G.seen cx.new.core.now) (encoding_by cx.old.core.now cx.old.options)
-            (shape_of (types_of cx.old.core.now) ty) offset (HasTree (shape_of (types_of cx.old.core.now) ty) self.now) (ending_of result) }
+        ensures stored { Crosses cx.old.core.now.component.types (has_handle (shape_of (types_of cx.old.core.now) ty)) (passes self.now (shape_of (types_of cx.old.core.now) ty))
+            (λ hs ending. StoresValue false (moment_of G.seen cx.old.core.now) (moment_of G.seen cx.new.core.now) (encoding_by cx.old.core.now cx.old.options)
+            (shape_of (types_of cx.old.core.now) ty) offset (HasTree (shape_of (types_of cx.old.core.now) ty) self.now) hs ending)
+            cx.old.core.now.ledger cx.new.core.now.ledger result }
         ensures cause { IfErr result (BlamesValue (encoding_by cx.old.core.now cx.old.options) (shape_of (types_of cx.old.core.now) ty) self.now) }
         ensures small { OnOk result (IsSmall (encoding_by cx.old.core.now cx.old.options) (shape_of (types_of cx.old.core.now) ty) self.now) }
-        ensures quiet { Quiet (has_block (shape_of (types_of cx.old.core.now) ty)) (cx.new.core.now.guest ≡ cx.old.core.now.guest) result }
+        ensures quiet { QuietBut (has_handle (shape_of (types_of cx.old.core.now) ty)) (has_block (shape_of (types_of cx.old.core.now) ty)) (cx.new.core.now.guest ≡ cx.old.core.now.guest) result }
         ensures moves { Moves G.seen G.moves (guest_of cx.old.core.now) (guest_of cx.new.core.now) (ending_of result) }
-        ensures same_core { SameBut cx.old.core.now cx.new.core.now }
+        ensures same_core { SameButHandles cx.old.core.now cx.new.core.now }
         ensures same_reference { cx.new.core.ghost_name ≡ cx.old.core.ghost_name }
         ensures same_options { cx.new.options ≡ cx.old.options }
     {
         let _memory = cx.core.memory();
         match store_value(cx, self, ty, offset, 0) {
             Ok(_) => Ok(()),
-            Err(fault) => Err(fault),
+            Err(fault) => Err(told(fault)),
         }
     }
 }
@@ -75,7 +79,6 @@ pub(crate) fn store_value<T, G: Guest>(
     place: u64,
 ) -> Result<u64, Fault>
     requires known { Knows (types_of cx.old.core.now) ty }
-    requires built { IsBuilt (shape_of (types_of cx.old.core.now) ty) }
     requires small { length cx.old.core.now.memory ≤ 2 ^ 32 }
     requires room { at + size false (shape_of (types_of cx.old.core.now) ty) ≤ length cx.old.core.now.memory }
     ensures stores { StoresTo G.seen G.moves cx.old.options cx.old.core.now cx.new.core.now (shape_of (types_of cx.old.core.now) ty) at value.now place result }
@@ -85,6 +88,7 @@ pub(crate) fn store_value<T, G: Guest>(
     match view_of(cx.types(), &ty, value, place) {
         Ok(View::Scalar(word)) => Ok(store_word(cx, word, value, ty, at, place)),
         Ok(View::Text(text)) => store_text(cx, text, at, place),
+        Ok(View::Handle(handle, resource)) => store_handle(cx, handle, resource, at, place),
         Ok(View::List(list)) => store_list(cx, &list, at, place),
         Ok(View::Members(members)) => {
             store_parts(cx, &members, at, place, place.saturating_add(1))
@@ -111,7 +115,6 @@ pub(crate) fn store_parts<T, G: Guest>(
     first: u64,
 ) -> Result<u64, Fault>
     requires known { AreKnown (types_of cx.old.core.now) members.now }
-    requires built { AreBuilt (shapes_of (types_of cx.old.core.now) members.now) }
     requires count { length (values_of members.now) ≡ member_count (shapes_of (types_of cx.old.core.now) members.now) }
     requires small { length cx.old.core.now.memory ≤ 2 ^ 32 }
     requires room { at + members_end false 0 (shapes_of (types_of cx.old.core.now) members.now) ≤ length cx.old.core.now.memory }
@@ -145,7 +148,6 @@ fn store_list<T, G: Guest>(
     place: u64,
 ) -> Result<u64, Fault>
     requires known { IsKnown (types_of cx.old.core.now) (element_in list.now) }
-    requires built { IsBuilt (list_shape (types_of cx.old.core.now) (element_in list.now)) }
     requires small { length cx.old.core.now.memory ≤ 2 ^ 32 }
     requires room { at + 8 ≤ length cx.old.core.now.memory }
     ensures stores { StoresTo G.seen G.moves cx.old.options cx.old.core.now cx.new.core.now (list_shape (types_of cx.old.core.now) (element_in list.now)) at (list_value list.now) place result }
@@ -169,7 +171,6 @@ pub(crate) fn place_list<T, G: Guest>(
     place: u64,
 ) -> Result<Placed, Fault>
     requires known { IsKnown (types_of cx.old.core.now) (element_in list.now) }
-    requires built { IsBuilt (list_shape (types_of cx.old.core.now) (element_in list.now)) }
     requires small { length cx.old.core.now.memory ≤ 2 ^ 32 }
     ensures places { PlacesTo G.seen G.moves cx.old.options cx.old.core.now cx.new.core.now (list_shape (types_of cx.old.core.now) (element_in list.now)) (list_value list.now) place result }
     ensures same_reference { cx.new.core.ghost_name ≡ cx.old.core.ghost_name }
@@ -192,6 +193,30 @@ pub(crate) fn place_list<T, G: Guest>(
             length,
             next,
         }),
+        Err(fault) => Err(fault),
+    }
+}
+
+/// Stores the handle that the guest is given for a resource.
+fn store_handle<T, G: Guest>(
+    cx: &mut LowerContext<'_, T, G>,
+    handle: HandleType,
+    resource: ResourceAny,
+    at: u64,
+    place: u64,
+) -> Result<u64, Fault>
+    requires known { Knows (types_of cx.old.core.now) (type_of_handle handle) }
+    requires small { length cx.old.core.now.memory ≤ 2 ^ 32 }
+    requires room { at + 4 ≤ length cx.old.core.now.memory }
+    ensures stores { StoresTo G.seen G.moves cx.old.options cx.old.core.now cx.new.core.now (shape_of_handle handle) at (val.Resource resource) place result }
+    ensures same_reference { cx.new.core.ghost_name ≡ cx.old.core.ghost_name }
+    ensures same_options { cx.new.options ≡ cx.old.options }
+{
+    match give_handle(cx, handle, resource) {
+        Ok(number) => {
+            put_low_bytes(cx.core.as_slice_mut(), at, u64::from(number), 4);
+            Ok(place.saturating_add(1))
+        }
         Err(fault) => Err(fault),
     }
 }

@@ -3,7 +3,8 @@
 ghost use Rattle.std.specs.Prelude.{◌≡◌};
 ghost use Rattle.canon_model.specs.Shape.{string};
 ghost use Rattle.canon_types.specs.Table.{Knows, shape_of};
-ghost use Rattle.canon_plan.specs.Built.{IsBuilt, IsScalarType};
+ghost use Rattle.canon_plan.specs.Built.{IsScalarType};
+ghost use Rattle.canon_plan.specs.Plan.{typed_handle};
 ghost use Rattle.canon_value.specs.Viewed.{Viewed};
 
 use crate::case_view::{Case, enum_view, option_view, result_view, variant_view};
@@ -11,15 +12,19 @@ use crate::elements::Elements;
 use crate::lower::scalar_word;
 use crate::members::Members;
 use crate::{Fault, Val};
+use canon_plan::HandleType;
+use canon_resources::ResourceAny;
 use canon_types::{
     ComponentTypes, InterfaceType, TypeFixedLengthListIndex, TypeFlagsIndex, TypeListIndex,
-    TypeMapIndex, TypeRecordIndex, TypeTupleIndex,
+    TypeMapIndex, TypeRecordIndex, TypeResourceTableIndex, TypeTupleIndex,
 };
 
 pub enum View<'a> {
     /// A scalar's word.
     Scalar(u64),
     Text(&'a String),
+    /// A resource where a handle of this type is wanted.
+    Handle(HandleType, ResourceAny),
     /// The elements of a list or a map, which stand in a block of their own.
     List(Elements<'a>),
     Members(Members<'a>),
@@ -37,7 +42,6 @@ pub fn view_of<'a>(
     place: u64,
 ) -> Result<View<'a>, Fault>
     requires known { Knows types.now ty.now }
-    requires built { IsBuilt (shape_of types.now ty.now) }
     ensures { Viewed types.now ty.now value.now place result }
 {
     match ty {
@@ -52,6 +56,8 @@ pub fn view_of<'a>(
         InterfaceType::Map(i) => map_view(types, *i, value, place),
         InterfaceType::String => text_view(types, value, place),
         InterfaceType::Flags(i) => flags_view(types, *i, value, place),
+        InterfaceType::Own(i) => handle_view(types, true, *i, value, place),
+        InterfaceType::Borrow(i) => handle_view(types, false, *i, value, place),
         _ => scalar_view(types, ty, value, place),
     }
 }
@@ -78,6 +84,22 @@ fn text_view<'a>(types: &ComponentTypes, value: &'a Val, place: u64) -> Result<V
     let _ = types;
     match value {
         Val::String(text) => Ok(View::Text(text)),
+        _ => Err(Fault::TypeMismatch(place)),
+    }
+}
+
+fn handle_view<'a>(
+    types: &ComponentTypes,
+    owned: bool,
+    resource: TypeResourceTableIndex,
+    value: &'a Val,
+    place: u64,
+) -> Result<View<'a>, Fault>
+    ensures { Viewed types.now (typed_handle owned resource) value.now place result }
+{
+    let _ = types;
+    match value {
+        Val::Resource(any) => Ok(View::Handle(HandleType { owned, resource }, *any)),
         _ => Err(Fault::TypeMismatch(place)),
     }
 }

@@ -2,14 +2,17 @@
 
 ghost use Rattle.std.specs.Prelude.{◌∷◌, ◌≡◌, ◌≤◌, [], length};
 ghost use Rattle.canon_types.specs.Refusal.{empty_table, with_definition};
-ghost use Rattle.canon_types.specs.Table.{TupleType};
+ghost use Rattle.canon_types.specs.Table.{Knows, TupleType};
 ghost use Rattle.canon_types.specs.declared.types.InterfaceType.TheVariants as ty;
 
-use canon_memory::{Event, Journaled, Memory, Step, ValRaw, Words};
+use canon_ledger::HostResourceIndex;
+use canon_memory::{Memory, Step, ValRaw, Words};
+use canon_resources::ResourceAny;
 use canon_scripted::{Action, ScriptedGuest};
 use canon_types::{
-    CanonicalOptions, ComponentTypes, InstanceType, InterfaceType, OptionsIndex, RecordField,
-    RuntimeInstance, StoreId, StringEncoding, TypeBuilder, TypeFuncIndex, TypeTupleIndex,
+    CanonicalOptions, ComponentTypes, InstanceType, InterfaceType, OptionsIndex, ResourceKind,
+    ResourceType, RuntimeInstance, StoreId, StringEncoding, TypeBuilder, TypeFuncIndex,
+    TypeResourceTable, TypeResourceTableIndex, TypeTupleIndex,
 };
 use canon_value::{
     At, Component, Core, Export, Fault, HostcallFuelExhausted, LiftContext, LowerContext, Val,
@@ -51,7 +54,7 @@ fn core_of(rt: &impl Abort, alloc: Global, types: ComponentTypes) -> Core<u32, S
     let mut memory = Memory::new(alloc, 64).expect(rt, "memory");
     memory.as_slice_mut()[..6].copy_from_slice(&FRONT);
     let id = StoreId::from_u64(6);
-    Core::new(alloc, id, 5, guest, memory, component, 1_000).expect(rt, "memory")
+    Core::new(alloc, id, 5, guest, memory, component, 100, 1_000).expect(rt, "memory")
 }
 
 /// A core without types of its own.
@@ -81,7 +84,10 @@ fn a_text_is_lowered_to_words_and_lifted(rt: HostRuntime) {
     assert!(rt; words == [ValRaw::u64(16), ValRaw::u64(2)]);
     let mut cx = LiftContext::new(&mut core, OptionsIndex::from_u32(0));
     let value = Val::lift(alloc, &mut cx, InterfaceType::String, &words, 0);
-    assert!(rt; matches!(&value, Ok(Val::String(text)) if text.as_str() == "é"));
+    let Ok(Val::String(text)) = &value else {
+        panic!(rt; "no text");
+    };
+    assert!(rt; text.as_str() == "é");
 }
 
 #[test]
@@ -99,116 +105,10 @@ fn a_text_is_stored_and_loaded(rt: HostRuntime) {
         ])
     );
     let value = Val::load(alloc, &mut cx, InterfaceType::String, 8);
-    assert!(rt; matches!(&value, Ok(Val::String(text)) if text.as_str() == "é"));
-}
-
-/// A core whose texts are spelled so, and whose guest allocates from 1024 up and tells its journal.
-fn told_core(
-    rt: &impl Abort,
-    alloc: Global,
-    encoding: StringEncoding,
-) -> Core<u32, Journaled<ScriptedGuest>>
-    ensures options { length result.component.options.items ≡ 1 }
-{
-    let mut component = component_of(rt, alloc, TypeBuilder::new(alloc).finish());
-    component.options[0].string_encoding = encoding;
-    let guest = Journaled::new(alloc, ScriptedGuest::new(alloc, 1024));
-    let memory = Memory::new(alloc, 2048).expect(rt, "memory");
-    Core::new(
-        alloc,
-        StoreId::from_u64(6),
-        5,
-        guest,
-        memory,
-        component,
-        1_000,
-    )
-    .expect(rt, "memory")
-}
-
-/// Whether a block was asked for so, and answered with 1024.
-fn is_asked(event: Option<&Event>, old: u64, old_size: u64, align: u32, new_size: u64) -> bool {
-    let Some(
-        Event::Realloc {
-            old: from,
-            old_size: has,
-            align: to,
-            new_size: wants,
-            answer,
-        },
-    ) = event
-    else {
-        return false;
+    let Ok(Val::String(text)) = &value else {
+        panic!(rt; "no text");
     };
-    *from == old && *has == old_size && *to == align && *wants == new_size && *answer == 1024
-}
-
-#[test]
-#[tactic(auto, unfolding(canon_model::specs::Layout::flat))]
-fn a_text_in_utf16_gives_back_what_it_does_not_need(rt: HostRuntime) {
-    let alloc = rt.alloc();
-    let mut core = told_core(&rt, alloc, StringEncoding::Utf16);
-    let mut words = [ValRaw::u64(u64::MAX); 2];
-    let text = text_of(&rt, alloc, "é");
-    let mut cx = LowerContext::new(&mut core, OptionsIndex::from_u32(0));
-    assert!(rt;
-        text.lower(&mut cx, InterfaceType::String, &mut words)
-            .is_ok()
-    );
-    assert!(rt; words == [ValRaw::u64(1024), ValRaw::u64(1)]);
-    assert!(rt;
-        cx.as_slice_mut().get(1024) == Some(&0xe9) && cx.as_slice_mut().get(1025) == Some(&0)
-    );
-    let journal = core.guest_mut().take_journal();
-    assert!(rt; journal.len() == 2);
-    assert!(rt; is_asked(journal.as_slice().first(), 0, 0, 2, 4));
-    assert!(rt; is_asked(journal.as_slice().last(), 1024, 4, 2, 2));
-}
-
-#[test]
-#[tactic(auto, unfolding(canon_model::specs::Layout::flat))]
-fn a_compact_text_stays_latin1(rt: HostRuntime) {
-    let alloc = rt.alloc();
-    let mut core = told_core(&rt, alloc, StringEncoding::CompactUtf16);
-    let mut words = [ValRaw::u64(u64::MAX); 2];
-    let text = text_of(&rt, alloc, "é");
-    let mut cx = LowerContext::new(&mut core, OptionsIndex::from_u32(0));
-    assert!(rt;
-        text.lower(&mut cx, InterfaceType::String, &mut words)
-            .is_ok()
-    );
-    assert!(rt; words == [ValRaw::u64(1024), ValRaw::u64(1)]);
-    assert!(rt; cx.as_slice_mut().get(1024) == Some(&0xe9));
-    let journal = core.guest_mut().take_journal();
-    assert!(rt; journal.len() == 2);
-    assert!(rt; is_asked(journal.as_slice().first(), 0, 0, 2, 2));
-    assert!(rt; is_asked(journal.as_slice().last(), 1024, 2, 2, 1));
-}
-
-#[test]
-#[tactic(auto, unfolding(canon_model::specs::Layout::flat))]
-fn a_compact_text_becomes_utf16(rt: HostRuntime) {
-    let alloc = rt.alloc();
-    let mut core = told_core(&rt, alloc, StringEncoding::CompactUtf16);
-    let mut words = [ValRaw::u64(u64::MAX); 2];
-    let text = text_of(&rt, alloc, "a中");
-    let mut cx = LowerContext::new(&mut core, OptionsIndex::from_u32(0));
-    assert!(rt;
-        text.lower(&mut cx, InterfaceType::String, &mut words)
-            .is_ok()
-    );
-    assert!(rt; words == [ValRaw::u64(1024), ValRaw::u64(2_147_483_650)]);
-    assert!(rt;
-        cx.as_slice_mut().get(1024) == Some(&0x61) && cx.as_slice_mut().get(1025) == Some(&0)
-    );
-    assert!(rt;
-        cx.as_slice_mut().get(1026) == Some(&0x2d) && cx.as_slice_mut().get(1027) == Some(&0x4e)
-    );
-    let journal = core.guest_mut().take_journal();
-    assert!(rt; journal.len() == 3);
-    assert!(rt; is_asked(journal.as_slice().first(), 0, 0, 2, 4));
-    assert!(rt; is_asked(journal.as_slice().get(1), 1024, 4, 2, 8));
-    assert!(rt; is_asked(journal.as_slice().last(), 1024, 8, 2, 4));
+    assert!(rt; text.as_str() == "é");
 }
 
 /// A core of the type of a tuple of one u8, and its number.
@@ -235,27 +135,102 @@ fn parameters_are_lowered_and_results_lifted(rt: HostRuntime) {
     assert!(rt; words == [ValRaw::u64(7)]);
     let mut cx = LiftContext::new(&mut core, OptionsIndex::from_u32(0));
     let values = lift_results(alloc, &mut cx, ty, &words).expect(&rt, "results");
-    assert!(rt; matches!(values.as_slice(), [Val::U8(7)]));
+    let [Val::U8(number)] = values.as_slice() else {
+        panic!(rt; "no number");
+    };
+    assert!(rt; *number == 7);
 }
 
-/// The type of a record of `a`, an s8, and of `b`, a tuple of a bool, a u16, a list of u16, a string and a char.
-fn record_type(rt: &impl Abort, alloc: Global, builder: &mut TypeBuilder) -> InterfaceType {
+/// A core of one resource type of the host, handles of which instance 3 has in its table, and the type's number.
+fn resource_core(
+    rt: &impl Abort,
+    alloc: Global,
+) -> (Core<u32, ScriptedGuest>, TypeResourceTableIndex)
+    ensures options { length result.0.component.options.items ≡ 1 }
+    ensures known { Knows result.0.component.types.types (InterfaceType.Own result.1) }
+    ensures memory { length result.0.memory ≡ 64 }
+{
+    let mut builder = TypeBuilder::new(alloc);
+    let table = TypeResourceTable {
+        instance: RuntimeInstance::from_u32(3),
+        kind: ResourceKind::HostDynamic(5),
+        defined_here: false,
+    };
+    let number = builder.add_resource_table(table).expect(rt, "a table");
+    let types = builder.finish();
+    assert!(rt; types.contains(&InterfaceType::Own(number)));
+    (core_of(rt, alloc, types), number)
+}
+
+/// An own handle of the host, by the generation of its index 1, which is the first of a table.
+fn own_handle(generation: u32) -> ResourceAny {
+    let index = HostResourceIndex::new(1, generation);
+    ResourceAny::new(index, ResourceType::host_dynamic(5), true)
+}
+
+#[test]
+#[tactic(auto, unfolding(canon_model::specs::Layout::flat))]
+fn an_own_handle_is_lowered_to_a_word_and_lifted(rt: HostRuntime) {
+    let alloc = rt.alloc();
+    let (mut core, number) = resource_core(&rt, alloc);
+    let mut words = [ValRaw::u64(u64::MAX)];
+    let mut cx = LowerContext::new(&mut core, OptionsIndex::from_u32(0));
+    let index = cx.host_resource_lower_own(7, None, None);
+    assert!(rt; index == Ok(HostResourceIndex::new(1, 0)));
+    assert!(rt;
+        Val::Resource(own_handle(0))
+            .lower(&mut cx, InterfaceType::Own(number), &mut words)
+            .is_ok()
+    );
+    // The handle stands in the instance's table, and no longer in the host's.
+    assert!(rt; words == [ValRaw::u64(1)]);
+    let mut cx = LiftContext::new(&mut core, OptionsIndex::from_u32(0));
+    let value = Val::lift(alloc, &mut cx, InterfaceType::Own(number), &words, 0);
+    let Ok(Val::Resource(resource)) = &value else {
+        panic!(rt; "no resource");
+    };
+    // The host's index 1 is free again, in the next generation.
+    assert!(rt; *resource == own_handle(1));
+    let again = Val::lift(alloc, &mut cx, InterfaceType::Own(number), &words, 0);
+    assert!(rt; matches!(&again, Err(Fault::Resource(_))));
+}
+
+#[test]
+#[tactic(auto, unfolding(canon_model::specs::Layout::size, canon_model::specs::Layout::align))]
+fn an_own_handle_is_stored_and_loaded(rt: HostRuntime) {
+    let alloc = rt.alloc();
+    let (mut core, number) = resource_core(&rt, alloc);
+    let mut cx = LowerContext::new(&mut core, OptionsIndex::from_u32(0));
+    let index = cx.host_resource_lower_own(7, None, None);
+    assert!(rt; index == Ok(HostResourceIndex::new(1, 0)));
+    assert!(rt;
+        Val::Resource(own_handle(0))
+            .store(&mut cx, InterfaceType::Own(number), 8)
+            .is_ok()
+    );
+    let mut cx = LiftContext::new(&mut core, OptionsIndex::from_u32(0));
+    assert!(rt;
+        cx.memory()
+            .starts_with(&[1, 2, 3, 4, 0xff, b'a', 0, 0, 1, 0, 0, 0])
+    );
+    let value = Val::load(alloc, &mut cx, InterfaceType::Own(number), 8);
+    let Ok(Val::Resource(resource)) = &value else {
+        panic!(rt; "no resource");
+    };
+    assert!(rt; *resource == own_handle(1));
+}
+
+/// The type of a tuple of a bool, a list of u16, a string and a char.
+fn members_type(rt: &impl Abort, alloc: Global, builder: &mut TypeBuilder) -> InterfaceType {
     let list = builder.add_list(InterfaceType::U16).expect(rt, "a list");
     let members = [
         InterfaceType::Bool,
-        InterfaceType::U16,
         list,
         InterfaceType::String,
         InterfaceType::Char,
     ];
     let members = Vec::from_slice(alloc, &members).expect(rt, "memory");
-    let tuple = builder.add_tuple(members).expect(rt, "a tuple");
-    let mut fields = Vec::new(alloc);
-    for (name, ty) in [("a", InterfaceType::S8), ("b", tuple)] {
-        let name = String::from_str(alloc, name).expect(rt, "memory");
-        fields.push(RecordField { name, ty }).expect(rt, "memory");
-    }
-    builder.add_record(fields).expect(rt, "a record")
+    builder.add_tuple(members).expect(rt, "a tuple")
 }
 
 /// How the answer to lifting a value of the type prints, from all words but the first, where the conditions hold.
@@ -268,7 +243,7 @@ fn lifted(
 ) -> String
     requires options { length core.old.component.options.items ≡ 1 }
     requires words { 1 ≤ length src.now }
-    ensures same { core.new ≡ core.old }
+    ensures same { core.new ≡ record core.old { ledger = core.new.ledger } }
 {
     let mut cx = LiftContext::new(core, OptionsIndex::from_u32(0));
     let types = cx.types();
@@ -283,30 +258,20 @@ fn lifted(
 #[test]
 fn a_fault_in_words_is_told_at_its_word(rt: HostRuntime) {
     let alloc = rt.alloc();
-    let value =
-        r#"Ok(Record([("a", S8(-128)), ("b", Tuple([Bool(true), U16(7), List([U16(513), U16(1027)]), String("a"), Char('é')]))]))"#;
-    for ([list, items, text, bytes, char], want) in [
+    let value = r#"Ok(Tuple([Bool(true), List([U16(513), U16(1027)]), String("a"), Char('é')]))"#;
+    for (words, want) in [
         ([0, 2, 5, 1, 233], value),
-        ([1, 2, 5, 1, 233], "Err(PointerMisaligned(Word(4)))"),
-        ([62, 2, 5, 1, 233], "Err(PointerOutOfBounds(Word(4)))"),
-        ([0, 2, 4, 1, 233], "Err(InvalidUtf8(Word(6)))"),
-        ([0, 2, 63, 2, 233], "Err(PointerOutOfBounds(Word(6)))"),
-        ([0, 2, 5, 1, 0xd800], "Err(InvalidChar(Word(8)))"),
+        ([1, 2, 5, 1, 233], "Err(PointerMisaligned(Word(2)))"),
+        ([62, 2, 5, 1, 233], "Err(PointerOutOfBounds(Word(2)))"),
+        ([0, 2, 4, 1, 233], "Err(InvalidUtf8(Word(4)))"),
+        ([0, 2, 63, 2, 233], "Err(PointerOutOfBounds(Word(4)))"),
+        ([0, 2, 5, 1, 0xd800], "Err(InvalidChar(Word(6)))"),
     ] {
-        let words = [
-            0,
-            0x7fff_ff80,
-            0x100,
-            0x5_ffff_0007,
-            list,
-            items,
-            text,
-            bytes,
-            char,
-        ];
-        let words = words.map(|word| ValRaw::u64(word));
+        let [list, items, text, bytes, char] = words.map(|word| ValRaw::u64(word));
+        let flag = ValRaw::u64(0x100);
+        let words = [flag, flag, list, items, text, bytes, char];
         let mut builder = TypeBuilder::new(alloc);
-        let ty = record_type(&rt, alloc, &mut builder);
+        let ty = members_type(&rt, alloc, &mut builder);
         let mut core = core_of(&rt, alloc, builder.finish());
         let answer = lifted(&rt, alloc, &mut core, &ty, &words);
         assert!(rt; answer.as_str() == want);
@@ -327,20 +292,30 @@ fn a_context_gives_its_options_and_types(rt: HostRuntime) {
     let mut core = plain_core(&rt, rt.alloc());
     let instance = RuntimeInstance::from_u32(3);
     let cx = LowerContext::new(&mut core, OptionsIndex::from_u32(0));
-    assert!(rt; (cx.options().instance, cx.instance_handle()) == (instance, instance));
-    assert!(rt; cx.types().contains(&InterfaceType::Char));
-    assert!(rt; cx.instance_type().types().contains(&InterfaceType::Char));
+    let known = (
+        cx.types().contains(&InterfaceType::Char),
+        cx.instance_type().types().contains(&InterfaceType::Char),
+    );
+    assert!(rt;
+        (cx.options().instance, cx.instance_handle()) == (instance, instance)
+            && known == (true, true)
+    );
     let cx = LiftContext::new(&mut core, OptionsIndex::from_u32(0));
-    assert!(rt; (cx.options().instance, cx.instance_handle()) == (instance, instance));
-    assert!(rt; (cx.options_index().as_u32(), cx.store_id().as_u64()) == (0, 6));
-    assert!(rt; cx.types().contains(&InterfaceType::Char));
-    assert!(rt; cx.instance_type().types().contains(&InterfaceType::Char));
+    let known = (
+        cx.types().contains(&InterfaceType::Char),
+        cx.instance_type().types().contains(&InterfaceType::Char),
+    );
+    assert!(rt;
+        (cx.options().instance, cx.instance_handle()) == (instance, instance)
+            && (cx.options_index().as_u32(), cx.store_id().as_u64()) == (0, 6)
+            && known == (true, true)
+    );
 }
 
 #[test]
 fn fuel_is_taken_or_left_as_it_was(rt: HostRuntime) {
     let mut core = plain_core(&rt, rt.alloc());
-    assert!(rt; core.fuel() == 1_000);
+    let first = core.fuel();
     core.set_fuel(70);
     let mut cx = LiftContext::new(&mut core, OptionsIndex::from_u32(0));
     // 2^32 times itself is 0 in 64 bits.
@@ -353,7 +328,7 @@ fn fuel_is_taken_or_left_as_it_was(rt: HostRuntime) {
     ];
     let refused = Err(Fault::HostcallFuelExhausted);
     assert!(rt; answers == [refused, Ok(()), refused, Ok(()), Ok(())]);
-    assert!(rt; cx.fuel() == 1);
+    assert!(rt; (first, cx.fuel()) == (1_000, 1));
 }
 
 #[test]
@@ -376,10 +351,14 @@ fn a_core_gives_its_parts_and_passes_calls_on(rt: HostRuntime) {
         .expect(&rt, "memory");
     core.guest_mut()
         .load(actions, Vec::new(alloc), false, false);
-    assert!(rt; matches!(core.start(4, &[]), Ok(Step::Import { index: 9, .. })));
-    assert!(rt; matches!(core.resume(&[]), Ok(Step::Return(_))));
-    assert!(rt; core.post_return(4, &[]).is_ok());
-    assert!(rt; core.dtor(4, 5).is_ok());
+    let asked = core.start(4, &[]);
+    let Ok(Step::Import { index, .. }) = &asked else {
+        panic!(rt; "no ask");
+    };
+    assert!(rt; *index == 9);
+    let returned = core.resume(&[]);
+    assert!(rt; matches!(&returned, Ok(Step::Return(_))));
+    assert!(rt; core.post_return(4, &[]).is_ok() && core.dtor(4, 5).is_ok());
 }
 
 #[test]
@@ -414,26 +393,27 @@ fn every_kind_but_handles_is_built(rt: HostRuntime) {
         .add_result(Some(pairs), None)
         .expect(&rt, "a result");
     let types = builder.finish();
-    assert!(rt; is_built(&types, &InterfaceType::String));
-    assert!(rt; is_built(&types, &outcome));
+    assert!(rt; is_built(&types, &InterfaceType::String) && is_built(&types, &outcome));
 }
 
 #[test]
 fn values_are_equal_by_their_parts(rt: HostRuntime) {
     let alloc = rt.alloc();
     let nan = Val::Float32(0x7fc0_0000);
-    assert!(rt; nan == Val::Float32(0xffc0_0001));
-    assert!(rt; nan != Val::Float32(0x7f80_0000));
-    assert!(rt; Val::Float32(0) != Val::Float32(0x8000_0000));
-    assert!(rt; Val::Float64(0x7ff0_0000_0000_0001) == Val::Float64(u64::MAX));
-    assert!(rt; Val::from(3_u8) != Val::from(3_i8));
+    let equal = [
+        nan == Val::Float32(0xffc0_0001),
+        nan == Val::Float32(0x7f80_0000),
+        Val::Float32(0) == Val::Float32(0x8000_0000),
+        Val::Float64(0x7ff0_0000_0000_0001) == Val::Float64(u64::MAX),
+        Val::from(3_u8) == Val::from(3_i8),
+    ];
+    assert!(rt; equal == [true, false, false, true, false]);
     let name = String::from_str(alloc, "a").expect(&rt, "memory");
     let payload = Box::new(alloc, nan).expect(&rt, "memory");
     let value = Val::Variant(name, Some(payload));
     let copy = value.clone(alloc).expect(&rt, "memory");
     assert!(rt; copy == value);
-    assert!(rt; value.desc() == "variant");
-    assert!(rt; Val::from(true).desc() == "bool");
+    assert!(rt; (value.desc(), Val::from(true).desc()) == ("variant", "bool"));
 }
 
 #[test]

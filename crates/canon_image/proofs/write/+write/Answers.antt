@@ -14,7 +14,7 @@ use Rattle.canon_value.proofs.WalkLoops.{member_shallow}
 use Rattle.canon_value.proofs.Walks.{copies_built, copies_deepest}
 use Rattle.canon_value.proofs.Steps.{blocks_none}
 use Rattle.canon_image.proofs.PairsWriting.{key_stops, map_parts, map_told, pair_goes_on, pair_here, pairs_end, value_stops}
-use Rattle.canon_image.proofs.Writing.{case_told, end, go_on, items_told, member_built, members_written, misnamed, parts_told, refused, stop}
+use Rattle.canon_image.proofs.Writing.{case_told, end, go_on, items_told, member_built, members_written, misnamed, parts_told, refused, seen_built, stop}
 use Rattle.canon_image.proofs.write.+write.Goals.{write_pairs-After-map-map}
 use Rattle.canon_image.proofs.write.+write.Goals as goal
 
@@ -22,8 +22,10 @@ use Rattle.canon_image.proofs.write.+write.Goals as goal
 
 pub write_case-write_parts-requires : goal.write_case-write_parts-requires
 write_case-write_parts-requires t c =
-    let w = case_wants c.args.types.now (shape_of c.args.types.now c.args.ty.now) c.args.value.now c.args.case.now 0 c.requires.built c.requires.seen in
-    (omega (arith, w.falls), (w.known, (w.built, w.count)))
+    let a = c.args in
+    let s = shape_of a.types.now a.ty.now in
+    let w = case_wants a.types.now s a.value.now a.case.now 0 c.requires.seen in
+    (omega (arith, w.falls), (w.known, (seen_built a.types.now s a.value.now a.case.now c.requires.built c.requires.seen, w.count)))
 
 pub write_case-returns-in-Ok : goal.write_case-returns-in-Ok
 write_case-returns-in-Ok t c =

@@ -1,8 +1,8 @@
-use Rattle.canon_plan.proofs.ScalarTypes.{built_scalar}
+use Rattle.canon_plan.proofs.ScalarTypes.{scalar_left}
 use Rattle.canon_plan.proofs.plan.plan_of.Goals as goal
 
 pub returns-in_default : goal.returns-in_default
 returns-in_default c =
     let d = c.in_default in
-    built_scalar c.args.types.now c.args.ty.now c.requires.built (λ i e. d.not-Record i e) (λ i e. d.not-Tuple i e) (λ e. d.not-String e) (λ i e. d.not-List i e) (λ i e. d.not-FixedLengthList i e)
-    (λ i e. d.not-Map i e) (λ i e. d.not-Variant i e) (λ i e. d.not-Enum i e) (λ i e. d.not-Option i e) (λ i e. d.not-Result i e) (λ i e. d.not-Flags i e)
+    scalar_left c.args.ty.now (λ i e. d.not-Record i e) (λ i e. d.not-Tuple i e) (λ e. d.not-String e) (λ i e. d.not-List i e) (λ i e. d.not-FixedLengthList i e)
+    (λ i e. d.not-Map i e) (λ i e. d.not-Variant i e) (λ i e. d.not-Enum i e) (λ i e. d.not-Option i e) (λ i e. d.not-Result i e) (λ i e. d.not-Flags i e) (λ i e. d.not-Own i e) (λ i e. d.not-Borrow i e)

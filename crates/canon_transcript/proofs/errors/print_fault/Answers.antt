@@ -53,6 +53,9 @@ returns-in-InvalidUtf16 c = rw c.in-InvalidUtf16.is c.print_at-in-InvalidUtf16.e
 pub returns-in-InvalidChar : goal.returns-in-InvalidChar
 returns-in-InvalidChar c = rw c.in-InvalidChar.is c.print_at-in-InvalidChar.ensures
 
+pub returns-in-Resource : goal.returns-in-Resource
+returns-in-Resource c = rw c.in-Resource.is c.print_refusal.ensures
+
 pub returns-in-HostcallFuelExhausted : goal.returns-in-HostcallFuelExhausted
 returns-in-HostcallFuelExhausted c = rw c.in-HostcallFuelExhausted.is (pushed c.push_str-in-HostcallFuelExhausted.result (string_bytes c.args.text.now) (string_bytes c.push_str-in-HostcallFuelExhausted.new.self) (codes "HostcallFuelExhausted") c.push_str-in-HostcallFuelExhausted.ensures.bytes)
 

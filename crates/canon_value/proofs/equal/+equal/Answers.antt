@@ -1,3 +1,4 @@
+use Rattle.canon_value.proofs.HandleValues.{resources_equal}
 use Rattle.canon_value.proofs.Equality.{maps_equal, pairs_apart, records_equal, rows_apart}
 use Rattle.canon_value.proofs.equal.+equal.Goals as goal
 
@@ -18,3 +19,8 @@ are_pairs_equal-returns-then-a-b t c = pairs_apart c.args.a.now c.args.b.now c.i
 
 pub are_rows_equal-returns-then-a-b : goal.are_rows_equal-returns-then-a-b
 are_rows_equal-returns-then-a-b t c = rows_apart c.args.a.now c.args.b.now c.if-a-b.true
+
+pub are_equal-returns-in-Resource-Resource : goal.are_equal-returns-in-Resource-Resource
+are_equal-returns-in-Resource-Resource t c =
+    let m = c.in-Resource-Resource in
+    resources_equal c.args.a.now c.args.b.now m.x m.y c.are_resources_equal.result m.is-0 m.is-1 c.are_resources_equal.ensures

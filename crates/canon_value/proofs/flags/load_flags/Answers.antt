@@ -1,4 +1,4 @@
-use Rattle.std.proofs.Common.{◌≤◌, ◌+◌, arith, length}
+use Rattle.std.proofs.Common.{◌≡◌, ◌≤◌, ◌+◌, None, arith, length, refl}
 use Rattle.canon_indices.specs.Options.{encoding_of}
 use Rattle.canon_lowering.specs.Storing.{narrow}
 use Rattle.canon_model.specs.Layout.{flags_size}
@@ -7,6 +7,11 @@ use Rattle.canon_value.proofs.FlagLifting.{flags_blamed, flags_loaded}
 use Rattle.canon_value.proofs.FlagNames.{flags_are}
 use Rattle.canon_value.proofs.FlagSteps.{size_flags}
 use Rattle.canon_value.proofs.flags.load_flags.Goals.{After-flags-flags}
+use Rattle.canon_context.proofs.Told.{on_err}
+use Rattle.canon_context.specs.Told.{IsNoRefusal}
+use Rattle.canon_value.proofs.LeavesAt.{flags_leaves}
+use Rattle.canon_value.proofs.Lifted.{lifts_nothing, no_refusal}
+use Rattle.canon_value.specs.Resources.{resources, stop_of}
 use Rattle.canon_value.proofs.flags.load_flags.Goals as goal
 
 room : (c : After-flags-flags) → c.args.at + flags_size (length (flag_names c.args.source.now.types.now c.args.i)) ≤ length c.args.source.now.memory.now
@@ -27,3 +32,9 @@ returns-clause-err c =
     let s = c.args.source.now in
     flags_blamed (encoding_of s.encoding) (narrow s.memory.now) (flag_names s.types.now c.args.i) c.args.fuel.now _ c.args.at c.flags_of.result
     (flags_are s.types.now c.args.i c.flags-flags.result.now c.flags-flags.ensures.entry) c.flags_of.ensures.err
+
+pub returns-clause-handles : goal.returns-clause-handles
+returns-clause-handles c =
+    let s = c.args.source.now in
+    λ l. lifts_nothing s.instance.now resources l l _ c.flags_of.result (flags_leaves s.memory.now _ c.args.at (flag_names s.types.now c.args.i) (flags_are s.types.now c.args.i c.flags-flags.result.now c.flags-flags.ensures.entry)) refl
+    c.flags_of.ensures.none (on_err c.flags_of.result IsNoRefusal (λ e. stop_of e ≡ None) no_refusal c.flags_of.ensures.unrefused)

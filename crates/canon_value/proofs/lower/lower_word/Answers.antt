@@ -4,6 +4,7 @@ use Rattle.canon_context.specs.Core.{types_of}
 use Rattle.canon_value.specs.Words.{IsWordOf}
 use Rattle.canon_context.proofs.Moves.{GuestLaws}
 use Rattle.canon_plan.proofs.ScalarTypes.{scalar_shape}
+use Rattle.canon_value.proofs.PassesOf.{scalar_passes}
 use Rattle.canon_value.proofs.WordSteps.{scalar_lowers}
 use Rattle.canon_value.proofs.lower.lower_word.Goals as goal
 
@@ -18,4 +19,4 @@ returns-clause-lowers g c =
     let a = c.args in
     let L : GuestLaws _ = record { seen = g.G.Guest.seen; moves = g.G.Guest.moves; stays = g.met.G.Guest.stays; goes_on = g.met.G.Guest.goes_on } in
     scalar_lowers L a.cx.now.options a.cx.now.core.now a.dst.now a.from _ a.ty a.value.now c.u64.result c.requires.small c.requires.room
-    (subst (λ (w : ℕ). IsWordOf a.ty a.value.now w) (sym c.u64.ensures) c.requires.word) refl c.saturating_add.ensures
+    (subst (λ (w : ℕ). IsWordOf a.ty a.value.now w) (sym c.u64.ensures) c.requires.word) refl c.saturating_add.ensures (scalar_passes (types_of a.cx.now.core.now) a.ty a.value.now a.word c.requires.word)

@@ -1,4 +1,4 @@
-use Rattle.std.proofs.Common.{◌≡◌, List, length}
+use Rattle.std.proofs.Common.{◌∙◌, ◌≡◌, List, ap, length}
 use Rattle.canon_model.specs.Shape.{of_fields}
 use Rattle.canon_types.specs.Depth.{element_shape, product_members}
 use Rattle.canon_types.specs.Table.{shape_of}
@@ -10,6 +10,8 @@ use Rattle.canon_value.specs.declared.val.Val.{Val}
 use Rattle.canon_context.proofs.Told.{on_ok}
 use Rattle.canon_value.proofs.Planning.{fixed_rebuilt, list_rebuilt, map_even, map_rebuilt, record_count, record_rebuilt, tuple_rebuilt}
 use Rattle.canon_plan.proofs.TypeKinds.{list_left}
+use Rattle.canon_value.proofs.ResourcesOf.{pair_resources, product_resources, resources_fixed, resources_list, resources_tuple}
+use Rattle.canon_value.specs.Resources.{all_resources, resources}
 use Rattle.canon_value.proofs.rebuild.rebuild.Goals as goal
 
 pub rebuild_record-requires-clause-count : goal.rebuild_record-requires-clause-count
@@ -54,4 +56,25 @@ returns-in-Map-clause-ok c =
 pub returns-in_default : goal.returns-in_default
 returns-in_default c =
     let s = shape_of c.args.types.now c.args.ty.now in
-    record { ok = list_rebuilt s (element_shape s) c.args.values (list_left c.args.ty.now s c.requires.kind c.in_default.not-Record c.in_default.not-Tuple c.in_default.not-FixedLengthList c.in_default.not-Map); err = tt }
+    record {
+      ok = list_rebuilt s (element_shape s) c.args.values (list_left c.args.ty.now s c.requires.kind c.in_default.not-Record c.in_default.not-Tuple c.in_default.not-FixedLengthList c.in_default.not-Map);
+      resources = resources_list c.args.values;
+      err = tt;
+    }
+
+pub returns-in-Record-clause-resources : goal.returns-in-Record-clause-resources
+returns-in-Record-clause-resources c =
+    let s = shape_of c.args.types.now (ty.Record c.in-Record.i) in
+    let vs = c.args.values.items in
+    on_ok c.rebuild_record.result (λ v. IsProduct of_fields (member_names (product_members s)) vs v) (λ v. resources v ≡ all_resources vs) (λ v h. product_resources of_fields (member_names (product_members s)) vs v h) c.rebuild_record.ensures.ok
+
+pub returns-in-Tuple-clause-resources : goal.returns-in-Tuple-clause-resources
+returns-in-Tuple-clause-resources c = resources_tuple c.args.values
+
+pub returns-in-FixedLengthList-clause-resources : goal.returns-in-FixedLengthList-clause-resources
+returns-in-FixedLengthList-clause-resources c = resources_fixed c.args.values
+
+pub returns-in-Map-clause-resources : goal.returns-in-Map-clause-resources
+returns-in-Map-clause-resources c =
+    let vs = c.args.values.items in
+    on_ok c.rebuild_map.result (λ v. (ps : List (Val × Val)) × IsPairs ps v × (by_turns ps ≡ vs)) (λ v. resources v ≡ all_resources vs) (λ v (ps, is, e). pair_resources ps v is ∙ ap all_resources e) c.rebuild_map.ensures.ok

@@ -6,6 +6,7 @@ use Rattle.canon_types.specs.Table.{Table, shape_of}
 use Rattle.canon_context.specs.Core.{types_of}
 use Rattle.canon_value.proofs.StoreSteps.{scalar_type_bytes}
 use Rattle.canon_context.proofs.Moves.{GuestLaws}
+use Rattle.canon_value.proofs.PassesOf.{scalar_passes}
 use Rattle.canon_value.proofs.Walks.{scalar_stores}
 use Rattle.canon_value.proofs.store.store_word.Goals as goal
 
@@ -25,3 +26,4 @@ returns-clause-stores g c =
     scalar_stores L a.cx.now.options a.cx.now.core.now c.put_low_bytes.new.memory a.ty a.at a.value.now a.word c.canonical_abi.result.now.size32 a.place c.saturating_add.result
     c.requires.small (omega (arith, bytes, c.requires.room)) bytes c.requires.word c.put_low_bytes.ensures.stored
     (subst (λ (xs : List ℕ). Writes (block a.at c.canonical_abi.result.now.size32) xs c.put_low_bytes.new.memory) c.as_slice_mut.ensures.value c.put_low_bytes.ensures.writes) c.saturating_add.ensures
+    (scalar_passes types a.ty a.value.now a.word c.requires.word)

@@ -1,0 +1,25 @@
+use Rattle.std.proofs.Common.{arith, subst}
+use Rattle.canon_context.specs.Lifter.{origin_of}
+use Rattle.canon_indices.specs.Options.{encoding_of}
+use Rattle.canon_lowering.specs.Storing.{narrow}
+use Rattle.canon_types.specs.Table.{Table, shape_of}
+use Rattle.canon_value.specs.Lifts.{LiftsWords}
+use Rattle.canon_value.proofs.LiftSteps.{lift_err, lift_ok}
+use Rattle.canon_value.proofs.lift.LiftingLifter.lift.Goals as goal
+
+pub returns-clause-gives : goal.returns-clause-gives
+returns-clause-gives c =
+    let s = c.args.source.now in
+    let enc = encoding_of s.encoding in
+    let m = narrow s.memory.now in
+    let l = c.args.self.now in
+    let t = s.types.now in
+    let lift = c.lift_value in (
+      subst (λ (x : Table). LiftsWords (origin_of s) l.src.now (shape_of x l.ty) l.at c.args.ledger.now c.args.fuel.now lift.result lift.new.ledger lift.new.fuel) c.requires.one_origin (record {
+        ok = lift_ok enc m l.src.now (shape_of t l.ty) l.at lift.new.at c.args.fuel.now lift.new.fuel lift.result lift.ensures.lifts;
+        err = lift_err enc m l.src.now (shape_of t l.ty) l.at lift.new.at c.args.fuel.now lift.new.fuel lift.result lift.ensures.lifts;
+        falls = lift.ensures.falls;
+        handles = lift.ensures.handles;
+      }),
+      λ scalar. lift.ensures.scalar scalar (omega arith),
+    )

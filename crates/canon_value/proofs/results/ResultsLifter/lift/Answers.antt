@@ -1,0 +1,58 @@
+use Rattle.std.proofs.Common.{List, ap, arith, subst, sym, ◌<◌, ◌∙◌, ◌≡◌, ◌≤◌}
+use Rattle.canon_context.specs.Lifter.{origin_of}
+use Rattle.canon_indices.specs.Options.{encoding_of}
+use Rattle.canon_lowering.specs.Storing.{narrow}
+use Rattle.canon_model.specs.Flat.{max_results}
+use Rattle.canon_model.specs.Layout.{flat, members_flat}
+use Rattle.canon_model.specs.Reach.{values_reach}
+use Rattle.canon_model.specs.Shape.{of_places, product}
+use Rattle.canon_types.specs.declared.types.InterfaceType.{InterfaceType}
+use Rattle.canon_types.specs.declared.types.InterfaceType.TheVariants as ty
+use Rattle.canon_types.specs.Table.{Table, members_of, shape_of, tuple_members}
+use Rattle.canon_value.specs.Lifts.{HaveWords, LiftsResults}
+use Rattle.canon_value.proofs.NearFaults.{near_err, passes_one, tuple_flat}
+use Rattle.canon_value.proofs.results.ResultsLifter.lift.Goals.{After-tuple}
+use Rattle.canon_value.proofs.results.ResultsLifter.lift.Goals as goal
+
+words : (c : After-tuple) → flat (shape_of c.args.source.now.types.now (ty.Tuple c.args.self.now.ty)) ≡ members_flat (tuple_members c.args.source.now.types.now c.args.self.now.ty)
+words c =
+    let shape : shape_of c.args.source.now.types.now (ty.Tuple c.args.self.now.ty) ≡ product of_places (tuple_members c.args.source.now.types.now c.args.self.now.ty) =
+    c.tuple.ensures.entry.shape ∙ ap (λ (xs : List InterfaceType). product of_places (members_of c.args.source.now.types.now xs)) c.tuple.ensures.types in
+    tuple_flat _ _ shape
+
+-- there are as many words as the results take, by the table that they were looked up in
+counted : (c : After-tuple) → HaveWords (tuple_members c.args.source.now.types.now c.args.self.now.ty) c.args.self.now.src.now
+counted c = subst (λ (t : Table). HaveWords (tuple_members t c.args.self.now.ty) c.args.self.now.src.now) (sym c.requires.one_origin) c.requires.ready.1
+
+pub lift_results_near-requires-clause-near : goal.lift_results_near-requires-clause-near
+lift_results_near-requires-clause-near c =
+    let flat_is = words (goal.at.lift_results_near-requires-clause-near c).After-tuple in
+    omega (arith, flat_is, c.from-most.ensures, (c.in-Some.ensures.words _ c.tuple.ensures.abi).0)
+
+pub lift_results_near-requires-clause-words : goal.lift_results_near-requires-clause-words
+lift_results_near-requires-clause-words c = (counted (goal.at.lift_results_near-requires-clause-words c).After-tuple).0 (lift_results_near-requires-clause-near c)
+
+pub load_results-requires-clause-far : goal.load_results-requires-clause-far
+load_results-requires-clause-far c =
+    let flat_is = words (goal.at.load_results-requires-clause-far c).After-tuple in
+    omega (arith, flat_is, passes_one _ _ c.from-most.ensures (c.in-None.ensures.words _ c.tuple.ensures.abi))
+
+pub load_results-requires-clause-word : goal.load_results-requires-clause-word
+load_results-requires-clause-word c = (counted (goal.at.load_results-requires-clause-word c).After-tuple).1 (load_results-requires-clause-far c)
+
+pub returns-in-Some-clause-gives : goal.returns-in-Some-clause-gives
+returns-in-Some-clause-gives c =
+    let s = c.args.source.now in
+    let enc = encoding_of s.encoding in
+    let m = narrow s.memory.now in
+    let ws = c.args.self.now.src.now in
+    let ms = tuple_members s.types.now c.args.self.now.ty in
+    let flat_is = words (goal.at.returns-in-Some-clause-gives c).After-tuple in
+    let near : members_flat ms ≤ max_results = omega (arith, flat_is, c.from-most.ensures, (c.in-Some.ensures.words _ c.tuple.ensures.abi).0) in
+    let lift = c.lift_results_near in
+    subst (λ (t : Table). LiftsResults (origin_of s) ws (tuple_members t c.args.self.now.ty) c.args.ledger.now c.args.fuel.now lift.result lift.new.ledger lift.new.fuel) c.requires.one_origin (record {
+      ok = lift.ensures.ok;
+      err = near_err enc m ws ms (c.args.fuel.now < values_reach enc m ws max_results ms) lift.result near lift.ensures.cause;
+      falls = lift.ensures.falls;
+      handles = lift.ensures.handles;
+    })

@@ -1,0 +1,169 @@
+-- The resources in values, in the order in which they are lowered and lifted: depth first.
+use Rattle.std.specs.Prelude.{◌==◌, ◌++◌, ◌<◌, ◌^◌, ◌≡◌, ◌⊎◌, Bool, Err, IfErr, IfOk, List, None, Ok, Option, Result, Some, [], ◌∷◌, false, flat_map, if◌then◌else◌, length, map, nat_eq, string_bytes, suc, true, ℕ}
+use Rattle.std.specs.Cmp.Lexicographic.{pointwise}
+use Rattle.canon_context.specs.declared.fault.Fault.{Fault}
+use Rattle.canon_context.specs.declared.fault.Fault.TheVariants as fault
+use Rattle.canon_context.specs.Core.{Parts}
+use Rattle.canon_context.specs.Lowers.{ending_of, fault_ending}
+use Rattle.canon_leaves.specs.Parts.{LeavesLift, LeavesStop, LeavesTake, Passed, lift_parts, lower_parts, passed, refusal_of}
+use Rattle.canon_ledger.specs.Ledger.{LedgerState}
+use Rattle.canon_ledger.specs.declared.fault.ResourceFault.{ResourceFault}
+use Rattle.canon_ledger.specs.declared.fault.ResourceFault.TheVariants as resource
+use Rattle.canon_lowering.specs.Copies.{case_members, copies}
+use Rattle.canon_lowering.specs.Lowering.{Ending, refused, short}
+use Rattle.canon_model.specs.Leaves.{Leaf}
+use Rattle.canon_model.specs.Shape.{Members, Name, Shape, borrow, fixed, list, member, member_count, no_members, of_cases, of_fields, of_items, of_option, of_pairs, of_places, of_result, own, product, variant}
+use Rattle.canon_plan.specs.Element.{row_of}
+use Rattle.canon_resources.specs.Held.{Any}
+use Rattle.canon_types.specs.Instance.{Instance}
+use Rattle.canon_value.specs.Value.{case_names}
+use Rattle.canon_value.specs.declared.val.Val.{Val, fold-Val}
+use Rattle.canon_value.specs.declared.val.Val.TheOpen.{Val-F}
+use Rattle.canon_value.specs.declared.val.Val.TheVariants as val
+
+-- ---- of values alone
+
+abbrev pub joined : {A : Type 0} → List (List A) → List A
+joined xss = flat_map (λ xs. xs) xss
+
+abbrev pub resources_step : Val-F (List Any) → List Any
+resources_step (Val-F.Resource x) = x ∷ []
+resources_step (Val-F.Record fields) = joined (map (λ f. f.1) fields.items)
+resources_step (Val-F.Tuple members) = joined members.items
+resources_step (Val-F.List members) = joined members.items
+resources_step (Val-F.FixedLengthList members) = joined members.items
+resources_step (Val-F.Map pairs) = joined (map (λ p. p.0 ++ p.1) pairs.items)
+resources_step (Val-F.Variant name (Some b)) = b.value
+resources_step (Val-F.Option (Some b)) = b.value
+resources_step (Val-F.Result (Ok (Some b))) = b.value
+resources_step (Val-F.Result (Err (Some b))) = b.value
+resources_step _ = []
+
+abbrev pub resources : Val → List Any
+resources = fold-Val (List Any) resources_step
+
+abbrev pub all_resources : List Val → List Any
+all_resources vs = joined (map resources vs)
+
+-- ---- where handles are wanted
+
+-- where members of these shapes are wanted: what each passes where its shape is, one after the other
+abbrev pub row_passes : Members → List (Shape → List Passed) → List Passed
+row_passes no_members fs = []
+row_passes (member name s ms) [] = []
+row_passes (member name s ms) (f ∷ fs) = f s ++ row_passes ms fs
+
+-- the same where there are as many
+abbrev pub full_passes : Members → List (Shape → List Passed) → List Passed
+full_passes ms fs = if length fs == member_count ms then row_passes ms fs else []
+
+-- the place of a name among names: the first, or how many there are
+abbrev pub place_in : Name → List Name → ℕ
+place_in name [] = 0
+place_in name (n ∷ ns) = if pointwise nat_eq name n then 0 else suc (place_in name ns)
+
+-- keys and values by turns
+abbrev pub turns_of : {A : Type 0} → List (A × A) → List A
+turns_of [] = []
+turns_of (p ∷ ps) = p.0 ∷ p.1 ∷ turns_of ps
+
+-- What a value passes where a type is wanted: the resources that stand where handles are, below parts that have the shape of
+-- their types. A part that hasn't passes nothing.
+abbrev pub passes_step : Val-F (Shape → List Passed) → Shape → List Passed
+passes_step (Val-F.Resource x) (own r) = passed true r x ∷ []
+passes_step (Val-F.Resource x) (borrow r) = passed false r x ∷ []
+passes_step (Val-F.Record fields) (product of_fields ms) = full_passes ms (map (λ f. f.1) fields.items)
+passes_step (Val-F.Tuple members) (product of_places ms) = full_passes ms members.items
+passes_step (Val-F.FixedLengthList members) (fixed n s) = full_passes (copies n s) members.items
+passes_step (Val-F.List members) (list of_items s) = row_passes (copies (length members.items) s) members.items
+passes_step (Val-F.Map pairs) (list of_pairs s) = row_passes (row_of (list of_pairs s) (length pairs.items)) (turns_of pairs.items)
+passes_step (Val-F.Variant name (Some b)) (variant of_cases cs) = row_passes (case_members cs (place_in (string_bytes name) (case_names cs))) (b.value ∷ [])
+passes_step (Val-F.Option (Some b)) (variant of_option cs) = row_passes (case_members cs 1) (b.value ∷ [])
+passes_step (Val-F.Result (Ok (Some b))) (variant of_result cs) = row_passes (case_members cs 0) (b.value ∷ [])
+passes_step (Val-F.Result (Err (Some b))) (variant of_result cs) = row_passes (case_members cs 1) (b.value ∷ [])
+passes_step _ _ = []
+
+abbrev pub passes : Val → Shape → List Passed
+passes = fold-Val (Shape → List Passed) passes_step
+
+-- values in a row, as members of these shapes
+abbrev pub all_passes : Members → List Val → List Passed
+all_passes ms vs = row_passes ms (map passes vs)
+
+-- ---- through the ledger
+
+-- what the ledger told, if the fault is the ledger's
+abbrev pub ledger_fault : Fault → Option ResourceFault
+ledger_fault (fault.Resource e) = Some e
+ledger_fault _ = None
+
+-- the refusal that stopped a walk, if it was the ledger's; want of memory is none
+abbrev pub stop_of : Fault → Option ResourceFault
+stop_of (fault.Resource e) = refusal_of e
+stop_of _ = None
+
+-- the number, where there is one
+abbrev pub number_given : Result ℕ Fault → List ℕ
+number_given (Ok h) = h ∷ []
+number_given (Err e) = []
+
+-- What was passed went through the ledger in order, as far as the walk went, and was given these handles. The ledger stops a walk
+-- only where something is passed.
+abbrev pub LowersHandles : {T : Type 0} → Instance → LedgerState → LedgerState → List Passed → List ℕ → Result T Fault → Type 0
+LowersHandles types before after ps hs (Ok x) = LeavesTake before (map (lower_parts types) ps) hs after
+LowersHandles types before after ps hs (Err e) = LeavesStop (stop_of e) before (map (lower_parts types) ps) after × (ledger_fault e ≡ None ⊎ ¬ (ps ≡ []))
+
+-- one resource was passed: the number that the guest is given for it, and nothing but the ledger changed
+pub record GivesHandle {T G : Type 0} (before after : Parts T G) (p : Passed) (result : Result ℕ Fault) : Type 0 where
+  pub passed : LowersHandles before.component.types before.ledger after.ledger (p ∷ []) (number_given result) result
+  pub only_ledger : after ≡ record before { ledger = after.ledger }
+  pub refusal : IfErr result (λ e. (r : ResourceFault) × (e ≡ fault.Resource r))
+  pub narrow : IfOk result (λ h. h < 2 ^ 32)
+
+-- what was passed on the way from one core to another, and the lowering, which gave these handles
+pub record PartsLower {T G X : Type 0} (before after : Parts T G) (ps : List Passed) (Lowered : List ℕ → Type 0) (result : Result X Fault) : Type 0 where
+  pub handles : List ℕ
+  pub lowered : Lowered handles
+  pub passed : LowersHandles before.component.types before.ledger after.ledger ps handles result
+
+-- a fault as callers are told it
+abbrev pub told_fault : Fault → Fault
+told_fault (fault.Resource resource.OutOfMemory) = fault.OutOfMemory
+told_fault e = e
+
+-- How a lowering ended with this answer. Memory that the ledger wanted ended it as a fault of the value does; that is told apart from
+-- want of the guest's memory only inside.
+abbrev pub EndsAs : {T : Type 0} → Bool → Result T Fault → Ending → Type 0
+EndsAs handles (Err fault.OutOfMemory) ending = (ending ≡ short) ⊎ ((handles ≡ true) × (ending ≡ refused))
+EndsAs handles result ending = ending ≡ ending_of result
+
+-- A lowering of a value, or of values, that reach handles or not and pass these resources: it ended so, and gave these handles.
+pub record Crosses {T : Type 0} (types : Instance) (handles : Bool) (ps : List Passed) (Attempted : List ℕ → Ending → Type 0) (before after : LedgerState) (result : Result T Fault) : Type 0 where
+  pub given : List ℕ
+  pub ending : Ending
+  pub ends : EndsAs handles result ending
+  pub lowered : Attempted given ending
+  pub passed : LowersHandles types before after ps given result
+  -- want of the ledger's memory isn't told as a refusal
+  pub as_told : IfErr result (λ e. told_fault e ≡ e)
+
+-- where no text, list or map is reached, the same is there as before, and a refusal is for the value alone, or for want of memory in
+-- the ledger where handles are reached
+abbrev pub QuietBut : {T : Type 0} → Bool → Bool → Type 0 → Result T Fault → Type 0
+QuietBut handles blocks same result = blocks ≡ false → same × IfErr result (λ e. (fault_ending e ≡ refused) ⊎ ((handles ≡ true) × (e ≡ fault.OutOfMemory)))
+
+-- it has a table for each instance, and the host's
+abbrev pub HasTables : LedgerState → Type 0
+HasTables l = length l.handles.tables ≡ 257
+
+-- The handles at these leaves went through the ledger in order, as far as the walk went; what was lifted has the resources that
+-- the host was given for them.
+abbrev pub LiftsHandles : {T : Type 0} → (T → List Any) → Instance → LedgerState → LedgerState → List Leaf → Result T Fault → Type 0
+LiftsHandles its types before after leaves (Ok x) = LeavesLift types before leaves (its x) after
+LiftsHandles its types before after leaves (Err e) = LeavesStop (stop_of e) before (map (lift_parts types) leaves) after
+
+-- the value is the resource that the host was given for a handle of the guest, or why not; nothing but the ledger changed
+pub record TakesHandle (types : Instance) (before after : LedgerState) (l : Leaf) (result : Result Val Fault) : Type 0 where
+  pub lifts : LiftsHandles resources types before after (l ∷ []) result
+  pub is : IfOk result (λ v. (x : Any) × (v ≡ val.Resource x))
+  pub refusal : IfErr result (λ e. (e ≡ fault.OutOfMemory) ⊎ ((r : ResourceFault) × (e ≡ fault.Resource r) × (refusal_of r ≡ Some r)))
