@@ -1,5 +1,5 @@
 -- What contracts see of a core.
-use Rattle.std.specs.Prelude.{◌≡◌, List, Some, length, ℕ}
+use Rattle.std.specs.Prelude.{◌≡◌, List, Some, ℕ}
 use Rattle.canon_handles.specs.declared.handle.TypedResourceIndex.{TypedResourceIndex}
 use Rattle.canon_handles.specs.declared.handle.TypedResourceIndex.TheVariants.{Component as ComponentIndex, Host as HostIndex}
 use Rattle.canon_ledger.specs.Ledger.{LedgerState}
@@ -7,7 +7,7 @@ use Rattle.canon_ledger.specs.Places.{table_of_index}
 use Rattle.canon_memory.specs.Guest.{GuestIn, Moment, Seen, guest_in, moment}
 use Rattle.canon_model.specs.Text.{Encoding}
 use Rattle.canon_types.specs.Table.{HasResource, Table}
-use Rattle.canon_context.specs.Component.{IsComponent, encoding_at}
+use Rattle.canon_context.specs.Component.{encoding_at}
 use Rattle.canon_context.specs.declared.component.Component.{Component}
 
 pub record Parts (T G : Type 0) : Type 0 where
@@ -21,11 +21,6 @@ pub record Parts (T G : Type 0) : Type 0 where
 
 abbrev pub types_of : {T G : Type 0} → Parts T G → Table
 types_of core = core.component.types.types
-
--- a component with the handles of a store that has its instances: the host's table and those of 256
-pub record IsCore (c : Component) (l : LedgerState) : Type 0 where
-  pub component : IsComponent c
-  pub tables : length l.handles.tables ≡ 257
 
 -- where the index is one of a component, its resource type is known
 abbrev pub IsKnown : Table → TypedResourceIndex → Type 0

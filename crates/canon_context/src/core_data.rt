@@ -6,7 +6,7 @@ ghost use Rattle.canon_memory.specs.Realloc.{call};
 ghost use Rattle.canon_model.specs.Laws.{IsAlignment};
 ghost use Rattle.canon_context.specs.Component.{IsComponent};
 ghost use Rattle.canon_indices.specs.Options.{encoding_of};
-ghost use Rattle.canon_context.specs.Core.{IsCore, Parts, encoding_by, guest_of, moment_of};
+ghost use Rattle.canon_context.specs.Core.{Parts, encoding_by, guest_of, moment_of};
 ghost use Rattle.canon_context.specs.Lowers.{answer_of, ending_of, guest_answer};
 
 mod handles;
@@ -17,9 +17,6 @@ use canon_memory::{Guest, GuestFault, Memory, Step, ValRaw};
 use canon_types::{OptionsIndex, OutOfMemory, StoreId, StringEncoding};
 use std::alloc::Global;
 use std::marker::Model;
-
-/// The number of the instances that a ledger has tables of: an instance's number is below it.
-const INSTANCES: u32 = 256;
 
 /// What a store has of its component: the host's data, the guest, its memory, the component, the ledger of its handles, and the
 /// fuel that each lifting begins with. Contracts see these.
@@ -39,7 +36,7 @@ impl<T, G> Model for Core<T, G> {
 
     ghost view = { λ c. record { id = c.id; state = c.state; guest = c.guest; memory = c.memory; component = c.component; ledger = c.ledger; fuel = c.fuel } };
 
-    ghost invariant = { λ c. IsCore c.component c.ledger };
+    ghost invariant = { λ c. IsComponent c.component };
 }
 
 impl<T: Drop, G: Drop> Core<T, G> {
@@ -61,7 +58,7 @@ impl<T: Drop, G: Drop> Core<T, G> {
         requires { IsComponent component }
         ensures { IfOk result (λ core. core ≡ record { id = id; state = state; guest = guest; memory = memory; component = component; ledger = new_ledger 256 handle_limit 0; fuel = fuel }) }
     {
-        let ledger = Ledger::new(alloc, INSTANCES, handle_limit, HostResourceData::new(alloc))?;
+        let ledger = Ledger::new(alloc, handle_limit, HostResourceData::new(alloc))?;
         Ok(Core {
             id,
             state,
@@ -165,6 +162,7 @@ impl<T, G> Core<T, G> {
         ensures same { self.new ≡ record self.old { ledger = self.new.ledger } }
     {
         let encoding = self.encoding(options);
+        let _instances = self.ledger.instances();
         let source = Source {
             instance: &self.component.types,
             types: self.component.types.types(),

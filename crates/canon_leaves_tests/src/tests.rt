@@ -53,7 +53,7 @@ fn three_types(alloc: Global) -> Result<Types, TypeError> {
 }
 
 fn two_instances(alloc: Global) -> Result<Ledger, Fail> {
-    match Ledger::new(alloc, 2, 100, HostResourceData::new(alloc)) {
+    match Ledger::new(alloc, 100, HostResourceData::new(alloc)) {
         Ok(ledger) => Ok(ledger),
         Err(_) => Err("out of memory")?,
     }

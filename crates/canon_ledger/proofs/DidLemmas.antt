@@ -44,7 +44,7 @@ module _ (tables : List (TableState Entry)) (counter : Counter) (scopes : List C
 
 pub holds-enter : (l m : LedgerState) → m ≡ ledger.enter l → Holds l → Holds m
 holds-enter l m e h =
-    subst Holds (sym e) (record { sound = sound-step Enter l h.sound; host = host-step Enter l h.sound h.host; some = h.some; few = h.few })
+    subst Holds (sym e) (record { sound = sound-step Enter l h.sound; host = host-step Enter l h.sound h.host; tables = h.tables })
 
 leaving_is : (l : LedgerState) → can_leave l.handles ≡ true → (do_step Leave l).after ≡ ledger.leave l
 leaving_is l can = ap (λ (b : Bool). (ledger.leaving b l).after) can
@@ -54,8 +54,7 @@ holds-leave l m can e h =
     subst Holds (sym e) (record {
       sound = sound-leave l.handles h.sound can;
       host = subst IsHostSound (leaving_is l can) (host-step Leave l h.sound h.host);
-      some = h.some;
-      few = h.few;
+      tables = h.tables;
     })
 
 -- a call that leaves the host's indexes

@@ -151,7 +151,7 @@ pub opened_is : (h : Handles) (k : ℕ) → k < length h.scopes → opened h (So
 opened_is h k within = ap (λ (b : Bool). cond b (Some k) None) (lt-ltb k (length h.scopes) within)
 
 holds : (l m : LedgerState) → Holds l → IsConsistent m.handles → IsHostSound m → Stays l m.handles → Holds m
-holds l m h s host has = record { sound = s; host = host; some = (let a = h.some in let e = has.0 in omega arith); few = (let a = h.few in let e = has.0 in omega arith) }
+holds l m h s host has = record { sound = s; host = host; tables = has.0 ∙ h.tables }
 
 holds_new : (l : LedgerState) (p : ℕ) (r : TypedResource) → Holds l → Holds (ledger.resource_new l p r).after
 holds_new l p r h =

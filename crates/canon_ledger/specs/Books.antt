@@ -45,12 +45,11 @@ scope_number (Some (current.Id (Id k))) = Some k
 abbrev pub ledger_of : List (TableState Entry) → Counter → List Context → HostIndexes → LedgerState
 ledger_of tables counter scopes host = record { handles = handles_of tables counter scopes; host = host }
 
--- what every call keeps of a ledger: its laws, the host's table and those of at most 256 instances
+-- what every call keeps of a ledger: its laws, the host's table and those of 256 instances
 pub record Holds (l : LedgerState) : Type 0 where
   pub sound : IsConsistent l.handles
   pub host : IsHostSound l
-  pub some : 0 < length l.handles.tables
-  pub few : length l.handles.tables ≤ 257
+  pub tables : length l.handles.tables ≡ 257
 
 -- a call answers what the step does and leaves what it leaves
 abbrev pub DidSurely : {A : Type 0} → Done A → Result A ResourceFault → LedgerState → Type 0

@@ -20,6 +20,9 @@ use canon_indices::{OutOfMemory, RuntimeInstance};
 use std::alloc::Global;
 use std::marker::Model;
 
+/// The number of the instances that a store may have: an instance's number is below it.
+const INSTANCES: u32 = 256;
+
 /// The resources of a store: the handle table of the host and that of each instance, the one
 /// counter of them all, what the host keeps of its indexes, and the open scopes.
 ///
@@ -43,12 +46,11 @@ impl Model for Ledger {
     ghost invariant = { λ a. Holds (ledger_of a.handles.tables.items a.handles.counter a.handles.scopes.items a.host.indexes) };
 }
 
-/// The host's table and those of some instances, each empty.
-fn empty_tables(alloc: Global, instances: u32) -> Result<Vec<HandleTable>, OutOfMemory>
-    requires { instances ≤ 256 }
-    ensures { IfOk result (λ tables. map (λ t. t.table) tables.items ≡ replicate (suc instances) (empty_table max_handle)) }
+/// The host's table and those of the instances, each empty.
+fn empty_tables(alloc: Global) -> Result<Vec<HandleTable>, OutOfMemory>
+    ensures { IfOk result (λ tables. map (λ t. t.table) tables.items ≡ replicate 257 (empty_table max_handle)) }
 {
-    let count = instances as usize + 1;
+    let count = INSTANCES as usize + 1;
     let mut tables = Vec::new(alloc);
     if tables.reserve(count).is_err() {
         return Err(OutOfMemory);
@@ -60,18 +62,16 @@ fn empty_tables(alloc: Global, instances: u32) -> Result<Vec<HandleTable>, OutOf
 }
 
 impl Ledger {
-    /// A ledger of at most 256 instances with empty tables, and of a host that has no slot yet.
+    /// A ledger of 256 instances with empty tables, and of a host that has no slot yet.
     pub fn new(
         alloc: Global,
-        instances: u32,
         handle_limit: u64,
         host: HostResourceData,
     ) -> Result<Ledger, OutOfMemory>
-        requires few { instances ≤ 256 }
         requires fresh { host.indexes.slots ≡ None ∷ [] }
-        ensures { IfOk result (λ l. l ≡ new_ledger instances handle_limit host.indexes.generation) }
+        ensures { IfOk result (λ l. l ≡ new_ledger 256 handle_limit host.indexes.generation) }
     {
-        let tables = empty_tables(alloc, instances)?;
+        let tables = empty_tables(alloc)?;
         let handles = StoreHandles {
             tables,
             counter: HandleCounter::new(handle_limit),
@@ -84,9 +84,10 @@ impl Ledger {
         })
     }
 
-    /// The number of the instances.
+    /// The number of the instances, which is 256.
     pub fn instances(&self) -> u32
-        ensures { result + 1 ≡ length self.now.handles.tables }
+        ensures number { result ≡ 256 }
+        ensures tables { length self.now.handles.tables ≡ 257 }
     {
         (self.handles.tables.len() - 1) as u32
     }

@@ -224,7 +224,7 @@ fn kept(slot: TableSlot) -> (u32, Option<u32>, Option<u32>) {
 #[test]
 fn an_index_that_is_given_again_is_told_apart(rt: HostRuntime) -> Result<(), Fail> {
     let alloc = rt.alloc();
-    let mut ledger = Ledger::new(alloc, 0, 100, HostResourceData::new(alloc))?;
+    let mut ledger = Ledger::new(alloc, 100, HostResourceData::new(alloc))?;
     let mut tables = HostResourceTables::new_host(&mut ledger);
     let first = tables.host_resource_lower_own(7, Some(5), Some(RuntimeInstance::from_u32(3)))?;
     let slot = kept(tables.slot(first)?.ok_or("no slot")?);
@@ -251,7 +251,7 @@ fn an_index_that_is_given_again_is_told_apart(rt: HostRuntime) -> Result<(), Fai
 fn the_last_generation_takes_nothing_out(rt: HostRuntime) -> Result<(), Fail> {
     let alloc = rt.alloc();
     let host = HostResourceData::with_generation(alloc, 4_294_967_292);
-    let mut ledger = Ledger::new(alloc, 0, 100, host)?;
+    let mut ledger = Ledger::new(alloc, 100, host)?;
     let mut tables = HostResourceTables::new_host(&mut ledger);
     let index = tables.host_resource_lower_own(7, None, None)?;
     let refused = (
@@ -266,7 +266,7 @@ fn the_last_generation_takes_nothing_out(rt: HostRuntime) -> Result<(), Fail> {
 #[test]
 fn the_host_lends_nothing_outside_a_call(rt: HostRuntime) -> Result<(), Fail> {
     let alloc = rt.alloc();
-    let mut ledger = Ledger::new(alloc, 0, 100, HostResourceData::new(alloc))?;
+    let mut ledger = Ledger::new(alloc, 100, HostResourceData::new(alloc))?;
     let mut tables = HostResourceTables::new_host(&mut ledger);
     let index = tables.host_resource_lower_own(7, None, None)?;
     let refused = (
@@ -293,7 +293,7 @@ fn each_instance_has_a_table_of_its_own(rt: HostRuntime) -> Result<(), Fail> {
         second_own,
         first_host,
     } = two_instances(alloc)?;
-    let mut ledger = Ledger::new(alloc, 2, 100, HostResourceData::new(alloc))?;
+    let mut ledger = Ledger::new(alloc, 100, HostResourceData::new(alloc))?;
     let made = (
         guest_new(&mut ledger, &types, 7, first_own),
         guest_new(&mut ledger, &types, 8, second_own),
@@ -320,15 +320,23 @@ fn each_instance_has_a_table_of_its_own(rt: HostRuntime) -> Result<(), Fail> {
 }
 
 #[test]
-fn a_type_of_no_instance_here_is_unknown(rt: HostRuntime) -> Result<(), Fail> {
+fn a_type_is_unknown_outside_its_component(rt: HostRuntime) -> Result<(), Fail> {
     let alloc = rt.alloc();
     let types = two_instances(alloc)?;
-    let mut ledger = Ledger::new(alloc, 1, 100, HostResourceData::new(alloc))?;
-    let told = (
-        guest_new(&mut ledger, &types.types, 7, types.second_own),
-        guest_new(&mut ledger, &types.types, 7, types.first_own),
-    );
-    assert!(rt; told == (None, Some(Ok(1))));
+    let mut ledger = Ledger::new(alloc, 100, HostResourceData::new(alloc))?;
+    let inside = ResourceTables {
+        ledger: &mut ledger,
+        types: KnownTypes::of(&types.types),
+        current_scope: None,
+    }
+    .has_type(types.second_own);
+    let outside = ResourceTables {
+        ledger: &mut ledger,
+        types: KnownTypes::none(),
+        current_scope: None,
+    }
+    .has_type(types.second_own);
+    assert!(rt; (inside, outside) == (true, false));
     Ok(())
 }
 
@@ -336,7 +344,7 @@ fn a_type_of_no_instance_here_is_unknown(rt: HostRuntime) -> Result<(), Fail> {
 fn a_resource_that_is_lent_to_a_call_is_not_given_to_it(rt: HostRuntime) -> Result<(), Fail> {
     let alloc = rt.alloc();
     let types = two_instances(alloc)?;
-    let mut ledger = Ledger::new(alloc, 2, 100, HostResourceData::new(alloc))?;
+    let mut ledger = Ledger::new(alloc, 100, HostResourceData::new(alloc))?;
     let index = HostResourceTables::new_host(&mut ledger).host_resource_lower_own(7, None, None)?;
     let _scope = ledger.enter()?;
     let lent = (
@@ -363,7 +371,7 @@ fn a_resource_that_is_lent_to_a_call_is_not_given_to_it(rt: HostRuntime) -> Resu
 fn a_resource_that_was_given_away_is_gone(rt: HostRuntime) -> Result<(), Fail> {
     let alloc = rt.alloc();
     let types = two_instances(alloc)?;
-    let mut ledger = Ledger::new(alloc, 2, 100, HostResourceData::new(alloc))?;
+    let mut ledger = Ledger::new(alloc, 100, HostResourceData::new(alloc))?;
     let index = HostResourceTables::new_host(&mut ledger).host_resource_lower_own(7, None, None)?;
     let given = (
         HostResourceTables::new_host(&mut ledger).host_resource_lift_own(index),
@@ -384,7 +392,7 @@ fn a_borrow_of_the_guest_is_a_borrow_handle_of_the_host(rt: HostRuntime) -> Resu
     let alloc = rt.alloc();
     let types = two_instances(alloc)?;
     let own = types.first_own;
-    let mut ledger = Ledger::new(alloc, 2, 100, HostResourceData::new(alloc))?;
+    let mut ledger = Ledger::new(alloc, 100, HostResourceData::new(alloc))?;
     let made = guest_new(&mut ledger, &types.types, 7, own);
     let _scope = ledger.enter()?;
     let lifted = guest_lift_borrow(&mut ledger, &types.types, 1, own);

@@ -108,7 +108,7 @@ fn a_host_resource_tells_its_state(rt: HostRuntime) -> Result<(), Fail> {
 #[test]
 fn a_kind_of_ones_own_has_host_resources(rt: HostRuntime) -> Result<(), Fail> {
     let alloc = rt.alloc();
-    let mut ledger = Ledger::new(alloc, 0, 100, HostResourceData::new(alloc))?;
+    let mut ledger = Ledger::new(alloc, 100, HostResourceData::new(alloc))?;
     let mut tables = HostResourceTables::new_host(&mut ledger);
     let borrow: HostResource<Numbered, u32> = HostResource::new_borrow(6, 2);
     assert!(rt; !borrow.owned());
@@ -128,7 +128,7 @@ fn a_kind_of_ones_own_has_host_resources(rt: HostRuntime) -> Result<(), Fail> {
 #[test]
 fn an_own_resource_goes_into_the_table_and_comes_out(rt: HostRuntime) -> Result<(), Fail> {
     let alloc = rt.alloc();
-    let mut ledger = Ledger::new(alloc, 0, 100, HostResourceData::new(alloc))?;
+    let mut ledger = Ledger::new(alloc, 100, HostResourceData::new(alloc))?;
     let mut tables = HostResourceTables::new_host(&mut ledger);
     let file: Resource<File> = Resource::new_own(7);
     let any = ResourceAny::try_from_resource(file, &mut tables)?;
@@ -160,7 +160,7 @@ fn an_own_resource_goes_into_the_table_and_comes_out(rt: HostRuntime) -> Result<
 #[test]
 fn a_resource_that_was_given_away_is_refused(rt: HostRuntime) -> Result<(), Fail> {
     let alloc = rt.alloc();
-    let mut ledger = Ledger::new(alloc, 0, 1, HostResourceData::new(alloc))?;
+    let mut ledger = Ledger::new(alloc, 1, HostResourceData::new(alloc))?;
     let mut tables = HostResourceTables::new_host(&mut ledger);
     let mut taken = ResourceDynamic::new_own(7, 1);
     taken.take();
@@ -182,7 +182,7 @@ fn a_resource_that_was_given_away_is_refused(rt: HostRuntime) -> Result<(), Fail
 #[test]
 fn a_borrow_of_the_hosts_own_making_has_no_handle(rt: HostRuntime) -> Result<(), Fail> {
     let alloc = rt.alloc();
-    let mut ledger = Ledger::new(alloc, 0, 100, HostResourceData::new(alloc))?;
+    let mut ledger = Ledger::new(alloc, 100, HostResourceData::new(alloc))?;
     let mut tables = HostResourceTables::new_host(&mut ledger);
     let any = ResourceDynamic::new_borrow(7, 1).try_into_resource_any(&mut tables)?;
     let again = ResourceAny::new_borrow(7, ResourceType::host_dynamic(1));
@@ -198,7 +198,7 @@ fn a_borrow_of_the_hosts_own_making_has_no_handle(rt: HostRuntime) -> Result<(),
 #[test]
 fn a_borrow_handle_is_dropped_where_it_is_converted(rt: HostRuntime) -> Result<(), Fail> {
     let alloc = rt.alloc();
-    let mut ledger = Ledger::new(alloc, 0, 100, HostResourceData::new(alloc))?;
+    let mut ledger = Ledger::new(alloc, 100, HostResourceData::new(alloc))?;
     let _scope = ledger.enter()?;
     let index = lower_borrow(&mut ledger, 7)?;
     assert!(rt; ledger.live() == 1);

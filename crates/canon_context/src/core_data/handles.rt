@@ -18,11 +18,32 @@ ghost use Rattle.canon_context.specs.Core.{IsKnown, SameButLedger, table_by, typ
 use super::Core;
 use canon_handles::{CurrentScope, Scope, TypedResource, TypedResourceIndex};
 use canon_leaves::table_for;
-use canon_ledger::{CallContext, HostResourceIndex, ResourceFault, TableSlot};
+use canon_ledger::{
+    CallContext, HostResourceIndex, HostResourceTables, KnownTypes, ResourceFault, ResourceTables,
+    TableSlot,
+};
 use canon_resources::ResourceAny;
 use canon_types::{OutOfMemory, RuntimeInstance, TypeResourceTableIndex};
 
 impl<T, G> Core<T, G> {
+    ghost use Rattle.canon_ledger.specs.Reached.{known_in, ledger_in, scope_in};
+
+    /// The resource tables as the host reaches them: the core's, with the component's types and the top open scope, where there
+    /// is one. What a caller does with them isn't told of the core: each call below is told.
+    pub fn tables(&mut self) -> HostResourceTables<'_>
+        ensures same_ledger { ledger_in result ≡ self.old.ledger }
+        ensures same_types { known_in result ≡ Some (types_of self.old) }
+        ensures top { scope_number (scope_in result) ≡ top_scope self.old.ledger.handles }
+        ensures scope_open { IsOpen (scope_in result) (ledger_in result) }
+    {
+        let current_scope = self.ledger.current();
+        HostResourceTables::from_parts(ResourceTables {
+            ledger: &mut self.ledger,
+            types: KnownTypes::of(self.component.types.types()),
+            current_scope,
+        })
+    }
+
     // A resource type of the component has its instance's table here.
     #[tactic(auto, using(crate::proofs::Handles::placed))]
     fn place(&self, ty: TypeResourceTableIndex)
@@ -30,6 +51,7 @@ impl<T, G> Core<T, G> {
         ensures { HasType (Some (types_of self.now)) ty self.now.ledger }
     {
         let _table = self.component.types.types().resource_table(ty);
+        let _instances = self.ledger.instances();
     }
 
     /// Lowers an own handle of the host, as `canon_leaves::lower_own`.

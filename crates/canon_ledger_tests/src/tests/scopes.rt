@@ -110,7 +110,7 @@ fn leave(ledger: &mut Ledger) -> bool {
 #[test]
 fn a_lent_handle_stays_until_the_call_ends(rt: HostRuntime) -> Result<(), Fail> {
     let alloc = rt.alloc();
-    let mut ledger = Ledger::new(alloc, 1, 100, HostResourceData::new(alloc))?;
+    let mut ledger = Ledger::new(alloc, 100, HostResourceData::new(alloc))?;
     let scope = Scope::Id(0);
     let entered = (
         ledger.instances(),
@@ -120,7 +120,7 @@ fn a_lent_handle_stays_until_the_call_ends(rt: HostRuntime) -> Result<(), Fail> 
         is_empty(&ledger, 0),
     );
     let current = Some(CurrentScope::Id(scope));
-    assert!(rt; entered == (1, Ok(1), Ok(scope), current, Some(true)));
+    assert!(rt; entered == (256, Ok(1), Ok(scope), current, Some(true)));
     let lent = (
         lift_borrow(&mut ledger, 1),
         counts(&ledger, 0),
@@ -148,7 +148,7 @@ fn a_lent_handle_stays_until_the_call_ends(rt: HostRuntime) -> Result<(), Fail> 
 #[test]
 fn a_borrow_handle_is_not_lifted_as_own(rt: HostRuntime) -> Result<(), Fail> {
     let alloc = rt.alloc();
-    let mut ledger = Ledger::new(alloc, 1, 100, HostResourceData::new(alloc))?;
+    let mut ledger = Ledger::new(alloc, 100, HostResourceData::new(alloc))?;
     let lowered = (
         ledger.enter(),
         lower_borrow(&mut ledger, 7),
@@ -174,7 +174,7 @@ fn a_borrow_handle_is_not_lifted_as_own(rt: HostRuntime) -> Result<(), Fail> {
 #[test]
 fn no_own_handle_is_lent_outside_a_scope(rt: HostRuntime) -> Result<(), Fail> {
     let alloc = rt.alloc();
-    let mut ledger = Ledger::new(alloc, 1, 100, HostResourceData::new(alloc))?;
+    let mut ledger = Ledger::new(alloc, 100, HostResourceData::new(alloc))?;
     let refused = (
         lower_own(&mut ledger, 7),
         lift_borrow(&mut ledger, 1),
@@ -196,7 +196,7 @@ fn no_own_handle_is_lent_outside_a_scope(rt: HostRuntime) -> Result<(), Fail> {
 fn nothing_is_removed_after_the_last_generation(rt: HostRuntime) -> Result<(), Fail> {
     let alloc = rt.alloc();
     let host = HostResourceData::with_generation(alloc, 4_294_967_292);
-    let mut ledger = Ledger::new(alloc, 0, 100, host)?;
+    let mut ledger = Ledger::new(alloc, 100, host)?;
     let told = (
         new_own(&mut ledger, 7),
         lift_own(&mut ledger, 1),

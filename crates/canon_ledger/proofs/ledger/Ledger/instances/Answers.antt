@@ -7,13 +7,16 @@ use Rattle.canon_ledger.proofs.ledger.Ledger.instances.Goals as goal
 
 pub overflow_sub-result : goal.overflow_sub-result
 overflow_sub-result c =
-    let h = c.self.invariant.some in let m = length-map c.self.inside.handles.tables.items (λ (s : TableState Entry). s.table) in let l = c.len.ensures in omega arith
+    let h = c.self.invariant.tables in let m = length-map c.self.inside.handles.tables.items (λ (s : TableState Entry). s.table) in let l = c.len.ensures in omega arith
 
 pub overflow_cast-result : goal.overflow_cast-result
 overflow_cast-result c =
-    let h = c.self.invariant.few in let m = length-map c.self.inside.handles.tables.items (λ (s : TableState Entry). s.table) in let l = c.len.ensures in omega arith
+    let h = c.self.invariant.tables in let m = length-map c.self.inside.handles.tables.items (λ (s : TableState Entry). s.table) in let l = c.len.ensures in omega arith
 
-pub returns : goal.returns
-returns c =
-    let h = c.self.invariant.some in let m = length-map c.self.inside.handles.tables.items (λ (s : TableState Entry). s.table) in let l = c.len.ensures in
-    let v = ap (λ (l : LedgerState). length l.handles.tables) c.self.view_is in omega arith
+pub returns-clause-number : goal.returns-clause-number
+returns-clause-number c =
+    let h = c.self.invariant.tables in let m = length-map c.self.inside.handles.tables.items (λ (s : TableState Entry). s.table) in let l = c.len.ensures in omega arith
+
+pub returns-clause-tables : goal.returns-clause-tables
+returns-clause-tables c =
+    let h = c.self.invariant.tables in let v = ap (λ (l : LedgerState). length l.handles.tables) c.self.view_is in omega arith
