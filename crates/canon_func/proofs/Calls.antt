@@ -1,5 +1,5 @@
 -- What a call did, from what its steps did.
-use Rattle.std.proofs.Common.{Err, inl, IsTrue, List, None, Ok, Option, Result, Some, Vec, Global, [], ap, arith, length, refl, subst, sym, true, ℕ, ◌++◌, ◌%◌, ◌+◌, ◌∷◌, ◌∙◌, ◌≡◌, ◌≤◌}
+use Rattle.std.proofs.Common.{Err, inl, inr, IsTrue, List, None, Ok, Option, Result, Some, Vec, Global, [], ap, arith, length, refl, subst, sym, true, ℕ, ◌++◌, ◌%◌, ◌+◌, ◌∷◌, ◌∙◌, ◌≡◌, ◌≤◌}
 use Rattle.std.specs.Prelude.{false, ⊤}
 use Rattle.std.proofs.lemmas.List.{append-nil}
 use Rattle.canon_model.specs.Cost.{members_cost}
@@ -12,25 +12,32 @@ use Rattle.canon_model.proofs.Frames.{blocks_are_read}
 use Rattle.canon_memory.specs.declared.event.Event.{Event}
 use Rattle.canon_memory.specs.declared.event.Event.TheVariants as event
 use Rattle.canon_memory.specs.Guest.{Goes, Mark, Moment}
+use Rattle.canon_ledger.specs.Ledger.{LedgerState, enter}
+use Rattle.canon_ledger.specs.declared.fault.ResourceFault.{ResourceFault}
+use Rattle.canon_ledger.specs.declared.fault.ResourceFault.TheVariants as resource
+use Rattle.canon_leaves.proofs.Leaves.{leaves_same}
+use Rattle.canon_leaves.specs.Parts.{LeavesStop, LeavesTake, refusal_of}
+use Rattle.canon_resources.specs.Held.{Any}
 use Rattle.canon_lowering.proofs.Lowerings.{lawful_second}
 use Rattle.canon_lowering.specs.Attempt.{AnyPointer, LowersArgs}
-use Rattle.canon_lowering.specs.Lowering.{Accepted, AllGood, AllLawful, Answer, Ending, LastIs, Meets, Trap, addresses_of, done, short, events_of, marks_of}
+use Rattle.canon_lowering.specs.Lowering.{Accepted, AllGood, AllLawful, Answer, BeginsWith, CauseOf, Ending, LastIs, Meets, Trap, addresses_of, done, refused, short, events_of, marks_of}
 use Rattle.canon_lowering.specs.Storing.{narrow}
 use Rattle.canon_value.specs.Fails.{AreSmall, BlamesMembers, Failure, IsTypeFailure, MemberFails, field_name, mismatch, payload_expected, payload_not_expected, unknown_case, unknown_flag, wrong_length}
 use Rattle.canon_value.proofs.Values.{failure_excludes}
 use Rattle.canon_value.specs.Lifts.{AreResults}
-use Rattle.canon_value.specs.Resources.{ledger_fault}
+use Rattle.canon_value.specs.Resources.{EndsAs, stop_of, told_fault}
 use Rattle.canon_context.specs.Lowers.{fault_ending}
 use Rattle.canon_value.specs.Value.{HaveTrees}
 use Rattle.canon_context.specs.declared.fault.Fault.{Fault}
 use Rattle.canon_context.specs.declared.fault.Fault.TheVariants as fault
 use Rattle.canon_value.specs.declared.val.Val.{Val}
-use Rattle.canon_func.specs.Call.{Advances, AsksByTypes, Cause, IsCall, IsStart, lowering_ending, words_within}
+use Rattle.canon_func.specs.Call.{Accepts, Advances, AsksByTypes, Cause, HandlesPass, IsCall, IsStart, LiftsReturned, lowering_ending, param_parts, stopped_by, words_within}
 use Rattle.canon_func.specs.Runs.{Each, EndsIn, Grows, IsAnswer, IsNoAsk, IsNoPost, IsNoResume, IsNoStart, IsPrefixOfRun, IsTrap, OnReturn, OnStart}
 use Rattle.canon_func.specs.Steps.{CoreCall, IsRest, RestCause}
 use Rattle.canon_func.specs.Stores.{Callee}
 use Rattle.canon_func.specs.declared.error.Error.{Error}
 use Rattle.canon_func.specs.declared.error.Error.TheVariants as error
+use Rattle.canon_func.proofs.Handled.{leaves_excluded, stops_after}
 use Rattle.canon_func.proofs.Prefixes.{answers_are, grows_answers, grows_from, each_after, each_answer, each_then, ends_after, events_of-then, events_of-trap, prefix_after, prefix_none, prefix_request, run_after}
 
 pub advances_then : (a b c : Moment) → Advances a b → Advances b c → Advances a c
@@ -56,20 +63,21 @@ on_start words memory P p (e ∷ events) h = (tt, on_start words memory P p even
 abbrev pub MetAll : List Request → List Answer → Type 0
 MetAll requests answers = (last : ℕ) → Meets last requests answers None []
 
--- The parameters were lowered into these words, with these answers.
-pub record IsReady (callee : Callee) (params : List Val) (entry mid : Moment) (words : List ℕ) (answers : List Answer) : Type 0 where
-  pub start : IsStart callee params entry.bytes answers words mid.bytes
+-- The parameters were lowered into these words, with these answers and these handles.
+pub record IsReady (callee : Callee) (params : List Val) (entry mid : Moment) (words : List ℕ) (answers : List Answer) (given : List ℕ) : Type 0 where
+  pub start : IsStart callee params entry.bytes answers given words mid.bytes
   pub marks : mid.guest.marks ≡ entry.guest.marks ++ marks_of answers
   pub quiet : AsksByTypes callee.params done answers None
   pub requested : (ts : Trees) → HaveTrees callee.params params ts → MetAll (params_requests false callee.encoding callee.params ts) answers
 
 module _ (callee : Callee) (params : List Val) (entry mid : Moment) (words : List ℕ) where
   pub ready : {handles : List ℕ} (low : LowersArgs false entry mid callee.encoding callee.params (HaveTrees callee.params params) words handles done) → length words ≡ words_within max_params callee.params
-      → AsksByTypes callee.params done low.answers low.trap → AreSmall callee.encoding callee.params params → IsReady callee params entry mid words low.answers
+      → AsksByTypes callee.params done low.answers low.trap → AreSmall callee.encoding callee.params params → IsReady callee params entry mid words low.answers handles
   ready low count quiet small = record {
     start = record {
       trees = low.shown.it;
       have = low.shown.is;
+      handles = low.shown.handles;
       small = small;
       represented = λ lawful. blocks_are_read.values low.fresh max_params true callee.encoding (narrow mid.bytes) words callee.params low.shown.it (low.shown.rep lawful (inl (λ i h. absurd h)));
       homes = subst (λ xs. ParamsHome AnyPointer callee.encoding false words callee.params low.shown.it xs []) (append-nil (addresses_of low.answers)) (low.shown.homes []);
@@ -114,7 +122,7 @@ cause_after callee fuel params entry mid after xs ys (error.Fault (fault.StringT
 cause_after callee fuel params entry mid after xs ys (error.Fault (fault.SizeOverflow n)) g h = absurd h
 cause_after callee fuel params entry mid after xs ys (error.Fault (fault.ReallocMisaligned a)) g h = absurd h
 cause_after callee fuel params entry mid after xs ys (error.Fault (fault.ReallocOutOfBounds a)) g h = absurd h
-cause_after callee fuel params entry mid after xs ys (error.Fault (fault.Resource r)) g h = absurd h
+cause_after callee fuel params entry mid after xs ys (error.Fault (fault.Resource r)) g h = inr (ends_after _ xs ys h)
 
 -- good answers stay good in a longer memory
 good_later : (m n : ℕ) (answers : List Answer) → m ≤ n → AllGood m answers → AllGood n answers
@@ -149,7 +157,7 @@ accepted_after callee fuel mid after ys answers (error.Fault (fault.PayloadNotEx
 accepted_after callee fuel mid after ys answers (error.Fault (fault.LengthMismatch k)) h good = absurd h
 accepted_after callee fuel mid after ys answers (error.Fault (fault.StringTooLong k)) h good = absurd h
 accepted_after callee fuel mid after ys answers (error.Fault (fault.SizeOverflow k)) h good = absurd h
-accepted_after callee fuel mid after ys answers (error.Fault (fault.Resource r)) h good = absurd h
+accepted_after callee fuel mid after ys answers (error.Fault (fault.Resource r)) h good = good
 
 not_short : done ≡ short → ⊥
 not_short e = cc
@@ -159,21 +167,38 @@ asks_started : (ms : Members) (e : Ending) (answers : List Answer) → AsksByTyp
 asks_started ms e [] h = (h.0, λ far. absurd (not_short (h.1 far).0))
 asks_started ms e (x ∷ answers) h = h
 
+refused_not_short : refused ≡ short → ⊥
+refused_not_short e = cc
+
+-- where a refused lowering asked for the block first, so did one that memory ended
+begins_short : (c : Call) (answers : List Answer) (trap : Option Trap) → BeginsWith c refused answers trap → BeginsWith c short answers trap
+begins_short c [] None h = absurd (refused_not_short h)
+begins_short c [] (Some t) h = h
+begins_short c (x ∷ answers) trap h = h
+
 -- a fact for each start, of whatever words
 each_start : (P : Type 0) → P → (events : List Event) → Each (OnStart (λ ws m. P)) events
 each_start P p [] = tt
 each_start P p (event.Start f ws m ∷ events) = (p, each_start P p events)
 each_start P p (e ∷ events) = (tt, each_start P p events)
 
-module _ (Leaves : List ℕ → List ℕ → Type 0) (callee : Callee) (fuel : ℕ) (params : List Val) (entry mid after : Moment) (words : List ℕ) (answers : List Answer) (later : List Event) where
+module _ (Leaves : List ℕ → List ℕ → Type 0) (callee : Callee) (fuel : ℕ) (params : List Val) (entry mid after : Moment) (l0 l1 l2 : LedgerState) (words : List ℕ) (answers : List Answer) (given : List ℕ) (later : List Event) where
   posted_after : (¬ Each IsNoPost later → Each (OnReturn (λ ws m. (left : ℕ) × (vs : List Val) × AreResults callee.encoding (narrow m) callee.results ws fuel left vs)) later)
       → ¬ Each IsNoPost (events_of answers None ++ later) → Each (OnReturn (λ ws m. (left : ℕ) × (vs : List Val) × AreResults callee.encoding (narrow m) callee.results ws fuel left vs)) (events_of answers None ++ later)
   posted_after told some = each_then _ (events_of answers None) later (each_answer _ (λ c a. tt) (λ c n. tt) answers None)
       (told (λ none. some (each_then IsNoPost (events_of answers None) later (each_answer IsNoPost (λ c a. tt) (λ c n. tt) answers None) none)))
 
-  pub joined : (answer : Result (Vec Val Global) Error) → IsReady callee params entry mid words answers → Advances entry mid → Advances mid after → after.guest.marks ≡ mid.guest.marks
-      → IsRest Leaves callee fuel words mid after answer later → CoreCall Leaves callee fuel params entry after answer (events_of answers None ++ later)
-  joined (Ok vals) low first second marks rest = record {
+  -- what the ledger accepts, from the start on
+  accepts_rest : LeavesTake (enter l0) (param_parts callee params) given l1 → Accepts callee params l0 (events_of answers None ++ later)
+      → Each (OnReturn (λ ws m. (resources : List Any) × (lifted : LedgerState) × LiftsReturned callee ws m resources l1 lifted)) later
+  accepts_rest took (hs, lowered, takes, each) =
+      let same = (leaves_same (enter l0) l1 lowered (param_parts callee params) given hs took takes).1 in
+      each_after _ (events_of answers None) later
+      (subst (λ l. Each (OnReturn (λ ws m. (resources : List Any) × (lifted : LedgerState) × LiftsReturned callee ws m resources l lifted)) (events_of answers None ++ later)) (sym same) each)
+
+  pub joined : (answer : Result (Vec Val Global) Error) → IsReady callee params entry mid words answers given → LeavesTake (enter l0) (param_parts callee params) given l1 → Advances entry mid → Advances mid after → after.guest.marks ≡ mid.guest.marks
+      → IsRest Leaves callee fuel words mid after l1 l2 answer later → CoreCall Leaves callee fuel params entry after l0 l2 answer (events_of answers None ++ later)
+  joined (Ok vals) low took first second marks rest = record {
     one_run = run_after callee.func callee.post (events_of answers None) later (answers_are answers) rest.one_run;
     prefix = prefix_after callee.func callee.post (length entry.bytes) (events_of answers None) later (answers_are answers) (rest.prefix (length entry.bytes));
     no_resume = each_then IsNoResume (events_of answers None) later (each_answer IsNoResume (λ c a. tt) (λ c n. tt) answers None) rest.no_resume;
@@ -188,14 +213,16 @@ module _ (Leaves : List ℕ → List ℕ → Type 0) (callee : Callee) (fuel : �
     marks = marks ∙ low.marks;
     requested = λ ts have. record { left = []; met = low.requested ts have; all = each_start ([] ≡ []) refl later };
     quiet = low.quiet;
+    given = given;
+    handles = (l1, took, each_then _ (events_of answers None) later (each_answer _ (λ c a. tt) (λ c n. tt) answers None) rest.handles);
     start = each_then _ (events_of answers None) later (each_answer _ (λ c a. tt) (λ c n. tt) answers None) (on_start words mid.bytes _ low.start later rest.start);
     only_results = each_then _ (events_of answers None) later (each_answer _ (λ c a. tt) (λ c n. tt) answers None) rest.only_results;
     posted = posted_after rest.posted;
     leaves = each_then _ (events_of answers None) later (each_answer _ (λ c a. tt) (λ c n. tt) answers None) rest.leaves;
     cause = tt;
-    valid = λ ts have small lawful calm quiet right. tt;
+    valid = λ ts have small lawful calm quiet right accepted. tt;
   }
-  joined (Err e) low first second marks rest = λ results. record {
+  joined (Err e) low took first second marks rest = λ results. record {
     one_run = tt;
     prefix = prefix_after callee.func callee.post (length entry.bytes) (events_of answers None) later (answers_are answers) (rest.prefix (length entry.bytes));
     no_resume = each_then IsNoResume (events_of answers None) later (each_answer IsNoResume (λ c a. tt) (λ c n. tt) answers None) rest.no_resume;
@@ -210,13 +237,15 @@ module _ (Leaves : List ℕ → List ℕ → Type 0) (callee : Callee) (fuel : �
     marks = marks ∙ low.marks;
     requested = λ ts have. record { left = []; met = low.requested ts have; all = each_start ([] ≡ []) refl later };
     quiet = asks_started callee.params (lowering_ending (Err e)) answers low.quiet;
+    given = given;
+    handles = inr (inr (l1, took, stops_after callee (stopped_by e) l1 l2 answers later rest.handles));
     start = each_then _ (events_of answers None) later (each_answer _ (λ c a. tt) (λ c n. tt) answers None) (on_start words mid.bytes _ low.start later rest.start);
     only_results = tt;
     posted = posted_after rest.posted;
     leaves = tt;
     cause = cause_after callee fuel params entry mid after (events_of answers None) later e first.traps_later rest.cause;
-    valid = λ ts have small lawful calm quiet right. rest.valid (λ h. calm (ends_after IsTrap (events_of answers None) later h)) (each_after IsNoAsk (events_of answers None) later quiet)
-        (each_after (OnReturn (λ ws m. (us : Trees) × RepResults false callee.encoding (narrow m) ws callee.results us × (members_cost callee.results us ≤ fuel))) (events_of answers None) later right);
+    valid = λ ts have small lawful calm quiet right accepted. rest.valid (λ h. calm (ends_after IsTrap (events_of answers None) later h)) (each_after IsNoAsk (events_of answers None) later quiet)
+        (each_after (OnReturn (λ ws m. (us : Trees) × RepResults false callee.encoding (narrow m) ws callee.results us × (members_cost callee.results us ≤ fuel))) (events_of answers None) later right) (accepts_rest took accepted);
   }
 
 -- ---- it wasn't
@@ -251,17 +280,18 @@ last_lawful : (answers : List Answer) (a : ℕ) (Bad : Answer → Type 0) → ((
 last_lawful answers a Bad f (prefix, x, e, is, bad) lawful = f x bad (lawful_second prefix (x ∷ []) (subst AllLawful e lawful)).0
 
 -- why a lowering was refused, and that a valid call isn't
-record Refused (callee : Callee) (fuel : ℕ) (params : List Val) (entry after : Moment) (events : List Event) (answers : List Answer) (trap : Option Trap) (f : Fault) : Type 0 where
+record Refused (callee : Callee) (fuel : ℕ) (params : List Val) (entry after : Moment) (before : LedgerState) (events : List Event) (answers : List Answer) (trap : Option Trap) (f : Fault) : Type 0 where
   late : TrapsLate (length entry.bytes) trap
   accepted : Accepted (fault_ending f) (length after.bytes) answers
   cause : Cause callee fuel params entry after events (error.Fault f)
-  valid : (ts : Trees) → HaveTrees callee.params params ts → AreSmall callee.encoding callee.params params → AllLawful answers → ¬ EndsIn IsTrap events → f ≡ fault.OutOfMemory
+  valid : (ts : Trees) → HaveTrees callee.params params ts → AreSmall callee.encoding callee.params params → AllLawful answers → ¬ EndsIn IsTrap events → Accepts callee params before events → f ≡ fault.OutOfMemory
 
-module _ (Leaves : List ℕ → List ℕ → Type 0) (callee : Callee) (fuel : ℕ) (params : List Val) (entry after : Moment) where
+module _ (Leaves : List ℕ → List ℕ → Type 0) (callee : Callee) (fuel : ℕ) (params : List Val) (entry after : Moment) (before left : LedgerState) where
   made : (results : List Val) (f : Fault) (answers : List Answer) (trap : Option Trap) → Advances entry after → AsksByTypes callee.params (fault_ending f) answers trap → after.guest.marks ≡ entry.guest.marks ++ marks_of answers
       → ((ts : Trees) → HaveTrees callee.params params ts → (left : List Request) × ((last : ℕ) → Meets last (params_requests false callee.encoding callee.params ts) answers trap left))
-      → Refused callee fuel params entry after (events_of answers trap) answers trap f → IsCall Leaves callee fuel params entry after (Err (error.Fault f)) results (events_of answers trap)
-  made results f answers trap advances quiet marks met refused = record {
+      → HandlesPass callee params before left [] (Err (error.Fault f)) results (events_of answers trap)
+      → Refused callee fuel params entry after before (events_of answers trap) answers trap f → IsCall Leaves callee fuel params entry after before left (Err (error.Fault f)) results (events_of answers trap)
+  made results f answers trap advances quiet marks met handles refused = record {
     one_run = tt;
     prefix = prefix_of callee.func callee.post (length entry.bytes) answers trap refused.late;
     no_resume = each_answer IsNoResume (λ c a. tt) (λ c n. tt) answers trap;
@@ -276,25 +306,27 @@ module _ (Leaves : List ℕ → List ℕ → Type 0) (callee : Callee) (fuel : �
     marks = marks;
     quiet = quiet;
     requested = λ ts have. record { left = (met ts have).0; met = (met ts have).1; all = tt };
+    given = [];
+    handles = handles;
     start = each_answer _ (λ c a. tt) (λ c n. tt) answers trap;
     only_results = tt;
     posted = λ some. absurd (some (each_answer IsNoPost (λ c a. tt) (λ c n. tt) answers trap));
     leaves = tt;
     cause = refused.cause;
-    valid = λ ts have small lawful calm quiet right. ap error.Fault (refused.valid ts have small lawful calm);
+    valid = λ ts have small lawful calm quiet right accepted. ap error.Fault (refused.valid ts have small lawful calm accepted);
   }
 
   -- memory ran out before a request
-  pub short_call : after ≡ entry → CoreCall Leaves callee fuel params entry after (Err (error.Fault fault.OutOfMemory)) []
-  short_call e results = made results fault.OutOfMemory [] None (subst (λ m. Advances entry m) (sym e) (record { no_shorter = omega arith; traps_later = omega arith; shortages_later = omega arith })) (λ near none. (refl, refl), λ far. (refl, λ none. tt)) (ap (λ m. m.guest.marks) e ∙ sym (append-nil entry.guest.marks))
-      (λ ts have. (params_requests false callee.encoding callee.params ts, λ last. refl))
-      (record { late = tt; accepted = tt; cause = tt; valid = λ ts have small lawful calm. refl })
+  pub short_call : after ≡ entry → ((results : List Val) → HandlesPass callee params before left [] (Err (error.Fault fault.OutOfMemory)) results []) → CoreCall Leaves callee fuel params entry after before left (Err (error.Fault fault.OutOfMemory)) []
+  short_call e handles results = made results fault.OutOfMemory [] None (subst (λ m. Advances entry m) (sym e) (record { no_shorter = omega arith; traps_later = omega arith; shortages_later = omega arith })) (λ near none. (refl, refl), λ far. (refl, λ none. tt)) (ap (λ m. m.guest.marks) e ∙ sym (append-nil entry.guest.marks))
+      (λ ts have. (params_requests false callee.encoding callee.params ts, λ last. refl)) (handles results)
+      (record { late = tt; accepted = tt; cause = tt; valid = λ ts have small lawful calm accepted. refl })
 
-  abbrev Low : List ℕ → List ℕ → Fault → Type 0
-  Low words handles f = LowersArgs false entry after callee.encoding callee.params (HaveTrees callee.params params) words handles (fault_ending f)
+  abbrev Low : List ℕ → List ℕ → Ending → Type 0
+  Low words handles ending = LowersArgs false entry after callee.encoding callee.params (HaveTrees callee.params params) words handles ending
 
-  abbrev Why : (f : Fault) (words handles : List ℕ) → Low words handles f → Type 0
-  Why f words handles low = Refused callee fuel params entry after (events_of low.answers low.trap) low.answers low.trap f
+  abbrev Why : (f : Fault) (ending : Ending) (words handles : List ℕ) → Low words handles ending → Type 0
+  Why f ending words handles low = Refused callee fuel params entry after before (events_of low.answers low.trap) low.answers low.trap f
 
   -- the parameters aren't of their types, or one is too large
   abbrev Unlike : Type 0
@@ -305,12 +337,12 @@ module _ (Leaves : List ℕ → List ℕ → Type 0) (callee : Callee) (fuel : �
 
   -- no request trapped, and the value is to blame
   blamed : (f : Fault) (answers : List Answer) (trap : Option Trap) → trap ≡ None → Accepted (fault_ending f) (length after.bytes) answers → Unlike → Cause callee fuel params entry after (events_of answers trap) (error.Fault f)
-      → Refused callee fuel params entry after (events_of answers trap) answers trap f
+      → Refused callee fuel params entry after before (events_of answers trap) answers trap f
   blamed f answers trap none accepted unlike cause = record {
     late = subst (λ o. TrapsLate (length entry.bytes) o) (sym none) tt;
     accepted = accepted;
     cause = cause;
-    valid = λ ts have small lawful calm. absurd (unlike ts have small);
+    valid = λ ts have small lawful calm accepted. absurd (unlike ts have small);
   }
 
   none_started : (answers : List Answer) (trap : Option Trap) → Each IsNoStart (events_of answers trap)
@@ -324,27 +356,47 @@ module _ (Leaves : List ℕ → List ℕ → Type 0) (callee : Callee) (fuel : �
   none_trapped : (answers : List Answer) (trap : Option Trap) → trap ≡ None → ¬ EndsIn IsTrap (events_of answers trap)
   none_trapped answers trap none h = no_trap answers (subst (λ o. EndsIn IsTrap (events_of answers o)) none h)
 
-  refused_by : (f : Fault) (words handles : List ℕ) (low : Low words handles f) → BlamesMembers callee.encoding callee.params params f → ledger_fault f ≡ None → Why f words handles low
-  refused_by (fault.TypeMismatch k) words handles low blames unheld = blamed (fault.TypeMismatch k) low.answers low.trap low.lowering.cause low.lowering.accepted (unfit mismatch blames.0 tt blames.2) (none_started low.answers low.trap, none_trapped low.answers low.trap low.lowering.cause, blames)
-  refused_by (fault.FieldName k) words handles low blames unheld = blamed (fault.FieldName k) low.answers low.trap low.lowering.cause low.lowering.accepted (unfit field_name blames.0 tt blames.2) (none_started low.answers low.trap, none_trapped low.answers low.trap low.lowering.cause, blames)
-  refused_by (fault.UnknownCase k) words handles low blames unheld = blamed (fault.UnknownCase k) low.answers low.trap low.lowering.cause low.lowering.accepted (unfit unknown_case blames.0 tt blames.2) (none_started low.answers low.trap, none_trapped low.answers low.trap low.lowering.cause, blames)
-  refused_by (fault.UnknownFlag k) words handles low blames unheld = blamed (fault.UnknownFlag k) low.answers low.trap low.lowering.cause low.lowering.accepted (unfit unknown_flag blames.0 tt blames.2) (none_started low.answers low.trap, none_trapped low.answers low.trap low.lowering.cause, blames)
-  refused_by (fault.PayloadExpected k) words handles low blames unheld = blamed (fault.PayloadExpected k) low.answers low.trap low.lowering.cause low.lowering.accepted (unfit payload_expected blames.0 tt blames.2) (none_started low.answers low.trap, none_trapped low.answers low.trap low.lowering.cause, blames)
-  refused_by (fault.PayloadNotExpected k) words handles low blames unheld = blamed (fault.PayloadNotExpected k) low.answers low.trap low.lowering.cause low.lowering.accepted
+  -- memory ran out, in the guest or in the ledger
+  short_by : (ending : Ending) (words handles : List ℕ) (low : Low words handles ending) → low.trap ≡ None → Accepted short (length after.bytes) low.answers → Why fault.OutOfMemory ending words handles low
+  short_by ending words handles low none accepted = record {
+    late = subst (λ o. TrapsLate (length entry.bytes) o) (sym none) tt;
+    accepted = accepted;
+    cause = tt;
+    valid = λ ts have small lawful calm accepts. refl;
+  }
+
+  -- the ledger refused a handle
+  ledger_by : (r : ResourceFault) (answers : List Answer) (trap : Option Trap) → trap ≡ None → Accepted refused (length after.bytes) answers → refusal_of r ≡ Some r → LeavesStop (refusal_of r) (enter before) (param_parts callee params) left
+      → Refused callee fuel params entry after before (events_of answers trap) answers trap (fault.Resource r)
+  ledger_by r answers trap none accepted told stops = record {
+    late = subst (λ o. TrapsLate (length entry.bytes) o) (sym none) tt;
+    accepted = accepted;
+    cause = inl (none_started answers trap, none_trapped answers trap none);
+    valid = λ ts have small lawful calm accepts. absurd (leaves_excluded r (enter before) left accepts.1 (param_parts callee params) accepts.0 (subst (λ why. LeavesStop why (enter before) (param_parts callee params) left) told stops) accepts.2);
+  }
+
+  -- how a lowering ended that was refused for a fault of its own
+  refused_by : (f : Fault) (words handles : List ℕ) (low : Low words handles (fault_ending f)) → BlamesMembers callee.encoding callee.params params f → told_fault f ≡ f → LeavesStop (stop_of f) (enter before) (param_parts callee params) left → Why f (fault_ending f) words handles low
+  refused_by (fault.TypeMismatch k) words handles low blames told stops = blamed (fault.TypeMismatch k) low.answers low.trap low.lowering.cause low.lowering.accepted (unfit mismatch blames.0 tt blames.2) (none_started low.answers low.trap, none_trapped low.answers low.trap low.lowering.cause, blames)
+  refused_by (fault.FieldName k) words handles low blames told stops = blamed (fault.FieldName k) low.answers low.trap low.lowering.cause low.lowering.accepted (unfit field_name blames.0 tt blames.2) (none_started low.answers low.trap, none_trapped low.answers low.trap low.lowering.cause, blames)
+  refused_by (fault.UnknownCase k) words handles low blames told stops = blamed (fault.UnknownCase k) low.answers low.trap low.lowering.cause low.lowering.accepted (unfit unknown_case blames.0 tt blames.2) (none_started low.answers low.trap, none_trapped low.answers low.trap low.lowering.cause, blames)
+  refused_by (fault.UnknownFlag k) words handles low blames told stops = blamed (fault.UnknownFlag k) low.answers low.trap low.lowering.cause low.lowering.accepted (unfit unknown_flag blames.0 tt blames.2) (none_started low.answers low.trap, none_trapped low.answers low.trap low.lowering.cause, blames)
+  refused_by (fault.PayloadExpected k) words handles low blames told stops = blamed (fault.PayloadExpected k) low.answers low.trap low.lowering.cause low.lowering.accepted (unfit payload_expected blames.0 tt blames.2) (none_started low.answers low.trap, none_trapped low.answers low.trap low.lowering.cause, blames)
+  refused_by (fault.PayloadNotExpected k) words handles low blames told stops = blamed (fault.PayloadNotExpected k) low.answers low.trap low.lowering.cause low.lowering.accepted
       (unfit payload_not_expected blames.0 tt blames.2) (none_started low.answers low.trap, none_trapped low.answers low.trap low.lowering.cause, blames)
-  refused_by (fault.LengthMismatch k) words handles low blames unheld = blamed (fault.LengthMismatch k) low.answers low.trap low.lowering.cause low.lowering.accepted (unfit wrong_length blames.0 tt blames.2) (none_started low.answers low.trap, none_trapped low.answers low.trap low.lowering.cause, blames)
-  refused_by (fault.StringTooLong n) words handles low blames unheld = blamed (fault.StringTooLong n) low.answers low.trap low.lowering.cause low.lowering.accepted (λ ts have small. small.texts n blames.0 blames.1) (none_started low.answers low.trap, none_trapped low.answers low.trap low.lowering.cause, blames)
-  refused_by (fault.SizeOverflow n) words handles low blames unheld = blamed (fault.SizeOverflow n) low.answers low.trap low.lowering.cause low.lowering.accepted (λ ts have small. small.lists n blames.0 blames.1) (none_started low.answers low.trap, none_trapped low.answers low.trap low.lowering.cause, blames)
-  refused_by (fault.ReallocMisaligned a) words handles low blames unheld = record {
+  refused_by (fault.LengthMismatch k) words handles low blames told stops = blamed (fault.LengthMismatch k) low.answers low.trap low.lowering.cause low.lowering.accepted (unfit wrong_length blames.0 tt blames.2) (none_started low.answers low.trap, none_trapped low.answers low.trap low.lowering.cause, blames)
+  refused_by (fault.StringTooLong n) words handles low blames told stops = blamed (fault.StringTooLong n) low.answers low.trap low.lowering.cause low.lowering.accepted (λ ts have small. small.texts n blames.0 blames.1) (none_started low.answers low.trap, none_trapped low.answers low.trap low.lowering.cause, blames)
+  refused_by (fault.SizeOverflow n) words handles low blames told stops = blamed (fault.SizeOverflow n) low.answers low.trap low.lowering.cause low.lowering.accepted (λ ts have small. small.lists n blames.0 blames.1) (none_started low.answers low.trap, none_trapped low.answers low.trap low.lowering.cause, blames)
+  refused_by (fault.ReallocMisaligned a) words handles low blames told stops = record {
     late = subst (λ o. TrapsLate (length entry.bytes) o) (sym low.lowering.cause.0) tt;
     accepted = low.lowering.accepted;
     cause = (
       none_started low.answers low.trap,
       ends_in_answer (λ c answer. (answer ≡ a) × ¬ (a % c.align ≡ 0)) low.answers low.trap a _ low.lowering.cause.0 (λ x is bad. (is, λ q. bad.0 (subst (λ n. n % x.call.align ≡ 0) (sym is) q))) low.lowering.cause.1,
     );
-    valid = λ ts have small lawful calm. absurd (last_lawful low.answers a _ (λ x bad. bad.1) low.lowering.cause.1 lawful);
+    valid = λ ts have small lawful calm accepted. absurd (last_lawful low.answers a _ (λ x bad. bad.1) low.lowering.cause.1 lawful);
   }
-  refused_by (fault.ReallocOutOfBounds a) words handles low blames unheld = record {
+  refused_by (fault.ReallocOutOfBounds a) words handles low blames told stops = record {
     late = subst (λ o. TrapsLate (length entry.bytes) o) (sym low.lowering.cause.0) tt;
     accepted = low.lowering.accepted;
     cause = (
@@ -352,32 +404,52 @@ module _ (Leaves : List ℕ → List ℕ → Type 0) (callee : Callee) (fuel : �
       ends_in_answer (λ c answer. (answer ≡ a) × (a % c.align ≡ 0) × ¬ (a + c.new_size ≤ length after.bytes)) low.answers low.trap a _ low.lowering.cause.0
           (λ x is bad. (is, subst (λ n. n % x.call.align ≡ 0) is bad.0, λ q. bad.1 (subst (λ n. n + x.call.new_size ≤ length after.bytes) (sym is) q))) low.lowering.cause.1,
     );
-    valid = λ ts have small lawful calm. absurd (last_lawful low.answers a _ (λ x bad. bad.2) low.lowering.cause.1 lawful);
+    valid = λ ts have small lawful calm accepted. absurd (last_lawful low.answers a _ (λ x bad. bad.2) low.lowering.cause.1 lawful);
   }
-  refused_by fault.GuestTrap words handles low blames unheld =
+  refused_by fault.GuestTrap words handles low blames told stops =
       let (rose, (t, is, late)) = low.lowering.cause in
       record {
         late = subst (λ o. TrapsLate (length entry.bytes) o) (sym is) late;
         accepted = low.lowering.accepted;
         cause = (rose, subst (λ o. EndsIn IsTrap (events_of low.answers o)) (sym is) (ends_in_trap low.answers t));
-        valid = λ ts have small lawful calm. absurd (calm (subst (λ o. EndsIn IsTrap (events_of low.answers o)) (sym is) (ends_in_trap low.answers t)));
+        valid = λ ts have small lawful calm accepted. absurd (calm (subst (λ o. EndsIn IsTrap (events_of low.answers o)) (sym is) (ends_in_trap low.answers t)));
       }
-  refused_by fault.OutOfMemory words handles low blames unheld = record {
-    late = subst (λ o. TrapsLate (length entry.bytes) o) (sym low.lowering.cause.0) tt;
-    accepted = low.lowering.accepted;
-    cause = tt;
-    valid = λ ts have small lawful calm. refl;
-  }
-  refused_by (fault.PointerMisaligned at) words handles low blames unheld = absurd blames
-  refused_by (fault.PointerOutOfBounds at) words handles low blames unheld = absurd blames
-  refused_by (fault.InvalidUtf8 at) words handles low blames unheld = absurd blames
-  refused_by (fault.InvalidUtf16 at) words handles low blames unheld = absurd blames
-  refused_by (fault.InvalidChar at) words handles low blames unheld = absurd blames
-  refused_by (fault.BadDiscriminant at d) words handles low blames unheld = absurd blames
-  refused_by fault.HostcallFuelExhausted words handles low blames unheld = absurd blames
-  refused_by (fault.Resource r) words handles low blames unheld = cc
+  refused_by fault.OutOfMemory words handles low blames told stops = short_by short words handles low low.lowering.cause.0 low.lowering.accepted
+  refused_by (fault.PointerMisaligned at) words handles low blames told stops = absurd blames
+  refused_by (fault.PointerOutOfBounds at) words handles low blames told stops = absurd blames
+  refused_by (fault.InvalidUtf8 at) words handles low blames told stops = absurd blames
+  refused_by (fault.InvalidUtf16 at) words handles low blames told stops = absurd blames
+  refused_by (fault.InvalidChar at) words handles low blames told stops = absurd blames
+  refused_by (fault.BadDiscriminant at d) words handles low blames told stops = absurd blames
+  refused_by fault.HostcallFuelExhausted words handles low blames told stops = absurd blames
+  refused_by (fault.Resource resource.OutOfMemory) words handles low blames told stops = cc
+  refused_by (fault.Resource r) words handles low blames told stops = ledger_by r low.answers low.trap low.lowering.cause low.lowering.accepted refl stops
 
-  pub refused_call : (f : Fault) (words handles : List ℕ) (low : LowersArgs false entry after callee.encoding callee.params (HaveTrees callee.params params) words handles (fault_ending f))
-      → BlamesMembers callee.encoding callee.params params f → ledger_fault f ≡ None → AsksByTypes callee.params (fault_ending f) low.answers low.trap → CoreCall Leaves callee fuel params entry after (Err (error.Fault f)) (events_of low.answers low.trap)
-  refused_call f words handles low blames unheld quiet results =
-      made results f low.answers low.trap (goes_advance entry after _ _ low.lowering.goes) quiet low.lowering.goes.marks (λ ts have. ((low.requested ts have).rest, (low.requested ts have).met)) (refused_by f words handles low blames unheld)
+  ended_by : (f : Fault) (ending : Ending) (words handles : List ℕ) (low : Low words handles ending) → ending ≡ fault_ending f → BlamesMembers callee.encoding callee.params params f → told_fault f ≡ f
+      → LeavesStop (stop_of f) (enter before) (param_parts callee params) left → Why f ending words handles low
+  ended_by f ending words handles low is blames told stops =
+      subst (λ end. (mine : Low words handles end) → Why f end words handles mine) (sym is) (λ mine. refused_by f words handles mine blames told stops) low
+
+  -- however it ended
+  refused_so : (f : Fault) (ending : Ending) (words handles : List ℕ) (low : Low words handles ending) → EndsAs true {T = Unit {0}} (Err f) ending → BlamesMembers callee.encoding callee.params params f → told_fault f ≡ f
+      → LeavesStop (stop_of f) (enter before) (param_parts callee params) left → Why f ending words handles low
+  refused_so fault.OutOfMemory ending words handles low (inl is) blames told stops =
+      short_by ending words handles low (subst (λ end. CauseOf entry after low.answers low.trap end) is low.lowering.cause).0 (subst (λ end. Accepted end (length after.bytes) low.answers) is low.lowering.accepted)
+  refused_so fault.OutOfMemory ending words handles low (inr both) blames told stops =
+      short_by ending words handles low (subst (λ end. CauseOf entry after low.answers low.trap end) both.1 low.lowering.cause) (subst (λ end. Accepted end (length after.bytes) low.answers) both.1 low.lowering.accepted)
+  refused_so f ending words handles low is blames told stops = ended_by f ending words handles low is blames told stops
+
+  asks_short : (answers : List Answer) (trap : Option Trap) → AsksByTypes callee.params refused answers trap → AsksByTypes callee.params short answers trap
+  asks_short answers trap h = (h.0, λ far. (begins_short _ answers trap (h.1 far).0, (h.1 far).1))
+
+  -- what it asked for by its types alone
+  asks_as : (f : Fault) (ending : Ending) (answers : List Answer) (trap : Option Trap) → EndsAs true {T = Unit {0}} (Err f) ending → AsksByTypes callee.params ending answers trap → AsksByTypes callee.params (fault_ending f) answers trap
+  asks_as fault.OutOfMemory ending answers trap (inl is) h = subst (λ end. AsksByTypes callee.params end answers trap) is h
+  asks_as fault.OutOfMemory ending answers trap (inr both) h = asks_short answers trap (subst (λ end. AsksByTypes callee.params end answers trap) both.1 h)
+  asks_as f ending answers trap is h = subst (λ end. AsksByTypes callee.params end answers trap) is h
+
+  pub refused_call : (f : Fault) (ending : Ending) (words handles : List ℕ) (low : Low words handles ending) → EndsAs true {T = Unit {0}} (Err f) ending → BlamesMembers callee.encoding callee.params params f → told_fault f ≡ f
+      → AsksByTypes callee.params ending low.answers low.trap → LeavesStop (stop_of f) (enter before) (param_parts callee params) left → CoreCall Leaves callee fuel params entry after before left (Err (error.Fault f)) (events_of low.answers low.trap)
+  refused_call f ending words handles low is blames told quiet stops results =
+      made results f low.answers low.trap (goes_advance entry after _ _ low.lowering.goes) (asks_as f ending low.answers low.trap is quiet) low.lowering.goes.marks (λ ts have. ((low.requested ts have).rest, (low.requested ts have).met))
+      (inr (inl (none_started low.answers low.trap, stops))) (refused_so f ending words handles low is blames told stops)

@@ -1,6 +1,6 @@
 -- One step of a call after another.
 use Rattle.std.proofs.Common.{Err, List, None, Ok, Result, Some, Vec, Global, [], ap, arith, inl, inr, length, refl, subst, sym, ℕ, ◌++◌, ◌∙◌, ◌∷◌, ◌≡◌}
-use Rattle.std.specs.Prelude.{IfErr, false}
+use Rattle.std.specs.Prelude.{IfErr, IsSome, false}
 use Rattle.std.proofs.lemmas.List.{append-nil}
 use Rattle.canon_memory.specs.declared.error.GuestFault.{GuestFault}
 use Rattle.canon_memory.specs.declared.error.GuestFault.TheVariants as guest
@@ -8,20 +8,26 @@ use Rattle.canon_memory.specs.declared.event.Event.{Event}
 use Rattle.canon_memory.specs.declared.event.Event.TheVariants as event
 use Rattle.canon_memory.specs.Guest.{Goes, HasCause, Moment, OnAnswer, Seen, moment}
 use Rattle.canon_memory.specs.Journal.{post_events, trap_event}
+use Rattle.canon_ledger.specs.Ledger.{LedgerState, enter, leave}
+use Rattle.canon_leaves.proofs.Leaves.{stops_at_once}
+use Rattle.canon_leaves.specs.Parts.{LeavesTake}
 use Rattle.canon_lowering.proofs.Lowerings.{goes_none, goes_then}
+use Rattle.canon_lowering.specs.Storing.{narrow}
+use Rattle.canon_value.specs.Resources.{all_resources}
 use Rattle.canon_lowering.specs.Attempt.{LowersArgs}
 use Rattle.canon_lowering.specs.Lowering.{done, events_of, marks_of}
 use Rattle.canon_value.specs.Value.{HaveTrees}
 use Rattle.canon_context.specs.declared.fault.Fault.TheVariants as fault
 use Rattle.canon_value.specs.declared.val.Val.{Val}
-use Rattle.canon_func.specs.Call.{Adding, IsCall, Left, OnAnswered}
+use Rattle.canon_func.specs.Call.{Adding, IsCall, Left, OnAnswered, param_parts, result_words}
 use Rattle.canon_func.specs.Runs.{posts}
 use Rattle.canon_func.specs.Steps.{Concluded, CoreCall, Proceeds, IsLate, IsRest, Lifted, LoweredArgs, Posted, RestCause, Started}
 use Rattle.canon_func.specs.Stores.{Callee}
 use Rattle.canon_func.specs.declared.error.Error.{Error}
 use Rattle.canon_func.specs.declared.error.Error.TheVariants as error
 use Rattle.canon_func.proofs.Calls.{goes_advance, joined, ready, refused_call, short_call}
-use Rattle.canon_func.proofs.Rests.{rest_of_return, rest_of_start}
+use Rattle.canon_func.proofs.Handled.{lifted_stops}
+use Rattle.canon_func.proofs.Rests.{rest_of_return, rest_of_start, words_of_results}
 
 -- what follows from a fact for every answer but want of memory
 pub answered : {T : Type 0} (r : Result T Error) (P Q : Type 0) → (P → Q) → OnAnswered r P → OnAnswered r Q
@@ -42,31 +48,31 @@ retyped T U e P h = h
 other : guest.OutOfMemory ≡ guest.Trap → ⊥
 other e = cc
 
-module _ (Leaves : List ℕ → List ℕ → Type 0) (callee : Callee) (fuel : ℕ) (words : List ℕ) where
+module _ (Leaves : List ℕ → List ℕ → Type 0) (callee : Callee) (fuel : ℕ) (words : List ℕ) (l l2 : LedgerState) where
   -- the guest returned
   pub run_returned : (a b c : Moment) (returned : List ℕ) (answer : Result (Vec Val Global) Error) (M N O : List Event → Type 0) → ((xs ys : List Event) → M xs → N ys → O (xs ++ ys))
-      → Proceeds a b M (Started callee.func words a b (Ok returned)) → Proceeds b c N (Concluded Leaves callee fuel returned b c answer) → Proceeds a c O (IsRest Leaves callee fuel words a c answer)
+      → Proceeds a b M (Started callee.func words a b (Ok returned)) → Proceeds b c N (Concluded Leaves callee fuel returned b c l l2 answer) → Proceeds a c O (IsRest Leaves callee fuel words a c l l2 answer)
   run_returned a b c returned answer M N O f first second = record {
     events = first.events ++ second.events;
     goes = goes_then a b c [] [] first.events second.events first.goes second.goes;
     moves = f first.events second.events first.moves second.moves;
-    so = subst (λ es. IsRest Leaves callee fuel words a c answer (es ++ second.events)) (sym first.so) (rest_of_return Leaves callee fuel words a b c returned answer second.events (goes_advance a b _ _ first.goes) (goes_advance b c _ _ second.goes) second.so);
+    so = subst (λ es. IsRest Leaves callee fuel words a c l l2 answer (es ++ second.events)) (sym first.so) (rest_of_return Leaves callee fuel words a b c l l2 returned answer second.events (goes_advance a b _ _ first.goes) (goes_advance b c _ _ second.goes) second.so);
   }
 
   -- it didn't
-  pub run_refused : (a b : Moment) (e : Error) (M : List Event → Type 0) → Proceeds a b M (Started callee.func words a b (Err e)) → Proceeds a b M (IsRest Leaves callee fuel words a b (Err e))
-  run_refused a b e M first = record { events = first.events; goes = first.goes; moves = first.moves; so = rest_of_start Leaves callee fuel words a b first.goes.no_shorter e first.events first.so }
+  pub run_refused : (a b : Moment) (e : Error) (M : List Event → Type 0) → Proceeds a b M (Started callee.func words a b (Err e)) → Proceeds a b M (IsRest Leaves callee fuel words a b l l (Err e))
+  run_refused a b e M first = record { events = first.events; goes = first.goes; moves = first.moves; so = rest_of_start Leaves callee fuel words a b l first.goes.no_shorter e first.events first.so }
 
   -- ---- after the return
 
   -- no fault of lifting is a trap
-  refused_so : (a : Moment) (e : Error) → Lifted callee fuel words a.bytes (Err e) → Concluded Leaves callee fuel words a a (Err e) []
-  refused_so a (error.Fault fault.GuestTrap) h = absurd h
+  refused_so : (a : Moment) (e : Error) → Lifted callee fuel words a.bytes l l2 (Err e) → Concluded Leaves callee fuel words a a l l2 (Err e) []
+  refused_so a (error.Fault fault.GuestTrap) h = absurd h.1
   refused_so a e h = (h, refl)
 
   -- the words weren't lifted
-  pub conclude_refused : (s : Seen) (bytes : List ℕ) (e : Error) (M : List Event → Type 0) → Lifted callee fuel words bytes (Err e) → M []
-      → Proceeds (moment s bytes) (moment s bytes) M (Concluded Leaves callee fuel words (moment s bytes) (moment s bytes) (Err e))
+  pub conclude_refused : (s : Seen) (bytes : List ℕ) (e : Error) (M : List Event → Type 0) → Lifted callee fuel words bytes l l2 (Err e) → M []
+      → Proceeds (moment s bytes) (moment s bytes) M (Concluded Leaves callee fuel words (moment s bytes) (moment s bytes) l l2 (Err e))
   conclude_refused s bytes e M h stays = record {
     events = [];
     goes = goes_none s bytes bytes (omega arith);
@@ -74,15 +80,24 @@ module _ (Leaves : List ℕ → List ℕ → Type 0) (callee : Callee) (fuel : �
     so = refused_so (moment s bytes) e h;
   }
 
+  -- the words were lifted, post-return was told, and the scope was left
+  pub conclude_done : (a b : Moment) (m : LedgerState) (vals : Vec Val Global) (P : List Event → Type 0) → Lifted callee fuel words a.bytes l m (Ok vals) → l2 ≡ leave m
+      → Proceeds a b (λ es. OnAnswered {T = Unit {0}} (Ok tt) (P es)) (Posted Leaves callee words a b (Ok tt)) → Proceeds a b (λ es. OnAnswered {T = Vec Val Global} (Ok vals) (P es)) (Concluded Leaves callee fuel words a b l l2 (Ok vals))
+  conclude_done a b m vals P lifted left h = record { events = h.events; goes = h.goes; moves = h.moves; so = ((m, lifted, left), h.so) }
+
+  -- as many words as the results take were returned, and they were lifted
+  counted : (bytes : List ℕ) (vals : Vec Val Global) → Lifted callee fuel words bytes l l2 (Ok vals) → length words ≡ result_words callee.results
+  counted bytes vals h = words_of_results callee.encoding (narrow bytes) words callee.results h.1.its_trees h.1.represented
+
   -- the words were lifted, and post-return wasn't told, or trapped
-  concluded_by : (a b : Moment) (vals : Vec Val Global) (e : Error) (es : List Event) → Lifted callee fuel words a.bytes (Ok vals) → Posted Leaves callee words a b (Err e) es
-      → Concluded Leaves callee fuel words a b (Err e) es
+  concluded_by : (a b : Moment) (vals : Vec Val Global) (e : Error) (es : List Event) → Lifted callee fuel words a.bytes l l2 (Ok vals) → Posted Leaves callee words a b (Err e) es
+      → Concluded Leaves callee fuel words a b l l2 (Err e) es
   concluded_by a b vals (error.Fault fault.GuestTrap) es lifted h = ((vals, lifted), h)
-  concluded_by a b vals (error.Fault fault.OutOfMemory) es lifted h = (tt, h)
+  concluded_by a b vals (error.Fault fault.OutOfMemory) es lifted h = ((counted a.bytes vals lifted, tt, lifted_stops callee words a.bytes l l2 (all_resources vals.items) lifted.2), h)
   concluded_by a b vals e es lifted h = absurd h
 
-  pub conclude_untold : (a b : Moment) (vals : Vec Val Global) (e : Error) (P : List Event → Type 0) → Lifted callee fuel words a.bytes (Ok vals)
-      → Proceeds a b (λ es. OnAnswered {T = Unit {0}} (Err e) (P es)) (Posted Leaves callee words a b (Err e)) → Proceeds a b (λ es. OnAnswered {T = Vec Val Global} (Err e) (P es)) (Concluded Leaves callee fuel words a b (Err e))
+  pub conclude_untold : (a b : Moment) (vals : Vec Val Global) (e : Error) (P : List Event → Type 0) → Lifted callee fuel words a.bytes l l2 (Ok vals)
+      → Proceeds a b (λ es. OnAnswered {T = Unit {0}} (Err e) (P es)) (Posted Leaves callee words a b (Err e)) → Proceeds a b (λ es. OnAnswered {T = Vec Val Global} (Err e) (P es)) (Concluded Leaves callee fuel words a b l l2 (Err e))
   conclude_untold a b vals e P lifted h = record {
     events = h.events;
     goes = h.goes;
@@ -131,29 +146,44 @@ rest_is_late callee fuel a b es (Err error.WrongWords) h = refl
 rest_is_late callee fuel a b es (Err (error.UnknownImport n)) h = refl
 rest_is_late callee fuel a b es (Err (error.Fault f)) h = refl
 
-pub lowered_is_late : (callee : Callee) (params : List Val) (a b : Moment) (es : List Event) (e : Error) → LoweredArgs callee params a b (Err e) es → IsLate e
-lowered_is_late callee params a b es (error.Fault f) h = refl
-lowered_is_late callee params a b es error.WrongCount h = absurd h
-lowered_is_late callee params a b es error.AsyncLifted h = absurd h
-lowered_is_late callee params a b es error.CannotEnterComponent h = absurd h
-lowered_is_late callee params a b es error.WrongWords h = absurd h
-lowered_is_late callee params a b es (error.UnknownImport n) h = absurd h
+pub lowered_is_late : (callee : Callee) (params : List Val) (a b : Moment) (l l2 : LedgerState) (es : List Event) (e : Error) → LoweredArgs callee params a b l l2 (Err e) es → IsLate e
+lowered_is_late callee params a b l l2 es (error.Fault f) h = refl
+lowered_is_late callee params a b l l2 es error.WrongCount h = absurd h
+lowered_is_late callee params a b l l2 es error.AsyncLifted h = absurd h
+lowered_is_late callee params a b l l2 es error.CannotEnterComponent h = absurd h
+lowered_is_late callee params a b l l2 es error.WrongWords h = absurd h
+lowered_is_late callee params a b l l2 es (error.UnknownImport n) h = absurd h
 
 module _ (Leaves : List ℕ → List ℕ → Type 0) (callee : Callee) (fuel : ℕ) (params : List Val) where
-  core_refused : (a b : Moment) (e : Error) (es : List Event) → LoweredArgs callee params a b (Err e) es → CoreCall Leaves callee fuel params a b (Err e) es
-  core_refused a b (error.Fault f) es (inl (short, same, none)) = subst (λ fs. CoreCall Leaves callee fuel params a b (Err (error.Fault f)) fs) (sym none)
-      (subst (λ g. CoreCall Leaves callee fuel params a b (Err (error.Fault g)) []) (sym short) (short_call Leaves callee fuel params a b same))
-  core_refused a b (error.Fault f) es (inr (words, handles, low, blames, unheld, is, quiet)) = subst (λ fs. CoreCall Leaves callee fuel params a b (Err (error.Fault f)) fs) (sym is) (refused_call Leaves callee fuel params a b f words handles low blames unheld quiet)
-  core_refused a b error.WrongCount es h = absurd h
-  core_refused a b error.AsyncLifted es h = absurd h
-  core_refused a b error.CannotEnterComponent es h = absurd h
-  core_refused a b error.WrongWords es h = absurd h
-  core_refused a b (error.UnknownImport n) es h = absurd h
+  -- memory ran out for the scope
+  pub scope_short : (s : Seen) (bytes : List ℕ) (l0 l2 : LedgerState) (M : List Event → Type 0) → l2 ≡ l0 → (IsSome s.journal → M [])
+      → Adding (moment s bytes) (moment s bytes) M (CoreCall Leaves callee fuel params (moment s bytes) (moment s bytes) l0 l2 (Err (error.Fault fault.OutOfMemory)))
+  scope_short s bytes l0 l2 M same stays = record {
+    events = [];
+    added = (goes_none s bytes bytes (omega arith)).events;
+    moves = stays;
+    so = short_call Leaves callee fuel params (moment s bytes) (moment s bytes) l0 l2 refl (λ results. inl (refl, (refl, same)));
+  }
+
+  core_refused : (a b : Moment) (l0 l2 : LedgerState) (e : Error) (es : List Event) → LoweredArgs callee params a b (enter l0) l2 (Err e) es → CoreCall Leaves callee fuel params a b l0 l2 (Err e) es
+  core_refused a b l0 l2 (error.Fault f) es (inl (short, same, kept, none)) = subst (λ fs. CoreCall Leaves callee fuel params a b l0 l2 (Err (error.Fault f)) fs) (sym none)
+      (subst (λ g. CoreCall Leaves callee fuel params a b l0 l2 (Err (error.Fault g)) []) (sym short) (short_call Leaves callee fuel params a b l0 l2 same (λ results. inr (inl (tt, stops_at_once (enter l0) l2 (param_parts callee params) kept)))))
+  core_refused a b l0 l2 (error.Fault f) es (inr (words, handles, ending, low, ends, blames, told, is, quiet, stops)) = subst (λ fs. CoreCall Leaves callee fuel params a b l0 l2 (Err (error.Fault f)) fs) (sym is)
+      (refused_call Leaves callee fuel params a b l0 l2 f ending words handles low ends blames told quiet stops)
+  core_refused a b l0 l2 error.WrongCount es h = absurd h
+  core_refused a b l0 l2 error.AsyncLifted es h = absurd h
+  core_refused a b l0 l2 error.CannotEnterComponent es h = absurd h
+  core_refused a b l0 l2 error.WrongWords es h = absurd h
+  core_refused a b l0 l2 (error.UnknownImport n) es h = absurd h
+
+  -- a call in the scope that was opened on its ledger
+  abbrev pub InScope : LedgerState → Moment → Moment → LedgerState → Result (Vec Val Global) Error → List Event → Type 0
+  InScope l a b l2 answer es = (l0 : LedgerState) → enter l0 ≡ l → CoreCall Leaves callee fuel params a b l0 l2 answer es
 
   -- the parameters were lowered
-  pub call_started : (a b c : Moment) (words : Vec ℕ Global) (answer : Result (Vec Val Global) Error) (M N O : List Event → Type 0) → ((xs ys : List Event) → M xs → N ys → O (xs ++ ys))
-      → Adding a b M (LoweredArgs callee params a b (Ok words)) → Proceeds b c N (IsRest Leaves callee fuel words.items b c answer) → Adding a c O (CoreCall Leaves callee fuel params a c answer)
-  call_started a b c words answer M N O f first second =
+  pub call_started : (a b c : Moment) (l l1 l2 : LedgerState) (words : Vec ℕ Global) (answer : Result (Vec Val Global) Error) (M N O : List Event → Type 0) → ((xs ys : List Event) → M xs → N ys → O (xs ++ ys))
+      → Adding a b M (LoweredArgs callee params a b l l1 (Ok words)) → Proceeds b c N (IsRest Leaves callee fuel words.items b c l1 l2 answer) → Adding a c O (InScope l a c l2 answer)
+  call_started a b c l l1 l2 words answer M N O f first second =
       let low : LowersArgs false a b callee.encoding callee.params (HaveTrees callee.params params) words.items first.so.0 done = first.so.1 in
       let xs : List Event = events_of low.answers low.trap in
       let ys : List Event = second.events in
@@ -161,14 +191,25 @@ module _ (Leaves : List ℕ → List ℕ → Type 0) (callee : Callee) (fuel : �
         events = xs ++ ys;
         added = (goes_then a b c (marks_of low.answers) [] xs ys low.lowering.goes second.goes).events;
         moves = λ there. f xs ys (subst M first.so.2 (first.moves there)) second.moves;
-        so = subst (λ o. CoreCall Leaves callee fuel params a c answer (events_of low.answers o ++ ys)) (sym low.lowering.cause)
-            (joined Leaves callee fuel params a b c words.items low.answers ys answer (ready callee params a b words.items low first.so.3 first.so.4 first.so.5) (goes_advance a b _ _ low.lowering.goes) (goes_advance b c _ _ second.goes) (second.goes.marks ∙ append-nil b.guest.marks) second.so);
+        so = λ l0 entered. subst (λ o. CoreCall Leaves callee fuel params a c l0 l2 answer (events_of low.answers o ++ ys)) (sym low.lowering.cause)
+            (joined Leaves callee fuel params a b c l0 l1 l2 words.items low.answers first.so.0 ys answer (ready callee params a b words.items low first.so.3 first.so.4 first.so.5)
+            (subst (λ k. LeavesTake k (param_parts callee params) first.so.0 l1) (sym entered) first.so.6)
+            (goes_advance a b _ _ low.lowering.goes) (goes_advance b c _ _ second.goes) (second.goes.marks ∙ append-nil b.guest.marks) second.so);
       }
 
   -- they weren't
-  pub call_refused : (a b : Moment) (e : Error) (M : List Event → Type 0) → Adding a b M (LoweredArgs callee params a b (Err e)) → Adding a b M (CoreCall Leaves callee fuel params a b (Err e))
-  call_refused a b e M low = record { events = low.events; added = low.added; moves = low.moves; so = core_refused a b e low.events low.so }
+  pub call_refused : (a b : Moment) (l l2 : LedgerState) (e : Error) (M : List Event → Type 0) → Adding a b M (LoweredArgs callee params a b l l2 (Err e)) → Adding a b M (InScope l a b l2 (Err e))
+  call_refused a b l l2 e M low = record {
+    events = low.events;
+    added = low.added;
+    moves = low.moves;
+    so = λ l0 entered. core_refused a b l0 l2 e low.events (subst (λ k. LoweredArgs callee params a b k l2 (Err e) low.events) (sym entered) low.so);
+  }
+
+  -- the scope was opened
+  pub entered_call : (a b : Moment) (l0 l l2 : LedgerState) (answer : Result (Vec Val Global) Error) (M : List Event → Type 0) → l ≡ enter l0 → Adding a b M (InScope l a b l2 answer) → Adding a b M (CoreCall Leaves callee fuel params a b l0 l2 answer)
+  entered_call a b l0 l l2 answer M entered h = record { events = h.events; added = h.added; moves = h.moves; so = h.so l0 (sym entered) }
 
   -- it is refused, whatever the results
-  pub call_left : (a b : Moment) (e : Error) (results : List Val) (M : List Event → Type 0) → Adding a b M (CoreCall Leaves callee fuel params a b (Err e)) → Adding a b M (IsCall Leaves callee fuel params a b (Err e) results)
-  call_left a b e results M h = record { events = h.events; added = h.added; moves = h.moves; so = h.so results }
+  pub call_left : (a b : Moment) (l0 l2 : LedgerState) (e : Error) (results : List Val) (M : List Event → Type 0) → Adding a b M (CoreCall Leaves callee fuel params a b l0 l2 (Err e)) → Adding a b M (IsCall Leaves callee fuel params a b l0 l2 (Err e) results)
+  call_left a b l0 l2 e results M h = record { events = h.events; added = h.added; moves = h.moves; so = h.so results }

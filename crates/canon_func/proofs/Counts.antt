@@ -8,7 +8,6 @@ use Rattle.canon_model.specs.Layout.{flat, members_flat}
 use Rattle.canon_model.specs.Shape.{Members, Shape, member_count, of_places, product}
 use Rattle.canon_types.specs.Table.{Table, members_of}
 use Rattle.canon_types.specs.declared.types.InterfaceType.{InterfaceType}
-use Rattle.canon_plan.specs.Built.{are_built, is_built}
 use Rattle.canon_context.specs.declared.component.Component.{Component}
 use Rattle.canon_context.specs.declared.component.Export.{Export}
 use Rattle.canon_func.specs.Call.{refusal, words_within}
@@ -39,9 +38,6 @@ pub words_counted : (most : ℕ) (o : Option ℕ) (ms : Members) → most ≤ 16
 words_counted most o ms few h = counted most (flat (product of_places ms)) o ms (product_flat ms) few h
 
 -- the tuple's values are those of its members
-pub product_built : (ms : Members) (s : Shape) (b : Bool) → s ≡ product of_places ms → b ≡ is_built s → b ≡ are_built ms
-product_built ms s b e h = h ∙ ap is_built e
-
 -- ---- refusals
 
 module _ (callee : Callee) (params results : ℕ) (trapped : Bool) where

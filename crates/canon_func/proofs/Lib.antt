@@ -1,7 +1,10 @@
+pub mod Calls
+pub mod Composed
+pub mod Counts
+pub mod Handled
+pub mod Leaving
+pub mod Lowered
+pub mod Owned
 pub mod Prefixes
 pub mod Rests
-pub mod Calls
-pub mod Counts
-pub mod Composed
-pub mod Lowered
-pub mod NoHandles
+pub mod Returned

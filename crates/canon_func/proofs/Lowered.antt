@@ -1,6 +1,6 @@
 -- What lowering the parameters did.
-use Rattle.std.proofs.Common.{Err, List, None, Option, Result, Some, [], ap, inr, length, refl, subst, sym, ℕ, ◌++◌, ◌∙◌, ◌≡◌, ◌≤◌, ◌⊎◌}
-use Rattle.std.specs.Prelude.{IfErr, IsSome, drop, false, take}
+use Rattle.std.proofs.Common.{Bool, Err, List, None, Ok, Option, Result, Some, [], ap, inl, inr, length, map, refl, subst, sym, true, ℕ, ◌++◌, ◌∙◌, ◌≡◌, ◌≤◌, ◌⊎◌}
+use Rattle.std.specs.Prelude.{IsSome, drop, false, take}
 use Rattle.std.proofs.Math.Seq.{take-append_seam}
 use Rattle.std.proofs.lemmas.Bool.{false≢true}
 use Rattle.canon_model.specs.Flat.{max_params}
@@ -10,25 +10,25 @@ use Rattle.canon_model.specs.Text.{Encoding}
 use Rattle.canon_memory.specs.declared.event.Event.{Event}
 use Rattle.canon_memory.specs.Guest.{GuestIn, Moment, Seen}
 use Rattle.canon_memory.specs.Journal.{Adds}
+use Rattle.canon_types.specs.Instance.{Instance}
+use Rattle.canon_ledger.specs.Ledger.{LedgerState}
+use Rattle.canon_leaves.specs.Parts.{LeavesStop, LeavesTake, lower_parts}
 use Rattle.canon_lowering.proofs.Lowerings.{none_answered}
 use Rattle.canon_lowering.specs.Attempt.{LowersArgs}
-use Rattle.canon_lowering.specs.Lowering.{Answer, CauseOf, Ending, Trap, done, events_of, marks_of, refused}
-use Rattle.canon_plan.specs.Built.{AreBuilt}
-use Rattle.canon_types.specs.Table.{tuple_members}
-use Rattle.canon_context.specs.Asks.{SameButHandles}
-use Rattle.canon_context.specs.Core.{Parts, SameButLedger, encoding_by, moment_of, types_of}
+use Rattle.canon_lowering.specs.Lowering.{Answer, CauseOf, Ending, Trap, done, events_of, marks_of, refused, short}
+use Rattle.canon_context.specs.Core.{Parts}
 use Rattle.canon_value.specs.Args.{LowersParams}
 use Rattle.canon_value.specs.Fails.{AreSmall, BlamesMembers}
-use Rattle.canon_context.specs.Lowers.{ending_of, fault_ending}
+use Rattle.canon_context.specs.Lowers.{fault_ending}
 use Rattle.canon_context.specs.Moves.{Moves}
-use Rattle.canon_context.specs.Quiet.{Quiet, have_block, have_handle}
-use Rattle.canon_value.specs.Resources.{Crosses, QuietBut, all_passes, ledger_fault}
+use Rattle.canon_context.specs.Quiet.{have_block, have_handle}
+use Rattle.canon_value.specs.Resources.{Crosses, EndsAs, all_passes, stop_of, told_fault}
 use Rattle.canon_value.specs.Value.{HaveTrees}
 use Rattle.canon_context.specs.declared.fault.Fault.{Fault}
 use Rattle.canon_context.specs.declared.fault.Fault.TheVariants as fault
 use Rattle.canon_value.specs.declared.val.Val.{Val}
-use Rattle.canon_func.proofs.NoHandles.{crosses_none, quiet_without, same_guest}
 use Rattle.canon_func.specs.Call.{Adding, AsksByTypes, AsksNothing, OnAnswered, words_within}
+use Rattle.canon_func.specs.Steps.{LowersFor}
 use Rattle.canon_func.specs.declared.error.Error.TheVariants as error
 
 -- a fact of the new events of a told journal
@@ -42,52 +42,30 @@ pub written : (words dst : List ℕ) (n : ℕ) → n ≡ length dst → take n (
 written words dst n e = ap (λ k. take k (dst ++ drop (length dst) words)) e ∙ take-append_seam dst (drop (length dst) words)
 
 -- what was lowered in a context, said of the core that it was made from
-pub record LowersPlain {T G X : Type 0} (seen : G → Seen) (core after : Parts T G) (options tuple : ℕ) (params : List Val) (words : List ℕ) (result : Result X Fault) : Type 0 where
-  pub lowered : (hs : List ℕ) × LowersParams (moment_of seen core) (moment_of seen after) (encoding_by core options) (tuple_members (types_of core) tuple)
-      (HaveTrees (tuple_members (types_of core) tuple) params) words hs (ending_of result)
-  pub unheld : IfErr result (λ f. ledger_fault f ≡ None)
-  pub quiet : members_flat (tuple_members (types_of core) tuple) ≤ max_params → Quiet (have_block (tuple_members (types_of core) tuple)) (after ≡ core) result
-  pub same : after ≡ record core { guest = after.guest; memory = after.memory }
+pub lowers_at : {T G X : Type 0} (seen : G → Seen) (moves : GuestIn G → List Event → GuestIn G → Type 0) (core made after b : Parts T G) (options own tuple : ℕ) (params : List Val) (words : List ℕ) (result : Result X Fault)
+    → made ≡ core → own ≡ options → after ≡ b → LowersFor seen moves made after own tuple params words result → LowersFor seen moves core b options tuple params words result
+lowers_at seen moves core made after b options own tuple params words result same by ends h =
+    subst (λ k. LowersFor seen moves core k options tuple params words result) ends
+    (subst (λ o. LowersFor seen moves core after o tuple params words result) by
+    (subst (λ k. LowersFor seen moves k after own tuple params words result) same h))
 
-module _ {T G X : Type 0} (seen : G → Seen) (core after : Parts T G) (options tuple : ℕ) (params : List Val) (words : List ℕ) (result : Result X Fault) where
-  abbrev Ms : Members
-  Ms = tuple_members (types_of core) tuple
+-- how a lowering ended that asked for nothing
+ending_quiet : (some : Bool) (f : Fault) (ending : Ending) → EndsAs some {T = Unit {0}} (Err f) ending → (fault_ending f ≡ refused) ⊎ ((some ≡ true) × (f ≡ fault.OutOfMemory)) → (ending ≡ short) ⊎ (ending ≡ refused)
+ending_quiet some fault.OutOfMemory ending (inl is) h = inl is
+ending_quiet some fault.OutOfMemory ending (inr both) h = inr both.1
+ending_quiet some f ending is (inl e) = inr (is ∙ e)
+ending_quiet some f ending is (inr both) = cc
 
-  -- what was lowered of a core with a ledger
-  pub record LowersAny : Type 0 where
-    pub crosses : Crosses core.component.types (have_handle Ms) (all_passes Ms params) (λ hs ending. LowersParams (moment_of seen core) (moment_of seen after) (encoding_by core options) Ms (HaveTrees Ms params) words hs ending)
-        core.ledger after.ledger result
-    pub quiet : members_flat Ms ≤ max_params → QuietBut (have_handle Ms) (have_block Ms) (SameButLedger core after) result
-    pub same : SameButHandles core after
+-- no request trapped
+untrapped : (a b : Moment) (answers : List Answer) (trap : Option Trap) (ending : Ending) → CauseOf a b answers trap ending → (ending ≡ short) ⊎ (ending ≡ refused) → trap ≡ None
+untrapped a b answers trap ending cause (inl is) = (subst (λ end. CauseOf a b answers trap end) is cause).0
+untrapped a b answers trap ending cause (inr is) = subst (λ end. CauseOf a b answers trap end) is cause
 
-  pub lowers_plain : AreBuilt Ms → LowersAny → LowersPlain seen core after options tuple params words result
-  lowers_plain built h =
-      let (lowered, kept, unheld) = crosses_none core.component.types Ms params built core.ledger after.ledger result _ h.crosses in
-      record {
-        lowered = lowered;
-        unheld = unheld;
-        quiet = λ near. quiet_without Ms built core after result kept (have_block Ms) (h.quiet near);
-        same = same_guest Ms built core after result kept h.same;
-      }
-
-pub lowers_in : {T G X : Type 0} (seen : G → Seen) (core made after : Parts T G) (options own tuple : ℕ) (params : List Val) (words : List ℕ) (result : Result X Fault) → made ≡ core → own ≡ options
-    → AreBuilt (tuple_members (types_of core) tuple) → LowersAny seen made after own tuple params words result → LowersPlain seen core after options tuple params words result
-lowers_in seen core made after options own tuple params words result same by built h =
-    subst (λ o. LowersPlain seen core after o tuple params words result) by
-    (subst (λ k. LowersPlain seen k after own tuple params words result) same
-    (lowers_plain seen made after own tuple params words result (subst (λ k. AreBuilt (tuple_members (types_of k) tuple)) (sym same) built) h))
-
-module _ {T G X : Type 0} (seen : G → Seen) (core after : Parts T G) (options tuple : ℕ) (params : List Val) (words : List ℕ) (result : Result X Fault) (h : LowersPlain seen core after options tuple params words result) where
-  pub lowered_in : (b : Moment) → moment_of seen after ≡ b → (hs : List ℕ) × LowersParams (moment_of seen core) b (encoding_by core options) (tuple_members (types_of core) tuple)
-      (HaveTrees (tuple_members (types_of core) tuple) params) words hs (ending_of result)
-  lowered_in b ends = subst (λ m. (hs : List ℕ) × LowersParams (moment_of seen core) m (encoding_by core options) (tuple_members (types_of core) tuple)
-      (HaveTrees (tuple_members (types_of core) tuple) params) words hs (ending_of result)) ends h.lowered
-
-  pub quiet_in : (b : Parts T G) → after ≡ b → members_flat (tuple_members (types_of core) tuple) ≤ max_params → Quiet (have_block (tuple_members (types_of core) tuple)) (b ≡ core) result
-  quiet_in b ends = subst (λ k. members_flat (tuple_members (types_of core) tuple) ≤ max_params → Quiet (have_block (tuple_members (types_of core) tuple)) (k ≡ core) result) ends h.quiet
-
-  pub same_in : (b : Parts T G) → after ≡ b → b ≡ record core { guest = b.guest; memory = b.memory }
-  same_in b ends = subst (λ k. k ≡ record core { guest = k.guest; memory = k.memory }) ends h.same
+-- it ended so whether there are handles or not
+ends_any : {T U : Type 0} (some : Bool) (f : Fault) (ending : Ending) → EndsAs some {T = T} (Err f) ending → EndsAs true {T = U} (Err f) ending
+ends_any some fault.OutOfMemory ending (inl is) = inl is
+ends_any some fault.OutOfMemory ending (inr both) = inr (refl, both.1)
+ends_any some f ending is = is
 
 -- what a refused lowering tells of the guest's moves
 pub refused_moves : {G : Type 0} (V : Type 0) (seen : G → Seen) (moves : GuestIn G → List Event → GuestIn G → Type 0) (g h : GuestIn G) (f : Fault) → Moves seen moves g h (fault_ending f)
@@ -114,34 +92,48 @@ refused_moves V seen moves g h (fault.BadDiscriminant at d) m l es p q = m l es 
 refused_moves V seen moves g h fault.HostcallFuelExhausted m l es p q = m l es p q
 refused_moves V seen moves g h (fault.Resource r) m l es p q = m l es p q
 
-module _ (a b : Moment) (enc : Encoding) (ms ns : Members) (params : List Val) (is : ms ≡ ns) where
+module _ (a b : Moment) (enc : Encoding) (types : Instance) (ms ns : Members) (params : List Val) (l l2 : LedgerState) (is : ms ≡ ns) where
   -- where nothing was asked for
-  asks_nothing : (e : Ending) (answers : List Answer) (trap : Option Trap) → b.guest.marks ≡ a.guest.marks ++ marks_of answers → (have_block ms ≡ false → members_flat ms ≤ max_params → trap ≡ None)
+  asks_nothing : (answers : List Answer) (trap : Option Trap) → b.guest.marks ≡ a.guest.marks ++ marks_of answers → (have_block ms ≡ false → members_flat ms ≤ max_params → trap ≡ None)
       → (members_flat ms ≤ max_params → have_block ms ≡ false → b ≡ a) → AsksNothing ns answers trap
-  asks_nothing e answers trap marks none same =
+  asks_nothing answers trap marks none same =
       subst (λ ks. AsksNothing ks answers trap) is (λ near quiet. (none_answered a.guest.marks answers (ap (λ (m : Moment). m.guest.marks) (sym (same near quiet)) ∙ marks), none quiet near))
 
-  pub lowered_done : (words dst handles : List ℕ) (M : List Event → Type 0) → words ≡ dst → length words ≡ words_within max_params ms → (members_flat ms ≤ max_params → have_block ms ≡ false → b ≡ a)
-      → LowersParams a b enc ms (HaveTrees ms params) dst handles done → AreSmall enc ms params → ((l es : List Event) → a.guest.journal ≡ Some l → b.guest.journal ≡ Some (l ++ es) → M es)
+  abbrev Lowers : Members → List ℕ → List ℕ → Ending → Type 0
+  Lowers ks words handles ending = LowersParams a b enc ks (HaveTrees ks params) words handles ending
+
+  pub lowered_done : (words dst : List ℕ) (M : List Event → Type 0) → words ≡ dst → length words ≡ words_within max_params ms → (members_flat ms ≤ max_params → have_block ms ≡ false → b ≡ a)
+      → Crosses types (have_handle ms) (all_passes ms params) (Lowers ms dst) l l2 (Ok {A = Unit {0}} tt) → AreSmall enc ms params → ((l es : List Event) → a.guest.journal ≡ Some l → b.guest.journal ≡ Some (l ++ es) → M es)
       → Adding a b M (λ es. (hs : List ℕ) × (low : LowersArgs false a b enc ns (HaveTrees ns params) words hs done)
-      × (es ≡ events_of low.answers low.trap) × (length words ≡ words_within max_params ns) × AsksByTypes ns done low.answers low.trap × AreSmall enc ns params)
-  lowered_done words dst handles M e count same low small new =
-      let both : LowersParams a b enc ns (HaveTrees ns params) words handles done = subst (λ ks. LowersParams a b enc ks (HaveTrees ks params) words handles done) is
-      (subst (λ ws. LowersParams a b enc ms (HaveTrees ms params) ws handles done) (sym e) low) in
+      × (es ≡ events_of low.answers low.trap) × (length words ≡ words_within max_params ns) × AsksByTypes ns done low.answers low.trap × AreSmall enc ns params
+      × LeavesTake l (map (lower_parts types) (all_passes ns params)) hs l2)
+  lowered_done words dst M e count same cross small new =
+      let both : Lowers ns words cross.given done = subst (λ ks. Lowers ks words cross.given done) is
+      (subst (λ ws. Lowers ms ws cross.given done) (sym e) (subst (λ end. Lowers ms dst cross.given end) cross.ends cross.lowered)) in
       let mine = both.lowered in
       record {
         events = events_of mine.answers mine.trap;
         added = mine.lowering.goes.events;
         moves = told a.guest.journal b.guest.journal (events_of mine.answers mine.trap) M mine.lowering.goes.events new;
-        so = (handles, mine, refl, count ∙ ap (λ ks. words_within max_params ks) is, (asks_nothing done mine.answers mine.trap mine.lowering.goes.marks (λ quiet near. mine.lowering.cause) same, both.asks), subst (λ ks. AreSmall enc ks params) is small);
+        so = (
+          cross.given,
+          mine,
+          refl,
+          count ∙ ap (λ ks. words_within max_params ks) is,
+          (asks_nothing mine.answers mine.trap mine.lowering.goes.marks (λ quiet near. mine.lowering.cause) same, both.asks),
+          subst (λ ks. AreSmall enc ks params) is small,
+          subst (λ ks. LeavesTake l (map (lower_parts types) (all_passes ks params)) cross.given l2) is cross.passed,
+        );
       }
 
-  pub lowered_refused : (f : Fault) (dst handles : List ℕ) (M : List Event → Type 0) → LowersParams a b enc ms (HaveTrees ms params) dst handles (fault_ending f) → BlamesMembers enc ms params f → ledger_fault f ≡ None
-      → (members_flat ms ≤ max_params → have_block ms ≡ false → (b ≡ a) × (fault_ending f ≡ refused)) → ((l es : List Event) → a.guest.journal ≡ Some l → b.guest.journal ≡ Some (l ++ es) → M es)
-      → Adding a b M (λ es. ((f ≡ fault.OutOfMemory) × (b ≡ a) × (es ≡ [])) ⊎ ((words hs : List ℕ) × (low : LowersArgs false a b enc ns (HaveTrees ns params) words hs (fault_ending f))
-      × BlamesMembers enc ns params f × (ledger_fault f ≡ None) × (es ≡ events_of low.answers low.trap) × AsksByTypes ns (fault_ending f) low.answers low.trap))
-  lowered_refused f dst handles M low blames unheld same new =
-      let both : LowersParams a b enc ns (HaveTrees ns params) dst handles (fault_ending f) = subst (λ ks. LowersParams a b enc ks (HaveTrees ks params) dst handles (fault_ending f)) is low in
+  pub lowered_refused : (f : Fault) (dst : List ℕ) (M : List Event → Type 0) → Crosses types (have_handle ms) (all_passes ms params) (Lowers ms dst) l l2 (Err {A = Unit {0}} f) → BlamesMembers enc ms params f
+      → (members_flat ms ≤ max_params → have_block ms ≡ false → (b ≡ a) × ((fault_ending f ≡ refused) ⊎ ((have_handle ms ≡ true) × (f ≡ fault.OutOfMemory))))
+      → ((l es : List Event) → a.guest.journal ≡ Some l → b.guest.journal ≡ Some (l ++ es) → M es)
+      → Adding a b M (λ es. ((f ≡ fault.OutOfMemory) × (b ≡ a) × (l2 ≡ l) × (es ≡ [])) ⊎ ((words hs : List ℕ) × (ending : Ending) × (low : LowersArgs false a b enc ns (HaveTrees ns params) words hs ending)
+      × EndsAs true {T = Unit {0}} (Err f) ending × BlamesMembers enc ns params f × (told_fault f ≡ f) × (es ≡ events_of low.answers low.trap) × AsksByTypes ns ending low.answers low.trap
+      × LeavesStop (stop_of f) l (map (lower_parts types) (all_passes ns params)) l2))
+  lowered_refused f dst M cross blames same new =
+      let both : Lowers ns dst cross.given cross.ending = subst (λ ks. Lowers ks dst cross.given cross.ending) is cross.lowered in
       let mine = both.lowered in
       record {
         events = events_of mine.answers mine.trap;
@@ -149,15 +141,18 @@ module _ (a b : Moment) (enc : Encoding) (ms ns : Members) (params : List Val) (
         moves = told a.guest.journal b.guest.journal (events_of mine.answers mine.trap) M mine.lowering.goes.events new;
         so = inr (
           dst,
-          handles,
+          cross.given,
+          cross.ending,
           mine,
+          ends_any (have_handle ms) f cross.ending cross.ends,
           subst (λ ks. BlamesMembers enc ks params f) is blames,
-          unheld,
+          cross.as_told,
           refl,
           (
-            asks_nothing (fault_ending f) mine.answers mine.trap mine.lowering.goes.marks
-                (λ quiet near. subst (λ end. CauseOf a b mine.answers mine.trap end) (same near quiet).1 mine.lowering.cause) (λ near quiet. (same near quiet).0),
+            asks_nothing mine.answers mine.trap mine.lowering.goes.marks
+                (λ quiet near. untrapped a b mine.answers mine.trap cross.ending mine.lowering.cause (ending_quiet (have_handle ms) f cross.ending cross.ends (same near quiet).1)) (λ near quiet. (same near quiet).0),
             both.asks,
           ),
+          subst (λ ks. LeavesStop (stop_of f) l (map (lower_parts types) (all_passes ks params)) l2) is cross.passed.0,
         );
       }

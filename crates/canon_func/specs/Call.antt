@@ -1,9 +1,10 @@
 -- What a call did.
-use Rattle.std.specs.Prelude.{Bool, Err, IfErr, IsOkUnless, IsSome, List, None, Ok, OnOk, Option, Result, Some, [], false, if◌then◌else◌, length, nat_le, not, slice_index, true, ℕ, ⊤, ◌%◌, ◌&&◌, ◌++◌, ◌+◌, ◌<◌, ◌==◌, ◌∷◌, ◌≡◌, ◌≤◌}
+use Rattle.std.specs.Prelude.{Bool, Err, IfErr, IsOkUnless, IsSome, List, None, Ok, OnOk, Option, Result, Some, [], false, if◌then◌else◌, length, map, nat_le, not, slice_index, true, ℕ, ⊤, ◌%◌, ◌&&◌, ◌++◌, ◌+◌, ◌<◌, ◌==◌, ◌∷◌, ◌≡◌, ◌≤◌, ◌⊎◌}
 use Rattle.canon_model.specs.Cost.{members_cost}
 use Rattle.canon_model.specs.Flat.{RepArgs, RepResults, max_params, max_results}
 use Rattle.canon_model.specs.Homes.{ParamsHome, PointsTo}
 use Rattle.canon_model.specs.Layout.{members_flat}
+use Rattle.canon_model.specs.Leaves.{Leaf, members_leaves, values_leaves}
 use Rattle.canon_model.specs.Memory.{InBlocks}
 use Rattle.canon_model.specs.Reach.{Kind, ValuesFault, badly_spelled, misaligned, no_case, no_scalar, out_of_bounds, values_reach}
 use Rattle.canon_model.specs.Requests.{Request, params_requests}
@@ -15,21 +16,27 @@ use Rattle.canon_memory.specs.Counts.{Rose}
 use Rattle.canon_memory.specs.Guest.{Moment}
 use Rattle.canon_memory.specs.Journal.{Adds}
 use Rattle.canon_lowering.specs.Lowering.{Accepted, AllGood, AllLawful, AllTidy, Answer, Ending, Meets, Trap, addresses_of, blocks_of, done, events_of, marks_of}
-use Rattle.canon_lowering.specs.Attempt.{AnyPointer}
+use Rattle.canon_lowering.specs.Attempt.{AnyPointer, handle_numbers}
 use Rattle.canon_lowering.specs.Storing.{narrow}
 use Rattle.canon_types.specs.Refusal.{first_error}
+use Rattle.canon_ledger.specs.Handles.{can_leave, top_scope}
+use Rattle.canon_ledger.specs.Ledger.{Done, LedgerState, enter, leave, validate_scope_exit}
+use Rattle.canon_ledger.specs.declared.fault.ResourceFault.{ResourceFault}
+use Rattle.canon_resources.specs.Held.{Any}
+use Rattle.canon_leaves.specs.Parts.{LeavesLift, LeavesStop, LeavesTake, Part, lift_parts, lower_parts}
 use Rattle.canon_value.specs.Args.{AsksTuple}
 use Rattle.canon_value.specs.Fails.{AreSmall, BlamesMembers}
 use Rattle.canon_value.specs.Lifts.{AreResults}
 use Rattle.canon_context.specs.Lowers.{fault_ending}
 use Rattle.canon_context.specs.Told.{place_of}
 use Rattle.canon_context.specs.Quiet.{have_block}
+use Rattle.canon_value.specs.Resources.{all_passes, all_resources, stop_of}
 use Rattle.canon_value.specs.Value.{HaveTrees}
 use Rattle.canon_context.specs.declared.fault.At.{At}
 use Rattle.canon_context.specs.declared.fault.Fault.{Fault}
 use Rattle.canon_context.specs.declared.fault.Fault.TheVariants as fault
 use Rattle.canon_value.specs.declared.val.Val.{Val}
-use Rattle.canon_func.specs.Runs.{AsksImport, Each, EndsIn, Grows, IsAnswer, IsNoAsk, IsNoPost, IsNoRequest, IsNoResume, IsNoStart, IsOneRun, IsPrefixOfRun, IsReturn, IsTrap, OnReturn, OnStart}
+use Rattle.canon_func.specs.Runs.{AsksImport, Each, EndsIn, Grows, IsAnswer, IsNoAsk, IsNoPost, IsNoRequest, IsNoResume, IsNoStart, IsOneRun, IsPrefixOfRun, IsReturn, IsTrap, OnReturn, OnStart, SomeReturn}
 use Rattle.canon_func.specs.Stores.{Callee}
 use Rattle.canon_func.specs.declared.error.Error.{Error}
 use Rattle.canon_func.specs.declared.error.Error.TheVariants as error
@@ -60,11 +67,12 @@ refused_by (Err (error.Fault f)) = None
 abbrev pub words_within : ℕ → Members → ℕ
 words_within most ms = if nat_le (members_flat ms) most then members_flat ms else 1
 
--- The guest was started with these words in this memory: they stand for the parameters, as far as the answers kept the law
--- of `realloc`.
-pub record IsStart (callee : Callee) (params : List Val) (entry : List ℕ) (answers : List Answer) (words memory : List ℕ) : Type 0 where
+-- The guest was started with these words in this memory: they stand for the parameters, with these handles in order, as far as
+-- the answers kept the law of `realloc`.
+pub record IsStart (callee : Callee) (params : List Val) (entry : List ℕ) (answers : List Answer) (given : List ℕ) (words memory : List ℕ) : Type 0 where
   pub trees : Trees
   pub have : HaveTrees callee.params params trees
+  pub handles : handle_numbers (members_leaves callee.params trees) ≡ given
   -- no text among them is too long, and no list or map too large
   pub small : AreSmall callee.encoding callee.params params
   -- memory isn't shorter than at the call's entry
@@ -107,7 +115,8 @@ HasFault callee kind at words memory = (length words ≡ result_words callee.res
 abbrev pub IsPastFuel : Callee → ℕ → List ℕ → List ℕ → Type 0
 IsPastFuel callee fuel words memory = (length words ≡ result_words callee.results) × (fuel < values_reach callee.encoding (narrow memory) words max_results callee.results)
 
--- why a call was refused with this fault
+-- Why a call was refused with this fault. Of a refusal of the ledger this says when it came: before the start, or at the end of the
+-- call's scope or in lifting; why it was refused is told by the ledger (`HandlesPass`).
 abbrev pub FaultCause : Callee → ℕ → List Val → Moment → Moment → List Event → Fault → Type 0
 FaultCause callee fuel params before after events (fault.TypeMismatch k) = Each IsNoStart events × ¬ EndsIn IsTrap events × BlamesMembers callee.encoding callee.params params (fault.TypeMismatch k)
 FaultCause callee fuel params before after events (fault.FieldName k) = Each IsNoStart events × ¬ EndsIn IsTrap events × BlamesMembers callee.encoding callee.params params (fault.FieldName k)
@@ -131,7 +140,7 @@ FaultCause callee fuel params before after events (fault.InvalidChar at) = EndsI
 FaultCause callee fuel params before after events (fault.BadDiscriminant at d) = EndsIn (IsReturn (HasFault callee (no_case d) at)) events
 FaultCause callee fuel params before after events fault.HostcallFuelExhausted = EndsIn (IsReturn (IsPastFuel callee fuel)) events
 FaultCause callee fuel params before after events fault.OutOfMemory = ⊤
-FaultCause callee fuel params before after events (fault.Resource e) = ⊥
+FaultCause callee fuel params before after events (fault.Resource e) = (Each IsNoStart events × ¬ EndsIn IsTrap events) ⊎ EndsIn (IsReturn (λ words m. length words ≡ result_words callee.results)) events
 
 -- why a call was refused with this error, which isn't one of those before the guest is entered
 abbrev pub Cause : Callee → ℕ → List Val → Moment → Moment → List Event → Error → Type 0
@@ -148,6 +157,71 @@ lowering_ending (Ok x) = done
 lowering_ending (Err (error.Fault f)) = fault_ending f
 lowering_ending (Err _) = done
 
+-- ---- handles
+
+-- what the handles among the parameters do, in order
+abbrev pub param_parts : Callee → List Val → List (List Part)
+param_parts callee params = map (lower_parts callee.types) (all_passes callee.params params)
+
+-- the handles at the reached places of a return, in order
+abbrev pub returned_leaves : Callee → List ℕ → List ℕ → List Leaf
+returned_leaves callee words memory = values_leaves (narrow memory) words max_results callee.results
+
+abbrev pub result_parts : Callee → List ℕ → List ℕ → List (List Part)
+result_parts callee words memory = map (lift_parts callee.types) (returned_leaves callee words memory)
+
+-- The end of the call whose scope is the top one: each borrow handle that it was given was dropped (else `BorrowsRemain`), and what
+-- was lent to it is given back.
+abbrev pub scope_exit : LedgerState → Done (Unit {0})
+scope_exit l = validate_scope_exit (top_scope l.handles) l
+
+-- The scope of the call ended, and the handles of the results were lifted to these resources.
+pub record LiftsReturned (callee : Callee) (words memory : List ℕ) (resources : List Any) (before after : LedgerState) : Type 0 where
+  pub ended : LedgerState
+  pub ends : scope_exit before ≡ record { answer = Ok tt; after = ended }
+  pub lifts : LeavesLift callee.types ended (returned_leaves callee words memory) resources after
+
+-- The ledger refused the end of the scope, or after it a handle of the results, for this reason; or lifting stopped for another.
+abbrev pub StopsReturned : Callee → List ℕ → List ℕ → Option ResourceFault → LedgerState → LedgerState → Type 0
+StopsReturned callee words memory why before after =
+    ((e : ResourceFault) × (why ≡ Some e) × (scope_exit before ≡ record { answer = Err e; after = after }))
+    ⊎ ((ended : LedgerState) × (scope_exit before ≡ record { answer = Ok tt; after = ended }) × LeavesStop why ended (result_parts callee words memory) after)
+
+-- From the return on, of a call that is Ok: then the scope was left.
+pub record Concludes (callee : Callee) (words memory : List ℕ) (results : List Val) (before after : LedgerState) : Type 0 where
+  pub lifted : LedgerState
+  pub lifts : LiftsReturned callee words memory (all_resources results) before lifted
+  pub empty : can_leave lifted.handles ≡ true
+  pub left : after ≡ leave lifted
+
+-- of a call that was refused, after its start: nothing more, unless it returned as many words as its results take
+abbrev pub StopsLater : Callee → Option ResourceFault → LedgerState → LedgerState → List Event → Type 0
+StopsLater callee why before after events =
+    ((why ≡ None) × (after ≡ before) × Each (OnReturn (λ words m. ¬ (length words ≡ result_words callee.results))) events)
+    ⊎ ((Each IsNoPost events) × SomeReturn (λ words m. (length words ≡ result_words callee.results) × StopsReturned callee words m why before after) events)
+    ⊎ ((why ≡ None) × (¬ Each IsNoPost events) × SomeReturn (λ words m. (resources : List Any) × LiftsReturned callee words m resources before after) events)
+
+-- the refusal of the ledger that a call answers, if it is one
+abbrev pub stopped_by : Error → Option ResourceFault
+stopped_by (error.Fault f) = stop_of f
+stopped_by _ = None
+
+-- What became of the ledger, by the call's events. At Ok a scope was opened, the handles of the parameters were lowered in it, in
+-- order, and were given these numbers; and from the return on as above. A refused call stopped somewhere on this way, its scope is
+-- left open, and a refusal of the ledger is that of the step at which it stopped. Where memory ran out for the scope, nothing was done.
+abbrev pub HandlesPass : Callee → List Val → LedgerState → LedgerState → List ℕ → Result (Unit {0}) Error → List Val → List Event → Type 0
+HandlesPass callee params before after given (Ok x) results events =
+    (lowered : LedgerState) × LeavesTake (enter before) (param_parts callee params) given lowered × Each (OnReturn (λ words m. Concludes callee words m results lowered after)) events
+HandlesPass callee params before after given (Err e) results events =
+    ((e ≡ error.Fault fault.OutOfMemory) × (events ≡ []) × (after ≡ before))
+    ⊎ (Each IsNoStart events × LeavesStop (stopped_by e) (enter before) (param_parts callee params) after)
+    ⊎ ((lowered : LedgerState) × LeavesTake (enter before) (param_parts callee params) given lowered × StopsLater callee (stopped_by e) lowered after events)
+
+-- the ledger accepts each handle of the parameters, and at the return the end of the scope and each handle of the results
+abbrev pub Accepts : Callee → List Val → LedgerState → List Event → Type 0
+Accepts callee params before events = (given : List ℕ) × (lowered : LedgerState) × LeavesTake (enter before) (param_parts callee params) given lowered
+    × Each (OnReturn (λ words m. (resources : List Any) × (lifted : LedgerState) × LiftsReturned callee words m resources lowered lifted)) events
+
 -- ---- the whole
 
 -- What may become of memory after the return: a post-return, where there is one, leaves it so; without one it stays.
@@ -162,8 +236,8 @@ pub record Advances (before after : Moment) : Type 0 where
   pub shortages_later : before.guest.shortages ≤ after.guest.shortages
 
 -- A call that wasn't refused before the guest was entered, by its callee, the fuel of lifting, its parameters, the moments
--- before and after, its answer, the results that it leaves and the events that it adds to a told journal.
-pub record IsCall (Leaves : List ℕ → List ℕ → Type 0) (callee : Callee) (fuel : ℕ) (params : List Val) (before after : Moment) (answer : Result (Unit {0}) Error) (results : List Val) (events : List Event) : Type 0 where
+-- and the ledgers before and after, its answer, the results that it leaves and the events that it adds to a told journal.
+pub record IsCall (Leaves : List ℕ → List ℕ → Type 0) (callee : Callee) (fuel : ℕ) (params : List Val) (before after : Moment) (ledger left : LedgerState) (answer : Result (Unit {0}) Error) (results : List Val) (events : List Event) : Type 0 where
   -- The guest made one run; of a refused call the events are a prefix of one. No ask is resumed, since a component has no imports.
   pub one_run : OnOk answer (IsOneRun callee.func callee.post events)
   pub prefix : IsPrefixOfRun callee.func callee.post (length before.bytes) events
@@ -181,7 +255,10 @@ pub record IsCall (Leaves : List ℕ → List ℕ → Type 0) (callee : Callee) 
   pub marks : after.guest.marks ≡ before.guest.marks ++ marks_of answers
   pub requested : (ts : Trees) → HaveTrees callee.params params ts → MetFirst (params_requests false callee.encoding callee.params ts) answers trap later
   pub quiet : AsksByTypes callee.params (lowering_ending answer) answers trap
-  pub start : Each (OnStart (IsStart callee params before.bytes answers)) events
+  -- Handles went through the ledger; the words of the start have those that the parameters were given.
+  pub given : List ℕ
+  pub handles : HandlesPass callee params ledger left given answer results events
+  pub start : Each (OnStart (IsStart callee params before.bytes answers given)) events
   -- The results are the only values that the returned words and memory represent, and cost no more than the fuel; that
   -- memory is left, as far as a post-return leaves it.
   pub only_results : OnOk answer (Each (OnReturn (λ words m. (left : ℕ) × AreResults callee.encoding (narrow m) callee.results words fuel left results)) events)
@@ -190,10 +267,11 @@ pub record IsCall (Leaves : List ℕ → List ℕ → Type 0) (callee : Callee) 
   pub leaves : OnOk answer (Each (OnReturn (λ words m. Left Leaves callee.post m after.bytes)) events)
   pub cause : IfErr answer (Cause callee fuel params before after events)
   -- A valid call answers Ok or want of memory: the parameters are of their types, no text among them is too long and no
-  -- list too large, `realloc` kept its law, the guest doesn't trap and asks for no import, and what it returns represents
-  -- results that cost no more than the fuel.
+  -- list too large, `realloc` kept its law, the guest doesn't trap and asks for no import, what it returns represents
+  -- results that cost no more than the fuel, and the ledger accepts the handles.
   pub valid : (ts : Trees) → HaveTrees callee.params params ts → AreSmall callee.encoding callee.params params → AllLawful answers → ¬ EndsIn IsTrap events → Each IsNoAsk events
       → Each (OnReturn (λ words m. (us : Trees) × RepResults false callee.encoding (narrow m) words callee.results us × (members_cost callee.results us ≤ fuel))) events
+      → Accepts callee params ledger events
       → IsOkUnless answer (error.Fault fault.OutOfMemory)
 
 -- a fact for every answer but want of memory

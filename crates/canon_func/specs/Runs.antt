@@ -1,5 +1,5 @@
 -- The events of a run of a guest.
-use Rattle.std.specs.Prelude.{List, None, Option, Some, [], length, ℕ, ⊤, ◌++◌, ◌∷◌, ◌≡◌, ◌≤◌}
+use Rattle.std.specs.Prelude.{List, None, Option, Some, [], length, ℕ, ⊤, ◌++◌, ◌∷◌, ◌≡◌, ◌≤◌, ◌⊎◌}
 use Rattle.canon_model.specs.Requests.{Call}
 use Rattle.canon_memory.specs.declared.event.Event.{Event}
 use Rattle.canon_memory.specs.declared.event.Event.TheVariants as event
@@ -32,6 +32,12 @@ OnReturn P _ = ⊤
 abbrev pub IsReturn : (List ℕ → List ℕ → Type 0) → Event → Type 0
 IsReturn P (event.Return words memory) = P words memory
 IsReturn P _ = ⊥
+
+-- one of the events is a return of such words and such a memory
+abbrev pub SomeReturn : (List ℕ → List ℕ → Type 0) → List Event → Type 0
+SomeReturn P [] = ⊥
+SomeReturn P (event.Return words memory ∷ events) = P words memory ⊎ SomeReturn P events
+SomeReturn P (_ ∷ events) = SomeReturn P events
 
 -- it is an answer of `realloc`, to such a request, at such an address
 abbrev pub IsAnswer : (Call → ℕ → Type 0) → Event → Type 0

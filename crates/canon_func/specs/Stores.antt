@@ -4,8 +4,8 @@ use Rattle.canon_model.specs.Shape.{Members, no_members}
 use Rattle.canon_model.specs.Text.{Encoding, utf8}
 use Rattle.canon_indices.specs.declared.options.CanonicalOptions.{CanonicalOptions}
 use Rattle.canon_types.specs.declared.types.TypeFunc.{TypeFunc}
+use Rattle.canon_types.specs.Instance.{Instance}
 use Rattle.canon_types.specs.Table.{Table, param_members, result_members}
-use Rattle.canon_plan.specs.Built.{AreBuilt}
 use Rattle.canon_context.specs.Component.{encoding_at}
 use Rattle.canon_context.specs.Core.{Parts}
 use Rattle.canon_context.specs.declared.component.Component.{Component}
@@ -26,20 +26,16 @@ pub record IsOwned {T G : Type 0} (store : StoreView T G) (f : Named) : Type 0 w
   pub id : f.store ≡ store.core.id
   pub export : f.export < length store.core.component.exports.items
 
--- What is called: a core function, its parameters and results, and its options: how texts are spelled, the core function
--- that runs after the results were lifted, and whether it is async.
+-- What is called: a core function, the types of its component in their store, its parameters and results, and its options: how
+-- texts are spelled, the core function that runs after the results were lifted, and whether it is async.
 pub record Callee : Type 0 where
   pub func : ℕ
+  pub types : Instance
   pub params : Members
   pub results : Members
   pub encoding : Encoding
   pub post : Option ℕ
   pub async_ : Bool
-
--- Values of its parameters and results can be lowered and lifted so far.
-pub record IsCallable (callee : Callee) : Type 0 where
-  pub params : AreBuilt callee.params
-  pub results : AreBuilt callee.results
 
 abbrev pub params_in : Table → Option TypeFunc → Members
 params_in t None = no_members
@@ -61,6 +57,7 @@ async_in (Some options) = options.async_
 abbrev pub export_callee : Component → Export → Callee
 export_callee component e = record {
   func = e.func;
+  types = component.types;
   params = params_in component.types.types (slice_get component.types.types.funcs e.ty);
   results = results_in component.types.types (slice_get component.types.types.funcs e.ty);
   encoding = encoding_at component e.options;
@@ -69,7 +66,7 @@ export_callee component e = record {
 }
 
 abbrev pub callee_in : Component → Option Export → Callee
-callee_in component None = record { func = 0; params = no_members; results = no_members; encoding = utf8; post = None; async_ = false }
+callee_in component None = record { func = 0; types = component.types; params = no_members; results = no_members; encoding = utf8; post = None; async_ = false }
 callee_in component (Some e) = export_callee component e
 
 -- the callee that a function is

@@ -1,11 +1,12 @@
 ghost use Rattle.std.specs.Prelude.{◌≡◌, ◌↔◌, Err, Ok, Some, IfSome, IsNone, IsTrue, OnErr, OnOk, length, slice_get, true};
 ghost use Rattle.canon_types.specs.Table.{IsOver};
 ghost use Rattle.canon_context.specs.Component.{IsInside};
+ghost use Rattle.canon_context.specs.Asks.{SameButHandles};
 ghost use Rattle.canon_context.specs.Core.{guest_of, moment_of, types_of};
 ghost use Rattle.canon_func.specs.Call.{Adding, IsCall, OnAnswered, refusal, refused_by};
-ghost use Rattle.canon_func.specs.Stores.{IsCallable, IsOwned, Named, callee_of, type_of};
+ghost use Rattle.canon_func.specs.Stores.{IsOwned, Named, callee_of, type_of};
 
-use crate::steps::{call_core, has_counts, has_values, options_of};
+use crate::steps::{call_core, has_counts, options_of};
 use crate::{Error, Store};
 use canon_memory::Guest;
 use canon_types::{ExportIndex, StoreId, TypeFunc};
@@ -58,16 +59,6 @@ impl Func {
         store.core().component().types.types().func(export.ty)
     }
 
-    /// Whether there are values of all of the function's types so far: a condition of `call`.
-    pub fn is_callable<T, G>(&self, store: &Store<T, G>) -> bool
-        requires { IsOwned store.now self.now }
-        ensures { IsTrue result ↔ IsCallable (callee_of store.now self.now) }
-    {
-        let types = store.core().component().types.types();
-        let ty = self.ty(store);
-        has_values(types, ty.params) && has_values(types, ty.results)
-    }
-
     /// Does nothing, since `call` has told the guest that its words were read.
     pub fn post_return<T, G>(&self, store: &mut Store<T, G>) -> Result<(), Error>
         requires { IsOwned store.old self.now }
@@ -105,14 +96,16 @@ impl Func {
         None
     }
 
-    /// Calls the function, as CanonicalABI.md's "canon_lift": lowers the parameters, starts the guest, lifts what it
-    /// returns, and then tells the guest that its words were read. `results` are written together, last.
+    /// Calls the function, as CanonicalABI.md's "canon_lift": opens a scope, lowers the parameters, starts the guest, ends
+    /// the scope, lifts what the guest returned, tells it that its words were read, and leaves the scope. `results` are
+    /// written together, last. What is lent to the call is given back when its scope ends.
     ///
     /// Answers `WrongCount`, `AsyncLifted` and `CannotEnterComponent`, in this order, before anything is done. Any later
-    /// refusal, want of memory included, traps the store and leaves `results`: the faults of a parameter, of the guest's
-    /// `realloc` and of a result; `GuestTrap`; `UnknownImport` where the guest asks for an import; `WrongWords` where it
-    /// returns another number of words than the results take; `HostcallFuelExhausted` where the results cost more than
-    /// the store's fuel, which each call has anew.
+    /// refusal, want of memory included, traps the store and leaves `results` and the scope: the faults of a parameter, of
+    /// the guest's `realloc` and of a result; a refusal of a handle; `GuestTrap`; `UnknownImport` where the guest asks for
+    /// an import; `WrongWords` where it returns another number of words than the results take; `BorrowsRemain` where it
+    /// then keeps a borrow handle; `HostcallFuelExhausted` where the results cost more than the store's fuel, which each
+    /// call has anew.
     pub fn call<T, G: Guest>(
         &self,
         alloc: Global,
@@ -121,7 +114,6 @@ impl Func {
         results: &mut [Val],
     ) -> Result<(), Error>
         requires owned { IsOwned store.old self.now }
-        requires callable { IsCallable (callee_of store.old self.now) }
 
         // Before the guest is entered.
         ensures refused { refused_by result ≡ refusal (callee_of store.old self.now) (length params.now) (length results.old) store.old.trapped }
@@ -130,13 +122,13 @@ impl Func {
         // From then on.
         ensures call { IsNone (refused_by result) → Adding (moment_of G.seen store.old.core) (moment_of G.seen store.new.core)
             (λ events. OnAnswered result (G.moves (guest_of store.old.core) events (guest_of store.new.core)))
-            (λ events. IsCall G.leaves (callee_of store.old self.now) store.old.core.fuel params.now (moment_of G.seen store.old.core) (moment_of G.seen store.new.core) result results.new events) }
+            (λ events. IsCall G.leaves (callee_of store.old self.now) store.old.core.fuel params.now (moment_of G.seen store.old.core) (moment_of G.seen store.new.core) store.old.core.ledger store.new.core.ledger result results.new events) }
         ensures trapped { IsNone (refused_by result) → OnErr result (store.new.trapped ≡ true) }
 
         // What it leaves.
         ensures runs { OnOk result (store.new.trapped ≡ store.old.trapped) }
         ensures left { OnErr result (results.new ≡ results.old) }
-        ensures same { store.new.core ≡ record store.old.core { guest = store.new.core.guest; memory = store.new.core.memory } }
+        ensures same { SameButHandles store.old.core store.new.core }
     {
         if let Some(error) = self.refusal(store, params.len(), results.len()) {
             return Err(error);

@@ -1,45 +1,29 @@
 //! The steps of a call.
 
 ghost use Rattle.std.specs.Prelude.{◌≡◌, ◌≤◌, ◌==◌, ◌&&◌, ◌↔◌, IfErr, IfOk, IsTrue, List, None, OnOk, false, length, slice_get, ℕ};
-ghost use Rattle.canon_model.specs.Flat.{max_params};
+ghost use Rattle.canon_model.specs.Flat.{max_params, max_results};
 ghost use Rattle.canon_model.specs.Layout.{members_flat};
 ghost use Rattle.canon_model.specs.Shape.{member_count};
 ghost use Rattle.canon_memory.specs.Guest.{OnAnswer};
 ghost use Rattle.canon_types.specs.Table.{HasFunc, HasTuple, tuple_members};
-ghost use Rattle.canon_plan.specs.Built.{AreBuilt};
 ghost use Rattle.canon_context.specs.Component.{HasOptions, IsInside};
-ghost use Rattle.canon_context.specs.Core.{encoding_by, guest_of, moment_of, types_of};
-ghost use Rattle.canon_value.specs.Args.{LowersParams};
-ghost use Rattle.canon_value.specs.Fails.{AreSmall, BlamesMembers};
-ghost use Rattle.canon_context.specs.Lowers.{ending_of};
-ghost use Rattle.canon_context.specs.Moves.{Moves};
-ghost use Rattle.canon_context.specs.Quiet.{Quiet, have_block};
-ghost use Rattle.canon_value.specs.Resources.{ledger_fault};
-ghost use Rattle.canon_value.specs.Value.{HaveTrees};
+ghost use Rattle.canon_context.specs.Lifter.{origin_in};
+ghost use Rattle.canon_context.specs.Core.{SameButLedger, guest_of, moment_of, types_of};
+ghost use Rattle.canon_ledger.specs.Ledger.{LedgerState, enter};
+ghost use Rattle.canon_context.specs.Asks.{SameBut, SameButHandles};
 ghost use Rattle.canon_func.specs.Call.{Adding, OnAnswered, words_within};
-ghost use Rattle.canon_func.specs.Steps.{Concluded, CoreCall, Proceeds, IsLate, IsRest, Lifted, LoweredArgs, Posted, Started};
-ghost use Rattle.canon_func.specs.Stores.{IsCallable, export_callee, params_in, results_in};
+ghost use Rattle.canon_func.specs.Steps.{Concluded, CoreCall, Proceeds, IsLate, IsRest, Lifted, LiftsIn, LoweredArgs, LowersFor, Posted, Started};
+ghost use Rattle.canon_func.specs.Stores.{export_callee, params_in, results_in};
 
 use crate::Error;
 use canon_memory::{Guest, GuestFault, Step, ValRaw, Words};
 use canon_types::{
-    CanonicalOptions, ComponentTypes, InterfaceType, MAX_FLAT_PARAMS, MAX_FLAT_RESULTS,
-    TypeTupleIndex,
+    CanonicalOptions, ComponentTypes, MAX_FLAT_PARAMS, MAX_FLAT_RESULTS, TypeTupleIndex,
 };
 use canon_value::{
-    Component, Core, Export, Fault, LiftContext, LowerContext, Val, is_built, lift_results,
-    lower_args,
+    Component, Core, Export, Fault, LiftContext, LowerContext, Val, lift_results, lower_args,
 };
 use std::alloc::Global;
-
-/// Whether there are values of the tuple's types so far.
-pub(crate) fn has_values(types: &ComponentTypes, tuple: TypeTupleIndex) -> bool
-    requires { HasTuple types.now tuple }
-    ensures { IsTrue result ↔ AreBuilt (tuple_members types.now tuple) }
-{
-    let _tuple = types.tuple(tuple);
-    is_built(types, &InterfaceType::Tuple(tuple))
-}
 
 /// The options of an export.
 pub(crate) fn options_of(component: &Component, export: &Export) -> CanonicalOptions
@@ -66,7 +50,8 @@ pub(crate) fn has_counts(
         && results == types.tuple(func.results).types.len()
 }
 
-/// Lowers the parameters, starts the guest, lifts what it returns, and tells it that its words were read.
+/// Opens a scope, lowers the parameters, starts the guest, lifts what it returns, tells it that its words were read, and leaves the
+/// scope, which stays open where the call is refused.
 pub(crate) fn call_core<T, G: Guest>(
     alloc: Global,
     core: &mut Core<T, G>,
@@ -75,13 +60,35 @@ pub(crate) fn call_core<T, G: Guest>(
 ) -> Result<Vec<Val>, Error>
     requires inside { IsInside core.old.component export.now }
     requires params { length params.now ≡ member_count (export_callee core.old.component export.now).params }
-    requires callable { IsCallable (export_callee core.old.component export.now) }
     ensures call { Adding (moment_of G.seen core.old) (moment_of G.seen core.new)
         (λ events. OnAnswered result (G.moves (guest_of core.old) events (guest_of core.new)))
-        (λ events. CoreCall G.leaves (export_callee core.old.component export.now) core.old.fuel params.now (moment_of G.seen core.old) (moment_of G.seen core.new) result events) }
+        (λ events. CoreCall G.leaves (export_callee core.old.component export.now) core.old.fuel params.now (moment_of G.seen core.old) (moment_of G.seen core.new) core.old.ledger core.new.ledger result events) }
     ensures late { IfErr result IsLate }
     ensures count { IfOk result (λ vals. length vals.items ≡ member_count (export_callee core.old.component export.now).results) }
-    ensures same { core.new ≡ record core.old { guest = core.new.guest; memory = core.new.memory } }
+    ensures same { SameButHandles core.old core.new }
+{
+    match core.enter() {
+        Ok(_) => call_in_scope(alloc, core, export, params),
+        Err(_) => Err(Error::Fault(Fault::OutOfMemory)),
+    }
+}
+
+/// The same in the call's scope, which is the top one.
+fn call_in_scope<T, G: Guest>(
+    alloc: Global,
+    core: &mut Core<T, G>,
+    export: &Export,
+    params: &[Val],
+) -> Result<Vec<Val>, Error>
+    requires inside { IsInside core.old.component export.now }
+    requires params { length params.now ≡ member_count (export_callee core.old.component export.now).params }
+    ensures call { Adding (moment_of G.seen core.old) (moment_of G.seen core.new)
+        (λ events. OnAnswered result (G.moves (guest_of core.old) events (guest_of core.new)))
+        (λ events. (before : LedgerState) → enter before ≡ core.old.ledger
+        → CoreCall G.leaves (export_callee core.old.component export.now) core.old.fuel params.now (moment_of G.seen core.old) (moment_of G.seen core.new) before core.new.ledger result events) }
+    ensures late { IfErr result IsLate }
+    ensures count { IfOk result (λ vals. length vals.items ≡ member_count (export_callee core.old.component export.now).results) }
+    ensures same { SameButHandles core.old core.new }
 {
     match lower_params(alloc, core, export, params) {
         Ok(words) => run(alloc, core, export, &words),
@@ -98,11 +105,10 @@ fn lower_params<T, G: Guest>(
 ) -> Result<Vec<ValRaw>, Error>
     requires inside { IsInside core.old.component export.now }
     requires params { length params.now ≡ member_count (export_callee core.old.component export.now).params }
-    requires callable { IsCallable (export_callee core.old.component export.now) }
     ensures lowered { Adding (moment_of G.seen core.old) (moment_of G.seen core.new)
         (λ events. OnAnswered result (G.moves (guest_of core.old) events (guest_of core.new)))
-        (λ events. LoweredArgs (export_callee core.old.component export.now) params.now (moment_of G.seen core.old) (moment_of G.seen core.new) result events) }
-    ensures same { core.new ≡ record core.old { guest = core.new.guest; memory = core.new.memory } }
+        (λ events. LoweredArgs (export_callee core.old.component export.now) params.now (moment_of G.seen core.old) (moment_of G.seen core.new) core.old.ledger core.new.ledger result events) }
+    ensures same { SameButHandles core.old core.new }
 {
     let types = core.component().types.types();
     let tuple = types.func(export.ty).params;
@@ -123,17 +129,9 @@ fn lower_into<T, G: Guest>(
 ) -> Result<(), Fault>
     requires inside { IsInside core.old.component export.now }
     requires tuple { HasTuple (types_of core.old) tuple }
-    requires built { AreBuilt (tuple_members (types_of core.old) tuple) }
     requires params { length params.now ≡ member_count (tuple_members (types_of core.old) tuple) }
     requires words { length words.old ≡ words_within max_params (tuple_members (types_of core.old) tuple) }
-    ensures lowered { (handles : List ℕ) × LowersParams (moment_of G.seen core.old) (moment_of G.seen core.new) (encoding_by core.old export.now.options)
-        (tuple_members (types_of core.old) tuple) (HaveTrees (tuple_members (types_of core.old) tuple) params.now) words.new handles (ending_of result) }
-    ensures unheld { IfErr result (λ f. ledger_fault f ≡ None) }
-    ensures cause { IfErr result (BlamesMembers (encoding_by core.old export.now.options) (tuple_members (types_of core.old) tuple) params.now) }
-    ensures small { OnOk result (AreSmall (encoding_by core.old export.now.options) (tuple_members (types_of core.old) tuple) params.now) }
-    ensures quiet { members_flat (tuple_members (types_of core.old) tuple) ≤ max_params → Quiet (have_block (tuple_members (types_of core.old) tuple)) (core.new ≡ core.old) result }
-    ensures moves { Moves G.seen G.moves (guest_of core.old) (guest_of core.new) (ending_of result) }
-    ensures same { core.new ≡ record core.old { guest = core.new.guest; memory = core.new.memory } }
+    ensures lowers { LowersFor G.seen G.moves core.old core.new export.now.options tuple params.now words.new result }
 {
     let mut cx = LowerContext::new(core, export.options);
     lower_args(&mut cx, params, tuple, words)
@@ -160,11 +158,10 @@ fn run<T, G: Guest>(
     words: &[ValRaw],
 ) -> Result<Vec<Val>, Error>
     requires inside { IsInside core.old.component export.now }
-    requires callable { IsCallable (export_callee core.old.component export.now) }
     ensures did { Proceeds (moment_of G.seen core.old) (moment_of G.seen core.new)
         (λ events. OnAnswered result (G.moves (guest_of core.old) events (guest_of core.new)))
-        (λ events. IsRest G.leaves (export_callee core.old.component export.now) core.old.fuel words.now (moment_of G.seen core.old) (moment_of G.seen core.new) result events) }
-    ensures same { core.new ≡ record core.old { guest = core.new.guest; memory = core.new.memory } }
+        (λ events. IsRest G.leaves (export_callee core.old.component export.now) core.old.fuel words.now (moment_of G.seen core.old) (moment_of G.seen core.new) core.old.ledger core.new.ledger result events) }
+    ensures same { SameButHandles core.old core.new }
 {
     match start(core, export.func, words) {
         Ok(returned) => conclude(alloc, core, export, returned.as_slice()),
@@ -177,7 +174,7 @@ fn start<T, G: Guest>(core: &mut Core<T, G>, func: u32, words: &[ValRaw]) -> Res
     ensures did { Proceeds (moment_of G.seen core.old) (moment_of G.seen core.new)
         (λ events. OnAnswered result (G.moves (guest_of core.old) events (guest_of core.new)))
         (λ events. Started func words.now (moment_of G.seen core.old) (moment_of G.seen core.new) result events) }
-    ensures same { core.new ≡ record core.old { guest = core.new.guest; memory = core.new.memory } }
+    ensures same { SameBut core.old core.new }
 {
     match core.start(func, words) {
         Ok(Step::Return(words)) => Ok(words),
@@ -187,7 +184,7 @@ fn start<T, G: Guest>(core: &mut Core<T, G>, func: u32, words: &[ValRaw]) -> Res
     }
 }
 
-/// Lifts the results from the words that the guest returned, and then tells it that they were read.
+/// Ends the scope, lifts the results from the words that the guest returned, tells it that they were read, and leaves the scope.
 fn conclude<T, G: Guest>(
     alloc: Global,
     core: &mut Core<T, G>,
@@ -195,23 +192,25 @@ fn conclude<T, G: Guest>(
     words: &[ValRaw],
 ) -> Result<Vec<Val>, Error>
     requires inside { IsInside core.old.component export.now }
-    requires callable { IsCallable (export_callee core.old.component export.now) }
     ensures did { Proceeds (moment_of G.seen core.old) (moment_of G.seen core.new)
         (λ events. OnAnswered result (G.moves (guest_of core.old) events (guest_of core.new)))
-        (λ events. Concluded G.leaves (export_callee core.old.component export.now) core.old.fuel words.now (moment_of G.seen core.old) (moment_of G.seen core.new) result events) }
-    ensures same { core.new ≡ record core.old { guest = core.new.guest; memory = core.new.memory } }
+        (λ events. Concluded G.leaves (export_callee core.old.component export.now) core.old.fuel words.now (moment_of G.seen core.old) (moment_of G.seen core.new) core.old.ledger core.new.ledger result events) }
+    ensures same { SameButHandles core.old core.new }
 {
     let values = match lift_returned(alloc, core, export, words) {
         Ok(values) => values,
         Err(error) => return Err(error),
     };
     match post_return(core, export, words) {
-        Ok(()) => Ok(values),
+        Ok(()) => {
+            core.leave();
+            Ok(values)
+        }
         Err(error) => Err(error),
     }
 }
 
-/// The values of the words that the guest returned. The core's fuel bounds their cost.
+/// The values of the words that the guest returned, whose number is tested before the scope ends. The core's fuel bounds their cost.
 fn lift_returned<T, G: Guest>(
     alloc: Global,
     core: &mut Core<T, G>,
@@ -219,20 +218,40 @@ fn lift_returned<T, G: Guest>(
     words: &[ValRaw],
 ) -> Result<Vec<Val>, Error>
     requires inside { IsInside core.old.component export.now }
-    requires callable { IsCallable (export_callee core.old.component export.now) }
-    ensures lifted { Lifted (export_callee core.old.component export.now) core.old.fuel words.now core.old.memory result }
-    ensures same { core.new ≡ core.old }
+    ensures lifted { Lifted (export_callee core.old.component export.now) core.old.fuel words.now core.old.memory core.old.ledger core.new.ledger result }
+    ensures same { SameButLedger core.old core.new }
 {
     let types = core.component().types.types();
+    types.laws();
     let tuple = types.func(export.ty).results;
     if words.len() != word_count(types, tuple, MAX_FLAT_RESULTS) {
         return Err(Error::WrongWords);
     }
-    let mut cx = LiftContext::new(core, export.options);
-    match lift_results(alloc, &mut cx, tuple, words) {
+    if let Err(fault) = core.validate_scope_exit() {
+        return Err(Error::Fault(Fault::Resource(fault)));
+    }
+    match lift_ended(alloc, core, export, tuple, words) {
         Ok(values) => Ok(values),
         Err(fault) => Err(Error::Fault(fault)),
     }
+}
+
+/// The same once the scope has ended, of as many words as the results take, whose types are those of the tuple.
+fn lift_ended<T, G: Guest>(
+    alloc: Global,
+    core: &mut Core<T, G>,
+    export: &Export,
+    tuple: TypeTupleIndex,
+    words: &[ValRaw],
+) -> Result<Vec<Val>, Fault>
+    requires inside { IsInside core.old.component export.now }
+    requires tuple { HasTuple (types_of core.old) tuple }
+    requires words { length words.now ≡ words_within max_results (tuple_members (types_of core.old) tuple) }
+    ensures lifts { LiftsIn (origin_in core.old export.now.options) words.now (tuple_members (types_of core.old) tuple) core.old.ledger core.old.fuel result core.new.ledger }
+    ensures same { SameButLedger core.old core.new }
+{
+    let mut cx = LiftContext::new(core, export.options);
+    lift_results(alloc, &mut cx, tuple, words)
 }
 
 /// Tells the guest that its words were read, where the options name a function for it.
@@ -245,7 +264,7 @@ fn post_return<T, G: Guest>(
     ensures did { Proceeds (moment_of G.seen core.old) (moment_of G.seen core.new)
         (λ events. OnAnswered result (G.moves (guest_of core.old) events (guest_of core.new)))
         (λ events. Posted G.leaves (export_callee core.old.component export.now) words.now (moment_of G.seen core.old) (moment_of G.seen core.new) result events) }
-    ensures same { core.new ≡ record core.old { guest = core.new.guest; memory = core.new.memory } }
+    ensures same { SameBut core.old core.new }
 {
     let Some(func) = options_of(core.component(), export).post_return else {
         return Ok(());

@@ -1,6 +1,6 @@
 -- Each call of the ledger keeps what holds of it.
 use Rattle.std.proofs.Common.{◌≡◌, ℕ, zero, suc, ◌<◌, ◌≤◌, Bool, true, false, not, ◌==◌, cond, if◌then◌else◌, List, [], ◌∷◌, ◌++◌, length, map, replicate, Option, Some, None, Result, Ok, Err, refl, sym, ap, subst, ◌∙◌, arith, IfOk, OnOk, is_err, inl, inr}
-use Rattle.std.proofs.lemmas.List.{length-set}
+use Rattle.std.proofs.lemmas.List.{length-replicate, length-set}
 use Rattle.std.proofs.lemmas.Bool.{lt-ltb}
 use Rattle.canon_handles.specs.declared.handle.Scope.TheVariants.{Id}
 use Rattle.canon_handles.specs.declared.handle.RemovedResource.{RemovedResource}
@@ -11,21 +11,21 @@ use Rattle.canon_handles.specs.declared.handle.TypedResourceIndex.{TypedResource
 use Rattle.canon_handles.specs.declared.handle.Entry.{Entry}
 use Rattle.canon_handles.specs.declared.handle.Entry.TheVariants.{ResourceOwn, ResourceBorrow}
 use Rattle.canon_handles.specs.Step.{refuse_if}
-use Rattle.canon_handles.specs.Table.{Table, Counter, TableState, entry_at}
+use Rattle.canon_handles.specs.Table.{Table, Counter, TableState, empty_table, entry_at, max_handle}
 use Rattle.canon_handles.specs.Calls.{raw_index, resource_undo_lend, is_own}
 use Rattle.canon_handles.proofs.TableLemmas.{fresh}
 use Rattle.canon_ledger.specs.declared.fault.ResourceFault.{ResourceFault}
 use Rattle.canon_ledger.specs.declared.fault.ResourceFault.TheVariants as fault
 use Rattle.canon_ledger.specs.Handles as handles
 use Rattle.canon_ledger.specs.Handles.{Handles, Lender, StepAnswer, IsConsistent, Takes, TakesSurely, table_at, with_table, finished, on_table, dropped, lifted_own, lent, removing_resource, inserting_borrow, lending, borrow_added, undone, give_back, exit_scope, opened, lift_borrow_in, lower_borrow_in, scope_at, with_scope, no_scope, number_of, host_table, one_borrow_more}
-use Rattle.canon_ledger.specs.Ledger.{LedgerState, HostIndexes, IsHostSound, Done, Did, New, Drop, LiftOwn, LiftBorrow, LowerBorrow, ExitScope, HostLowerOwn, plainly, inserting, removing, with_slot}
+use Rattle.canon_ledger.specs.Ledger.{LedgerState, HostIndexes, IsHostSound, Done, Did, New, Drop, LiftOwn, LiftBorrow, LowerBorrow, ExitScope, HostLowerOwn, new_ledger, plainly, inserting, removing, with_slot}
 use Rattle.canon_ledger.specs.Ledger as ledger
-use Rattle.canon_ledger.specs.Books.{Holds, DidSurely, written_at, raised_at, is_spent}
+use Rattle.canon_ledger.specs.Books.{Context, Holds, DidSurely, ledger_of, written_at, raised_at, is_spent}
 use Rattle.canon_ledger.specs.Places.{SamePlaces}
 use Rattle.canon_ledger.proofs.StepLemmas.{if_ok-refuse, if_ok-then, if_ok_always}
 use Rattle.canon_ledger.proofs.HandlesLemmas.{if_ok-finished, if_ok-insert}
 use Rattle.canon_ledger.proofs.LedgerLemmas.{sound-step, after-plainly, after-inserting, after-removing}
-use Rattle.canon_ledger.proofs.HostLemmas.{host-step}
+use Rattle.canon_ledger.proofs.HostLemmas.{host-step, new_sound}
 use Rattle.canon_ledger.proofs.DidLemmas.{did_plainly, did_surely, did_inserting, did_inserting_host, did_removing}
 
 -- The numbers of tables and of open scopes stay
@@ -298,3 +298,13 @@ module _ (l : LedgerState) (p rep i : ℕ) (m : Handles) (h : Holds l) (is_host 
       let is : ◌≡◌ {A = LedgerState} (record { handles = m; host = host }) (ledger.host_resource_lower_own l rep dtor instance).after = (did_inserting_host (handles.resource_new l.handles host_table (Host rep)) l i m host instance dtor at_host w).1 in
       subst Holds (sym is)
       (holds l _ h (sound-step (HostLowerOwn rep dtor instance) l h.sound) (host-step (HostLowerOwn rep dtor instance) l h.sound h.host) (stays_new l host_table instance dtor (Host rep)))
+
+-- A new ledger
+
+pub new_holds : (tables : List (TableState Entry)) (counter : Counter) (scopes : List Context) (host : HostIndexes) (limit : ℕ) → map (λ (s : TableState Entry). s.table) tables ≡ replicate 257 (empty_table max_handle)
+    → counter ≡ record { live = 0; limit = limit } → scopes ≡ [] → host.slots ≡ None ∷ [] → Holds (ledger_of tables counter scopes host)
+new_holds tables counter scopes host limit empty fresh none first =
+    let is : ledger_of tables counter scopes host ≡ new_ledger 256 limit host.generation =
+    λ i. record { handles = record { tables = empty i; counter = fresh i; scopes = map (λ (x : Context). x.scope) (none i) }; host = record { slots = first i; generation = host.generation } } in
+    let both = new_sound 256 limit host.generation in
+    subst Holds (sym is) (record { sound = both.0; host = both.1; tables = length-replicate 257 (empty_table {E = Entry} max_handle) })

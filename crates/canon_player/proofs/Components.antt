@@ -5,6 +5,7 @@ use Rattle.std.proofs.Math.ListN.{drop_of_length-le}
 use Rattle.std.proofs.lemmas.Option.{get_or_from_slice_get, slice_get_cases, slice_get_within}
 use Rattle.canon_indices.specs.declared.options.CanonicalOptions.{CanonicalOptions}
 use Rattle.canon_indices.specs.declared.options.StringEncoding.{StringEncoding}
+use Rattle.canon_types.specs.Instance.{Instance}
 use Rattle.canon_types.specs.Table.{Table}
 use Rattle.canon_context.specs.Component.{IsInside, IsComponent}
 use Rattle.canon_context.specs.declared.component.Component.{Component}
@@ -62,7 +63,7 @@ module _ (t : Table) (encoding : StringEncoding) (posts : List Bool) (c : Compon
       let inside : k < length posts = omega (arith, lt, export_count) in
       let e : slice_index_or c.exports.items k d ≡ export_for k = get_or_from_slice_get c.exports.items k (export_for k) d (export_at k inside) in
       let count : length c.options.items ≡ length posts = ap length h.options ∙ options_len t encoding 0 posts in
-      let funcs : length c.types.types.funcs ≡ length t.funcs = ap (λ (u : Table). length u.funcs) h.table in
+      let funcs : length c.types.types.funcs ≡ length t.funcs = ap (λ (u : Instance). length u.types.funcs) h.types in
       subst (IsInside c) (sym e) (record { func = omega (arith, inside, told, funcs); options = omega (arith, inside, count) })
 
 -- an export of the component is the function of the script
@@ -75,4 +76,4 @@ scripted_callee play c h told i lt =
     let (p, post) = found play.posts i inside in
     let export = export_at play.types play.encoding play.posts c h i inside in
     let options : slice_get c.options.items i ≡ Some (options_for play.types play.encoding i p) = ap (λ os. slice_get os i) h.options ∙ (options_at play.types play.encoding 0 play.posts i p post ∙ ap (λ n. Some (options_for play.types play.encoding n p)) e) in
-    simp (export, h.table, options, func, post)
+    simp (export, h.types, options, func, post)

@@ -5,6 +5,7 @@ use Rattle.std.specs.Vec.{with_items}
 use Rattle.std.specs.declared.alloc.Global.{Global}
 use Rattle.std.proofs.lemmas.List.{length-map, with_items_is}
 use Rattle.std.proofs.lemmas.Option.{none-some}
+use Rattle.canon_ledger.specs.Ledger.{LedgerState}
 use Rattle.canon_memory.specs.declared.event.Event.{Event}
 use Rattle.canon_memory.specs.Guest.{Moment, Recorded, Seen, of_guest}
 use Rattle.canon_scripted.specs.Scripted.{CarriesOut, Doing, ScriptMoves, seen_of, traps_after}
@@ -87,10 +88,10 @@ on_answered (Err (error.Fault f)) P n p = by f n p
     by fault.HostcallFuelExhausted n p = p
 
 -- the same call, with its results said another way
-recalled : (callee : Callee) (fuel : ℕ) (params : List Val) (before after : Moment) (called : Result (Unit {0}) Error) (results others : List Val) (events : List Event) →
-    OnOk called (others ≡ results) → IsCall LeavesSame callee fuel params before after called results events → IsCall LeavesSame callee fuel params before after called others events
-recalled callee fuel params before after (Ok x) results others events e h = subst (λ (vs : List Val). IsCall LeavesSame callee fuel params before after (Ok x) vs events) (sym e) h
-recalled callee fuel params before after (Err x) results others events e h = record {
+recalled : (callee : Callee) (fuel : ℕ) (params : List Val) (before after : Moment) (l l2 : LedgerState) (called : Result (Unit {0}) Error) (results others : List Val) (events : List Event) →
+    OnOk called (others ≡ results) → IsCall LeavesSame callee fuel params before after l l2 called results events → IsCall LeavesSame callee fuel params before after l l2 called others events
+recalled callee fuel params before after l l2 (Ok x) results others events e h = subst (λ (vs : List Val). IsCall LeavesSame callee fuel params before after l l2 (Ok x) vs events) (sym e) h
+recalled callee fuel params before after l l2 (Err x) results others events e h = record {
   one_run = h.one_run;
   prefix = h.prefix;
   no_resume = h.no_resume;
@@ -106,6 +107,8 @@ recalled callee fuel params before after (Err x) results others events e h = rec
   requested = h.requested;
   quiet = h.quiet;
   posted = h.posted;
+  given = h.given;
+  handles = h.handles;
   start = h.start;
   only_results = tt;
   leaves = tt;
@@ -125,7 +128,7 @@ journaled j = record (seen_of j.guest) { journal = Some j.events; shortages = j.
 abbrev pub Entered : Callee → List Val → ScriptStore → ScriptStore → Result (Unit {0}) Error → List Val → Type 0
 Entered callee params loaded left called results = Adding (moment_of journaled loaded.core) (moment_of journaled left.core)
     (λ events. OnAnswered called (ScriptMoves (of_guest (guest_of loaded.core)) events (of_guest (guest_of left.core))))
-    (λ events. IsCall LeavesSame callee loaded.core.fuel params (moment_of journaled loaded.core) (moment_of journaled left.core) called results events)
+    (λ events. IsCall LeavesSame callee loaded.core.fuel params (moment_of journaled loaded.core) (moment_of journaled left.core) loaded.core.ledger left.core.ledger called results events)
 
 module _ (callee : Callee) (call : ScriptCall) (r : Record) (s left : ScriptStore) (params results : List Val) (called : Result (Unit {0}) Error)
     (empty : s.core.guest.events ≡ []) (events : r.events ≡ left.core.guest.events)
@@ -142,19 +145,19 @@ module _ (callee : Callee) (call : ScriptCall) (r : Record) (s left : ScriptStor
       let fuel = s.core.fuel in
       let gained : left.core.guest.events ≡ s.core.guest.events ++ entered.events = ap (λ o. unwrap_or o []) entered.added in
       let all : r.events ≡ entered.events = events ∙ (gained ∙ ap (λ (es : List Event). es ++ entered.events) empty) in
-      let one : IsCall LeavesSame callee fuel params (session.moment_of before []) (session.moment_of after left.core.guest.events) called results entered.events =
-      subst (λ (es : List Event). IsCall LeavesSame callee fuel params (session.moment_of before es) (session.moment_of after left.core.guest.events) called results entered.events) empty entered.so in
-      let two : IsCall LeavesSame callee fuel params (session.moment_of before []) (session.moment_of after r.events) called results entered.events =
-      subst (λ (es : List Event). IsCall LeavesSame callee fuel params (session.moment_of before []) (session.moment_of after es) called results entered.events) (sym events) one in
-      let three : IsCall LeavesSame callee fuel params (session.moment_of before []) (session.moment_of after r.events) called results r.events =
-      subst (λ (es : List Event). IsCall LeavesSame callee fuel params (session.moment_of before []) (session.moment_of after r.events) called results es) (sym all) two in
-      let four : IsCall LeavesSame callee fuel params (session.moment_of before []) (session.moment_of after r.events) called (answer_values r.answer) r.events =
-      recalled callee fuel params (session.moment_of before []) (session.moment_of after r.events) called results (answer_values r.answer) r.events vals three in
+      let one : IsCall LeavesSame callee fuel params (session.moment_of before []) (session.moment_of after left.core.guest.events) before.ledger after.ledger called results entered.events =
+      subst (λ (es : List Event). IsCall LeavesSame callee fuel params (session.moment_of before es) (session.moment_of after left.core.guest.events) before.ledger after.ledger called results entered.events) empty entered.so in
+      let two : IsCall LeavesSame callee fuel params (session.moment_of before []) (session.moment_of after r.events) before.ledger after.ledger called results entered.events =
+      subst (λ (es : List Event). IsCall LeavesSame callee fuel params (session.moment_of before []) (session.moment_of after es) before.ledger after.ledger called results entered.events) (sym events) one in
+      let three : IsCall LeavesSame callee fuel params (session.moment_of before []) (session.moment_of after r.events) before.ledger after.ledger called results r.events =
+      subst (λ (es : List Event). IsCall LeavesSame callee fuel params (session.moment_of before []) (session.moment_of after r.events) before.ledger after.ledger called results es) (sym all) two in
+      let four : IsCall LeavesSame callee fuel params (session.moment_of before []) (session.moment_of after r.events) before.ledger after.ledger called (answer_values r.answer) r.events =
+      recalled callee fuel params (session.moment_of before []) (session.moment_of after r.events) before.ledger after.ledger called results (answer_values r.answer) r.events vals three in
       let moved : ScriptMoves (of_guest (guest_of loaded.core)) entered.events (of_guest (guest_of left.core)) = on_answered called _ short (entered.moves refl) in
       record {
         params = params;
         params_are = their;
-        called = subst (λ (a : Result (Unit {0}) Error). IsCall LeavesSame callee fuel params (session.moment_of before []) (session.moment_of after r.events) a (answer_values r.answer) r.events) (sym out) four;
+        called = subst (λ (a : Result (Unit {0}) Error). IsCall LeavesSame callee fuel params (session.moment_of before []) (session.moment_of after r.events) before.ledger after.ledger a (answer_values r.answer) r.events) (sym out) four;
         left = left.core.guest.guest.plan;
         new_marks = moved.new_marks;
         does = subst (λ (es : List Event). CarriesOut (plan_of call before.allocator) (length before.memory) es moved.new_marks left.core.guest.guest.plan (length after.memory)) (sym all) moved.does;
@@ -182,7 +185,7 @@ module _ (callee : Callee) (call : ScriptCall) (r : Record) (s left : ScriptStor
   happened (Err (error.UnknownImport n)) h why same entered runs traps = was_called (sym why) (entered refl) runs (traps refl)
   happened (Err (error.Fault f)) h why same entered runs traps = was_called (sym why) (entered refl) runs (traps refl)
 
-  played : (before : ScriptStore) (count : ℕ) → r.head ≡ head.Call call.func → r.live ≡ 0 → before ≡ loaded → count ≡ call.slots
+  played : (before : ScriptStore) (count : ℕ) → r.head ≡ head.Call call.func → r.live ≡ left.core.ledger.handles.counter.live → before ≡ loaded → count ≡ call.slots
       → refused_by called ≡ refusal callee (length params) count before.trapped → IfSome (refused_by called) (λ e. left ≡ before)
       → (IsNone (refused_by called) → Entered callee params before left called results) → OnOk called (left.trapped ≡ before.trapped) → (IsNone (refused_by called) → OnErr called (left.trapped ≡ true))
       → IsPlayed callee s.core.fuel call (state_of s) (state_of left) r
@@ -224,7 +227,7 @@ module _ (call : ScriptCall) (r : Record) (s before left final : ScriptStore) (f
       → literals_view params ≡ call.params → length slots.items ≡ call.slots
       → refused_by called ≡ refusal (callee_of before f) (length params) (length slots.items) before.trapped → IfSome (refused_by called) (λ e. left ≡ before)
       → (IsNone (refused_by called) → Entered (callee_of before f) params before left called results) → OnOk called (left.trapped ≡ before.trapped) → (IsNone (refused_by called) → OnErr called (left.trapped ≡ true))
-      → r.head ≡ head.Call call.func → r.live ≡ 0 → r.events ≡ left.core.guest.events → outcome r.answer ≡ called
+      → r.head ≡ head.Call call.func → r.live ≡ left.core.ledger.handles.counter.live → r.events ≡ left.core.guest.events → outcome r.answer ≡ called
       → length results ≡ slots.len → OnOk called (answer_values r.answer ≡ (with_items slots results).items) → called ≢ Err (error.Fault fault.OutOfMemory)
       → IsPlayed (callee_at s.core.component call.func) s.core.fuel call (state_of s) (state_of final) r
   record_is empty is export end their count why same entered runs traps hd lv events out many vals short =

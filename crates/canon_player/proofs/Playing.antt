@@ -1,18 +1,16 @@
 -- The records of calls, one after another.
 use Rattle.std.proofs.Common.{◌≡◌, ◌∙◌, ◌++◌, ℕ, All, Bool, List, [], ◌∷◌, append-nil, append_assoc, arith, map, refl, subst, sym}
 use Rattle.std.proofs.lemmas.List.Elements.{All-tail}
-use Rattle.std.specs.Prelude.{Some, slice_get, slice_index_or}
-use Rattle.std.proofs.lemmas.Option.{get_or_from_slice_get}
+use Rattle.std.specs.Prelude.{slice_index_or}
 use Rattle.canon_types.specs.Table.{HasFunc}
-use Rattle.canon_types.specs.declared.types.TypeFunc.{TypeFunc}
 use Rattle.canon_context.specs.declared.component.Component.{Component}
-use Rattle.canon_func.specs.Stores.{Callee, IsCallable}
-use Rattle.canon_script.specs.Script.{ScriptCall, IsBuiltFunc, IsWellFormed, Play, item_view}
+use Rattle.canon_func.specs.Stores.{Callee}
+use Rattle.canon_script.specs.Script.{ScriptCall, IsWellFormed, Play, item_view}
 use Rattle.canon_script.specs.declared.script.Item.{Item}
 use Rattle.canon_transcript.specs.declared.transcript.Record.{Record}
 use Rattle.canon_player.specs.Session.{IsPlayed, Plays, Session, State, at_first, played_callee}
 use Rattle.canon_player.specs.Stores.{IsPlayable, IsScripted, ScriptStore, callee_at, fresh_store, state_of}
-use Rattle.canon_player.proofs.Components.{export_count, found, scripted_callee}
+use Rattle.canon_player.proofs.Components.{export_count, scripted_callee}
 
 -- ---- on one store
 
@@ -84,20 +82,12 @@ module _ (play : Play) (c : Component) (store : ScriptStore) (posts : List Bool)
   session : (s : State) (records : List Record) → Plays (callee_at c) play.fuel play.calls s records → Plays (played_callee play) play.fuel play.calls s records
   session s records p = plays_same (callee_at c) (played_callee play) play.fuel play.calls s records (λ k d lt. known (slice_index_or play.calls k d) (sound.calls_known k d lt)) p
 
-  built : (i : ℕ) (f : TypeFunc) → slice_get play.types.funcs i ≡ Some f → HasFunc play.types i → IsBuiltFunc play.types f
-  built i f e there = subst (IsBuiltFunc play.types) (get_or_from_slice_get play.types.funcs i f f e) (sound.funcs_built i f there)
-
   playable : All (IsPlayable c) play.calls
   playable k d lt =
       let call = slice_index_or play.calls k d in
       let there : HasFunc play.types call.func = sound.calls_known k d lt in
-      let (f, func) = found play.types.funcs call.func there in
-      let b : IsBuiltFunc play.types f = built call.func f func there in
-      let it = known call there in
-      let can : IsCallable (played_callee play call.func) = rw func (record { params = b.params; results = b.results }) in
       record {
         export = omega (arith, there, sound.posts_told, export_count play.types play.encoding play.posts c h);
-        callee = subst IsCallable (sym it) can;
         orders = sound.orders_narrow k d lt;
       }
 

@@ -2,12 +2,14 @@
 use Rattle.std.specs.Prelude.{Bool, Err, List, None, Ok, Option, Result, Some, [], false, if◌then◌else◌, is_err, length, replicate, slice_get, ℕ, ⊤, ◌++◌, ◌∷◌, ◌≡◌, ◌≢◌}
 use Rattle.canon_model.specs.Shape.{no_members}
 use Rattle.canon_indices.specs.Options.{encoding_of}
+use Rattle.canon_types.specs.Instance.{Instance}
 use Rattle.canon_types.specs.Table.{param_members, result_members}
 use Rattle.canon_types.specs.declared.types.TypeFunc.{TypeFunc}
 use Rattle.canon_memory.specs.declared.event.Event.{Event}
 use Rattle.canon_memory.specs.Guest.{Mark, Moment, moment}
 use Rattle.canon_scripted.specs.Allocator.{Allocator}
 use Rattle.canon_scripted.specs.Scripted.{CarriesOut, Plan, traps_after}
+use Rattle.canon_ledger.specs.Ledger.{LedgerState, new_ledger}
 use Rattle.canon_context.specs.declared.fault.Fault.TheVariants as fault
 use Rattle.canon_value.specs.declared.val.Val.{Val}
 use Rattle.canon_func.specs.Call.{IsCall, refusal}
@@ -28,10 +30,15 @@ abbrev pub post_of : ℕ → Option Bool → Option ℕ
 post_of i None = None
 post_of i (Some has_post) = if has_post then Some i else None
 
+-- its types, in the store of this number
+abbrev pub instance_of : Play → Instance
+instance_of play = record { types = play.types; store = 0 }
+
 abbrev pub callee_with : Play → ℕ → Option TypeFunc → Callee
-callee_with play i None = record { func = i; params = no_members; results = no_members; encoding = encoding_of play.encoding; post = None; async_ = false }
+callee_with play i None = record { func = i; types = instance_of play; params = no_members; results = no_members; encoding = encoding_of play.encoding; post = None; async_ = false }
 callee_with play i (Some f) = record {
   func = i;
+  types = instance_of play;
   params = param_members play.types f;
   results = result_members play.types f;
   encoding = encoding_of play.encoding;
@@ -45,21 +52,24 @@ played_callee play i = callee_with play i (slice_get play.types.funcs i)
 
 -- ---- the store between two calls
 
--- Whether it is trapped, its memory, and of its guest the allocator, a mark for each answer of `realloc` so far, and how often
--- it trapped and answered want of memory. Want of memory alone is caused by the last count, and leaves no record.
+-- Whether it is trapped, its memory, the ledger of its handles, and of its guest the allocator, a mark for each answer of `realloc`
+-- so far, and how often it trapped and answered want of memory. Want of memory alone is caused by the last count, and leaves no
+-- record.
 pub record State : Type 0 where
   pub trapped : Bool
   pub memory : List ℕ
+  pub ledger : LedgerState
   pub allocator : Allocator
   pub marks : List Mark
   pub traps : ℕ
   pub shortages : ℕ
 
--- at first memory is zeros, and the allocator begins at `heap`
+-- at first memory is zeros, no handle lives, of which there may be 1,000,000, and the allocator begins at `heap`
 abbrev pub at_first : Play → State
 at_first play = record {
   trapped = false;
   memory = replicate play.memory 0;
+  ledger = new_ledger 256 1000000 0;
   allocator = record { top = play.heap; live = [] };
   marks = [];
   traps = 0;
@@ -96,7 +106,7 @@ LeavesSame memory after = after ≡ memory
 pub record WasCalled (callee : Callee) (fuel : ℕ) (call : ScriptCall) (before after : State) (r : Record) : Type 0 where
   pub params : List Val
   pub params_are : literals_view params ≡ call.params
-  pub called : IsCall LeavesSame callee fuel params (moment_of before []) (moment_of after r.events) (outcome r.answer) (answer_values r.answer) r.events
+  pub called : IsCall LeavesSame callee fuel params (moment_of before []) (moment_of after r.events) before.ledger after.ledger (outcome r.answer) (answer_values r.answer) r.events
   pub left : Plan
   pub new_marks : List Mark
   pub does : CarriesOut (plan_of call before.allocator) (length before.memory) r.events new_marks left (length after.memory)
@@ -111,11 +121,11 @@ abbrev pub Happened : Callee → ℕ → ScriptCall → State → State → Reco
 Happened callee fuel call before after r (Some e) = (r.answer ≡ answer.Err e) × (r.events ≡ []) × (after ≡ before)
 Happened callee fuel call before after r None = WasCalled callee fuel call before after r
 
--- The record of a call of this callee with this fuel, and the store before and after it. No handle lives.
+-- The record of a call of this callee with this fuel, and the store before and after it: with how many handles live after it.
 pub record IsPlayed (callee : Callee) (fuel : ℕ) (call : ScriptCall) (before after : State) (r : Record) : Type 0 where
   pub head : r.head ≡ head.Call call.func
   pub happened : Happened callee fuel call before after r (refusal callee (length call.params) call.slots before.trapped)
-  pub live : r.live ≡ 0
+  pub live : r.live ≡ after.ledger.handles.counter.live
 
 -- ---- all calls
 

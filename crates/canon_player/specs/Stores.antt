@@ -9,7 +9,7 @@ use Rattle.canon_scripted.specs.Orders.{AreNarrow}
 use Rattle.canon_scripted.specs.Scripted.{Doing, Plan}
 use Rattle.canon_context.specs.declared.component.Component.{Component}
 use Rattle.canon_context.specs.declared.component.Export.{Export}
-use Rattle.canon_func.specs.Stores.{Callee, IsCallable, StoreView, callee_in}
+use Rattle.canon_func.specs.Stores.{Callee, StoreView, callee_in}
 use Rattle.canon_ledger.specs.Ledger.{new_ledger}
 use Rattle.canon_script.specs.Script.{ScriptCall}
 use Rattle.canon_player.specs.Session.{State, post_of}
@@ -39,7 +39,7 @@ exports_from i (has_post ∷ posts) = export_for i ∷ exports_from (i + 1) post
 
 -- one export for each function of the table, each with its own options
 pub record IsScripted (t : Table) (encoding : StringEncoding) (posts : List Bool) (component : Component) : Type 0 where
-  pub table : component.types.types ≡ t
+  pub types : component.types ≡ record { types = t; store = 0 }
   pub options : component.options.items ≡ options_from t encoding 0 posts
   pub exports : component.exports.items ≡ exports_from 0 posts
 
@@ -47,10 +47,9 @@ pub record IsScripted (t : Table) (encoding : StringEncoding) (posts : List Bool
 abbrev pub callee_at : Component → ℕ → Callee
 callee_at component i = callee_in component (slice_get component.exports.items i)
 
--- The call is one of a function that can be called so far; each ordered answer is below 2 ^ 32.
+-- The call is one of a function that there is; each ordered answer is below 2 ^ 32.
 pub record IsPlayable (component : Component) (call : ScriptCall) : Type 0 where
   pub export : call.func < length component.exports.items
-  pub callee : IsCallable (callee_at component call.func)
   pub orders : AreNarrow call.reallocs
 
 -- ---- its state
@@ -86,6 +85,7 @@ abbrev pub state_of : ScriptStore → State
 state_of s = record {
   trapped = s.trapped;
   memory = s.core.memory;
+  ledger = s.core.ledger;
   allocator = s.core.guest.guest.plan.allocator;
   marks = s.core.guest.guest.marks;
   traps = s.core.guest.guest.traps;

@@ -88,13 +88,14 @@ fn play_call(alloc: Global, store: &mut ScriptStore, call: CallItem) -> Result<R
     scripted.load(guest, reallocs, post_trap, false);
     let f = store.func(ExportIndex::from_u32(func)).unwrap();
     let called = f.call(alloc, store, &params, &mut results);
+    let live = store.live_handles();
     let events = store.core_mut().guest_mut().take_journal();
     let answer = answer_of(called, results)?;
     Ok(Record {
         head: Head::Call(func),
         events,
         answer,
-        live: 0,
+        live,
     })
 }
 

@@ -36,10 +36,15 @@ impl<T, G> Core<T, G> {
         ensures top { scope_number (scope_in result) ≡ top_scope self.old.ledger.handles }
         ensures scope_open { IsOpen (scope_in result) (ledger_in result) }
     {
-        let current_scope = self.ledger.current();
+        let Core {
+            ref component,
+            ref mut ledger,
+            ..
+        } = *self;
+        let current_scope = ledger.current();
         HostResourceTables::from_parts(ResourceTables {
-            ledger: &mut self.ledger,
-            types: KnownTypes::of(self.component.types.types()),
+            ledger,
+            types: KnownTypes::of(component.types.types()),
             current_scope,
         })
     }

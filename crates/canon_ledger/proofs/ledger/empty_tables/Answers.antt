@@ -1,4 +1,4 @@
-use Rattle.std.proofs.Common.{◌≡◌, ◌+◌, ◌∙◌, sym, ap, arith, suc, replicate, ℕ, map}
+use Rattle.std.proofs.Common.{◌≡◌, ◌+◌, ◌∙◌, sym, ap, arith, replicate, ℕ, map}
 use Rattle.canon_handles.specs.declared.handle.Entry.{Entry}
 use Rattle.canon_handles.specs.Table.{TableState, empty_table, max_handle}
 use Rattle.canon_ledger.proofs.HoldsLemmas.{one_table_more, on_ok}
@@ -22,4 +22,4 @@ loop-preserved c = record {
 }
 
 pub returns : goal.returns
-returns c = (let f = c.loop-test.false in let e : c.loop.counter ≡ suc c.args.instances = omega arith in c.loop.invariant.so_far ∙ ap (λ (n : ℕ). replicate n (empty_table {E = Entry} max_handle)) e)
+returns c = (let f = c.loop-test.false in let e : c.loop.counter ≡ 257 = omega arith in c.loop.invariant.so_far ∙ ap (λ (n : ℕ). replicate n (empty_table {E = Entry} max_handle)) e)

@@ -6,7 +6,7 @@ pub returns-clause-scripted : goal.returns-clause-scripted
 returns-clause-scripted c =
     let past : length c.args.posts.now ≤ c.loop-i.i = omega (arith, c.loop-i-test.false, c.loop-i.auto.i-end) in
     record {
-      table = c.new.ensures.types;
+      types = λ i. record { types = c.new.ensures.types i; store = c.new.ensures.store i };
       options = all_options c.loop-i.i c.args.posts.now past c.args.types c.args.encoding _ c.loop-i.invariant.options;
       exports = all_exports c.loop-i.i c.args.posts.now past _ c.loop-i.invariant.exports;
     }

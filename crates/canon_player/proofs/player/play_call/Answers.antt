@@ -20,6 +20,6 @@ returns-clause-played c =
     (taken_is left c.core_mut-2.result.now c.guest_mut-2.result.now c.take_journal-events.new.self c.core_mut-2.ensures.value c.guest_mut-2.ensures.value c.take_journal-events.ensures.left)
     (ap literals_view c.deref.ensures.value) c.in_ok-results.ensures
     (c.call-called.ensures.refused ∙ ap (λ vs. refusal (callee_of before c.unwrap-f.result) (length c.deref.result.now) (length vs) s.trapped) c.deref_mut.ensures.value)
-    c.call-called.ensures.unchanged c.call-called.ensures.call c.call-called.ensures.runs c.call-called.ensures.trapped refl refl
+    c.call-called.ensures.unchanged c.call-called.ensures.call c.call-called.ensures.runs c.call-called.ensures.trapped refl c.live_handles-live.ensures
     (c.take_journal-events.ensures.taken ∙ (ap (λ j. j.events) c.guest_mut-2.ensures.value ∙ ap (λ k. k.guest.events) c.core_mut-2.ensures.value))
     c.in_ok-answer.ensures.outcome (c.call-called.auto.results ∙ c.deref_mut.ensures.len) c.in_ok-answer.ensures.values c.in_ok-answer.ensures.memory_left

@@ -1,0 +1,73 @@
+-- What became of the handles of a call.
+use Rattle.std.proofs.Common.{Err, List, None, Ok, Option, Result, Some, [], ap, inl, inr, map, refl, subst, sym, ℕ, ◌++◌, ◌∙◌, ◌∷◌, ◌≡◌}
+use Rattle.std.proofs.lemmas.List.{append-nil}
+use Rattle.canon_ledger.specs.Ledger.{Done, LedgerState}
+use Rattle.canon_ledger.specs.declared.fault.ResourceFault.{ResourceFault}
+use Rattle.canon_leaves.proofs.Leaves.{leaf_same, leaves_stop_then}
+use Rattle.canon_leaves.proofs.Lifts.{lifts_take}
+use Rattle.canon_leaves.specs.Parts.{LeavesStop, LeavesTake, Part, Stops, Takes, do_part}
+use Rattle.canon_lowering.specs.Lowering.{Answer, events_of}
+use Rattle.canon_memory.specs.declared.event.Event.{Event}
+use Rattle.canon_memory.specs.declared.event.Event.TheVariants as event
+use Rattle.canon_resources.specs.Held.{Any}
+use Rattle.canon_func.specs.Call.{LiftsReturned, StopsLater, StopsReturned, result_parts, returned_leaves, scope_exit}
+use Rattle.canon_func.specs.Runs.{Each, IsNoPost, SomeReturn}
+use Rattle.canon_func.specs.Stores.{Callee}
+use Rattle.canon_func.proofs.Prefixes.{each_after, each_answer, each_then}
+
+-- ---- after the answers of `realloc`
+
+some_after : (P : List ℕ → List ℕ → Type 0) (xs ys : List Event) → SomeReturn P ys → SomeReturn P (xs ++ ys)
+some_after P [] ys h = h
+some_after P (event.Return ws m ∷ xs) ys h = inr (some_after P xs ys h)
+some_after P (e ∷ xs) ys h = some_after P xs ys h
+
+pub stops_after : (callee : Callee) (why : Option ResourceFault) (l m : LedgerState) (answers : List Answer) (later : List Event) → StopsLater callee why l m later → StopsLater callee why l m (events_of answers None ++ later)
+stops_after callee why l m answers later (inl (none, same, each)) = inl (none, same, each_then _ (events_of answers None) later (each_answer _ (λ c a. tt) (λ c n. tt) answers None) each)
+stops_after callee why l m answers later (inr (inl (no, some))) = inr (inl (each_then IsNoPost (events_of answers None) later (each_answer IsNoPost (λ c a. tt) (λ c n. tt) answers None) no, some_after _ (events_of answers None) later some))
+stops_after callee why l m answers later (inr (inr (none, posts, some))) = inr (inr (none, (λ no. posts (each_after IsNoPost (events_of answers None) later no)), some_after _ (events_of answers None) later some))
+
+-- ---- what is accepted isn't refused
+
+ok_same : (r : Result ℕ ResourceFault) (a b : ℕ) → r ≡ Ok a → r ≡ Ok b → a ≡ b
+ok_same r a b h g = cc
+
+ok_refused : (r : Result ℕ ResourceFault) (a : ℕ) (e : ResourceFault) → r ≡ Ok a → r ≡ Err e → ⊥
+ok_refused r a e h g = cc
+
+some_none : (e : ResourceFault) → Some e ≡ None → ⊥
+some_none e h = cc
+
+stops_excluded : (e : ResourceFault) (last : ℕ) (l n m : LedgerState) (ps : List Part) (xs : List ℕ) → Stops (Some e) last l ps n → Takes last l ps xs m → ⊥
+stops_excluded e last l n m [] xs h takes = h
+stops_excluded e last l n m (p ∷ ps) xs (inl h) takes = some_none e h.0
+stops_excluded e last l n m (p ∷ ps) xs (inr (inl (d, why, is, left))) (a, rest, are, ok, more) = ok_refused (do_part last p l).answer a d ok is
+stops_excluded e last l n m (p ∷ ps) xs (inr (inr (b, is, stops))) (a, rest, are, ok, more) =
+    stops_excluded e a (do_part last p l).after n m ps rest (subst (λ k. Stops (Some e) k (do_part last p l).after ps n) (ok_same (do_part last p l).answer b a is ok) stops) more
+
+pub leaves_excluded : (e : ResourceFault) (l n m : LedgerState) (leaves : List (List Part)) (hs : List ℕ) → LeavesStop (Some e) l leaves n → LeavesTake l leaves hs m → ⊥
+leaves_excluded e l n m [] hs h takes = h
+leaves_excluded e l n m (leaf ∷ leaves) hs (inl stops) (h, rest, mid, are, takes, more) = stops_excluded e 0 l n mid leaf takes.answers (stops 0) (takes.takes 0)
+leaves_excluded e l n m (leaf ∷ leaves) hs (inr (k, there, took, stops)) (h, rest, mid, are, takes, more) =
+    leaves_excluded e mid n m leaves rest (subst (λ q. LeavesStop (Some e) q leaves n) (leaf_same l there mid leaf k h took takes).1 stops) more
+
+same_end : (l a b : LedgerState) → scope_exit l ≡ record { answer = Ok tt; after = a } → scope_exit l ≡ record { answer = Ok tt; after = b } → a ≡ b
+same_end l a b h g = ap (λ (d : Done (Unit {0})). d.after) (sym h ∙ g)
+
+not_both : (l a b : LedgerState) (e : ResourceFault) → scope_exit l ≡ record { answer = Err e; after = a } → scope_exit l ≡ record { answer = Ok tt; after = b } → ⊥
+not_both l a b e h g = let w : ◌≡◌ {A = Result (Unit {0}) ResourceFault} (Err e) (Ok tt) = ap (λ (d : Done (Unit {0})). d.answer) (sym h ∙ g) in cc
+
+module _ (callee : Callee) (words memory : List ℕ) where
+  pub returned_excluded : (e : ResourceFault) (l n m : LedgerState) (xs : List Any) → StopsReturned callee words memory (Some e) l n → LiftsReturned callee words memory xs l m → ⊥
+  returned_excluded e l n m xs (inl (d, why, refused)) lifts = not_both l n lifts.ended d refused lifts.ends
+  returned_excluded e l n m xs (inr (ended, ends, stops)) lifts =
+      let taken = lifts_take callee.types lifts.ended m (returned_leaves callee words memory) xs lifts.lifts in
+      leaves_excluded e lifts.ended n m (result_parts callee words memory) taken.0 (subst (λ q. LeavesStop (Some e) q (result_parts callee words memory) n) (same_end l ended lifts.ended ends lifts.ends) stops) taken.1
+
+  -- ---- all of them went through before it stopped for another reason
+
+  pub lifted_stops : (l m : LedgerState) (xs : List Any) → LiftsReturned callee words memory xs l m → StopsReturned callee words memory None l m
+  lifted_stops l m xs lifts =
+      let taken = lifts_take callee.types lifts.ended m (returned_leaves callee words memory) xs lifts.lifts in
+      let parts = result_parts callee words memory in
+      inr (lifts.ended, lifts.ends, subst (λ ps. LeavesStop None lifts.ended ps m) (append-nil parts) (leaves_stop_then None lifts.ended m m parts [] taken.0 taken.1 refl))

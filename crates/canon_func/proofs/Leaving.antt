@@ -1,0 +1,145 @@
+-- A scope that ended is empty, and stays so while own handles are lifted.
+use Rattle.std.proofs.Common.{Bool, Err, IfOk, List, None, Ok, Option, Result, Some, [], ap, arith, length, refl, subst, sym, true, ℕ, ◌&&◌, ◌-◌, ◌<◌, ◌==◌, ◌∙◌, ◌∷◌, ◌≡◌}
+use Rattle.std.specs.Prelude.{false, if◌then◌else◌, nat_lt, not}
+use Rattle.std.proofs.lemmas.List.{get_or-set_same, length-set}
+use Rattle.std.proofs.lemmas.Bool.{lt-ltb, ltb-true}
+use Rattle.canon_handles.specs.Calls.{raw_index, resource_undo_lend}
+use Rattle.canon_handles.specs.Step.{refuse_if}
+use Rattle.canon_handles.specs.Table.{Counter, Table}
+use Rattle.canon_handles.specs.declared.handle.Entry.{Entry}
+use Rattle.canon_handles.specs.declared.handle.RemovedResource.{RemovedResource}
+use Rattle.canon_handles.specs.declared.handle.RemovedResource.TheVariants.{Borrow, Own}
+use Rattle.canon_handles.specs.declared.handle.TypedResource.{TypedResource}
+use Rattle.canon_handles.specs.declared.handle.TypedResource.TheVariants.{Host}
+use Rattle.canon_handles.specs.declared.handle.TypedResourceIndex.{TypedResourceIndex}
+use Rattle.canon_ledger.proofs.HandlesLemmas.{if_ok-finished}
+use Rattle.canon_ledger.proofs.LedgerLemmas.{after-inserting, after-removing}
+use Rattle.canon_ledger.proofs.StepLemmas.{if_ok-then, if_ok_always}
+use Rattle.canon_ledger.specs.Handles as handles
+use Rattle.canon_ledger.specs.Handles.{Handles, Lender, OpenScope, StepAnswer, can_leave, exit_scope, give_back, host_table, is_empty_scope, lifted_own, no_scope, on_table, opened, removing_resource, scope_at, top_scope, undone, with_scope, with_table}
+use Rattle.canon_ledger.specs.Ledger as ledger
+use Rattle.canon_ledger.specs.Ledger.{Done, LedgerState, plainly}
+use Rattle.canon_ledger.specs.declared.fault.ResourceFault.{ResourceFault}
+use Rattle.canon_ledger.specs.declared.fault.ResourceFault.TheVariants as fault
+use Rattle.canon_leaves.specs.Parts.{LeafTakes, LeavesLift, lift_parts, lifted_parts, refusal_of}
+use Rattle.canon_model.specs.Leaves.{Leaf}
+use Rattle.canon_resources.specs.Held.{Any}
+use Rattle.canon_types.specs.Instance.{Instance}
+use Rattle.canon_func.specs.Call.{LiftsReturned, returned_leaves, scope_exit}
+use Rattle.canon_func.specs.Stores.{Callee}
+use Rattle.canon_func.proofs.Owned.{AreOwned}
+
+-- ---- own handles that are lifted
+
+module _ (h : Handles) (scopes : List OpenScope) (same : h.scopes ≡ scopes) where
+  lifted_keeps : (a : RemovedResource) (m : Handles) → m.scopes ≡ scopes → IfOk (lifted_own (a, m)) (λ w. w.1.scopes ≡ scopes)
+  lifted_keeps (Own rep) m e = e
+  lifted_keeps (Borrow scope) m e = tt
+
+  lift_own_keeps : (p : ℕ) (idx : TypedResourceIndex) → IfOk (handles.resource_lift_own h p idx) (λ w. w.1.scopes ≡ scopes)
+  lift_own_keeps p idx =
+      if_ok-then (λ (w : ℕ × Handles). w.1.scopes ≡ scopes) (removing_resource h p idx) lifted_own
+      (if_ok-finished (λ w. IfOk (lifted_own w) (λ v. v.1.scopes ≡ scopes)) h p (raw_index idx) _ (if_ok_always _ _ (λ (a : RemovedResource × Table Entry × Counter). lifted_keeps a.0 (with_table h p a.1 a.2) same)))
+
+  new_keeps : (p : ℕ) (r : TypedResource) → IfOk (handles.resource_new h p r) (λ w. w.1.scopes ≡ scopes)
+  new_keeps p r = if_ok-finished (λ (w : ℕ × Handles). w.1.scopes ≡ scopes) h p 0 _ (if_ok_always _ _ (λ (a : ℕ × Table Entry × Counter). same))
+
+  undone_keeps : (r : StepAnswer (Unit {0})) → IfOk r (λ w. w.1.scopes ≡ scopes) → (undone h r).scopes ≡ scopes
+  undone_keeps (Ok (u, m)) e = e
+  undone_keeps (Err x) e = same
+
+  undo_keeps : (lender : Lender) → (undone h (on_table h lender.table (raw_index lender.index) (λ t c. resource_undo_lend t c lender.index))).scopes ≡ scopes
+  undo_keeps lender = undone_keeps (on_table h lender.table (raw_index lender.index) (λ t c. resource_undo_lend t c lender.index))
+      (if_ok-finished (λ (w : Unit {0} × Handles). w.1.scopes ≡ scopes) h lender.table (raw_index lender.index) _ (if_ok_always _ _ (λ (a : Unit {0} × Table Entry × Counter). same)))
+
+lift_own_scopes : (l : LedgerState) (p : ℕ) (idx : TypedResourceIndex) → (ledger.resource_lift_own l p idx).after.handles.scopes ≡ l.handles.scopes
+lift_own_scopes l p idx = after-removing (λ (h : Handles). h.scopes ≡ l.handles.scopes) p (λ h. handles.resource_lift_own h p idx) l refl (lift_own_keeps l.handles l.handles.scopes refl p idx)
+
+host_own_scopes : (l : LedgerState) (rep : ℕ) (dtor instance : Option ℕ) → (ledger.host_resource_lower_own l rep dtor instance).after.handles.scopes ≡ l.handles.scopes
+host_own_scopes l rep dtor instance = after-inserting (λ (h : Handles). h.scopes ≡ l.handles.scopes) host_table instance dtor (handles.resource_new l.handles host_table (Host rep)) l refl
+    (new_keeps l.handles l.handles.scopes refl host_table (Host rep))
+
+-- one is taken from a component's table and put into the host's
+own_lifted : (i : Instance) (l n : LedgerState) (ty index h : ℕ) → LeafTakes l (lifted_parts true i ty index) h n → n.handles.scopes ≡ l.handles.scopes
+own_lifted i l n ty index h takes =
+    let (rep, rest, is, took, (put, more, are, made, (none, ends))) = takes.takes 0 in
+    ap (λ (m : LedgerState). m.handles.scopes) ends ∙ (host_own_scopes _ rep _ _ ∙ lift_own_scopes l _ _)
+
+leaf_lifted : (i : Instance) (l n : LedgerState) (leaf : Leaf) (h : ℕ) → leaf.owned ≡ true → LeafTakes l (lift_parts i leaf) h n → n.handles.scopes ≡ l.handles.scopes
+leaf_lifted i l n leaf h owned takes = own_lifted i l n leaf.resource leaf.index h (subst (λ (b : Bool). LeafTakes l (lifted_parts b i leaf.resource leaf.index) h n) owned takes)
+
+lifts_scopes : (i : Instance) (l n : LedgerState) (leaves : List Leaf) (xs : List Any) → AreOwned leaves → LeavesLift i l leaves xs n → n.handles.scopes ≡ l.handles.scopes
+lifts_scopes i l n [] xs owned lifts = ap (λ (m : LedgerState). m.handles.scopes) lifts.1
+lifts_scopes i l n (leaf ∷ leaves) xs owned (h, rest, mid, is, takes, more) = lifts_scopes i mid n leaves rest owned.1 more ∙ leaf_lifted i l mid leaf h owned.0 takes
+
+-- ---- the end of a scope
+
+err_is : {A : Type 0} (d e : ResourceFault) → ◌≡◌ {A = Result A ResourceFault} (Err d) (Err e) → d ≡ e
+err_is d e h = cc
+
+given_back : (lenders : List Lender) (h : Handles) (scopes : List OpenScope) → h.scopes ≡ scopes → (give_back lenders h).scopes ≡ scopes
+given_back [] h scopes same = same
+given_back (lender ∷ lenders) h scopes same = given_back lenders _ scopes (undo_keeps h scopes same lender)
+
+-- the top one is empty
+abbrev HasEmptyTop : Handles → Type 0
+HasEmptyTop h = (0 < length h.scopes) × (scope_at h (length h.scopes - 1) ≡ no_scope)
+
+emptied : (h m : Handles) (k : ℕ) → k < length h.scopes → k ≡ length h.scopes - 1 → m.scopes ≡ (with_scope h k no_scope).scopes → HasEmptyTop m
+emptied h m k within is same =
+    let count : length m.scopes ≡ length h.scopes = ap length same ∙ length-set h.scopes k no_scope in
+    (
+      omega arith,
+      ap (λ n. scope_at m (n - 1)) count ∙ (ap (λ n. scope_at m n) (sym is) ∙ (ap (λ scopes. scope_at (record { tables = m.tables; counter = m.counter; scopes = scopes }) k) same ∙ get_or-set_same h.scopes k no_scope no_scope within)),
+    )
+
+exit_refused : (h : Handles) (k : ℕ) (b : Bool) (answer : StepAnswer (Unit {0})) (l m : LedgerState) → plainly (refuse_if b fault.BorrowsRemain answer) l ≡ record { answer = Ok tt; after = m } → refuse_if b fault.BorrowsRemain answer ≡ answer
+exit_refused h k true answer l m e = absurd (let w = ap (λ (d : Done (Unit {0})). d.answer) e in cc)
+exit_refused h k false answer l m e = refl
+
+some_if : (b : Bool) (n k : ℕ) → Some k ≡ (if b then Some n else None) → (k ≡ n) × (b ≡ true)
+some_if true n k e = (cc, refl)
+some_if false n k e = absurd (cc)
+
+exit_at : (l m : LedgerState) (o : Option ℕ) (n : ℕ) → o ≡ (if nat_lt n (length l.handles.scopes) then Some n else None) → n ≡ length l.handles.scopes - 1 → plainly (exit_scope o l.handles) l ≡ record { answer = Ok tt; after = m } → HasEmptyTop m.handles
+exit_at l m None n is top e = absurd (let w = ap (λ (d : Done (Unit {0})). d.answer) e in cc)
+exit_at l m (Some k) n is top e =
+    let answer : StepAnswer (Unit {0}) = Ok (tt, give_back (scope_at l.handles k).lenders (with_scope l.handles k no_scope)) in
+    let went = exit_refused l.handles k (not ((scope_at l.handles k).borrow_count == 0)) answer l m e in
+    let ends = ap (λ (d : Done (Unit {0})). d.after.handles) (sym e ∙ ap (λ r. plainly r l) went) in
+    let at = some_if (nat_lt n (length l.handles.scopes)) n k is in
+    let within = ltb-true n (length l.handles.scopes) at.1 in
+    emptied l.handles m.handles k (omega (arith, at.0, within)) (at.0 ∙ top) (ap (λ (h : Handles). h.scopes) ends ∙ given_back (scope_at l.handles k).lenders (with_scope l.handles k no_scope) _ refl)
+
+exit_top : (l m : LedgerState) (b : Bool) → plainly (exit_scope (opened l.handles (if b then None else Some (length l.handles.scopes - 1))) l.handles) l ≡ record { answer = Ok tt; after = m } → HasEmptyTop m.handles
+exit_top l m true e = absurd (let w = ap (λ (d : Done (Unit {0})). d.answer) e in cc)
+exit_top l m false e = exit_at l m _ (length l.handles.scopes - 1) refl refl e
+
+ended_empty : (l m : LedgerState) → scope_exit l ≡ record { answer = Ok tt; after = m } → HasEmptyTop m.handles
+ended_empty l m e = exit_top l m (length l.handles.scopes == 0) e
+
+empty_leaves : (h : Handles) → HasEmptyTop h → can_leave h ≡ true
+empty_leaves h e = ap (λ b. b && is_empty_scope (scope_at h (length h.scopes - 1))) (lt-ltb 0 (length h.scopes) e.0) ∙ ap is_empty_scope e.1
+
+-- by its scopes alone
+leaves_by : List OpenScope → Bool
+leaves_by scopes = can_leave (record { tables = []; counter = record { live = 0; limit = 0 }; scopes = scopes })
+
+-- so the scope may be left
+pub lifted_empty : (callee : Callee) (words memory : List ℕ) (xs : List Any) (before after : LedgerState) → AreOwned (returned_leaves callee words memory) → LiftsReturned callee words memory xs before after → can_leave after.handles ≡ true
+lifted_empty callee words memory xs before after owned h =
+    ap leaves_by (lifts_scopes callee.types h.ended after (returned_leaves callee words memory) xs owned h.lifts) ∙ empty_leaves h.ended.handles (ended_empty before h.ended h.ends)
+
+-- ---- refusals of the end
+
+refusal_not : (b : Bool) (answer : StepAnswer (Unit {0})) (l : LedgerState) (u : Handles) (e : ResourceFault) → answer ≡ Ok (tt, u) → (plainly (refuse_if b fault.BorrowsRemain answer) l).answer ≡ Err e → refusal_of e ≡ Some e
+refusal_not true answer l u e is h = rw (sym (err_is _ _ h)) refl
+refusal_not false answer l u e is h = absurd (let w = ap (λ r. (plainly r l).answer) is in cc)
+
+exit_refusal : (l : LedgerState) (o : Option ℕ) (e : ResourceFault) → (plainly (exit_scope o l.handles) l).answer ≡ Err e → refusal_of e ≡ Some e
+exit_refusal l None e h = rw (sym (err_is _ _ h)) refl
+exit_refusal l (Some k) e h = refusal_not (not ((scope_at l.handles k).borrow_count == 0)) _ l _ e refl h
+
+-- it is never want of memory
+pub exit_refuses : (l : LedgerState) (e : ResourceFault) → (scope_exit l).answer ≡ Err e → refusal_of e ≡ Some e
+exit_refuses l e h = exit_refusal l (opened l.handles (top_scope l.handles)) e h
