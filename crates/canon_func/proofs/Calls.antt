@@ -291,18 +291,18 @@ module _ (Leaves : List ℕ → List ℕ → Type 0) (callee : Callee) (fuel : �
       → ((ts : Trees) → HaveTrees callee.params params ts → (left : List Request) × ((last : ℕ) → Meets last (params_requests false callee.encoding callee.params ts) answers trap left))
       → HandlesPass callee params before left [] (Err (error.Fault f)) results (events_of answers trap)
       → Refused callee fuel params entry after before (events_of answers trap) answers trap f → IsCall Leaves callee fuel params entry after before left (Err (error.Fault f)) results (events_of answers trap)
-  made results f answers trap advances quiet marks met handles refused = record {
+  made results f answers trap advances quiet marks met handles because = record {
     one_run = tt;
-    prefix = prefix_of callee.func callee.post (length entry.bytes) answers trap refused.late;
+    prefix = prefix_of callee.func callee.post (length entry.bytes) answers trap because.late;
     no_resume = each_answer IsNoResume (λ c a. tt) (λ c n. tt) answers trap;
     advances = advances;
-    grows = grows_request (length entry.bytes) (length after.bytes) answers trap refused.late advances.no_shorter;
+    grows = grows_request (length entry.bytes) (length after.bytes) answers trap because.late advances.no_shorter;
     answers = answers;
     trap = trap;
     later = [];
     in_parts = sym (append-nil (events_of answers trap));
     no_more = tt;
-    accepted = refused.accepted;
+    accepted = because.accepted;
     marks = marks;
     quiet = quiet;
     requested = λ ts have. record { left = (met ts have).0; met = (met ts have).1; all = tt };
@@ -312,8 +312,8 @@ module _ (Leaves : List ℕ → List ℕ → Type 0) (callee : Callee) (fuel : �
     only_results = tt;
     posted = λ some. absurd (some (each_answer IsNoPost (λ c a. tt) (λ c n. tt) answers trap));
     leaves = tt;
-    cause = refused.cause;
-    valid = λ ts have small lawful calm quiet right accepted. ap error.Fault (refused.valid ts have small lawful calm accepted);
+    cause = because.cause;
+    valid = λ ts have small lawful calm quiet right accepted. ap error.Fault (because.valid ts have small lawful calm accepted);
   }
 
   -- memory ran out before a request
@@ -431,7 +431,7 @@ module _ (Leaves : List ℕ → List ℕ → Type 0) (callee : Callee) (fuel : �
       subst (λ end. (mine : Low words handles end) → Why f end words handles mine) (sym is) (λ mine. refused_by f words handles mine blames told stops) low
 
   -- however it ended
-  refused_so : (f : Fault) (ending : Ending) (words handles : List ℕ) (low : Low words handles ending) → EndsAs true {T = Unit {0}} (Err f) ending → BlamesMembers callee.encoding callee.params params f → told_fault f ≡ f
+  refused_so : (f : Fault) (ending : Ending) (words handles : List ℕ) (low : Low words handles ending) → EndsAs {T = Unit {0}} true (Err f) ending → BlamesMembers callee.encoding callee.params params f → told_fault f ≡ f
       → LeavesStop (stop_of f) (enter before) (param_parts callee params) left → Why f ending words handles low
   refused_so fault.OutOfMemory ending words handles low (inl is) blames told stops =
       short_by ending words handles low (subst (λ end. CauseOf entry after low.answers low.trap end) is low.lowering.cause).0 (subst (λ end. Accepted end (length after.bytes) low.answers) is low.lowering.accepted)
@@ -443,12 +443,12 @@ module _ (Leaves : List ℕ → List ℕ → Type 0) (callee : Callee) (fuel : �
   asks_short answers trap h = (h.0, λ far. (begins_short _ answers trap (h.1 far).0, (h.1 far).1))
 
   -- what it asked for by its types alone
-  asks_as : (f : Fault) (ending : Ending) (answers : List Answer) (trap : Option Trap) → EndsAs true {T = Unit {0}} (Err f) ending → AsksByTypes callee.params ending answers trap → AsksByTypes callee.params (fault_ending f) answers trap
+  asks_as : (f : Fault) (ending : Ending) (answers : List Answer) (trap : Option Trap) → EndsAs {T = Unit {0}} true (Err f) ending → AsksByTypes callee.params ending answers trap → AsksByTypes callee.params (fault_ending f) answers trap
   asks_as fault.OutOfMemory ending answers trap (inl is) h = subst (λ end. AsksByTypes callee.params end answers trap) is h
   asks_as fault.OutOfMemory ending answers trap (inr both) h = asks_short answers trap (subst (λ end. AsksByTypes callee.params end answers trap) both.1 h)
   asks_as f ending answers trap is h = subst (λ end. AsksByTypes callee.params end answers trap) is h
 
-  pub refused_call : (f : Fault) (ending : Ending) (words handles : List ℕ) (low : Low words handles ending) → EndsAs true {T = Unit {0}} (Err f) ending → BlamesMembers callee.encoding callee.params params f → told_fault f ≡ f
+  pub refused_call : (f : Fault) (ending : Ending) (words handles : List ℕ) (low : Low words handles ending) → EndsAs {T = Unit {0}} true (Err f) ending → BlamesMembers callee.encoding callee.params params f → told_fault f ≡ f
       → AsksByTypes callee.params ending low.answers low.trap → LeavesStop (stop_of f) (enter before) (param_parts callee params) left → CoreCall Leaves callee fuel params entry after before left (Err (error.Fault f)) (events_of low.answers low.trap)
   refused_call f ending words handles low is blames told quiet stops results =
       made results f low.answers low.trap (goes_advance entry after _ _ low.lowering.goes) (asks_as f ending low.answers low.trap is quiet) low.lowering.goes.marks (λ ts have. ((low.requested ts have).rest, (low.requested ts have).met))

@@ -162,7 +162,7 @@ module _ (Leaves : List ℕ → List ℕ → Type 0) (callee : Callee) (fuel : �
     events = [];
     added = (goes_none s bytes bytes (omega arith)).events;
     moves = stays;
-    so = short_call Leaves callee fuel params (moment s bytes) (moment s bytes) l0 l2 refl (λ results. inl (refl, (refl, same)));
+    so = short_call Leaves callee fuel params (moment s bytes) (moment s bytes) l0 l2 refl (λ results. inl (refl, refl, same));
   }
 
   core_refused : (a b : Moment) (l0 l2 : LedgerState) (e : Error) (es : List Event) → LoweredArgs callee params a b (enter l0) l2 (Err e) es → CoreCall Leaves callee fuel params a b l0 l2 (Err e) es

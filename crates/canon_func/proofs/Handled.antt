@@ -24,8 +24,8 @@ some_after P (e ∷ xs) ys h = some_after P xs ys h
 
 pub stops_after : (callee : Callee) (why : Option ResourceFault) (l m : LedgerState) (answers : List Answer) (later : List Event) → StopsLater callee why l m later → StopsLater callee why l m (events_of answers None ++ later)
 stops_after callee why l m answers later (inl (none, same, each)) = inl (none, same, each_then _ (events_of answers None) later (each_answer _ (λ c a. tt) (λ c n. tt) answers None) each)
-stops_after callee why l m answers later (inr (inl (no, some))) = inr (inl (each_then IsNoPost (events_of answers None) later (each_answer IsNoPost (λ c a. tt) (λ c n. tt) answers None) no, some_after _ (events_of answers None) later some))
-stops_after callee why l m answers later (inr (inr (none, posts, some))) = inr (inr (none, (λ no. posts (each_after IsNoPost (events_of answers None) later no)), some_after _ (events_of answers None) later some))
+stops_after callee why l m answers later (inr (inl (untold, some))) = inr (inl (each_then IsNoPost (events_of answers None) later (each_answer IsNoPost (λ c a. tt) (λ c n. tt) answers None) untold, some_after _ (events_of answers None) later some))
+stops_after callee why l m answers later (inr (inr (none, posts, some))) = inr (inr (none, (λ untold. posts (each_after IsNoPost (events_of answers None) later untold)), some_after _ (events_of answers None) later some))
 
 -- ---- what is accepted isn't refused
 

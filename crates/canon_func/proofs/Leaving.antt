@@ -12,6 +12,7 @@ use Rattle.canon_handles.specs.declared.handle.RemovedResource.TheVariants.{Borr
 use Rattle.canon_handles.specs.declared.handle.TypedResource.{TypedResource}
 use Rattle.canon_handles.specs.declared.handle.TypedResource.TheVariants.{Host}
 use Rattle.canon_handles.specs.declared.handle.TypedResourceIndex.{TypedResourceIndex}
+use Rattle.canon_handles.specs.declared.handle.TypedResourceIndex.TheVariants.{Component as ComponentIndex}
 use Rattle.canon_ledger.proofs.HandlesLemmas.{if_ok-finished}
 use Rattle.canon_ledger.proofs.LedgerLemmas.{after-inserting, after-removing}
 use Rattle.canon_ledger.proofs.StepLemmas.{if_ok-then, if_ok_always}
@@ -21,7 +22,7 @@ use Rattle.canon_ledger.specs.Ledger as ledger
 use Rattle.canon_ledger.specs.Ledger.{Done, LedgerState, plainly}
 use Rattle.canon_ledger.specs.declared.fault.ResourceFault.{ResourceFault}
 use Rattle.canon_ledger.specs.declared.fault.ResourceFault.TheVariants as fault
-use Rattle.canon_leaves.specs.Parts.{LeafTakes, LeavesLift, lift_parts, lifted_parts, refusal_of}
+use Rattle.canon_leaves.specs.Parts.{LeafTakes, LeavesLift, dtor_for, instance_for, lift_parts, lifted_parts, refusal_of, table_for}
 use Rattle.canon_model.specs.Leaves.{Leaf}
 use Rattle.canon_resources.specs.Held.{Any}
 use Rattle.canon_types.specs.Instance.{Instance}
@@ -63,7 +64,8 @@ host_own_scopes l rep dtor instance = after-inserting (λ (h : Handles). h.scope
 own_lifted : (i : Instance) (l n : LedgerState) (ty index h : ℕ) → LeafTakes l (lifted_parts true i ty index) h n → n.handles.scopes ≡ l.handles.scopes
 own_lifted i l n ty index h takes =
     let (rep, rest, is, took, (put, more, are, made, (none, ends))) = takes.takes 0 in
-    ap (λ (m : LedgerState). m.handles.scopes) ends ∙ (host_own_scopes _ rep _ _ ∙ lift_own_scopes l _ _)
+    let taken : LedgerState = (ledger.resource_lift_own l (table_for i ty) (ComponentIndex ty index)).after in
+    ap (λ (m : LedgerState). m.handles.scopes) ends ∙ (host_own_scopes taken rep (dtor_for i ty) (instance_for i ty) ∙ lift_own_scopes l (table_for i ty) (ComponentIndex ty index))
 
 leaf_lifted : (i : Instance) (l n : LedgerState) (leaf : Leaf) (h : ℕ) → leaf.owned ≡ true → LeafTakes l (lift_parts i leaf) h n → n.handles.scopes ≡ l.handles.scopes
 leaf_lifted i l n leaf h owned takes = own_lifted i l n leaf.resource leaf.index h (subst (λ (b : Bool). LeafTakes l (lifted_parts b i leaf.resource leaf.index) h n) owned takes)
@@ -122,7 +124,7 @@ empty_leaves : (h : Handles) → HasEmptyTop h → can_leave h ≡ true
 empty_leaves h e = ap (λ b. b && is_empty_scope (scope_at h (length h.scopes - 1))) (lt-ltb 0 (length h.scopes) e.0) ∙ ap is_empty_scope e.1
 
 -- by its scopes alone
-leaves_by : List OpenScope → Bool
+abbrev leaves_by : List OpenScope → Bool
 leaves_by scopes = can_leave (record { tables = []; counter = record { live = 0; limit = 0 }; scopes = scopes })
 
 -- so the scope may be left

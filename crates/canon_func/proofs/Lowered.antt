@@ -50,7 +50,7 @@ lowers_at seen moves core made after b options own tuple params words result sam
     (subst (λ k. LowersFor seen moves k after own tuple params words result) same h))
 
 -- how a lowering ended that asked for nothing
-ending_quiet : (some : Bool) (f : Fault) (ending : Ending) → EndsAs some {T = Unit {0}} (Err f) ending → (fault_ending f ≡ refused) ⊎ ((some ≡ true) × (f ≡ fault.OutOfMemory)) → (ending ≡ short) ⊎ (ending ≡ refused)
+ending_quiet : (some : Bool) (f : Fault) (ending : Ending) → EndsAs {T = Unit {0}} some (Err f) ending → (fault_ending f ≡ refused) ⊎ ((some ≡ true) × (f ≡ fault.OutOfMemory)) → (ending ≡ short) ⊎ (ending ≡ refused)
 ending_quiet some fault.OutOfMemory ending (inl is) h = inl is
 ending_quiet some fault.OutOfMemory ending (inr both) h = inr both.1
 ending_quiet some f ending is (inl e) = inr (is ∙ e)
@@ -62,10 +62,10 @@ untrapped a b answers trap ending cause (inl is) = (subst (λ end. CauseOf a b a
 untrapped a b answers trap ending cause (inr is) = subst (λ end. CauseOf a b answers trap end) is cause
 
 -- it ended so whether there are handles or not
-ends_any : {T U : Type 0} (some : Bool) (f : Fault) (ending : Ending) → EndsAs some {T = T} (Err f) ending → EndsAs true {T = U} (Err f) ending
-ends_any some fault.OutOfMemory ending (inl is) = inl is
-ends_any some fault.OutOfMemory ending (inr both) = inr (refl, both.1)
-ends_any some f ending is = is
+ends_any : (T U : Type 0) (some : Bool) (f : Fault) (ending : Ending) → EndsAs {T = T} some (Err f) ending → EndsAs {T = U} true (Err f) ending
+ends_any T U some fault.OutOfMemory ending (inl is) = inl is
+ends_any T U some fault.OutOfMemory ending (inr both) = inr (refl, both.1)
+ends_any T U some f ending is = is
 
 -- what a refused lowering tells of the guest's moves
 pub refused_moves : {G : Type 0} (V : Type 0) (seen : G → Seen) (moves : GuestIn G → List Event → GuestIn G → Type 0) (g h : GuestIn G) (f : Fault) → Moves seen moves g h (fault_ending f)
@@ -103,7 +103,7 @@ module _ (a b : Moment) (enc : Encoding) (types : Instance) (ms ns : Members) (p
   Lowers ks words handles ending = LowersParams a b enc ks (HaveTrees ks params) words handles ending
 
   pub lowered_done : (words dst : List ℕ) (M : List Event → Type 0) → words ≡ dst → length words ≡ words_within max_params ms → (members_flat ms ≤ max_params → have_block ms ≡ false → b ≡ a)
-      → Crosses types (have_handle ms) (all_passes ms params) (Lowers ms dst) l l2 (Ok {A = Unit {0}} tt) → AreSmall enc ms params → ((l es : List Event) → a.guest.journal ≡ Some l → b.guest.journal ≡ Some (l ++ es) → M es)
+      → Crosses {T = Unit {0}} types (have_handle ms) (all_passes ms params) (Lowers ms dst) l l2 (Ok tt) → AreSmall enc ms params → ((l es : List Event) → a.guest.journal ≡ Some l → b.guest.journal ≡ Some (l ++ es) → M es)
       → Adding a b M (λ es. (hs : List ℕ) × (low : LowersArgs false a b enc ns (HaveTrees ns params) words hs done)
       × (es ≡ events_of low.answers low.trap) × (length words ≡ words_within max_params ns) × AsksByTypes ns done low.answers low.trap × AreSmall enc ns params
       × LeavesTake l (map (lower_parts types) (all_passes ns params)) hs l2)
@@ -126,11 +126,11 @@ module _ (a b : Moment) (enc : Encoding) (types : Instance) (ms ns : Members) (p
         );
       }
 
-  pub lowered_refused : (f : Fault) (dst : List ℕ) (M : List Event → Type 0) → Crosses types (have_handle ms) (all_passes ms params) (Lowers ms dst) l l2 (Err {A = Unit {0}} f) → BlamesMembers enc ms params f
+  pub lowered_refused : (f : Fault) (dst : List ℕ) (M : List Event → Type 0) → Crosses {T = Unit {0}} types (have_handle ms) (all_passes ms params) (Lowers ms dst) l l2 (Err f) → BlamesMembers enc ms params f
       → (members_flat ms ≤ max_params → have_block ms ≡ false → (b ≡ a) × ((fault_ending f ≡ refused) ⊎ ((have_handle ms ≡ true) × (f ≡ fault.OutOfMemory))))
       → ((l es : List Event) → a.guest.journal ≡ Some l → b.guest.journal ≡ Some (l ++ es) → M es)
       → Adding a b M (λ es. ((f ≡ fault.OutOfMemory) × (b ≡ a) × (l2 ≡ l) × (es ≡ [])) ⊎ ((words hs : List ℕ) × (ending : Ending) × (low : LowersArgs false a b enc ns (HaveTrees ns params) words hs ending)
-      × EndsAs true {T = Unit {0}} (Err f) ending × BlamesMembers enc ns params f × (told_fault f ≡ f) × (es ≡ events_of low.answers low.trap) × AsksByTypes ns ending low.answers low.trap
+      × EndsAs {T = Unit {0}} true (Err f) ending × BlamesMembers enc ns params f × (told_fault f ≡ f) × (es ≡ events_of low.answers low.trap) × AsksByTypes ns ending low.answers low.trap
       × LeavesStop (stop_of f) l (map (lower_parts types) (all_passes ns params)) l2))
   lowered_refused f dst M cross blames same new =
       let both : Lowers ns dst cross.given cross.ending = subst (λ ks. Lowers ks dst cross.given cross.ending) is cross.lowered in
@@ -144,7 +144,7 @@ module _ (a b : Moment) (enc : Encoding) (types : Instance) (ms ns : Members) (p
           cross.given,
           cross.ending,
           mine,
-          ends_any (have_handle ms) f cross.ending cross.ends,
+          ends_any (Unit {0}) (Unit {0}) (have_handle ms) f cross.ending cross.ends,
           subst (λ ks. BlamesMembers enc ks params f) is blames,
           cross.as_told,
           refl,

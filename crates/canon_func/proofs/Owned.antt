@@ -1,10 +1,12 @@
 -- Where types reach no borrow, each handle that is reached is an own handle.
-use Rattle.std.proofs.Common.{List, [], suc, zero, ℕ, ◌++◌, ◌+◌, ◌∷◌, ◌≡◌}
-use Rattle.std.specs.Prelude.{Bool, false, if◌then◌else◌, true, ⊤}
+use Rattle.std.proofs.Common.{List, [], refl, suc, zero, ℕ, ◌++◌, ◌+◌, ◌∷◌, ◌≡◌}
+use Rattle.std.specs.Prelude.{Bool, false, if◌then◌else◌, nat_le, slice_index, true, ⊤}
 use Rattle.std.proofs.lemmas.Bool.{false≢true}
 use Rattle.canon_model.specs.Leaves.{Leaf, case_flat_leaves, case_reach_leaves, flat_leaves, list_at, list_leaves, members_flat_leaves, members_reach_leaves, reach_leaves, values_leaves}
-use Rattle.canon_model.specs.Memory.{Memory}
-use Rattle.canon_model.specs.Shape.{Cases, Members, Shape, bare, borrow, fixed, flags, list, member, no_cases, no_members, own, payload, product, scalar, string, variant}
+use Rattle.canon_model.specs.Layout.{members_align, members_flat, size}
+use Rattle.canon_model.specs.Memory.{Memory, ptr}
+use Rattle.canon_model.specs.Reach.{is_good}
+use Rattle.canon_model.specs.Shape.{Cases, Members, Shape, bare, borrow, fixed, flags, list, member, no_cases, no_members, of_places, own, payload, product, scalar, string, variant}
 use Rattle.canon_types.specs.Depth.{case_borrows, has_borrow, member_borrows}
 use Rattle.canon_value.proofs.Steps.{no_first, no_later}
 
@@ -80,4 +82,8 @@ module _ (m : Memory) where
       case_flat_owned (payload name s cs) (suc i) j e = case_flat_owned cs i j (no_later (has_borrow s) (case_borrows cs) e)
 
     pub values_owned : (most : ℕ) (ms : Members) → member_borrows ms ≡ false → AreOwned (values_leaves m ws most ms)
-    values_owned most ms e = this_or_other _ _ _ (members_flat_owned ms 0 e) (this_or_other _ _ [] (members_reach_owned ms 0 _ e) tt)
+    values_owned most ms e =
+        let p = ptr m (slice_index ws 0) in
+        let good = is_good m p (size m.wide (product of_places ms)) (members_align m.wide ms) in
+        this_or_other (nat_le (members_flat ms) most) (members_flat_leaves m ws ms 0) (if good then members_reach_leaves m ms 0 p else []) (members_flat_owned ms 0 e)
+        (this_or_other good (members_reach_leaves m ms 0 p) [] (members_reach_owned ms 0 p e) tt)

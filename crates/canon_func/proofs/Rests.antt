@@ -68,7 +68,7 @@ module _ (Leaves : List ℕ → List ℕ → Type 0) (callee : Callee) (fuel : �
     posted = λ some. absurd (some tt);
     count = tt;
     leaves = tt;
-    handles = inl (refl, (refl, tt));
+    handles = inl (refl, refl, tt);
     cause = tt;
     valid = λ calm quiet right accepted. refl;
   }
@@ -85,7 +85,7 @@ module _ (Leaves : List ℕ → List ℕ → Type 0) (callee : Callee) (fuel : �
     posted = λ some. absurd (some (tt, (tt, tt)));
     count = tt;
     leaves = tt;
-    handles = inl (refl, (refl, (tt, (tt, tt))));
+    handles = inl (refl, refl, (tt, (tt, tt)));
     cause = refl;
     valid = λ calm quiet right accepted. absurd quiet.1.0;
   }
@@ -102,7 +102,7 @@ module _ (Leaves : List ℕ → List ℕ → Type 0) (callee : Callee) (fuel : �
     posted = λ some. absurd (some (tt, (tt, tt)));
     count = tt;
     leaves = tt;
-    handles = inl (refl, (refl, (tt, (tt, tt))));
+    handles = inl (refl, refl, (tt, (tt, tt)));
     cause = (rose, tt);
     valid = λ calm quiet right accepted. absurd (calm tt);
   }
@@ -179,7 +179,7 @@ module _ (Leaves : List ℕ → List ℕ → Type 0) (callee : Callee) (fuel : �
     faulted f h cause excluded = returned_made (error.Fault f) (stopped f h) cause excluded
 
     lifted_made : (e : Error) → (e ≡ error.Fault fault.GuestTrap → ⊥) → Lifted callee fuel returned memory ledger left (Err e) → IsRest Leaves callee fuel words before after ledger left (Err e) (event.Start callee.func words before.bytes ∷ event.Return returned memory ∷ [])
-    lifted_made error.WrongWords n h = returned_made error.WrongWords (inl (refl, (h.1, (tt, (h.0, tt))))) h.0 (λ us r few accepted. absurd (h.0 (words_of_results callee.encoding (narrow memory) returned callee.results us r)))
+    lifted_made error.WrongWords n h = returned_made error.WrongWords (inl (refl, h.1, (tt, (h.0, tt)))) h.0 (λ us r few accepted. absurd (h.0 (words_of_results callee.encoding (narrow memory) returned callee.results us r)))
     lifted_made (error.Fault (fault.PointerMisaligned at)) n h = faulted (fault.PointerMisaligned at) h h.1 (excludes (error.Fault (fault.PointerMisaligned at)) _ _ h.1)
     lifted_made (error.Fault (fault.PointerOutOfBounds at)) n h = faulted (fault.PointerOutOfBounds at) h h.1 (excludes (error.Fault (fault.PointerOutOfBounds at)) _ _ h.1)
     lifted_made (error.Fault (fault.InvalidUtf8 at)) n h = faulted (fault.InvalidUtf8 at) h h.1 (excludes (error.Fault (fault.InvalidUtf8 at)) _ _ h.1)
@@ -243,7 +243,7 @@ post_trapped_made Leaves callee fuel words before after ledger left returned mem
   posted = λ some. (tt, ((rest, vals.items, results), (tt, (tt, tt))));
   count = tt;
   leaves = tt;
-  handles = inr (inr (refl, ((λ none. none.1.1.0), inl (all_resources vals.items, lifts))));
+  handles = inr (inr (refl, (λ none. none.1.1.0), inl (all_resources vals.items, lifts)));
   cause = (rose, tt);
   valid = λ calm quiet right accepted. absurd (calm tt);
 }

@@ -22,9 +22,9 @@ use Rattle.canon_context.specs.declared.component.Export.{Export}
 use Rattle.canon_context.specs.declared.fault.Fault.{Fault}
 use Rattle.canon_context.specs.declared.fault.Fault.TheVariants as fault
 use Rattle.canon_value.specs.Lifts.{LiftsResults}
-use Rattle.canon_value.specs.Resources.{stop_of}
+use Rattle.canon_value.specs.Resources.{all_resources, stop_of}
 use Rattle.canon_value.specs.declared.val.Val.{Val}
-use Rattle.canon_func.specs.Call.{result_parts, result_words, returned_leaves, scope_exit}
+use Rattle.canon_func.specs.Call.{LiftsReturned, result_parts, result_words, scope_exit}
 use Rattle.canon_func.specs.Steps.{Lifted, LiftsIn}
 use Rattle.canon_func.specs.Stores.{Callee, export_callee, results_in}
 use Rattle.canon_func.specs.declared.error.Error.TheVariants as error
@@ -32,11 +32,11 @@ use Rattle.canon_func.proofs.Leaving.{exit_refuses, lifted_empty}
 use Rattle.canon_func.proofs.Owned.{values_owned}
 
 -- what was lifted in a context, said of the core that it was made from
-pub lifts_at : {T G : Type 0} (core made after b : Parts T G) (options own tuple fuel left : ℕ) (words : List ℕ) (result : Result (Vec Val Global) Fault) → made ≡ core → own ≡ options → fuel ≡ core.fuel → after ≡ b
+pub lifts_at : {T G : Type 0} (core made after : Parts T G) (b : LedgerState) (options own tuple fuel left : ℕ) (words : List ℕ) (result : Result (Vec Val Global) Fault) → made ≡ core → own ≡ options → fuel ≡ core.fuel → after.ledger ≡ b
     → LiftsResults (origin_in made own) words (tuple_members (types_of made) tuple) made.ledger fuel result after.ledger left
-    → LiftsIn (origin_in core options) words (tuple_members (types_of core) tuple) core.ledger core.fuel result b.ledger
+    → LiftsIn (origin_in core options) words (tuple_members (types_of core) tuple) core.ledger core.fuel result b
 lifts_at core made after b options own tuple fuel left words result same by full ends h =
-    (left, subst (λ k. LiftsResults (origin_in core options) words (tuple_members (types_of core) tuple) core.ledger core.fuel result k.ledger left) ends
+    (left, subst (λ l. LiftsResults (origin_in core options) words (tuple_members (types_of core) tuple) core.ledger core.fuel result l left) ends
     (subst (λ n. LiftsResults (origin_in core options) words (tuple_members (types_of core) tuple) core.ledger n result after.ledger left) full
     (subst (λ o. LiftsResults (origin_in core o) words (tuple_members (types_of core) tuple) core.ledger fuel result after.ledger left) by
     (subst (λ k. LiftsResults (origin_in k own) words (tuple_members (types_of k) tuple) k.ledger fuel result after.ledger left) same h))))
@@ -106,5 +106,5 @@ module _ {T G : Type 0} (core mid : Parts T G) (export : Export) (words : List �
   lifted_done vals valid h =
       let lifts = in_core (Ok vals) h in
       let none : member_borrows Callee_.results ≡ false = subst (λ ms. member_borrows ms ≡ false) (members_are (types_of core) types export.ty f is found) (subst (λ t. member_borrows (tuple_members t f.results) ≡ false) is (no_borrow types export.ty f found valid)) in
-      let returned = record { ended = mid.ledger; ends = exit_is core.ledger mid.ledger (Ok tt) exited left; lifts = lifts.1.handles } in
+      let returned : LiftsReturned Callee_ words core.memory (all_resources vals.items) core.ledger m = record { ended = mid.ledger; ends = exit_is core.ledger mid.ledger (Ok tt) exited left; lifts = lifts.1.handles } in
       (lifts.0, lifts.1.ok, returned, lifted_empty Callee_ words core.memory _ core.ledger m (values_owned (narrow core.memory) words max_results Callee_.results none) returned)

@@ -1,5 +1,5 @@
 -- The steps of a call.
-use Rattle.std.specs.Prelude.{Err, IfErr, IfOk, IsOkUnless, List, None, Ok, OnOk, Result, Some, Vec, [], false, length, ℕ, ⊤, ◌∷◌, ◌≡◌, ◌⊎◌, ◌≤◌}
+use Rattle.std.specs.Prelude.{Err, IfErr, IfOk, IsOkUnless, List, None, Ok, OnOk, Result, Some, Vec, [], false, length, true, ℕ, ⊤, ◌∷◌, ◌≡◌, ◌⊎◌, ◌≤◌}
 use Rattle.std.specs.declared.alloc.Global.{Global}
 use Rattle.canon_model.specs.Cost.{members_cost}
 use Rattle.canon_model.specs.Flat.{RepResults, max_params}
@@ -62,7 +62,7 @@ LoweredArgs callee params before after ledger left (Ok words) events =
 LoweredArgs callee params before after ledger left (Err (error.Fault f)) events =
     ((f ≡ fault.OutOfMemory) × (after ≡ before) × (left ≡ ledger) × (events ≡ []))
     ⊎ ((words handles : List ℕ) × (ending : Ending) × (low : LowersArgs false before after callee.encoding callee.params (HaveTrees callee.params params) words handles ending)
-    × EndsAs true {T = Unit {0}} (Err f) ending × BlamesMembers callee.encoding callee.params params f × (told_fault f ≡ f) × (events ≡ events_of low.answers low.trap) × AsksByTypes callee.params ending low.answers low.trap
+    × EndsAs {T = Unit {0}} true (Err f) ending × BlamesMembers callee.encoding callee.params params f × (told_fault f ≡ f) × (events ≡ events_of low.answers low.trap) × AsksByTypes callee.params ending low.answers low.trap
     × LeavesStop (stop_of f) ledger (param_parts callee params) left)
 LoweredArgs callee params before after ledger left (Err _) events = ⊥
 

@@ -131,7 +131,7 @@ fn store_with(
     store_of(alloc, builder.finish(), ty, word)
 }
 
-/// Calls the store's function, where it can be called.
+/// Calls the store's function.
 fn call(
     alloc: Global,
     store: &mut Store<(), Returner>,
@@ -139,9 +139,6 @@ fn call(
     results: &mut [Val],
 ) -> Option<Result<(), Error>> {
     let f = store.func(ExportIndex::from_u32(0))?;
-    if !f.is_callable(store) {
-        return None;
-    }
     Some(f.call(alloc, store, params, results))
 }
 

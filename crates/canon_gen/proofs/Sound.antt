@@ -19,7 +19,6 @@ module _ (n : ℕ) (p : Play) (e : common ≡ Some p) where
     work_fits = subst (λ m. final_memory m calls * 2 * turns calls ≤ max_work) (sym (common_memory p e)) (omega arith);
     posts_told = h.posts_told;
     funcs_few = h.funcs_few;
-    funcs_built = h.funcs_built;
     calls_known = All-cons (λ c. HasFunc p.types c.func) (call_made n) [] (omega (arith, common_funcs p e)) (All-nil (λ c. HasFunc p.types c.func));
     orders_narrow = All-cons (λ c. AreNarrow c.reallocs) (call_made n) [] tt (All-nil (λ c. AreNarrow c.reallocs));
   }

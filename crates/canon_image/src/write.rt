@@ -17,11 +17,12 @@ ghost use Rattle.canon_value.specs.declared.val.Val.TheVariants as val;
 ghost use Rattle.canon_image.specs.Written.{IsImaged, IsOnlyImage, IsTold, MarksTo, PairsWriteTo, PartsWriteTo, WritesTo};
 
 use crate::ImageError;
+use canon_plan::is_built;
 use canon_types::{ComponentTypes, InterfaceType, TypeFlagsIndex, TypeMapIndex};
 use canon_value::parts::{
     Case, Elements, Members, View, count_of, mark_byte, member_of, number_of, view_of,
 };
-use canon_value::{Fault, Val, is_built};
+use canon_value::{Fault, Val};
 use std::alloc::Global;
 
 /// The image of a value. Answers `Resource` where the type reaches a handle, and `NotOfType` where the value isn't of the type.

@@ -1,4 +1,3 @@
-pub mod Built
 pub mod Cases
 pub mod Funcs
 pub mod Members

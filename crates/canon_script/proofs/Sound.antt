@@ -1,5 +1,5 @@
 -- A script that is read is sound.
-use Rattle.std.proofs.Common.{◌≡◌, ℕ, ◌<◌, ◌≤◌, ◌+◌, ◌*◌, ◌^◌, List, [], ◌∷◌, All, slice_get, slice_index_or, Bool, false, nat_eq, nat_le, nat_lt, IsTrue, if◌then◌else◌, codes, Option, None, Some, Result, Ok, Err, IfOk, subst, option_and_then}
+use Rattle.std.proofs.Common.{◌≡◌, ℕ, ◌<◌, ◌≤◌, ◌+◌, ◌*◌, ◌^◌, List, [], ◌∷◌, All, slice_get, Bool, false, nat_eq, nat_le, nat_lt, IsTrue, if◌then◌else◌, codes, Option, None, Some, Result, Ok, Err, IfOk, subst, option_and_then}
 use Rattle.std.proofs.lemmas.Bool.{and_parts, leb-true, ltb-true}
 use Rattle.std.proofs.lemmas.List.Elements.{All-from_recursion}
 use Rattle.std.proofs.lemmas.Option.{option_and_then_some, same_Some, slice_get_within}
@@ -23,7 +23,6 @@ use Rattle.canon_script.specs.Types.{funcs_of}
 use Rattle.canon_script.specs.Values.{value_of}
 use Rattle.canon_script.specs.declared.script.Script.{Script}
 use Rattle.canon_script.proofs.Funcs.{Told, funcs_told}
-use Rattle.canon_script.proofs.Built.{func_built}
 
 -- ---- calls
 
@@ -88,7 +87,6 @@ fits_sound memory heap fuel encoding fs calls inside told stand fit =
       work_fits = leb-true (last * 2 * turns calls) max_work fit2.1;
       posts_told = told.posts;
       funcs_few = told.few;
-      funcs_built = λ k d lt. func_built fs.table (slice_index_or fs.table.funcs k d) told.plain;
       calls_known = λ k d lt. (all k d lt).known;
       orders_narrow = λ k d lt. (all k d lt).narrow;
     }

@@ -7,13 +7,11 @@ use Rattle.serde_json.specs.Find.{as_bool, as_object, as_str, get}
 use Rattle.canon_json.specs.Json.{each, each_of, has_len, items_of, there, u32_of, word_of}
 use Rattle.canon_indices.specs.declared.options.StringEncoding.{StringEncoding}
 use Rattle.canon_indices.specs.declared.options.StringEncoding.TheVariants as encoding
-use Rattle.canon_types.specs.Table.{HasFunc, Table, param_members, result_members, types_of}
-use Rattle.canon_types.specs.declared.types.TypeFunc.{TypeFunc}
+use Rattle.canon_types.specs.Table.{HasFunc, Table, types_of}
 use Rattle.canon_layout.specs.Asked.{Funcs}
 use Rattle.canon_scripted.specs.declared.actions.Action.{Action}
 use Rattle.canon_scripted.specs.Orders.{AreNarrow}
 use Rattle.canon_scripted.specs.declared.orders.Ordered.{Ordered}
-use Rattle.canon_plan.specs.Built.{AreBuilt}
 use Rattle.canon_script.specs.Actions.{action_of, ask_count, growth, ordered_of}
 use Rattle.canon_script.specs.Literals.{Literal, literals_view}
 use Rattle.canon_script.specs.Numbers.{number_to}
@@ -164,19 +162,13 @@ item_view (item.Call c) = call_item_view c
 abbrev pub play_of : Script → Play
 play_of s = record { memory = s.memory; heap = s.heap; fuel = s.fuel; encoding = s.encoding; types = s.types; posts = s.posts.items; calls = map item_view s.items.items }
 
--- values can be given to the function, and it can give values
-pub record IsBuiltFunc (t : Table) (f : TypeFunc) : Type 0 where
-  pub params : AreBuilt (param_members t f)
-  pub results : AreBuilt (result_members t f)
-
--- It keeps the limits, no function takes or gives handles, each call is one of a function, and each ordered answer of
--- `realloc` is below 2 ^ 32. A table has at most 2 ^ 20 entries.
+-- It keeps the limits, each call is one of a function, and each ordered answer of `realloc` is below 2 ^ 32. A table has at most
+-- 2 ^ 20 entries.
 pub record IsWellFormed (p : Play) : Type 0 where
   pub heap_inside : p.heap ≤ p.memory
   pub memory_fits : final_memory p.memory p.calls ≤ max_memory
   pub work_fits : final_memory p.memory p.calls * 2 * turns p.calls ≤ max_work
   pub posts_told : length p.posts ≡ length p.types.funcs
   pub funcs_few : length p.types.funcs ≤ 1048576
-  pub funcs_built : All (IsBuiltFunc p.types) p.types.funcs
   pub calls_known : All (λ c. HasFunc p.types c.func) p.calls
   pub orders_narrow : All (λ c. AreNarrow c.reallocs) p.calls

@@ -28,6 +28,5 @@ pub use args::lower_args;
 pub use canon_context::{
     At, Component, Core, Export, Fault, HostcallFuelExhausted, LiftContext, LowerContext,
 };
-pub use canon_plan::is_built;
 pub use results::lift_results;
 pub use val::Val;

@@ -5,6 +5,8 @@ ghost use Rattle.canon_types.specs.Refusal.{empty_table, with_definition};
 ghost use Rattle.canon_types.specs.Table.{Knows, TupleType};
 ghost use Rattle.canon_types.specs.declared.types.InterfaceType.TheVariants as ty;
 
+mod handles;
+
 use canon_ledger::HostResourceIndex;
 use canon_memory::{Memory, Step, ValRaw, Words};
 use canon_resources::ResourceAny;
@@ -16,7 +18,7 @@ use canon_types::{
 };
 use canon_value::{
     At, Component, Core, Export, Fault, HostcallFuelExhausted, LiftContext, LowerContext, Val,
-    is_built, lift_results, lower_args,
+    lift_results, lower_args,
 };
 use std::alloc::Global;
 use std::process::Abort;
@@ -248,7 +250,6 @@ fn lifted(
     let mut cx = LiftContext::new(core, OptionsIndex::from_u32(0));
     let types = cx.types();
     assert!(rt; types.contains(ty));
-    assert!(rt; is_built(types, ty));
     let words = types.canonical_abi(ty).flat_count(16);
     assert!(rt; words == Some(src.len() as u64 - 1));
     let answer = Val::lift(alloc, &mut cx, *ty, src, 1);
@@ -377,23 +378,6 @@ fn a_component_is_sound_where_its_exports_are_inside(rt: HostRuntime) {
         component.exports.push(export).expect(&rt, "memory");
         assert!(rt; component.check() == want);
     }
-}
-
-#[test]
-fn every_kind_but_handles_is_built(rt: HostRuntime) {
-    let alloc = rt.alloc();
-    let mut builder = TypeBuilder::new(alloc);
-    let option = builder
-        .add_option(InterfaceType::U8)
-        .expect(&rt, "an option");
-    let pairs = builder
-        .add_map(InterfaceType::String, option)
-        .expect(&rt, "a map");
-    let outcome = builder
-        .add_result(Some(pairs), None)
-        .expect(&rt, "a result");
-    let types = builder.finish();
-    assert!(rt; is_built(&types, &InterfaceType::String) && is_built(&types, &outcome));
 }
 
 #[test]

@@ -18,11 +18,12 @@ returns-in-Ok-clause-call g c =
     let callee = export_callee before.component c.args.export.now in
     let result = c.run.result in
     let words = c.in-Ok.words in
-    let did = λ comp fuel ws es. IsRest g.G.Guest.leaves (export_callee comp c.args.export.now) fuel ws (moment_of seen mid) (moment_of seen after) mid.ledger after.ledger result es in
-    let second : Proceeds (moment_of seen mid) (moment_of seen after) (λ es. OnAnswered result (moves (guest_of mid) es (guest_of after))) (did before.component before.fuel words.items) =
-    subst (λ k. Proceeds (moment_of seen mid) (moment_of seen after) (λ es. OnAnswered result (moves (guest_of mid) es (guest_of after))) (did k.component k.fuel words.items))
+    let second : Proceeds (moment_of seen mid) (moment_of seen after) (λ es. OnAnswered result (moves (guest_of mid) es (guest_of after))) (λ es. IsRest g.G.Guest.leaves callee before.fuel words.items (moment_of seen mid) (moment_of seen after) mid.ledger after.ledger result es) =
+    subst (λ k. Proceeds (moment_of seen mid) (moment_of seen after) (λ es. OnAnswered result (moves (guest_of mid) es (guest_of after)))
+    (λ es. IsRest g.G.Guest.leaves (export_callee k.component c.args.export.now) k.fuel words.items (moment_of seen mid) (moment_of seen after) mid.ledger after.ledger result es))
     c.lower_params.ensures.same
-    (subst (λ ws. Proceeds (moment_of seen mid) (moment_of seen after) (λ es. OnAnswered result (moves (guest_of mid) es (guest_of after))) (did mid.component mid.fuel ws))
+    (subst (λ ws. Proceeds (moment_of seen mid) (moment_of seen after) (λ es. OnAnswered result (moves (guest_of mid) es (guest_of after)))
+    (λ es. IsRest g.G.Guest.leaves (export_callee mid.component c.args.export.now) mid.fuel ws (moment_of seen mid) (moment_of seen after) mid.ledger after.ledger result es))
     c.deref.ensures.value c.run.ensures.did) in
     call_started g.G.Guest.leaves callee before.fuel c.args.params.now (moment_of seen before) (moment_of seen mid) (moment_of seen after) before.ledger mid.ledger after.ledger words result
     (λ es. moves (guest_of before) es (guest_of mid)) (λ es. OnAnswered result (moves (guest_of mid) es (guest_of after))) (λ es. OnAnswered result (moves (guest_of before) es (guest_of after)))

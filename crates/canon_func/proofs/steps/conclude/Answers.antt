@@ -1,5 +1,6 @@
 use Rattle.std.proofs.Common.{Err, Global, Ok, Vec, [], ap, subst, sym, ◌∙◌, ◌≡◌}
 use Rattle.canon_context.specs.Core.{guest_of, moment_of}
+use Rattle.canon_ledger.specs.Handles.{can_leave}
 use Rattle.canon_ledger.specs.Ledger.{leave}
 use Rattle.canon_value.specs.declared.val.Val.{Val}
 use Rattle.canon_func.specs.Call.{OnAnswered}
@@ -10,10 +11,10 @@ use Rattle.canon_func.proofs.steps.conclude.Goals as goal
 
 -- the scope of what was lifted is left
 pub leave-requires : goal.leave-requires
-leave-requires g c = c.in-Ok.ensures.lifted.3
+leave-requires g c = ap (λ k. can_leave k.ledger.handles) c.in-Ok-post_return.ensures.same ∙ c.in-Ok.ensures.lifted.3
 
-pub returns-in-Ok-clause-did : goal.returns-in-Ok-clause-did
-returns-in-Ok-clause-did g c =
+pub returns-in-Ok-post_return-clause-did : goal.returns-in-Ok-post_return-clause-did
+returns-in-Ok-post_return-clause-did g c =
     let seen = g.G.Guest.seen in
     let moves = g.G.Guest.moves in
     let core = c.args.core.now in

@@ -24,7 +24,7 @@ returns-in-Ok-clause-lowered g c =
     let all = written c.in_ok-words.words.items c.lower_into.new.words c.in_ok-words.words.len (omega (arith, c.deref_mut.ensures.len, c.lower_into.auto.words)) in
     let counted : words_within max_params (tuple_members c.types-types.result.now f.params) ≡ words_within max_params (tuple_members (types_of before) f.params) =
     ap (λ (t : Table). words_within max_params (tuple_members t f.params)) same in
-    let low = c.in-Ok.ensures in
+    let low = c.in-Ok.ensures.lowers in
     lowered_done (moment_of seen before) (moment_of seen after) (encoding_by before c.args.export.now.options) before.component.types (tuple_members (types_of before) f.params) _ c.args.params.now before.ledger after.ledger
     (members_are (types_of before) c.types-types.result.now c.args.export.now.ty f same c.func.ensures.found)
     _ c.lower_into.new.words _ all (omega (arith, ap length all, c.lower_into.auto.words, c.deref_mut.ensures.len, c.in_ok-words.ensures.len, c.word_count.ensures, counted)) (λ near none. ap (moment_of seen) (low.quiet near none).0) low.crosses low.small low.moved
@@ -38,7 +38,7 @@ returns-in-Err-clause-lowered g c =
     let f = c.func.result.now in
     let e = c.in-Err.fault in
     let same : c.types-types.result.now ≡ types_of before = c.types-types.ensures ∙ ap (λ k. k.types.types) c.component.ensures.component in
-    let low = c.in-Err.ensures in
+    let low = c.in-Err.ensures.lowers in
     lowered_refused (moment_of seen before) (moment_of seen after) (encoding_by before c.args.export.now.options) before.component.types (tuple_members (types_of before) f.params) _ c.args.params.now before.ledger after.ledger
     (members_are (types_of before) c.types-types.result.now c.args.export.now.ty f same c.func.ensures.found)
     e c.lower_into.new.words (λ es. OnAnswered {T = Vec ℕ Global} (Err (error.Fault e)) (moves (guest_of before) es (guest_of after)))

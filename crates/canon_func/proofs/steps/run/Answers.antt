@@ -16,11 +16,12 @@ returns-in-Ok-clause-did g c =
     let after = c.conclude.new.core in
     let callee = export_callee before.component c.args.export.now in
     let result = c.conclude.result in
-    let did = λ comp fuel l ws es. Concluded g.G.Guest.leaves (export_callee comp c.args.export.now) fuel ws (moment_of seen mid) (moment_of seen after) l after.ledger result es in
-    let second : Proceeds (moment_of seen mid) (moment_of seen after) (λ es. OnAnswered result (moves (guest_of mid) es (guest_of after))) (did before.component before.fuel before.ledger c.in-Ok.returned) =
-    subst (λ k. Proceeds (moment_of seen mid) (moment_of seen after) (λ es. OnAnswered result (moves (guest_of mid) es (guest_of after))) (did k.component k.fuel k.ledger c.in-Ok.returned))
+    let second : Proceeds (moment_of seen mid) (moment_of seen after) (λ es. OnAnswered result (moves (guest_of mid) es (guest_of after))) (λ es. Concluded g.G.Guest.leaves callee before.fuel c.in-Ok.returned (moment_of seen mid) (moment_of seen after) before.ledger after.ledger result es) =
+    subst (λ k. Proceeds (moment_of seen mid) (moment_of seen after) (λ es. OnAnswered result (moves (guest_of mid) es (guest_of after)))
+    (λ es. Concluded g.G.Guest.leaves (export_callee k.component c.args.export.now) k.fuel c.in-Ok.returned (moment_of seen mid) (moment_of seen after) k.ledger after.ledger result es))
     c.start.ensures.same
-    (subst (λ ws. Proceeds (moment_of seen mid) (moment_of seen after) (λ es. OnAnswered result (moves (guest_of mid) es (guest_of after))) (did mid.component mid.fuel mid.ledger ws))
+    (subst (λ ws. Proceeds (moment_of seen mid) (moment_of seen after) (λ es. OnAnswered result (moves (guest_of mid) es (guest_of after)))
+    (λ es. Concluded g.G.Guest.leaves (export_callee mid.component c.args.export.now) mid.fuel ws (moment_of seen mid) (moment_of seen after) mid.ledger after.ledger result es))
     c.as_slice.ensures c.conclude.ensures.did) in
     run_returned g.G.Guest.leaves callee before.fuel c.args.words.now before.ledger after.ledger (moment_of seen before) (moment_of seen mid) (moment_of seen after) c.in-Ok.returned result
     (λ es. moves (guest_of before) es (guest_of mid)) (λ es. OnAnswered result (moves (guest_of mid) es (guest_of after))) (λ es. OnAnswered result (moves (guest_of before) es (guest_of after)))
