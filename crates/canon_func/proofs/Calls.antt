@@ -25,7 +25,7 @@ use Rattle.canon_lowering.specs.Storing.{narrow}
 use Rattle.canon_value.specs.Fails.{AreSmall, BlamesMembers, Failure, IsTypeFailure, MemberFails, field_name, mismatch, payload_expected, payload_not_expected, unknown_case, unknown_flag, wrong_length}
 use Rattle.canon_value.proofs.Values.{failure_excludes}
 use Rattle.canon_value.specs.Lifts.{AreResults}
-use Rattle.canon_value.specs.Resources.{EndsAs, stop_of, told_fault}
+use Rattle.canon_value.specs.Resources.{EndsAs, all_passes, stop_of, told_fault}
 use Rattle.canon_context.specs.Lowers.{fault_ending}
 use Rattle.canon_value.specs.Value.{HaveTrees}
 use Rattle.canon_context.specs.declared.fault.Fault.{Fault}
@@ -122,7 +122,7 @@ cause_after callee fuel params entry mid after xs ys (error.Fault (fault.StringT
 cause_after callee fuel params entry mid after xs ys (error.Fault (fault.SizeOverflow n)) g h = absurd h
 cause_after callee fuel params entry mid after xs ys (error.Fault (fault.ReallocMisaligned a)) g h = absurd h
 cause_after callee fuel params entry mid after xs ys (error.Fault (fault.ReallocOutOfBounds a)) g h = absurd h
-cause_after callee fuel params entry mid after xs ys (error.Fault (fault.Resource r)) g h = inr (ends_after _ xs ys h)
+cause_after callee fuel params entry mid after xs ys (error.Fault (fault.Resource r)) g h = (h.0, inr (ends_after _ xs ys h.1))
 
 -- good answers stay good in a longer memory
 good_later : (m n : ℕ) (answers : List Answer) → m ≤ n → AllGood m answers → AllGood n answers
@@ -371,7 +371,7 @@ module _ (Leaves : List ℕ → List ℕ → Type 0) (callee : Callee) (fuel : �
   ledger_by r answers trap none accepted told stops = record {
     late = subst (λ o. TrapsLate (length entry.bytes) o) (sym none) tt;
     accepted = accepted;
-    cause = inl (none_started answers trap, none_trapped answers trap none);
+    cause = (told, inl (none_started answers trap, none_trapped answers trap none));
     valid = λ ts have small lawful calm accepts. absurd (leaves_excluded r (enter before) left accepts.1 (param_parts callee params) accepts.0 (subst (λ why. LeavesStop why (enter before) (param_parts callee params) left) told stops) accepts.2);
   }
 
@@ -431,7 +431,7 @@ module _ (Leaves : List ℕ → List ℕ → Type 0) (callee : Callee) (fuel : �
       subst (λ end. (mine : Low words handles end) → Why f end words handles mine) (sym is) (λ mine. refused_by f words handles mine blames told stops) low
 
   -- however it ended
-  refused_so : (f : Fault) (ending : Ending) (words handles : List ℕ) (low : Low words handles ending) → EndsAs {T = Unit {0}} true (Err f) ending → BlamesMembers callee.encoding callee.params params f → told_fault f ≡ f
+  refused_so : (f : Fault) (ending : Ending) (words handles : List ℕ) (low : Low words handles ending) → EndsAs {T = Unit {0}} true (all_passes callee.params params) (Err f) ending → BlamesMembers callee.encoding callee.params params f → told_fault f ≡ f
       → LeavesStop (stop_of f) (enter before) (param_parts callee params) left → Why f ending words handles low
   refused_so fault.OutOfMemory ending words handles low (inl is) blames told stops =
       short_by ending words handles low (subst (λ end. CauseOf entry after low.answers low.trap end) is low.lowering.cause).0 (subst (λ end. Accepted end (length after.bytes) low.answers) is low.lowering.accepted)
@@ -443,12 +443,12 @@ module _ (Leaves : List ℕ → List ℕ → Type 0) (callee : Callee) (fuel : �
   asks_short answers trap h = (h.0, λ far. (begins_short _ answers trap (h.1 far).0, (h.1 far).1))
 
   -- what it asked for by its types alone
-  asks_as : (f : Fault) (ending : Ending) (answers : List Answer) (trap : Option Trap) → EndsAs {T = Unit {0}} true (Err f) ending → AsksByTypes callee.params ending answers trap → AsksByTypes callee.params (fault_ending f) answers trap
+  asks_as : (f : Fault) (ending : Ending) (answers : List Answer) (trap : Option Trap) → EndsAs {T = Unit {0}} true (all_passes callee.params params) (Err f) ending → AsksByTypes callee.params ending answers trap → AsksByTypes callee.params (fault_ending f) answers trap
   asks_as fault.OutOfMemory ending answers trap (inl is) h = subst (λ end. AsksByTypes callee.params end answers trap) is h
   asks_as fault.OutOfMemory ending answers trap (inr both) h = asks_short answers trap (subst (λ end. AsksByTypes callee.params end answers trap) both.1 h)
   asks_as f ending answers trap is h = subst (λ end. AsksByTypes callee.params end answers trap) is h
 
-  pub refused_call : (f : Fault) (ending : Ending) (words handles : List ℕ) (low : Low words handles ending) → EndsAs {T = Unit {0}} true (Err f) ending → BlamesMembers callee.encoding callee.params params f → told_fault f ≡ f
+  pub refused_call : (f : Fault) (ending : Ending) (words handles : List ℕ) (low : Low words handles ending) → EndsAs {T = Unit {0}} true (all_passes callee.params params) (Err f) ending → BlamesMembers callee.encoding callee.params params f → told_fault f ≡ f
       → AsksByTypes callee.params ending low.answers low.trap → LeavesStop (stop_of f) (enter before) (param_parts callee params) left → CoreCall Leaves callee fuel params entry after before left (Err (error.Fault f)) (events_of low.answers low.trap)
   refused_call f ending words handles low is blames told quiet stops results =
       made results f low.answers low.trap (goes_advance entry after _ _ low.lowering.goes) (asks_as f ending low.answers low.trap is quiet) low.lowering.goes.marks (λ ts have. ((low.requested ts have).rest, (low.requested ts have).met))

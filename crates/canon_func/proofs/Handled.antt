@@ -11,7 +11,7 @@ use Rattle.canon_memory.specs.declared.event.Event.{Event}
 use Rattle.canon_memory.specs.declared.event.Event.TheVariants as event
 use Rattle.canon_resources.specs.Held.{Any}
 use Rattle.canon_func.specs.Call.{LiftsReturned, StopsLater, StopsReturned, result_parts, returned_leaves, scope_exit}
-use Rattle.canon_func.specs.Runs.{Each, IsNoPost, SomeReturn}
+use Rattle.canon_func.specs.Runs.{Each, EndsIn, IsNoPost, IsTrap, SomeReturn}
 use Rattle.canon_func.specs.Stores.{Callee}
 use Rattle.canon_func.proofs.Prefixes.{each_after, each_answer, each_then}
 
@@ -22,9 +22,19 @@ some_after P [] ys h = h
 some_after P (event.Return ws m ∷ xs) ys h = inr (some_after P xs ys h)
 some_after P (e ∷ xs) ys h = some_after P xs ys h
 
+-- what follows decides how it ends
+ends_later : (P : Event → Type 0) (xs : List Event) (y : Event) (ys : List Event) → EndsIn P (xs ++ y ∷ ys) → EndsIn P (y ∷ ys)
+ends_later P [] y ys h = h
+ends_later P (x ∷ []) y ys h = h
+ends_later P (x ∷ z ∷ xs) y ys h = ends_later P (z ∷ xs) y ys h
+
+calm_after : (P : List ℕ → List ℕ → Type 0) (xs later : List Event) → SomeReturn P later → ¬ EndsIn IsTrap later → ¬ EndsIn IsTrap (xs ++ later)
+calm_after P xs [] some calm = absurd some
+calm_after P xs (y ∷ later) some calm = λ h. calm (ends_later IsTrap xs y later h)
+
 pub stops_after : (callee : Callee) (why : Option ResourceFault) (l m : LedgerState) (answers : List Answer) (later : List Event) → StopsLater callee why l m later → StopsLater callee why l m (events_of answers None ++ later)
 stops_after callee why l m answers later (inl (none, same, each)) = inl (none, same, each_then _ (events_of answers None) later (each_answer _ (λ c a. tt) (λ c n. tt) answers None) each)
-stops_after callee why l m answers later (inr (inl (untold, some))) = inr (inl (each_then IsNoPost (events_of answers None) later (each_answer IsNoPost (λ c a. tt) (λ c n. tt) answers None) untold, some_after _ (events_of answers None) later some))
+stops_after callee why l m answers later (inr (inl (untold, calm, some))) = inr (inl (each_then IsNoPost (events_of answers None) later (each_answer IsNoPost (λ c a. tt) (λ c n. tt) answers None) untold, calm_after _ (events_of answers None) later some calm, some_after _ (events_of answers None) later some))
 stops_after callee why l m answers later (inr (inr (none, posts, some))) = inr (inr (none, (λ untold. posts (each_after IsNoPost (events_of answers None) later untold)), some_after _ (events_of answers None) later some))
 
 -- ---- what is accepted isn't refused

@@ -1,6 +1,7 @@
 pub mod Calls
 pub mod Composed
 pub mod Counts
+pub mod DropLemmas
 pub mod Handled
 pub mod Leaving
 pub mod Lowered
@@ -8,3 +9,4 @@ pub mod Owned
 pub mod Prefixes
 pub mod Rests
 pub mod Returned
+pub mod Scoped

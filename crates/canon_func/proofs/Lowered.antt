@@ -12,7 +12,7 @@ use Rattle.canon_memory.specs.Guest.{GuestIn, Moment, Seen}
 use Rattle.canon_memory.specs.Journal.{Adds}
 use Rattle.canon_types.specs.Instance.{Instance}
 use Rattle.canon_ledger.specs.Ledger.{LedgerState}
-use Rattle.canon_leaves.specs.Parts.{LeavesStop, LeavesTake, lower_parts}
+use Rattle.canon_leaves.specs.Parts.{LeavesStop, LeavesTake, Passed, lower_parts}
 use Rattle.canon_lowering.proofs.Lowerings.{none_answered}
 use Rattle.canon_lowering.specs.Attempt.{LowersArgs}
 use Rattle.canon_lowering.specs.Lowering.{Answer, CauseOf, Ending, Trap, done, events_of, marks_of, refused, short}
@@ -22,7 +22,7 @@ use Rattle.canon_value.specs.Fails.{AreSmall, BlamesMembers}
 use Rattle.canon_context.specs.Lowers.{fault_ending}
 use Rattle.canon_context.specs.Moves.{Moves}
 use Rattle.canon_context.specs.Quiet.{have_block, have_handle}
-use Rattle.canon_value.specs.Resources.{Crosses, EndsAs, all_passes, stop_of, told_fault}
+use Rattle.canon_value.specs.Resources.{Crosses, EndsAs, UsesLedger, all_passes, stop_of, told_fault}
 use Rattle.canon_value.specs.Value.{HaveTrees}
 use Rattle.canon_context.specs.declared.fault.Fault.{Fault}
 use Rattle.canon_context.specs.declared.fault.Fault.TheVariants as fault
@@ -50,11 +50,11 @@ lowers_at seen moves core made after b options own tuple params words result sam
     (subst (λ k. LowersFor seen moves k after own tuple params words result) same h))
 
 -- how a lowering ended that asked for nothing
-ending_quiet : (some : Bool) (f : Fault) (ending : Ending) → EndsAs {T = Unit {0}} some (Err f) ending → (fault_ending f ≡ refused) ⊎ ((some ≡ true) × (f ≡ fault.OutOfMemory)) → (ending ≡ short) ⊎ (ending ≡ refused)
-ending_quiet some fault.OutOfMemory ending (inl is) h = inl is
-ending_quiet some fault.OutOfMemory ending (inr both) h = inr both.1
-ending_quiet some f ending is (inl e) = inr (is ∙ e)
-ending_quiet some f ending is (inr both) = cc
+ending_quiet : (some : Bool) (ps : List Passed) (f : Fault) (ending : Ending) → EndsAs {T = Unit {0}} some ps (Err f) ending → (fault_ending f ≡ refused) ⊎ (UsesLedger some ps × (f ≡ fault.OutOfMemory)) → (ending ≡ short) ⊎ (ending ≡ refused)
+ending_quiet some ps fault.OutOfMemory ending (inl is) h = inl is
+ending_quiet some ps fault.OutOfMemory ending (inr both) h = inr both.1
+ending_quiet some ps f ending is (inl e) = inr (is ∙ e)
+ending_quiet some ps f ending is (inr both) = let want : f ≡ fault.OutOfMemory = both.1 in cc
 
 -- no request trapped
 untrapped : (a b : Moment) (answers : List Answer) (trap : Option Trap) (ending : Ending) → CauseOf a b answers trap ending → (ending ≡ short) ⊎ (ending ≡ refused) → trap ≡ None
@@ -62,10 +62,10 @@ untrapped a b answers trap ending cause (inl is) = (subst (λ end. CauseOf a b a
 untrapped a b answers trap ending cause (inr is) = subst (λ end. CauseOf a b answers trap end) is cause
 
 -- it ended so whether there are handles or not
-ends_any : (T U : Type 0) (some : Bool) (f : Fault) (ending : Ending) → EndsAs {T = T} some (Err f) ending → EndsAs {T = U} true (Err f) ending
-ends_any T U some fault.OutOfMemory ending (inl is) = inl is
-ends_any T U some fault.OutOfMemory ending (inr both) = inr (refl, both.1)
-ends_any T U some f ending is = is
+ends_any : (T U : Type 0) (some : Bool) (ps : List Passed) (f : Fault) (ending : Ending) → EndsAs {T = T} some ps (Err f) ending → EndsAs {T = U} true ps (Err f) ending
+ends_any T U some ps fault.OutOfMemory ending (inl is) = inl is
+ends_any T U some ps fault.OutOfMemory ending (inr both) = inr ((refl, both.0.1), both.1)
+ends_any T U some ps f ending is = is
 
 -- what a refused lowering tells of the guest's moves
 pub refused_moves : {G : Type 0} (V : Type 0) (seen : G → Seen) (moves : GuestIn G → List Event → GuestIn G → Type 0) (g h : GuestIn G) (f : Fault) → Moves seen moves g h (fault_ending f)
@@ -127,10 +127,10 @@ module _ (a b : Moment) (enc : Encoding) (types : Instance) (ms ns : Members) (p
       }
 
   pub lowered_refused : (f : Fault) (dst : List ℕ) (M : List Event → Type 0) → Crosses {T = Unit {0}} types (have_handle ms) (all_passes ms params) (Lowers ms dst) l l2 (Err f) → BlamesMembers enc ms params f
-      → (members_flat ms ≤ max_params → have_block ms ≡ false → (b ≡ a) × ((fault_ending f ≡ refused) ⊎ ((have_handle ms ≡ true) × (f ≡ fault.OutOfMemory))))
+      → (members_flat ms ≤ max_params → have_block ms ≡ false → (b ≡ a) × ((fault_ending f ≡ refused) ⊎ (UsesLedger (have_handle ms) (all_passes ms params) × (f ≡ fault.OutOfMemory))))
       → ((l es : List Event) → a.guest.journal ≡ Some l → b.guest.journal ≡ Some (l ++ es) → M es)
       → Adding a b M (λ es. ((f ≡ fault.OutOfMemory) × (b ≡ a) × (l2 ≡ l) × (es ≡ [])) ⊎ ((words hs : List ℕ) × (ending : Ending) × (low : LowersArgs false a b enc ns (HaveTrees ns params) words hs ending)
-      × EndsAs {T = Unit {0}} true (Err f) ending × BlamesMembers enc ns params f × (told_fault f ≡ f) × (es ≡ events_of low.answers low.trap) × AsksByTypes ns ending low.answers low.trap
+      × EndsAs {T = Unit {0}} true (all_passes ns params) (Err f) ending × BlamesMembers enc ns params f × (told_fault f ≡ f) × (es ≡ events_of low.answers low.trap) × AsksByTypes ns ending low.answers low.trap
       × LeavesStop (stop_of f) l (map (lower_parts types) (all_passes ns params)) l2))
   lowered_refused f dst M cross blames same new =
       let both : Lowers ns dst cross.given cross.ending = subst (λ ks. Lowers ks dst cross.given cross.ending) is cross.lowered in
@@ -144,13 +144,13 @@ module _ (a b : Moment) (enc : Encoding) (types : Instance) (ms ns : Members) (p
           cross.given,
           cross.ending,
           mine,
-          ends_any (Unit {0}) (Unit {0}) (have_handle ms) f cross.ending cross.ends,
+          subst (λ ks. EndsAs {T = Unit {0}} true (all_passes ks params) (Err f) cross.ending) is (ends_any (Unit {0}) (Unit {0}) (have_handle ms) (all_passes ms params) f cross.ending cross.ends),
           subst (λ ks. BlamesMembers enc ks params f) is blames,
           cross.as_told,
           refl,
           (
             asks_nothing mine.answers mine.trap mine.lowering.goes.marks
-                (λ quiet near. untrapped a b mine.answers mine.trap cross.ending mine.lowering.cause (ending_quiet (have_handle ms) f cross.ending cross.ends (same near quiet).1)) (λ near quiet. (same near quiet).0),
+                (λ quiet near. untrapped a b mine.answers mine.trap cross.ending mine.lowering.cause (ending_quiet (have_handle ms) (all_passes ms params) f cross.ending cross.ends (same near quiet).1)) (λ near quiet. (same near quiet).0),
             both.asks,
           ),
           subst (λ ks. LeavesStop (stop_of f) l (map (lower_parts types) (all_passes ks params)) l2) is cross.passed.0,

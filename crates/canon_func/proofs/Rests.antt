@@ -170,7 +170,7 @@ module _ (Leaves : List ℕ → List ℕ → Type 0) (callee : Callee) (fuel : �
 
     -- handles stopped at the end of the scope or after it
     stopped : (f : Fault) → Lifted callee fuel returned memory ledger left (Err (error.Fault f)) → StopsLater callee (stop_of f) ledger left (event.Start callee.func words before.bytes ∷ event.Return returned memory ∷ [])
-    stopped f h = inr (inl ((tt, (tt, tt)), inl (h.0, h.2)))
+    stopped f h = inr (inl ((tt, (tt, tt)), (λ trapped. trapped), inl (h.0, h.2)))
 
     faulted : (f : Fault) → Lifted callee fuel returned memory ledger left (Err (error.Fault f))
         → RestCause callee fuel before after (event.Start callee.func words before.bytes ∷ event.Return returned memory ∷ []) (error.Fault f)
@@ -189,7 +189,7 @@ module _ (Leaves : List ℕ → List ℕ → Type 0) (callee : Callee) (fuel : �
     lifted_made (error.Fault fault.HostcallFuelExhausted) n h = faulted fault.HostcallFuelExhausted h h.1
         (λ us r few accepted. absurd (past_cost fuel _ _ h.1.1 (reach_is_the_cost.values max_results false callee.encoding (narrow memory) returned callee.results us r) few))
     lifted_made (error.Fault fault.OutOfMemory) n h = faulted fault.OutOfMemory h tt (λ us r few accepted. refl)
-    lifted_made (error.Fault (fault.Resource r)) n h = faulted (fault.Resource r) h h.0
+    lifted_made (error.Fault (fault.Resource r)) n h = faulted (fault.Resource r) h (h.1, h.0)
         (λ us rep few accepted. absurd (returned_excluded callee returned memory r ledger left accepted.1 accepted.0 (subst (λ why. StopsReturned callee returned memory why ledger left) h.1 h.2) accepted.2))
     lifted_made (error.UnknownImport i) n h = absurd h
     lifted_made error.WrongCount n h = absurd h

@@ -23,7 +23,7 @@ use Rattle.canon_ledger.specs.Handles.{can_leave, top_scope}
 use Rattle.canon_ledger.specs.Ledger.{Done, LedgerState, enter, leave, validate_scope_exit}
 use Rattle.canon_ledger.specs.declared.fault.ResourceFault.{ResourceFault}
 use Rattle.canon_resources.specs.Held.{Any}
-use Rattle.canon_leaves.specs.Parts.{LeavesLift, LeavesStop, LeavesTake, Part, lift_parts, lower_parts}
+use Rattle.canon_leaves.specs.Parts.{LeavesLift, LeavesStop, LeavesTake, Part, lift_parts, lower_parts, refusal_of}
 use Rattle.canon_value.specs.Args.{AsksTuple}
 use Rattle.canon_value.specs.Fails.{AreSmall, BlamesMembers}
 use Rattle.canon_value.specs.Lifts.{AreResults}
@@ -116,7 +116,7 @@ abbrev pub IsPastFuel : Callee → ℕ → List ℕ → List ℕ → Type 0
 IsPastFuel callee fuel words memory = (length words ≡ result_words callee.results) × (fuel < values_reach callee.encoding (narrow memory) words max_results callee.results)
 
 -- Why a call was refused with this fault. Of a refusal of the ledger this says when it came: before the start, or at the end of the
--- call's scope or in lifting; why it was refused is told by the ledger (`HandlesPass`).
+-- call's scope or in lifting; why it was refused is told by the ledger (`HandlesPass`), and it is never want of memory.
 abbrev pub FaultCause : Callee → ℕ → List Val → Moment → Moment → List Event → Fault → Type 0
 FaultCause callee fuel params before after events (fault.TypeMismatch k) = Each IsNoStart events × ¬ EndsIn IsTrap events × BlamesMembers callee.encoding callee.params params (fault.TypeMismatch k)
 FaultCause callee fuel params before after events (fault.FieldName k) = Each IsNoStart events × ¬ EndsIn IsTrap events × BlamesMembers callee.encoding callee.params params (fault.FieldName k)
@@ -140,7 +140,8 @@ FaultCause callee fuel params before after events (fault.InvalidChar at) = EndsI
 FaultCause callee fuel params before after events (fault.BadDiscriminant at d) = EndsIn (IsReturn (HasFault callee (no_case d) at)) events
 FaultCause callee fuel params before after events fault.HostcallFuelExhausted = EndsIn (IsReturn (IsPastFuel callee fuel)) events
 FaultCause callee fuel params before after events fault.OutOfMemory = ⊤
-FaultCause callee fuel params before after events (fault.Resource e) = (Each IsNoStart events × ¬ EndsIn IsTrap events) ⊎ EndsIn (IsReturn (λ words m. length words ≡ result_words callee.results)) events
+FaultCause callee fuel params before after events (fault.Resource e) = (refusal_of e ≡ Some e)
+    × ((Each IsNoStart events × ¬ EndsIn IsTrap events) ⊎ EndsIn (IsReturn (λ words m. length words ≡ result_words callee.results)) events)
 
 -- why a call was refused with this error, which isn't one of those before the guest is entered
 abbrev pub Cause : Callee → ℕ → List Val → Moment → Moment → List Event → Error → Type 0
@@ -198,7 +199,7 @@ pub record Concludes (callee : Callee) (words memory : List ℕ) (results : List
 abbrev pub StopsLater : Callee → Option ResourceFault → LedgerState → LedgerState → List Event → Type 0
 StopsLater callee why before after events =
     ((why ≡ None) × (after ≡ before) × Each (OnReturn (λ words m. ¬ (length words ≡ result_words callee.results))) events)
-    ⊎ ((Each IsNoPost events) × SomeReturn (λ words m. (length words ≡ result_words callee.results) × StopsReturned callee words m why before after) events)
+    ⊎ ((Each IsNoPost events) × (¬ EndsIn IsTrap events) × SomeReturn (λ words m. (length words ≡ result_words callee.results) × StopsReturned callee words m why before after) events)
     ⊎ ((why ≡ None) × (¬ Each IsNoPost events) × SomeReturn (λ words m. (resources : List Any) × LiftsReturned callee words m resources before after) events)
 
 -- the refusal of the ledger that a call answers, if it is one

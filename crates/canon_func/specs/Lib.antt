@@ -1,4 +1,5 @@
 pub mod Call
+pub mod Drop
 pub mod Runs
 pub mod Steps
 pub mod Stores

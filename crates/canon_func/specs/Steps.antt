@@ -22,7 +22,7 @@ use Rattle.canon_value.specs.Lifts.{AreResults, LiftsResults}
 use Rattle.canon_ledger.specs.Handles.{can_leave}
 use Rattle.canon_ledger.specs.Ledger.{LedgerState, leave}
 use Rattle.canon_resources.specs.Held.{Any}
-use Rattle.canon_leaves.specs.Parts.{LeavesStop, LeavesTake}
+use Rattle.canon_leaves.specs.Parts.{LeavesStop, LeavesTake, refusal_of}
 use Rattle.canon_value.specs.Args.{LowersParams}
 use Rattle.canon_value.specs.Resources.{Crosses, EndsAs, QuietBut, all_passes, all_resources, stop_of, told_fault}
 use Rattle.canon_types.specs.Table.{tuple_members}
@@ -62,7 +62,7 @@ LoweredArgs callee params before after ledger left (Ok words) events =
 LoweredArgs callee params before after ledger left (Err (error.Fault f)) events =
     ((f ≡ fault.OutOfMemory) × (after ≡ before) × (left ≡ ledger) × (events ≡ []))
     ⊎ ((words handles : List ℕ) × (ending : Ending) × (low : LowersArgs false before after callee.encoding callee.params (HaveTrees callee.params params) words handles ending)
-    × EndsAs {T = Unit {0}} true (Err f) ending × BlamesMembers callee.encoding callee.params params f × (told_fault f ≡ f) × (events ≡ events_of low.answers low.trap) × AsksByTypes callee.params ending low.answers low.trap
+    × EndsAs {T = Unit {0}} true (all_passes callee.params params) (Err f) ending × BlamesMembers callee.encoding callee.params params f × (told_fault f ≡ f) × (events ≡ events_of low.answers low.trap) × AsksByTypes callee.params ending low.answers low.trap
     × LeavesStop (stop_of f) ledger (param_parts callee params) left)
 LoweredArgs callee params before after ledger left (Err _) events = ⊥
 
@@ -73,7 +73,7 @@ pub record LowersFor {T G X : Type 0} (seen : G → Seen) (moves : GuestIn G →
       core.ledger after.ledger result
   pub cause : IfErr result (BlamesMembers (encoding_by core options) (tuple_members (types_of core) tuple) params)
   pub small : OnOk result (AreSmall (encoding_by core options) (tuple_members (types_of core) tuple) params)
-  pub quiet : members_flat (tuple_members (types_of core) tuple) ≤ max_params → QuietBut (have_handle (tuple_members (types_of core) tuple)) (have_block (tuple_members (types_of core) tuple)) (SameButLedger core after) result
+  pub quiet : members_flat (tuple_members (types_of core) tuple) ≤ max_params → QuietBut (have_handle (tuple_members (types_of core) tuple)) (all_passes (tuple_members (types_of core) tuple) params) (have_block (tuple_members (types_of core) tuple)) (SameButLedger core after) result
   pub moved : Moves seen moves (guest_of core) (guest_of after) (ending_of result)
   pub same : SameButHandles core after
 
@@ -135,7 +135,7 @@ RestCause callee fuel before after events (error.Fault (fault.InvalidChar at)) =
 RestCause callee fuel before after events (error.Fault (fault.BadDiscriminant at d)) = EndsIn (IsReturn (HasFault callee (no_case d) at)) events
 RestCause callee fuel before after events (error.Fault fault.HostcallFuelExhausted) = EndsIn (IsReturn (IsPastFuel callee fuel)) events
 RestCause callee fuel before after events (error.Fault fault.OutOfMemory) = ⊤
-RestCause callee fuel before after events (error.Fault (fault.Resource e)) = EndsIn (IsReturn (λ words m. length words ≡ result_words callee.results)) events
+RestCause callee fuel before after events (error.Fault (fault.Resource e)) = (refusal_of e ≡ Some e) × EndsIn (IsReturn (λ words m. length words ≡ result_words callee.results)) events
 RestCause callee fuel before after events _ = ⊥
 
 -- the ledger from the start on

@@ -1,11 +1,13 @@
 //! Functions that a component exports, the store that they belong to, and how they are called.
 #![tactic(auto)]
 
+mod dropping;
 mod error;
 mod func;
 mod steps;
 mod store;
 
+pub use dropping::resource_drop;
 pub use error::Error;
 pub use func::Func;
 pub use store::Store;

@@ -25,6 +25,7 @@ impl<T, G> Store<T, G> {
     ghost use Rattle.canon_func.specs.Stores.{IsOwned};
     ghost use Rattle.canon_func.specs.contracts.store.Store.{the_row};
     ghost use Rattle.canon_context.specs.contracts.core_data.Core as core_type;
+    ghost use Rattle.canon_ledger.specs.Ledger.{set_limit};
 
     /// A store that no call has trapped.
     pub fn new(core: Core<T, G>) -> Self
@@ -60,6 +61,20 @@ impl<T, G> Store<T, G> {
         ensures { self.new ≡ record self.old { core = record self.old.core { fuel = v } } }
     {
         self.core.set_fuel(v);
+    }
+
+    /// The number of the live handles.
+    pub fn live_handles(&self) -> u64
+        ensures { result ≡ self.now.core.ledger.handles.counter.live }
+    {
+        self.core.live()
+    }
+
+    /// Sets how many live handles there may be. A lower limit refuses nothing that exists.
+    pub fn set_handle_limit(&mut self, v: u64)
+        ensures { self.new ≡ record self.old { core = record self.old.core { ledger = set_limit self.old.core.ledger v } } }
+    {
+        self.core.set_handle_limit(v);
     }
 
     /// Whether a call was refused after it entered the guest; no call enters it any more.

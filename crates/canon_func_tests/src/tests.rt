@@ -2,6 +2,8 @@
 
 ghost use Rattle.std.specs.Prelude.{◌≡◌, [], None};
 
+mod handles;
+
 use canon_func::{Error, Store};
 use canon_memory::{Guest, GuestFault, Memory, Step, ValRaw, Words};
 use canon_types::{

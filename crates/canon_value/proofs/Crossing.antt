@@ -14,7 +14,7 @@ use Rattle.canon_model.specs.Text.{Encoding}
 use Rattle.canon_types.specs.Instance.{Instance}
 use Rattle.canon_value.proofs.Passing.{Ended}
 use Rattle.canon_value.specs.Fails.{Blames, Failure}
-use Rattle.canon_value.specs.Resources.{Crosses, EndsAs, ledger_fault, stop_of, told_fault}
+use Rattle.canon_value.specs.Resources.{Crosses, EndsAs, UsesLedger, ledger_fault, stop_of, told_fault}
 
 -- want of the ledger's memory, inside
 abbrev wanting : Fault
@@ -94,32 +94,33 @@ told_itself (fault.Resource resource.BorrowsRemain) = refl
 told_itself (fault.Resource resource.NoScope) = refl
 told_itself (fault.Resource resource.OutOfMemory) = refl
 
-ends_as : (X : Type 0) (handles : Bool) (e : Fault) → EndsAs {T = X} handles (Err e) (fault_ending e)
-ends_as X handles (fault.TypeMismatch k) = refl
-ends_as X handles (fault.LengthMismatch k) = refl
-ends_as X handles (fault.FieldName k) = refl
-ends_as X handles (fault.UnknownCase k) = refl
-ends_as X handles (fault.UnknownFlag k) = refl
-ends_as X handles (fault.PayloadExpected k) = refl
-ends_as X handles (fault.PayloadNotExpected k) = refl
-ends_as X handles (fault.ReallocMisaligned a) = refl
-ends_as X handles (fault.ReallocOutOfBounds a) = refl
-ends_as X handles fault.GuestTrap = refl
-ends_as X handles (fault.PointerMisaligned at) = refl
-ends_as X handles (fault.PointerOutOfBounds at) = refl
-ends_as X handles (fault.StringTooLong n) = refl
-ends_as X handles (fault.SizeOverflow n) = refl
-ends_as X handles (fault.InvalidUtf8 at) = refl
-ends_as X handles (fault.InvalidUtf16 at) = refl
-ends_as X handles (fault.InvalidChar at) = refl
-ends_as X handles (fault.BadDiscriminant at n) = refl
-ends_as X handles fault.HostcallFuelExhausted = refl
-ends_as X handles fault.OutOfMemory = inl refl
-ends_as X handles (fault.Resource e) = refl
+ends_as : (X : Type 0) (handles : Bool) (ps : List Passed) (e : Fault) → EndsAs {T = X} handles ps (Err e) (fault_ending e)
+ends_as X handles ps (fault.TypeMismatch k) = refl
+ends_as X handles ps (fault.LengthMismatch k) = refl
+ends_as X handles ps (fault.FieldName k) = refl
+ends_as X handles ps (fault.UnknownCase k) = refl
+ends_as X handles ps (fault.UnknownFlag k) = refl
+ends_as X handles ps (fault.PayloadExpected k) = refl
+ends_as X handles ps (fault.PayloadNotExpected k) = refl
+ends_as X handles ps (fault.ReallocMisaligned a) = refl
+ends_as X handles ps (fault.ReallocOutOfBounds a) = refl
+ends_as X handles ps fault.GuestTrap = refl
+ends_as X handles ps (fault.PointerMisaligned at) = refl
+ends_as X handles ps (fault.PointerOutOfBounds at) = refl
+ends_as X handles ps (fault.StringTooLong n) = refl
+ends_as X handles ps (fault.SizeOverflow n) = refl
+ends_as X handles ps (fault.InvalidUtf8 at) = refl
+ends_as X handles ps (fault.InvalidUtf16 at) = refl
+ends_as X handles ps (fault.InvalidChar at) = refl
+ends_as X handles ps (fault.BadDiscriminant at n) = refl
+ends_as X handles ps fault.HostcallFuelExhausted = refl
+ends_as X handles ps fault.OutOfMemory = inl refl
+ends_as X handles ps (fault.Resource e) = refl
 
--- the ledger wants memory only where handles are reached
-wants_handles : (handles : Bool) (ps : List Passed) (e : Fault) → (handles ≡ false → ps ≡ []) → (ledger_fault e ≡ None) ⊎ ¬ (ps ≡ []) → e ≡ wanting → handles ≡ true
-wants_handles true ps e none at is = refl
+-- the ledger wants memory only where handles are passed
+wants_handles : (handles : Bool) (ps : List Passed) (e : Fault) → (handles ≡ false → ps ≡ []) → (ledger_fault e ≡ None) ⊎ ¬ (ps ≡ []) → e ≡ wanting → UsesLedger handles ps
+wants_handles true ps e none (inr some) is = (refl, some)
+wants_handles true ps e none (inl other) is = let here : ledger_fault e ≡ ledger_fault wanting = ap ledger_fault is in cc
 wants_handles false ps e none (inr some) is = absurd (some (none refl))
 wants_handles false ps e none (inl other) is = let here : ledger_fault e ≡ ledger_fault wanting = ap ledger_fault is in cc
 
@@ -129,7 +130,7 @@ module _ (types : Instance) (handles : Bool) (ps : List Passed) (none : handles 
   crossed {X} Attempted hs told is h = subst (λ (x : Fault). Crosses {T = X} types handles ps Attempted l n (Err x)) (sym is) (record {
     given = hs;
     ending = fault_ending e;
-    ends = told_by (λ x. EndsAs {T = X} handles (Err x) (fault_ending e)) e (λ want. inr (wants_handles handles ps e none stopped.1 want, ap fault_ending want)) (ends_as X handles e);
+    ends = told_by (λ x. EndsAs {T = X} handles ps (Err x) (fault_ending e)) e (λ want. inr (wants_handles handles ps e none stopped.1 want, ap fault_ending want)) (ends_as X handles ps e);
     lowered = h;
     passed = told_by (λ x. Ended types l n ps x) e (λ want. (subst (λ x. LeavesStop (stop_of x) l (map (lower_parts types) ps) n) want stopped.0, inl refl)) stopped;
     as_told = told_itself e;
@@ -137,11 +138,11 @@ module _ (types : Instance) (handles : Bool) (ps : List Passed) (none : handles 
 
   -- as `QuietBut` has it, from `Quiet`
   pub quiet_but : (blocks : Bool) (Same : Type 0) (told : Fault) → told ≡ told_fault e → (blocks ≡ false → Same × (fault_ending e ≡ refused)) → blocks ≡ false
-      → Same × ((fault_ending told ≡ refused) ⊎ ((handles ≡ true) × (told ≡ fault.OutOfMemory)))
+      → Same × ((fault_ending told ≡ refused) ⊎ (UsesLedger handles ps × (told ≡ fault.OutOfMemory)))
   quiet_but blocks Same told is h quiet = (
     (h quiet).0,
-    subst (λ (x : Fault). (fault_ending x ≡ refused) ⊎ ((handles ≡ true) × (x ≡ fault.OutOfMemory))) (sym is)
-        (told_by (λ x. (fault_ending x ≡ refused) ⊎ ((handles ≡ true) × (x ≡ fault.OutOfMemory))) e (λ want. inr (wants_handles handles ps e none stopped.1 want, refl)) (inl (h quiet).1)),
+    subst (λ (x : Fault). (fault_ending x ≡ refused) ⊎ (UsesLedger handles ps × (x ≡ fault.OutOfMemory))) (sym is)
+        (told_by (λ x. (fault_ending x ≡ refused) ⊎ (UsesLedger handles ps × (x ≡ fault.OutOfMemory))) e (λ want. inr (wants_handles handles ps e none stopped.1 want, refl)) (inl (h quiet).1)),
   )
 
 pub told_blames : (enc : Encoding) (F : Failure → ℕ → Type 0) (from : ℕ) (e told : Fault) → told ≡ told_fault e → Blames enc F from e → Blames enc F from told

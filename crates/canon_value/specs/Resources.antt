@@ -131,26 +131,30 @@ abbrev pub told_fault : Fault → Fault
 told_fault (fault.Resource resource.OutOfMemory) = fault.OutOfMemory
 told_fault e = e
 
+-- handles are reached by the types, and some are passed
+abbrev pub UsesLedger : Bool → List Passed → Type 0
+UsesLedger handles ps = (handles ≡ true) × ¬ (ps ≡ [])
+
 -- How a lowering ended with this answer. Memory that the ledger wanted ended it as a fault of the value does; that is told apart from
 -- want of the guest's memory only inside.
-abbrev pub EndsAs : {T : Type 0} → Bool → Result T Fault → Ending → Type 0
-EndsAs handles (Err fault.OutOfMemory) ending = (ending ≡ short) ⊎ ((handles ≡ true) × (ending ≡ refused))
-EndsAs handles result ending = ending ≡ ending_of result
+abbrev pub EndsAs : {T : Type 0} → Bool → List Passed → Result T Fault → Ending → Type 0
+EndsAs handles ps (Err fault.OutOfMemory) ending = (ending ≡ short) ⊎ (UsesLedger handles ps × (ending ≡ refused))
+EndsAs handles ps result ending = ending ≡ ending_of result
 
 -- A lowering of a value, or of values, that reach handles or not and pass these resources: it ended so, and gave these handles.
 pub record Crosses {T : Type 0} (types : Instance) (handles : Bool) (ps : List Passed) (Attempted : List ℕ → Ending → Type 0) (before after : LedgerState) (result : Result T Fault) : Type 0 where
   pub given : List ℕ
   pub ending : Ending
-  pub ends : EndsAs handles result ending
+  pub ends : EndsAs handles ps result ending
   pub lowered : Attempted given ending
   pub passed : LowersHandles types before after ps given result
   -- want of the ledger's memory isn't told as a refusal
   pub as_told : IfErr result (λ e. told_fault e ≡ e)
 
 -- where no text, list or map is reached, the same is there as before, and a refusal is for the value alone, or for want of memory in
--- the ledger where handles are reached
-abbrev pub QuietBut : {T : Type 0} → Bool → Bool → Type 0 → Result T Fault → Type 0
-QuietBut handles blocks same result = blocks ≡ false → same × IfErr result (λ e. (fault_ending e ≡ refused) ⊎ ((handles ≡ true) × (e ≡ fault.OutOfMemory)))
+-- the ledger where handles are passed
+abbrev pub QuietBut : {T : Type 0} → Bool → List Passed → Bool → Type 0 → Result T Fault → Type 0
+QuietBut handles ps blocks same result = blocks ≡ false → same × IfErr result (λ e. (fault_ending e ≡ refused) ⊎ (UsesLedger handles ps × (e ≡ fault.OutOfMemory)))
 
 -- it has a table for each instance, and the host's
 abbrev pub HasTables : LedgerState → Type 0

@@ -55,7 +55,8 @@ impl Val {
             cx.old.core.now.ledger cx.new.core.now.ledger result }
         ensures cause { IfErr result (BlamesValue (encoding_by cx.old.core.now cx.old.options) (shape_of (types_of cx.old.core.now) ty) self.now) }
         ensures small { OnOk result (IsSmall (encoding_by cx.old.core.now cx.old.options) (shape_of (types_of cx.old.core.now) ty) self.now) }
-        ensures quiet { QuietBut (has_handle (shape_of (types_of cx.old.core.now) ty)) (has_block (shape_of (types_of cx.old.core.now) ty)) (cx.new.core.now.guest ≡ cx.old.core.now.guest) result }
+        ensures quiet { QuietBut (has_handle (shape_of (types_of cx.old.core.now) ty)) (passes self.now (shape_of (types_of cx.old.core.now) ty)) (has_block (shape_of (types_of cx.old.core.now) ty))
+            (cx.new.core.now.guest ≡ cx.old.core.now.guest) result }
         ensures moves { Moves G.seen G.moves (guest_of cx.old.core.now) (guest_of cx.new.core.now) (ending_of result) }
         ensures same_core { SameButHandles cx.old.core.now cx.new.core.now }
         ensures same_reference { cx.new.core.ghost_name ≡ cx.old.core.ghost_name }
