@@ -8,7 +8,7 @@ ghost use Rattle.canon_context.specs.Component.{HasOptions};
 ghost use Rattle.canon_indices.specs.Options.{encoding_of};
 ghost use Rattle.canon_context.specs.Core.{encoding_by, guest_of, moment_of, types_of};
 ghost use Rattle.canon_context.specs.Fuel.{Charged};
-ghost use Rattle.canon_context.specs.Lifter.{origin_in};
+ghost use Rattle.canon_context.specs.Lifter.{IsAfterSteps, origin_in};
 ghost use Rattle.canon_context.specs.Lowers.{answer_of, ending_of, guest_answer};
 
 use crate::fuel::{charge, charge_each};
@@ -177,6 +177,7 @@ impl<'a, T, G> LiftContext<'a, T, G> {
     pub fn lift_by<L: Lifter>(&mut self, alloc: Global, lifter: &L) -> Result<L::Lifted, Fault>
         requires ready { L.ready lifter.now (origin_in self.old.core.now self.old.options) }
         ensures gives { L.gives lifter.now (origin_in self.old.core.now self.old.options) self.old.core.now.ledger self.old.fuel result self.new.core.now.ledger self.new.fuel }
+        ensures steps { IsAfterSteps self.old.core.now.ledger self.new.core.now.ledger }
         ensures same_core { self.new.core.now ≡ record self.old.core.now { ledger = self.new.core.now.ledger } }
         ensures same_reference { self.new.core.ghost_name ≡ self.old.core.ghost_name }
         ensures same_options { self.new.options ≡ self.old.options }

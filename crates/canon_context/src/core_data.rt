@@ -147,7 +147,7 @@ impl<T, G> Core<T, G> {
 }
 
 impl<T, G> Core<T, G> {
-    ghost use Rattle.canon_context.specs.Lifter.{origin_in};
+    ghost use Rattle.canon_context.specs.Lifter.{IsAfterSteps, origin_in};
 
     // Has something lifted.
     pub fn lift_by<L: Lifter>(
@@ -159,6 +159,7 @@ impl<T, G> Core<T, G> {
     ) -> Result<L::Lifted, Fault>
         requires ready { L.ready lifter.now (origin_in self.old options) }
         ensures gives { L.gives lifter.now (origin_in self.old options) self.old.ledger fuel.old result self.new.ledger fuel.new }
+        ensures steps { IsAfterSteps self.old.ledger self.new.ledger }
         ensures same { self.new ≡ record self.old { ledger = self.new.ledger } }
     {
         let encoding = self.encoding(options);

@@ -1,7 +1,7 @@
 //! What is lifted from a core: memory, its types and its ledger at once.
 
 ghost use Rattle.std.specs.Prelude.{◌≡◌, ℕ, Result, length};
-ghost use Rattle.canon_context.specs.Lifter.{IsOneOrigin, Origin, origin_of};
+ghost use Rattle.canon_context.specs.Lifter.{IsAfterSteps, IsOneOrigin, Origin, origin_of};
 ghost use Rattle.canon_context.specs.declared.fault.Fault.{Fault};
 ghost use Rattle.canon_ledger.specs.Ledger.{LedgerState};
 
@@ -10,7 +10,7 @@ use canon_ledger::Ledger;
 use std::alloc::Global;
 
 /// Something that is lifted from the words or the memory of a guest, with the handles in it taken through the ledger. A core lends
-/// these to it at once (`LiftContext::lift_by`).
+/// these to it at once (`LiftContext::lift_by`). A lifter does nothing to the ledger but steps of it.
 pub trait Lifter {
     type Lifted;
 
@@ -29,5 +29,6 @@ pub trait Lifter {
         requires tables { length ledger.old.handles.tables ≡ 257 }
         requires ready { ready self.now (origin_of source.now) }
         ensures gives { gives self.now (origin_of source.now) ledger.old fuel.old result ledger.new fuel.new }
-        ensures tables { length ledger.new.handles.tables ≡ 257 };
+        ensures tables { length ledger.new.handles.tables ≡ 257 }
+        ensures steps { IsAfterSteps ledger.old ledger.new };
 }

@@ -56,3 +56,4 @@ pub mod HandleLifting
 pub mod Passing
 pub mod Crossing
 pub mod HandleSteps
+pub mod LiftedSteps

@@ -2,9 +2,12 @@ use Rattle.std.proofs.Common.{arith, subst}
 use Rattle.canon_context.specs.Lifter.{origin_of}
 use Rattle.canon_indices.specs.Options.{encoding_of}
 use Rattle.canon_lowering.specs.Storing.{narrow}
+use Rattle.canon_model.specs.Leaves.{flat_leaves}
 use Rattle.canon_types.specs.Table.{Table, shape_of}
 use Rattle.canon_value.specs.Lifts.{LiftsWords}
+use Rattle.canon_value.specs.Resources.{resources}
 use Rattle.canon_value.proofs.LiftSteps.{lift_err, lift_ok}
+use Rattle.canon_value.proofs.LiftedSteps.{lifted_after}
 use Rattle.canon_value.proofs.lift.LiftingLifter.lift.Goals as goal
 
 pub returns-clause-gives : goal.returns-clause-gives
@@ -23,3 +26,10 @@ returns-clause-gives c =
       }),
       λ scalar. lift.ensures.scalar scalar (omega arith),
     )
+
+pub returns-clause-steps : goal.returns-clause-steps
+returns-clause-steps c =
+    let s = c.args.source.now in
+    let l = c.args.self.now in
+    let lift = c.lift_value in
+    lifted_after resources s.instance.now c.args.ledger.now lift.new.ledger (flat_leaves (narrow s.memory.now) l.src.now (shape_of s.types.now l.ty) l.at) lift.result lift.ensures.handles

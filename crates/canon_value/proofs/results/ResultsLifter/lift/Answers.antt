@@ -4,12 +4,15 @@ use Rattle.canon_indices.specs.Options.{encoding_of}
 use Rattle.canon_lowering.specs.Storing.{narrow}
 use Rattle.canon_model.specs.Flat.{max_results}
 use Rattle.canon_model.specs.Layout.{flat, members_flat}
+use Rattle.canon_model.specs.Leaves.{values_leaves}
 use Rattle.canon_model.specs.Reach.{values_reach}
 use Rattle.canon_model.specs.Shape.{of_places, product}
 use Rattle.canon_types.specs.declared.types.InterfaceType.{InterfaceType}
 use Rattle.canon_types.specs.declared.types.InterfaceType.TheVariants as ty
 use Rattle.canon_types.specs.Table.{Table, members_of, shape_of, tuple_members}
 use Rattle.canon_value.specs.Lifts.{HaveWords, LiftsResults}
+use Rattle.canon_value.specs.Resources.{all_resources}
+use Rattle.canon_value.proofs.LiftedSteps.{lifted_after}
 use Rattle.canon_value.proofs.NearFaults.{near_err, passes_one, tuple_flat}
 use Rattle.canon_value.proofs.results.ResultsLifter.lift.Goals.{After-tuple}
 use Rattle.canon_value.proofs.results.ResultsLifter.lift.Goals as goal
@@ -56,3 +59,17 @@ returns-in-Some-clause-gives c =
       falls = lift.ensures.falls;
       handles = lift.ensures.handles;
     })
+
+pub returns-in-Some-clause-steps : goal.returns-in-Some-clause-steps
+returns-in-Some-clause-steps c =
+    let s = c.args.source.now in
+    let lift = c.lift_results_near in
+    let leaves = values_leaves (narrow s.memory.now) c.args.self.now.src.now max_results (tuple_members s.types.now c.args.self.now.ty) in
+    lifted_after (λ vs. all_resources vs.items) s.instance.now c.args.ledger.now lift.new.ledger leaves lift.result lift.ensures.handles
+
+pub returns-in-None-clause-steps : goal.returns-in-None-clause-steps
+returns-in-None-clause-steps c =
+    let s = c.args.source.now in
+    let lift = c.load_results in
+    let leaves = values_leaves (narrow s.memory.now) c.args.self.now.src.now max_results (tuple_members s.types.now c.args.self.now.ty) in
+    lifted_after (λ vs. all_resources vs.items) s.instance.now c.args.ledger.now lift.new.ledger leaves lift.result lift.ensures.handles
