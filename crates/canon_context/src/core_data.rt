@@ -163,7 +163,6 @@ impl<T, G> Core<T, G> {
         ensures same { self.new ≡ record self.old { ledger = self.new.ledger } }
     {
         let encoding = self.encoding(options);
-        let _instances = self.ledger.instances();
         let source = Source {
             instance: &self.component.types,
             types: self.component.types.types(),

@@ -1,6 +1,6 @@
 //! What is lifted from a core: memory, its types and its ledger at once.
 
-ghost use Rattle.std.specs.Prelude.{◌≡◌, ℕ, Result, length};
+ghost use Rattle.std.specs.Prelude.{ℕ, Result};
 ghost use Rattle.canon_context.specs.Lifter.{IsAfterSteps, IsOneOrigin, Origin, origin_of};
 ghost use Rattle.canon_context.specs.declared.fault.Fault.{Fault};
 ghost use Rattle.canon_ledger.specs.Ledger.{LedgerState};
@@ -26,9 +26,7 @@ pub trait Lifter {
         fuel: &mut u64,
     ) -> Result<Self::Lifted, Fault>
         requires one_origin { IsOneOrigin source.now }
-        requires tables { length ledger.old.handles.tables ≡ 257 }
         requires ready { ready self.now (origin_of source.now) }
         ensures gives { gives self.now (origin_of source.now) ledger.old fuel.old result ledger.new fuel.new }
-        ensures tables { length ledger.new.handles.tables ≡ 257 }
         ensures steps { IsAfterSteps ledger.old ledger.new };
 }

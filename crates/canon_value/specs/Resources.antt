@@ -156,10 +156,6 @@ pub record Crosses {T : Type 0} (types : Instance) (handles : Bool) (ps : List P
 abbrev pub QuietBut : {T : Type 0} → Bool → List Passed → Bool → Type 0 → Result T Fault → Type 0
 QuietBut handles ps blocks same result = blocks ≡ false → same × IfErr result (λ e. (fault_ending e ≡ refused) ⊎ (UsesLedger handles ps × (e ≡ fault.OutOfMemory)))
 
--- it has a table for each instance, and the host's
-abbrev pub HasTables : LedgerState → Type 0
-HasTables l = length l.handles.tables ≡ 257
-
 -- The handles at these leaves went through the ledger in order, as far as the walk went; what was lifted has the resources that
 -- the host was given for them.
 abbrev pub LiftsHandles : {T : Type 0} → (T → List Any) → Instance → LedgerState → LedgerState → List Leaf → Result T Fault → Type 0

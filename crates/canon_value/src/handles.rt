@@ -1,6 +1,6 @@
 //! Handles of resources, as values pass them to a guest.
 
-ghost use Rattle.std.specs.Prelude.{◌≡◌, length};
+ghost use Rattle.std.specs.Prelude.{◌≡◌};
 ghost use Rattle.canon_context.specs.Core.{types_of};
 ghost use Rattle.canon_context.specs.Lifter.{IsOneOrigin};
 ghost use Rattle.canon_leaves.specs.Parts.{LeafLifts, passed};
@@ -49,10 +49,8 @@ pub(crate) fn take_handle(
     index: u32,
 ) -> Result<Val, Fault>
     requires one_origin { IsOneOrigin source.now }
-    requires tables { length ledger.old.handles.tables ≡ 257 }
     requires known { Knows source.now.types.now (type_of_handle handle) }
     ensures takes { TakesHandle source.now.instance.now ledger.old ledger.new (leaf handle.owned handle.resource index) result }
-    ensures tables { length ledger.new.handles.tables ≡ 257 }
 {
     match taken(source.instance, ledger, handle, index) {
         Ok(resource) => Ok(Val::Resource(resource)),
@@ -67,12 +65,11 @@ fn taken(
     handle: HandleType,
     index: u32,
 ) -> Result<ResourceAny, ResourceFault>
-    requires tables { length ledger.old.handles.tables ≡ 257 }
     requires known { HasResource types.now.types handle.resource }
     ensures lifts { LeafLifts types.now ledger.old ledger.new (leaf handle.owned handle.resource index) result }
-    ensures tables { length ledger.new.handles.tables ≡ 257 }
 {
     let _table = types.types().resource_table(handle.resource);
+    let _instances = ledger.instances();
     if handle.owned {
         lift_own(ledger, types, index, handle.resource)
     } else {

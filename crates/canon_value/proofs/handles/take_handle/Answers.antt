@@ -4,11 +4,11 @@ use Rattle.canon_plan.specs.Plan.{type_of_handle}
 use Rattle.canon_value.proofs.HandleLifting.{handle_refused, handle_taken, has_resource}
 use Rattle.canon_value.proofs.handles.take_handle.Goals as goal
 
-pub taken-requires-clause-known : goal.taken-requires-clause-known
-taken-requires-clause-known c = has_resource c.args.source.now.instance.now.types c.args.handle (subst (λ (t : Table). Knows t (type_of_handle c.args.handle)) c.requires.one_origin c.requires.known)
+pub taken-requires : goal.taken-requires
+taken-requires c = record { known = has_resource c.args.source.now.instance.now.types c.args.handle (subst (λ (t : Table). Knows t (type_of_handle c.args.handle)) c.requires.one_origin c.requires.known) }
 
-pub returns-in-Ok-clause-takes : goal.returns-in-Ok-clause-takes
-returns-in-Ok-clause-takes c = handle_taken _ _ _ _ c.in-Ok.resource c.in-Ok.ensures.lifts
+pub returns-in-Ok : goal.returns-in-Ok
+returns-in-Ok c = record { takes = handle_taken _ _ _ _ c.in-Ok.resource c.in-Ok.ensures.lifts }
 
-pub returns-in-Err-clause-takes : goal.returns-in-Err-clause-takes
-returns-in-Err-clause-takes c = handle_refused _ _ _ _ c.in-Err.refusal c.told.result c.in-Err.ensures.lifts c.told.ensures
+pub returns-in-Err : goal.returns-in-Err
+returns-in-Err c = record { takes = handle_refused _ _ _ _ c.in-Err.refusal c.told.result c.in-Err.ensures.lifts c.told.ensures }

@@ -35,7 +35,7 @@ lift_parts-returns-in_err-value-clause-handles t c =
     let s = a.source.now in
     let ms = shapes_of s.types.now a.members.now in
     let is = c.slot_of-member.ensures in
-    taking_stops_first s.instance.now a.ledger.now c.loop-k.ledger _ _ _ c.loop-k.invariant.3 _ _
+    taking_stops_first s.instance.now a.ledger.now c.loop-k.ledger _ _ _ c.loop-k.invariant.2 _ _
     (lift_part_leaves (encoding_of s.encoding) (narrow s.memory.now) a.src.now ms a.at.now a.fuel.now (members_from c.loop-k.k ms) c.loop-k.at c.loop-k.fuel c.loop-k.values.items c.loop-k.invariant.0 is.name _ _ is.shapes _ refl)
     c.lift_value.new.ledger _ c.from_residual-in_err-value.result c.in_err-value.field-0.0 c.from_residual-in_err-value.ensures c.in_err-value.ensures.handles
 
@@ -46,7 +46,7 @@ lift_parts-returns-in_err-charge-clause-handles t c =
     let ms = shapes_of s.types.now a.members.now in
     let is = c.slot_of-member.ensures in
     let taken =
-    taking_goes_on s.instance.now a.ledger.now c.loop-k.ledger _ _ _ c.loop-k.invariant.3 _ _
+    taking_goes_on s.instance.now a.ledger.now c.loop-k.ledger _ _ _ c.loop-k.invariant.2 _ _
     (lift_part_leaves (encoding_of s.encoding) (narrow s.memory.now) a.src.now ms a.at.now a.fuel.now (members_from c.loop-k.k ms) c.loop-k.at c.loop-k.fuel c.loop-k.values.items c.loop-k.invariant.0 is.name _ _ is.shapes c.lift_value.new.at c.in_ok-value.ensures.lifts.1)
     c.lift_value.new.ledger (resources c.in_ok-value.value) c.in_ok-value.ensures.handles in
     taking_stops_here s.instance.now a.ledger.now c.lift_value.new.ledger _ _ _ taken _ c.from_residual-in_err-charge.result c.in_err-charge.field-0.0 c.from_residual-in_err-charge.ensures (ap stop_of c.in_err-charge.ensures.0)
@@ -58,7 +58,7 @@ lift_parts-returns-in_err-keep-clause-handles t c =
     let ms = shapes_of s.types.now a.members.now in
     let is = c.slot_of-member.ensures in
     let taken =
-    taking_goes_on s.instance.now a.ledger.now c.loop-k.ledger _ _ _ c.loop-k.invariant.3 _ _
+    taking_goes_on s.instance.now a.ledger.now c.loop-k.ledger _ _ _ c.loop-k.invariant.2 _ _
     (lift_part_leaves (encoding_of s.encoding) (narrow s.memory.now) a.src.now ms a.at.now a.fuel.now (members_from c.loop-k.k ms) c.loop-k.at c.loop-k.fuel c.loop-k.values.items c.loop-k.invariant.0 is.name _ _ is.shapes c.lift_value.new.at c.in_ok-value.ensures.lifts.1)
     c.lift_value.new.ledger (resources c.in_ok-value.value) c.in_ok-value.ensures.handles in
     taking_stops_here s.instance.now a.ledger.now c.lift_value.new.ledger _ _ _ taken _ c.from_residual-in_err-keep.result c.in_err-keep.field-0.0 c.from_residual-in_err-keep.ensures (ap stop_of c.in_err-keep.ensures.only_memory)
@@ -69,7 +69,7 @@ lift_parts-returns-clause-handles t c =
     let s = a.source.now in
     let ms = shapes_of s.types.now a.members.now in
     let over : c.loop-k.k ≡ member_count ms = omega (arith, c.loop-k-test.false, c.loop-k.auto.k-end, c.slot_count-count.ensures) in
-    taking_ends s.instance.now a.ledger.now c.loop-k.ledger _ _ (all_resources c.loop-k.values.items) c.loop-k.invariant.3 (no_flat_left (narrow s.memory.now) a.src.now c.loop-k.at (members_from c.loop-k.k ms) (members_from-all ms c.loop-k.k over))
+    taking_ends s.instance.now a.ledger.now c.loop-k.ledger _ _ (all_resources c.loop-k.values.items) c.loop-k.invariant.2 (no_flat_left (narrow s.memory.now) a.src.now c.loop-k.at (members_from c.loop-k.k ms) (members_from-all ms c.loop-k.k over))
 
 pub lift_value-lift_handle-requires : goal.lift_value-lift_handle-requires
 lift_value-lift_handle-requires t c =
@@ -77,7 +77,6 @@ lift_value-lift_handle-requires t c =
     let types = c.args.source.now.types.now in
     record {
       one_origin = c.requires.one_origin;
-      tables = c.requires.tables;
       known = subst (λ (x : InterfaceType). Knows types x) c.in-Handle.ensures c.requires.known;
       room = omega (arith, c.requires.room, handle_words types ty0 c.in-Handle.handle c.in-Handle.ensures);
     }

@@ -41,13 +41,13 @@ load_parts-returns-in_err-values-clause-handles t c = refused_before c.args.sour
 
 pub load_parts-returns-in_err-charge-clause-handles : goal.load_parts-returns-in_err-charge-clause-handles
 load_parts-returns-in_err-charge-clause-handles t c =
-    taking_stops_here c.args.source.now.instance.now c.args.ledger.now c.loop-k.ledger _ _ _ c.loop-k.invariant.2 _ c.from_residual-in_err-charge.result c.in_err-charge.field-0.0 c.from_residual-in_err-charge.ensures
+    taking_stops_here c.args.source.now.instance.now c.args.ledger.now c.loop-k.ledger _ _ _ c.loop-k.invariant.1 _ c.from_residual-in_err-charge.result c.in_err-charge.field-0.0 c.from_residual-in_err-charge.ensures
     (ap stop_of c.in_err-charge.ensures.0)
 
 pub load_parts-returns-in_err-value-clause-handles : goal.load_parts-returns-in_err-value-clause-handles
 load_parts-returns-in_err-value-clause-handles t c =
     let is = c.slot_of-member.ensures in
-    taking_stops_first c.args.source.now.instance.now c.args.ledger.now c.loop-k.ledger _ _ _ c.loop-k.invariant.2 _ _
+    taking_stops_first c.args.source.now.instance.now c.args.ledger.now c.loop-k.ledger _ _ _ c.loop-k.invariant.1 _ _
     (next_leaves (encoding_of c.args.source.now.encoding) c.args.source.now.memory.now _ _ _ _ _ c.canonical_abi.result.now c.args.at c.loop-k.end _ _ _ is.shapes c.canonical_abi.ensures c.requires.inside c.loop-k.invariant.0
     c.next_field32_size-start.result c.next_field32_size-start.new.offset c.next_field32_size-start.ensures.start c.next_field32_size-start.ensures.end)
     c.load_value.new.ledger _ c.from_residual-in_err-value.result c.in_err-value.field-0.0 c.from_residual-in_err-value.ensures c.in_err-value.ensures.handles
@@ -56,7 +56,7 @@ pub load_parts-returns-in_err-keep-clause-handles : goal.load_parts-returns-in_e
 load_parts-returns-in_err-keep-clause-handles t c =
     let is = c.slot_of-member.ensures in
     let taken =
-    taking_goes_on c.args.source.now.instance.now c.args.ledger.now c.loop-k.ledger _ _ _ c.loop-k.invariant.2 _ _
+    taking_goes_on c.args.source.now.instance.now c.args.ledger.now c.loop-k.ledger _ _ _ c.loop-k.invariant.1 _ _
     (next_leaves (encoding_of c.args.source.now.encoding) c.args.source.now.memory.now _ _ _ _ _ c.canonical_abi.result.now c.args.at c.loop-k.end _ _ _ is.shapes c.canonical_abi.ensures c.requires.inside c.loop-k.invariant.0
     c.next_field32_size-start.result c.next_field32_size-start.new.offset c.next_field32_size-start.ensures.start c.next_field32_size-start.ensures.end)
     c.load_value.new.ledger (resources c.in_ok-value.value) c.in_ok-value.ensures.handles in
@@ -66,7 +66,7 @@ pub load_parts-returns-clause-handles : goal.load_parts-returns-clause-handles
 load_parts-returns-clause-handles t c =
     let ms = shapes_of c.args.source.now.types.now c.args.members.now in
     let over : c.loop-k.k ≡ member_count ms = omega (arith, c.loop-k-test.false, c.loop-k.auto.k-end, c.slot_count-count.ensures) in
-    taking_ends c.args.source.now.instance.now c.args.ledger.now c.loop-k.ledger _ _ (all_resources c.loop-k.values.items) c.loop-k.invariant.2
+    taking_ends c.args.source.now.instance.now c.args.ledger.now c.loop-k.ledger _ _ (all_resources c.loop-k.values.items) c.loop-k.invariant.1
     (no_members_left c.args.source.now.memory.now c.loop-k.end c.args.at (members_from c.loop-k.k ms) (members_from-all ms c.loop-k.k over))
 
 pub load_items-load_parts-requires : goal.load_items-load_parts-requires
@@ -90,11 +90,8 @@ load_items-load_parts-requires t0 c =
       (
         c.requires.one_origin,
         (
-          c.requires.tables,
-          (
-            c.slots_of-members.ensures.known t c.requires.known,
-            (subst (λ (x : Members). p % members_align false x ≡ 0) (sym shapes) (w.aligned aligned), omega (arith, r.room p bytes inside, ap (members_end false 0) shapes)),
-          ),
+          c.slots_of-members.ensures.known t c.requires.known,
+          (subst (λ (x : Members). p % members_align false x ≡ 0) (sym shapes) (w.aligned aligned), omega (arith, r.room p bytes inside, ap (members_end false 0) shapes)),
         ),
       ),
     )
@@ -209,7 +206,6 @@ load_value-load_handle-requires t c =
     let h = c.in-Handle.handle in
     record {
       one_origin = c.requires.one_origin;
-      tables = c.requires.tables;
       known = subst (λ (x : InterfaceType). Knows types x) c.in-Handle.ensures c.requires.known;
       inside = omega (arith, c.requires.inside, handle_bytes types ty0 h c.in-Handle.ensures);
     }
@@ -309,7 +305,7 @@ load_case-load_parts-requires t c =
     let types = a.source.now.types.now in
     let s = shape_of types a.ty.now in
     let w = case_weighs enc bytes s a.at c.load_tag-tag.result r.variant a.info.now r.info c.load_tag-tag.ensures r.aligned r.inside types c.in-Some.case c.in-Some.ensures c.from.result c.from.ensures in
-    (omega (arith, w.shallow), (c.requires.one_origin, (c.requires.tables, (c.in-Some.ensures.known, (w.aligned, w.inside)))))
+    (omega (arith, w.shallow), (c.requires.one_origin, (c.in-Some.ensures.known, (w.aligned, w.inside))))
 
 pub load_case-returns-in_err-charge-in-Ok-clause-err : goal.load_case-returns-in_err-charge-in-Ok-clause-err
 load_case-returns-in_err-charge-in-Ok-clause-err t c =
