@@ -31,14 +31,14 @@ post_of i None = None
 post_of i (Some has_post) = if has_post then Some i else None
 
 -- its types, in the store of this number
-abbrev pub instance_of : Play → Instance
-instance_of play = record { types = play.types; store = 0 }
+abbrev pub script_types : Play → Instance
+script_types play = record { types = play.types; store = 0 }
 
 abbrev pub callee_with : Play → ℕ → Option TypeFunc → Callee
-callee_with play i None = record { func = i; types = instance_of play; params = no_members; results = no_members; encoding = encoding_of play.encoding; post = None; async_ = false }
+callee_with play i None = record { func = i; types = script_types play; params = no_members; results = no_members; encoding = encoding_of play.encoding; post = None; async_ = false }
 callee_with play i (Some f) = record {
   func = i;
-  types = instance_of play;
+  types = script_types play;
   params = param_members play.types f;
   results = result_members play.types f;
   encoding = encoding_of play.encoding;
