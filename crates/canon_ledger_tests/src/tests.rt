@@ -319,23 +319,36 @@ fn each_instance_has_a_table_of_its_own(rt: HostRuntime) -> Result<(), Fail> {
     Ok(())
 }
 
+// Whether a type is known to the tables with these types, and to tables without any.
+fn known_inside(
+    ledger: &mut Ledger,
+    types: &ComponentTypes,
+    ty: TypeResourceTableIndex,
+) -> bool {
+    let tables = ResourceTables {
+        ledger,
+        types: KnownTypes::of(types),
+        current_scope: None,
+    };
+    tables.has_type(ty)
+}
+
+fn known_outside(ledger: &mut Ledger, ty: TypeResourceTableIndex) -> bool {
+    let tables = ResourceTables {
+        ledger,
+        types: KnownTypes::none(),
+        current_scope: None,
+    };
+    tables.has_type(ty)
+}
+
 #[test]
 fn a_type_is_unknown_outside_its_component(rt: HostRuntime) -> Result<(), Fail> {
     let alloc = rt.alloc();
     let types = two_instances(alloc)?;
     let mut ledger = Ledger::new(alloc, 100, HostResourceData::new(alloc))?;
-    let inside = ResourceTables {
-        ledger: &mut ledger,
-        types: KnownTypes::of(&types.types),
-        current_scope: None,
-    }
-    .has_type(types.second_own);
-    let outside = ResourceTables {
-        ledger: &mut ledger,
-        types: KnownTypes::none(),
-        current_scope: None,
-    }
-    .has_type(types.second_own);
+    let inside = known_inside(&mut ledger, &types.types, types.second_own);
+    let outside = known_outside(&mut ledger, types.second_own);
     assert!(rt; (inside, outside) == (true, false));
     Ok(())
 }

@@ -20,8 +20,8 @@ const RESOURCE: u32 = 4;
 fn resource_store(
     alloc: Global,
     defined_here: bool,
-    param: fn(TypeResourceTableIndex) -> InterfaceType,
-    result: fn(TypeResourceTableIndex) -> InterfaceType,
+    given: fn(TypeResourceTableIndex) -> InterfaceType,
+    answered: fn(TypeResourceTableIndex) -> InterfaceType,
 ) -> Result<Store<(), Returner>, Fail> {
     let mut builder = TypeBuilder::new(alloc);
     let resource = builder.add_resource_table(TypeResourceTable {
@@ -29,8 +29,8 @@ fn resource_store(
         kind: ResourceKind::HostDynamic(RESOURCE),
         defined_here,
     })?;
-    let params = [param(resource)].to_vec(alloc)?;
-    let results = [result(resource)].to_vec(alloc)?;
+    let params = [given(resource)].to_vec(alloc)?;
+    let results = [answered(resource)].to_vec(alloc)?;
     let ty = builder.add_func(params, results, false)?;
     store_of(alloc, builder.finish(), ty, 1)
 }
