@@ -87,7 +87,7 @@ module _ {T G : Type 0} (seen : G → Seen) (moves : GuestIn G → List Event �
     not_removed (error.Fault (fault.Resource e)) same trapped (refused, left) = record {
       outcome = (refused, λ i. record { core = (same ∙ ap (λ (l : LedgerState). record before.core { ledger = l }) left) i; trapped = trapped i });
       destructor = ran_not stays before.core after.core (ap (λ k. k.guest) same) (ap (λ k. k.memory) same) (destructor_at before.core.ledger x) (error.Fault (fault.Resource e))
-      (ap (λ r. destructor_events (destructor_by r) before.core.memory (Err (error.Fault (fault.Resource e)))) refused);
+          (ap (λ r. destructor_events (destructor_by r) before.core.memory (Err (error.Fault (fault.Resource e)))) refused);
       same = but_ledger before.core after.core same;
     }
     not_removed e same trapped none = absurd none

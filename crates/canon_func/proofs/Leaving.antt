@@ -89,8 +89,7 @@ HasEmptyTop h = (0 < length h.scopes) × (scope_at h (length h.scopes - 1) ≡ n
 
 emptied : (h m : Handles) (k : ℕ) → k < length h.scopes → k ≡ length h.scopes - 1 → m.scopes ≡ (with_scope h k no_scope).scopes → HasEmptyTop m
 emptied h m k within is same =
-    let count : length m.scopes ≡ length h.scopes = ap length same ∙ length-set h.scopes k no_scope in
-    (
+    let count : length m.scopes ≡ length h.scopes = ap length same ∙ length-set h.scopes k no_scope in (
       omega arith,
       ap (λ n. scope_at m (n - 1)) count ∙ (ap (λ n. scope_at m n) (sym is) ∙ (ap (λ scopes. scope_at (record { tables = m.tables; counter = m.counter; scopes = scopes }) k) same ∙ get_or-set_same h.scopes k no_scope no_scope within)),
     )

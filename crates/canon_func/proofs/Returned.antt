@@ -35,11 +35,13 @@ use Rattle.canon_func.proofs.Owned.{values_owned}
 pub lifts_at : {T G : Type 0} (core made after : Parts T G) (b : LedgerState) (options own tuple fuel left : ℕ) (words : List ℕ) (result : Result (Vec Val Global) Fault) → made ≡ core → own ≡ options → fuel ≡ core.fuel → after.ledger ≡ b
     → LiftsResults (origin_in made own) words (tuple_members (types_of made) tuple) made.ledger fuel result after.ledger left
     → LiftsIn (origin_in core options) words (tuple_members (types_of core) tuple) core.ledger core.fuel result b
-lifts_at core made after b options own tuple fuel left words result same by full ends h =
-    (left, subst (λ l. LiftsResults (origin_in core options) words (tuple_members (types_of core) tuple) core.ledger core.fuel result l left) ends
-    (subst (λ n. LiftsResults (origin_in core options) words (tuple_members (types_of core) tuple) core.ledger n result after.ledger left) full
-    (subst (λ o. LiftsResults (origin_in core o) words (tuple_members (types_of core) tuple) core.ledger fuel result after.ledger left) by
-    (subst (λ k. LiftsResults (origin_in k own) words (tuple_members (types_of k) tuple) k.ledger fuel result after.ledger left) same h))))
+lifts_at core made after b options own tuple fuel left words result same by full ends h = (
+  left,
+  subst (λ l. LiftsResults (origin_in core options) words (tuple_members (types_of core) tuple) core.ledger core.fuel result l left) ends
+      (subst (λ n. LiftsResults (origin_in core options) words (tuple_members (types_of core) tuple) core.ledger n result after.ledger left) full
+      (subst (λ o. LiftsResults (origin_in core o) words (tuple_members (types_of core) tuple) core.ledger fuel result after.ledger left) by
+      (subst (λ k. LiftsResults (origin_in k own) words (tuple_members (types_of k) tuple) k.ledger fuel result after.ledger left) same h))),
+)
 
 -- the members of the tuple are the callee's results
 pub members_are : (t u : Table) (i : ℕ) (f : TypeFunc) → u ≡ t → slice_get u.funcs i ≡ Some f → tuple_members t f.results ≡ results_in t (slice_get t.funcs i)

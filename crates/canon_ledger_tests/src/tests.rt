@@ -320,11 +320,7 @@ fn each_instance_has_a_table_of_its_own(rt: HostRuntime) -> Result<(), Fail> {
 }
 
 // Whether a type is known to the tables with these types, and to tables without any.
-fn known_inside(
-    ledger: &mut Ledger,
-    types: &ComponentTypes,
-    ty: TypeResourceTableIndex,
-) -> bool {
+fn known_inside(ledger: &mut Ledger, types: &ComponentTypes, ty: TypeResourceTableIndex) -> bool {
     let tables = ResourceTables {
         ledger,
         types: KnownTypes::of(types),
