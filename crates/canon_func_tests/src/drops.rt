@@ -7,9 +7,9 @@ use canon_ledger::ResourceFault;
 use canon_memory::{Event, Guest, GuestFault, Journaled, Memory, Step, ValRaw};
 use canon_resources::ResourceAny;
 use canon_types::{
-    CanonicalOptions, ExportIndex, InstanceType, InterfaceType, OptionsIndex, ResourceKind,
-    RuntimeInstance, StoreId, StringEncoding, TypeBuilder, TypeResourceTable,
-    TypeResourceTableIndex,
+    CanonicalOptions, ComponentTypes, ExportIndex, InstanceType, InterfaceType, OptionsIndex,
+    ResourceKind, RuntimeInstance, StoreId, StringEncoding, TypeBuilder, TypeFuncIndex,
+    TypeResourceTable, TypeResourceTableIndex,
 };
 use canon_value::{Component, Core, Export, Fault, LowerContext};
 use std::alloc::Global;
@@ -81,23 +81,17 @@ impl Guest for Destroyer {
 
 type DropStore = Store<(), Journaled<Destroyer>>;
 
-/// A store of one function without parameters and results, whose component defines a resource type with the destructor 5.
-fn store_of(alloc: Global, fails: bool) -> Result<(DropStore, TypeResourceTableIndex), Fail> {
+/// A store of one function of this type.
+fn store_of(
+    alloc: Global,
+    types: ComponentTypes,
+    ty: TypeFuncIndex,
+    fails: bool,
+) -> Result<DropStore, Fail> {
     let id = StoreId::from_u64(1);
-    let instance = RuntimeInstance::from_u32(0);
-    let mut builder = TypeBuilder::new(alloc);
-    let resource = builder.add_resource_table(TypeResourceTable {
-        instance,
-        kind: ResourceKind::Guest {
-            id: 4,
-            dtor: Some(5),
-        },
-        defined_here: true,
-    })?;
-    let ty = builder.add_func(Vec::new(alloc), Vec::new(alloc), false)?;
     let mut options = Vec::new(alloc);
     options.push(CanonicalOptions {
-        instance,
+        instance: RuntimeInstance::from_u32(0),
         string_encoding: StringEncoding::Utf8,
         async_: false,
         post_return: None,
@@ -109,7 +103,7 @@ fn store_of(alloc: Global, fails: bool) -> Result<(DropStore, TypeResourceTableI
         options: OptionsIndex::from_u32(0),
     })?;
     let component = Component {
-        types: InstanceType::new(builder.finish(), id),
+        types: InstanceType::new(types, id),
         options,
         exports,
     };
@@ -119,7 +113,23 @@ fn store_of(alloc: Global, fails: bool) -> Result<(DropStore, TypeResourceTableI
     let guest = Journaled::new(alloc, Destroyer { fails, traps: 0 });
     let memory = Memory::new(alloc, 65_536)?;
     let core = Core::new(alloc, id, (), guest, memory, component, 8, 1_000_000)?;
-    Ok((Store::new(core), resource))
+    Ok(Store::new(core))
+}
+
+/// A store of one function without parameters and results, whose component defines a resource type with the destructor 5.
+fn drop_store(alloc: Global, fails: bool) -> Result<(DropStore, TypeResourceTableIndex), Fail> {
+    let mut builder = TypeBuilder::new(alloc);
+    let resource = builder.add_resource_table(TypeResourceTable {
+        instance: RuntimeInstance::from_u32(0),
+        kind: ResourceKind::Guest {
+            id: 4,
+            dtor: Some(5),
+        },
+        defined_here: true,
+    })?;
+    let ty = builder.add_func(Vec::new(alloc), Vec::new(alloc), false)?;
+    let store = store_of(alloc, builder.finish(), ty, fails)?;
+    Ok((store, resource))
 }
 
 /// A resource of representation 7 that the component gave to the host, where it can.
@@ -154,7 +164,7 @@ fn refused(fault: ResourceFault) -> Result<(), Error> {
 
 #[test]
 fn a_drop_runs_the_destructor_once(rt: HostRuntime) -> Result<(), Fail> {
-    let (mut store, ty) = store_of(rt.alloc(), false)?;
+    let (mut store, ty) = drop_store(rt.alloc(), false)?;
     let resource = resource_of(&mut store, ty)?;
     assert!(rt; store.live_handles() == 1);
     assert!(rt; resource_drop(resource, &mut store) == Ok(()));
@@ -166,7 +176,7 @@ fn a_drop_runs_the_destructor_once(rt: HostRuntime) -> Result<(), Fail> {
 
 #[test]
 fn a_handle_is_dropped_once(rt: HostRuntime) -> Result<(), Fail> {
-    let (mut store, ty) = store_of(rt.alloc(), false)?;
+    let (mut store, ty) = drop_store(rt.alloc(), false)?;
     let resource = resource_of(&mut store, ty)?;
     assert!(rt; resource_drop(resource, &mut store) == Ok(()));
     // Its index 1 names nothing, and then the next handle.
@@ -185,7 +195,7 @@ fn a_handle_is_dropped_once(rt: HostRuntime) -> Result<(), Fail> {
 #[test]
 fn a_destructor_that_traps_traps_the_store(rt: HostRuntime) -> Result<(), Fail> {
     let alloc = rt.alloc();
-    let (mut store, ty) = store_of(alloc, true)?;
+    let (mut store, ty) = drop_store(alloc, true)?;
     let first = resource_of(&mut store, ty)?;
     let second = resource_of(&mut store, ty)?;
     let trap = Err(Error::Fault(Fault::GuestTrap));
@@ -212,7 +222,7 @@ fn a_destructor_that_traps_traps_the_store(rt: HostRuntime) -> Result<(), Fail> 
 
 #[test]
 fn a_borrow_of_the_host_has_nothing_to_drop(rt: HostRuntime) -> Result<(), Fail> {
-    let (mut store, ty) = store_of(rt.alloc(), true)?;
+    let (mut store, ty) = drop_store(rt.alloc(), true)?;
     let resource = resource_of(&mut store, ty)?;
     let borrow = ResourceAny::new_borrow(7, resource.ty());
     assert!(rt; resource_drop(borrow, &mut store) == Ok(()));
@@ -222,7 +232,7 @@ fn a_borrow_of_the_host_has_nothing_to_drop(rt: HostRuntime) -> Result<(), Fail>
 
 #[test]
 fn a_store_has_a_limit_of_live_handles(rt: HostRuntime) -> Result<(), Fail> {
-    let (mut store, ty) = store_of(rt.alloc(), false)?;
+    let (mut store, ty) = drop_store(rt.alloc(), false)?;
     let resource = resource_of(&mut store, ty)?;
     store.set_handle_limit(0);
     assert!(rt; given(store.core_mut(), ty).is_none());

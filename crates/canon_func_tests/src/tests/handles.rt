@@ -6,7 +6,6 @@ use canon_ledger::{HostResourceIndex, ResourceFault};
 use canon_resources::ResourceAny;
 use canon_types::{
     InterfaceType, ResourceKind, ResourceType, RuntimeInstance, TypeBuilder, TypeResourceTable,
-    TypeResourceTableIndex,
 };
 use canon_value::{Fault, Val};
 use std::alloc::Global;
@@ -15,13 +14,12 @@ use std::test::Fail;
 /// The number of the host's resource.
 const RESOURCE: u32 = 4;
 
-/// A store of a function of one parameter and one result, by a resource type of the host, which its instance defines or not. The
-/// guest returns 1.
+/// A store of a function from an own handle to an own handle of a resource type of the host, or from a borrow of it to a number. Its
+/// instance defines the type or not. The guest returns 1.
 fn resource_store(
     alloc: Global,
+    owned: bool,
     defined_here: bool,
-    given: fn(TypeResourceTableIndex) -> InterfaceType,
-    answered: fn(TypeResourceTableIndex) -> InterfaceType,
 ) -> Result<Store<(), Returner>, Fail> {
     let mut builder = TypeBuilder::new(alloc);
     let resource = builder.add_resource_table(TypeResourceTable {
@@ -29,9 +27,13 @@ fn resource_store(
         kind: ResourceKind::HostDynamic(RESOURCE),
         defined_here,
     })?;
-    let params = [given(resource)].to_vec(alloc)?;
-    let results = [answered(resource)].to_vec(alloc)?;
-    let ty = builder.add_func(params, results, false)?;
+    let own = InterfaceType::Own(resource);
+    let (param, answer) = if owned {
+        (own, own)
+    } else {
+        (InterfaceType::Borrow(resource), InterfaceType::U32)
+    };
+    let ty = builder.add_func([param].to_vec(alloc)?, [answer].to_vec(alloc)?, false)?;
     store_of(alloc, builder.finish(), ty, 1)
 }
 
@@ -58,12 +60,7 @@ fn refused(fault: ResourceFault) -> Option<Result<(), Error>> {
 #[test]
 fn an_own_handle_is_passed_on_and_comes_back(rt: HostRuntime) -> Result<(), Fail> {
     let alloc = rt.alloc();
-    let mut store = resource_store(
-        alloc,
-        false,
-        |ty| InterfaceType::Own(ty),
-        |ty| InterfaceType::Own(ty),
-    )?;
+    let mut store = resource_store(alloc, true, false)?;
     assert!(rt; make(&mut store) == Some(HostResourceIndex::new(1, 0)));
     let mut results = [Val::Bool(false)];
     let params = [Val::Resource(resource(0))];
@@ -80,12 +77,7 @@ fn an_own_handle_is_passed_on_and_comes_back(rt: HostRuntime) -> Result<(), Fail
 #[test]
 fn a_borrow_handle_must_be_dropped(rt: HostRuntime) -> Result<(), Fail> {
     let alloc = rt.alloc();
-    let mut store = resource_store(
-        alloc,
-        false,
-        |ty| InterfaceType::Borrow(ty),
-        |_| InterfaceType::U32,
-    )?;
+    let mut store = resource_store(alloc, false, false)?;
     assert!(rt; make(&mut store) == Some(HostResourceIndex::new(1, 0)));
     let mut results = [Val::Bool(false)];
     let params = [Val::Resource(resource(0))];
@@ -98,12 +90,7 @@ fn a_borrow_handle_must_be_dropped(rt: HostRuntime) -> Result<(), Fail> {
 #[test]
 fn what_is_lent_is_given_back(rt: HostRuntime) -> Result<(), Fail> {
     let alloc = rt.alloc();
-    let mut store = resource_store(
-        alloc,
-        true,
-        |ty| InterfaceType::Borrow(ty),
-        |_| InterfaceType::U32,
-    )?;
+    let mut store = resource_store(alloc, false, true)?;
     assert!(rt; make(&mut store) == Some(HostResourceIndex::new(1, 0)));
     let mut results = [Val::Bool(false)];
     let params = [Val::Resource(resource(0))];
