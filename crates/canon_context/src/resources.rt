@@ -98,7 +98,7 @@ impl<'a, T, G> LowerContext<'a, T, G> {
         ensures rest { self.new ≡ record self.old { core = self.new.core } }
         ensures same_reference { self.new.core.ghost_name ≡ self.old.core.ghost_name }
     {
-        faulted(self.core.insert_host(rep, dtor, instance))
+        faulted(self.core.host_resource_lower_own(rep, dtor, instance))
     }
 
     /// The end of the call of the top open scope: its borrow handles must have been dropped, and what was lent to it is given back.
@@ -172,7 +172,7 @@ impl<'a, T, G> LiftContext<'a, T, G> {
         ensures rest { self.new ≡ record self.old { core = self.new.core } }
         ensures same_reference { self.new.core.ghost_name ≡ self.old.core.ghost_name }
     {
-        faulted(self.core.insert_host(rep, dtor, instance))
+        faulted(self.core.host_resource_lower_own(rep, dtor, instance))
     }
 
     /// A new borrow handle of the host.

@@ -108,19 +108,19 @@ module _ {T G : Type 0} (seen : G → Seen) (moves : GuestIn G → List Event �
       is_dropped ran left trapped =
           let ledger : after.core.ledger ≡ (host_resource_drop before.core.ledger x).after = left ∙ (ap leave removed.ledger ∙ leave_entered (host_resource_drop before.core.ledger x).after) in
           record {
-            outcome = record { steps = through_leave before.core.ledger x removed.removed removed.answered after.core.ledger ledger; ledger = ledger; trapped = trapped };
+            outcome = record { steps = through_leave before.core.ledger x removed.removed removed.answered after.core.ledger ledger; ledger = ledger; same_trapped = trapped };
             destructor = it_ran (Ok tt) ran;
             same = all_same;
           }
 
-      cut_off : IsSome destructor → after.core.ledger ≡ mid.ledger → after.trapped ≡ true → IsCutOff x before after
+      cut_off : IsSome destructor → after.core.ledger ≡ mid.ledger → after.trapped ≡ true → IsCutOff x before.core.ledger after.core.ledger after.trapped
       cut_off some stays_open trapped =
           let ledger : after.core.ledger ≡ enter (host_resource_drop before.core.ledger x).after = stays_open ∙ removed.ledger in
           record {
             has_destructor = subst IsSome (sym it_is) some;
             steps = through_drop before.core.ledger x removed.removed removed.answered after.core.ledger ledger;
             ledger = ledger;
-            trapped = trapped;
+            now_trapped = trapped;
           }
 
       -- the destructor failed, and the scope stays open

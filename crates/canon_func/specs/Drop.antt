@@ -72,17 +72,17 @@ pub record Ran {T G : Type 0} (seen : G → Seen) (moves : GuestIn G → List Ev
 -- ---- the whole
 
 -- The handle is gone, and the scope in which it was removed was left.
-pub record IsDropped {T G : Type 0} (x : GivenIndex) (before after : StoreView T G) : Type 0 where
-  pub steps : Through before.core.ledger (Enter ∷ HostDrop x ∷ Leave ∷ []) after.core.ledger
-  pub ledger : after.core.ledger ≡ (host_resource_drop before.core.ledger x).after
-  pub trapped : after.trapped ≡ before.trapped
+pub record IsDropped (x : GivenIndex) (before after : LedgerState) (was_trapped trapped : Bool) : Type 0 where
+  pub steps : Through before (Enter ∷ HostDrop x ∷ Leave ∷ []) after
+  pub ledger : after ≡ (host_resource_drop before x).after
+  pub same_trapped : trapped ≡ was_trapped
 
 -- The handle is gone, but its destructor failed: the scope in which it ran stays open, and the store is trapped.
-pub record IsCutOff {T G : Type 0} (x : GivenIndex) (before after : StoreView T G) : Type 0 where
-  pub has_destructor : IsSome (destructor_at before.core.ledger x)
-  pub steps : Through before.core.ledger (Enter ∷ HostDrop x ∷ []) after.core.ledger
-  pub ledger : after.core.ledger ≡ enter (host_resource_drop before.core.ledger x).after
-  pub trapped : after.trapped ≡ true
+pub record IsCutOff (x : GivenIndex) (before after : LedgerState) (trapped : Bool) : Type 0 where
+  pub has_destructor : IsSome (destructor_at before x)
+  pub steps : Through before (Enter ∷ HostDrop x ∷ []) after
+  pub ledger : after ≡ enter (host_resource_drop before x).after
+  pub now_trapped : trapped ≡ true
 
 -- a store with another ledger
 abbrev pub with_ledger : {T G : Type 0} → StoreView T G → LedgerState → StoreView T G
@@ -90,9 +90,9 @@ with_ledger store l = record store { core = record store.core { ledger = l } }
 
 -- What became of the handle and of the store, by the answer: a refused removal leaves what the ledger's step does.
 abbrev pub DropAnswers : {T G : Type 0} → (G → Seen) → GivenIndex → StoreView T G → StoreView T G → Result (Unit {0}) Error → Type 0
-DropAnswers seen x before after (Ok _) = IsDropped x before after
-DropAnswers seen x before after (Err (error.Fault fault.GuestTrap)) = IsCutOff x before after × Rose (seen before.core.guest).traps (seen after.core.guest).traps
-DropAnswers seen x before after (Err (error.Fault fault.OutOfMemory)) = (after ≡ before) ⊎ IsCutOff x before after
+DropAnswers seen x before after (Ok _) = IsDropped x before.core.ledger after.core.ledger before.trapped after.trapped
+DropAnswers seen x before after (Err (error.Fault fault.GuestTrap)) = IsCutOff x before.core.ledger after.core.ledger after.trapped × Rose (seen before.core.guest).traps (seen after.core.guest).traps
+DropAnswers seen x before after (Err (error.Fault fault.OutOfMemory)) = (after ≡ before) ⊎ IsCutOff x before.core.ledger after.core.ledger after.trapped
 DropAnswers seen x before after (Err (error.Fault (fault.Resource e))) =
     ((host_resource_drop before.core.ledger x).answer ≡ Err e) × (after ≡ with_ledger before (host_resource_drop before.core.ledger x).after)
 DropAnswers seen x before after (Err _) = ⊥

@@ -139,6 +139,9 @@ keeps_resources : (t u : Table) (d : Data) → length t.funcs ≡ 0 → add_reso
 keeps_resources t u d none e = option_and_then_some (with_resource t) (resource_of d) u e (λ r s h.
     subst (λ (x : Table). length x.funcs ≡ 0) (accepted_is (resource_refusal t r) (record t { resources = t.resources ++ r ∷ [] }) u h) none)
 
+pub resources_begun : (ds : Items) (t : Table) → onward add_resource empty_table ds ≡ Some t → length t.funcs ≡ 0
+resources_begun ds t e = onward_keeps (λ x. length x.funcs ≡ 0) add_resource keeps_resources empty_table t ds refl e
+
 -- what is known of a listing
 pub record IsKnown (l : Listed) : Type 0 where
   pub known : All (Knows l.table) l.types
@@ -149,7 +152,7 @@ listing_known resources types funcs l e =
     option_and_then_some (λ t. option_and_then (with_funcs funcs) (types_over t types)) (onward add_resource empty_table resources) l e (λ t s more.
     option_and_then_some (with_funcs funcs) (types_over t types) l more (λ m made last.
     by_map (λ fs. so_far fs.table m.types) (funcs_over funcs m) l last (λ fs over is.
-    let none = onward_keeps (λ x. length x.funcs ≡ 0) add_resource keeps_resources empty_table t resources refl s in
+    let none = resources_begun resources t s in
     let stands = funcs_stand funcs m fs (types_begun t types m none made) over in
     subst IsKnown is (record { known = stands.known; few = stands.few }))))
 

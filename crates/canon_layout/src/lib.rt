@@ -14,3 +14,4 @@ pub use funcs::{Signature, add_funcs, func_of_json};
 pub use lines::layout_lines;
 pub use listing::{listing_of_json, types_of_json};
 pub use readers::type_of_json;
+pub use resources::add_resources;

@@ -11,7 +11,7 @@ use canon_types::{ResourceKind, RuntimeInstance, TypeBuilder, TypeResourceTable}
 use serde_json::Value;
 
 /// Adds these resources.
-pub(crate) fn add_resources(builder: &mut TypeBuilder, items: &[Value]) -> Result<(), ScriptError>
+pub fn add_resources(builder: &mut TypeBuilder, items: &[Value]) -> Result<(), ScriptError>
     ensures { Gives (λ _. builder.new) result (onward spec.add_resource builder.old (items_view items.now)) }
 {
     for item in items {

@@ -1,25 +1,36 @@
--- What a script, played, leaves: one record for each call, in order, and the store between them.
-use Rattle.std.specs.Prelude.{Bool, Err, List, None, Ok, Option, Result, Some, [], false, if◌then◌else◌, is_err, length, replicate, slice_get, ℕ, ⊤, ◌++◌, ◌∷◌, ◌≡◌, ◌≢◌}
+-- What a script, played, leaves: one record for each item, in order, and the store between them.
+use Rattle.std.specs.Prelude.{Bool, Err, List, None, Ok, Option, Result, Some, [], false, if◌then◌else◌, is_err, length, map, nat_lt, not, replicate, slice_get, true, ℕ, ⊤, ◌++◌, ◌∷◌, ◌≡◌, ◌≢◌, ◌||◌}
 use Rattle.canon_model.specs.Shape.{no_members}
 use Rattle.canon_indices.specs.Options.{encoding_of}
 use Rattle.canon_types.specs.Instance.{Instance}
 use Rattle.canon_types.specs.Table.{param_members, result_members}
+use Rattle.canon_types.specs.declared.resource.ResourceType.TheVariants.{HostDynamic}
 use Rattle.canon_types.specs.declared.types.TypeFunc.{TypeFunc}
 use Rattle.canon_memory.specs.declared.event.Event.{Event}
 use Rattle.canon_memory.specs.Guest.{Mark, Moment, moment}
 use Rattle.canon_scripted.specs.Allocator.{Allocator}
 use Rattle.canon_scripted.specs.Scripted.{CarriesOut, Plan, traps_after}
-use Rattle.canon_ledger.specs.Ledger.{LedgerState, new_ledger}
+use Rattle.canon_ledger.specs.Index.{GivenIndex}
+use Rattle.canon_ledger.specs.Ledger.{Done, LedgerState, given, host_resource_drop, host_resource_lower_own, new_ledger}
+use Rattle.canon_ledger.specs.declared.fault.ResourceFault.{ResourceFault}
+use Rattle.canon_resources.specs.Held.{Any, any, host_index, table_handle}
+use Rattle.canon_resources.specs.declared.any.ResourceAnyHandle.{ResourceAnyHandle}
+use Rattle.canon_resources.specs.declared.any.ResourceAnyHandle.TheVariants.{Synthetic}
 use Rattle.canon_context.specs.declared.fault.Fault.TheVariants as fault
+use Rattle.canon_value.specs.Resources.{all_resources}
 use Rattle.canon_value.specs.declared.val.Val.{Val}
+use Rattle.canon_value.specs.declared.val.Val.TheVariants as val
 use Rattle.canon_func.specs.Call.{IsCall, refusal}
+use Rattle.canon_func.specs.Drop.{IsCutOff, IsDropped, destructor_at, destructor_events, drop_refusal}
 use Rattle.canon_func.specs.Stores.{Callee}
 use Rattle.canon_func.specs.declared.error.Error.{Error}
 use Rattle.canon_func.specs.declared.error.Error.TheVariants as error
-use Rattle.canon_script.specs.Literals.{literals_view}
-use Rattle.canon_script.specs.Script.{ScriptCall, Play}
+use Rattle.canon_script.specs.Literals.{all_known, held_among, listed, literals_view, replaced}
+use Rattle.canon_script.specs.Script.{Play, ScriptCall, ScriptItem, call_item, drop_item, new_item}
+use Rattle.canon_script.specs.declared.script.NewItem.{NewItem}
 use Rattle.canon_transcript.specs.declared.transcript.Answer.{Answer}
 use Rattle.canon_transcript.specs.declared.transcript.Answer.TheVariants as answer
+use Rattle.canon_transcript.specs.declared.transcript.Head.{Head}
 use Rattle.canon_transcript.specs.declared.transcript.Head.TheVariants as head
 use Rattle.canon_transcript.specs.declared.transcript.Record.{Record}
 
@@ -50,7 +61,7 @@ callee_with play i (Some f) = record {
 abbrev pub played_callee : Play → ℕ → Callee
 played_callee play i = callee_with play i (slice_get play.types.funcs i)
 
--- ---- the store between two calls
+-- ---- the store between two items
 
 -- Whether it is trapped, its memory, the ledger of its handles, and of its guest the allocator, a mark for each answer of `realloc`
 -- so far, and how often it trapped and answered want of memory. Want of memory alone is caused by the last count, and leaves no
@@ -64,12 +75,12 @@ pub record State : Type 0 where
   pub traps : ℕ
   pub shortages : ℕ
 
--- at first memory is zeros, no handle lives, of which there may be 1,000,000, and the allocator begins at `heap`
+-- at first memory is zeros, no handle lives, of which there may be `handles`, and the allocator begins at `heap`
 abbrev pub at_first : Play → State
 at_first play = record {
   trapped = false;
   memory = replicate play.memory 0;
-  ledger = new_ledger 256 1000000 0;
+  ledger = new_ledger 256 play.handles 0;
   allocator = record { top = play.heap; live = [] };
   marks = [];
   traps = 0;
@@ -80,20 +91,35 @@ at_first play = record {
 abbrev pub moment_of : State → List Event → Moment
 moment_of s events = moment (record { journal = Some events; marks = s.marks; live = s.allocator.live; traps = s.traps; shortages = s.shortages }) s.memory
 
--- what the guest is to do in a call
+-- what the guest is to do in a call, and in a drop
 abbrev pub plan_of : ScriptCall → Allocator → Plan
 plan_of call allocator = record { actions = call.guest; reallocs = call.reallocs; post_trap = call.post_trap; dtor_trap = false; allocator = allocator }
 
--- ---- a call
+abbrev pub drop_plan : Bool → Allocator → Plan
+drop_plan dtor_trap allocator = record { actions = []; reallocs = []; post_trap = false; dtor_trap = dtor_trap; allocator = allocator }
 
--- how it ended, and the results that it left
+-- ---- answers
+
+-- how an item ended that wasn't skipped, and the results that it left
 abbrev pub outcome : Answer → Result (Unit {0}) Error
 outcome (answer.Ok results) = Ok tt
 outcome (answer.Err e) = Err e
+outcome answer.Skipped = Ok tt
 
 abbrev pub answer_values : Answer → List Val
 answer_values (answer.Ok results) = results.items
 answer_values (answer.Err e) = []
+answer_values answer.Skipped = []
+
+-- nothing was done and nothing changed, and this was answered
+abbrev pub Idle : State → State → Record → Answer → Type 0
+Idle before after r a = (r.answer ≡ a) × (r.events ≡ []) × (after ≡ before)
+
+-- it answered Ok with these values
+abbrev pub AnswersOk : Answer → List Val → Type 0
+AnswersOk a vs = (a ≢ answer.Skipped) × (outcome a ≡ Ok tt) × (answer_values a ≡ vs)
+
+-- ---- a call
 
 -- a scripted post-return and a destructor leave memory as it was
 abbrev pub LeavesSame : List ℕ → List ℕ → Type 0
@@ -102,10 +128,10 @@ LeavesSame memory after = after ≡ memory
 -- The guest was entered, and acted by its plan in its memory, from the length before to the length after; its traps are counted;
 -- the results were lifted with this fuel; the store is trapped where the call was refused. After an answer that is Ok, memory is
 -- that of the return; after a refusal nothing reads its bytes, since every later call is refused. The memory that the run has
--- sufficed.
-pub record WasCalled (callee : Callee) (fuel : ℕ) (call : ScriptCall) (before after : State) (r : Record) : Type 0 where
+-- sufficed. The parameters are those of the script, with the resources of the list in the place of their numbers.
+pub record WasCalled (callee : Callee) (fuel : ℕ) (call : ScriptCall) (list : List Any) (before after : State) (r : Record) : Type 0 where
   pub params : List Val
-  pub params_are : literals_view params ≡ call.params
+  pub params_are : literals_view params ≡ map (replaced (listed list)) call.params
   pub called : IsCall LeavesSame callee fuel params (moment_of before []) (moment_of after r.events) before.ledger after.ledger (outcome r.answer) (answer_values r.answer) r.events
   pub left : Plan
   pub new_marks : List Mark
@@ -115,27 +141,112 @@ pub record WasCalled (callee : Callee) (fuel : ℕ) (call : ScriptCall) (before 
   pub traps : after.traps ≡ traps_after before.traps r.events
   pub trapped : after.trapped ≡ is_err (outcome r.answer)
   pub sufficed : r.answer ≢ answer.Err (error.Fault fault.OutOfMemory)
+  pub played : r.answer ≢ answer.Skipped
 
 -- It was refused before the guest was entered, which leaves everything as it was; else it was called.
-abbrev pub Happened : Callee → ℕ → ScriptCall → State → State → Record → Option Error → Type 0
-Happened callee fuel call before after r (Some e) = (r.answer ≡ answer.Err e) × (r.events ≡ []) × (after ≡ before)
-Happened callee fuel call before after r None = WasCalled callee fuel call before after r
+abbrev pub Called : Callee → ℕ → ScriptCall → List Any → State → State → Record → Option Error → Type 0
+Called callee fuel call list before after r (Some e) = Idle before after r (answer.Err e)
+Called callee fuel call list before after r None = WasCalled callee fuel call list before after r
 
--- The record of a call of this callee with this fuel, and the store before and after it: with how many handles live after it.
-pub record IsPlayed (callee : Callee) (fuel : ℕ) (call : ScriptCall) (before after : State) (r : Record) : Type 0 where
-  pub head : r.head ≡ head.Call call.func
-  pub happened : Happened callee fuel call before after r (refusal callee (length call.params) call.slots before.trapped)
+-- ---- a new resource
+
+-- a resource of the host of a type that a number tells
+abbrev pub dynamic : ResourceAnyHandle → ℕ → Val
+dynamic handle ty = val.Resource (any handle (HostDynamic ty))
+
+-- what the insertion of its handle answered
+abbrev pub Inserted : ℕ → Result GivenIndex ResourceFault → Answer → Type 0
+Inserted ty (Ok x) a = AnswersOk a (dynamic (table_handle x true) ty ∷ [])
+Inserted ty (Err e) a = a ≡ answer.Err (error.Fault (fault.Resource e))
+
+-- An own handle was put into the host's table; or the ledger refused it.
+pub record WasInserted (n : NewItem) (step : Done GivenIndex) (before after : State) (r : Record) : Type 0 where
+  pub answered : Inserted n.ty step.answer r.answer
+  pub events : r.events ≡ []
+  pub leaves : after ≡ record before { ledger = step.after }
+
+-- a borrow has no handle
+abbrev pub WasMade : Bool → NewItem → State → State → Record → Type 0
+WasMade true n before after r = AnswersOk r.answer (dynamic (Synthetic n.rep) n.ty ∷ []) × (r.events ≡ []) × (after ≡ before)
+WasMade false n before after r = WasInserted n (given before.ledger (host_resource_lower_own before.ledger n.rep None None)) before after r
+
+-- ---- a drop
+
+-- what became of the handle at an index, by the answer
+abbrev pub Removed : GivenIndex → State → State → Result (Unit {0}) Error → Type 0
+Removed x before after (Ok _) = IsDropped x before.ledger after.ledger before.trapped after.trapped × (after.memory ≡ before.memory)
+Removed x before after (Err (error.Fault fault.GuestTrap)) = IsCutOff x before.ledger after.ledger after.trapped
+Removed x before after (Err (error.Fault (fault.Resource e))) = ((host_resource_drop before.ledger x).answer ≡ Err e) × (after ≡ record before { ledger = (host_resource_drop before.ledger x).after })
+Removed x before after (Err _) = ⊥
+
+-- The handle at an index was removed, and where it was an own handle with a destructor the guest ran that once; or the ledger refused
+-- it. A destructor that traps leaves the store trapped, and nothing reads memory any more.
+pub record WasRemoved (x : GivenIndex) (dtor_trap : Bool) (before after : State) (r : Record) : Type 0 where
+  pub removed : Removed x before after (outcome r.answer)
+  pub played : r.answer ≢ answer.Skipped
+  pub no_values : answer_values r.answer ≡ []
+  pub ran : r.events ≡ destructor_events (destructor_at before.ledger x) before.memory (outcome r.answer)
+  pub left : Plan
+  pub does : CarriesOut (drop_plan dtor_trap before.allocator) (length before.memory) r.events [] left (length after.memory)
+  pub allocator : after.allocator ≡ left.allocator
+  pub marks : after.marks ≡ before.marks
+  pub traps : after.traps ≡ traps_after before.traps r.events
+
+-- refused before a scope was entered, or not
+abbrev pub DroppedAt : GivenIndex → Bool → State → State → Record → Option Error → Type 0
+DroppedAt x dtor_trap before after r (Some e) = Idle before after r (answer.Err e)
+DroppedAt x dtor_trap before after r None = WasRemoved x dtor_trap before after r
+
+-- a borrow that the host made has no handle, and nothing is done
+abbrev pub DroppedBy : Option GivenIndex → Bool → State → State → Record → Type 0
+DroppedBy None dtor_trap before after r = AnswersOk r.answer [] × (r.events ≡ []) × (after ≡ before)
+DroppedBy (Some x) dtor_trap before after r = DroppedAt x dtor_trap before after r (drop_refusal before.ledger before.trapped x)
+
+-- of a resource of the list
+abbrev pub WasDropped : Option Any → Bool → State → State → Record → Type 0
+WasDropped None dtor_trap before after r = ⊥
+WasDropped (Some x) dtor_trap before after r = DroppedBy (host_index x.handle) dtor_trap before after r
+
+-- ---- an item
+
+abbrev pub head_of : ScriptItem → Head
+head_of (call_item c) = head.Call c.func
+head_of (new_item n) = head.New
+head_of (drop_item d) = head.Drop d.resource
+
+-- An item is skipped that names a number which no resource of the list has; after the store was trapped, each new resource and each drop.
+abbrev pub skips : ScriptItem → List Any → State → Bool
+skips (call_item c) list before = not (all_known (length list) (held_among c.params))
+skips (new_item n) list before = before.trapped
+skips (drop_item d) list before = before.trapped || not (nat_lt d.resource (length list))
+
+abbrev pub WasPlayed : (ℕ → Callee) → ℕ → ScriptItem → List Any → State → State → Record → Type 0
+WasPlayed callees fuel (call_item c) list before after r =
+    Called (callees c.func) fuel c list before after r (refusal (callees c.func) (length c.params) c.slots before.trapped)
+WasPlayed callees fuel (new_item n) list before after r = WasMade n.borrow n before after r
+WasPlayed callees fuel (drop_item d) list before after r = WasDropped (slice_get list d.resource) d.dtor_trap before after r
+
+abbrev pub Happened : Bool → (ℕ → Callee) → ℕ → ScriptItem → List Any → State → State → Record → Type 0
+Happened true callees fuel i list before after r = Idle before after r answer.Skipped
+Happened false callees fuel i list before after r = WasPlayed callees fuel i list before after r
+
+-- The record of an item, with the list of resources before it and the store before and after it: with how many handles live after it.
+pub record IsPlayed (callees : ℕ → Callee) (fuel : ℕ) (i : ScriptItem) (list : List Any) (before after : State) (r : Record) : Type 0 where
+  pub head : r.head ≡ head_of i
+  pub happened : Happened (skips i list before) callees fuel i list before after r
   pub live : r.live ≡ after.ledger.handles.counter.live
 
--- ---- all calls
+-- ---- all items
 
--- one record for each call of one of these callees, in order, from one state of the store on; each call has this fuel anew
-abbrev pub Plays : (ℕ → Callee) → ℕ → List ScriptCall → State → List Record → Type 0
-Plays callees fuel [] before [] = ⊤
-Plays callees fuel (call ∷ calls) before (r ∷ records) = (after : State) × IsPlayed (callees call.func) fuel call before after r × Plays callees fuel calls after records
-Plays callees fuel [] before (r ∷ records) = ⊥
-Plays callees fuel (call ∷ calls) before [] = ⊥
+-- One record for each item, in order, from one state of the store on; each call of one of these callees has this fuel anew. The list
+-- of resources grows by those of each answer, depth first.
+abbrev pub Plays : (ℕ → Callee) → ℕ → List ScriptItem → List Any → State → List Record → Type 0
+Plays callees fuel [] list before [] = ⊤
+Plays callees fuel (i ∷ is) list before (r ∷ records) =
+    (after : State) × IsPlayed callees fuel i list before after r × Plays callees fuel is (list ++ all_resources (answer_values r.answer)) after records
+Plays callees fuel [] list before (r ∷ records) = ⊥
+Plays callees fuel (i ∷ is) list before [] = ⊥
 
 -- what a script's session leaves in the transcript
 abbrev pub Session : Play → List Record → Type 0
-Session play records = Plays (played_callee play) play.fuel play.calls (at_first play) records
+Session play records = Plays (played_callee play) play.fuel play.items [] (at_first play) records

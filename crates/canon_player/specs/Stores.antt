@@ -11,7 +11,7 @@ use Rattle.canon_context.specs.declared.component.Component.{Component}
 use Rattle.canon_context.specs.declared.component.Export.{Export}
 use Rattle.canon_func.specs.Stores.{Callee, StoreView, callee_in}
 use Rattle.canon_ledger.specs.Ledger.{new_ledger}
-use Rattle.canon_script.specs.Script.{ScriptCall}
+use Rattle.canon_script.specs.Script.{ScriptCall, ScriptItem, call_item, drop_item, new_item}
 use Rattle.canon_player.specs.Session.{State, post_of}
 
 -- ---- its component
@@ -47,19 +47,24 @@ pub record IsScripted (t : Table) (encoding : StringEncoding) (posts : List Bool
 abbrev pub callee_at : Component → ℕ → Callee
 callee_at component i = callee_in component (slice_get component.exports.items i)
 
--- The call is one of a function that there is; each ordered answer is below 2 ^ 32.
-pub record IsPlayable (component : Component) (call : ScriptCall) : Type 0 where
+-- A call is one of a function that there is; each ordered answer is below 2 ^ 32.
+pub record IsCallable (component : Component) (call : ScriptCall) : Type 0 where
   pub export : call.func < length component.exports.items
   pub orders : AreNarrow call.reallocs
+
+abbrev pub IsPlayable : Component → ScriptItem → Type 0
+IsPlayable component (call_item c) = IsCallable component c
+IsPlayable component (new_item n) = Unit {0}
+IsPlayable component (drop_item d) = Unit {0}
 
 -- ---- its state
 
 abbrev pub ScriptStore : Type 0
 ScriptStore = StoreView (Unit {0}) (Recorded Doing)
 
--- no call was made
-abbrev pub fresh_store : ℕ → ℕ → ℕ → Component → ScriptStore
-fresh_store memory heap fuel component = record {
+-- nothing was done
+abbrev pub fresh_store : ℕ → ℕ → ℕ → ℕ → Component → ScriptStore
+fresh_store memory heap fuel handles component = record {
   core = record {
     id = 0;
     state = tt;
@@ -75,7 +80,7 @@ fresh_store memory heap fuel component = record {
     };
     memory = replicate memory 0;
     component = component;
-    ledger = new_ledger 256 1000000 0;
+    ledger = new_ledger 256 handles 0;
     fuel = fuel;
   };
   trapped = false;

@@ -18,9 +18,6 @@ use std::alloc::Global;
 /// The store of a script, by its number.
 const SCRIPT_STORE: u64 = 0;
 
-/// The most live handles of a script's store.
-const HANDLES: u64 = 1_000_000;
-
 /// A store whose guest follows a script.
 pub(crate) type ScriptStore = Store<(), Journaled<ScriptedGuest>>;
 
@@ -73,23 +70,24 @@ fn options_of(
     }
 }
 
-/// A store of a component in which no call was made, with this memory of zeros and this fuel for each call, where the
-/// guest's allocator begins at `heap`.
+/// A store of a component in which nothing was done, with this memory of zeros, this fuel for each call and room for so many live
+/// handles, where the guest's allocator begins at `heap`.
 pub(crate) fn store_of(
     alloc: Global,
     component: Component,
     memory: u64,
     heap: u64,
     fuel: u64,
+    handles: u64,
 ) -> Result<ScriptStore, OutOfMemory>
     requires { IsComponent component }
-    ensures { IfOk result (λ store. store ≡ fresh_store memory heap fuel component) }
+    ensures { IfOk result (λ store. store ≡ fresh_store memory heap fuel handles component) }
 {
     let Ok(memory) = Memory::new(alloc, memory) else {
         return Err(OutOfMemory);
     };
     let guest = Journaled::new(alloc, ScriptedGuest::new(alloc, heap));
     let id = StoreId::from_u64(SCRIPT_STORE);
-    let core = Core::new(alloc, id, (), guest, memory, component, HANDLES, fuel)?;
+    let core = Core::new(alloc, id, (), guest, memory, component, handles, fuel)?;
     Ok(Store::new(core))
 }

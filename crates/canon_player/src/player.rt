@@ -1,17 +1,24 @@
-ghost use Rattle.std.specs.Prelude.{◌≡◌, ◌≢◌, [], All, Err, IfOk, OnErr, OnOk, length, map};
-ghost use Rattle.canon_script.specs.Script.{IsWellFormed, call_item_view, item_view, play_of};
-ghost use Rattle.canon_player.specs.Session.{IsPlayed, Plays, Session, outcome, answer_values};
-ghost use Rattle.canon_player.specs.Stores.{IsPlayable, callee_at, state_of, with_plan};
+ghost use Rattle.std.specs.Prelude.{◌≡◌, ◌≢◌, ◌++◌, [], All, Err, IfOk, OnErr, OnOk, Some, length, map};
+ghost use Rattle.canon_value.specs.Resources.{all_resources};
+ghost use Rattle.canon_script.specs.Script.{IsWellFormed, call_item, call_item_view, drop_item, item_view, new_item, play_of};
+ghost use Rattle.canon_player.specs.Session.{IsPlayed, Plays, Session, WasDropped, answer_values, outcome};
+ghost use Rattle.canon_player.specs.Steps.{MadeAnswer, MakesResource, WasMadeCall};
+ghost use Rattle.canon_player.specs.Stores.{IsCallable, IsPlayable, callee_at, state_of};
 
 use crate::component::{ScriptStore, component_of, store_of};
-use canon_func::Error;
-use canon_script::{CallItem, Item, Script};
+use canon_func::{Error, resource_drop};
+use canon_ledger::ResourceFault;
+use canon_memory::Events;
+use canon_resources::{ResourceAny, ResourceType};
+use canon_script::{
+    CallItem, DropItem, Item, NewItem, Script, are_known, resources_in, with_resources,
+};
 use canon_transcript::{Answer, Head, Record, Transcript};
 use canon_types::{ExportIndex, OutOfMemory};
 use canon_value::{Fault, Val};
 use std::alloc::Global;
 
-/// Plays a script, and adds a record for each of its calls. Want of memory leaves the transcript empty.
+/// Plays a script, and adds a record for each of its items. Want of memory leaves the transcript empty.
 pub fn play(alloc: Global, script: Script, transcript: &mut Transcript) -> Result<(), OutOfMemory>
     requires empty { transcript.old ≡ [] }
     requires sound { IsWellFormed (play_of script) }
@@ -22,13 +29,14 @@ pub fn play(alloc: Global, script: Script, transcript: &mut Transcript) -> Resul
         memory,
         heap,
         fuel,
+        handles,
         encoding,
         types,
         posts,
         items,
     } = script;
     let component = component_of(alloc, types, encoding, &posts)?;
-    let store = store_of(alloc, component, memory, heap, fuel)?;
+    let store = store_of(alloc, component, memory, heap, fuel, handles)?;
     *transcript = play_items(alloc, store, items)?;
     Ok(())
 }
@@ -41,36 +49,105 @@ fn play_items(
 ) -> Result<Transcript, OutOfMemory>
     requires fresh { store.core.guest.events ≡ [] }
     requires playable { All (IsPlayable store.core.component) (map item_view items.items) }
-    ensures { IfOk result (λ records. Plays (callee_at store.core.component) store.core.fuel (map item_view items.items) (state_of store) records) }
+    ensures { IfOk result (λ records. Plays (callee_at store.core.component) store.core.fuel (map item_view items.items) [] (state_of store) records) }
 {
     let mut store = store;
     let mut records = Transcript::new(alloc);
+    let mut list = Vec::new(alloc);
     for item in items {
-        let record = play_item(alloc, &mut store, item)?;
+        let record = play_item(alloc, &mut store, &list, item)?;
+        add_resources(alloc, &mut list, &record.answer)?;
         records.push(record)?;
     }
     Ok(records)
 }
 
-/// Plays an item, and gives its record.
-fn play_item(alloc: Global, store: &mut ScriptStore, item: Item) -> Result<Record, OutOfMemory>
+/// Adds the resources of an answer to the list.
+fn add_resources(
+    alloc: Global,
+    list: &mut Vec<ResourceAny>,
+    answer: &Answer,
+) -> Result<(), OutOfMemory>
+    ensures { OnOk result (list.new.items ≡ list.old.items ++ all_resources (answer_values answer.now)) }
+{
+    match answer {
+        Answer::Ok(values) => {
+            let found = resources_in(alloc, values)?;
+            list.extend_from_slice(&found)?;
+            Ok(())
+        }
+        Answer::Err(_) => Ok(()),
+        Answer::Skipped => Ok(()),
+    }
+}
+
+/// Plays an item, with the resources that were made and answered so far, and gives its record.
+fn play_item(
+    alloc: Global,
+    store: &mut ScriptStore,
+    list: &[ResourceAny],
+    item: Item,
+) -> Result<Record, OutOfMemory>
     requires fresh { store.old.core.guest.events ≡ [] }
     requires playable { IsPlayable store.old.core.component (item_view item) }
-    ensures played { IfOk result (IsPlayed (callee_at store.old.core.component (item_view item).func) store.old.core.fuel (item_view item) (state_of store.old) (state_of store.new)) }
+    ensures played { IfOk result (IsPlayed (callee_at store.old.core.component) store.old.core.fuel (item_view item) list.now (state_of store.old) (state_of store.new)) }
     ensures fresh { store.new.core.guest.events ≡ [] }
     ensures same { store.new.core.component ≡ store.old.core.component }
     ensures fuel { store.new.core.fuel ≡ store.old.core.fuel }
 {
     match item {
-        Item::Call(call) => play_call(alloc, store, call),
+        Item::Call(call) => play_call(alloc, store, list, call),
+        Item::New(new) => play_new(alloc, store, list, new),
+        Item::Drop(drop) => play_drop(alloc, store, list, drop),
     }
 }
 
-/// Calls a function of the store, and gives the record of the call.
-fn play_call(alloc: Global, store: &mut ScriptStore, call: CallItem) -> Result<Record, OutOfMemory>
+/// The record of an item that did nothing.
+fn idle_record(alloc: Global, store: &ScriptStore, head: Head, answer: Answer) -> Record
+    ensures head { result.head ≡ head }
+    ensures answer { result.answer ≡ answer }
+    ensures events { result.events ≡ [] }
+    ensures live { result.live ≡ store.now.core.ledger.handles.counter.live }
+{
+    Record {
+        head,
+        events: Events::new(alloc),
+        answer,
+        live: store.live_handles(),
+    }
+}
+
+/// Plays a call, unless a resource among its parameters isn't in the list.
+fn play_call(
+    alloc: Global,
+    store: &mut ScriptStore,
+    list: &[ResourceAny],
+    call: CallItem,
+) -> Result<Record, OutOfMemory>
     requires fresh { store.old.core.guest.events ≡ [] }
-    requires playable { IsPlayable store.old.core.component (call_item_view call) }
-    ensures played { IfOk result (IsPlayed (callee_at store.old.core.component call.func) store.old.core.fuel (call_item_view call) (state_of store.old) (state_of store.new)) }
+    requires playable { IsCallable store.old.core.component (call_item_view call) }
+    ensures played { IfOk result (IsPlayed (callee_at store.old.core.component) store.old.core.fuel (call_item (call_item_view call)) list.now (state_of store.old) (state_of store.new)) }
+    ensures fresh { store.new.core.guest.events ≡ [] }
+    ensures same { store.new.core.component ≡ store.old.core.component }
+    ensures fuel { store.new.core.fuel ≡ store.old.core.fuel }
+{
+    if !are_known(alloc, &call.params, list.len())? {
+        let head = Head::Call(call.func);
+        return Ok(idle_record(alloc, store, head, Answer::Skipped));
+    }
+    make_call(alloc, store, list, call)
+}
+
+/// Calls a function of the store, and gives the record of the call.
+fn make_call(
+    alloc: Global,
+    store: &mut ScriptStore,
+    list: &[ResourceAny],
+    call: CallItem,
+) -> Result<Record, OutOfMemory>
+    requires fresh { store.old.core.guest.events ≡ [] }
+    requires playable { IsCallable store.old.core.component (call_item_view call) }
+    ensures called { IfOk result (WasMadeCall (callee_at store.old.core.component call.func) store.old.core.fuel (call_item_view call) list.now (state_of store.old) (state_of store.new)) }
     ensures fresh { store.new.core.guest.events ≡ [] }
     ensures same { store.new.core.component ≡ store.old.core.component }
     ensures fuel { store.new.core.fuel ≡ store.old.core.fuel }
@@ -83,6 +160,7 @@ fn play_call(alloc: Global, store: &mut ScriptStore, call: CallItem) -> Result<R
         reallocs,
         post_trap,
     } = call;
+    let params = with_resources(alloc, &params, list)?;
     let mut results = slots_of(alloc, slots)?;
     let scripted = store.core_mut().guest_mut().guest_mut();
     scripted.load(guest, reallocs, post_trap, false);
@@ -93,6 +171,116 @@ fn play_call(alloc: Global, store: &mut ScriptStore, call: CallItem) -> Result<R
     let answer = answer_of(called, results)?;
     Ok(Record {
         head: Head::Call(func),
+        events,
+        answer,
+        live,
+    })
+}
+
+/// Makes a resource of the host, unless the store is trapped.
+fn play_new(
+    alloc: Global,
+    store: &mut ScriptStore,
+    list: &[ResourceAny],
+    item: NewItem,
+) -> Result<Record, OutOfMemory>
+    requires fresh { store.old.core.guest.events ≡ [] }
+    ensures played { IfOk result (IsPlayed (callee_at store.old.core.component) store.old.core.fuel (new_item item) list.now (state_of store.old) (state_of store.new)) }
+    ensures fresh { store.new.core.guest.events ≡ [] }
+    ensures same { store.new.core.component ≡ store.old.core.component }
+    ensures fuel { store.new.core.fuel ≡ store.old.core.fuel }
+{
+    if store.is_trapped() {
+        return Ok(idle_record(alloc, store, Head::New, Answer::Skipped));
+    }
+    let answer = made_answer(alloc, new_resource(store, item))?;
+    Ok(idle_record(alloc, store, Head::New, answer))
+}
+
+/// A resource of the host of a type that a number tells: an own handle is put into the host's table, a borrow has none.
+fn new_resource(store: &mut ScriptStore, item: NewItem) -> Result<ResourceAny, ResourceFault>
+    ensures made { MakesResource item store.old.core.ledger result store.new.core.ledger }
+    ensures same { store.new ≡ record store.old { core = record store.old.core { ledger = store.new.core.ledger } } }
+{
+    let ty = ResourceType::host_dynamic(item.ty);
+    if item.borrow {
+        return Ok(ResourceAny::new_borrow(item.rep, ty));
+    }
+    match store.core_mut().host_resource_lower_own(item.rep, None, None) {
+        Ok(index) => Ok(ResourceAny::new(index, ty, true)),
+        Err(fault) => Err(fault),
+    }
+}
+
+/// The answer of a new resource.
+fn made_answer(
+    alloc: Global,
+    made: Result<ResourceAny, ResourceFault>,
+) -> Result<Answer, OutOfMemory>
+    ensures { IfOk result (MadeAnswer made) }
+{
+    match made {
+        Ok(resource) => {
+            let mut values = Vec::with_capacity(alloc, 1)?;
+            values.push(Val::Resource(resource))?;
+            Ok(Answer::Ok(values))
+        }
+        Err(ResourceFault::OutOfMemory) => Err(OutOfMemory),
+        Err(fault) => Ok(Answer::Err(Error::Fault(Fault::Resource(fault)))),
+    }
+}
+
+/// Drops a resource of the list, unless the store is trapped or the list has no such one.
+fn play_drop(
+    alloc: Global,
+    store: &mut ScriptStore,
+    list: &[ResourceAny],
+    item: DropItem,
+) -> Result<Record, OutOfMemory>
+    requires fresh { store.old.core.guest.events ≡ [] }
+    ensures played { IfOk result (IsPlayed (callee_at store.old.core.component) store.old.core.fuel (drop_item item) list.now (state_of store.old) (state_of store.new)) }
+    ensures fresh { store.new.core.guest.events ≡ [] }
+    ensures same { store.new.core.component ≡ store.old.core.component }
+    ensures fuel { store.new.core.fuel ≡ store.old.core.fuel }
+{
+    let head = Head::Drop(item.resource);
+    if store.is_trapped() {
+        return Ok(idle_record(alloc, store, head, Answer::Skipped));
+    }
+    match list.get(item.resource as usize) {
+        Some(resource) => make_drop(alloc, store, *resource, item),
+        None => Ok(idle_record(alloc, store, head, Answer::Skipped)),
+    }
+}
+
+/// Drops a resource, and gives the record of the drop.
+fn make_drop(
+    alloc: Global,
+    store: &mut ScriptStore,
+    resource: ResourceAny,
+    item: DropItem,
+) -> Result<Record, OutOfMemory>
+    requires fresh { store.old.core.guest.events ≡ [] }
+    ensures head { IfOk result (λ r. r.head ≡ Head.Drop item.resource) }
+    ensures dropped { IfOk result (WasDropped (Some resource) item.dtor_trap (state_of store.old) (state_of store.new)) }
+    ensures live { IfOk result (λ r. r.live ≡ store.new.core.ledger.handles.counter.live) }
+    ensures fresh { store.new.core.guest.events ≡ [] }
+    ensures same { store.new.core.component ≡ store.old.core.component }
+    ensures fuel { store.new.core.fuel ≡ store.old.core.fuel }
+{
+    let scripted = store.core_mut().guest_mut().guest_mut();
+    scripted.load(
+        Vec::new(alloc),
+        Vec::new(alloc),
+        false,
+        item.dtor_trap,
+    );
+    let dropped = resource_drop(resource, store);
+    let live = store.live_handles();
+    let events = store.core_mut().guest_mut().take_journal();
+    let answer = answer_of(dropped, Vec::new(alloc))?;
+    Ok(Record {
+        head: Head::Drop(item.resource),
         events,
         answer,
         live,
@@ -115,6 +303,7 @@ fn answer_of(called: Result<(), Error>, results: Vec<Val>) -> Result<Answer, Out
     ensures outcome { IfOk result (λ answer. outcome answer ≡ called) }
     ensures values { IfOk result (λ answer. OnOk called (answer_values answer ≡ results.items)) }
     ensures memory_left { IfOk result (λ answer. called ≢ Err (Error.Fault Fault.OutOfMemory)) }
+    ensures played { IfOk result (λ answer. answer ≢ Answer.Skipped) }
 {
     match called {
         Ok(()) => Ok(Answer::Ok(results)),

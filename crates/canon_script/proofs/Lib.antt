@@ -1,5 +1,7 @@
 pub mod Cases
+pub mod Filled
 pub mod Funcs
+pub mod Held
 pub mod Members
 pub mod Sound
 pub mod Views

@@ -60,6 +60,20 @@ in_two (array (item f (item g no_items))) a b e = let same : (a, b) ≡ (f, g) =
 in_two (array (item f (item g (item h ds)))) a b e = absurd (cc)
 in_two (object ms) a b e = absurd (cc)
 
+member_are : (p q : Name × Data) → Some p ≡ Some q → p ≡ q
+member_are p q e = cc
+
+-- the value of the only member is less deep
+pub in_member : (d f : Data) (name : Name) → Some (name, f) ≡ option_and_then only_member (as_object d) → depth f < depth d
+in_member null f name e = absurd (cc)
+in_member (boolean b) f name e = absurd (cc)
+in_member (number n) f name e = absurd (cc)
+in_member (string s) f name e = absurd (cc)
+in_member (array ds) f name e = absurd (cc)
+in_member (object no_members) f name e = absurd (cc)
+in_member (object (member k d no_members)) f name e = omega (arith, ap (λ (p : Name × Data). depth p.1) (member_are (name, f) (k, d) e))
+in_member (object (member k d (member l x ms))) f name e = absurd (cc)
+
 -- ---- arrays of values
 
 ends : {A : Type 0} (F : List Value → Option (List A)) (us : List Value) (k : ℕ) (done : List A) → F [] ≡ Some [] → length us ≤ k → option_map (λ xs. done ++ xs) (F (drop k us)) ≡ F us → Some done ≡ F us

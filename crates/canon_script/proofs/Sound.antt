@@ -1,5 +1,5 @@
 -- A script that is read is sound.
-use Rattle.std.proofs.Common.{◌≡◌, ℕ, ◌<◌, ◌≤◌, ◌+◌, ◌*◌, ◌^◌, List, [], ◌∷◌, All, slice_get, Bool, false, nat_eq, nat_le, nat_lt, IsTrue, if◌then◌else◌, codes, Option, None, Some, Result, Ok, Err, IfOk, subst, option_and_then}
+use Rattle.std.proofs.Common.{◌≡◌, ℕ, ◌<◌, ◌≤◌, ◌+◌, ◌*◌, ◌^◌, List, [], ◌∷◌, All, slice_get, Bool, false, is_some, nat_eq, option_map, sym, true, nat_le, nat_lt, IsTrue, if◌then◌else◌, codes, Option, None, Some, Result, Ok, Err, IfOk, subst, option_and_then}
 use Rattle.std.proofs.lemmas.Bool.{and_parts, leb-true, ltb-true}
 use Rattle.std.proofs.lemmas.List.Elements.{All-from_recursion}
 use Rattle.std.proofs.lemmas.Option.{option_and_then_some, same_Some, slice_get_within}
@@ -17,19 +17,14 @@ use Rattle.canon_script.specs.Actions.{action_of, ordered_of}
 use Rattle.canon_scripted.specs.declared.orders.Ordered.{Ordered}
 use Rattle.canon_scripted.specs.declared.orders.Ordered.TheVariants as order
 use Rattle.canon_scripted.specs.Orders.{AreNarrow, IsNarrow}
-use Rattle.canon_indices.specs.declared.options.StringEncoding.{StringEncoding}
-use Rattle.canon_script.specs.Script.{ScriptCall, IsWellFormed, Play, call_item_of, call_of_func, call_with, final_memory, fits, heap_of, if_fits, max_memory, max_work, optional_call_members, play_of, play_with, played, reallocs_of, result_count, slots_of, turns}
+use Rattle.canon_script.specs.Script.{IsWellFormed, ItemStands, Play, ScriptCall, ScriptItem, call_item, call_item_of, call_of_func, call_with, drop_item, drop_item_of, encoding_of, final_memory, fits, fuel_of, handles_of, heap_of, if_fits, item_of, max_memory, max_work, memory_len_of, new_item, new_item_of, optional_call_members, other_item_of, play_of, play_with, played, reallocs_of, result_count, settings_of, settings_with, slots_of, turns}
+use Rattle.canon_script.specs.declared.script.Settings.{Settings}
 use Rattle.canon_script.specs.Types.{funcs_of}
 use Rattle.canon_script.specs.Values.{value_of}
 use Rattle.canon_script.specs.declared.script.Script.{Script}
 use Rattle.canon_script.proofs.Funcs.{Told, funcs_told}
 
 -- ---- calls
-
--- the call is one of a function, and its orders are narrow
-record Stands (t : Table) (c : ScriptCall) : Type 0 where
-  known : HasFunc t c.func
-  narrow : AreNarrow c.reallocs
 
 u32_narrow : (d : Data) (n : ℕ) → u32_of d ≡ Some n → n < 2 ^ 32
 u32_narrow d n e = option_and_then_some (λ m. if nat_lt m (2 ^ 32) then Some m else None) (word_of d) n e (λ m s h.
@@ -54,21 +49,35 @@ reallocs_narrow : (d : Option Data) (os : List Ordered) → reallocs_of d ≡ So
 reallocs_narrow None os e = subst AreNarrow (same_Some [] os e) tt
 reallocs_narrow (Some d) os e = option_and_then_some (each ordered_of) (as_array d) os e (λ ds s h. are_narrow os (each_all IsNarrow ordered_of ordered_narrow ds os h))
 
-called : (t : Table) (d : Data) (func results : ℕ) (c : ScriptCall) → HasFunc t func → call_of_func d func results ≡ Some c → Stands t c
+called : (t : Table) (d : Data) (func results : ℕ) (c : ScriptCall) → HasFunc t func → call_of_func d func results ≡ Some c → ItemStands t (call_item c)
 called t d func results c known e =
     option_and_then_some _ (option_and_then (each_of value_of) (get (codes "params") d)) c e (λ params s1 e1.
     option_and_then_some _ (option_and_then (each_of action_of) (get (codes "guest") d)) c e1 (λ guest s2 e2.
     option_and_then_some _ (slots_of results (get (codes "slots") d)) c e2 (λ slots s3 e3.
     option_and_then_some _ (reallocs_of (get (codes "reallocs") d)) c e3 (λ reallocs s4 e4.
     by_map (call_with func params guest slots reallocs) (option_map_or as_bool (get (codes "post_trap") d) (Some false)) c e4 (λ post s5 is.
-    subst (Stands t) is (record { known = known; narrow = reallocs_narrow (get (codes "reallocs") d) reallocs s4 }))))))
+    subst (λ (x : ScriptCall). ItemStands t (call_item x)) is (known, reallocs_narrow (get (codes "reallocs") d) reallocs s4))))))
 
-call_stands : (t : Table) (d : Data) (c : ScriptCall) → call_item_of t d ≡ Some c → Stands t c
+call_stands : (t : Table) (d : Data) (c : ScriptCall) → call_item_of t d ≡ Some c → ItemStands t (call_item c)
 call_stands t d c e =
     by_test (has_len (3 + optional_call_members d) (as_object d)) _ c e (λ counted e1.
     option_and_then_some (λ func. option_and_then (call_of_func d func) (result_count t func)) (option_and_then u32_of (get (codes "call") d)) c e1 (λ func s1 e2.
     option_and_then_some (call_of_func d func) (result_count t func) c e2 (λ results s2 e3.
     by_map _ (slice_get t.funcs func) results s2 (λ f found is. called t d func results c (slice_get_within t.funcs func f found) e3))))
+
+other_stands : (t : Table) (d : Data) (i : ScriptItem) → other_item_of t d ≡ Some i → ItemStands t i
+other_stands t d i e = by_cases (is_some (get (codes "new") d)) e
+  where
+    by_cases : (b : Bool) → (if b then option_map new_item (new_item_of t d) else option_map drop_item (drop_item_of d)) ≡ Some i → ItemStands t i
+    by_cases true e = by_map new_item (new_item_of t d) i e (λ n s is. subst (ItemStands t) is tt)
+    by_cases false e = by_map drop_item (drop_item_of d) i e (λ n s is. subst (ItemStands t) is tt)
+
+item_stands : (t : Table) (d : Data) (i : ScriptItem) → item_of t d ≡ Some i → ItemStands t i
+item_stands t d i e = by_cases (is_some (get (codes "call") d)) e
+  where
+    by_cases : (b : Bool) → (if b then option_map call_item (call_item_of t d) else other_item_of t d) ≡ Some i → ItemStands t i
+    by_cases true e = by_map call_item (call_item_of t d) i e (λ c s is. subst (ItemStands t) is (call_stands t d c s))
+    by_cases false e = other_stands t d i e
 
 -- ---- all of it
 
@@ -76,29 +85,36 @@ pub heap_is : (memory heap : ℕ) (d : Option Data) → heap_of memory d ≡ Som
 heap_is memory heap d e = option_and_then_some (λ h. if nat_le h memory then Some h else None) (option_map_or word_of d (Some 1024)) heap e (λ h s f.
     by_test (nat_le h memory) (Some h) heap f (λ le is. subst (λ (n : ℕ). n ≤ memory) (same_Some h heap is) (leb-true h memory le)))
 
-fits_sound : (memory heap fuel : ℕ) (encoding : StringEncoding) (fs : Funcs) (calls : List ScriptCall) → heap ≤ memory → Told fs → AllByRecursion (Stands fs.table) calls → IsTrue (fits memory calls) → IsWellFormed (play_with memory heap fuel encoding fs calls)
-fits_sound memory heap fuel encoding fs calls inside told stand fit =
-    let last = final_memory memory calls in
-    let fit2 = and_parts (nat_le last max_memory) (nat_le (last * 2 * turns calls) max_work) fit in
-    let all : All (Stands fs.table) calls = All-from_recursion (Stands fs.table) calls stand in
+pub settings_sound : (d : Data) (s : Settings) → settings_of d ≡ Some s → s.heap ≤ s.memory
+settings_sound d s e =
+    option_and_then_some _ (memory_len_of (get (codes "memory") d)) s e (λ memory s1 e1.
+    option_and_then_some _ (heap_of memory (get (codes "heap") d)) s e1 (λ heap s2 e2.
+    option_and_then_some _ (fuel_of (get (codes "fuel") d)) s e2 (λ fuel s3 e3.
+    option_and_then_some _ (handles_of (get (codes "handles") d)) s e3 (λ handles s4 e4.
+    by_map (settings_with memory heap fuel handles) (encoding_of (get (codes "encoding") d)) s e4 (λ encoding s5 is.
+    subst (λ (x : Settings). x.heap ≤ x.memory) is (heap_is memory heap (get (codes "heap") d) s2))))))
+
+fits_sound : (s : Settings) (fs : Funcs) (items : List ScriptItem) → s.heap ≤ s.memory → Told fs → AllByRecursion (ItemStands fs.table) items → IsTrue (fits s.memory items) → IsWellFormed (play_with s fs items)
+fits_sound s fs items inside told stand fit =
+    let last = final_memory s.memory items in
+    let fit2 = and_parts (nat_le last max_memory) (nat_le (last * 2 * turns items) max_work) fit in
     record {
       heap_inside = inside;
       memory_fits = leb-true last max_memory fit2.0;
-      work_fits = leb-true (last * 2 * turns calls) max_work fit2.1;
+      work_fits = leb-true (last * 2 * turns items) max_work fit2.1;
       posts_told = told.posts;
       funcs_few = told.few;
-      calls_known = λ k d lt. (all k d lt).known;
-      orders_narrow = λ k d lt. (all k d lt).narrow;
+      items_stand = All-from_recursion (ItemStands fs.table) items stand;
     }
 
-played_sound : (memory heap fuel : ℕ) (encoding : StringEncoding) (types funcs items : Items) (p : Play) → heap ≤ memory → played memory heap fuel encoding types funcs items ≡ Some p → IsWellFormed p
-played_sound memory heap fuel encoding types funcs items p inside e =
-    option_and_then_some (λ fs. option_and_then (if_fits memory heap fuel encoding fs) (each (call_item_of fs.table) items)) (funcs_of types funcs) p e (λ fs s1 e1.
-    option_and_then_some (if_fits memory heap fuel encoding fs) (each (call_item_of fs.table) items) p e1 (λ calls s2 e2.
-    by_test (fits memory calls) (Some (play_with memory heap fuel encoding fs calls)) p e2 (λ fit is.
-    subst IsWellFormed (same_Some (play_with memory heap fuel encoding fs calls) p is)
-    (fits_sound memory heap fuel encoding fs calls inside (funcs_told types funcs fs s1) (each_all (Stands fs.table) (call_item_of fs.table) (call_stands fs.table) items calls s2) fit))))
+played_sound : (s : Settings) (resources types funcs items : Items) (p : Play) → s.heap ≤ s.memory → played s resources types funcs items ≡ Some p → IsWellFormed p
+played_sound s resources types funcs items p inside e =
+    option_and_then_some (λ fs. option_and_then (if_fits s fs) (each (item_of fs.table) items)) (funcs_of resources types funcs) p e (λ fs s1 e1.
+    option_and_then_some (if_fits s fs) (each (item_of fs.table) items) p e1 (λ found s2 e2.
+    by_test (fits s.memory found) (Some (play_with s fs found)) p e2 (λ fit is.
+    subst IsWellFormed (same_Some (play_with s fs found) p is)
+    (fits_sound s fs found inside (funcs_told resources types funcs fs s1) (each_all (ItemStands fs.table) (item_of fs.table) (item_stands fs.table) items found s2) fit))))
 
-pub reads_sound : (memory heap fuel : ℕ) (encoding : StringEncoding) (types funcs items : Items) (r : Result Script ScriptError) → heap ≤ memory → Gives play_of r (played memory heap fuel encoding types funcs items) → IfOk r (λ s. IsWellFormed (play_of s))
-reads_sound memory heap fuel encoding types funcs items (Ok s) inside h = played_sound memory heap fuel encoding types funcs items (play_of s) inside h
-reads_sound memory heap fuel encoding types funcs items (Err e) inside h = tt
+pub reads_sound : (d : Data) (s : Settings) (resources types funcs items : Items) (r : Result Script ScriptError) → Some s ≡ settings_of d → Gives play_of r (played s resources types funcs items) → IfOk r (λ x. IsWellFormed (play_of x))
+reads_sound d s resources types funcs items (Ok x) e h = played_sound s resources types funcs items (play_of x) (settings_sound d s (sym e)) h
+reads_sound d s resources types funcs items (Err f) e h = tt

@@ -1,6 +1,7 @@
 pub mod Actions
 pub mod Literals
 pub mod Numbers
+pub mod Resources
 pub mod Script
 pub mod Types
 pub mod Values

@@ -1,7 +1,10 @@
 -- A value apart from how it is kept: a vector and a text are the list of their items.
-use Rattle.std.specs.Prelude.{ℕ, ℤ, Bool, Box, List, [], ◌∷◌, map, Option, None, Some, Result, Ok, Err, String, string_bytes}
+use Rattle.std.specs.Prelude.{ℕ, ℤ, Bool, Box, List, [], ◌∷◌, ◌++◌, ◌&&◌, true, map, Option, None, Some, Result, Ok, Err, String, nat_lt, slice_get, string_bytes, unwrap_or}
 use Rattle.std.specs.declared.alloc.Global.{Global}
 use Rattle.canon_model.specs.Shape.{Name}
+use Rattle.canon_resources.specs.Held.{Any, any, synthetic_rep}
+use Rattle.canon_resources.specs.declared.any.ResourceAnyHandle.TheVariants.{Synthetic}
+use Rattle.canon_types.specs.declared.resource.ResourceType.TheVariants.{HostDynamic}
 use Rattle.canon_value.specs.declared.val.Val.{Val, fold-Val}
 use Rattle.canon_value.specs.declared.val.Val.TheOpen.{Val-F}
 
@@ -26,8 +29,8 @@ mutual
     -- the two cases of a result
     ok error : Payload → Literal
     flags : List Name → Literal
-    -- a resource, which no script writes so far
-    held : Literal
+    -- a resource; that of a script is a number (`numbered`)
+    held : Any → Literal
 
   pub data Literals : Type 0 where
     no_literals : Literals
@@ -94,7 +97,7 @@ literal_step (Val-F.Enum name) = enum (string_bytes name)
 literal_step (Val-F.Option p) = option (payload_of p)
 literal_step (Val-F.Result r) = result_of r
 literal_step (Val-F.Flags names) = flags (map (λ name. string_bytes name) names.items)
-literal_step (Val-F.Resource x) = held
+literal_step (Val-F.Resource x) = held x
 literal_step (Val-F.FixedLengthList members) = fixed (literals_of members.items)
 
 abbrev pub literal_view : Val → Literal
@@ -115,3 +118,91 @@ pairs_view ps = map pair_view ps
 abbrev pub payload_view : Option (Box Val Global) → Payload
 payload_view None = no_payload
 payload_view (Some v) = with_payload (literal_view v.value)
+
+-- ---- resources
+
+-- The number of a resource in a script. A value keeps it as a borrow that the host made of it, until the resource of that number
+-- stands in its place.
+abbrev pub numbered : ℕ → Any
+numbered n = any (Synthetic n) (HostDynamic 0)
+
+abbrev pub number_of : Any → ℕ
+number_of x = unwrap_or (synthetic_rep x.handle) 0
+
+-- there are so many resources that this number is one's
+abbrev pub is_known : ℕ → Any → Bool
+is_known count x = nat_lt (number_of x) count
+
+abbrev pub all_known : ℕ → List Any → Bool
+all_known count [] = true
+all_known count (x ∷ xs) = is_known count x && all_known count xs
+
+-- the resource of a number in a list; where there is none, what stood for it
+abbrev pub listed : List Any → Any → Any
+listed xs x = unwrap_or (slice_get xs (number_of x)) x
+
+abbrev mutual
+  -- the resources in a value, depth first
+  pub held_in : Literal → List Any
+  held_in (list xs) = all_held xs
+  held_in (tuple xs) = all_held xs
+  held_in (fixed xs) = all_held xs
+  held_in (pairs ps) = pairs_held ps
+  held_in (fields fs) = fields_held fs
+  held_in (variant name p) = payload_held p
+  held_in (option p) = payload_held p
+  held_in (ok p) = payload_held p
+  held_in (error p) = payload_held p
+  held_in (held x) = x ∷ []
+  held_in _ = []
+
+  pub all_held : Literals → List Any
+  all_held no_literals = []
+  all_held (literal x xs) = held_in x ++ all_held xs
+
+  pub fields_held : Fields → List Any
+  fields_held no_fields = []
+  fields_held (field name x fs) = held_in x ++ fields_held fs
+
+  pub pairs_held : Pairs → List Any
+  pairs_held no_pairs = []
+  pairs_held (pair k v ps) = (held_in k ++ held_in v) ++ pairs_held ps
+
+  pub payload_held : Payload → List Any
+  payload_held no_payload = []
+  payload_held (with_payload x) = held_in x
+
+-- in values in a row
+abbrev pub held_among : List Literal → List Any
+held_among xs = all_held (literals_of xs)
+
+abbrev mutual
+  -- the value with another resource in the place of each
+  pub replaced : (Any → Any) → Literal → Literal
+  replaced f (list xs) = list (all_replaced f xs)
+  replaced f (tuple xs) = tuple (all_replaced f xs)
+  replaced f (fixed xs) = fixed (all_replaced f xs)
+  replaced f (pairs ps) = pairs (pairs_replaced f ps)
+  replaced f (fields fs) = fields (fields_replaced f fs)
+  replaced f (variant name p) = variant name (payload_replaced f p)
+  replaced f (option p) = option (payload_replaced f p)
+  replaced f (ok p) = ok (payload_replaced f p)
+  replaced f (error p) = error (payload_replaced f p)
+  replaced f (held x) = held (f x)
+  replaced f x = x
+
+  pub all_replaced : (Any → Any) → Literals → Literals
+  all_replaced f no_literals = no_literals
+  all_replaced f (literal x xs) = literal (replaced f x) (all_replaced f xs)
+
+  pub fields_replaced : (Any → Any) → Fields → Fields
+  fields_replaced f no_fields = no_fields
+  fields_replaced f (field name x fs) = field name (replaced f x) (fields_replaced f fs)
+
+  pub pairs_replaced : (Any → Any) → Pairs → Pairs
+  pairs_replaced f no_pairs = no_pairs
+  pairs_replaced f (pair k v ps) = pair (replaced f k) (replaced f v) (pairs_replaced f ps)
+
+  pub payload_replaced : (Any → Any) → Payload → Payload
+  payload_replaced f no_payload = no_payload
+  payload_replaced f (with_payload x) = with_payload (replaced f x)

@@ -1,5 +1,5 @@
 -- The script that a JSON value stands for.
-use Rattle.std.specs.Prelude.{◌≡◌, ℕ, ◌≤◌, ◌+◌, ◌*◌, ◌&&◌, All, List, [], length, map, sum_by, slice_get, Bool, false, nat_eq, nat_le, if◌then◌else◌, codes, Option, None, Some, option_map, option_and_then}
+use Rattle.std.specs.Prelude.{◌≡◌, ℕ, ◌≤◌, ◌+◌, ◌*◌, ◌&&◌, All, List, [], is_some, length, map, sum_by, slice_get, Bool, false, nat_eq, nat_le, if◌then◌else◌, codes, Option, None, Some, option_map, option_and_then}
 use lib.Pointwise.{pointwise}
 use Rattle.std.specs.Option.{option_map_or}
 use Rattle.serde_json.specs.Data.{Data, Items}
@@ -8,6 +8,8 @@ use Rattle.canon_json.specs.Json.{each, each_of, has_len, items_of, there, u32_o
 use Rattle.canon_indices.specs.declared.options.StringEncoding.{StringEncoding}
 use Rattle.canon_indices.specs.declared.options.StringEncoding.TheVariants as encoding
 use Rattle.canon_types.specs.Table.{HasFunc, Table, types_of}
+use Rattle.canon_types.specs.declared.types.ResourceKind.{ResourceKind}
+use Rattle.canon_types.specs.declared.types.ResourceKind.TheVariants as resource
 use Rattle.canon_layout.specs.Asked.{Funcs}
 use Rattle.canon_scripted.specs.declared.actions.Action.{Action}
 use Rattle.canon_scripted.specs.Orders.{AreNarrow}
@@ -18,9 +20,12 @@ use Rattle.canon_script.specs.Numbers.{number_to}
 use Rattle.canon_script.specs.Types.{funcs_of}
 use Rattle.canon_script.specs.Values.{value_of}
 use Rattle.canon_script.specs.declared.script.CallItem.{CallItem}
+use Rattle.canon_script.specs.declared.script.DropItem.{DropItem}
 use Rattle.canon_script.specs.declared.script.Item.{Item}
 use Rattle.canon_script.specs.declared.script.Item.TheVariants as item
+use Rattle.canon_script.specs.declared.script.NewItem.{NewItem}
 use Rattle.canon_script.specs.declared.script.Script.{Script}
+use Rattle.canon_script.specs.declared.script.Settings.{Settings}
 
 -- ---- items
 
@@ -60,12 +65,70 @@ call_of_func d func results =
     (option_and_then (each_of action_of) (get (codes "guest") d)))
     (option_and_then (each_of value_of) (get (codes "params") d))
 
--- an item: an object that calls a function of the table
+-- an object that calls a function of the table
 abbrev pub call_item_of : Table → Data → Option ScriptCall
 call_item_of t d =
     if has_len (3 + optional_call_members d) (as_object d)
     then option_and_then (λ func. option_and_then (call_of_func d func) (result_count t func)) (option_and_then u32_of (get (codes "call") d))
     else None
+
+-- the number that tells the type of a resource of the host
+abbrev pub dynamic_id : ResourceKind → Option ℕ
+dynamic_id (resource.HostDynamic id) = Some id
+dynamic_id _ = None
+
+-- the same, if the resource of this number is such a one
+abbrev pub dynamic_type : Table → ℕ → Option ℕ
+dynamic_type t r = option_and_then (λ x. dynamic_id x.kind) (slice_get t.resources r)
+
+abbrev pub new_with : ℕ → ℕ → Bool → NewItem
+new_with ty rep borrow = record { ty = ty; rep = rep; borrow = borrow }
+
+-- a new resource of one of the host's types that a number tells
+abbrev pub new_item_of : Table → Data → Option NewItem
+new_item_of t d =
+    if has_len (2 + there (get (codes "borrow") d)) (as_object d)
+    then option_and_then (λ ty. option_and_then (λ rep. option_map (new_with ty rep)
+    (option_map_or as_bool (get (codes "borrow") d) (Some false)))
+    (option_and_then u32_of (get (codes "rep") d)))
+    (option_and_then (dynamic_type t) (option_and_then u32_of (get (codes "new") d)))
+    else None
+
+abbrev pub drop_with : ℕ → Bool → DropItem
+drop_with number dtor_trap = record { resource = number; dtor_trap = dtor_trap }
+
+-- a drop of the resource of a number
+abbrev pub drop_item_of : Data → Option DropItem
+drop_item_of d =
+    if has_len (1 + there (get (codes "dtor_trap") d)) (as_object d)
+    then option_and_then (λ number. option_map (drop_with number)
+    (option_map_or as_bool (get (codes "dtor_trap") d) (Some false)))
+    (option_and_then u32_of (get (codes "drop") d))
+    else None
+
+pub data ScriptItem : Type 0 where
+  call_item : ScriptCall → ScriptItem
+  new_item : NewItem → ScriptItem
+  drop_item : DropItem → ScriptItem
+
+abbrev pub other_item_of : Table → Data → Option ScriptItem
+other_item_of t d = if is_some (get (codes "new") d) then option_map new_item (new_item_of t d) else option_map drop_item (drop_item_of d)
+
+-- an item: one member names its kind
+abbrev pub item_of : Table → Data → Option ScriptItem
+item_of t d = if is_some (get (codes "call") d) then option_map call_item (call_item_of t d) else other_item_of t d
+
+-- what the guest does in an item
+abbrev pub guest_in : ScriptItem → List Action
+guest_in (call_item c) = c.guest
+guest_in (new_item n) = []
+guest_in (drop_item d) = []
+
+-- a call starts the guest
+abbrev pub starts : ScriptItem → ℕ
+starts (call_item c) = 1
+starts (new_item n) = 0
+starts (drop_item d) = 0
 
 -- ---- limits
 
@@ -76,17 +139,17 @@ abbrev pub max_work : ℕ
 max_work = 1073741824
 
 -- memory at the end, as long as all actions that grow it are carried out
-abbrev pub final_memory : ℕ → List ScriptCall → ℕ
-final_memory memory calls = memory + sum_by (λ c. growth c.guest) calls
+abbrev pub final_memory : ℕ → List ScriptItem → ℕ
+final_memory memory items = memory + sum_by (λ i. growth (guest_in i)) items
 
 -- how often the guest is started or resumed
-abbrev pub turns : List ScriptCall → ℕ
-turns calls = length calls + sum_by (λ c. ask_count c.guest) calls
+abbrev pub turns : List ScriptItem → ℕ
+turns items = sum_by (λ i. starts i + ask_count (guest_in i)) items
 
-abbrev pub fits : ℕ → List ScriptCall → Bool
-fits memory calls =
-    let final = final_memory memory calls in
-    nat_le final max_memory && nat_le (final * 2 * turns calls) max_work
+abbrev pub fits : ℕ → List ScriptItem → Bool
+fits memory items =
+    let final = final_memory memory items in
+    nat_le final max_memory && nat_le (final * 2 * turns items) max_work
 
 -- ---- all of it
 
@@ -97,18 +160,20 @@ pub record Play : Type 0 where
   pub heap : ℕ
   -- the fuel that each lifting begins with
   pub fuel : ℕ
+  -- how many handles may live at once
+  pub handles : ℕ
   -- how texts are spelled in memory
   pub encoding : StringEncoding
   pub types : Table
   -- for each function whether it has a post-return function
   pub posts : List Bool
-  pub calls : List ScriptCall
+  pub items : List ScriptItem
 
-abbrev pub play_with : ℕ → ℕ → ℕ → StringEncoding → Funcs → List ScriptCall → Play
-play_with memory heap fuel encoding funcs calls = record { memory = memory; heap = heap; fuel = fuel; encoding = encoding; types = funcs.table; posts = funcs.posts; calls = calls }
+abbrev pub play_with : Settings → Funcs → List ScriptItem → Play
+play_with s funcs items = record { memory = s.memory; heap = s.heap; fuel = s.fuel; handles = s.handles; encoding = s.encoding; types = funcs.table; posts = funcs.posts; items = items }
 
-abbrev pub if_fits : ℕ → ℕ → ℕ → StringEncoding → Funcs → List ScriptCall → Option Play
-if_fits memory heap fuel encoding funcs calls = if fits memory calls then Some (play_with memory heap fuel encoding funcs calls) else None
+abbrev pub if_fits : Settings → Funcs → List ScriptItem → Option Play
+if_fits s funcs items = if fits s.memory items then Some (play_with s funcs items) else None
 
 abbrev pub memory_len_of : Option Data → Option ℕ
 memory_len_of d = option_map_or (number_to max_memory) d (Some 65536)
@@ -120,6 +185,9 @@ heap_of memory d = option_and_then (λ heap. if nat_le heap memory then Some hea
 abbrev pub fuel_of : Option Data → Option ℕ
 fuel_of d = option_map_or word_of d (Some 1000000)
 
+abbrev pub handles_of : Option Data → Option ℕ
+handles_of d = option_map_or (number_to 1000000) d (Some 1000000)
+
 abbrev pub encoding_named : List ℕ → Option StringEncoding
 encoding_named name =
     if pointwise nat_eq name (codes "utf8") then Some encoding.Utf8
@@ -129,26 +197,39 @@ encoding_named name =
 abbrev pub encoding_of : Option Data → Option StringEncoding
 encoding_of d = option_map_or (λ x. option_and_then encoding_named (as_str x)) d (Some encoding.Utf8)
 
--- the functions over their types, and the calls of these functions
-abbrev pub played : ℕ → ℕ → ℕ → StringEncoding → Items → Items → Items → Option Play
-played memory heap fuel encoding types funcs items = option_and_then (λ fs. option_and_then (if_fits memory heap fuel encoding fs) (each (call_item_of fs.table) items)) (funcs_of types funcs)
+abbrev pub settings_with : ℕ → ℕ → ℕ → ℕ → StringEncoding → Settings
+settings_with memory heap fuel handles encoding = record { memory = memory; heap = heap; fuel = fuel; handles = handles; encoding = encoding }
 
-abbrev pub script_members : Data → ℕ
-script_members d = there (get (codes "memory") d) + (there (get (codes "heap") d) + (there (get (codes "fuel") d) + (there (get (codes "encoding") d)
-    + (there (get (codes "types") d) + (there (get (codes "funcs") d) + there (get (codes "items") d))))))
-
--- an object of these seven members, each of which may be missing
-abbrev pub script_of : Data → Option Play
-script_of d =
-    if has_len (script_members d) (as_object d)
-    then option_and_then (λ memory. option_and_then (λ heap. option_and_then (λ fuel. option_and_then (λ encoding. option_and_then (λ types. option_and_then (λ funcs. option_and_then (played memory heap fuel encoding types funcs)
-    (items_of (get (codes "items") d)))
-    (items_of (get (codes "funcs") d)))
-    (items_of (get (codes "types") d)))
+-- the members that are no arrays
+abbrev pub settings_of : Data → Option Settings
+settings_of d = option_and_then (λ memory. option_and_then (λ heap. option_and_then (λ fuel. option_and_then (λ handles. option_map (settings_with memory heap fuel handles)
     (encoding_of (get (codes "encoding") d)))
+    (handles_of (get (codes "handles") d)))
     (fuel_of (get (codes "fuel") d)))
     (heap_of memory (get (codes "heap") d)))
     (memory_len_of (get (codes "memory") d))
+
+-- the functions over their resources and types, and the items over these
+abbrev pub played : Settings → Items → Items → Items → Items → Option Play
+played s resources types funcs items = option_and_then (λ fs. option_and_then (if_fits s fs) (each (item_of fs.table) items)) (funcs_of resources types funcs)
+
+abbrev pub settings_members : Data → ℕ
+settings_members d = there (get (codes "memory") d) + (there (get (codes "heap") d) + (there (get (codes "fuel") d) + (there (get (codes "handles") d)
+    + there (get (codes "encoding") d))))
+
+abbrev pub script_members : Data → ℕ
+script_members d = settings_members d + (there (get (codes "resources") d) + (there (get (codes "types") d) + (there (get (codes "funcs") d) + there (get (codes "items") d))))
+
+-- an object of these nine members, each of which may be missing
+abbrev pub script_of : Data → Option Play
+script_of d =
+    if has_len (script_members d) (as_object d)
+    then option_and_then (λ s. option_and_then (λ resources. option_and_then (λ types. option_and_then (λ funcs. option_and_then (played s resources types funcs)
+    (items_of (get (codes "items") d)))
+    (items_of (get (codes "funcs") d)))
+    (items_of (get (codes "types") d)))
+    (items_of (get (codes "resources") d)))
+    (settings_of d)
     else None
 
 -- ---- how a script is kept
@@ -156,19 +237,25 @@ script_of d =
 abbrev pub call_item_view : CallItem → ScriptCall
 call_item_view c = call_with c.func (literals_view c.params.items) c.guest.items c.slots c.reallocs.items c.post_trap
 
-abbrev pub item_view : Item → ScriptCall
-item_view (item.Call c) = call_item_view c
+abbrev pub item_view : Item → ScriptItem
+item_view (item.Call c) = call_item (call_item_view c)
+item_view (item.New n) = new_item n
+item_view (item.Drop d) = drop_item d
 
 abbrev pub play_of : Script → Play
-play_of s = record { memory = s.memory; heap = s.heap; fuel = s.fuel; encoding = s.encoding; types = s.types; posts = s.posts.items; calls = map item_view s.items.items }
+play_of s = record { memory = s.memory; heap = s.heap; fuel = s.fuel; handles = s.handles; encoding = s.encoding; types = s.types; posts = s.posts.items; items = map item_view s.items.items }
 
--- It keeps the limits, each call is one of a function, and each ordered answer of `realloc` is below 2 ^ 32. A table has at most
--- 2 ^ 20 entries.
+-- A call is one of a function, and each ordered answer of `realloc` is below 2 ^ 32.
+abbrev pub ItemStands : Table → ScriptItem → Type 0
+ItemStands t (call_item c) = HasFunc t c.func × AreNarrow c.reallocs
+ItemStands t (new_item n) = Unit {0}
+ItemStands t (drop_item d) = Unit {0}
+
+-- It keeps the limits, and its items are over its functions. A table has at most 2 ^ 20 entries.
 pub record IsWellFormed (p : Play) : Type 0 where
   pub heap_inside : p.heap ≤ p.memory
-  pub memory_fits : final_memory p.memory p.calls ≤ max_memory
-  pub work_fits : final_memory p.memory p.calls * 2 * turns p.calls ≤ max_work
+  pub memory_fits : final_memory p.memory p.items ≤ max_memory
+  pub work_fits : final_memory p.memory p.items * 2 * turns p.items ≤ max_work
   pub posts_told : length p.posts ≡ length p.types.funcs
   pub funcs_few : length p.types.funcs ≤ 1048576
-  pub calls_known : All (λ c. HasFunc p.types c.func) p.calls
-  pub orders_narrow : All (λ c. AreNarrow c.reallocs) p.calls
+  pub items_stand : All (ItemStands p.types) p.items

@@ -1,5 +1,5 @@
 -- The value that a JSON value stands for: an object whose one member names its kind.
-use Rattle.std.specs.Prelude.{ℕ, ◌^◌, List, [], ◌∷◌, codes, nat_eq, if◌then◌else◌, Option, None, Some, option_map, option_and_then}
+use Rattle.std.specs.Prelude.{ℕ, ◌^◌, List, [], ◌∷◌, codes, length, nat_eq, if◌then◌else◌, Option, None, Some, option_map, option_and_then}
 use Rattle.std.specs.List.{find}
 use Rattle.std.specs.Str.{chars}
 use lib.Pointwise.{pointwise}
@@ -7,7 +7,7 @@ use Rattle.serde_json.specs.Data.{Data, null, boolean, number, string, array, ob
 use Rattle.serde_json.specs.Find.{as_array, as_bool, as_str}
 use Rattle.canon_json.specs.Json.{each, u32_of, word_of}
 use Rattle.canon_model.specs.Shape.{Name}
-use Rattle.canon_script.specs.Literals.{Literal, Payload, bool, char, enum, error, f32, f64, fields, fields_of, fixed, flags, list, literals_of, no_payload, ok, option, pairs, pairs_of, s16, s32, s64, s8, text, tuple, u16, u32, u64, u8, variant, with_payload}
+use Rattle.canon_script.specs.Literals.{Literal, Payload, bool, char, enum, error, f32, f64, fields, fields_of, fixed, flags, held, held_in, list, literals_of, no_payload, numbered, ok, option, pairs, pairs_of, s16, s32, s64, s8, text, tuple, u16, u32, u64, u8, variant, with_payload}
 use Rattle.canon_script.specs.Numbers.{integer_of, integer_within, number_below}
 use Rattle.canon_script.specs.declared.kinds.ValueKind.{ValueKind}
 use Rattle.canon_script.specs.declared.kinds.ValueKind.TheVariants as kind
@@ -36,11 +36,12 @@ value_word kind.Enum = codes "enum"
 value_word kind.Option = codes "option"
 value_word kind.Result = codes "result"
 value_word kind.Flags = codes "flags"
+value_word kind.Resource = codes "resource"
 value_word kind.FixedLengthList = codes "fixed"
 
 abbrev pub value_kinds : List ValueKind
 value_kinds = kind.Bool ∷ kind.S8 ∷ kind.U8 ∷ kind.S16 ∷ kind.U16 ∷ kind.S32 ∷ kind.U32 ∷ kind.S64 ∷ kind.U64 ∷ kind.Float32 ∷ kind.Float64 ∷ kind.Char
-    ∷ kind.String ∷ kind.List ∷ kind.Map ∷ kind.Record ∷ kind.Tuple ∷ kind.Variant ∷ kind.Enum ∷ kind.Option ∷ kind.Result ∷ kind.Flags ∷ kind.FixedLengthList ∷ []
+    ∷ kind.String ∷ kind.List ∷ kind.Map ∷ kind.Record ∷ kind.Tuple ∷ kind.Variant ∷ kind.Enum ∷ kind.Option ∷ kind.Result ∷ kind.Flags ∷ kind.Resource ∷ kind.FixedLengthList ∷ []
 
 abbrev pub value_kind_named : List ℕ → Option ValueKind
 value_kind_named name = find (λ k. pointwise nat_eq name (value_word k)) value_kinds
@@ -69,6 +70,8 @@ scalar_by kind.U64 d = option_map u64 (word_of d)
 scalar_by kind.Float32 d = option_map f32 (u32_of d)
 scalar_by kind.Float64 d = option_map f64 (word_of d)
 scalar_by kind.Char d = option_map char (char_of d)
+-- the number of a resource
+scalar_by kind.Resource d = option_map (λ n. held (numbered n)) (u32_of d)
 scalar_by _ d = None
 
 -- ---- values
@@ -181,3 +184,12 @@ payload_by (Some d) = option_map with_payload (value_of d)
 abbrev pub optional_of : Data → Option Payload
 optional_of null = Some no_payload
 optional_of d = option_map with_payload (value_of d)
+
+-- ---- values without resources
+
+abbrev pub if_plain : Literal → Option Literal
+if_plain x = if nat_eq (length (held_in x)) 0 then Some x else None
+
+-- a value in which no resource stands
+abbrev pub plain_value_of : Data → Option Literal
+plain_value_of d = option_and_then if_plain (value_of d)

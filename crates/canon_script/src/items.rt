@@ -6,19 +6,19 @@ ghost use Rattle.canon_json.specs.Json.{Gives};
 ghost use Rattle.canon_script.specs.Script as spec;
 
 use crate::actions::{Actions, Orders};
-use crate::script::{CallItem, Item};
+use crate::script::{CallItem, DropItem, Item, NewItem};
 use crate::values::Values;
 use canon_indices::TypeFuncIndex;
 use canon_json::{Reader, ScriptError, bool_or, each_of, has_len, there, u32_of};
 use canon_scripted::Ordered;
-use canon_types::ComponentTypes;
+use canon_types::{ComponentTypes, InterfaceType, ResourceKind, TypeResourceTableIndex};
 use serde_json::Value;
 use std::alloc::Global;
 
 /// The most slots that an item may ask for.
 const MAX_SLOTS: u64 = 1000;
 
-/// Reads items that call functions of these types.
+/// Reads items over these types.
 #[derive(Clone, Copy)]
 pub(crate) struct Items<'a> {
     pub types: &'a ComponentTypes,
@@ -27,16 +27,80 @@ pub(crate) struct Items<'a> {
 impl Reader for Items<'_> {
     type Item = Item;
 
-    ghost Seen = { spec.ScriptCall };
+    ghost Seen = { spec.ScriptItem };
 
     ghost seen = { spec.item_view };
 
-    ghost reads = { λ r. spec.call_item_of r.types.now };
+    ghost reads = { λ r. spec.item_of r.types.now };
 
     fn read(&self, alloc: Global, v: &Value) -> Result<Item, ScriptError> {
-        let call = call_item_of(alloc, self.types, v)?;
-        Ok(Item::Call(call))
+        item_of(alloc, self.types, v)
     }
+}
+
+/// An item, by the member that names its kind.
+fn item_of(alloc: Global, types: &ComponentTypes, v: &Value) -> Result<Item, ScriptError>
+    ensures { Gives spec.item_view result (spec.item_of types.now (view v.now)) }
+{
+    if v.get("call").is_some() {
+        let call = call_item_of(alloc, types, v)?;
+        return Ok(Item::Call(call));
+    }
+    match other_item_of(types, v) {
+        Some(item) => Ok(item),
+        None => Err(ScriptError::BadScript),
+    }
+}
+
+/// An item that calls nothing.
+fn other_item_of(types: &ComponentTypes, v: &Value) -> Option<Item>
+    ensures { option_map spec.item_view result ≡ spec.other_item_of types.now (view v.now) }
+{
+    if v.get("new").is_some() {
+        return new_item_of(types, v).map(Item::New);
+    }
+    drop_item_of(v).map(Item::Drop)
+}
+
+/// A new resource of one of the host's types that a number tells.
+fn new_item_of(types: &ComponentTypes, v: &Value) -> Option<NewItem>
+    ensures { result ≡ spec.new_item_of types.now (view v.now) }
+{
+    if !has_len(v, 2 + there(v.get("borrow"))) {
+        return None;
+    }
+    let ty = dynamic_type(types, u32_of(v.get("new")?)?)?;
+    let rep = u32_of(v.get("rep")?)?;
+    let borrow = bool_or(v.get("borrow"), false)?;
+    Some(NewItem { ty, rep, borrow })
+}
+
+/// The number that tells the type of a resource of the host, if the resource of this number is one.
+fn dynamic_type(types: &ComponentTypes, resource: u32) -> Option<u32>
+    ensures { result ≡ spec.dynamic_type types.now resource }
+{
+    let resource = TypeResourceTableIndex::from_u32(resource);
+    if !types.contains(&InterfaceType::Own(resource)) {
+        return None;
+    }
+    match types.resource_table(resource).kind {
+        ResourceKind::HostDynamic(ty) => Some(ty),
+        ResourceKind::Host(_) | ResourceKind::Guest { .. } => None,
+    }
+}
+
+fn drop_item_of(v: &Value) -> Option<DropItem>
+    ensures { result ≡ spec.drop_item_of (view v.now) }
+{
+    if !has_len(v, 1 + there(v.get("dtor_trap"))) {
+        return None;
+    }
+    let resource = u32_of(v.get("drop")?)?;
+    let dtor_trap = bool_or(v.get("dtor_trap"), false)?;
+    Some(DropItem {
+        resource,
+        dtor_trap,
+    })
 }
 
 fn call_item_of(alloc: Global, types: &ComponentTypes, v: &Value) -> Result<CallItem, ScriptError>

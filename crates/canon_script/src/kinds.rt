@@ -26,11 +26,12 @@ pub enum ValueKind {
     Option,
     Result,
     Flags,
+    Resource,
     FixedLengthList,
 }
 
 /// All of them.
-const KINDS: [ValueKind; 23] = [
+const KINDS: [ValueKind; 24] = [
     ValueKind::Bool,
     ValueKind::S8,
     ValueKind::U8,
@@ -53,6 +54,7 @@ const KINDS: [ValueKind; 23] = [
     ValueKind::Option,
     ValueKind::Result,
     ValueKind::Flags,
+    ValueKind::Resource,
     ValueKind::FixedLengthList,
 ];
 
@@ -84,6 +86,7 @@ impl ValueKind {
             ValueKind::Option => "option",
             ValueKind::Result => "result",
             ValueKind::Flags => "flags",
+            ValueKind::Resource => "resource",
             ValueKind::FixedLengthList => "fixed",
         }
     }

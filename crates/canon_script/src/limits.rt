@@ -67,12 +67,9 @@ fn growth_by(action: &Action) -> u64
 fn turns(items: &[Item]) -> Option<u64>
     ensures { MatchOption result (spec.max_work < spec.turns (map spec.item_view items.now)) (λ n. (n ≡ spec.turns (map spec.item_view items.now)) × (n ≤ spec.max_work)) }
 {
-    let mut turns = items.len() as u64;
-    if turns > MAX_WORK {
-        return None;
-    }
+    let mut turns = 0;
     for item in items {
-        turns = asked(turns, guest_of(item))?;
+        turns = asked(started(turns, item)?, guest_of(item))?;
     }
     Some(turns)
 }
@@ -102,11 +99,24 @@ fn asks_by(action: &Action) -> u64
     }
 }
 
+/// This number, and one more for an item that starts the guest, unless it becomes too great.
+fn started(turns: u64, item: &Item) -> Option<u64>
+    requires { turns ≤ spec.max_work }
+    ensures { MatchOption result (spec.max_work < turns + spec.starts (spec.item_view item.now)) (λ n. (n ≡ turns + spec.starts (spec.item_view item.now)) × (n ≤ spec.max_work)) }
+{
+    match item {
+        Item::Call(_) if turns >= MAX_WORK => None,
+        Item::Call(_) => Some(turns + 1),
+        Item::New(_) | Item::Drop(_) => Some(turns),
+    }
+}
+
 /// What the guest does in an item.
 fn guest_of(item: &Item) -> &[Action]
-    ensures { result.now ≡ (spec.item_view item.now).guest }
+    ensures { result.now ≡ spec.guest_in (spec.item_view item.now) }
 {
     match item {
         Item::Call(call) => &call.guest,
+        Item::New(_) | Item::Drop(_) => &[],
     }
 }

@@ -1,16 +1,19 @@
-ghost use Rattle.std.specs.Prelude.{◌≡◌, IfOk, option_map};
+ghost use Rattle.std.specs.Prelude.{◌≡◌, ◌≤◌, IfOk, option_map};
 ghost use Rattle.serde_json.specs.View.{view, items_view};
 ghost use Rattle.canon_json.specs.Json.{Gives};
 ghost use Rattle.canon_script.specs.Script as spec;
 
 use crate::items::Items;
 use crate::limits::{MAX_MEMORY, fits};
-use crate::script::Script;
+use crate::script::{Script, Settings};
 use crate::types::funcs_of_json;
 use canon_json::{ScriptError, each, has_len, items_of, there};
 use canon_types::StringEncoding;
 use serde_json::Value;
 use std::alloc::Global;
+
+/// The most live handles that a script may allow, and how many it allows where it doesn't say.
+const MAX_HANDLES: u64 = 1_000_000;
 
 /// The script that a JSON value stands for. `BadScript` says that there is none.
 pub fn script_of_json(alloc: Global, v: &Value) -> Result<Script, ScriptError>
@@ -20,16 +23,10 @@ pub fn script_of_json(alloc: Global, v: &Value) -> Result<Script, ScriptError>
     if !has_len(v, script_members(v)) {
         return Err(ScriptError::BadScript);
     }
-    let Some(memory) = memory_len_of(v.get("memory")) else {
+    let Some(settings) = settings_of(v) else {
         return Err(ScriptError::BadScript);
     };
-    let Some(heap) = heap_of(memory, v.get("heap")) else {
-        return Err(ScriptError::BadScript);
-    };
-    let Some(fuel) = fuel_of(v.get("fuel")) else {
-        return Err(ScriptError::BadScript);
-    };
-    let Some(encoding) = encoding_of(v.get("encoding")) else {
+    let Some(resources) = items_of(v.get("resources")) else {
         return Err(ScriptError::BadScript);
     };
     let Some(types) = items_of(v.get("types")) else {
@@ -41,18 +38,44 @@ pub fn script_of_json(alloc: Global, v: &Value) -> Result<Script, ScriptError>
     let Some(items) = items_of(v.get("items")) else {
         return Err(ScriptError::BadScript);
     };
-    played(alloc, memory, heap, fuel, encoding, types, funcs, items)
+    played(alloc, settings, resources, types, funcs, items)
 }
 
 /// How many of its members there are.
 fn script_members(v: &Value) -> usize
     ensures { result ≡ spec.script_members (view v.now) }
 {
+    settings_members(v)
+        + (there(v.get("resources"))
+            + (there(v.get("types")) + (there(v.get("funcs")) + there(v.get("items")))))
+}
+
+/// How many of the members are there that are no arrays.
+fn settings_members(v: &Value) -> usize
+    ensures count { result ≡ spec.settings_members (view v.now) }
+    ensures few { result ≤ 5 }
+{
     there(v.get("memory"))
         + (there(v.get("heap"))
-            + (there(v.get("fuel"))
-                + (there(v.get("encoding"))
-                    + (there(v.get("types")) + (there(v.get("funcs")) + there(v.get("items")))))))
+            + (there(v.get("fuel")) + (there(v.get("handles")) + there(v.get("encoding")))))
+}
+
+/// What a script says in numbers, and how texts are spelled.
+fn settings_of(v: &Value) -> Option<Settings>
+    ensures { result ≡ spec.settings_of (view v.now) }
+{
+    let memory = memory_len_of(v.get("memory"))?;
+    let heap = heap_of(memory, v.get("heap"))?;
+    let fuel = fuel_of(v.get("fuel"))?;
+    let handles = handles_of(v.get("handles"))?;
+    let encoding = encoding_of(v.get("encoding"))?;
+    Some(Settings {
+        memory,
+        heap,
+        fuel,
+        handles,
+        encoding,
+    })
 }
 
 fn memory_len_of(v: Option<&Value>) -> Option<u64>
@@ -86,6 +109,18 @@ fn fuel_of(v: Option<&Value>) -> Option<u64>
     }
 }
 
+fn handles_of(v: Option<&Value>) -> Option<u64>
+    ensures { result ≡ spec.handles_of (option_map (λ x. view x.now) v.entry) }
+{
+    let Some(v) = v else {
+        return Some(MAX_HANDLES);
+    };
+    match v.as_u64() {
+        Some(handles) if handles <= MAX_HANDLES => Some(handles),
+        _ => None,
+    }
+}
+
 fn encoding_of(v: Option<&Value>) -> Option<StringEncoding>
     ensures { result ≡ spec.encoding_of (option_map (λ x. view x.now) v.entry) }
 {
@@ -109,28 +144,34 @@ fn encoding_named(name: &str) -> Option<StringEncoding>
     }
 }
 
-/// The functions over their types, and the calls of these functions.
+/// The functions over their resources and types, and the items.
 fn played(
     alloc: Global,
-    memory: u64,
-    heap: u64,
-    fuel: u64,
-    encoding: StringEncoding,
+    settings: Settings,
+    resources: &[Value],
     types: &[Value],
     funcs: &[Value],
     items: &[Value],
 ) -> Result<Script, ScriptError>
-    ensures { Gives spec.play_of result (spec.played memory heap fuel encoding (items_view types.now) (items_view funcs.now) (items_view items.now)) }
+    ensures { Gives spec.play_of result (spec.played settings (items_view resources.now) (items_view types.now) (items_view funcs.now) (items_view items.now)) }
 {
-    let (types, posts) = funcs_of_json(alloc, types, funcs)?;
+    let (types, posts) = funcs_of_json(alloc, resources, types, funcs)?;
     let items = each(alloc, &Items { types: &types }, items)?;
-    if !fits(memory, &items) {
+    if !fits(settings.memory, &items) {
         return Err(ScriptError::BadScript);
     }
+    let Settings {
+        memory,
+        heap,
+        fuel,
+        handles,
+        encoding,
+    } = settings;
     Ok(Script {
         memory,
         heap,
         fuel,
+        handles,
         encoding,
         types,
         posts,

@@ -8,7 +8,8 @@ pub struct CallItem {
     /// The number of the function, which is also that of its core function and, where it has one, of its post-return
     /// function.
     pub func: u32,
-    /// The parameters, whether they are of their types or not.
+    /// The parameters, whether they are of their types or not. A resource among them is kept as a borrow that the host made of its
+    /// number.
     pub params: Vec<Val>,
     /// What the guest does.
     pub guest: Vec<Action>,
@@ -20,10 +21,42 @@ pub struct CallItem {
     pub post_trap: bool,
 }
 
+/// A new resource of the host.
+#[derive(Clone, Copy, Debug, PartialEq, Eq)]
+pub struct NewItem {
+    /// The number that tells its type.
+    pub ty: u32,
+    pub rep: u32,
+    /// Whether it is a borrow, and no own handle.
+    pub borrow: bool,
+}
+
+/// A drop of a resource.
+#[derive(Clone, Copy, Debug, PartialEq, Eq)]
+pub struct DropItem {
+    /// The number of the resource.
+    pub resource: u32,
+    /// Whether its destructor traps.
+    pub dtor_trap: bool,
+}
+
 /// One item of a script.
 #[derive(Debug, Drop)]
 pub enum Item {
     Call(CallItem),
+    New(NewItem),
+    Drop(DropItem),
+}
+
+/// What a script says in numbers, and how texts are spelled: the bytes of memory at the start, where the guest's allocator begins, the
+/// fuel that each lifting begins with, and how many handles may live at once.
+#[derive(Clone, Copy)]
+pub(crate) struct Settings {
+    pub memory: u64,
+    pub heap: u64,
+    pub fuel: u64,
+    pub handles: u64,
+    pub encoding: StringEncoding,
 }
 
 /// A guest with its functions, and what is done with it.
@@ -35,9 +68,11 @@ pub struct Script {
     pub heap: u64,
     /// The fuel that each lifting begins with.
     pub fuel: u64,
+    /// How many handles may live at once.
+    pub handles: u64,
     /// How texts are spelled in memory.
     pub encoding: StringEncoding,
-    /// The types and the functions, in the order of the script.
+    /// The resources, the types and the functions, in the order of the script.
     pub types: ComponentTypes,
     /// For each function whether it has a post-return function.
     pub posts: Vec<bool>,

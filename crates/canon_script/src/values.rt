@@ -5,19 +5,34 @@ ghost use Rattle.serde_json.specs.View.{view};
 ghost use Rattle.canon_json.specs.Json.{Gives, each_of};
 ghost use Rattle.canon_json.specs.declared.error.ScriptError.TheVariants as refused;
 ghost use Rattle.canon_model.specs.Shape.{Name};
-ghost use Rattle.canon_script.specs.Literals.{Literal, fields_view, literal_view, literals_view, pair_view, pairs_view, payload_view, variant, with_payload};
+ghost use Rattle.canon_script.specs.Literals.{Literal, fields_view, literal_view, literals_view, numbered, pair_view, pairs_view, payload_view, variant, with_payload};
 ghost use Rattle.canon_script.specs.Numbers as numbers;
 ghost use Rattle.canon_script.specs.Values as spec;
 
 use crate::kinds::{ValueKind, value_kind_named};
+use crate::resources::is_plain;
 use canon_json::{Reader, ScriptError, each_of, only_member, two, u32_of};
+use canon_resources::{ResourceAny, ResourceType};
+use canon_types::OutOfMemory;
 use canon_value::Val;
 use serde_json::Value;
 use std::alloc::Global;
 
-/// A value: an object of one member, which names its kind. `BadScript` says that it is none.
-#[cycle(values)]
+/// A value in which no resource stands: an object of one member, which names its kind. `BadScript` says that it is none.
 pub fn value_of_json(alloc: Global, v: &Value) -> Result<Val, ScriptError>
+    ensures { Gives literal_view result (spec.plain_value_of (view v.now)) }
+{
+    let value = value_of(alloc, v)?;
+    match is_plain(alloc, &value) {
+        Ok(true) => Ok(value),
+        Ok(false) => Err(ScriptError::BadScript),
+        Err(OutOfMemory) => Err(ScriptError::OutOfMemory),
+    }
+}
+
+/// A value: an object of one member, which names its kind.
+#[cycle(values)]
+fn value_of(alloc: Global, v: &Value) -> Result<Val, ScriptError>
     ensures { Gives literal_view result (spec.value_of (view v.now)) }
 {
     let Some((name, form)) = only_member(v) else {
@@ -52,7 +67,7 @@ fn values_of(alloc: Global, v: &Value) -> Result<Vec<Val>, ScriptError>
     };
     let mut values = Vec::new(alloc);
     for item in items {
-        match value_of_json(alloc, item) {
+        match value_of(alloc, item) {
             Ok(value) => keep(&mut values, value)?,
             Err(e) => return Err(e),
         }
@@ -76,7 +91,7 @@ fn record_of(alloc: Global, v: &Value) -> Result<Val, ScriptError>
         let Some(name) = name.as_str() else {
             return Err(ScriptError::BadScript);
         };
-        match value_of_json(alloc, form) {
+        match value_of(alloc, form) {
             Ok(value) => keep_field(alloc, &mut fields, name, value)?,
             Err(e) => return Err(e),
         }
@@ -110,11 +125,11 @@ fn pair_of(alloc: Global, v: &Value) -> Result<(Val, Val), ScriptError>
     let Some((key, value)) = two(v) else {
         return Err(ScriptError::BadScript);
     };
-    let key = match value_of_json(alloc, key) {
+    let key = match value_of(alloc, key) {
         Ok(key) => key,
         Err(e) => return Err(e),
     };
-    match value_of_json(alloc, value) {
+    match value_of(alloc, value) {
         Ok(value) => Ok((key, value)),
         Err(e) => Err(e),
     }
@@ -175,7 +190,7 @@ fn optional_of(alloc: Global, v: &Value) -> Result<Option<Box<Val>>, ScriptError
 fn some_of(alloc: Global, v: &Value) -> Result<Option<Box<Val>>, ScriptError>
     ensures { Gives payload_view result (option_map with_payload (spec.value_of (view v.now))) }
 {
-    match value_of_json(alloc, v) {
+    match value_of(alloc, v) {
         Ok(value) => boxed(alloc, value),
         Err(e) => Err(e),
     }
@@ -312,6 +327,7 @@ fn scalar_by(kind: ValueKind, v: &Value) -> Option<Val>
         ValueKind::Float32 => u32_of(v).map(Val::Float32),
         ValueKind::Float64 => v.as_u64().map(Val::Float64),
         ValueKind::Char => char_of(v).map(Val::Char),
+        ValueKind::Resource => u32_of(v).map(numbered).map(Val::Resource),
         ValueKind::String
         | ValueKind::List
         | ValueKind::Map
@@ -324,6 +340,13 @@ fn scalar_by(kind: ValueKind, v: &Value) -> Option<Val>
         | ValueKind::Flags
         | ValueKind::FixedLengthList => None,
     }
+}
+
+/// The resource of a number, as a script's values keep it: a borrow that the host made of the number.
+fn numbered(n: u32) -> ResourceAny
+    ensures { result ≡ numbered n }
+{
+    ResourceAny::new_borrow(n, ResourceType::host_dynamic(0))
 }
 
 fn i8_of(v: &Value) -> Option<i8>
@@ -402,6 +425,6 @@ impl Reader for Values {
     ghost reads = { λ _. spec.value_of };
 
     fn read(&self, alloc: Global, v: &Value) -> Result<Val, ScriptError> {
-        value_of_json(alloc, v)
+        value_of(alloc, v)
     }
 }

@@ -343,8 +343,8 @@ impl<T, G> Core<T, G> {
         canon_leaves::lend_host(&mut self.ledger, idx)
     }
 
-    // Puts an own handle into the host's table, and answers its index there.
-    pub(crate) fn insert_host(
+    /// Puts an own handle into the host's table, with its destructor and its instance, and answers its index there.
+    pub fn host_resource_lower_own(
         &mut self,
         rep: u32,
         dtor: Option<u32>,

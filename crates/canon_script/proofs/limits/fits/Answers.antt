@@ -5,5 +5,5 @@ use Rattle.canon_script.proofs.limits.fits.Goals as goal
 
 pub returns-in-None : goal.returns-in-None
 returns-in-None c =
-    let calls = map spec.item_view c.args.items.now in
-    ap (λ n. nat_eq n 0) c.in-Some.ensures.0 ∙ no_work (spec.final_memory c.args.memory calls) (spec.turns calls) spec.max_memory spec.max_work c.in-None.ensures
+    let items = map spec.item_view c.args.items.now in
+    ap (λ n. nat_eq n 0) c.in-Some.ensures.0 ∙ no_work (spec.final_memory c.args.memory items) (spec.turns items) spec.max_memory spec.max_work c.in-None.ensures

@@ -7,12 +7,12 @@ use Rattle.canon_script.specs.Literals.{Literal, enum, fields_view, fixed, flags
 use Rattle.canon_script.specs.Values.{optional_of, pair_of, pairs_in, value_by, value_of, values_of}
 use Rattle.canon_script.specs.declared.kinds.ValueKind.TheVariants as kind
 use Rattle.canon_script.proofs.Cases.{case_given, case_refused, first_in_two, key_refused, option_by, outcome_by, pair_given, payload_within, result_reads, value_refused, variant_by, variant_reads}
-use Rattle.canon_script.proofs.Members.{array_end, array_refused, array_step, enum_by, field_step, fixed_by, flags_by, in_array, in_two, list_by, made_of, map_by, no_kind, record_end, record_refused, scalar_is, text_by, tuple_by, value_is}
+use Rattle.canon_script.proofs.Members.{array_end, array_refused, array_step, enum_by, field_step, fixed_by, flags_by, in_array, in_member, in_two, list_by, made_of, map_by, no_kind, record_end, record_refused, scalar_is, text_by, tuple_by, value_is}
 use Rattle.canon_script.proofs.Views.{literal-Enum, literal-FixedLengthList, literal-Flags, literal-List, literal-Map, literal-Option, literal-Record, literal-String, literal-Tuple}
 use Rattle.canon_script.proofs.values.+values.Goals as goal
 
-pub record_of-value_of_json-requires : goal.record_of-value_of_json-requires
-record_of-value_of_json-requires t c = (
+pub record_of-value_of-requires : goal.record_of-value_of-requires
+record_of-value_of-requires t c = (
   omega (
     arith,
     in_two (view c.item-item.result) (view c.in-Some-two.name.now) (view c.in-Some-two.form.now) c.in-Some-two.ensures,
@@ -31,8 +31,8 @@ record_of-returns t c =
     record_end (view c.args.v.now) c.in-Some.items.now.items c.deref-item-items.result.now c.loop-item.item-index (fields_view c.loop-item.fields.items) c.in-Some.ensures c.deref-item-items.ensures.value c.loop-item-test.false c.loop-item.invariant
     ∙ ap (λ x. Some x) (sym (literal-Record c.loop-item.fields))
 
-pub values_of-value_of_json-requires : goal.values_of-value_of_json-requires
-values_of-value_of_json-requires t c =
+pub values_of-value_of-requires : goal.values_of-value_of-requires
+values_of-value_of-requires t c =
     (omega (arith, in_array (view c.args.v.now) c.in-Some.items.now.items c.deref-item-items.result.now c.loop-item.item-index c.item-item.result c.in-Some.ensures c.deref-item-items.ensures.value c.loop-item-test.true c.item-item.is), tt)
 
 pub values_of-returns-in-Err : goal.values_of-returns-in-Err
@@ -57,8 +57,8 @@ pub pairs_of-returns : goal.pairs_of-returns
 pairs_of-returns t c =
     array_end pairs_in (view c.args.v.now) c.in-Some.items.now.items c.deref-item-items.result.now c.loop-item.item-index (pairs_view c.loop-item.pairs.items) refl c.in-Some.ensures c.deref-item-items.ensures.value c.loop-item-test.false c.loop-item.invariant
 
-pub value_of_json-returns-in_default-kind : goal.value_of_json-returns-in_default-kind
-value_of_json-returns-in_default-kind t c =
+pub value_of-returns-in_default-kind : goal.value_of-returns-in_default-kind
+value_of-returns-in_default-kind t c =
     let named = c.in-Some-value_kind_named in
     let other = c.in_default-kind in
     subst (λ (o : Option Literal). Gives literal_view c.scalar_of.result o)
@@ -77,57 +77,57 @@ value_of_json-returns-in_default-kind t c =
     }))
     c.scalar_of.ensures
 
-pub value_of_json-returns-in-String : goal.value_of_json-returns-in-String
-value_of_json-returns-in-String t c =
+pub value_of-returns-in-String : goal.value_of-returns-in-String
+value_of-returns-in-String t c =
     let form = view c.in-Some.form.now in
     made_of val.String (λ name. string_bytes name) text (as_str form) (value_of (view c.args.v.now)) c.name_of.result c.map.result
     (value_is (view c.args.v.now) form c.in-Some.name.now c.in-Some-value_kind_named.kind c.in-Some.ensures c.in-Some-value_kind_named.ensures ∙ (ap (value_by form) c.in-String.is ∙ text_by form))
     literal-String c.name_of.ensures c.map.ensures.cases
 
-pub value_of_json-returns-in-List : goal.value_of_json-returns-in-List
-value_of_json-returns-in-List t c =
+pub value_of-returns-in-List : goal.value_of-returns-in-List
+value_of-returns-in-List t c =
     let form = view c.in-Some.form.now in
     made_of val.List (λ values. literals_view values.items) (λ xs. list (literals_of xs)) (option_and_then values_of (as_array form)) (value_of (view c.args.v.now)) c.values_of.result c.map-in-List.result
     (value_is (view c.args.v.now) form c.in-Some.name.now c.in-Some-value_kind_named.kind c.in-Some.ensures c.in-Some-value_kind_named.ensures ∙ (ap (value_by form) c.in-List.is ∙ list_by form))
     literal-List c.values_of.ensures c.map-in-List.ensures.cases
 
-pub value_of_json-returns-in-Map : goal.value_of_json-returns-in-Map
-value_of_json-returns-in-Map t c =
+pub value_of-returns-in-Map : goal.value_of-returns-in-Map
+value_of-returns-in-Map t c =
     let form = view c.in-Some.form.now in
     made_of val.Map (λ pairs. pairs_view pairs.items) (λ ps. pairs (pairs_of ps)) (option_and_then pairs_in (as_array form)) (value_of (view c.args.v.now)) c.pairs_of.result c.map-in-Map.result
     (value_is (view c.args.v.now) form c.in-Some.name.now c.in-Some-value_kind_named.kind c.in-Some.ensures c.in-Some-value_kind_named.ensures ∙ (ap (value_by form) c.in-Map.is ∙ map_by form))
     literal-Map c.pairs_of.ensures c.map-in-Map.ensures.cases
 
-pub value_of_json-returns-in-Tuple : goal.value_of_json-returns-in-Tuple
-value_of_json-returns-in-Tuple t c =
+pub value_of-returns-in-Tuple : goal.value_of-returns-in-Tuple
+value_of-returns-in-Tuple t c =
     let form = view c.in-Some.form.now in
     made_of val.Tuple (λ values. literals_view values.items) (λ xs. tuple (literals_of xs)) (option_and_then values_of (as_array form)) (value_of (view c.args.v.now)) c.values_of-in-Tuple.result c.map-in-Tuple.result
     (value_is (view c.args.v.now) form c.in-Some.name.now c.in-Some-value_kind_named.kind c.in-Some.ensures c.in-Some-value_kind_named.ensures ∙ (ap (value_by form) c.in-Tuple.is ∙ tuple_by form))
     literal-Tuple c.values_of-in-Tuple.ensures c.map-in-Tuple.ensures.cases
 
-pub value_of_json-returns-in-Enum : goal.value_of_json-returns-in-Enum
-value_of_json-returns-in-Enum t c =
+pub value_of-returns-in-Enum : goal.value_of-returns-in-Enum
+value_of-returns-in-Enum t c =
     let form = view c.in-Some.form.now in
     made_of val.Enum (λ name. string_bytes name) enum (as_str form) (value_of (view c.args.v.now)) c.name_of-in-Enum.result c.map-in-Enum.result
     (value_is (view c.args.v.now) form c.in-Some.name.now c.in-Some-value_kind_named.kind c.in-Some.ensures c.in-Some-value_kind_named.ensures ∙ (ap (value_by form) c.in-Enum.is ∙ enum_by form))
     literal-Enum c.name_of-in-Enum.ensures c.map-in-Enum.ensures.cases
 
-pub value_of_json-returns-in-Option : goal.value_of_json-returns-in-Option
-value_of_json-returns-in-Option t c =
+pub value_of-returns-in-Option : goal.value_of-returns-in-Option
+value_of-returns-in-Option t c =
     let form = view c.in-Some.form.now in
     made_of val.Option payload_view option (optional_of form) (value_of (view c.args.v.now)) c.optional_of.result c.map-in-Option.result
     (value_is (view c.args.v.now) form c.in-Some.name.now c.in-Some-value_kind_named.kind c.in-Some.ensures c.in-Some-value_kind_named.ensures ∙ (ap (value_by form) c.in-Option.is ∙ option_by form))
     literal-Option c.optional_of.ensures c.map-in-Option.ensures.cases
 
-pub value_of_json-returns-in-Flags : goal.value_of_json-returns-in-Flags
-value_of_json-returns-in-Flags t c =
+pub value_of-returns-in-Flags : goal.value_of-returns-in-Flags
+value_of-returns-in-Flags t c =
     let form = view c.in-Some.form.now in
     made_of val.Flags (λ names. map (λ name. string_bytes name) names.items) flags (each_of as_str form) (value_of (view c.args.v.now)) c.names_of.result c.map-in-Flags.result
     (value_is (view c.args.v.now) form c.in-Some.name.now c.in-Some-value_kind_named.kind c.in-Some.ensures c.in-Some-value_kind_named.ensures ∙ (ap (value_by form) c.in-Flags.is ∙ flags_by form))
     literal-Flags c.names_of.ensures c.map-in-Flags.ensures.cases
 
-pub value_of_json-returns-in-FixedLengthList : goal.value_of_json-returns-in-FixedLengthList
-value_of_json-returns-in-FixedLengthList t c =
+pub value_of-returns-in-FixedLengthList : goal.value_of-returns-in-FixedLengthList
+value_of-returns-in-FixedLengthList t c =
     let form = view c.in-Some.form.now in
     made_of val.FixedLengthList (λ values. literals_view values.items) (λ xs. fixed (literals_of xs)) (option_and_then values_of (as_array form)) (value_of (view c.args.v.now)) c.values_of-in-FixedLengthList.result c.map-in-FixedLengthList.result
     (value_is (view c.args.v.now) form c.in-Some.name.now c.in-Some-value_kind_named.kind c.in-Some.ensures c.in-Some-value_kind_named.ensures ∙ (ap (value_by form) c.in-FixedLengthList.is ∙ fixed_by form))
@@ -143,22 +143,22 @@ pairs_of-loop-item-preserved t c =
     array_step pairs_in pair_of c.deref-item-items.result.now c.loop-item.item-index c.item-item.result (pairs_view c.loop-item.pairs.items) (pairs_view c.keep_pair.new.pairs.items) (pair_view c.in-Ok.pair)
     (λ d ds. refl) c.loop-item-test.true c.item-item.is c.in-Ok.ensures c.in_ok-keep_pair-in-Ok.ensures.ok c.loop-item.invariant
 
-pub pair_of-value_of_json-requires : goal.pair_of-value_of_json-requires
-pair_of-value_of_json-requires t c = (omega (arith, first_in_two (view c.args.v.now) (view c.in-Some.key.now) (view c.in-Some.value.now) c.in-Some.ensures), tt)
+pub pair_of-value_of-requires : goal.pair_of-value_of-requires
+pair_of-value_of-requires t c = (omega (arith, first_in_two (view c.args.v.now) (view c.in-Some.key.now) (view c.in-Some.value.now) c.in-Some.ensures), tt)
 
-pub pair_of-value_of_json-requires-2 : goal.pair_of-value_of_json-requires-2
-pair_of-value_of_json-requires-2 t c = (omega (arith, in_two (view c.args.v.now) (view c.in-Some.key.now) (view c.in-Some.value.now) c.in-Some.ensures), tt)
+pub pair_of-value_of-requires-2 : goal.pair_of-value_of-requires-2
+pair_of-value_of-requires-2 t c = (omega (arith, in_two (view c.args.v.now) (view c.in-Some.key.now) (view c.in-Some.value.now) c.in-Some.ensures), tt)
 
 pub pair_of-returns-in-Err : goal.pair_of-returns-in-Err
 pair_of-returns-in-Err t c = key_refused c.in-Err.e (view c.args.v.now) (view c.in-Some.key.now) (view c.in-Some.value.now) c.in-Some.ensures c.in-Err.ensures
 
-pub pair_of-returns-in-Ok-value_of_json : goal.pair_of-returns-in-Ok-value_of_json
-pair_of-returns-in-Ok-value_of_json t c =
-    pair_given (view c.args.v.now) (view c.in-Some.key.now) (view c.in-Some.value.now) _ _ c.in-Some.ensures c.in-Ok.ensures c.in-Ok-value_of_json.ensures
+pub pair_of-returns-in-Ok-value_of : goal.pair_of-returns-in-Ok-value_of
+pair_of-returns-in-Ok-value_of t c =
+    pair_given (view c.args.v.now) (view c.in-Some.key.now) (view c.in-Some.value.now) _ _ c.in-Some.ensures c.in-Ok.ensures c.in-Ok-value_of.ensures
 
-pub pair_of-returns-in-Err-value_of_json : goal.pair_of-returns-in-Err-value_of_json
-pair_of-returns-in-Err-value_of_json t c =
-    value_refused c.in-Err-value_of_json.e (view c.args.v.now) (view c.in-Some.key.now) (view c.in-Some.value.now) _ c.in-Some.ensures c.in-Ok.ensures c.in-Err-value_of_json.ensures
+pub pair_of-returns-in-Err-value_of : goal.pair_of-returns-in-Err-value_of
+pair_of-returns-in-Err-value_of t c =
+    value_refused c.in-Err-value_of.e (view c.args.v.now) (view c.in-Some.key.now) (view c.in-Some.value.now) _ c.in-Some.ensures c.in-Ok.ensures c.in-Err-value_of.ensures
 
 pub variant_of-payload_of-requires : goal.variant_of-payload_of-requires
 variant_of-payload_of-requires t c = (omega (arith, payload_within (view c.args.v.now) _ c.in-Some.name.now c.in-Some.ensures), tt)
@@ -186,6 +186,9 @@ result_of-returns-in-Err t c =
     let d = view c.args.v.now in
     case_refused outcome_by d (value_by d kind.Result) c.in-Some.name.now _ c.in-Err.e (result_reads d) c.in-Some.ensures c.in-Err.ensures
 
-pub value_of_json-returns-in_default-value_kind_named : goal.value_of_json-returns-in_default-value_kind_named
-value_of_json-returns-in_default-value_kind_named t c =
+pub value_of-returns-in_default-value_kind_named : goal.value_of-returns-in_default-value_kind_named
+value_of-returns-in_default-value_kind_named t c =
     no_kind (view c.args.v.now) (view c.in-Some.form.now) c.in-Some.name.now c.value_kind_named.result c.in-Some.ensures c.value_kind_named.ensures (λ k e. c.in_default-value_kind_named.not-Some k e)
+
+pub value_of-result_of-requires : goal.value_of-result_of-requires
+value_of-result_of-requires t c = (omega (arith, in_member (view c.args.v.now) (view c.in-Some.form.now) c.in-Some.name.now c.in-Some.ensures), tt)

@@ -6,8 +6,8 @@ use Rattle.canon_script.specs.Values.{fields_in, pairs_in, values_of}
 use Rattle.canon_script.proofs.Cases.{depth_of}
 use Rattle.canon_script.proofs.values.+values.Given as goal
 
-abbrev pub decreases-value_of_json : goal.decreases-value_of_json
-decreases-value_of_json c = 4 * depth (view c.v.now)
+abbrev pub decreases-value_of : goal.decreases-value_of
+decreases-value_of c = 4 * depth (view c.v.now)
 
 abbrev pub decreases-some_of : goal.decreases-some_of
 decreases-some_of c = 4 * depth (view c.v.now) + 1
