@@ -13,6 +13,8 @@ use Rattle.canon_context.specs.declared.fault.Fault.{Fault}
 use Rattle.canon_context.specs.declared.fault.Fault.TheVariants as fault
 use Rattle.canon_ledger.specs.declared.fault.ResourceFault.{ResourceFault}
 use Rattle.canon_ledger.specs.declared.fault.ResourceFault.TheVariants as resource
+use Rattle.canon_resources.specs.Held.{Any}
+use Rattle.canon_value.specs.Resources.{all_resources}
 use Rattle.canon_value.specs.declared.val.Val.{Val}
 use Rattle.canon_value.specs.declared.val.Val.TheFolds.{fold-Val}
 use Rattle.canon_value.specs.declared.val.Val.TheOpen.{Val-F}
@@ -54,11 +56,6 @@ after text f p = f (write text p)
 
 abbrev pub between : List ℕ → Printing → List ℕ → Printing
 between opening f closing p = write closing (after opening f p)
-
--- printings, one after the other
-abbrev pub in_turn : List Printing → Printing
-in_turn [] p = p
-in_turn (f ∷ fs) p = in_turn fs (f p)
 
 -- each printing after this separator
 abbrev pub each_after : List ℕ → List Printing → Printing
@@ -107,10 +104,13 @@ abbrev pub resource_text : Option ℕ → List ℕ
 resource_text None = codes "#"
 resource_text (Some n) = codes "#" ++ decimal n
 
--- the number after a resource, which stands still at the end of a u64
+-- the number after this one: the numbers stand still at the end of a u64
+abbrev pub following : ℕ → ℕ
+following n = min (n + 1) (2 ^ 64 - 1)
+
 abbrev pub next_number : Option ℕ → Option ℕ
 next_number None = None
-next_number (Some n) = Some (min (n + 1) (2 ^ 64 - 1))
+next_number (Some n) = Some (following n)
 
 abbrev pub resource_printing : Printing
 resource_printing p = page (p.text ++ resource_text p.next) (next_number p.next)
@@ -314,9 +314,25 @@ live_text live = codes "live " ++ decimal live ++ end
 abbrev pub record_printing : Record → Printing
 record_printing r = after (head_text r.head) (between (events_text [] r.events) (answer_printing r.answer) (live_text r.live))
 
--- the records, one after the other: the resources that they answer have the numbers from 0 on
-abbrev pub records_printing : List Record → Printing
-records_printing records = in_turn (map record_printing records)
+-- the text of a record whose first resource has this number
+abbrev pub record_text : ℕ → Record → List ℕ
+record_text first r = head_text r.head ++ events_text [] r.events ++ answer_text first r.answer ++ live_text r.live
+
+-- the resources that an answer gave, depth first
+abbrev pub given : Answer → List Any
+given (answer.Ok values) = all_resources values.items
+given (answer.Err e) = []
+given answer.Skipped = []
+
+-- the number after those of these resources
+abbrev pub number_after : ℕ → List Any → ℕ
+number_after first [] = first
+number_after first (x ∷ xs) = number_after (following first) xs
+
+-- the text of records whose first resource has this number
+abbrev pub records_text : ℕ → List Record → List ℕ
+records_text first [] = []
+records_text first (r ∷ rs) = record_text first r ++ records_text (number_after first (given r.answer)) rs
 
 abbrev pub transcript_text : List Record → List ℕ
-transcript_text records = (records_printing records (page [] (Some 0))).text
+transcript_text records = records_text 0 records

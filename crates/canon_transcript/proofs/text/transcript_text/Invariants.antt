@@ -1,6 +1,7 @@
 use Rattle.std.proofs.Common.{◌≡◌, [], drop, string_bytes}
 use Rattle.std.specs.Prelude.{Some}
-use Rattle.canon_transcript.specs.Text.{page, records_printing}
+use Rattle.canon_transcript.specs.Text.{page}
+use Rattle.canon_transcript.proofs.Numbered.{records_printing}
 use Rattle.canon_transcript.proofs.text.transcript_text.Given as goal
 
 -- the page so far, after the printing of what is left, is the whole
