@@ -1,5 +1,5 @@
 -- The text of a transcript.
-use Rattle.std.specs.Prelude.{ℕ, ◌-◌, ◌==◌, ◌&&◌, ◌||◌, nat_le, not, if◌then◌else◌, Bool, Box, Err, None, Ok, Option, Result, Some, true, false, List, [], ◌∷◌, ◌++◌, codes, drop, flat_map, length, map, replicate, string_bytes, take, String}
+use Rattle.std.specs.Prelude.{ℕ, ◌+◌, ◌-◌, ◌^◌, ◌==◌, ◌&&◌, ◌||◌, nat_le, not, if◌then◌else◌, Bool, Box, Err, None, Ok, Option, Result, Some, true, false, List, [], ◌∷◌, ◌++◌, codes, drop, flat_map, length, map, min, replicate, string_bytes, take, String}
 use Rattle.std.specs.Fmt.{decimal, digits, signed_decimal}
 use Rattle.std.specs.List.{join_with_byte}
 use Rattle.std.specs.Str.{chars}
@@ -13,6 +13,8 @@ use Rattle.canon_context.specs.declared.fault.Fault.{Fault}
 use Rattle.canon_context.specs.declared.fault.Fault.TheVariants as fault
 use Rattle.canon_ledger.specs.declared.fault.ResourceFault.{ResourceFault}
 use Rattle.canon_ledger.specs.declared.fault.ResourceFault.TheVariants as resource
+use Rattle.canon_resources.specs.Held.{Any}
+use Rattle.canon_value.specs.Resources.{all_resources}
 use Rattle.canon_value.specs.declared.val.Val.{Val}
 use Rattle.canon_value.specs.declared.val.Val.TheFolds.{fold-Val}
 use Rattle.canon_value.specs.declared.val.Val.TheOpen.{Val-F}
@@ -29,6 +31,41 @@ use Rattle.canon_transcript.specs.Blocks.{blocks_after}
 -- the end of a line
 abbrev pub end : List ℕ
 end = codes "\n"
+
+-- ---- pages
+
+-- What was printed so far, and the number of the next resource: none where resources have no numbers.
+pub record Page : Type 0 where
+  pub text : List ℕ
+  pub next : Option ℕ
+
+abbrev pub page : List ℕ → Option ℕ → Page
+page text next = record { text = text; next = next }
+
+-- a page after a printing, by the page before it
+abbrev pub Printing : Type 0
+Printing = Page → Page
+
+-- a text at the end of the page
+abbrev pub write : List ℕ → Printing
+write text p = page (p.text ++ text) p.next
+
+-- a printing after a text
+abbrev pub after : List ℕ → Printing → Printing
+after text f p = f (write text p)
+
+abbrev pub between : List ℕ → Printing → List ℕ → Printing
+between opening f closing p = write closing (after opening f p)
+
+-- each printing after this separator
+abbrev pub each_after : List ℕ → List Printing → Printing
+each_after separator [] p = p
+each_after separator (f ∷ fs) p = each_after separator fs (after separator f p)
+
+-- printings with a comma between them
+abbrev pub joined : List Printing → Printing
+joined [] p = p
+joined (f ∷ fs) p = each_after (codes ",") fs (f p)
 
 -- ---- values
 
@@ -55,23 +92,6 @@ name_text name = flat_map escaped (chars name)
 abbrev pub quoted : List ℕ → List ℕ
 quoted text = codes "\"" ++ name_text text ++ codes "\""
 
--- texts with a comma between them
-abbrev pub joined : List (List ℕ) → List ℕ
-joined texts = join_with_byte 0x2C texts
-
--- a field's name and the text of its value
-abbrev pub labelled : String Global × List ℕ → List ℕ
-labelled field = name_text (string_bytes field.0) ++ codes ":" ++ field.1
-
--- a key and its value
-abbrev pub paired : List ℕ × List ℕ → List ℕ
-paired pair = pair.0 ++ codes "=" ++ pair.1
-
--- a payload in brackets, if there is one
-abbrev pub wrapped : Option (Box (List ℕ) Global) → List ℕ
-wrapped None = []
-wrapped (Some payload) = codes "(" ++ payload.value ++ codes ")"
-
 abbrev pub flag_text : String Global → List ℕ
 flag_text name = name_text (string_bytes name)
 
@@ -79,70 +99,103 @@ flag_text name = name_text (string_bytes name)
 abbrev pub flags_text : List (String Global) → List ℕ
 flags_text names = codes "<" ++ join_with_byte 0x7C (map flag_text names) ++ codes ">"
 
--- the text of one layer of a value, which has the texts of its members in their place
-abbrev pub layer_text : Val-F (List ℕ) → List ℕ
-layer_text (Val-F.Bool b) = bool_text b
-layer_text (Val-F.S8 n) = signed_decimal n
-layer_text (Val-F.U8 n) = decimal n
-layer_text (Val-F.S16 n) = signed_decimal n
-layer_text (Val-F.U16 n) = decimal n
-layer_text (Val-F.S32 n) = signed_decimal n
-layer_text (Val-F.U32 n) = decimal n
-layer_text (Val-F.S64 n) = signed_decimal n
-layer_text (Val-F.U64 n) = decimal n
-layer_text (Val-F.Float32 bits) = codes "f32:" ++ hexadecimal 8 bits
-layer_text (Val-F.Float64 bits) = codes "f64:" ++ hexadecimal 16 bits
-layer_text (Val-F.Char c) = codes "'" ++ escaped c ++ codes "'"
-layer_text (Val-F.String s) = quoted (string_bytes s)
-layer_text (Val-F.List items) = codes "[" ++ joined items.items ++ codes "]"
-layer_text (Val-F.Map pairs) = codes "map[" ++ joined (map paired pairs.items) ++ codes "]"
-layer_text (Val-F.Record fields) = codes "{" ++ joined (map labelled fields.items) ++ codes "}"
-layer_text (Val-F.Tuple parts) = codes "(" ++ joined parts.items ++ codes ")"
-layer_text (Val-F.Variant name payload) = name_text (string_bytes name) ++ wrapped payload
-layer_text (Val-F.Enum name) = name_text (string_bytes name)
-layer_text (Val-F.Option None) = codes "none"
-layer_text (Val-F.Option (Some payload)) = codes "some" ++ wrapped (Some payload)
-layer_text (Val-F.Result (Ok payload)) = codes "ok" ++ wrapped payload
-layer_text (Val-F.Result (Err payload)) = codes "err" ++ wrapped payload
-layer_text (Val-F.Flags names) = flags_text names.items
-layer_text (Val-F.Resource x) = codes "#"
-layer_text (Val-F.FixedLengthList items) = codes "[" ++ joined items.items ++ codes "]"
+-- a mark, and the number of the resource, where it has one
+abbrev pub resource_text : Option ℕ → List ℕ
+resource_text None = codes "#"
+resource_text (Some n) = codes "#" ++ decimal n
 
+-- the number after this one: the numbers stand still at the end of a u64
+abbrev pub following : ℕ → ℕ
+following n = min (n + 1) (2 ^ 64 - 1)
+
+abbrev pub next_number : Option ℕ → Option ℕ
+next_number None = None
+next_number (Some n) = Some (following n)
+
+abbrev pub resource_printing : Printing
+resource_printing p = page (p.text ++ resource_text p.next) (next_number p.next)
+
+-- a field's name and its value
+abbrev pub labelled : String Global × Printing → Printing
+labelled field = after (name_text (string_bytes field.0)) (after (codes ":") field.1)
+
+-- a key and its value
+abbrev pub paired : Printing × Printing → Printing
+paired pair p = after (codes "=") pair.1 (pair.0 p)
+
+-- a payload in brackets, if there is one
+abbrev pub wrapped : Option (Box Printing Global) → Printing
+wrapped None p = p
+wrapped (Some payload) p = between (codes "(") payload.value (codes ")") p
+
+-- the printing of one layer of a value, which has the printings of its members in their place
+abbrev pub layer_printing : Val-F Printing → Printing
+layer_printing (Val-F.Bool b) = write (bool_text b)
+layer_printing (Val-F.S8 n) = write (signed_decimal n)
+layer_printing (Val-F.U8 n) = write (decimal n)
+layer_printing (Val-F.S16 n) = write (signed_decimal n)
+layer_printing (Val-F.U16 n) = write (decimal n)
+layer_printing (Val-F.S32 n) = write (signed_decimal n)
+layer_printing (Val-F.U32 n) = write (decimal n)
+layer_printing (Val-F.S64 n) = write (signed_decimal n)
+layer_printing (Val-F.U64 n) = write (decimal n)
+layer_printing (Val-F.Float32 bits) = write (codes "f32:" ++ hexadecimal 8 bits)
+layer_printing (Val-F.Float64 bits) = write (codes "f64:" ++ hexadecimal 16 bits)
+layer_printing (Val-F.Char c) = write (codes "'" ++ escaped c ++ codes "'")
+layer_printing (Val-F.String s) = write (quoted (string_bytes s))
+layer_printing (Val-F.List items) = between (codes "[") (joined items.items) (codes "]")
+layer_printing (Val-F.Map pairs) = between (codes "map[") (joined (map paired pairs.items)) (codes "]")
+layer_printing (Val-F.Record fields) = between (codes "{") (joined (map labelled fields.items)) (codes "}")
+layer_printing (Val-F.Tuple parts) = between (codes "(") (joined parts.items) (codes ")")
+layer_printing (Val-F.Variant name payload) = after (name_text (string_bytes name)) (wrapped payload)
+layer_printing (Val-F.Enum name) = write (name_text (string_bytes name))
+layer_printing (Val-F.Option None) = write (codes "none")
+layer_printing (Val-F.Option (Some payload)) = after (codes "some") (wrapped (Some payload))
+layer_printing (Val-F.Result (Ok payload)) = after (codes "ok") (wrapped payload)
+layer_printing (Val-F.Result (Err payload)) = after (codes "err") (wrapped payload)
+layer_printing (Val-F.Flags names) = write (flags_text names.items)
+layer_printing (Val-F.Resource x) = resource_printing
+layer_printing (Val-F.FixedLengthList items) = between (codes "[") (joined items.items) (codes "]")
+
+abbrev pub value_printing : Val → Printing
+value_printing = fold-Val Printing layer_printing
+
+-- the text of a value alone, whose resources have no numbers
 abbrev pub value_text : Val → List ℕ
-value_text = fold-Val (List ℕ) layer_text
+value_text v = (value_printing v (page [] None)).text
 
--- a field, and the texts of a record of these fields, of a map of these pairs, of a payload, and of values in a row between
+-- a field, and the printings of a record of these fields, of a map of these pairs, of a payload, and of values in a row between
 -- these brackets
-abbrev pub field_text : String Global × Val → List ℕ
-field_text field = labelled (field.0, value_text field.1)
+abbrev pub field_printing : String Global × Val → Printing
+field_printing field = labelled (field.0, value_printing field.1)
 
-abbrev pub fields_text : List (String Global × Val) → List ℕ
-fields_text fields = codes "{" ++ joined (map field_text fields) ++ codes "}"
+abbrev pub fields_printing : List (String Global × Val) → Printing
+fields_printing fields = between (codes "{") (joined (map field_printing fields)) (codes "}")
 
-abbrev pub pair_text : Val × Val → List ℕ
-pair_text pair = paired (value_text pair.0, value_text pair.1)
+abbrev pub pair_printing : Val × Val → Printing
+pair_printing pair = paired (value_printing pair.0, value_printing pair.1)
 
-abbrev pub pairs_text : List (Val × Val) → List ℕ
-pairs_text pairs = codes "map[" ++ joined (map pair_text pairs) ++ codes "]"
+abbrev pub pairs_printing : List (Val × Val) → Printing
+pairs_printing pairs = between (codes "map[") (joined (map pair_printing pairs)) (codes "]")
 
-abbrev pub payload_text : Option (Box Val Global) → List ℕ
-payload_text None = []
-payload_text (Some payload) = codes "(" ++ value_text payload.value ++ codes ")"
+abbrev pub payload_printing : Option (Box Val Global) → Printing
+payload_printing None p = p
+payload_printing (Some payload) p = between (codes "(") (value_printing payload.value) (codes ")") p
 
-abbrev pub option_text : Option (Box Val Global) → List ℕ
-option_text None = codes "none"
-option_text (Some payload) = codes "some" ++ payload_text (Some payload)
+abbrev pub option_printing : Option (Box Val Global) → Printing
+option_printing None = write (codes "none")
+option_printing (Some payload) = after (codes "some") (payload_printing (Some payload))
 
-abbrev pub result_text : Result (Option (Box Val Global)) (Option (Box Val Global)) → List ℕ
-result_text (Ok payload) = codes "ok" ++ payload_text payload
-result_text (Err payload) = codes "err" ++ payload_text payload
+abbrev pub result_printing : Result (Option (Box Val Global)) (Option (Box Val Global)) → Printing
+result_printing (Ok payload) = after (codes "ok") (payload_printing payload)
+result_printing (Err payload) = after (codes "err") (payload_printing payload)
 
-abbrev pub row_text : List ℕ → List Val → List ℕ → List ℕ
-row_text before values after = before ++ joined (map value_text values) ++ after
+abbrev pub row_printing : List ℕ → List Val → List ℕ → Printing
+row_printing opening values closing = between opening (joined (map value_printing values)) closing
 
--- a value after a space
-abbrev pub spaced : Val → List ℕ
-spaced value = 32 ∷ value_text value
+-- each value after a space
+abbrev pub values_printing : List Val → Printing
+values_printing values = each_after (codes " ") (map value_printing values)
 
 -- ---- errors
 
@@ -243,16 +296,43 @@ events_text bs (e ∷ es) = event_text bs e ++ events_text (blocks_after bs e) e
 
 abbrev pub head_text : Head → List ℕ
 head_text (head.Call func) = codes "call " ++ decimal func ++ end
+head_text head.New = codes "new" ++ end
+head_text (head.Drop resource) = codes "drop " ++ decimal resource ++ end
 
-abbrev pub answer_text : Answer → List ℕ
-answer_text (answer.Ok values) = codes "ok" ++ flat_map spaced values.items ++ end
-answer_text (answer.Err e) = codes "error " ++ error_text e ++ end
+abbrev pub answer_printing : Answer → Printing
+answer_printing (answer.Ok values) = between (codes "ok") (values_printing values.items) end
+answer_printing (answer.Err e) = write (codes "error " ++ error_text e ++ end)
+answer_printing answer.Skipped = write (codes "skipped" ++ end)
+
+-- the line of an answer whose first resource has this number
+abbrev pub answer_text : ℕ → Answer → List ℕ
+answer_text first a = (answer_printing a (page [] (Some first))).text
 
 abbrev pub live_text : ℕ → List ℕ
 live_text live = codes "live " ++ decimal live ++ end
 
-abbrev pub record_text : Record → List ℕ
-record_text r = head_text r.head ++ events_text [] r.events ++ answer_text r.answer ++ live_text r.live
+abbrev pub record_printing : Record → Printing
+record_printing r = after (head_text r.head) (between (events_text [] r.events) (answer_printing r.answer) (live_text r.live))
+
+-- the text of a record whose first resource has this number
+abbrev pub record_text : ℕ → Record → List ℕ
+record_text first r = head_text r.head ++ events_text [] r.events ++ answer_text first r.answer ++ live_text r.live
+
+-- the resources that an answer gave, depth first
+abbrev pub given : Answer → List Any
+given (answer.Ok values) = all_resources values.items
+given (answer.Err e) = []
+given answer.Skipped = []
+
+-- the number after those of these resources
+abbrev pub number_after : ℕ → List Any → ℕ
+number_after first [] = first
+number_after first (x ∷ xs) = number_after (following first) xs
+
+-- the text of records whose first resource has this number
+abbrev pub records_text : ℕ → List Record → List ℕ
+records_text first [] = []
+records_text first (r ∷ rs) = record_text first r ++ records_text (number_after first (given r.answer)) rs
 
 abbrev pub transcript_text : List Record → List ℕ
-transcript_text records = flat_map record_text records
+transcript_text records = records_text 0 records

@@ -8,13 +8,14 @@ use crate::{Answer, Head, Record, Transcript};
 use canon_indices::OutOfMemory;
 use std::alloc::{AllocError, Global};
 
-/// The text of a transcript. Answers OutOfMemory alone.
+/// The text of a transcript. The resources among the results have the numbers from 0 on. Answers OutOfMemory alone.
 pub fn transcript_text(alloc: Global, t: &Transcript) -> Result<String, OutOfMemory>
     ensures { IfOk result (λ text. string_bytes text ≡ spec.transcript_text t.now) }
 {
     let mut text = String::new(alloc);
+    let mut next = Some(0);
     for item in t.records() {
-        print_record(alloc, &mut text, item)?;
+        print_record(alloc, &mut text, &mut next, item)?;
     }
     Ok(text)
 }
@@ -28,21 +29,27 @@ pub fn head_text(alloc: Global, r: &Record) -> Result<String, OutOfMemory>
     Ok(text)
 }
 
-/// The line of a record's answer. Answers OutOfMemory alone.
-pub fn answer_text(alloc: Global, r: &Record) -> Result<String, OutOfMemory>
-    ensures { IfOk result (λ text. string_bytes text ≡ spec.answer_text r.now.answer) }
+/// The line of a record's answer, whose first resource has this number. Answers OutOfMemory alone.
+pub fn answer_text(alloc: Global, r: &Record, first: u64) -> Result<String, OutOfMemory>
+    ensures { IfOk result (λ text. string_bytes text ≡ spec.answer_text first r.now.answer) }
 {
     let mut text = String::new(alloc);
-    print_answer(&mut text, &r.answer)?;
+    let mut next = Some(first);
+    print_answer(&mut text, &mut next, &r.answer)?;
     Ok(text)
 }
 
-fn print_record(alloc: Global, text: &mut String, item: &Record) -> Result<(), AllocError>
-    ensures { OnOk result (string_bytes text.new ≡ string_bytes text.old ++ spec.record_text item.now) }
+fn print_record(
+    alloc: Global,
+    text: &mut String,
+    next: &mut Option<u64>,
+    item: &Record,
+) -> Result<(), AllocError>
+    ensures { OnOk result (spec.page (string_bytes text.new) next.new ≡ spec.record_printing item.now (spec.page (string_bytes text.old) next.old)) }
 {
     print_head(text, item.head)?;
     print_events(alloc, text, item.events.as_slice())?;
-    print_answer(text, &item.answer)?;
+    print_answer(text, next, &item.answer)?;
     let live = item.live;
     writeln!(text, "live {live}")
 }
@@ -52,21 +59,29 @@ fn print_head(text: &mut String, head: Head) -> Result<(), AllocError>
 {
     match head {
         Head::Call(func) => writeln!(text, "call {func}"),
+        Head::New => text.push_str("new\n"),
+        Head::Drop(resource) => writeln!(text, "drop {resource}"),
     }
 }
 
-fn print_answer(text: &mut String, answer: &Answer) -> Result<(), AllocError>
-    ensures { OnOk result (string_bytes text.new ≡ string_bytes text.old ++ spec.answer_text answer.now) }
+/// Prints an answer. Its first resource has the number `next`, which goes on to the one after its last.
+fn print_answer(
+    text: &mut String,
+    next: &mut Option<u64>,
+    answer: &Answer,
+) -> Result<(), AllocError>
+    ensures { OnOk result (spec.page (string_bytes text.new) next.new ≡ spec.answer_printing answer.now (spec.page (string_bytes text.old) next.old)) }
 {
     match answer {
         Answer::Ok(values) => {
             text.push_str("ok")?;
-            print_values(text, values)?;
+            print_values(text, next, values)?;
         }
         Answer::Err(error) => {
             text.push_str("error ")?;
             print_error(text, *error)?;
         }
+        Answer::Skipped => text.push_str("skipped")?,
     }
     text.push_str("\n")
 }

@@ -1,33 +1,38 @@
-ghost use Rattle.std.specs.Prelude.{[], if◌then◌else◌, ◌≡◌, ◌++◌, IfOk, OnOk, codes, flat_map, string_bytes};
+ghost use Rattle.std.specs.Prelude.{[], if◌then◌else◌, ◌≡◌, ◌++◌, IfOk, OnOk, codes, string_bytes};
 ghost use Rattle.canon_transcript.specs.Text as spec;
 
 use canon_indices::OutOfMemory;
 use canon_value::Val;
 use std::alloc::{AllocError, Global};
 
-/// The text of a value. Answers OutOfMemory alone.
+/// The text of a value, whose resources have no numbers. Answers OutOfMemory alone.
 pub fn value_text(alloc: Global, v: &Val) -> Result<String, OutOfMemory>
     ensures { IfOk result (λ text. string_bytes text ≡ spec.value_text v.now) }
 {
     let mut text = String::new(alloc);
-    print_value(&mut text, v)?;
+    print_value(&mut text, &mut None, v)?;
     Ok(text)
 }
 
-/// Prints each value after a space.
-pub(crate) fn print_values(text: &mut String, values: &[Val]) -> Result<(), AllocError>
-    ensures { OnOk result (string_bytes text.new ≡ string_bytes text.old ++ flat_map spec.spaced values.now) }
+/// Prints each value after a space. The first resource among them has the number `next`, which goes on to the one after the
+/// last.
+pub(crate) fn print_values(
+    text: &mut String,
+    next: &mut Option<u64>,
+    values: &[Val],
+) -> Result<(), AllocError>
+    ensures { OnOk result (spec.page (string_bytes text.new) next.new ≡ spec.values_printing values.now (spec.page (string_bytes text.old) next.old)) }
 {
     for value in values {
         text.push_str(" ")?;
-        print_value(text, value)?;
+        print_value(text, next, value)?;
     }
     Ok(())
 }
 
 #[cycle(print)]
-fn print_value(text: &mut String, value: &Val) -> Result<(), AllocError>
-    ensures { OnOk result (string_bytes text.new ≡ string_bytes text.old ++ spec.value_text value.now) }
+fn print_value(text: &mut String, next: &mut Option<u64>, value: &Val) -> Result<(), AllocError>
+    ensures { OnOk result (spec.page (string_bytes text.new) next.new ≡ spec.value_printing value.now (spec.page (string_bytes text.old) next.old)) }
 {
     match value {
         Val::Bool(v) => write!(text, "{v}"),
@@ -43,71 +48,100 @@ fn print_value(text: &mut String, value: &Val) -> Result<(), AllocError>
         Val::Float64(bits) => print_f64(text, *bits),
         Val::Char(c) => print_char(text, *c),
         Val::String(content) => print_quoted(text, content),
-        Val::List(items) => print_row(text, "[", items, "]"),
-        Val::Map(pairs) => print_map(text, pairs),
-        Val::Record(fields) => print_record(text, fields),
-        Val::Tuple(parts) => print_row(text, "(", parts, ")"),
+        Val::List(items) => print_row(text, next, "[", items, "]"),
+        Val::Map(pairs) => print_map(text, next, pairs),
+        Val::Record(fields) => print_record(text, next, fields),
+        Val::Tuple(parts) => print_row(text, next, "(", parts, ")"),
         Val::Variant(name, payload) => {
             print_name(text, name)?;
-            print_payload(text, payload)
+            print_payload(text, next, payload)
         }
         Val::Enum(name) => print_name(text, name),
-        Val::Option(payload) => print_option(text, payload),
+        Val::Option(payload) => print_option(text, next, payload),
         Val::Result(outcome) => match outcome {
-            Ok(payload) => print_case(text, "ok", payload),
-            Err(payload) => print_case(text, "err", payload),
+            Ok(payload) => print_case(text, next, "ok", payload),
+            Err(payload) => print_case(text, next, "err", payload),
         },
         Val::Flags(names) => print_flags(text, names),
-        Val::Resource(_) => text.push_str("#"),
-        Val::FixedLengthList(items) => print_row(text, "[", items, "]"),
+        Val::Resource(_) => print_resource(text, next),
+        Val::FixedLengthList(items) => print_row(text, next, "[", items, "]"),
     }
 }
 
+/// Prints a resource: a mark, and its number, if resources have numbers.
+fn print_resource(text: &mut String, next: &mut Option<u64>) -> Result<(), AllocError>
+    ensures { OnOk result (spec.page (string_bytes text.new) next.new ≡ spec.resource_printing (spec.page (string_bytes text.old) next.old)) }
+{
+    text.push_str("#")?;
+    if let Some(number) = *next {
+        write!(text, "{number}")?;
+        *next = Some(number.saturating_add(1));
+    }
+    Ok(())
+}
+
 #[cycle(print)]
-fn print_option(text: &mut String, payload: &Option<Box<Val>>) -> Result<(), AllocError>
-    ensures { OnOk result (string_bytes text.new ≡ string_bytes text.old ++ spec.option_text payload.now) }
+fn print_option(
+    text: &mut String,
+    next: &mut Option<u64>,
+    payload: &Option<Box<Val>>,
+) -> Result<(), AllocError>
+    ensures { OnOk result (spec.page (string_bytes text.new) next.new ≡ spec.option_printing payload.now (spec.page (string_bytes text.old) next.old)) }
 {
     if payload.is_none() {
         return text.push_str("none");
     }
-    print_case(text, "some", payload)
+    print_case(text, next, "some", payload)
 }
 
 /// Prints this word, and a payload in brackets, if there is one.
 #[cycle(print)]
-fn print_case(text: &mut String, word: &str, payload: &Option<Box<Val>>) -> Result<(), AllocError>
-    ensures { OnOk result (string_bytes text.new ≡ string_bytes text.old ++ (word.now ++ spec.payload_text payload.now)) }
+fn print_case(
+    text: &mut String,
+    next: &mut Option<u64>,
+    word: &str,
+    payload: &Option<Box<Val>>,
+) -> Result<(), AllocError>
+    ensures { OnOk result (spec.page (string_bytes text.new) next.new ≡ spec.after word.now (spec.payload_printing payload.now) (spec.page (string_bytes text.old) next.old)) }
 {
     text.push_str(word)?;
-    print_payload(text, payload)
+    print_payload(text, next, payload)
 }
 
 /// Prints a payload in brackets, if there is one.
 #[cycle(print)]
-fn print_payload(text: &mut String, payload: &Option<Box<Val>>) -> Result<(), AllocError>
-    ensures { OnOk result (string_bytes text.new ≡ string_bytes text.old ++ spec.payload_text payload.now) }
+fn print_payload(
+    text: &mut String,
+    next: &mut Option<u64>,
+    payload: &Option<Box<Val>>,
+) -> Result<(), AllocError>
+    ensures { OnOk result (spec.page (string_bytes text.new) next.new ≡ spec.payload_printing payload.now (spec.page (string_bytes text.old) next.old)) }
 {
     match payload {
         None => Ok(()),
         Some(value) => {
             text.push_str("(")?;
-            print_value(text, value)?;
+            print_value(text, next, value)?;
             text.push_str(")")
         }
     }
 }
 
 #[cycle(print)]
-fn print_map(text: &mut String, pairs: &[(Val, Val)]) -> Result<(), AllocError>
-    ensures { OnOk result (string_bytes text.new ≡ string_bytes text.old ++ spec.pairs_text pairs.now) }
+fn print_map(
+    text: &mut String,
+    next: &mut Option<u64>,
+    pairs: &[(Val, Val)],
+) -> Result<(), AllocError>
+    ensures { OnOk result (spec.page (string_bytes text.new) next.new ≡ spec.pairs_printing pairs.now (spec.page (string_bytes text.old) next.old)) }
 {
     text.push_str("map[")?;
     let mut is_first = true;
     for (key, value) in pairs {
         separate(text, is_first, ",")?;
-        print_value(text, key)?;
+        print_value(text, next, key)?;
         text.push_str("=")?;
-        print_value(text, value)?;
+        print_value(text, next, value)?;
         is_first = false;
     }
     text.push_str("]")
@@ -127,8 +161,12 @@ fn print_flags(text: &mut String, names: &[String]) -> Result<(), AllocError>
 }
 
 #[cycle(print)]
-fn print_record(text: &mut String, fields: &[(String, Val)]) -> Result<(), AllocError>
-    ensures { OnOk result (string_bytes text.new ≡ string_bytes text.old ++ spec.fields_text fields.now) }
+fn print_record(
+    text: &mut String,
+    next: &mut Option<u64>,
+    fields: &[(String, Val)],
+) -> Result<(), AllocError>
+    ensures { OnOk result (spec.page (string_bytes text.new) next.new ≡ spec.fields_printing fields.now (spec.page (string_bytes text.old) next.old)) }
 {
     text.push_str("{")?;
     let mut is_first = true;
@@ -136,7 +174,7 @@ fn print_record(text: &mut String, fields: &[(String, Val)]) -> Result<(), Alloc
         separate(text, is_first, ",")?;
         print_name(text, name)?;
         text.push_str(":")?;
-        print_value(text, value)?;
+        print_value(text, next, value)?;
         is_first = false;
     }
     text.push_str("}")
@@ -144,14 +182,20 @@ fn print_record(text: &mut String, fields: &[(String, Val)]) -> Result<(), Alloc
 
 /// Prints values between these brackets, with a comma between two of them.
 #[cycle(print)]
-fn print_row(text: &mut String, before: &str, values: &[Val], after: &str) -> Result<(), AllocError>
-    ensures { OnOk result (string_bytes text.new ≡ string_bytes text.old ++ spec.row_text before.now values.now after.now) }
+fn print_row(
+    text: &mut String,
+    next: &mut Option<u64>,
+    before: &str,
+    values: &[Val],
+    after: &str,
+) -> Result<(), AllocError>
+    ensures { OnOk result (spec.page (string_bytes text.new) next.new ≡ spec.row_printing before.now values.now after.now (spec.page (string_bytes text.old) next.old)) }
 {
     text.push_str(before)?;
     let mut is_first = true;
     for value in values {
         separate(text, is_first, ",")?;
-        print_value(text, value)?;
+        print_value(text, next, value)?;
         is_first = false;
     }
     text.push_str(after)

@@ -1,11 +1,14 @@
 //! The lines of values, errors, events and records.
 
 use canon_func::Error;
+use canon_ledger::HostResourceIndex;
 use canon_memory::{Bytes, Event, Events, ValRaw, Words};
+use canon_resources::ResourceAny;
 use canon_transcript::{
     Answer, Head, Record, Transcript, answer_text, error_text, event_text, head_text,
     transcript_text, value_text,
 };
+use canon_types::ResourceType;
 use canon_value::{At, Fault, Val};
 use std::alloc::Global;
 use std::test::Fail;
@@ -217,6 +220,99 @@ fn records_follow_one_another(rt: HostRuntime) -> Result<(), Fail> {
     );
     let last = transcript.records().last().expect(&rt, "two records");
     assert!(rt; head_text(rt.alloc(), last)?.as_str() == "call 1\n");
-    assert!(rt; answer_text(rt.alloc(), last)?.as_str() == "error InvalidChar w0\n");
+    assert!(rt; answer_text(rt.alloc(), last, 0)?.as_str() == "error InvalidChar w0\n");
+    Ok(())
+}
+
+/// An own handle of the host.
+fn resource() -> Val {
+    let index = HostResourceIndex::new(1, 0);
+    Val::Resource(ResourceAny::new(index, ResourceType::host_dynamic(5), true))
+}
+
+/// A record without events, after which three handles live.
+fn record_of(alloc: Global, head: Head, answer: Answer) -> Record {
+    Record {
+        head,
+        events: Events::new(alloc),
+        answer,
+        live: 3,
+    }
+}
+
+/// A new resource, as an answer.
+fn made(alloc: Global) -> Result<Answer, Fail> {
+    let mut values = Vec::new(alloc);
+    values.push(resource())?;
+    Ok(Answer::Ok(values))
+}
+
+/// A tuple of a resource, a map from a resource to a resource, and a number.
+fn nested(alloc: Global) -> Result<Val, Fail> {
+    let mut pairs = Vec::new(alloc);
+    pairs.push((resource(), resource()))?;
+    let mut parts = Vec::new(alloc);
+    parts.push(resource())?;
+    parts.push(Val::Map(pairs))?;
+    parts.push(Val::U8(7))?;
+    Ok(Val::Tuple(parts))
+}
+
+/// The nested resources, and a list of one more.
+fn results(alloc: Global) -> Result<Answer, Fail> {
+    let mut items = Vec::new(alloc);
+    items.push(resource())?;
+    let mut values = Vec::new(alloc);
+    values.push(nested(alloc)?)?;
+    values.push(Val::List(items))?;
+    Ok(Answer::Ok(values))
+}
+
+/// Two new resources, with a call between them, and items that give none.
+fn with_resources(alloc: Global) -> Result<Transcript, Fail> {
+    let mut transcript = Transcript::new(alloc);
+    transcript.push(record_of(alloc, Head::New, made(alloc)?))?;
+    transcript.push(record_of(alloc, Head::Drop(0), Answer::Ok(Vec::new(alloc))))?;
+    transcript.push(record_of(alloc, Head::Call(2), results(alloc)?))?;
+    transcript.push(record_of(alloc, Head::Drop(9), Answer::Err(Error::WrongCount)))?;
+    transcript.push(record_of(alloc, Head::Call(2), Answer::Skipped))?;
+    transcript.push(record_of(alloc, Head::New, made(alloc)?))?;
+    Ok(transcript)
+}
+
+const NUMBERED_LINES: [&str; 6] = [
+    "new\nok #0\nlive 3\n",
+    "drop 0\nok\nlive 3\n",
+    "call 2\nok (#1,map[#2=#3],7) [#4]\nlive 3\n",
+    "drop 9\nerror WrongCount\nlive 3\n",
+    "call 2\nskipped\nlive 3\n",
+    "new\nok #5\nlive 3\n",
+];
+
+#[test]
+fn resources_are_numbered_through_a_transcript(rt: HostRuntime) -> Result<(), Fail> {
+    let transcript = with_resources(rt.alloc())?;
+    let printed = transcript_text(rt.alloc(), &transcript)?;
+    let mut expected = String::new(rt.alloc());
+    for lines in NUMBERED_LINES {
+        expected.push_str(lines)?;
+    }
+    assert!(rt; printed.as_str() == expected.as_str());
+    Ok(())
+}
+
+#[test]
+fn an_answer_alone_is_numbered_from_a_number(rt: HostRuntime) -> Result<(), Fail> {
+    let call = record_of(rt.alloc(), Head::Call(2), results(rt.alloc())?);
+    let printed = answer_text(rt.alloc(), &call, 10)?;
+    assert!(rt; printed.as_str() == "ok (#10,map[#11=#12],7) [#13]\n");
+    // A count stands still at the end of a u64.
+    let printed = answer_text(rt.alloc(), &call, u64::MAX - 1)?;
+    assert!(rt;
+        printed.as_str()
+            == "ok (#18446744073709551614,map[#18446744073709551615=#18446744073709551615],7) [#18446744073709551615]\n"
+    );
+    let printed = value_text(rt.alloc(), &nested(rt.alloc())?)?;
+    assert!(rt; printed.as_str() == "(#,map[#=#],7)");
     Ok(())
 }
