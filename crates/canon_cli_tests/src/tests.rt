@@ -211,7 +211,7 @@ fn one_record_is_drawn_and_comes_back(rt: HostRuntime) -> Result<(), Fail> {
     let mut transcript = Transcript::new(alloc);
     let text = gen_lines(alloc, 1, &mut transcript)?;
     let want = "gen 1\nencoding utf16\nrecords 1\nreallocs 8\nbytes 78\nequal true\nlive 0\n";
-    let answer = answer_text(alloc, &transcript.records()[0])?;
+    let answer = answer_text(alloc, &transcript.records()[0], 0)?;
     let told =
         "ok [{id:0,name:\"sfp\\u{4e2d}\\u{4e2d}w\",tags:[\"\\u{e9}f\\u{4e2d}m\",\"zpbp\",\"c\"],on:some(true)}]\n";
     assert!(rt; text.as_str() == want && answer.as_str() == told);

@@ -6,7 +6,7 @@ use Rattle.canon_indices.specs.declared.options.StringEncoding.TheVariants as en
 use Rattle.canon_model.specs.Image.{le_bytes}
 use Rattle.canon_scripted.specs.declared.actions.Action.{Action}
 use Rattle.canon_scripted.specs.declared.actions.Action.TheVariants as action
-use Rattle.canon_script.specs.Script.{Play, ScriptCall, call_with, script_of}
+use Rattle.canon_script.specs.Script.{Play, ScriptCall, call_item, call_with, script_of}
 use Rattle.canon_gen.specs.Records.{list_drawn}
 
 -- what the scripts of all numbers have in common: memory, the heap, fuel, and one function from a list of records to such a list
@@ -34,7 +34,7 @@ abbrev pub call_made : ℕ → ScriptCall
 call_made n = call_with 0 (list_drawn n ∷ []) (actions_made n) 1 [] false
 
 abbrev pub with_call : ℕ → Play → Play
-with_call n play = record play { encoding = encoding_made n; calls = call_made n ∷ [] }
+with_call n play = record play { encoding = encoding_made n; items = call_item (call_made n) ∷ [] }
 
 abbrev pub script_made : ℕ → Option Play
 script_made n = option_map (with_call n) common

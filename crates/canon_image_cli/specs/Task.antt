@@ -9,7 +9,7 @@ use Rattle.canon_types.specs.declared.types.InterfaceType.{InterfaceType}
 use Rattle.canon_layout.specs.Asked.{types_listed}
 use Rattle.canon_layout.specs.Entries.{reference_of}
 use Rattle.canon_script.specs.Literals.{Literal, literal_view}
-use Rattle.canon_script.specs.Values.{value_of}
+use Rattle.canon_script.specs.Values.{plain_value_of}
 use Rattle.canon_image_cli.specs.declared.task.Given.{Given}
 use Rattle.canon_image_cli.specs.declared.task.Given.TheVariants as given
 use Rattle.canon_image_cli.specs.declared.task.ImageTask.{ImageTask}
@@ -28,9 +28,9 @@ pub record Question : Type 0 where
 abbrev pub question_of : Table → InterfaceType → Told → Question
 question_of table type told = record { table = table; type = type; told = told }
 
--- exactly one of the two is there: a value as a script spells it, or hex
+-- exactly one of the two is there: a value as a script spells it, without resources, or hex
 abbrev pub given_of : Option Data → Option Data → Option Told
-given_of (Some value) None = option_map a_value (value_of value)
+given_of (Some value) None = option_map a_value (plain_value_of value)
 given_of None (Some hex) = option_map some_bytes (bytes_of hex)
 given_of None None = None
 given_of (Some value) (Some hex) = None

@@ -1,3 +1,4 @@
 pub mod Components
+pub mod Dropped
 pub mod Played
 pub mod Playing

@@ -1,5 +1,5 @@
 -- The record of a call, from what the call ensures.
-use Rattle.std.proofs.Common.{◌≡◌, ◌≢◌, ◌+◌, ◌++◌, ◌∷◌, ◌∙◌, Bool, Err, List, None, Ok, Result, Some, [], ap, false, length, refl, subst, sym, true, true≢false, ℕ}
+use Rattle.std.proofs.Common.{◌≡◌, ◌≢◌, ◌+◌, ◌++◌, ◌∷◌, ◌∙◌, Bool, Err, List, None, Ok, Result, Some, [], ap, false, length, map, refl, subst, sym, true, true≢false, ℕ}
 use Rattle.std.specs.Prelude.{IfSome, IsNone, OnErr, OnOk, Vec, is_err, unwrap_or}
 use Rattle.std.specs.Vec.{with_items}
 use Rattle.std.specs.declared.alloc.Global.{Global}
@@ -8,7 +8,8 @@ use Rattle.std.proofs.lemmas.Option.{none-some}
 use Rattle.canon_ledger.specs.Ledger.{LedgerState}
 use Rattle.canon_memory.specs.declared.event.Event.{Event}
 use Rattle.canon_memory.specs.Guest.{Moment, Recorded, Seen, of_guest}
-use Rattle.canon_scripted.specs.Scripted.{CarriesOut, Doing, ScriptMoves, seen_of, traps_after}
+use Rattle.canon_scripted.specs.Allocator.{Allocator}
+use Rattle.canon_scripted.specs.Scripted.{CarriesOut, Doing, Plan, ScriptMoves, seen_of, traps_after}
 use Rattle.canon_context.specs.Core.{Parts, guest_of, moment_of}
 use Rattle.canon_context.specs.declared.fault.Fault.{Fault}
 use Rattle.canon_context.specs.declared.fault.Fault.TheVariants as fault
@@ -18,13 +19,15 @@ use Rattle.canon_func.specs.Call.{Adding, IsCall, OnAnswered, refusal, refused_b
 use Rattle.canon_func.specs.Stores.{Callee, Named, callee_of}
 use Rattle.canon_func.specs.declared.error.Error.{Error}
 use Rattle.canon_func.specs.declared.error.Error.TheVariants as error
-use Rattle.canon_script.specs.Literals.{literal_view, literals_view}
+use Rattle.canon_resources.specs.Held.{Any}
+use Rattle.canon_script.specs.Literals.{listed, literal_view, literals_view, replaced}
 use Rattle.canon_script.specs.Script.{ScriptCall}
 use Rattle.canon_transcript.specs.declared.transcript.Answer.{Answer}
 use Rattle.canon_transcript.specs.declared.transcript.Answer.TheVariants as answer
 use Rattle.canon_transcript.specs.declared.transcript.Head.TheVariants as head
 use Rattle.canon_transcript.specs.declared.transcript.Record.{Record}
-use Rattle.canon_player.specs.Session.{Happened, IsPlayed, State, LeavesSame, WasCalled, outcome, plan_of, answer_values}
+use Rattle.canon_player.specs.Session.{Called, State, LeavesSame, WasCalled, outcome, plan_of, answer_values}
+use Rattle.canon_player.specs.Steps.{MakesCall}
 use Rattle.canon_player.specs.Session as session
 use Rattle.canon_player.specs.Stores.{ScriptStore, callee_at, state_of, with_plan}
 
@@ -44,18 +47,19 @@ error_in : Result (Unit {0}) Error → Error → Error
 error_in (Ok x) other = other
 error_in (Err e) other = e
 
-answers_error : (a : Answer) (e : Error) → outcome a ≡ Err e → a ≡ answer.Err e
+pub answers_error : (a : Answer) (e : Error) → outcome a ≡ Err e → a ≡ answer.Err e
 unfolding error_in
 answers_error (answer.Ok vals) e h = absurd (true≢false (sym (ap is_err h)))
+answers_error answer.Skipped e h = absurd (true≢false (sym (ap is_err h)))
 answers_error (answer.Err x) e h = ap (λ o. answer.Err (error_in o x)) h
 
 -- ---- a call
 
 -- it isn't want of memory
-abbrev IsOther : Result (Unit {0}) Error → Type 0
+abbrev pub IsOther : Result (Unit {0}) Error → Type 0
 IsOther called = called ≢ Err (error.Fault fault.OutOfMemory)
 
-on_answered : (called : Result (Unit {0}) Error) (P : Type 0) → called ≢ Err (error.Fault fault.OutOfMemory) → OnAnswered called P → P
+pub on_answered : (called : Result (Unit {0}) Error) (P : Type 0) → called ≢ Err (error.Fault fault.OutOfMemory) → OnAnswered called P → P
 on_answered (Ok x) P n p = p
 on_answered (Err error.WrongCount) P n p = p
 on_answered (Err error.AsyncLifted) P n p = p
@@ -130,15 +134,15 @@ Entered callee params loaded left called results = Adding (moment_of journaled l
     (λ events. OnAnswered called (ScriptMoves (of_guest (guest_of loaded.core)) events (of_guest (guest_of left.core))))
     (λ events. IsCall LeavesSame callee loaded.core.fuel params (moment_of journaled loaded.core) (moment_of journaled left.core) loaded.core.ledger left.core.ledger called results events)
 
-module _ (callee : Callee) (call : ScriptCall) (r : Record) (s left : ScriptStore) (params results : List Val) (called : Result (Unit {0}) Error)
+module _ (callee : Callee) (call : ScriptCall) (list : List Any) (r : Record) (s left : ScriptStore) (params results : List Val) (called : Result (Unit {0}) Error)
     (empty : s.core.guest.events ≡ []) (events : r.events ≡ left.core.guest.events)
     (out : outcome r.answer ≡ called) (vals : OnOk called (answer_values r.answer ≡ results)) (short : called ≢ Err (error.Fault fault.OutOfMemory))
-    (their : literals_view params ≡ call.params) where
+    (their : literals_view params ≡ map (replaced (listed list)) call.params) (played : r.answer ≢ answer.Skipped) where
   abbrev pub loaded : ScriptStore
   loaded = with_plan s (plan_of call s.core.guest.guest.plan.allocator)
 
   was_called : refusal callee (length call.params) call.slots s.trapped ≡ None → Entered callee params loaded left called results
-      → OnOk called (left.trapped ≡ s.trapped) → OnErr called (left.trapped ≡ true) → WasCalled callee s.core.fuel call (state_of s) (state_of left) r
+      → OnOk called (left.trapped ≡ s.trapped) → OnErr called (left.trapped ≡ true) → WasCalled callee s.core.fuel call list (state_of s) (state_of left) r
   was_called free entered runs traps =
       let before = state_of s in
       let after = state_of left in
@@ -166,9 +170,10 @@ module _ (callee : Callee) (call : ScriptCall) (r : Record) (s left : ScriptStor
         traps = subst (λ (es : List Event). after.traps ≡ traps_after before.traps es) (sym all) moved.traps;
         trapped = trapped_by called s.trapped left.trapped (not_trapped callee (length call.params) call.slots s.trapped free) runs traps ∙ ap is_err (sym out);
         sufficed = λ e. short (sym out ∙ ap outcome e);
+        played = played;
       }
 
-  was_refused : (e : Error) → called ≡ Err e → left ≡ loaded → Happened callee s.core.fuel call (state_of s) (state_of left) r (Some e)
+  was_refused : (e : Error) → called ≡ Err e → left ≡ loaded → Called callee s.core.fuel call list (state_of s) (state_of left) r (Some e)
   was_refused e h same = (answers_error r.answer e (out ∙ h), events ∙ (ap (λ (k : ScriptStore). k.core.guest.events) same ∙ empty), ap state_of same)
 
   abbrev Refused : Result (Unit {0}) Error → Type 0
@@ -176,7 +181,7 @@ module _ (callee : Callee) (call : ScriptCall) (r : Record) (s left : ScriptStor
 
   happened : (c : Result (Unit {0}) Error) → called ≡ c → refused_by c ≡ refusal callee (length call.params) call.slots s.trapped → Refused c
       → (IsNone (refused_by c) → Entered callee params loaded left called results) → OnOk called (left.trapped ≡ s.trapped) → (IsNone (refused_by c) → OnErr called (left.trapped ≡ true))
-      → Happened callee s.core.fuel call (state_of s) (state_of left) r (refused_by c)
+      → Called callee s.core.fuel call list (state_of s) (state_of left) r (refused_by c)
   happened (Ok x) h why same entered runs traps = was_called (sym why) (entered refl) runs (traps refl)
   happened (Err error.WrongCount) h why same entered runs traps = was_refused error.WrongCount h same
   happened (Err error.AsyncLifted) h why same entered runs traps = was_refused error.AsyncLifted h same
@@ -185,22 +190,22 @@ module _ (callee : Callee) (call : ScriptCall) (r : Record) (s left : ScriptStor
   happened (Err (error.UnknownImport n)) h why same entered runs traps = was_called (sym why) (entered refl) runs (traps refl)
   happened (Err (error.Fault f)) h why same entered runs traps = was_called (sym why) (entered refl) runs (traps refl)
 
-  played : (before : ScriptStore) (count : ℕ) → r.head ≡ head.Call call.func → r.live ≡ left.core.ledger.handles.counter.live → before ≡ loaded → count ≡ call.slots
+  made : (before : ScriptStore) (count : ℕ) → r.head ≡ head.Call call.func → r.live ≡ left.core.ledger.handles.counter.live → before ≡ loaded → count ≡ call.slots
       → refused_by called ≡ refusal callee (length params) count before.trapped → IfSome (refused_by called) (λ e. left ≡ before)
       → (IsNone (refused_by called) → Entered callee params before left called results) → OnOk called (left.trapped ≡ before.trapped) → (IsNone (refused_by called) → OnErr called (left.trapped ≡ true))
-      → IsPlayed callee s.core.fuel call (state_of s) (state_of left) r
-  played before count hd lv is slots why same entered runs traps =
-      let many : length params ≡ length call.params = sym (length-map params literal_view) ∙ ap length their in
+      → MakesCall callee s.core.fuel call list (state_of s) (state_of left) r
+  made before count hd lv is slots why same entered runs traps =
+      let many : length params ≡ length call.params = sym (length-map params literal_view) ∙ (ap length their ∙ length-map call.params (replaced (listed list))) in
       let why2 : refused_by called ≡ refusal callee (length call.params) call.slots s.trapped =
       why ∙ (ap (λ n. refusal callee n count before.trapped) many ∙ (ap (λ n. refusal callee (length call.params) n before.trapped) slots ∙ ap (λ (k : ScriptStore). refusal callee (length call.params) call.slots k.trapped) is)) in
-      let all : Happened callee s.core.fuel call (state_of s) (state_of left) r (refused_by called) = happened called refl why2
+      let all : Called callee s.core.fuel call list (state_of s) (state_of left) r (refused_by called) = happened called refl why2
       (subst (λ (k : ScriptStore). IfSome (refused_by called) (λ e. left ≡ k)) is same)
       (λ none. subst (λ (k : ScriptStore). Entered callee params k left called results) is (entered none))
       (subst (λ (k : ScriptStore). OnOk called (left.trapped ≡ k.trapped)) is runs)
       traps in
       record {
         head = hd;
-        happened = subst (λ o. Happened callee s.core.fuel call (state_of s) (state_of left) r o) why2 all;
+        called = subst (λ o. Called callee s.core.fuel call list (state_of s) (state_of left) r o) why2 all;
         live = lv;
       }
 
@@ -210,10 +215,10 @@ kept_results (Ok x) v ws vs e h = h ∙ with_items_is v ws e
 kept_results (Err x) v ws vs e h = tt
 
 -- the store with the guest loaded
-pub loaded_is : (call : ScriptCall) (s : ScriptStore) (core : Parts (Unit {0}) (Recorded Doing)) (told : Recorded Doing) (guest after : Doing) → core ≡ s.core → told ≡ core.guest → guest ≡ told.guest
-    → after ≡ record guest { plan = plan_of call guest.plan.allocator }
-    → record { core = record core { guest = record told { guest = after } }; trapped = s.trapped } ≡ with_plan s (plan_of call s.core.guest.guest.plan.allocator)
-loaded_is call s core told guest after a b c d = simp (d, c, b, a)
+pub loaded_is : (plan : Allocator → Plan) (s : ScriptStore) (core : Parts (Unit {0}) (Recorded Doing)) (told : Recorded Doing) (guest after : Doing) → core ≡ s.core → told ≡ core.guest → guest ≡ told.guest
+    → after ≡ record guest { plan = plan guest.plan.allocator }
+    → record { core = record core { guest = record told { guest = after } }; trapped = s.trapped } ≡ with_plan s (plan s.core.guest.guest.plan.allocator)
+loaded_is plan s core told guest after a b c d = simp (d, c, b, a)
 
 -- the store without its journal
 pub taken_is : (left : ScriptStore) (core : Parts (Unit {0}) (Recorded Doing)) (told after : Recorded Doing) → core ≡ left.core → told ≡ core.guest → after ≡ record told { events = [] }
@@ -222,16 +227,16 @@ taken_is left core told after a b c = simp (c, b, a)
 
 -- The store is `s` before the guest is loaded, `before` when the function is called, `left` as the call leaves it, and `final` once
 -- the journal is taken.
-module _ (call : ScriptCall) (r : Record) (s before left final : ScriptStore) (f : Named) (params results : List Val) (slots : Vec Val Global) (called : Result (Unit {0}) Error) where
+module _ (call : ScriptCall) (list : List Any) (r : Record) (s before left final : ScriptStore) (f : Named) (params results : List Val) (slots : Vec Val Global) (called : Result (Unit {0}) Error) where
   pub record_is : s.core.guest.events ≡ [] → before ≡ with_plan s (plan_of call s.core.guest.guest.plan.allocator) → f.export ≡ call.func → state_of final ≡ state_of left
-      → literals_view params ≡ call.params → length slots.items ≡ call.slots
+      → literals_view params ≡ map (replaced (listed list)) call.params → length slots.items ≡ call.slots
       → refused_by called ≡ refusal (callee_of before f) (length params) (length slots.items) before.trapped → IfSome (refused_by called) (λ e. left ≡ before)
       → (IsNone (refused_by called) → Entered (callee_of before f) params before left called results) → OnOk called (left.trapped ≡ before.trapped) → (IsNone (refused_by called) → OnErr called (left.trapped ≡ true))
       → r.head ≡ head.Call call.func → r.live ≡ left.core.ledger.handles.counter.live → r.events ≡ left.core.guest.events → outcome r.answer ≡ called
-      → length results ≡ slots.len → OnOk called (answer_values r.answer ≡ (with_items slots results).items) → called ≢ Err (error.Fault fault.OutOfMemory)
-      → IsPlayed (callee_at s.core.component call.func) s.core.fuel call (state_of s) (state_of final) r
-  record_is empty is export end their count why same entered runs traps hd lv events out many vals short =
+      → length results ≡ slots.len → OnOk called (answer_values r.answer ≡ (with_items slots results).items) → called ≢ Err (error.Fault fault.OutOfMemory) → r.answer ≢ answer.Skipped
+      → MakesCall (callee_at s.core.component call.func) s.core.fuel call list (state_of s) (state_of final) r
+  record_is empty is export end their count why same entered runs traps hd lv events out many vals short skipped =
       let it : callee_of before f ≡ callee_at s.core.component call.func = ap (λ (k : ScriptStore). callee_of k f) is ∙ ap (λ n. callee_at s.core.component n) export in
-      let one : IsPlayed (callee_of before f) s.core.fuel call (state_of s) (state_of left) r =
-      played (callee_of before f) call r s left params results called empty events out (kept_results called slots results (answer_values r.answer) many vals) short their before (length slots.items) hd lv is count why same entered runs traps in
-      subst (λ (d : Callee). IsPlayed d s.core.fuel call (state_of s) (state_of final) r) it (subst (λ (k : State). IsPlayed (callee_of before f) s.core.fuel call (state_of s) k r) (sym end) one)
+      let one : MakesCall (callee_of before f) s.core.fuel call list (state_of s) (state_of left) r =
+      made (callee_of before f) call list r s left params results called empty events out (kept_results called slots results (answer_values r.answer) many vals) short their skipped before (length slots.items) hd lv is count why same entered runs traps in
+      subst (λ (d : Callee). MakesCall d s.core.fuel call list (state_of s) (state_of final) r) it (subst (λ (k : State). MakesCall (callee_of before f) s.core.fuel call list (state_of s) k r) (sym end) one)

@@ -1,10 +1,47 @@
 -- The steps of an item.
-use Rattle.std.specs.Prelude.{Bool, Err, List, None, Ok, Result, false, length, true, ℕ, ◌≡◌}
+use Rattle.std.specs.Prelude.{Bool, Err, List, None, Ok, Result, [], false, length, true, ℕ, ◌≡◌, ◌∷◌, ◌⊎◌}
 use Rattle.canon_types.specs.declared.resource.ResourceType.TheVariants.{HostDynamic}
-use Rattle.canon_ledger.specs.Books.{Did}
 use Rattle.canon_ledger.specs.Index.{GivenIndex}
-use Rattle.canon_ledger.specs.Ledger.{LedgerState, given, host_resource_lower_own}
+use Rattle.canon_ledger.specs.Ledger.{Did, Done, LedgerState, given, host_resource_lower_own}
 use Rattle.canon_ledger.specs.declared.fault.ResourceFault.{ResourceFault}
 use Rattle.canon_ledger.specs.declared.fault.ResourceFault.TheVariants as refusal
 use Rattle.canon_resources.specs.Held.{Any, any, table_handle}
 use Rattle.canon_resources.specs.declared.any.ResourceAnyHandle.TheVariants.{Synthetic}
+use Rattle.canon_context.specs.declared.fault.Fault.TheVariants as fault
+use Rattle.canon_value.specs.declared.val.Val.TheVariants as val
+use Rattle.canon_func.specs.Call.{refusal as call_refusal}
+use Rattle.canon_func.specs.Stores.{Callee}
+use Rattle.canon_func.specs.declared.error.Error.TheVariants as error
+use Rattle.canon_script.specs.Script.{ScriptCall}
+use Rattle.canon_script.specs.declared.script.NewItem.{NewItem}
+use Rattle.canon_transcript.specs.declared.transcript.Answer.{Answer}
+use Rattle.canon_transcript.specs.declared.transcript.Answer.TheVariants as answer
+use Rattle.canon_transcript.specs.declared.transcript.Head.TheVariants as head
+use Rattle.canon_transcript.specs.declared.transcript.Record.{Record}
+use Rattle.canon_player.specs.Session.{AnswersOk, Called, State}
+
+-- the record of a call that wasn't skipped
+pub record MakesCall (callee : Callee) (fuel : ℕ) (call : ScriptCall) (list : List Any) (before after : State) (r : Record) : Type 0 where
+  pub head : r.head ≡ head.Call call.func
+  pub called : Called callee fuel call list before after r (call_refusal callee (length call.params) call.slots before.trapped)
+  pub live : r.live ≡ after.ledger.handles.counter.live
+
+-- an own handle of this type, at the index that the host's table gave, or the ledger's refusal
+abbrev pub Owns : ℕ → Result GivenIndex ResourceFault → Result Any ResourceFault → Type 0
+Owns ty (Ok x) result = result ≡ Ok (any (table_handle x true) (HostDynamic ty))
+Owns ty (Err e) result = result ≡ Err e
+
+-- the step was done, or memory ran out
+abbrev pub Inserts : ℕ → Done GivenIndex → Result Any ResourceFault → LedgerState → LedgerState → Type 0
+Inserts ty step result before after = (Owns ty step.answer result × (after ≡ step.after)) ⊎ (result ≡ Err refusal.OutOfMemory)
+
+-- a resource is made: a borrow has no handle
+abbrev pub MakesResource : Bool → NewItem → LedgerState → Result Any ResourceFault → LedgerState → Type 0
+MakesResource true n before result after = (result ≡ Ok (any (Synthetic n.rep) (HostDynamic n.ty))) × (after ≡ before)
+MakesResource false n before result after = Inserts n.ty (given before (host_resource_lower_own before n.rep None None)) result before after
+
+-- what a resource that was made answers; want of memory has no record
+abbrev pub MadeAnswer : Result Any ResourceFault → Answer → Type 0
+MadeAnswer (Ok x) a = AnswersOk a (val.Resource x ∷ [])
+MadeAnswer (Err refusal.OutOfMemory) a = ⊥
+MadeAnswer (Err e) a = a ≡ answer.Err (error.Fault (fault.Resource e))

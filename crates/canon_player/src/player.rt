@@ -2,7 +2,7 @@ ghost use Rattle.std.specs.Prelude.{◌≡◌, ◌≢◌, ◌++◌, [], All, Err
 ghost use Rattle.canon_value.specs.Resources.{all_resources};
 ghost use Rattle.canon_script.specs.Script.{IsWellFormed, call_item, call_item_view, drop_item, item_view, new_item, play_of};
 ghost use Rattle.canon_player.specs.Session.{IsPlayed, Plays, Session, WasDropped, answer_values, outcome};
-ghost use Rattle.canon_player.specs.Steps.{MadeAnswer, MakesResource, WasMadeCall};
+ghost use Rattle.canon_player.specs.Steps.{MadeAnswer, MakesCall, MakesResource};
 ghost use Rattle.canon_player.specs.Stores.{IsCallable, IsPlayable, callee_at, state_of};
 
 use crate::component::{ScriptStore, component_of, store_of};
@@ -147,7 +147,7 @@ fn make_call(
 ) -> Result<Record, OutOfMemory>
     requires fresh { store.old.core.guest.events ≡ [] }
     requires playable { IsCallable store.old.core.component (call_item_view call) }
-    ensures called { IfOk result (WasMadeCall (callee_at store.old.core.component call.func) store.old.core.fuel (call_item_view call) list.now (state_of store.old) (state_of store.new)) }
+    ensures called { IfOk result (MakesCall (callee_at store.old.core.component call.func) store.old.core.fuel (call_item_view call) list.now (state_of store.old) (state_of store.new)) }
     ensures fresh { store.new.core.guest.events ≡ [] }
     ensures same { store.new.core.component ≡ store.old.core.component }
     ensures fuel { store.new.core.fuel ≡ store.old.core.fuel }
@@ -199,7 +199,7 @@ fn play_new(
 
 /// A resource of the host of a type that a number tells: an own handle is put into the host's table, a borrow has none.
 fn new_resource(store: &mut ScriptStore, item: NewItem) -> Result<ResourceAny, ResourceFault>
-    ensures made { MakesResource item store.old.core.ledger result store.new.core.ledger }
+    ensures made { MakesResource item.borrow item store.old.core.ledger result store.new.core.ledger }
     ensures same { store.new ≡ record store.old { core = record store.old.core { ledger = store.new.core.ledger } } }
 {
     let ty = ResourceType::host_dynamic(item.ty);
