@@ -186,10 +186,6 @@ abbrev pub option_printing : Option (Box Val Global) → Printing
 option_printing None = write (codes "none")
 option_printing (Some payload) = after (codes "some") (payload_printing (Some payload))
 
-abbrev pub result_printing : Result (Option (Box Val Global)) (Option (Box Val Global)) → Printing
-result_printing (Ok payload) = after (codes "ok") (payload_printing payload)
-result_printing (Err payload) = after (codes "err") (payload_printing payload)
-
 abbrev pub row_printing : List ℕ → List Val → List ℕ → Printing
 row_printing opening values closing = between opening (joined (map value_printing values)) closing
 
