@@ -1,5 +1,5 @@
 -- The text of a transcript.
-use Rattle.std.specs.Prelude.{ℕ, ◌+◌, ◌-◌, ◌^◌, ◌==◌, ◌&&◌, ◌||◌, nat_le, not, if◌then◌else◌, Bool, Box, Err, None, Ok, Option, Result, Some, true, false, List, [], ◌∷◌, ◌++◌, codes, drop, flat_map, length, map, min, replicate, string_bytes, take, String}
+use Rattle.std.specs.Prelude.{ℕ, ◌+◌, ◌-◌, ◌^◌, ◌==◌, ◌&&◌, ◌||◌, nat_le, not, if◌then◌else◌, Bool, Box, Err, None, Ok, Option, Some, true, false, List, [], ◌∷◌, ◌++◌, codes, drop, flat_map, length, map, min, replicate, string_bytes, take, String}
 use Rattle.std.specs.Fmt.{decimal, digits, signed_decimal}
 use Rattle.std.specs.List.{join_with_byte}
 use Rattle.std.specs.Str.{chars}
