@@ -4,6 +4,7 @@ ghost use Rattle.std.specs.Prelude.{◌≡◌, IfErr, IfNone, IfSome, MatchResul
 ghost use Rattle.canon_ledger.specs.Handles.{can_leave};
 ghost use Rattle.canon_ledger.specs.Ledger as ledger;
 ghost use Rattle.canon_resources.specs.Held.{host_index};
+ghost use Rattle.canon_context.specs.Asks.{SameButHandles};
 ghost use Rattle.canon_context.specs.Core.{SameButLedger};
 ghost use Rattle.canon_func.specs.Drop.{Failed, IsDrop, Ran, Removes, destructor_of, drop_refusal, names_instance};
 
@@ -121,6 +122,7 @@ pub fn resource_drop<T, G: Guest>(r: ResourceAny, store: &mut Store<T, G>) -> Re
     ensures no_handle { IfNone (host_index r.handle) ((result ≡ Ok tt) × (store.new ≡ store.old)) }
     ensures refused { IfSome (host_index r.handle) (λ x. IfSome (drop_refusal store.old.core.ledger store.old.trapped x) (λ e. (result ≡ Err e) × (store.new ≡ store.old))) }
     ensures drops { IfSome (host_index r.handle) (λ x. IfNone (drop_refusal store.old.core.ledger store.old.trapped x) (IsDrop G.seen G.moves G.leaves x store.old store.new result)) }
+    ensures same { SameButHandles store.old.core store.new.core }
 {
     let Some(index) = r.host_index() else {
         return Ok(());

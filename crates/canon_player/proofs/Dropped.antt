@@ -53,28 +53,6 @@ Moving g es h = ScriptMoves (of_guest g) es (of_guest h)
 abbrev pub Dropping : GivenIndex → ScriptStore → ScriptStore → Result (Unit {0}) Error → Type 0
 Dropping i before left dropped = IsDrop journaled Moving LeavesSame i before left dropped
 
--- A drop changes nothing of the core but the guest, its memory and the ledger.
-module _ (x : Any) (before left : ScriptStore) (dropped : Result (Unit {0}) Error) where
-  abbrev pub Kept : Type 0
-  Kept = left.core ≡ record before.core { guest = left.core.guest; memory = left.core.memory; ledger = left.core.ledger }
-
-  kept_same : left ≡ before → Kept
-  kept_same e = subst (λ (k : ScriptStore). left.core ≡ record k.core { guest = left.core.guest; memory = left.core.memory; ledger = left.core.ledger }) e refl
-
-  kept_at : (i : GivenIndex) (o : Option Error) → IfSome o (λ e. (dropped ≡ Err e) × (left ≡ before)) → IfNone o (Dropping i before left dropped) → Kept
-  kept_at i None refused drops = drops.same
-  kept_at i (Some e) refused drops = kept_same refused.1
-
-  kept_by : (o : Option GivenIndex) → IfNone o ((dropped ≡ Ok tt) × (left ≡ before)) → IfSome o (λ i. IfSome (drop_refusal before.core.ledger before.trapped i) (λ e. (dropped ≡ Err e) × (left ≡ before)))
-      → IfSome o (λ i. IfNone (drop_refusal before.core.ledger before.trapped i) (Dropping i before left dropped)) → Kept
-  kept_by None none refused drops = kept_same none.1
-  kept_by (Some i) none refused drops = kept_at i (drop_refusal before.core.ledger before.trapped i) refused drops
-
-  pub drop_keeps : IfNone (host_index x.handle) ((dropped ≡ Ok tt) × (left ≡ before))
-      → IfSome (host_index x.handle) (λ i. IfSome (drop_refusal before.core.ledger before.trapped i) (λ e. (dropped ≡ Err e) × (left ≡ before)))
-      → IfSome (host_index x.handle) (λ i. IfNone (drop_refusal before.core.ledger before.trapped i) (Dropping i before left dropped)) → Kept
-  drop_keeps none refused drops = kept_by (host_index x.handle) none refused drops
-
 -- The store is `s` before the guest is loaded, and `left` as the drop leaves it.
 module _ (x : Any) (dtor_trap : Bool) (r : Record) (s left : ScriptStore) (dropped : Result (Unit {0}) Error)
     (empty : s.core.guest.events ≡ []) (events : r.events ≡ left.core.guest.events) (out : outcome r.answer ≡ dropped) (vals : OnOk dropped (answer_values r.answer ≡ []))

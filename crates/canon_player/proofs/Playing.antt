@@ -44,18 +44,18 @@ module _ (first : ScriptStore) (items : List Item) (now : ScriptStore) (all left
       → IsPlaying first items after left longer more
   playing_next after r longer more fresh same fuel played grown e =
       subst (λ (ys : List Any). IsPlaying first items after left ys more) (sym grown) (subst (λ (rs : List Record). IsPlaying first items after left (list ++ all_resources (answer_values r.answer)) rs) (sym e) (record {
-    fresh = fresh;
-    same = same ∙ h.same;
-    fuel = fuel ∙ h.fuel;
-    playable = All-tail (IsPlayable first.core.component) (item_view item) (map item_view left) before.playable;
-    rest = λ others g. subst (λ (rs : List Record). Plays (callee_at first.core.component) first.core.fuel (map item_view items) [] (state_of first) rs) (sym (append_assoc records (r ∷ []) others))
-        (before.rest (r ∷ others) (
-          state_of after,
-          subst (λ n. IsPlayed (callee_at first.core.component) n (item_view item) list (state_of now) (state_of after) r) h.fuel
-              (subst (λ (c : Component). IsPlayed (callee_at c) now.core.fuel (item_view item) list (state_of now) (state_of after) r) h.same played),
-          g,
-        ));
-  }))
+        fresh = fresh;
+        same = same ∙ h.same;
+        fuel = fuel ∙ h.fuel;
+        playable = All-tail (IsPlayable first.core.component) (item_view item) (map item_view left) before.playable;
+        rest = λ others g. subst (λ (rs : List Record). Plays (callee_at first.core.component) first.core.fuel (map item_view items) [] (state_of first) rs) (sym (append_assoc records (r ∷ []) others))
+            (before.rest (r ∷ others) (
+              state_of after,
+              subst (λ n. IsPlayed (callee_at first.core.component) n (item_view item) list (state_of now) (state_of after) r) h.fuel
+                  (subst (λ (c : Component). IsPlayed (callee_at c) now.core.fuel (item_view item) list (state_of now) (state_of after) r) h.same played),
+              g,
+            ));
+      }))
 
 pub playing_last : (first : ScriptStore) (items : List Item) (now : ScriptStore) (left : List Item) (list : List Any) (records : List Record) → left ≡ [] → IsPlaying first items now left list records
     → Plays (callee_at first.core.component) first.core.fuel (map item_view items) [] (state_of first) records

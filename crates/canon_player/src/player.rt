@@ -206,7 +206,10 @@ fn new_resource(store: &mut ScriptStore, item: NewItem) -> Result<ResourceAny, R
     if item.borrow {
         return Ok(ResourceAny::new_borrow(item.rep, ty));
     }
-    match store.core_mut().host_resource_lower_own(item.rep, None, None) {
+    match store
+        .core_mut()
+        .host_resource_lower_own(item.rep, None, None)
+    {
         Ok(index) => Ok(ResourceAny::new(index, ty, true)),
         Err(fault) => Err(fault),
     }
@@ -269,12 +272,7 @@ fn make_drop(
     ensures fuel { store.new.core.fuel ≡ store.old.core.fuel }
 {
     let scripted = store.core_mut().guest_mut().guest_mut();
-    scripted.load(
-        Vec::new(alloc),
-        Vec::new(alloc),
-        false,
-        item.dtor_trap,
-    );
+    scripted.load(Vec::new(alloc), Vec::new(alloc), false, item.dtor_trap);
     let dropped = resource_drop(resource, store);
     let live = store.live_handles();
     let events = store.core_mut().guest_mut().take_journal();
