@@ -1,7 +1,10 @@
-ghost use Rattle.std.specs.Prelude.{◌↔◌, IsTrue};
-ghost use Rattle.canon_context.specs.Component.{IsComponent};
+ghost use Rattle.std.specs.Prelude.{◌≡◌, ◌↔◌, All, IsTrue};
+ghost use Rattle.canon_context.specs.Component.{IsComponent, IsImport, IsInside, resource_of};
 
-use canon_types::{CanonicalOptions, InstanceType, OptionsIndex, TypeFuncIndex};
+use canon_types::{
+    CanonicalOptions, InstanceType, InterfaceType, OptionsIndex, TypeFuncIndex,
+    TypeResourceTableIndex,
+};
 
 /// A function that a component gives: its type, its core function and its options.
 #[derive(Clone, Copy, Debug, PartialEq, Eq)]
@@ -11,22 +14,62 @@ pub struct Export {
     pub options: OptionsIndex,
 }
 
-/// What a component has: its types, the options of its functions, and its exports.
+/// What a component's core functions may ask for by its number: a call on the handles of a resource type.
+#[derive(Clone, Copy, Debug, PartialEq, Eq)]
+pub enum Import {
+    /// A new own handle of a representation (CanonicalABI.md, "canon resource.new").
+    ResourceNew(TypeResourceTableIndex),
+    /// The representation of a handle (CanonicalABI.md, "canon resource.rep").
+    ResourceRep(TypeResourceTableIndex),
+    /// The end of a handle (CanonicalABI.md, "canon resource.drop").
+    ResourceDrop(TypeResourceTableIndex),
+}
+
+impl Import {
+    /// The resource type whose handles it is a call on.
+    pub fn resource(&self) -> TypeResourceTableIndex
+        ensures { result ≡ resource_of self.now }
+    {
+        match *self {
+            Import::ResourceNew(ty) | Import::ResourceRep(ty) | Import::ResourceDrop(ty) => ty,
+        }
+    }
+}
+
+/// What a component has: its types, the options of its functions, its exports, and its imports.
 #[derive(Drop)]
 pub struct Component {
     pub types: InstanceType,
     pub options: Vec<CanonicalOptions>,
     pub exports: Vec<Export>,
+    pub imports: Vec<Import>,
 }
 
 impl Component {
-    /// Whether all indexes of its exports are inside their tables. It is a condition of `Core::new`.
+    /// Whether all indexes of its exports and imports are inside their tables. It is a condition of `Core::new`.
     pub fn check(&self) -> bool
         ensures { IsTrue result ↔ IsComponent self.now }
+    {
+        self.has_exports() && self.has_imports()
+    }
+
+    // Whether the exports' are.
+    fn has_exports(&self) -> bool
+        ensures { IsTrue result ↔ All (IsInside self.now) self.now.exports.items }
     {
         self.exports.iter().all(|export| {
             self.types.types().contains_func(export.ty)
                 && (export.options.as_u32() as usize) < self.options.len()
         })
+    }
+
+    // Whether the imports' are.
+    fn has_imports(&self) -> bool
+        ensures { IsTrue result ↔ All (IsImport self.now) self.now.imports.items }
+    {
+        let types = self.types.types();
+        self.imports
+            .iter()
+            .all(|import| types.contains(&InterfaceType::Own(import.resource())))
     }
 }

@@ -12,7 +12,7 @@ mod lifter;
 mod resources;
 
 pub use blocks::{ask, ask_again};
-pub use component::{Component, Export};
+pub use component::{Component, Export, Import};
 pub use context::{LiftContext, LowerContext, Source};
 pub use core_data::Core;
 pub use fault::{At, Fault};

@@ -41,7 +41,7 @@ impl<'a, T, G> LowerContext<'a, T, G> {
         ensures rest { self.new ≡ record self.old { core = self.new.core } }
         ensures same_reference { self.new.core.ghost_name ≡ self.old.core.ghost_name }
     {
-        faulted(self.core.insert_own(t, rep))
+        faulted(self.core.resource_new(t, rep))
     }
 
     /// A new borrow handle there; the representation itself where the instance defines the type.

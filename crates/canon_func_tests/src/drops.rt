@@ -106,6 +106,7 @@ fn store_of(
         types: InstanceType::new(types, id),
         options,
         exports,
+        imports: Vec::new(alloc),
     };
     if !component.check() {
         return Err(Fail::from("an index is outside its table"));

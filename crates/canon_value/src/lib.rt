@@ -26,7 +26,7 @@ mod view;
 
 pub use args::lower_args;
 pub use canon_context::{
-    At, Component, Core, Export, Fault, HostcallFuelExhausted, LiftContext, LowerContext,
+    At, Component, Core, Export, Fault, HostcallFuelExhausted, Import, LiftContext, LowerContext,
 };
 pub use results::lift_results;
 pub use val::Val;

@@ -17,8 +17,8 @@ use canon_types::{
     TypeResourceTable, TypeResourceTableIndex, TypeTupleIndex,
 };
 use canon_value::{
-    At, Component, Core, Export, Fault, HostcallFuelExhausted, LiftContext, LowerContext, Val,
-    lift_results, lower_args,
+    At, Component, Core, Export, Fault, HostcallFuelExhausted, Import, LiftContext, LowerContext,
+    Val, lift_results, lower_args,
 };
 use std::alloc::Global;
 use std::process::Abort;
@@ -28,6 +28,7 @@ fn component_of(rt: &impl Abort, alloc: Global, types: ComponentTypes) -> Compon
     ensures options { length result.options.items ≡ 1 }
     ensures types { result.types.types ≡ types }
     ensures exports { result.exports.items ≡ [] }
+    ensures imports { result.imports.items ≡ [] }
 {
     let options = CanonicalOptions {
         instance: RuntimeInstance::from_u32(3),
@@ -39,6 +40,7 @@ fn component_of(rt: &impl Abort, alloc: Global, types: ComponentTypes) -> Compon
         types: InstanceType::new(types, StoreId::from_u64(6)),
         options: vec![in alloc; options].expect(rt, "memory"),
         exports: Vec::new(alloc),
+        imports: Vec::new(alloc),
     }
 }
 
@@ -376,6 +378,25 @@ fn a_component_is_sound_where_its_exports_are_inside(rt: HostRuntime) {
             options: OptionsIndex::from_u32(options),
         };
         component.exports.push(export).expect(&rt, "memory");
+        assert!(rt; component.check() == want);
+    }
+}
+
+#[test]
+fn a_component_is_sound_where_its_imports_are_of_its_resources(rt: HostRuntime) {
+    let alloc = rt.alloc();
+    for (ty, want) in [(0, true), (1, false)] {
+        let mut builder = TypeBuilder::new(alloc);
+        let added = builder.add_resource_table(TypeResourceTable {
+            instance: RuntimeInstance::from_u32(3),
+            kind: ResourceKind::Guest { id: 2, dtor: None },
+            defined_here: true,
+        });
+        assert!(rt; added.is_ok());
+        let mut component = component_of(&rt, alloc, builder.finish());
+        let import = Import::ResourceDrop(TypeResourceTableIndex::from_u32(ty));
+        component.imports.push(import).expect(&rt, "memory");
+        assert!(rt; import.resource() == TypeResourceTableIndex::from_u32(ty));
         assert!(rt; component.check() == want);
     }
 }

@@ -245,8 +245,9 @@ impl<T, G> Core<T, G> {
         self.ledger.set_limit(v);
     }
 
-    // Puts an own handle of a resource type into its instance's table.
-    pub(crate) fn insert_own(
+    /// Puts an own handle of a resource type into its instance's table, and answers its index there (CanonicalABI.md, "canon
+    /// resource.new").
+    pub fn resource_new(
         &mut self,
         ty: TypeResourceTableIndex,
         rep: u32,
