@@ -20,12 +20,19 @@ pub enum Error {
     /// An earlier call trapped the store.
     #[error("CannotEnterComponent")]
     CannotEnterComponent,
-    /// The guest returned another number of words than the function's results take.
+    /// The guest returned another number of words than the function's results take, or asked for an import with another number of
+    /// words than it takes.
     #[error("WrongWords")]
     WrongWords,
     /// The guest asked for an import of this number, which the component doesn't have.
     #[error("UnknownImport {0}")]
     UnknownImport(u32),
+    /// The guest asked for an import once more than the store's calls may.
+    #[error("TurnsExhausted")]
+    TurnsExhausted,
+    /// The import of this number, for which the guest asked, was refused for this fault.
+    #[error("ImportFault {index} {fault}")]
+    ImportFault { index: u32, fault: Fault },
 }
 
 impl From<Fault> for Error {
