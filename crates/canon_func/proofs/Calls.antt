@@ -17,7 +17,6 @@ use Rattle.canon_ledger.specs.declared.fault.ResourceFault.{ResourceFault}
 use Rattle.canon_ledger.specs.declared.fault.ResourceFault.TheVariants as resource
 use Rattle.canon_leaves.proofs.Leaves.{leaves_same}
 use Rattle.canon_leaves.specs.Parts.{LeavesStop, LeavesTake, refusal_of}
-use Rattle.canon_resources.specs.Held.{Any}
 use Rattle.canon_lowering.proofs.Lowerings.{lawful_second}
 use Rattle.canon_lowering.specs.Attempt.{AnyPointer, LowersArgs}
 use Rattle.canon_lowering.specs.Lowering.{Accepted, AllGood, AllLawful, Answer, BeginsWith, CauseOf, Ending, LastIs, Meets, Trap, addresses_of, done, refused, short, events_of, marks_of}
@@ -31,14 +30,16 @@ use Rattle.canon_value.specs.Value.{HaveTrees}
 use Rattle.canon_context.specs.declared.fault.Fault.{Fault}
 use Rattle.canon_context.specs.declared.fault.Fault.TheVariants as fault
 use Rattle.canon_value.specs.declared.val.Val.{Val}
-use Rattle.canon_func.specs.Call.{Accepts, Advances, AsksByTypes, Cause, HandlesPass, IsCall, IsStart, LiftsReturned, lowering_ending, param_parts, stopped_by, words_within}
-use Rattle.canon_func.specs.Runs.{Each, EndsIn, Grows, IsAnswer, IsNoAsk, IsNoPost, IsNoResume, IsNoStart, IsPrefixOfRun, IsTrap, OnReturn, OnStart}
+use Rattle.canon_func.specs.Asks.{AreServed, Limits}
+use Rattle.canon_func.specs.Call.{Accepts, AcceptsLater, Advances, AfterTurns, AsksByTypes, Cause, HandlesPass, IsCall, IsStart, lowering_ending, param_parts, words_within}
+use Rattle.canon_func.specs.Runs.{AskTurn, Each, EndsIn, Grows, IsAnswer, IsNoPost, IsNoStart, IsPrefixOfRun, IsTrap, OnReturn, OnStart, asks_in}
 use Rattle.canon_func.specs.Steps.{CoreCall, IsRest, RestCause}
 use Rattle.canon_func.specs.Stores.{Callee}
 use Rattle.canon_func.specs.declared.error.Error.{Error}
 use Rattle.canon_func.specs.declared.error.Error.TheVariants as error
 use Rattle.canon_func.proofs.Handled.{leaves_excluded, stops_after}
-use Rattle.canon_func.proofs.Prefixes.{answers_are, grows_answers, grows_from, each_after, each_answer, each_then, ends_after, events_of-then, events_of-trap, prefix_after, prefix_none, prefix_request, run_after}
+use Rattle.canon_func.proofs.Turns.{err_same, not_ok}
+use Rattle.canon_func.proofs.Prefixes.{IsEarly, answers_are, answers_early, asks_answers, each_after, each_answer, each_then, ends_after, events_of-then, events_of-trap, grows_answers, grows_from, last_ask_after, post_then, prefix_after, prefix_none, prefix_request, return_then, run_after}
 
 pub advances_then : (a b c : Moment) → Advances a b → Advances b c → Advances a c
 advances_then a b c f g = record {
@@ -95,34 +96,24 @@ module _ (callee : Callee) (params : List Val) (entry mid : Moment) (words : Lis
 
 -- ---- the guest was to be started
 
-cause_after : (callee : Callee) (fuel : ℕ) (params : List Val) (entry mid after : Moment) (xs ys : List Event) (e : Error) → entry.guest.traps ≤ mid.guest.traps
-    → RestCause callee fuel mid after ys e → Cause callee fuel params entry after (xs ++ ys) e
-cause_after callee fuel params entry mid after xs ys error.WrongWords g h = ends_after _ xs ys h
-cause_after callee fuel params entry mid after xs ys (error.UnknownImport n) g h = ends_after _ xs ys h
-cause_after callee fuel params entry mid after xs ys (error.Fault fault.GuestTrap) g h = (omega (arith, h.0), ends_after IsTrap xs ys h.1)
-cause_after callee fuel params entry mid after xs ys (error.Fault (fault.PointerMisaligned at)) g h = ends_after _ xs ys h
-cause_after callee fuel params entry mid after xs ys (error.Fault (fault.PointerOutOfBounds at)) g h = ends_after _ xs ys h
-cause_after callee fuel params entry mid after xs ys (error.Fault (fault.InvalidUtf8 at)) g h = ends_after _ xs ys h
-cause_after callee fuel params entry mid after xs ys (error.Fault (fault.InvalidUtf16 at)) g h = ends_after _ xs ys h
-cause_after callee fuel params entry mid after xs ys (error.Fault (fault.InvalidChar at)) g h = ends_after _ xs ys h
-cause_after callee fuel params entry mid after xs ys (error.Fault (fault.BadDiscriminant at d)) g h = ends_after _ xs ys h
-cause_after callee fuel params entry mid after xs ys (error.Fault fault.HostcallFuelExhausted) g h = ends_after _ xs ys h
-cause_after callee fuel params entry mid after xs ys (error.Fault fault.OutOfMemory) g h = tt
-cause_after callee fuel params entry mid after xs ys error.WrongCount g h = absurd h
-cause_after callee fuel params entry mid after xs ys error.AsyncLifted g h = absurd h
-cause_after callee fuel params entry mid after xs ys error.CannotEnterComponent g h = absurd h
-cause_after callee fuel params entry mid after xs ys (error.Fault (fault.TypeMismatch k)) g h = absurd h
-cause_after callee fuel params entry mid after xs ys (error.Fault (fault.FieldName k)) g h = absurd h
-cause_after callee fuel params entry mid after xs ys (error.Fault (fault.UnknownCase k)) g h = absurd h
-cause_after callee fuel params entry mid after xs ys (error.Fault (fault.UnknownFlag k)) g h = absurd h
-cause_after callee fuel params entry mid after xs ys (error.Fault (fault.PayloadExpected k)) g h = absurd h
-cause_after callee fuel params entry mid after xs ys (error.Fault (fault.PayloadNotExpected k)) g h = absurd h
-cause_after callee fuel params entry mid after xs ys (error.Fault (fault.LengthMismatch k)) g h = absurd h
-cause_after callee fuel params entry mid after xs ys (error.Fault (fault.StringTooLong n)) g h = absurd h
-cause_after callee fuel params entry mid after xs ys (error.Fault (fault.SizeOverflow n)) g h = absurd h
-cause_after callee fuel params entry mid after xs ys (error.Fault (fault.ReallocMisaligned a)) g h = absurd h
-cause_after callee fuel params entry mid after xs ys (error.Fault (fault.ReallocOutOfBounds a)) g h = absurd h
-cause_after callee fuel params entry mid after xs ys (error.Fault (fault.Resource r)) g h = (h.0, inr (ends_after _ xs ys h.1))
+cause_after : (callee : Callee) (limits : Limits) (params : List Val) (entry mid after : Moment) (xs ys : List Event) (e : Error) → asks_in (xs ++ ys) ≡ asks_in ys → entry.guest.traps ≤ mid.guest.traps
+    → RestCause callee limits mid after ys e → Cause callee limits params entry after (xs ++ ys) e
+cause_after callee limits params entry mid after xs ys error.WrongWords none g (inl h) = inl (ends_after _ xs ys h)
+cause_after callee limits params entry mid after xs ys error.WrongWords none g (inr h) = inr (ends_after _ xs ys h)
+cause_after callee limits params entry mid after xs ys (error.UnknownImport n) none g h = ends_after _ xs ys h
+cause_after callee limits params entry mid after xs ys error.TurnsExhausted none g h = (ends_after _ xs ys h.0, none ∙ h.1)
+cause_after callee limits params entry mid after xs ys (error.ImportFault n f) none g h = (h.0, ends_after _ xs ys h.1)
+cause_after callee limits params entry mid after xs ys (error.Fault fault.GuestTrap) none g h = (omega (arith, h.0), ends_after IsTrap xs ys h.1)
+cause_after callee limits params entry mid after xs ys (error.Fault (fault.PointerMisaligned at)) none g h = ends_after _ xs ys h
+cause_after callee limits params entry mid after xs ys (error.Fault (fault.PointerOutOfBounds at)) none g h = ends_after _ xs ys h
+cause_after callee limits params entry mid after xs ys (error.Fault (fault.InvalidUtf8 at)) none g h = ends_after _ xs ys h
+cause_after callee limits params entry mid after xs ys (error.Fault (fault.InvalidUtf16 at)) none g h = ends_after _ xs ys h
+cause_after callee limits params entry mid after xs ys (error.Fault (fault.InvalidChar at)) none g h = ends_after _ xs ys h
+cause_after callee limits params entry mid after xs ys (error.Fault (fault.BadDiscriminant at d)) none g h = ends_after _ xs ys h
+cause_after callee limits params entry mid after xs ys (error.Fault fault.HostcallFuelExhausted) none g h = ends_after _ xs ys h
+cause_after callee limits params entry mid after xs ys (error.Fault fault.OutOfMemory) none g h = tt
+cause_after callee limits params entry mid after xs ys (error.Fault (fault.Resource r)) none g h = (h.0, inr (ends_after _ xs ys h.1))
+cause_after callee limits params entry mid after xs ys e none g h = absurd h
 
 -- good answers stay good in a longer memory
 good_later : (m n : ℕ) (answers : List Answer) → m ≤ n → AllGood m answers → AllGood n answers
@@ -130,34 +121,11 @@ good_later m n [] le good = tt
 good_later m n (x ∷ xs) le good = ((good.0.0, omega (arith, le, good.0.1)), good_later m n xs le good.1)
 
 -- a call that was refused after its parameters were lowered accepted each answer
-accepted_after : (callee : Callee) (fuel : ℕ) (mid after : Moment) (ys : List Event) (answers : List Answer) (e : Error) → RestCause callee fuel mid after ys e
+accepted_after : (callee : Callee) (limits : Limits) (mid after : Moment) (ys : List Event) (answers : List Answer) (e : Error) → RestCause callee limits mid after ys e
     → AllGood (length after.bytes) answers → Accepted (lowering_ending (Err e)) (length after.bytes) answers
-accepted_after callee fuel mid after ys answers error.WrongWords h good = good
-accepted_after callee fuel mid after ys answers (error.UnknownImport n) h good = good
-accepted_after callee fuel mid after ys answers error.WrongCount h good = good
-accepted_after callee fuel mid after ys answers error.AsyncLifted h good = good
-accepted_after callee fuel mid after ys answers error.CannotEnterComponent h good = good
-accepted_after callee fuel mid after ys answers (error.Fault (fault.ReallocMisaligned a)) h good = absurd h
-accepted_after callee fuel mid after ys answers (error.Fault (fault.ReallocOutOfBounds a)) h good = absurd h
-accepted_after callee fuel mid after ys answers (error.Fault fault.GuestTrap) h good = good
-accepted_after callee fuel mid after ys answers (error.Fault fault.OutOfMemory) h good = good
-accepted_after callee fuel mid after ys answers (error.Fault (fault.PointerMisaligned at)) h good = good
-accepted_after callee fuel mid after ys answers (error.Fault (fault.PointerOutOfBounds at)) h good = good
-accepted_after callee fuel mid after ys answers (error.Fault (fault.InvalidUtf8 at)) h good = good
-accepted_after callee fuel mid after ys answers (error.Fault (fault.InvalidUtf16 at)) h good = good
-accepted_after callee fuel mid after ys answers (error.Fault (fault.InvalidChar at)) h good = good
-accepted_after callee fuel mid after ys answers (error.Fault (fault.BadDiscriminant at d)) h good = good
-accepted_after callee fuel mid after ys answers (error.Fault fault.HostcallFuelExhausted) h good = good
-accepted_after callee fuel mid after ys answers (error.Fault (fault.TypeMismatch k)) h good = absurd h
-accepted_after callee fuel mid after ys answers (error.Fault (fault.FieldName k)) h good = absurd h
-accepted_after callee fuel mid after ys answers (error.Fault (fault.UnknownCase k)) h good = absurd h
-accepted_after callee fuel mid after ys answers (error.Fault (fault.UnknownFlag k)) h good = absurd h
-accepted_after callee fuel mid after ys answers (error.Fault (fault.PayloadExpected k)) h good = absurd h
-accepted_after callee fuel mid after ys answers (error.Fault (fault.PayloadNotExpected k)) h good = absurd h
-accepted_after callee fuel mid after ys answers (error.Fault (fault.LengthMismatch k)) h good = absurd h
-accepted_after callee fuel mid after ys answers (error.Fault (fault.StringTooLong k)) h good = absurd h
-accepted_after callee fuel mid after ys answers (error.Fault (fault.SizeOverflow k)) h good = absurd h
-accepted_after callee fuel mid after ys answers (error.Fault (fault.Resource r)) h good = good
+accepted_after callee limits mid after ys answers (error.Fault (fault.ReallocMisaligned a)) h good = absurd h
+accepted_after callee limits mid after ys answers (error.Fault (fault.ReallocOutOfBounds a)) h good = absurd h
+accepted_after callee limits mid after ys answers e h good = good
 
 not_short : done ≡ short → ⊥
 not_short e = cc
@@ -182,70 +150,84 @@ each_start P p [] = tt
 each_start P p (event.Start f ws m ∷ events) = (p, each_start P p events)
 each_start P p (e ∷ events) = (tt, each_start P p events)
 
-module _ (Leaves : List ℕ → List ℕ → Type 0) (callee : Callee) (fuel : ℕ) (params : List Val) (entry mid after : Moment) (l0 l1 l2 : LedgerState) (words : List ℕ) (answers : List Answer) (given : List ℕ) (later : List Event) where
-  posted_after : (¬ Each IsNoPost later → Each (OnReturn (λ ws m. (left : ℕ) × (vs : List Val) × AreResults callee.encoding (narrow m) callee.results ws fuel left vs)) later)
-      → ¬ Each IsNoPost (events_of answers None ++ later) → Each (OnReturn (λ ws m. (left : ℕ) × (vs : List Val) × AreResults callee.encoding (narrow m) callee.results ws fuel left vs)) (events_of answers None ++ later)
-  posted_after told some = each_then _ (events_of answers None) later (each_answer _ (λ c a. tt) (λ c n. tt) answers None)
-      (told (λ none. some (each_then IsNoPost (events_of answers None) later (each_answer IsNoPost (λ c a. tt) (λ c n. tt) answers None) none)))
+module _ (Leaves : List ℕ → List ℕ → Type 0) (callee : Callee) (limits : Limits) (params : List Val) (entry mid after : Moment) (l0 l1 l2 : LedgerState) (words : List ℕ) (answers : List Answer) (given : List ℕ) (later : List Event) where
+  abbrev first : List Event
+  first = events_of answers None
+
+  early : Each IsEarly first
+  early = answers_early answers
+
+  posted_after : (¬ Each IsNoPost later → Each (OnReturn (λ ws m. (left : ℕ) × (vs : List Val) × AreResults callee.encoding (narrow m) callee.results ws limits.fuel left vs)) later)
+      → ¬ Each IsNoPost (first ++ later) → Each (OnReturn (λ ws m. (left : ℕ) × (vs : List Val) × AreResults callee.encoding (narrow m) callee.results ws limits.fuel left vs)) (first ++ later)
+  posted_after told some = return_then _ first later early (told (λ none. some (post_then first later early none)))
+
+  -- answers are no asks
+  asks_later : asks_in (first ++ later) ≡ asks_in later
+  asks_later = asks_answers answers None later
+
+  at_most : (n m k : ℕ) → n ≡ m → m ≤ k → n ≤ k
+  at_most n m k e h = omega (arith, e, h)
 
   -- what the ledger accepts, from the start on
-  accepts_rest : LeavesTake (enter l0) (param_parts callee params) given l1 → Accepts callee params l0 (events_of answers None ++ later)
-      → Each (OnReturn (λ ws m. (resources : List Any) × (lifted : LedgerState) × LiftsReturned callee ws m resources l1 lifted)) later
-  accepts_rest took (hs, lowered, takes, each) =
+  accepts_rest : (turns : List AskTurn) → LeavesTake (enter l0) (param_parts callee params) given l1 → Accepts callee params turns l0 (first ++ later) → AfterTurns callee turns l1 (λ served. AcceptsLater callee served later)
+  accepts_rest turns took (hs, lowered, takes, end, serves, accepts) =
       let same = (leaves_same (enter l0) l1 lowered (param_parts callee params) given hs took takes).1 in
-      each_after _ (events_of answers None) later
-      (subst (λ l. Each (OnReturn (λ ws m. (resources : List Any) × (lifted : LedgerState) × LiftsReturned callee ws m resources l lifted)) (events_of answers None ++ later)) (sym same) each)
+      (end, subst (λ l. AreServed callee turns l end) (sym same) serves, (last_ask_after _ first later accepts.0, each_after _ first later accepts.1))
 
   pub joined : (answer : Result (Vec Val Global) Error) → IsReady callee params entry mid words answers given → LeavesTake (enter l0) (param_parts callee params) given l1 → Advances entry mid → Advances mid after → after.guest.marks ≡ mid.guest.marks
-      → IsRest Leaves callee fuel words mid after l1 l2 answer later → CoreCall Leaves callee fuel params entry after l0 l2 answer (events_of answers None ++ later)
-  joined (Ok vals) low took first second marks rest = record {
+      → IsRest Leaves callee limits words mid after l1 l2 answer later → CoreCall Leaves callee limits params entry after l0 l2 answer (events_of answers None ++ later)
+  joined (Ok vals) low took goes on marks rest = record {
     one_run = run_after callee.func callee.post (events_of answers None) later (answers_are answers) rest.one_run;
     prefix = prefix_after callee.func callee.post (length entry.bytes) (events_of answers None) later (answers_are answers) (rest.prefix (length entry.bytes));
-    no_resume = each_then IsNoResume (events_of answers None) later (each_answer IsNoResume (λ c a. tt) (λ c n. tt) answers None) rest.no_resume;
-    advances = advances_then entry mid after first second;
-    grows = grows_answers (length entry.bytes) (length after.bytes) answers later (grows_from (length entry.bytes) (length mid.bytes) (length after.bytes) later first.no_shorter rest.grows);
+    advances = advances_then entry mid after goes on;
+    grows = grows_answers (length entry.bytes) (length after.bytes) answers later (grows_from (length entry.bytes) (length mid.bytes) (length after.bytes) later goes.no_shorter rest.grows);
     answers = answers;
     trap = None;
     later = later;
     in_parts = refl;
     no_more = rest.no_more;
-    accepted = good_later (length mid.bytes) (length after.bytes) answers second.no_shorter low.start.good;
+    turns = rest.turns;
+    starts = rest.starts;
+    asks = λ none. at_most (asks_in (first ++ later)) (asks_in later) limits.turns asks_later (rest.asks (λ is. not_ok vals error.TurnsExhausted is));
+    accepted = good_later (length mid.bytes) (length after.bytes) answers on.no_shorter low.start.good;
     marks = marks ∙ low.marks;
     requested = λ ts have. record { left = []; met = low.requested ts have; all = each_start ([] ≡ []) refl later };
     quiet = low.quiet;
     given = given;
-    handles = (l1, took, each_then _ (events_of answers None) later (each_answer _ (λ c a. tt) (λ c n. tt) answers None) rest.handles);
-    start = each_then _ (events_of answers None) later (each_answer _ (λ c a. tt) (λ c n. tt) answers None) (on_start words mid.bytes _ low.start later rest.start);
-    only_results = each_then _ (events_of answers None) later (each_answer _ (λ c a. tt) (λ c n. tt) answers None) rest.only_results;
+    handles = (l1, took, rest.handles.0, rest.handles.1, return_then _ first later early rest.handles.2);
+    start = each_then _ first later (each_answer _ (λ c a. tt) (λ c n. tt) answers None) (on_start words mid.bytes _ low.start later rest.start);
+    only_results = return_then _ first later early rest.only_results;
     posted = posted_after rest.posted;
-    leaves = each_then _ (events_of answers None) later (each_answer _ (λ c a. tt) (λ c n. tt) answers None) rest.leaves;
+    leaves = return_then _ first later early rest.leaves;
     cause = tt;
     valid = λ ts have small lawful calm quiet right accepted. tt;
   }
-  joined (Err e) low took first second marks rest = λ results. record {
+  joined (Err e) low took goes on marks rest = λ results. record {
     one_run = tt;
     prefix = prefix_after callee.func callee.post (length entry.bytes) (events_of answers None) later (answers_are answers) (rest.prefix (length entry.bytes));
-    no_resume = each_then IsNoResume (events_of answers None) later (each_answer IsNoResume (λ c a. tt) (λ c n. tt) answers None) rest.no_resume;
-    advances = advances_then entry mid after first second;
-    grows = grows_answers (length entry.bytes) (length after.bytes) answers later (grows_from (length entry.bytes) (length mid.bytes) (length after.bytes) later first.no_shorter rest.grows);
+    advances = advances_then entry mid after goes on;
+    grows = grows_answers (length entry.bytes) (length after.bytes) answers later (grows_from (length entry.bytes) (length mid.bytes) (length after.bytes) later goes.no_shorter rest.grows);
     answers = answers;
     trap = None;
     later = later;
     in_parts = refl;
     no_more = rest.no_more;
-    accepted = accepted_after callee fuel mid after later answers e rest.cause (good_later (length mid.bytes) (length after.bytes) answers second.no_shorter low.start.good);
+    turns = rest.turns;
+    starts = rest.starts;
+    asks = λ none. at_most (asks_in (first ++ later)) (asks_in later) limits.turns asks_later (rest.asks (λ is. none (ap Err (err_same {T = Vec Val Global} e error.TurnsExhausted is))));
+    accepted = accepted_after callee limits mid after later answers e rest.cause (good_later (length mid.bytes) (length after.bytes) answers on.no_shorter low.start.good);
     marks = marks ∙ low.marks;
     requested = λ ts have. record { left = []; met = low.requested ts have; all = each_start ([] ≡ []) refl later };
     quiet = asks_started callee.params (lowering_ending (Err e)) answers low.quiet;
     given = given;
-    handles = inr (inr (l1, took, stops_after callee (stopped_by e) l1 l2 answers later rest.handles));
-    start = each_then _ (events_of answers None) later (each_answer _ (λ c a. tt) (λ c n. tt) answers None) (on_start words mid.bytes _ low.start later rest.start);
+    handles = inr (inr (l1, took, rest.handles.0, rest.handles.1, stops_after callee e rest.handles.0 l2 first later early rest.handles.2));
+    start = each_then _ first later (each_answer _ (λ c a. tt) (λ c n. tt) answers None) (on_start words mid.bytes _ low.start later rest.start);
     only_results = tt;
     posted = posted_after rest.posted;
     leaves = tt;
-    cause = cause_after callee fuel params entry mid after (events_of answers None) later e first.traps_later rest.cause;
-    valid = λ ts have small lawful calm quiet right accepted. rest.valid (λ h. calm (ends_after IsTrap (events_of answers None) later h)) (each_after IsNoAsk (events_of answers None) later quiet)
-        (each_after (OnReturn (λ ws m. (us : Trees) × RepResults false callee.encoding (narrow m) ws callee.results us × (members_cost callee.results us ≤ fuel))) (events_of answers None) later right) (accepts_rest took accepted);
+    cause = cause_after callee limits params entry mid after (events_of answers None) later e asks_later goes.traps_later rest.cause;
+    valid = λ ts have small lawful calm few right accepted. rest.valid (λ h. calm (ends_after IsTrap first later h)) (at_most (asks_in later) (asks_in (first ++ later)) limits.turns (sym asks_later) few)
+        (each_after _ first later right) (accepts_rest rest.turns took accepted);
   }
 
 -- ---- it wasn't
@@ -280,21 +262,25 @@ last_lawful : (answers : List Answer) (a : ℕ) (Bad : Answer → Type 0) → ((
 last_lawful answers a Bad f (prefix, x, e, is, bad) lawful = f x bad (lawful_second prefix (x ∷ []) (subst AllLawful e lawful)).0
 
 -- why a lowering was refused, and that a valid call isn't
-record Refused (callee : Callee) (fuel : ℕ) (params : List Val) (entry after : Moment) (before : LedgerState) (events : List Event) (answers : List Answer) (trap : Option Trap) (f : Fault) : Type 0 where
+record Refused (callee : Callee) (limits : Limits) (params : List Val) (entry after : Moment) (before : LedgerState) (events : List Event) (answers : List Answer) (trap : Option Trap) (f : Fault) : Type 0 where
   late : TrapsLate (length entry.bytes) trap
   accepted : Accepted (fault_ending f) (length after.bytes) answers
-  cause : Cause callee fuel params entry after events (error.Fault f)
-  valid : (ts : Trees) → HaveTrees callee.params params ts → AreSmall callee.encoding callee.params params → AllLawful answers → ¬ EndsIn IsTrap events → Accepts callee params before events → f ≡ fault.OutOfMemory
+  cause : Cause callee limits params entry after events (error.Fault f)
+  valid : (ts : Trees) → HaveTrees callee.params params ts → AreSmall callee.encoding callee.params params → AllLawful answers → ¬ EndsIn IsTrap events → Accepts callee params [] before events → f ≡ fault.OutOfMemory
 
-module _ (Leaves : List ℕ → List ℕ → Type 0) (callee : Callee) (fuel : ℕ) (params : List Val) (entry after : Moment) (before left : LedgerState) where
+module _ (Leaves : List ℕ → List ℕ → Type 0) (callee : Callee) (limits : Limits) (params : List Val) (entry after : Moment) (before left : LedgerState) where
+  no_asks : (answers : List Answer) (trap : Option Trap) → asks_in (events_of answers trap) ≤ limits.turns
+  no_asks answers trap =
+      let none : asks_in (events_of answers trap) ≡ 0 = ap asks_in (sym (append-nil (events_of answers trap))) ∙ asks_answers answers trap [] in
+      omega (arith, none)
+
   made : (results : List Val) (f : Fault) (answers : List Answer) (trap : Option Trap) → Advances entry after → AsksByTypes callee.params (fault_ending f) answers trap → after.guest.marks ≡ entry.guest.marks ++ marks_of answers
       → ((ts : Trees) → HaveTrees callee.params params ts → (left : List Request) × ((last : ℕ) → Meets last (params_requests false callee.encoding callee.params ts) answers trap left))
-      → HandlesPass callee params before left [] (Err (error.Fault f)) results (events_of answers trap)
-      → Refused callee fuel params entry after before (events_of answers trap) answers trap f → IsCall Leaves callee fuel params entry after before left (Err (error.Fault f)) results (events_of answers trap)
+      → HandlesPass callee params [] before left [] (Err (error.Fault f)) results (events_of answers trap)
+      → Refused callee limits params entry after before (events_of answers trap) answers trap f → IsCall Leaves callee limits params entry after before left (Err (error.Fault f)) results (events_of answers trap)
   made results f answers trap advances quiet marks met handles because = record {
     one_run = tt;
     prefix = prefix_of callee.func callee.post (length entry.bytes) answers trap because.late;
-    no_resume = each_answer IsNoResume (λ c a. tt) (λ c n. tt) answers trap;
     advances = advances;
     grows = grows_request (length entry.bytes) (length after.bytes) answers trap because.late advances.no_shorter;
     answers = answers;
@@ -302,6 +288,9 @@ module _ (Leaves : List ℕ → List ℕ → Type 0) (callee : Callee) (fuel : �
     later = [];
     in_parts = sym (append-nil (events_of answers trap));
     no_more = tt;
+    turns = [];
+    starts = inl (refl, refl);
+    asks = λ none. no_asks answers trap;
     accepted = because.accepted;
     marks = marks;
     quiet = quiet;
@@ -317,7 +306,7 @@ module _ (Leaves : List ℕ → List ℕ → Type 0) (callee : Callee) (fuel : �
   }
 
   -- memory ran out before a request
-  pub short_call : after ≡ entry → ((results : List Val) → HandlesPass callee params before left [] (Err (error.Fault fault.OutOfMemory)) results []) → CoreCall Leaves callee fuel params entry after before left (Err (error.Fault fault.OutOfMemory)) []
+  pub short_call : after ≡ entry → ((results : List Val) → HandlesPass callee params [] before left [] (Err (error.Fault fault.OutOfMemory)) results []) → CoreCall Leaves callee limits params entry after before left (Err (error.Fault fault.OutOfMemory)) []
   short_call e handles results = made results fault.OutOfMemory [] None (subst (λ m. Advances entry m) (sym e) (record { no_shorter = omega arith; traps_later = omega arith; shortages_later = omega arith })) (λ near none. (refl, refl), λ far. (refl, λ none. tt)) (ap (λ m. m.guest.marks) e ∙ sym (append-nil entry.guest.marks))
       (λ ts have. (params_requests false callee.encoding callee.params ts, λ last. refl)) (handles results)
       (record { late = tt; accepted = tt; cause = tt; valid = λ ts have small lawful calm accepted. refl })
@@ -326,7 +315,7 @@ module _ (Leaves : List ℕ → List ℕ → Type 0) (callee : Callee) (fuel : �
   Low words handles ending = LowersArgs false entry after callee.encoding callee.params (HaveTrees callee.params params) words handles ending
 
   abbrev Why : (f : Fault) (ending : Ending) (words handles : List ℕ) → Low words handles ending → Type 0
-  Why f ending words handles low = Refused callee fuel params entry after before (events_of low.answers low.trap) low.answers low.trap f
+  Why f ending words handles low = Refused callee limits params entry after before (events_of low.answers low.trap) low.answers low.trap f
 
   -- the parameters aren't of their types, or one is too large
   abbrev Unlike : Type 0
@@ -336,8 +325,8 @@ module _ (Leaves : List ℕ → List ℕ → Type 0) (callee : Callee) (fuel : �
   unfit how j is fails ts have small = failure_excludes how callee.params params j ts is fails have
 
   -- no request trapped, and the value is to blame
-  blamed : (f : Fault) (answers : List Answer) (trap : Option Trap) → trap ≡ None → Accepted (fault_ending f) (length after.bytes) answers → Unlike → Cause callee fuel params entry after (events_of answers trap) (error.Fault f)
-      → Refused callee fuel params entry after before (events_of answers trap) answers trap f
+  blamed : (f : Fault) (answers : List Answer) (trap : Option Trap) → trap ≡ None → Accepted (fault_ending f) (length after.bytes) answers → Unlike → Cause callee limits params entry after (events_of answers trap) (error.Fault f)
+      → Refused callee limits params entry after before (events_of answers trap) answers trap f
   blamed f answers trap none accepted unlike cause = record {
     late = subst (λ o. TrapsLate (length entry.bytes) o) (sym none) tt;
     accepted = accepted;
@@ -367,7 +356,7 @@ module _ (Leaves : List ℕ → List ℕ → Type 0) (callee : Callee) (fuel : �
 
   -- the ledger refused a handle
   ledger_by : (r : ResourceFault) (answers : List Answer) (trap : Option Trap) → trap ≡ None → Accepted refused (length after.bytes) answers → refusal_of r ≡ Some r → LeavesStop (refusal_of r) (enter before) (param_parts callee params) left
-      → Refused callee fuel params entry after before (events_of answers trap) answers trap (fault.Resource r)
+      → Refused callee limits params entry after before (events_of answers trap) answers trap (fault.Resource r)
   ledger_by r answers trap none accepted told stops = record {
     late = subst (λ o. TrapsLate (length entry.bytes) o) (sym none) tt;
     accepted = accepted;
@@ -449,7 +438,7 @@ module _ (Leaves : List ℕ → List ℕ → Type 0) (callee : Callee) (fuel : �
   asks_as f ending answers trap is h = subst (λ end. AsksByTypes callee.params end answers trap) is h
 
   pub refused_call : (f : Fault) (ending : Ending) (words handles : List ℕ) (low : Low words handles ending) → EndsAs {T = Unit {0}} true (all_passes callee.params params) (Err f) ending → BlamesMembers callee.encoding callee.params params f → told_fault f ≡ f
-      → AsksByTypes callee.params ending low.answers low.trap → LeavesStop (stop_of f) (enter before) (param_parts callee params) left → CoreCall Leaves callee fuel params entry after before left (Err (error.Fault f)) (events_of low.answers low.trap)
+      → AsksByTypes callee.params ending low.answers low.trap → LeavesStop (stop_of f) (enter before) (param_parts callee params) left → CoreCall Leaves callee limits params entry after before left (Err (error.Fault f)) (events_of low.answers low.trap)
   refused_call f ending words handles low is blames told quiet stops results =
       made results f low.answers low.trap (goes_advance entry after _ _ low.lowering.goes) (asks_as f ending low.answers low.trap is quiet) low.lowering.goes.marks (λ ts have. ((low.requested ts have).rest, (low.requested ts have).met))
       (inr (inl (none_started low.answers low.trap, stops))) (refused_so f ending words handles low is blames told stops)

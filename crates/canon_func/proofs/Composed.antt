@@ -1,5 +1,5 @@
 -- One step of a call after another.
-use Rattle.std.proofs.Common.{Err, List, None, Ok, Result, Some, Vec, Global, [], ap, arith, inl, inr, length, refl, subst, sym, ℕ, ◌++◌, ◌∙◌, ◌∷◌, ◌≡◌}
+use Rattle.std.proofs.Common.{Err, List, None, Ok, Result, Some, Vec, Global, [], ap, append_assoc, arith, inl, inr, length, refl, subst, sym, ℕ, ⊎_elim, ◌++◌, ◌∙◌, ◌∷◌, ◌≡◌, ◌≤◌}
 use Rattle.std.specs.Prelude.{IfErr, IsSome, false}
 use Rattle.std.proofs.lemmas.List.{append-nil}
 use Rattle.canon_memory.specs.declared.error.GuestFault.{GuestFault}
@@ -19,15 +19,17 @@ use Rattle.canon_lowering.specs.Lowering.{done, events_of, marks_of}
 use Rattle.canon_value.specs.Value.{HaveTrees}
 use Rattle.canon_context.specs.declared.fault.Fault.TheVariants as fault
 use Rattle.canon_value.specs.declared.val.Val.{Val}
-use Rattle.canon_func.specs.Call.{Adding, IsCall, Left, OnAnswered, param_parts, result_words}
-use Rattle.canon_func.specs.Runs.{posts}
-use Rattle.canon_func.specs.Steps.{Concluded, CoreCall, Proceeds, IsLate, IsRest, Lifted, LoweredArgs, Posted, RestCause, Started}
+use Rattle.canon_func.specs.Asks.{Limits}
+use Rattle.canon_func.specs.Call.{Adding, Advances, IsCall, Left, OnAnswered, param_parts, result_words}
+use Rattle.canon_func.specs.Runs.{AskTurn, events_in, posts}
+use Rattle.canon_func.specs.Steps.{Concluded, CoreCall, Proceeds, IsLate, IsRest, Lifted, LoweredArgs, MayRun, Posted, Ran, RestCause, so_far}
 use Rattle.canon_func.specs.Stores.{Callee}
 use Rattle.canon_func.specs.declared.error.Error.{Error}
 use Rattle.canon_func.specs.declared.error.Error.TheVariants as error
 use Rattle.canon_func.proofs.Calls.{goes_advance, joined, ready, refused_call, short_call}
 use Rattle.canon_func.proofs.Handled.{lifted_stops}
-use Rattle.canon_func.proofs.Rests.{rest_of_return, rest_of_start, words_of_results}
+use Rattle.canon_func.proofs.Turns.{err_same, not_ok}
+use Rattle.canon_func.proofs.Rests.{rest_of_none, rest_of_tail, returned_rest, stopped_rest, words_of_results}
 
 -- what follows from a fact for every answer but want of memory
 pub answered : {T : Type 0} (r : Result T Error) (P Q : Type 0) → (P → Q) → OnAnswered r P → OnAnswered r Q
@@ -48,21 +50,45 @@ retyped T U e P h = h
 other : guest.OutOfMemory ≡ guest.Trap → ⊥
 other e = cc
 
-module _ (Leaves : List ℕ → List ℕ → Type 0) (callee : Callee) (fuel : ℕ) (words : List ℕ) (l l2 : LedgerState) where
+module _ (Leaves : List ℕ → List ℕ → Type 0) (callee : Callee) (limits : Limits) (words : List ℕ) where
+  -- how the guest ran, and what came after its return
+  joined_run : (before : Moment) (turns : List AskTurn) (ret : Event) (later : List Event) → so_far callee words before turns (ret ∷ []) ++ later ≡ so_far callee words before turns (ret ∷ later)
+  joined_run before turns ret later = ap (λ es. event.Start callee.func words before.bytes ∷ es) (append_assoc (events_in turns) (ret ∷ []) later)
+
+  rest_returned : (a b c : Moment) (l m l2 : LedgerState) (returned : List ℕ) (answer : Result (Vec Val Global) Error) (xs later : List Event) → Advances a b → Advances b c → Ran callee limits.turns words a b l m (Ok returned) xs
+      → Concluded Leaves callee limits.fuel returned b c m l2 answer later → IsRest Leaves callee limits words a c l l2 answer (xs ++ later)
+  rest_returned a b c l m l2 returned answer xs later f g ran concluded =
+      let tail : List Event = event.Return returned b.bytes ∷ later in
+      let events : xs ++ later ≡ so_far callee words a ran.turns tail =
+      ap (λ es. es ++ later) (ran.is ∙ ap (λ es. so_far callee words a ran.turns es) ran.stopped.0) ∙ joined_run a ran.turns (event.Return returned b.bytes) later in
+      subst (λ es. IsRest Leaves callee limits words a c l l2 answer es) (sym events)
+      (rest_of_tail Leaves callee limits words a c l ran.served l2 ran.turns ran.len ran.asked answer tail
+      (returned_rest Leaves callee limits a b c (length ran.turns) ran.len ran.served l2 returned answer later ran.few ran.longer f g
+      (subst (λ k. Concluded Leaves callee limits.fuel returned b c k l2 answer later) ran.stopped.1 concluded)))
+
   -- the guest returned
-  pub run_returned : (a b c : Moment) (returned : List ℕ) (answer : Result (Vec Val Global) Error) (M N O : List Event → Type 0) → ((xs ys : List Event) → M xs → N ys → O (xs ++ ys))
-      → Proceeds a b M (Started callee.func words a b (Ok returned)) → Proceeds b c N (Concluded Leaves callee fuel returned b c l l2 answer) → Proceeds a c O (IsRest Leaves callee fuel words a c l l2 answer)
-  run_returned a b c returned answer M N O f first second = record {
+  pub run_returned : (a b c : Moment) (l m l2 : LedgerState) (returned : List ℕ) (answer : Result (Vec Val Global) Error) (M N O : List Event → Type 0) → ((xs ys : List Event) → M xs → N ys → O (xs ++ ys))
+      → Proceeds a b M (MayRun callee limits.turns words a b l m (Ok returned)) → Proceeds b c N (Concluded Leaves callee limits.fuel returned b c m l2 answer) → Proceeds a c O (IsRest Leaves callee limits words a c l l2 answer)
+  run_returned a b c l m l2 returned answer M N O f first second = record {
     events = first.events ++ second.events;
     goes = goes_then a b c [] [] first.events second.events first.goes second.goes;
     moves = f first.events second.events first.moves second.moves;
-    so = subst (λ es. IsRest Leaves callee fuel words a c l l2 answer (es ++ second.events)) (sym first.so) (rest_of_return Leaves callee fuel words a b c l l2 returned answer second.events (goes_advance a b _ _ first.goes) (goes_advance b c _ _ second.goes) second.so);
+    so = ⊎_elim (λ none. absurd (not_ok returned (error.Fault fault.OutOfMemory) none.0))
+        (λ ran. rest_returned a b c l m l2 returned answer first.events second.events (goes_advance a b _ _ first.goes) (goes_advance b c _ _ second.goes) ran second.so) first.so;
   }
 
-  -- it didn't
-  pub run_refused : (a b : Moment) (e : Error) (M : List Event → Type 0) → Proceeds a b M (Started callee.func words a b (Err e)) → Proceeds a b M (IsRest Leaves callee fuel words a b l l (Err e))
-  run_refused a b e M first = record { events = first.events; goes = first.goes; moves = first.moves; so = rest_of_start Leaves callee fuel words a b l first.goes.no_shorter e first.events first.so }
+  rest_stopped : (a b : Moment) (l l2 : LedgerState) (e : Error) (xs : List Event) → length a.bytes ≤ length b.bytes → MayRun callee limits.turns words a b l l2 (Err e) xs → IsRest Leaves callee limits words a b l l2 (Err e) xs
+  rest_stopped a b l l2 e xs longer (inl (is, none, same)) =
+      subst (λ k. IsRest Leaves callee limits words a b l k (Err e) xs) (sym same) (subst (λ es. IsRest Leaves callee limits words a b l l (Err e) es) (sym none)
+      (subst (λ r. IsRest Leaves callee limits words a b l l (Err r) []) (sym (err_same {T = List ℕ} e (error.Fault fault.OutOfMemory) is)) (rest_of_none Leaves callee limits words a b l longer)))
+  rest_stopped a b l l2 e xs longer (inr ran) = subst (λ es. IsRest Leaves callee limits words a b l l2 (Err e) es) (sym ran.is)
+      (rest_of_tail Leaves callee limits words a b l ran.served l2 ran.turns ran.len ran.asked (Err e) ran.tail (stopped_rest Leaves callee limits a b (length ran.turns) ran.len ran.served l2 e ran.tail ran.longer ran.few ran.stopped))
 
+  -- it didn't
+  pub run_refused : (a b : Moment) (l l2 : LedgerState) (e : Error) (M : List Event → Type 0) → Proceeds a b M (MayRun callee limits.turns words a b l l2 (Err e)) → Proceeds a b M (IsRest Leaves callee limits words a b l l2 (Err e))
+  run_refused a b l l2 e M first = record { events = first.events; goes = first.goes; moves = first.moves; so = rest_stopped a b l l2 e first.events first.goes.no_shorter first.so }
+
+module _ (Leaves : List ℕ → List ℕ → Type 0) (callee : Callee) (fuel : ℕ) (words : List ℕ) (l l2 : LedgerState) where
   -- ---- after the return
 
   -- no fault of lifting is a trap
@@ -137,14 +163,16 @@ module _ (Leaves : List ℕ → List ℕ → Type 0) (callee : Callee) (words : 
 -- ---- the whole
 
 -- none of the refusals before the guest is entered
-pub rest_is_late : (callee : Callee) (fuel : ℕ) (a b : Moment) (es : List Event) (r : Result (Vec Val Global) Error) → IfErr r (RestCause callee fuel a b es) → IfErr r IsLate
-rest_is_late callee fuel a b es (Ok vals) h = tt
-rest_is_late callee fuel a b es (Err error.WrongCount) h = absurd h
-rest_is_late callee fuel a b es (Err error.AsyncLifted) h = absurd h
-rest_is_late callee fuel a b es (Err error.CannotEnterComponent) h = absurd h
-rest_is_late callee fuel a b es (Err error.WrongWords) h = refl
-rest_is_late callee fuel a b es (Err (error.UnknownImport n)) h = refl
-rest_is_late callee fuel a b es (Err (error.Fault f)) h = refl
+pub rest_is_late : (callee : Callee) (limits : Limits) (a b : Moment) (es : List Event) (r : Result (Vec Val Global) Error) → IfErr r (RestCause callee limits a b es) → IfErr r IsLate
+rest_is_late callee limits a b es (Ok vals) h = tt
+rest_is_late callee limits a b es (Err error.WrongCount) h = absurd h
+rest_is_late callee limits a b es (Err error.AsyncLifted) h = absurd h
+rest_is_late callee limits a b es (Err error.CannotEnterComponent) h = absurd h
+rest_is_late callee limits a b es (Err error.WrongWords) h = refl
+rest_is_late callee limits a b es (Err (error.UnknownImport n)) h = refl
+rest_is_late callee limits a b es (Err error.TurnsExhausted) h = refl
+rest_is_late callee limits a b es (Err (error.ImportFault n f)) h = refl
+rest_is_late callee limits a b es (Err (error.Fault f)) h = refl
 
 pub lowered_is_late : (callee : Callee) (params : List Val) (a b : Moment) (l l2 : LedgerState) (es : List Event) (e : Error) → LoweredArgs callee params a b l l2 (Err e) es → IsLate e
 lowered_is_late callee params a b l l2 es (error.Fault f) h = refl
@@ -153,36 +181,40 @@ lowered_is_late callee params a b l l2 es error.AsyncLifted h = absurd h
 lowered_is_late callee params a b l l2 es error.CannotEnterComponent h = absurd h
 lowered_is_late callee params a b l l2 es error.WrongWords h = absurd h
 lowered_is_late callee params a b l l2 es (error.UnknownImport n) h = absurd h
+lowered_is_late callee params a b l l2 es error.TurnsExhausted h = absurd h
+lowered_is_late callee params a b l l2 es (error.ImportFault n f) h = absurd h
 
-module _ (Leaves : List ℕ → List ℕ → Type 0) (callee : Callee) (fuel : ℕ) (params : List Val) where
+module _ (Leaves : List ℕ → List ℕ → Type 0) (callee : Callee) (limits : Limits) (params : List Val) where
   -- memory ran out for the scope
   pub scope_short : (s : Seen) (bytes : List ℕ) (l0 l2 : LedgerState) (M : List Event → Type 0) → l2 ≡ l0 → (IsSome s.journal → M [])
-      → Adding (moment s bytes) (moment s bytes) M (CoreCall Leaves callee fuel params (moment s bytes) (moment s bytes) l0 l2 (Err (error.Fault fault.OutOfMemory)))
+      → Adding (moment s bytes) (moment s bytes) M (CoreCall Leaves callee limits params (moment s bytes) (moment s bytes) l0 l2 (Err (error.Fault fault.OutOfMemory)))
   scope_short s bytes l0 l2 M same stays = record {
     events = [];
     added = (goes_none s bytes bytes (omega arith)).events;
     moves = stays;
-    so = short_call Leaves callee fuel params (moment s bytes) (moment s bytes) l0 l2 refl (λ results. inl (refl, refl, same));
+    so = short_call Leaves callee limits params (moment s bytes) (moment s bytes) l0 l2 refl (λ results. inl (refl, refl, same));
   }
 
-  core_refused : (a b : Moment) (l0 l2 : LedgerState) (e : Error) (es : List Event) → LoweredArgs callee params a b (enter l0) l2 (Err e) es → CoreCall Leaves callee fuel params a b l0 l2 (Err e) es
-  core_refused a b l0 l2 (error.Fault f) es (inl (short, same, kept, none)) = subst (λ fs. CoreCall Leaves callee fuel params a b l0 l2 (Err (error.Fault f)) fs) (sym none)
-      (subst (λ g. CoreCall Leaves callee fuel params a b l0 l2 (Err (error.Fault g)) []) (sym short) (short_call Leaves callee fuel params a b l0 l2 same (λ results. inr (inl (tt, stops_at_once (enter l0) l2 (param_parts callee params) kept)))))
-  core_refused a b l0 l2 (error.Fault f) es (inr (words, handles, ending, low, ends, blames, told, is, quiet, stops)) = subst (λ fs. CoreCall Leaves callee fuel params a b l0 l2 (Err (error.Fault f)) fs) (sym is)
-      (refused_call Leaves callee fuel params a b l0 l2 f ending words handles low ends blames told quiet stops)
+  core_refused : (a b : Moment) (l0 l2 : LedgerState) (e : Error) (es : List Event) → LoweredArgs callee params a b (enter l0) l2 (Err e) es → CoreCall Leaves callee limits params a b l0 l2 (Err e) es
+  core_refused a b l0 l2 (error.Fault f) es (inl (short, same, kept, none)) = subst (λ fs. CoreCall Leaves callee limits params a b l0 l2 (Err (error.Fault f)) fs) (sym none)
+      (subst (λ g. CoreCall Leaves callee limits params a b l0 l2 (Err (error.Fault g)) []) (sym short) (short_call Leaves callee limits params a b l0 l2 same (λ results. inr (inl (tt, stops_at_once (enter l0) l2 (param_parts callee params) kept)))))
+  core_refused a b l0 l2 (error.Fault f) es (inr (words, handles, ending, low, ends, blames, told, is, quiet, stops)) = subst (λ fs. CoreCall Leaves callee limits params a b l0 l2 (Err (error.Fault f)) fs) (sym is)
+      (refused_call Leaves callee limits params a b l0 l2 f ending words handles low ends blames told quiet stops)
   core_refused a b l0 l2 error.WrongCount es h = absurd h
   core_refused a b l0 l2 error.AsyncLifted es h = absurd h
   core_refused a b l0 l2 error.CannotEnterComponent es h = absurd h
   core_refused a b l0 l2 error.WrongWords es h = absurd h
   core_refused a b l0 l2 (error.UnknownImport n) es h = absurd h
+  core_refused a b l0 l2 error.TurnsExhausted es h = absurd h
+  core_refused a b l0 l2 (error.ImportFault n f) es h = absurd h
 
   -- a call in the scope that was opened on its ledger
   abbrev pub InScope : LedgerState → Moment → Moment → LedgerState → Result (Vec Val Global) Error → List Event → Type 0
-  InScope l a b l2 answer es = (l0 : LedgerState) → enter l0 ≡ l → CoreCall Leaves callee fuel params a b l0 l2 answer es
+  InScope l a b l2 answer es = (l0 : LedgerState) → enter l0 ≡ l → CoreCall Leaves callee limits params a b l0 l2 answer es
 
   -- the parameters were lowered
   pub call_started : (a b c : Moment) (l l1 l2 : LedgerState) (words : Vec ℕ Global) (answer : Result (Vec Val Global) Error) (M N O : List Event → Type 0) → ((xs ys : List Event) → M xs → N ys → O (xs ++ ys))
-      → Adding a b M (LoweredArgs callee params a b l l1 (Ok words)) → Proceeds b c N (IsRest Leaves callee fuel words.items b c l1 l2 answer) → Adding a c O (InScope l a c l2 answer)
+      → Adding a b M (LoweredArgs callee params a b l l1 (Ok words)) → Proceeds b c N (IsRest Leaves callee limits words.items b c l1 l2 answer) → Adding a c O (InScope l a c l2 answer)
   call_started a b c l l1 l2 words answer M N O f first second =
       let low : LowersArgs false a b callee.encoding callee.params (HaveTrees callee.params params) words.items first.so.0 done = first.so.1 in
       let xs : List Event = events_of low.answers low.trap in
@@ -191,8 +223,8 @@ module _ (Leaves : List ℕ → List ℕ → Type 0) (callee : Callee) (fuel : �
         events = xs ++ ys;
         added = (goes_then a b c (marks_of low.answers) [] xs ys low.lowering.goes second.goes).events;
         moves = λ there. f xs ys (subst M first.so.2 (first.moves there)) second.moves;
-        so = λ l0 entered. subst (λ o. CoreCall Leaves callee fuel params a c l0 l2 answer (events_of low.answers o ++ ys)) (sym low.lowering.cause)
-            (joined Leaves callee fuel params a b c l0 l1 l2 words.items low.answers first.so.0 ys answer (ready callee params a b words.items low first.so.3 first.so.4 first.so.5)
+        so = λ l0 entered. subst (λ o. CoreCall Leaves callee limits params a c l0 l2 answer (events_of low.answers o ++ ys)) (sym low.lowering.cause)
+            (joined Leaves callee limits params a b c l0 l1 l2 words.items low.answers first.so.0 ys answer (ready callee params a b words.items low first.so.3 first.so.4 first.so.5)
             (subst (λ k. LeavesTake k (param_parts callee params) first.so.0 l1) (sym entered) first.so.6)
             (goes_advance a b _ _ low.lowering.goes) (goes_advance b c _ _ second.goes) (second.goes.marks ∙ append-nil b.guest.marks) second.so);
       }
@@ -207,9 +239,9 @@ module _ (Leaves : List ℕ → List ℕ → Type 0) (callee : Callee) (fuel : �
   }
 
   -- the scope was opened
-  pub entered_call : (a b : Moment) (l0 l l2 : LedgerState) (answer : Result (Vec Val Global) Error) (M : List Event → Type 0) → l ≡ enter l0 → Adding a b M (InScope l a b l2 answer) → Adding a b M (CoreCall Leaves callee fuel params a b l0 l2 answer)
+  pub entered_call : (a b : Moment) (l0 l l2 : LedgerState) (answer : Result (Vec Val Global) Error) (M : List Event → Type 0) → l ≡ enter l0 → Adding a b M (InScope l a b l2 answer) → Adding a b M (CoreCall Leaves callee limits params a b l0 l2 answer)
   entered_call a b l0 l l2 answer M entered h = record { events = h.events; added = h.added; moves = h.moves; so = h.so l0 (sym entered) }
 
   -- it is refused, whatever the results
-  pub call_left : (a b : Moment) (l0 l2 : LedgerState) (e : Error) (results : List Val) (M : List Event → Type 0) → Adding a b M (CoreCall Leaves callee fuel params a b l0 l2 (Err e)) → Adding a b M (IsCall Leaves callee fuel params a b l0 l2 (Err e) results)
+  pub call_left : (a b : Moment) (l0 l2 : LedgerState) (e : Error) (results : List Val) (M : List Event → Type 0) → Adding a b M (CoreCall Leaves callee limits params a b l0 l2 (Err e)) → Adding a b M (IsCall Leaves callee limits params a b l0 l2 (Err e) results)
   call_left a b l0 l2 e results M h = record { events = h.events; added = h.added; moves = h.moves; so = h.so results }

@@ -6,16 +6,16 @@ use Rattle.canon_ledger.specs.declared.fault.ResourceFault.{ResourceFault}
 use Rattle.canon_leaves.proofs.Leaves.{leaf_same, leaves_stop_then}
 use Rattle.canon_leaves.proofs.Lifts.{lifts_take}
 use Rattle.canon_leaves.specs.Parts.{LeavesStop, LeavesTake, Part, Stops, Takes, do_part}
-use Rattle.canon_lowering.specs.Lowering.{Answer, events_of}
 use Rattle.canon_memory.specs.declared.event.Event.{Event}
 use Rattle.canon_memory.specs.declared.event.Event.TheVariants as event
 use Rattle.canon_resources.specs.Held.{Any}
-use Rattle.canon_func.specs.Call.{LiftsReturned, StopsLater, StopsReturned, result_parts, returned_leaves, scope_exit}
+use Rattle.canon_func.specs.Call.{LiftsReturned, StopsLater, StopsReturned, StopsStarted, result_parts, returned_leaves, scope_exit, stopped_by}
 use Rattle.canon_func.specs.Runs.{Each, EndsIn, IsNoPost, IsTrap, SomeReturn}
 use Rattle.canon_func.specs.Stores.{Callee}
-use Rattle.canon_func.proofs.Prefixes.{each_after, each_answer, each_then}
+use Rattle.canon_func.specs.declared.error.Error.{Error}
+use Rattle.canon_func.proofs.Prefixes.{IsEarly, each_after, ends_after, post_then, return_then}
 
--- ---- after the answers of `realloc`
+-- ---- after what stands before a return
 
 some_after : (P : List ℕ → List ℕ → Type 0) (xs ys : List Event) → SomeReturn P ys → SomeReturn P (xs ++ ys)
 some_after P [] ys h = h
@@ -32,10 +32,14 @@ calm_after : (P : List ℕ → List ℕ → Type 0) (xs later : List Event) → 
 calm_after P xs [] some calm = absurd some
 calm_after P xs (y ∷ later) some calm = λ h. calm (ends_later IsTrap xs y later h)
 
-pub stops_after : (callee : Callee) (why : Option ResourceFault) (l m : LedgerState) (answers : List Answer) (later : List Event) → StopsLater callee why l m later → StopsLater callee why l m (events_of answers None ++ later)
-stops_after callee why l m answers later (inl (none, same, each)) = inl (none, same, each_then _ (events_of answers None) later (each_answer _ (λ c a. tt) (λ c n. tt) answers None) each)
-stops_after callee why l m answers later (inr (inl (untold, calm, some))) = inr (inl (each_then IsNoPost (events_of answers None) later (each_answer IsNoPost (λ c a. tt) (λ c n. tt) answers None) untold, calm_after _ (events_of answers None) later some calm, some_after _ (events_of answers None) later some))
-stops_after callee why l m answers later (inr (inr (none, posts, some))) = inr (inr (none, (λ untold. posts (each_after IsNoPost (events_of answers None) later untold)), some_after _ (events_of answers None) later some))
+stops_later : (callee : Callee) (why : Option ResourceFault) (l m : LedgerState) (xs later : List Event) → Each IsEarly xs → StopsLater callee why l m later → StopsLater callee why l m (xs ++ later)
+stops_later callee why l m xs later early (inl (none, same, each)) = inl (none, same, return_then _ xs later early each)
+stops_later callee why l m xs later early (inr (inl (untold, calm, some))) = inr (inl (post_then xs later early untold, calm_after _ xs later some calm, some_after _ xs later some))
+stops_later callee why l m xs later early (inr (inr (none, posts, some))) = inr (inr (none, (λ untold. posts (each_after IsNoPost xs later untold)), some_after _ xs later some))
+
+pub stops_after : (callee : Callee) (e : Error) (l m : LedgerState) (xs later : List Event) → Each IsEarly xs → StopsStarted callee e l m later → StopsStarted callee e l m (xs ++ later)
+stops_after callee e l m xs later early (inl stops) = inl (stops_later callee (stopped_by e) l m xs later early stops)
+stops_after callee e l m xs later early (inr asked) = inr (ends_after _ xs later asked)
 
 -- ---- what is accepted isn't refused
 

@@ -10,3 +10,4 @@ pub mod Prefixes
 pub mod Rests
 pub mod Returned
 pub mod Scoped
+pub mod Turns

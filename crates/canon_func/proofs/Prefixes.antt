@@ -6,7 +6,7 @@ use Rattle.canon_memory.specs.declared.event.Event.{Event}
 use Rattle.canon_memory.specs.declared.event.Event.TheVariants as event
 use Rattle.canon_memory.specs.Journal.{answer_event, asked_trap, trap_event}
 use Rattle.canon_lowering.specs.Lowering.{Answer, Trap, events_of}
-use Rattle.canon_func.specs.Runs.{Each, EndsIn, Grows, IsOneRun, IsPrefixOfRun, IsRealloc, events_in, last_len, posts}
+use Rattle.canon_func.specs.Runs.{Each, EndsIn, Grows, IsNoPost, IsOneRun, IsPrefixOfRun, IsRealloc, OnLastAsk, OnReturn, asks_in, events_in, last_len, posts}
 
 -- ---- properties of events in a row
 
@@ -24,12 +24,52 @@ ends_after P (e ∷ []) [] h = absurd h
 ends_after P (e ∷ []) (f ∷ ys) h = h
 ends_after P (e ∷ f ∷ xs) ys h = ends_after P (f ∷ xs) ys h
 
+pub last_ask_after : (P : ℕ → List ℕ → Type 0) (xs ys : List Event) → OnLastAsk P (xs ++ ys) → OnLastAsk P ys
+last_ask_after P xs [] h = tt
+last_ask_after P [] (y ∷ ys) h = h
+last_ask_after P (x ∷ []) (y ∷ ys) h = h
+last_ask_after P (x ∷ z ∷ xs) (y ∷ ys) h = last_ask_after P (z ∷ xs) (y ∷ ys) h
+
+-- ---- what stands before a return and before a trap
+
+abbrev pub IsEarly : Event → Type 0
+IsEarly (event.Return ws m) = ⊥
+IsEarly (event.Post f ws) = ⊥
+IsEarly (event.Trap asked len) = ⊥
+IsEarly _ = ⊤
+
+pub early_return : (P : List ℕ → List ℕ → Type 0) (xs : List Event) → Each IsEarly xs → Each (OnReturn P) xs
+early_return P [] h = tt
+early_return P (event.Return ws m ∷ xs) h = absurd h.0
+early_return P (e ∷ xs) h = (tt, early_return P xs h.1)
+
+pub early_post : (xs : List Event) → Each IsEarly xs → Each IsNoPost xs
+early_post [] h = tt
+early_post (event.Post f ws ∷ xs) h = absurd h.0
+early_post (e ∷ xs) h = (tt, early_post xs h.1)
+
+pub return_then : (P : List ℕ → List ℕ → Type 0) (xs ys : List Event) → Each IsEarly xs → Each (OnReturn P) ys → Each (OnReturn P) (xs ++ ys)
+return_then P xs ys early h = each_then (OnReturn P) xs ys (early_return P xs early) h
+
+pub post_then : (xs ys : List Event) → Each IsEarly xs → Each IsNoPost ys → Each IsNoPost (xs ++ ys)
+post_then xs ys early h = each_then IsNoPost xs ys (early_post xs early) h
+
 -- ---- the events of answers
 
 pub each_answer : (P : Event → Type 0) → ((c : Call) (a : ℕ) → P (answer_event c a)) → ((c : Call) (n : ℕ) → P (asked_trap c n)) → (xs : List Answer) (trap : Option Trap) → Each P (events_of xs trap)
 each_answer P f g [] None = tt
 each_answer P f g [] (Some t) = (g t.call t.len, tt)
 each_answer P f g (x ∷ xs) trap = (f x.call x.at, each_answer P f g xs trap)
+
+pub answers_early : (xs : List Answer) → Each IsEarly (events_of xs None)
+answers_early [] = tt
+answers_early (x ∷ xs) = (tt, answers_early xs)
+
+-- they are no asks
+pub asks_answers : (xs : List Answer) (trap : Option Trap) (later : List Event) → asks_in (events_of xs trap ++ later) ≡ asks_in later
+asks_answers [] None later = refl
+asks_answers [] (Some t) later = refl
+asks_answers (x ∷ xs) trap later = asks_answers xs trap later
 
 pub answers_are : (xs : List Answer) → Each IsRealloc (events_of xs None)
 answers_are [] = tt
@@ -135,77 +175,3 @@ module _ (func : ℕ) (post : Option ℕ) where
     events_are = refl;
     may_trap = h;
   }
-
-  module _ (len : ℕ) (words memory : List ℕ) where
-    pub prefix_trapped : IsPrefixOfRun func post len (event.Start func words memory ∷ trap_event (length memory) ∷ [])
-    prefix_trapped = record {
-      run = event.Start func words memory ∷ event.Return [] [] ∷ posts post [];
-      one_run = plain_run words memory [] [];
-      prefix = event.Start func words memory ∷ [];
-      rest = event.Return [] [] ∷ posts post [];
-      trap = trap_event (length memory) ∷ [];
-      begins = refl;
-      events_are = refl;
-      may_trap = omega arith;
-    }
-
-    pub prefix_asked : (n : ℕ) (asked after : List ℕ) → IsPrefixOfRun func post len (event.Start func words memory ∷ event.Ask n asked after ∷ [])
-    prefix_asked n asked after = record {
-      run = event.Start func words memory ∷ event.Ask n asked after ∷ event.Resume [] [] ∷ event.Return [] [] ∷ posts post [];
-      one_run = (
-        words,
-        memory,
-        [],
-        [],
-        record {
-          reallocs = [];
-          only_reallocs = tt;
-          turns = record { index = n; words = asked; memory = after; reallocs = []; only_reallocs = tt; resumed_words = []; resumed_memory = [] } ∷ [];
-          is = refl;
-        },
-      );
-      prefix = event.Start func words memory ∷ event.Ask n asked after ∷ [];
-      rest = event.Resume [] [] ∷ event.Return [] [] ∷ posts post [];
-      trap = [];
-      begins = refl;
-      events_are = refl;
-      may_trap = tt;
-    }
-
-    module _ (returned after : List ℕ) where
-      pub prefix_returned : IsPrefixOfRun func post len (event.Start func words memory ∷ event.Return returned after ∷ [])
-      prefix_returned = record {
-        run = event.Start func words memory ∷ event.Return returned after ∷ posts post returned;
-        one_run = plain_run words memory returned after;
-        prefix = event.Start func words memory ∷ event.Return returned after ∷ [];
-        rest = posts post returned;
-        trap = [];
-        begins = refl;
-        events_are = refl;
-        may_trap = tt;
-      }
-
-      pub prefix_all : IsPrefixOfRun func post len (event.Start func words memory ∷ event.Return returned after ∷ posts post returned)
-      prefix_all = record {
-        run = event.Start func words memory ∷ event.Return returned after ∷ posts post returned;
-        one_run = plain_run words memory returned after;
-        prefix = event.Start func words memory ∷ event.Return returned after ∷ posts post returned;
-        rest = [];
-        trap = [];
-        begins = sym (append-nil (event.Start func words memory ∷ event.Return returned after ∷ posts post returned));
-        events_are = sym (append-nil (event.Start func words memory ∷ event.Return returned after ∷ posts post returned));
-        may_trap = tt;
-      }
-
-pub prefix_post_trapped : (func len p : ℕ) (words memory returned after : List ℕ)
-    → IsPrefixOfRun func (Some p) len (event.Start func words memory ∷ event.Return returned after ∷ event.Post p returned ∷ trap_event (length after) ∷ [])
-prefix_post_trapped func len p words memory returned after = record {
-  run = event.Start func words memory ∷ event.Return returned after ∷ event.Post p returned ∷ [];
-  one_run = plain_run func (Some p) words memory returned after;
-  prefix = event.Start func words memory ∷ event.Return returned after ∷ event.Post p returned ∷ [];
-  rest = [];
-  trap = trap_event (length after) ∷ [];
-  begins = refl;
-  events_are = refl;
-  may_trap = omega arith;
-}

@@ -1,5 +1,5 @@
 -- What a call did.
-use Rattle.std.specs.Prelude.{Bool, Err, IfErr, IsOkUnless, IsSome, List, None, Ok, OnOk, Option, Result, Some, [], false, if◌then◌else◌, length, map, nat_le, not, slice_index, true, ℕ, ⊤, ◌%◌, ◌&&◌, ◌++◌, ◌+◌, ◌<◌, ◌==◌, ◌∷◌, ◌≡◌, ◌≤◌, ◌⊎◌}
+use Rattle.std.specs.Prelude.{Bool, Err, IfErr, IsOkUnless, IsSome, List, None, Ok, OnOk, Option, Result, Some, [], false, if◌then◌else◌, length, map, nat_le, not, slice_get, slice_index, true, ℕ, ⊤, ◌%◌, ◌&&◌, ◌++◌, ◌+◌, ◌<◌, ◌==◌, ◌∷◌, ◌≡◌, ◌≢◌, ◌≤◌, ◌⊎◌}
 use Rattle.canon_model.specs.Cost.{members_cost}
 use Rattle.canon_model.specs.Flat.{RepArgs, RepResults, max_params, max_results}
 use Rattle.canon_model.specs.Homes.{ParamsHome, PointsTo}
@@ -36,7 +36,8 @@ use Rattle.canon_context.specs.declared.fault.At.{At}
 use Rattle.canon_context.specs.declared.fault.Fault.{Fault}
 use Rattle.canon_context.specs.declared.fault.Fault.TheVariants as fault
 use Rattle.canon_value.specs.declared.val.Val.{Val}
-use Rattle.canon_func.specs.Runs.{AsksImport, Each, EndsIn, Grows, IsAnswer, IsNoAsk, IsNoPost, IsNoRequest, IsNoResume, IsNoStart, IsOneRun, IsPrefixOfRun, IsReturn, IsTrap, OnReturn, OnStart, SomeReturn}
+use Rattle.canon_func.specs.Asks.{AreServed, AskStops, IsAccepted, Limits}
+use Rattle.canon_func.specs.Runs.{AskTurn, Each, EndsIn, Grows, IsAnswer, IsAsk, IsNoPost, IsNoRequest, IsNoStart, IsOneRun, IsPrefixOfRun, IsReturn, IsTrap, MayStart, OnLastAsk, OnReturn, OnStart, SomeReturn, asks_in}
 use Rattle.canon_func.specs.Stores.{Callee}
 use Rattle.canon_func.specs.declared.error.Error.{Error}
 use Rattle.canon_func.specs.declared.error.Error.TheVariants as error
@@ -59,6 +60,8 @@ refused_by (Err error.AsyncLifted) = Some error.AsyncLifted
 refused_by (Err error.CannotEnterComponent) = Some error.CannotEnterComponent
 refused_by (Err error.WrongWords) = None
 refused_by (Err (error.UnknownImport n)) = None
+refused_by (Err error.TurnsExhausted) = None
+refused_by (Err (error.ImportFault n f)) = None
 refused_by (Err (error.Fault f)) = None
 
 -- ---- at the start
@@ -143,14 +146,30 @@ FaultCause callee fuel params before after events fault.OutOfMemory = ⊤
 FaultCause callee fuel params before after events (fault.Resource e) = (refusal_of e ≡ Some e)
     × ((Each IsNoStart events × ¬ EndsIn IsTrap events) ⊎ EndsIn (IsReturn (λ words m. length words ≡ result_words callee.results)) events)
 
+-- the ledger refused it, which isn't want of memory
+abbrev pub IsRefusal : Fault → Type 0
+IsRefusal (fault.Resource e) = refusal_of e ≡ Some e
+IsRefusal _ = ⊥
+
+-- the guest asked last for an import that the component has, with these words
+abbrev pub EndsInKnownAsk : Callee → (ℕ → List ℕ → Type 0) → List Event → Type 0
+EndsInKnownAsk callee P events = EndsIn (IsAsk (λ index words. IsSome (slice_get callee.imports index) × P index words)) events
+
+-- Why an ask wasn't served: it is one more than the call has, it is of no import of the component, or of one that the ledger refused
+-- (`HandlesPass` says which step). An import takes one word.
+abbrev pub AskCause : Callee → Limits → List Event → Error → Type 0
+AskCause callee limits events error.TurnsExhausted = EndsIn (IsAsk (λ index words. ⊤)) events × (asks_in events ≡ limits.turns + 1)
+AskCause callee limits events (error.UnknownImport n) = EndsIn (IsAsk (λ index words. (index ≡ n) × (slice_get callee.imports index ≡ None))) events
+AskCause callee limits events error.WrongWords = EndsInKnownAsk callee (λ index words. ¬ (length words ≡ 1)) events
+AskCause callee limits events (error.ImportFault n f) = IsRefusal f × EndsInKnownAsk callee (λ index words. (index ≡ n) × (length words ≡ 1)) events
+AskCause callee limits events _ = ⊥
+
 -- why a call was refused with this error, which isn't one of those before the guest is entered
-abbrev pub Cause : Callee → ℕ → List Val → Moment → Moment → List Event → Error → Type 0
-Cause callee fuel params before after events (error.Fault f) = FaultCause callee fuel params before after events f
-Cause callee fuel params before after events error.WrongWords = EndsIn (IsReturn (λ words m. ¬ (length words ≡ result_words callee.results))) events
-Cause callee fuel params before after events (error.UnknownImport n) = EndsIn (AsksImport n) events
-Cause callee fuel params before after events error.WrongCount = ⊥
-Cause callee fuel params before after events error.AsyncLifted = ⊥
-Cause callee fuel params before after events error.CannotEnterComponent = ⊥
+abbrev pub Cause : Callee → Limits → List Val → Moment → Moment → List Event → Error → Type 0
+Cause callee limits params before after events (error.Fault f) = FaultCause callee limits.fuel params before after events f
+Cause callee limits params before after events error.WrongWords =
+    EndsIn (IsReturn (λ words m. ¬ (length words ≡ result_words callee.results))) events ⊎ AskCause callee limits events error.WrongWords
+Cause callee limits params before after events e = AskCause callee limits events e
 
 -- how lowering the parameters of a call that answered so ended: a fault of its own ended it, and it was done else
 abbrev pub lowering_ending : Result (Unit {0}) Error → Ending
@@ -205,23 +224,40 @@ StopsLater callee why before after events =
 -- the refusal of the ledger that a call answers, if it is one
 abbrev pub stopped_by : Error → Option ResourceFault
 stopped_by (error.Fault f) = stop_of f
+stopped_by (error.ImportFault n f) = stop_of f
 stopped_by _ = None
 
+-- from the start on: each ask that was resumed was served, in order; and then the ledger went on so
+abbrev pub AfterTurns : Callee → List AskTurn → LedgerState → (LedgerState → Type 0) → Type 0
+AfterTurns callee turns before P = (served : LedgerState) × AreServed callee turns before served × P served
+
+-- a call that was refused after its start stopped at an ask that it didn't resume, or otherwise
+abbrev pub StopsStarted : Callee → Error → LedgerState → LedgerState → List Event → Type 0
+StopsStarted callee e before after events =
+    StopsLater callee (stopped_by e) before after events ⊎ EndsIn (IsAsk (λ index words. AskStops callee e index words before after)) events
+
 -- What became of the ledger, by the call's events. At Ok a scope was opened, the handles of the parameters were lowered in it, in
--- order, and were given these numbers; and from the return on as above. A refused call stopped somewhere on this way, its scope is
--- left open, and a refusal of the ledger is that of the step at which it stopped. Where memory ran out for the scope, nothing was done.
-abbrev pub HandlesPass : Callee → List Val → LedgerState → LedgerState → List ℕ → Result (Unit {0}) Error → List Val → List Event → Type 0
-HandlesPass callee params before after given (Ok x) results events =
-    (lowered : LedgerState) × LeavesTake (enter before) (param_parts callee params) given lowered × Each (OnReturn (λ words m. Concludes callee words m results lowered after)) events
-HandlesPass callee params before after given (Err e) results events =
+-- order, and were given these numbers; each ask was served; and from the return on as above. A refused call stopped somewhere on this
+-- way, its scope is left open, and a refusal of the ledger is that of the step at which it stopped. Where memory ran out for the
+-- scope, nothing was done.
+abbrev pub HandlesPass : Callee → List Val → List AskTurn → LedgerState → LedgerState → List ℕ → Result (Unit {0}) Error → List Val → List Event → Type 0
+HandlesPass callee params turns before after given (Ok x) results events =
+    (lowered : LedgerState) × LeavesTake (enter before) (param_parts callee params) given lowered
+    × AfterTurns callee turns lowered (λ served. Each (OnReturn (λ words m. Concludes callee words m results served after)) events)
+HandlesPass callee params turns before after given (Err e) results events =
     ((e ≡ error.Fault fault.OutOfMemory) × (events ≡ []) × (after ≡ before))
     ⊎ (Each IsNoStart events × LeavesStop (stopped_by e) (enter before) (param_parts callee params) after)
-    ⊎ ((lowered : LedgerState) × LeavesTake (enter before) (param_parts callee params) given lowered × StopsLater callee (stopped_by e) lowered after events)
+    ⊎ ((lowered : LedgerState) × LeavesTake (enter before) (param_parts callee params) given lowered × AfterTurns callee turns lowered (λ served. StopsStarted callee e served after events))
 
--- the ledger accepts each handle of the parameters, and at the return the end of the scope and each handle of the results
-abbrev pub Accepts : Callee → List Val → LedgerState → List Event → Type 0
-Accepts callee params before events = (given : List ℕ) × (lowered : LedgerState) × LeavesTake (enter before) (param_parts callee params) given lowered
-    × Each (OnReturn (λ words m. (resources : List Any) × (lifted : LedgerState) × LiftsReturned callee words m resources lowered lifted)) events
+-- the ledger accepts the step of an ask that the guest ends in, and at a return the end of the scope and each handle of the results
+abbrev pub AcceptsLater : Callee → LedgerState → List Event → Type 0
+AcceptsLater callee before events = OnLastAsk (λ index words. IsAccepted callee index words before) events
+    × Each (OnReturn (λ words m. (resources : List Any) × (lifted : LedgerState) × LiftsReturned callee words m resources before lifted)) events
+
+-- the same of the whole call, after each handle of the parameters and each ask that was resumed
+abbrev pub Accepts : Callee → List Val → List AskTurn → LedgerState → List Event → Type 0
+Accepts callee params turns before events = (given : List ℕ) × (lowered : LedgerState) × LeavesTake (enter before) (param_parts callee params) given lowered
+    × AfterTurns callee turns lowered (λ served. AcceptsLater callee served events)
 
 -- ---- the whole
 
@@ -236,13 +272,12 @@ pub record Advances (before after : Moment) : Type 0 where
   pub traps_later : before.guest.traps ≤ after.guest.traps
   pub shortages_later : before.guest.shortages ≤ after.guest.shortages
 
--- A call that wasn't refused before the guest was entered, by its callee, the fuel of lifting, its parameters, the moments
+-- A call that wasn't refused before the guest was entered, by its callee, what it may use, its parameters, the moments
 -- and the ledgers before and after, its answer, the results that it leaves and the events that it adds to a told journal.
-pub record IsCall (Leaves : List ℕ → List ℕ → Type 0) (callee : Callee) (fuel : ℕ) (params : List Val) (before after : Moment) (ledger left : LedgerState) (answer : Result (Unit {0}) Error) (results : List Val) (events : List Event) : Type 0 where
-  -- The guest made one run; of a refused call the events are a prefix of one. No ask is resumed, since a component has no imports.
+pub record IsCall (Leaves : List ℕ → List ℕ → Type 0) (callee : Callee) (limits : Limits) (params : List Val) (before after : Moment) (ledger left : LedgerState) (answer : Result (Unit {0}) Error) (results : List Val) (events : List Event) : Type 0 where
+  -- The guest made one run; of a refused call the events are a prefix of one.
   pub one_run : OnOk answer (IsOneRun callee.func callee.post events)
   pub prefix : IsPrefixOfRun callee.func callee.post (length before.bytes) events
-  pub no_resume : Each IsNoResume events
   pub advances : Advances before after
   pub grows : Grows (length before.bytes) events (length after.bytes)
   -- Blocks were asked for before the start alone, as the parameters want them; each answer has its mark.
@@ -251,6 +286,10 @@ pub record IsCall (Leaves : List ℕ → List ℕ → Type 0) (callee : Callee) 
   pub later : List Event
   pub in_parts : events ≡ events_of answers trap ++ later
   pub no_more : Each IsNoRequest later
+  -- From the start on it asked in these turns, and was served; of all asks one at most, for which it was refused, passes the limit.
+  pub turns : List AskTurn
+  pub starts : MayStart callee.func turns later
+  pub asks : answer ≢ Err error.TurnsExhausted → asks_in events ≤ limits.turns
   -- each answer was aligned and its block ended inside memory, but one that the call was refused for
   pub accepted : Accepted (lowering_ending answer) (length after.bytes) answers
   pub marks : after.guest.marks ≡ before.guest.marks ++ marks_of answers
@@ -258,21 +297,21 @@ pub record IsCall (Leaves : List ℕ → List ℕ → Type 0) (callee : Callee) 
   pub quiet : AsksByTypes callee.params (lowering_ending answer) answers trap
   -- Handles went through the ledger; the words of the start have those that the parameters were given.
   pub given : List ℕ
-  pub handles : HandlesPass callee params ledger left given answer results events
+  pub handles : HandlesPass callee params turns ledger left given answer results events
   pub start : Each (OnStart (IsStart callee params before.bytes answers given)) events
   -- The results are the only values that the returned words and memory represent, and cost no more than the fuel; that
   -- memory is left, as far as a post-return leaves it.
-  pub only_results : OnOk answer (Each (OnReturn (λ words m. (left : ℕ) × AreResults callee.encoding (narrow m) callee.results words fuel left results)) events)
+  pub only_results : OnOk answer (Each (OnReturn (λ words m. (left : ℕ) × AreResults callee.encoding (narrow m) callee.results words limits.fuel left results)) events)
   -- Post-return runs only where the results were lifted.
-  pub posted : ¬ Each IsNoPost events → Each (OnReturn (λ words m. (left : ℕ) × (vs : List Val) × AreResults callee.encoding (narrow m) callee.results words fuel left vs)) events
+  pub posted : ¬ Each IsNoPost events → Each (OnReturn (λ words m. (left : ℕ) × (vs : List Val) × AreResults callee.encoding (narrow m) callee.results words limits.fuel left vs)) events
   pub leaves : OnOk answer (Each (OnReturn (λ words m. Left Leaves callee.post m after.bytes)) events)
-  pub cause : IfErr answer (Cause callee fuel params before after events)
+  pub cause : IfErr answer (Cause callee limits params before after events)
   -- A valid call answers Ok or want of memory: the parameters are of their types, no text among them is too long and no
-  -- list too large, `realloc` kept its law, the guest doesn't trap and asks for no import, what it returns represents
-  -- results that cost no more than the fuel, and the ledger accepts the handles.
-  pub valid : (ts : Trees) → HaveTrees callee.params params ts → AreSmall callee.encoding callee.params params → AllLawful answers → ¬ EndsIn IsTrap events → Each IsNoAsk events
-      → Each (OnReturn (λ words m. (us : Trees) × RepResults false callee.encoding (narrow m) words callee.results us × (members_cost callee.results us ≤ fuel))) events
-      → Accepts callee params ledger events
+  -- list too large, `realloc` kept its law, the guest doesn't trap and doesn't ask too often, what it returns represents
+  -- results that cost no more than the fuel, and the ledger accepts the handles and each ask.
+  pub valid : (ts : Trees) → HaveTrees callee.params params ts → AreSmall callee.encoding callee.params params → AllLawful answers → ¬ EndsIn IsTrap events → asks_in events ≤ limits.turns
+      → Each (OnReturn (λ words m. (us : Trees) × RepResults false callee.encoding (narrow m) words callee.results us × (members_cost callee.results us ≤ limits.fuel))) events
+      → Accepts callee params turns ledger events
       → IsOkUnless answer (error.Fault fault.OutOfMemory)
 
 -- a fact for every answer but want of memory

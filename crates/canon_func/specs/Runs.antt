@@ -1,5 +1,5 @@
 -- The events of a run of a guest.
-use Rattle.std.specs.Prelude.{List, None, Option, Some, [], length, ℕ, ⊤, ◌++◌, ◌∷◌, ◌≡◌, ◌≤◌, ◌⊎◌}
+use Rattle.std.specs.Prelude.{List, None, Option, Some, [], length, ℕ, ⊤, ◌++◌, ◌+◌, ◌∷◌, ◌≡◌, ◌≤◌, ◌⊎◌}
 use Rattle.canon_model.specs.Requests.{Call}
 use Rattle.canon_memory.specs.declared.event.Event.{Event}
 use Rattle.canon_memory.specs.declared.event.Event.TheVariants as event
@@ -52,18 +52,27 @@ abbrev pub IsTrap : Event → Type 0
 IsTrap (event.Trap asked len) = ⊤
 IsTrap _ = ⊥
 
--- it asks for the import of this number
-abbrev pub AsksImport : ℕ → Event → Type 0
-AsksImport n (event.Ask index words memory) = index ≡ n
-AsksImport n _ = ⊥
+-- it asks for an import of such a number, with such words
+abbrev pub IsAsk : (ℕ → List ℕ → Type 0) → Event → Type 0
+IsAsk P (event.Ask index words memory) = P index words
+IsAsk P _ = ⊥
+
+-- where the last event is an ask: of its number and its words
+abbrev pub OnLastAsk : (ℕ → List ℕ → Type 0) → List Event → Type 0
+OnLastAsk P [] = ⊤
+OnLastAsk P (event.Ask index words memory ∷ []) = P index words
+OnLastAsk P (e ∷ []) = ⊤
+OnLastAsk P (e ∷ f ∷ events) = OnLastAsk P (f ∷ events)
+
+-- how often the guest asked for an import
+abbrev pub asks_in : List Event → ℕ
+asks_in [] = 0
+asks_in (event.Ask index words memory ∷ events) = 1 + asks_in events
+asks_in (e ∷ events) = asks_in events
 
 abbrev pub IsNoStart : Event → Type 0
 IsNoStart (event.Start func words memory) = ⊥
 IsNoStart _ = ⊤
-
-abbrev pub IsNoAsk : Event → Type 0
-IsNoAsk (event.Ask index words memory) = ⊥
-IsNoAsk _ = ⊤
 
 abbrev pub IsNoResume : Event → Type 0
 IsNoResume (event.Resume words memory) = ⊥
@@ -107,6 +116,18 @@ pub record AskTurn : Type 0 where
 abbrev pub events_in : List AskTurn → List Event
 events_in [] = []
 events_in (t ∷ turns) = event.Ask t.index t.words t.memory ∷ t.reallocs ++ event.Resume t.resumed_words t.resumed_memory ∷ events_in turns
+
+-- From the start on: the guest asked so often and was resumed, and of what came after these turns none is resumed.
+pub record Starts (func : ℕ) (turns : List AskTurn) (events : List Event) : Type 0 where
+  pub words : List ℕ
+  pub memory : List ℕ
+  pub tail : List Event
+  pub is : events ≡ event.Start func words memory ∷ events_in turns ++ tail
+  pub no_resume : Each IsNoResume tail
+
+-- the same of a guest that may not have been started
+abbrev pub MayStart : ℕ → List AskTurn → List Event → Type 0
+MayStart func turns events = ((events ≡ []) × (turns ≡ [])) ⊎ Starts func turns events
 
 -- post-return with the words that were returned, where there is one
 abbrev pub posts : Option ℕ → List ℕ → List Event

@@ -1,5 +1,5 @@
 -- The steps of a call.
-use Rattle.std.specs.Prelude.{Err, IfErr, IfOk, IsOkUnless, List, None, Ok, OnOk, Result, Some, Vec, [], false, length, true, ℕ, ⊤, ◌∷◌, ◌≡◌, ◌⊎◌, ◌≤◌}
+use Rattle.std.specs.Prelude.{Err, IfErr, IfOk, IsOkUnless, List, None, Ok, OnOk, Result, Some, Vec, [], false, length, true, ℕ, ⊤, ◌++◌, ◌∷◌, ◌≡◌, ◌≢◌, ◌⊎◌, ◌<◌, ◌≤◌}
 use Rattle.std.specs.declared.alloc.Global.{Global}
 use Rattle.canon_model.specs.Cost.{members_cost}
 use Rattle.canon_model.specs.Flat.{RepResults, max_params}
@@ -12,7 +12,8 @@ use Rattle.canon_memory.specs.declared.event.Event.{Event}
 use Rattle.canon_memory.specs.declared.event.Event.TheVariants as event
 use Rattle.canon_memory.specs.Counts.{Rose}
 use Rattle.canon_memory.specs.Guest.{Goes, GuestIn, Moment, Seen}
-use Rattle.canon_memory.specs.Journal.{trap_event}
+use Rattle.canon_memory.specs.Journal.{step_event, trap_event}
+use Rattle.canon_memory.specs.declared.guest.Step.{Step}
 use Rattle.canon_lowering.specs.Attempt.{LowersArgs}
 use Rattle.canon_lowering.specs.Lowering.{Ending, done, events_of}
 use Rattle.canon_lowering.specs.Storing.{narrow}
@@ -36,8 +37,9 @@ use Rattle.canon_context.specs.declared.fault.Fault.{Fault}
 use Rattle.canon_value.specs.Value.{HaveTrees}
 use Rattle.canon_context.specs.declared.fault.Fault.TheVariants as fault
 use Rattle.canon_value.specs.declared.val.Val.{Val}
-use Rattle.canon_func.specs.Call.{AsksByTypes, Concludes, HasFault, IsCall, IsPastFuel, Left, LiftsReturned, StopsLater, StopsReturned, param_parts, refused_by, result_words, stopped_by, words_within}
-use Rattle.canon_func.specs.Runs.{AsksImport, Each, EndsIn, Grows, IsNoAsk, IsNoPost, IsNoRequest, IsNoResume, IsOneRun, IsPrefixOfRun, IsReturn, IsTrap, OnReturn, OnStart, posts}
+use Rattle.canon_func.specs.Asks.{AreServed, AskStops, IsServed, Limits}
+use Rattle.canon_func.specs.Call.{AcceptsLater, AfterTurns, AskCause, AsksByTypes, Concludes, HasFault, IsCall, IsPastFuel, Left, LiftsReturned, StopsReturned, StopsStarted, param_parts, refused_by, result_words, words_within}
+use Rattle.canon_func.specs.Runs.{AskTurn, Each, EndsIn, Grows, IsNoPost, IsNoRequest, IsOneRun, IsPrefixOfRun, IsReturn, IsTrap, MayStart, OnReturn, OnStart, asks_in, events_in, last_len, posts}
 use Rattle.canon_func.specs.Stores.{Callee}
 use Rattle.canon_func.specs.declared.error.Error.{Error}
 use Rattle.canon_func.specs.declared.error.Error.TheVariants as error
@@ -79,14 +81,82 @@ pub record LowersFor {T G X : Type 0} (seen : G → Seen) (moves : GuestIn G →
 
 -- ---- the start
 
--- A core function was started, and these are the events: it returned these words, or why not.
-abbrev pub Started : ℕ → List ℕ → Moment → Moment → Result (List ℕ) Error → List Event → Type 0
-Started func words before after (Ok returned) events = events ≡ event.Start func words before.bytes ∷ event.Return returned after.bytes ∷ []
-Started func words before after (Err (error.UnknownImport n)) events = (asked : List ℕ) × (events ≡ event.Start func words before.bytes ∷ event.Ask n asked after.bytes ∷ [])
+-- A core function was started with these words, and these are the events: it took this step, or why not.
+abbrev pub Started : ℕ → List ℕ → Moment → Moment → Result Step Error → List Event → Type 0
+Started func words before after (Ok next) events = events ≡ event.Start func words before.bytes ∷ step_event next after.bytes ∷ []
 Started func words before after (Err (error.Fault fault.GuestTrap)) events =
     Rose before.guest.traps after.guest.traps × (events ≡ event.Start func words before.bytes ∷ trap_event (length before.bytes) ∷ [])
 Started func words before after (Err (error.Fault fault.OutOfMemory)) events = events ≡ []
 Started func words before after (Err _) events = ⊥
+
+-- the same of a guest that was resumed
+abbrev pub Resumed : List ℕ → Moment → Moment → Result Step Error → List Event → Type 0
+Resumed words before after (Ok next) events = events ≡ event.Resume words before.bytes ∷ step_event next after.bytes ∷ []
+Resumed words before after (Err (error.Fault fault.GuestTrap)) events =
+    Rose before.guest.traps after.guest.traps × (events ≡ event.Resume words before.bytes ∷ trap_event (length before.bytes) ∷ [])
+Resumed words before after (Err (error.Fault fault.OutOfMemory)) events = events ≡ []
+Resumed words before after (Err _) events = ⊥
+
+-- ---- asks
+
+-- an ask of a guest that left this memory and was resumed in it
+abbrev pub turn : ℕ → List ℕ → List ℕ → List ℕ → AskTurn
+turn index words memory resumed = record { index = index; words = words; memory = memory; reallocs = []; only_reallocs = tt; resumed_words = resumed; resumed_memory = memory }
+
+-- an ask was served and the guest resumed, which took this step or trapped; or it wasn't, and nothing was done
+abbrev pub Serves : Callee → ℕ → List ℕ → Moment → Moment → LedgerState → LedgerState → Result Step Error → List Event → Type 0
+Serves callee index words before after ledger left (Ok next) events =
+    (resumed : List ℕ) × IsServed callee (turn index words before.bytes resumed) ledger left × Resumed resumed before after (Ok next) events
+Serves callee index words before after ledger left (Err (error.Fault fault.GuestTrap)) events =
+    (resumed : List ℕ) × IsServed callee (turn index words before.bytes resumed) ledger left × Resumed resumed before after (Err (error.Fault fault.GuestTrap)) events
+Serves callee index words before after ledger left (Err error.TurnsExhausted) events = ⊥
+Serves callee index words before after ledger left (Err e) events = AskStops callee e index words ledger left × (events ≡ [])
+
+-- The guest was started at the moment `before`, asked in these turns and was served; it was last let go in a memory of so many bytes.
+pub record Asked (callee : Callee) (before : Moment) (ledger served : LedgerState) (turns : List AskTurn) (len : ℕ) : Type 0 where
+  pub serves : AreServed callee turns ledger served
+  pub last : last_len (length before.bytes) (events_in turns) ≡ len
+  pub grows : (events : List Event) (last : ℕ) → Grows len events last → Grows (length before.bytes) (events_in turns ++ events) last
+
+-- the events from the start on
+abbrev pub so_far : Callee → List ℕ → Moment → List AskTurn → List Event → List Event
+so_far callee words before turns tail = event.Start callee.func words before.bytes ∷ events_in turns ++ tail
+
+-- The guest asked so often and was served, and then took this step.
+pub record Stepping (callee : Callee) (words : List ℕ) (before now : Moment) (ledger served : LedgerState) (Moves : List Event → Type 0) (count : ℕ) (next : Step) : Type 0 where
+  pub turns : List AskTurn
+  pub len : ℕ
+  pub asked : Asked callee before ledger served turns len
+  pub count_is : length turns ≡ count
+  pub longer : len ≤ length now.bytes
+  pub goes : Goes before now [] (so_far callee words before turns (step_event next now.bytes ∷ []))
+  pub moves : Moves (so_far callee words before turns (step_event next now.bytes ∷ []))
+
+-- How the guest was left after so many asks that were served, by the last events.
+abbrev pub Stopped : Callee → ℕ → ℕ → ℕ → Moment → Moment → LedgerState → LedgerState → Result (List ℕ) Error → List Event → Type 0
+Stopped callee most count len before after served left (Ok returned) tail = (tail ≡ event.Return returned after.bytes ∷ []) × (left ≡ served)
+Stopped callee most count len before after served left (Err (error.Fault fault.GuestTrap)) tail = Rose before.guest.traps after.guest.traps × (tail ≡ trap_event len ∷ []) × (left ≡ served)
+Stopped callee most count len before after served left (Err error.TurnsExhausted) tail = (index : ℕ) × (words memory : List ℕ) × (tail ≡ event.Ask index words memory ∷ [])
+    × (len ≤ length memory) × (length memory ≤ length after.bytes) × (count ≡ most) × (left ≡ served)
+Stopped callee most count len before after served left (Err e) tail = (index : ℕ) × (words memory : List ℕ) × (tail ≡ event.Ask index words memory ∷ [])
+    × (len ≤ length memory) × (length memory ≤ length after.bytes) × (count < most) × AskStops callee e index words served left
+
+-- A core function was started with these words, and asked and was served until it returned these words or stopped otherwise.
+pub record Ran (callee : Callee) (most : ℕ) (words : List ℕ) (before after : Moment) (ledger left : LedgerState) (answer : Result (List ℕ) Error) (events : List Event) : Type 0 where
+  pub turns : List AskTurn
+  pub len : ℕ
+  pub served : LedgerState
+  pub tail : List Event
+  pub asked : Asked callee before ledger served turns len
+  pub few : length turns ≤ most
+  pub longer : len ≤ length after.bytes
+  pub is : events ≡ so_far callee words before turns tail
+  pub stopped : Stopped callee most (length turns) len before after served left answer tail
+
+-- or memory ran out for its start
+abbrev pub MayRun : Callee → ℕ → List ℕ → Moment → Moment → LedgerState → LedgerState → Result (List ℕ) Error → List Event → Type 0
+MayRun callee most words before after ledger left answer events =
+    ((answer ≡ Err (error.Fault fault.OutOfMemory)) × (events ≡ []) × (left ≡ ledger)) ⊎ Ran callee most words before after ledger left answer events
 
 -- ---- after the return
 
@@ -123,51 +193,53 @@ Concluded Leaves callee fuel words before after ledger left (Err e) events = Lif
 -- ---- from the start on
 
 -- why it wasn't done
-abbrev pub RestCause : Callee → ℕ → Moment → Moment → List Event → Error → Type 0
-RestCause callee fuel before after events error.WrongWords = EndsIn (IsReturn (λ words m. ¬ (length words ≡ result_words callee.results))) events
-RestCause callee fuel before after events (error.UnknownImport n) = EndsIn (AsksImport n) events
-RestCause callee fuel before after events (error.Fault fault.GuestTrap) = Rose before.guest.traps after.guest.traps × EndsIn IsTrap events
-RestCause callee fuel before after events (error.Fault (fault.PointerMisaligned at)) = EndsIn (IsReturn (HasFault callee misaligned at)) events
-RestCause callee fuel before after events (error.Fault (fault.PointerOutOfBounds at)) = EndsIn (IsReturn (HasFault callee out_of_bounds at)) events
-RestCause callee fuel before after events (error.Fault (fault.InvalidUtf8 at)) = EndsIn (IsReturn (HasFault callee (badly_spelled in_utf8) at)) events
-RestCause callee fuel before after events (error.Fault (fault.InvalidUtf16 at)) = EndsIn (IsReturn (HasFault callee (badly_spelled in_utf16) at)) events
-RestCause callee fuel before after events (error.Fault (fault.InvalidChar at)) = EndsIn (IsReturn (HasFault callee no_scalar at)) events
-RestCause callee fuel before after events (error.Fault (fault.BadDiscriminant at d)) = EndsIn (IsReturn (HasFault callee (no_case d) at)) events
-RestCause callee fuel before after events (error.Fault fault.HostcallFuelExhausted) = EndsIn (IsReturn (IsPastFuel callee fuel)) events
-RestCause callee fuel before after events (error.Fault fault.OutOfMemory) = ⊤
-RestCause callee fuel before after events (error.Fault (fault.Resource e)) = (refusal_of e ≡ Some e) × EndsIn (IsReturn (λ words m. length words ≡ result_words callee.results)) events
-RestCause callee fuel before after events _ = ⊥
+abbrev pub RestCause : Callee → Limits → Moment → Moment → List Event → Error → Type 0
+RestCause callee limits before after events error.WrongWords = EndsIn (IsReturn (λ words m. ¬ (length words ≡ result_words callee.results))) events ⊎ AskCause callee limits events error.WrongWords
+RestCause callee limits before after events (error.Fault fault.GuestTrap) = Rose before.guest.traps after.guest.traps × EndsIn IsTrap events
+RestCause callee limits before after events (error.Fault (fault.PointerMisaligned at)) = EndsIn (IsReturn (HasFault callee misaligned at)) events
+RestCause callee limits before after events (error.Fault (fault.PointerOutOfBounds at)) = EndsIn (IsReturn (HasFault callee out_of_bounds at)) events
+RestCause callee limits before after events (error.Fault (fault.InvalidUtf8 at)) = EndsIn (IsReturn (HasFault callee (badly_spelled in_utf8) at)) events
+RestCause callee limits before after events (error.Fault (fault.InvalidUtf16 at)) = EndsIn (IsReturn (HasFault callee (badly_spelled in_utf16) at)) events
+RestCause callee limits before after events (error.Fault (fault.InvalidChar at)) = EndsIn (IsReturn (HasFault callee no_scalar at)) events
+RestCause callee limits before after events (error.Fault (fault.BadDiscriminant at d)) = EndsIn (IsReturn (HasFault callee (no_case d) at)) events
+RestCause callee limits before after events (error.Fault fault.HostcallFuelExhausted) = EndsIn (IsReturn (IsPastFuel callee limits.fuel)) events
+RestCause callee limits before after events (error.Fault fault.OutOfMemory) = ⊤
+RestCause callee limits before after events (error.Fault (fault.Resource e)) = (refusal_of e ≡ Some e) × EndsIn (IsReturn (λ words m. length words ≡ result_words callee.results)) events
+RestCause callee limits before after events (error.Fault f) = ⊥
+RestCause callee limits before after events e = AskCause callee limits events e
 
--- the ledger from the start on
+-- the ledger from the start on, after these turns
 abbrev pub RestPasses : Callee → LedgerState → LedgerState → Result (Vec Val Global) Error → List Event → Type 0
-RestPasses callee before after (Ok vals) events = Each (OnReturn (λ words m. Concludes callee words m vals.items before after)) events
-RestPasses callee before after (Err e) events = StopsLater callee (stopped_by e) before after events
+RestPasses callee served after (Ok vals) events = Each (OnReturn (λ words m. Concludes callee words m vals.items served after)) events
+RestPasses callee served after (Err e) events = StopsStarted callee e served after events
 
--- A callee was started with these words at the moment `before`, what it returned was lifted with this fuel, and post-return
--- was told.
-pub record IsRest (Leaves : List ℕ → List ℕ → Type 0) (callee : Callee) (fuel : ℕ) (words : List ℕ) (before after : Moment) (ledger left : LedgerState) (answer : Result (Vec Val Global) Error) (events : List Event) : Type 0 where
+-- A callee was started with these words at the moment `before`, was served in these turns, what it returned was lifted with this fuel,
+-- and post-return was told.
+pub record IsRest (Leaves : List ℕ → List ℕ → Type 0) (callee : Callee) (limits : Limits) (words : List ℕ) (before after : Moment) (ledger left : LedgerState) (answer : Result (Vec Val Global) Error) (events : List Event) : Type 0 where
   pub one_run : OnOk answer (IsOneRun callee.func callee.post events)
   pub prefix : (len : ℕ) → IsPrefixOfRun callee.func callee.post len events
-  pub no_resume : Each IsNoResume events
+  pub turns : List AskTurn
+  pub starts : MayStart callee.func turns events
+  pub asks : answer ≢ Err error.TurnsExhausted → asks_in events ≤ limits.turns
   pub no_more : Each IsNoRequest events
   pub grows : Grows (length before.bytes) events (length after.bytes)
   pub start : Each (OnStart (λ ws m. (ws ≡ words) × (m ≡ before.bytes))) events
-  pub only_results : IfOk answer (λ vals. Each (OnReturn (λ ws m. (left : ℕ) × AreResults callee.encoding (narrow m) callee.results ws fuel left vals.items)) events)
-  pub posted : ¬ Each IsNoPost events → Each (OnReturn (λ ws m. (left : ℕ) × (vs : List Val) × AreResults callee.encoding (narrow m) callee.results ws fuel left vs)) events
+  pub only_results : IfOk answer (λ vals. Each (OnReturn (λ ws m. (left : ℕ) × AreResults callee.encoding (narrow m) callee.results ws limits.fuel left vals.items)) events)
+  pub posted : ¬ Each IsNoPost events → Each (OnReturn (λ ws m. (left : ℕ) × (vs : List Val) × AreResults callee.encoding (narrow m) callee.results ws limits.fuel left vs)) events
   pub count : IfOk answer (λ vals. length vals.items ≡ member_count callee.results)
   pub leaves : OnOk answer (Each (OnReturn (λ ws m. Left Leaves callee.post m after.bytes)) events)
-  pub handles : RestPasses callee ledger left answer events
-  pub cause : IfErr answer (RestCause callee fuel before after events)
-  pub valid : ¬ EndsIn IsTrap events → Each IsNoAsk events
-      → Each (OnReturn (λ ws m. (us : Trees) × RepResults false callee.encoding (narrow m) ws callee.results us × (members_cost callee.results us ≤ fuel))) events
-      → Each (OnReturn (λ words m. (resources : List Any) × (lifted : LedgerState) × LiftsReturned callee words m resources ledger lifted)) events
+  pub handles : AfterTurns callee turns ledger (λ served. RestPasses callee served left answer events)
+  pub cause : IfErr answer (RestCause callee limits before after events)
+  pub valid : ¬ EndsIn IsTrap events → asks_in events ≤ limits.turns
+      → Each (OnReturn (λ ws m. (us : Trees) × RepResults false callee.encoding (narrow m) ws callee.results us × (members_cost callee.results us ≤ limits.fuel))) events
+      → AfterTurns callee turns ledger (λ served. AcceptsLater callee served events)
       → IsOkUnless answer (error.Fault fault.OutOfMemory)
 
 -- ---- the whole, before the results are written
 
-abbrev pub CoreCall : (List ℕ → List ℕ → Type 0) → Callee → ℕ → List Val → Moment → Moment → LedgerState → LedgerState → Result (Vec Val Global) Error → List Event → Type 0
-CoreCall Leaves callee fuel params before after ledger left (Ok vals) events = IsCall Leaves callee fuel params before after ledger left (Ok tt) vals.items events
-CoreCall Leaves callee fuel params before after ledger left (Err e) events = (results : List Val) → IsCall Leaves callee fuel params before after ledger left (Err e) results events
+abbrev pub CoreCall : (List ℕ → List ℕ → Type 0) → Callee → Limits → List Val → Moment → Moment → LedgerState → LedgerState → Result (Vec Val Global) Error → List Event → Type 0
+CoreCall Leaves callee limits params before after ledger left (Ok vals) events = IsCall Leaves callee limits params before after ledger left (Ok tt) vals.items events
+CoreCall Leaves callee limits params before after ledger left (Err e) events = (results : List Val) → IsCall Leaves callee limits params before after ledger left (Err e) results events
 
 -- it isn't a refusal before the guest is entered
 abbrev pub IsLate : Error → Type 0

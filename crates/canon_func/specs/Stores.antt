@@ -1,5 +1,5 @@
 -- A store, and the functions of its component.
-use Rattle.std.specs.Prelude.{Bool, None, Option, Some, false, length, slice_get, ℕ, ◌<◌, ◌≡◌}
+use Rattle.std.specs.Prelude.{Bool, List, None, Option, Some, false, length, slice_get, ℕ, ◌<◌, ◌≡◌}
 use Rattle.canon_model.specs.Shape.{Members, no_members}
 use Rattle.canon_model.specs.Text.{Encoding, utf8}
 use Rattle.canon_indices.specs.declared.options.CanonicalOptions.{CanonicalOptions}
@@ -10,10 +10,12 @@ use Rattle.canon_context.specs.Component.{encoding_at}
 use Rattle.canon_context.specs.Core.{Parts}
 use Rattle.canon_context.specs.declared.component.Component.{Component}
 use Rattle.canon_context.specs.declared.component.Export.{Export}
+use Rattle.canon_context.specs.declared.component.Import.{Import}
 
--- what contracts see of a store
+-- what contracts see of a store: its core, how many asks of imports a call may have served, and whether a call trapped it
 pub record StoreView (T G : Type 0) : Type 0 where
   pub core : Parts T G
+  pub turns : ℕ
   pub trapped : Bool
 
 -- and of a function: its store, and its number among the exports
@@ -26,11 +28,12 @@ pub record IsOwned {T G : Type 0} (store : StoreView T G) (f : Named) : Type 0 w
   pub id : f.store ≡ store.core.id
   pub export : f.export < length store.core.component.exports.items
 
--- What is called: a core function, the types of its component in their store, its parameters and results, and its options: how
--- texts are spelled, the core function that runs after the results were lifted, and whether it is async.
+-- What is called: a core function, the types of its component in their store and the component's imports, its parameters and
+-- results, and its options: how texts are spelled, the core function that runs after the results were lifted, and whether it is async.
 pub record Callee : Type 0 where
   pub func : ℕ
   pub types : Instance
+  pub imports : List Import
   pub params : Members
   pub results : Members
   pub encoding : Encoding
@@ -58,6 +61,7 @@ abbrev pub export_callee : Component → Export → Callee
 export_callee component e = record {
   func = e.func;
   types = component.types;
+  imports = component.imports.items;
   params = params_in component.types.types (slice_get component.types.types.funcs e.ty);
   results = results_in component.types.types (slice_get component.types.types.funcs e.ty);
   encoding = encoding_at component e.options;
@@ -66,7 +70,7 @@ export_callee component e = record {
 }
 
 abbrev pub callee_in : Component → Option Export → Callee
-callee_in component None = record { func = 0; types = component.types; params = no_members; results = no_members; encoding = utf8; post = None; async_ = false }
+callee_in component None = record { func = 0; types = component.types; imports = component.imports.items; params = no_members; results = no_members; encoding = utf8; post = None; async_ = false }
 callee_in component (Some e) = export_callee component e
 
 -- the callee that a function is

@@ -3,6 +3,7 @@ ghost use Rattle.canon_types.specs.Table.{IsOver};
 ghost use Rattle.canon_context.specs.Component.{IsInside};
 ghost use Rattle.canon_context.specs.Asks.{SameButHandles};
 ghost use Rattle.canon_context.specs.Core.{guest_of, moment_of, types_of};
+ghost use Rattle.canon_func.specs.Asks.{allowed};
 ghost use Rattle.canon_func.specs.Call.{Adding, IsCall, OnAnswered, refusal, refused_by};
 ghost use Rattle.canon_func.specs.Stores.{IsOwned, Named, callee_of, type_of};
 
@@ -96,14 +97,16 @@ impl Func {
         None
     }
 
-    /// Calls the function, as CanonicalABI.md's "canon_lift": opens a scope, lowers the parameters, starts the guest, ends
-    /// the scope, lifts what the guest returned, tells it that its words were read, and leaves the scope. `results` are
+    /// Calls the function, as CanonicalABI.md's "canon_lift": opens a scope, lowers the parameters, starts the guest, serves
+    /// what it asks for until it returns, ends the scope, lifts what the guest returned, tells it that its words were read, and leaves the scope. `results` are
     /// written together, last. What is lent to the call is given back when its scope ends.
     ///
     /// Answers `WrongCount`, `AsyncLifted` and `CannotEnterComponent`, in this order, before anything is done. Any later
     /// refusal, want of memory included, traps the store and leaves `results` and the scope: the faults of a parameter, of
-    /// the guest's `realloc` and of a result; a refusal of a handle; `GuestTrap`; `UnknownImport` where the guest asks for
-    /// an import; `WrongWords` where it returns another number of words than the results take; `BorrowsRemain` where it
+    /// the guest's `realloc` and of a result; a refusal of a handle; `GuestTrap`; at each ask of the guest `TurnsExhausted`
+    /// where it is one more than the store's calls may have served, `UnknownImport` where the component has no such import,
+    /// `WrongWords` where there isn't exactly one word, and `ImportFault` where the ledger refuses its step, in this order;
+    /// `WrongWords` where it returns another number of words than the results take; `BorrowsRemain` where it
     /// then keeps a borrow handle; `HostcallFuelExhausted` where the results cost more than the store's fuel, which each
     /// call has anew.
     pub fn call<T, G: Guest>(
@@ -122,7 +125,7 @@ impl Func {
         // From then on.
         ensures call { IsNone (refused_by result) → Adding (moment_of G.seen store.old.core) (moment_of G.seen store.new.core)
             (λ events. OnAnswered result (G.moves (guest_of store.old.core) events (guest_of store.new.core)))
-            (λ events. IsCall G.leaves (callee_of store.old self.now) store.old.core.fuel params.now (moment_of G.seen store.old.core) (moment_of G.seen store.new.core) store.old.core.ledger store.new.core.ledger result results.new events) }
+            (λ events. IsCall G.leaves (callee_of store.old self.now) (allowed store.old.core.fuel store.old.turns) params.now (moment_of G.seen store.old.core) (moment_of G.seen store.new.core) store.old.core.ledger store.new.core.ledger result results.new events) }
         ensures trapped { IsNone (refused_by result) → OnErr result (store.new.trapped ≡ true) }
 
         // What it leaves.
@@ -134,7 +137,8 @@ impl Func {
             return Err(error);
         }
         let export = self.export_in(store);
-        match call_core(alloc, store.core_mut(), &export, params) {
+        let turns = store.turns();
+        match call_core(alloc, store.core_mut(), &export, turns, params) {
             Ok(mut values) => {
                 results.swap_with_slice(&mut values);
                 Ok(())

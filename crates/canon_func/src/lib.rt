@@ -1,6 +1,7 @@
 //! Functions that a component exports, the store that they belong to, and how they are called.
 #![tactic(auto)]
 
+mod asks;
 mod dropping;
 mod error;
 mod func;

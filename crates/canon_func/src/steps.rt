@@ -11,12 +11,14 @@ ghost use Rattle.canon_context.specs.Lifter.{origin_in};
 ghost use Rattle.canon_context.specs.Core.{SameButLedger, guest_of, moment_of, types_of};
 ghost use Rattle.canon_ledger.specs.Ledger.{LedgerState, enter};
 ghost use Rattle.canon_context.specs.Asks.{SameBut, SameButHandles};
+ghost use Rattle.canon_func.specs.Asks.{allowed};
 ghost use Rattle.canon_func.specs.Call.{Adding, OnAnswered, words_within};
-ghost use Rattle.canon_func.specs.Steps.{Concluded, CoreCall, Proceeds, IsLate, IsRest, Lifted, LiftsIn, LoweredArgs, LowersFor, Posted, Started};
+ghost use Rattle.canon_func.specs.Steps.{Concluded, CoreCall, Proceeds, IsLate, IsRest, Lifted, LiftsIn, LoweredArgs, LowersFor, Posted};
 ghost use Rattle.canon_func.specs.Stores.{export_callee, params_in, results_in};
 
 use crate::Error;
-use canon_memory::{Guest, GuestFault, Step, ValRaw, Words};
+use crate::asks::run_core;
+use canon_memory::{Guest, GuestFault, ValRaw};
 use canon_types::{
     CanonicalOptions, ComponentTypes, MAX_FLAT_PARAMS, MAX_FLAT_RESULTS, TypeTupleIndex,
 };
@@ -50,25 +52,26 @@ pub(crate) fn has_counts(
         && results == types.tuple(func.results).types.len()
 }
 
-/// Opens a scope, lowers the parameters, starts the guest, lifts what it returns, tells it that its words were read, and leaves the
+/// Opens a scope, lowers the parameters, runs the guest, lifts what it returns, tells it that its words were read, and leaves the
 /// scope, which stays open where the call is refused.
 pub(crate) fn call_core<T, G: Guest>(
     alloc: Global,
     core: &mut Core<T, G>,
     export: &Export,
+    turns: u64,
     params: &[Val],
 ) -> Result<Vec<Val>, Error>
     requires inside { IsInside core.old.component export.now }
     requires params { length params.now ≡ member_count (export_callee core.old.component export.now).params }
     ensures call { Adding (moment_of G.seen core.old) (moment_of G.seen core.new)
         (λ events. OnAnswered result (G.moves (guest_of core.old) events (guest_of core.new)))
-        (λ events. CoreCall G.leaves (export_callee core.old.component export.now) core.old.fuel params.now (moment_of G.seen core.old) (moment_of G.seen core.new) core.old.ledger core.new.ledger result events) }
+        (λ events. CoreCall G.leaves (export_callee core.old.component export.now) (allowed core.old.fuel turns) params.now (moment_of G.seen core.old) (moment_of G.seen core.new) core.old.ledger core.new.ledger result events) }
     ensures late { IfErr result IsLate }
     ensures count { IfOk result (λ vals. length vals.items ≡ member_count (export_callee core.old.component export.now).results) }
     ensures same { SameButHandles core.old core.new }
 {
     match core.enter() {
-        Ok(_) => call_in_scope(alloc, core, export, params),
+        Ok(_) => call_in_scope(alloc, core, export, turns, params),
         Err(_) => Err(Error::Fault(Fault::OutOfMemory)),
     }
 }
@@ -78,6 +81,7 @@ fn call_in_scope<T, G: Guest>(
     alloc: Global,
     core: &mut Core<T, G>,
     export: &Export,
+    turns: u64,
     params: &[Val],
 ) -> Result<Vec<Val>, Error>
     requires inside { IsInside core.old.component export.now }
@@ -85,13 +89,13 @@ fn call_in_scope<T, G: Guest>(
     ensures call { Adding (moment_of G.seen core.old) (moment_of G.seen core.new)
         (λ events. OnAnswered result (G.moves (guest_of core.old) events (guest_of core.new)))
         (λ events. (before : LedgerState) → enter before ≡ core.old.ledger
-        → CoreCall G.leaves (export_callee core.old.component export.now) core.old.fuel params.now (moment_of G.seen core.old) (moment_of G.seen core.new) before core.new.ledger result events) }
+        → CoreCall G.leaves (export_callee core.old.component export.now) (allowed core.old.fuel turns) params.now (moment_of G.seen core.old) (moment_of G.seen core.new) before core.new.ledger result events) }
     ensures late { IfErr result IsLate }
     ensures count { IfOk result (λ vals. length vals.items ≡ member_count (export_callee core.old.component export.now).results) }
     ensures same { SameButHandles core.old core.new }
 {
     match lower_params(alloc, core, export, params) {
-        Ok(words) => run(alloc, core, export, &words),
+        Ok(words) => run(alloc, core, export, turns, &words),
         Err(error) => Err(error),
     }
 }
@@ -150,37 +154,23 @@ fn word_count(types: &ComponentTypes, tuple: TypeTupleIndex, most: u8) -> usize
         .unwrap_or(1) as usize
 }
 
-/// Starts the guest with the words of the parameters, and lifts what it returns.
+/// Runs the guest with the words of the parameters, and lifts what it returns.
 fn run<T, G: Guest>(
     alloc: Global,
     core: &mut Core<T, G>,
     export: &Export,
+    turns: u64,
     words: &[ValRaw],
 ) -> Result<Vec<Val>, Error>
     requires inside { IsInside core.old.component export.now }
     ensures did { Proceeds (moment_of G.seen core.old) (moment_of G.seen core.new)
         (λ events. OnAnswered result (G.moves (guest_of core.old) events (guest_of core.new)))
-        (λ events. IsRest G.leaves (export_callee core.old.component export.now) core.old.fuel words.now (moment_of G.seen core.old) (moment_of G.seen core.new) core.old.ledger core.new.ledger result events) }
+        (λ events. IsRest G.leaves (export_callee core.old.component export.now) (allowed core.old.fuel turns) words.now (moment_of G.seen core.old) (moment_of G.seen core.new) core.old.ledger core.new.ledger result events) }
     ensures same { SameButHandles core.old core.new }
 {
-    match start(core, export.func, words) {
+    match run_core(core, export, turns, words) {
         Ok(returned) => conclude(alloc, core, export, returned.as_slice()),
         Err(error) => Err(error),
-    }
-}
-
-/// Starts a core function. A component has no imports, so none that the guest asks for is known.
-fn start<T, G: Guest>(core: &mut Core<T, G>, func: u32, words: &[ValRaw]) -> Result<Words, Error>
-    ensures did { Proceeds (moment_of G.seen core.old) (moment_of G.seen core.new)
-        (λ events. OnAnswered result (G.moves (guest_of core.old) events (guest_of core.new)))
-        (λ events. Started func words.now (moment_of G.seen core.old) (moment_of G.seen core.new) result events) }
-    ensures same { SameBut core.old core.new }
-{
-    match core.start(func, words) {
-        Ok(Step::Return(words)) => Ok(words),
-        Ok(Step::Import { index, .. }) => Err(Error::UnknownImport(index)),
-        Err(GuestFault::Trap) => Err(Error::Fault(Fault::GuestTrap)),
-        Err(GuestFault::OutOfMemory) => Err(Error::Fault(Fault::OutOfMemory)),
     }
 }
 

@@ -6,17 +6,18 @@ use canon_types::ExportIndex;
 use canon_value::Core;
 use std::marker::Model;
 
-/// A core, and whether a call trapped it. Contracts see both.
+/// A core, how many asks of imports a call may have served, and whether a call trapped it. Contracts see these.
 #[derive(Drop)]
 pub struct Store<T, G> {
     core: Core<T, G>,
+    turns: u64,
     trapped: bool,
 }
 
 impl<T, G> Model for Store<T, G> {
     ghost Value = { StoreView T G };
 
-    ghost view = { λ s. record { core = s.core; trapped = s.trapped } };
+    ghost view = { λ s. record { core = s.core; turns = s.turns; trapped = s.trapped } };
 }
 
 impl<T, G> Store<T, G> {
@@ -27,12 +28,13 @@ impl<T, G> Store<T, G> {
     ghost use Rattle.canon_context.specs.contracts.core_data.Core as core_type;
     ghost use Rattle.canon_ledger.specs.Ledger.{set_limit};
 
-    /// A store that no call has trapped.
-    pub fn new(core: Core<T, G>) -> Self
-        ensures { result ≡ record { core = core; trapped = false } }
+    /// A store that no call has trapped, whose calls may have so many asks of imports served.
+    pub fn new(core: Core<T, G>, turns: u64) -> Self
+        ensures { result ≡ record { core = core; turns = turns; trapped = false } }
     {
         Store {
             core,
+            turns,
             trapped: false,
         }
     }
@@ -61,6 +63,19 @@ impl<T, G> Store<T, G> {
         ensures { self.new ≡ record self.old { core = record self.old.core { fuel = v } } }
     {
         self.core.set_fuel(v);
+    }
+
+    /// How many asks of imports each call may have served.
+    pub fn turns(&self) -> u64
+        ensures { result ≡ self.now.turns }
+    {
+        self.turns
+    }
+
+    pub fn set_turns(&mut self, v: u64)
+        ensures { self.new ≡ record self.old { turns = v } }
+    {
+        self.turns = v;
     }
 
     /// The number of the live handles.

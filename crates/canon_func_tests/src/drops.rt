@@ -114,7 +114,7 @@ fn store_of(
     let guest = Journaled::new(alloc, Destroyer { fails, traps: 0 });
     let memory = Memory::new(alloc, 65_536)?;
     let core = Core::new(alloc, id, (), guest, memory, component, 8, 1_000_000)?;
-    Ok(Store::new(core))
+    Ok(Store::new(core, 100))
 }
 
 /// A store of one function without parameters and results, whose component defines a resource type with the destructor 5.

@@ -119,7 +119,7 @@ fn store_of(
     };
     let memory = Memory::new(alloc, 65_536)?;
     let core = Core::new(alloc, id, (), guest, memory, component, 8, 1_000_000)?;
-    Ok(Store::new(core))
+    Ok(Store::new(core, 100))
 }
 
 /// The same, of a function of these parameters and results.

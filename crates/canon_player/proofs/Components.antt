@@ -1,15 +1,16 @@
 -- The component of a script, from how it was built.
 use Rattle.std.proofs.Common.{◌≡◌, ◌∙◌, ◌+◌, ◌<◌, ◌≤◌, ℕ, Bool, List, [], ◌∷◌, ◌++◌, Some, ap, append-nil, arith, drop, length, refl, subst, suc, sym, zero, ⊎_elim}
-use Rattle.std.specs.Prelude.{slice_get, slice_index_or, unwrap_or}
+use Rattle.std.specs.Prelude.{All, slice_get, slice_index_or, unwrap_or}
 use Rattle.std.proofs.Math.ListN.{drop_of_length-le}
 use Rattle.std.proofs.lemmas.Option.{get_or_from_slice_get, slice_get_cases, slice_get_within}
 use Rattle.canon_indices.specs.declared.options.CanonicalOptions.{CanonicalOptions}
 use Rattle.canon_indices.specs.declared.options.StringEncoding.{StringEncoding}
 use Rattle.canon_types.specs.Instance.{Instance}
-use Rattle.canon_types.specs.Table.{Table}
-use Rattle.canon_context.specs.Component.{IsInside, IsComponent}
+use Rattle.canon_types.specs.Table.{HasResource, Table}
+use Rattle.canon_context.specs.Component.{IsComponent, IsImport, IsInside, resource_of}
 use Rattle.canon_context.specs.declared.component.Component.{Component}
 use Rattle.canon_context.specs.declared.component.Export.{Export}
+use Rattle.canon_context.specs.declared.component.Import.{Import}
 use Rattle.canon_script.specs.Script.{Play}
 use Rattle.canon_player.specs.Session.{played_callee}
 use Rattle.canon_player.specs.Stores.{IsScripted, callee_at, export_for, exports_from, options_for, options_from}
@@ -51,29 +52,35 @@ found xs i h = ⊎_elim (λ at. (at.0, at.2)) (λ past. absurd (omega (arith, h,
 
 -- ---- the component
 
-module _ (t : Table) (encoding : StringEncoding) (posts : List Bool) (c : Component) (h : IsScripted t encoding posts c) where
+module _ (t : Table) (encoding : StringEncoding) (posts : List Bool) (imports : List Import) (c : Component) (h : IsScripted t encoding posts imports c) where
   pub export_at : (i : ℕ) → i < length posts → slice_get c.exports.items i ≡ Some (export_for i)
   export_at i lt = let e : 0 + i ≡ i = omega arith in ap (λ es. slice_get es i) h.exports ∙ (exports_at 0 posts i lt ∙ ap (λ n. Some (export_for n)) e)
 
   pub export_count : length c.exports.items ≡ length posts
   export_count = ap length h.exports ∙ exports_len 0 posts
 
-  pub scripted_sound : length posts ≡ length t.funcs → IsComponent c
-  scripted_sound told k d lt =
+  exports_sound : length posts ≡ length t.funcs → All (IsInside c) c.exports.items
+  exports_sound told k d lt =
       let inside : k < length posts = omega (arith, lt, export_count) in
       let e : slice_index_or c.exports.items k d ≡ export_for k = get_or_from_slice_get c.exports.items k (export_for k) d (export_at k inside) in
       let count : length c.options.items ≡ length posts = ap length h.options ∙ options_len t encoding 0 posts in
       let funcs : length c.types.types.funcs ≡ length t.funcs = ap (λ (u : Instance). length u.types.funcs) h.types in
       subst (IsInside c) (sym e) (record { func = omega (arith, inside, told, funcs); options = omega (arith, inside, count) })
 
+  pub scripted_sound : length posts ≡ length t.funcs → All (λ i. HasResource t (resource_of i)) imports → IsComponent c
+  scripted_sound told known = (
+    exports_sound told,
+    subst (λ is. All (IsImport c) is) (sym h.imports) (subst (λ u. All (λ i. HasResource u (resource_of i)) imports) (sym (ap (λ (u : Instance). u.types) h.types)) known),
+  )
+
 -- an export of the component is the function of the script
-pub scripted_callee : (play : Play) (c : Component) → IsScripted play.types play.encoding play.posts c → length play.posts ≡ length play.types.funcs
+pub scripted_callee : (play : Play) (c : Component) → IsScripted play.types play.encoding play.posts play.imports c → length play.posts ≡ length play.types.funcs
     → (i : ℕ) → i < length play.types.funcs → callee_at c i ≡ played_callee play i
 scripted_callee play c h told i lt =
     let inside : i < length play.posts = omega (arith, lt, told) in
     let e : 0 + i ≡ i = omega arith in
     let (f, func) = found play.types.funcs i lt in
     let (p, post) = found play.posts i inside in
-    let export = export_at play.types play.encoding play.posts c h i inside in
+    let export = export_at play.types play.encoding play.posts play.imports c h i inside in
     let options : slice_get c.options.items i ≡ Some (options_for play.types play.encoding i p) = ap (λ os. slice_get os i) h.options ∙ (options_at play.types play.encoding 0 play.posts i p post ∙ ap (λ n. Some (options_for play.types play.encoding n p)) e) in
-    simp (export, h.types, options, func, post)
+    simp (export, h.types, h.imports, options, func, post)

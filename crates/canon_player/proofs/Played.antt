@@ -16,6 +16,7 @@ use Rattle.canon_context.specs.declared.fault.Fault.TheVariants as fault
 use Rattle.canon_value.specs.declared.val.Val.{Val}
 use Rattle.canon_types.specs.Refusal.{first_error}
 use Rattle.canon_func.specs.Call.{Adding, IsCall, OnAnswered, refusal, refused_by}
+use Rattle.canon_func.specs.Asks.{Limits}
 use Rattle.canon_func.specs.Stores.{Callee, Named, callee_of}
 use Rattle.canon_func.specs.declared.error.Error.{Error}
 use Rattle.canon_func.specs.declared.error.Error.TheVariants as error
@@ -29,7 +30,7 @@ use Rattle.canon_transcript.specs.declared.transcript.Record.{Record}
 use Rattle.canon_player.specs.Session.{Called, State, LeavesSame, WasCalled, outcome, plan_of, answer_values}
 use Rattle.canon_player.specs.Steps.{MakesCall}
 use Rattle.canon_player.specs.Session as session
-use Rattle.canon_player.specs.Stores.{ScriptStore, callee_at, state_of, with_plan}
+use Rattle.canon_player.specs.Stores.{ScriptStore, callee_at, limits_of, state_of, with_plan}
 
 -- ---- refusals
 
@@ -61,44 +62,16 @@ IsOther called = called ≢ Err (error.Fault fault.OutOfMemory)
 
 pub on_answered : (called : Result (Unit {0}) Error) (P : Type 0) → called ≢ Err (error.Fault fault.OutOfMemory) → OnAnswered called P → P
 on_answered (Ok x) P n p = p
-on_answered (Err error.WrongCount) P n p = p
-on_answered (Err error.AsyncLifted) P n p = p
-on_answered (Err error.CannotEnterComponent) P n p = p
-on_answered (Err error.WrongWords) P n p = p
-on_answered (Err (error.UnknownImport k)) P n p = p
-on_answered (Err (error.Fault f)) P n p = by f n p
-  where
-    by : (f : Fault) → IsOther (Err (error.Fault f)) → OnAnswered {T = Unit {0}} (Err (error.Fault f)) P → P
-    by fault.OutOfMemory n p = absurd (n refl)
-    by (fault.TypeMismatch k) n p = p
-    by (fault.FieldName k) n p = p
-    by (fault.UnknownCase k) n p = p
-    by (fault.UnknownFlag k) n p = p
-    by (fault.PayloadExpected k) n p = p
-    by (fault.PayloadNotExpected k) n p = p
-    by (fault.LengthMismatch k) n p = p
-    by (fault.StringTooLong k) n p = p
-    by (fault.SizeOverflow k) n p = p
-    by (fault.ReallocMisaligned a) n p = p
-    by (fault.ReallocOutOfBounds a) n p = p
-    by fault.GuestTrap n p = p
-    by (fault.PointerMisaligned a) n p = p
-    by (fault.PointerOutOfBounds a) n p = p
-    by (fault.InvalidUtf8 a) n p = p
-    by (fault.InvalidUtf16 a) n p = p
-    by (fault.InvalidChar a) n p = p
-    by (fault.BadDiscriminant a d) n p = p
-    by (fault.Resource refusal) n p = p
-    by fault.HostcallFuelExhausted n p = p
+on_answered (Err (error.Fault fault.OutOfMemory)) P n p = absurd (n refl)
+on_answered (Err e) P n p = p
 
 -- the same call, with its results said another way
-recalled : (callee : Callee) (fuel : ℕ) (params : List Val) (before after : Moment) (l l2 : LedgerState) (called : Result (Unit {0}) Error) (results others : List Val) (events : List Event) →
-    OnOk called (others ≡ results) → IsCall LeavesSame callee fuel params before after l l2 called results events → IsCall LeavesSame callee fuel params before after l l2 called others events
-recalled callee fuel params before after l l2 (Ok x) results others events e h = subst (λ (vs : List Val). IsCall LeavesSame callee fuel params before after l l2 (Ok x) vs events) (sym e) h
-recalled callee fuel params before after l l2 (Err x) results others events e h = record {
+recalled : (callee : Callee) (limits : Limits) (params : List Val) (before after : Moment) (l l2 : LedgerState) (called : Result (Unit {0}) Error) (results others : List Val) (events : List Event) →
+    OnOk called (others ≡ results) → IsCall LeavesSame callee limits params before after l l2 called results events → IsCall LeavesSame callee limits params before after l l2 called others events
+recalled callee limits params before after l l2 (Ok x) results others events e h = subst (λ (vs : List Val). IsCall LeavesSame callee limits params before after l l2 (Ok x) vs events) (sym e) h
+recalled callee limits params before after l l2 (Err x) results others events e h = record {
   one_run = h.one_run;
   prefix = h.prefix;
-  no_resume = h.no_resume;
   advances = h.advances;
   grows = h.grows;
   answers = h.answers;
@@ -106,6 +79,9 @@ recalled callee fuel params before after l l2 (Err x) results others events e h 
   later = h.later;
   in_parts = h.in_parts;
   no_more = h.no_more;
+  turns = h.turns;
+  starts = h.starts;
+  asks = h.asks;
   accepted = h.accepted;
   marks = h.marks;
   requested = h.requested;
@@ -132,7 +108,7 @@ journaled j = record (seen_of j.guest) { journal = Some j.events; shortages = j.
 abbrev pub Entered : Callee → List Val → ScriptStore → ScriptStore → Result (Unit {0}) Error → List Val → Type 0
 Entered callee params loaded left called results = Adding (moment_of journaled loaded.core) (moment_of journaled left.core)
     (λ events. OnAnswered called (ScriptMoves (of_guest (guest_of loaded.core)) events (of_guest (guest_of left.core))))
-    (λ events. IsCall LeavesSame callee loaded.core.fuel params (moment_of journaled loaded.core) (moment_of journaled left.core) loaded.core.ledger left.core.ledger called results events)
+    (λ events. IsCall LeavesSame callee (limits_of loaded) params (moment_of journaled loaded.core) (moment_of journaled left.core) loaded.core.ledger left.core.ledger called results events)
 
 module _ (callee : Callee) (call : ScriptCall) (list : List Any) (r : Record) (s left : ScriptStore) (params results : List Val) (called : Result (Unit {0}) Error)
     (empty : s.core.guest.events ≡ []) (events : r.events ≡ left.core.guest.events)
@@ -142,26 +118,26 @@ module _ (callee : Callee) (call : ScriptCall) (list : List Any) (r : Record) (s
   loaded = with_plan s (plan_of call s.core.guest.guest.plan.allocator)
 
   was_called : refusal callee (length call.params) call.slots s.trapped ≡ None → Entered callee params loaded left called results
-      → OnOk called (left.trapped ≡ s.trapped) → OnErr called (left.trapped ≡ true) → WasCalled callee s.core.fuel call list (state_of s) (state_of left) r
+      → OnOk called (left.trapped ≡ s.trapped) → OnErr called (left.trapped ≡ true) → WasCalled callee (limits_of s) call list (state_of s) (state_of left) r
   was_called free entered runs traps =
       let before = state_of s in
       let after = state_of left in
-      let fuel = s.core.fuel in
+      let limits = (limits_of s) in
       let gained : left.core.guest.events ≡ s.core.guest.events ++ entered.events = ap (λ o. unwrap_or o []) entered.added in
       let all : r.events ≡ entered.events = events ∙ (gained ∙ ap (λ (es : List Event). es ++ entered.events) empty) in
-      let one : IsCall LeavesSame callee fuel params (session.moment_of before []) (session.moment_of after left.core.guest.events) before.ledger after.ledger called results entered.events =
-      subst (λ (es : List Event). IsCall LeavesSame callee fuel params (session.moment_of before es) (session.moment_of after left.core.guest.events) before.ledger after.ledger called results entered.events) empty entered.so in
-      let two : IsCall LeavesSame callee fuel params (session.moment_of before []) (session.moment_of after r.events) before.ledger after.ledger called results entered.events =
-      subst (λ (es : List Event). IsCall LeavesSame callee fuel params (session.moment_of before []) (session.moment_of after es) before.ledger after.ledger called results entered.events) (sym events) one in
-      let three : IsCall LeavesSame callee fuel params (session.moment_of before []) (session.moment_of after r.events) before.ledger after.ledger called results r.events =
-      subst (λ (es : List Event). IsCall LeavesSame callee fuel params (session.moment_of before []) (session.moment_of after r.events) before.ledger after.ledger called results es) (sym all) two in
-      let four : IsCall LeavesSame callee fuel params (session.moment_of before []) (session.moment_of after r.events) before.ledger after.ledger called (answer_values r.answer) r.events =
-      recalled callee fuel params (session.moment_of before []) (session.moment_of after r.events) before.ledger after.ledger called results (answer_values r.answer) r.events vals three in
+      let one : IsCall LeavesSame callee limits params (session.moment_of before []) (session.moment_of after left.core.guest.events) before.ledger after.ledger called results entered.events =
+      subst (λ (es : List Event). IsCall LeavesSame callee limits params (session.moment_of before es) (session.moment_of after left.core.guest.events) before.ledger after.ledger called results entered.events) empty entered.so in
+      let two : IsCall LeavesSame callee limits params (session.moment_of before []) (session.moment_of after r.events) before.ledger after.ledger called results entered.events =
+      subst (λ (es : List Event). IsCall LeavesSame callee limits params (session.moment_of before []) (session.moment_of after es) before.ledger after.ledger called results entered.events) (sym events) one in
+      let three : IsCall LeavesSame callee limits params (session.moment_of before []) (session.moment_of after r.events) before.ledger after.ledger called results r.events =
+      subst (λ (es : List Event). IsCall LeavesSame callee limits params (session.moment_of before []) (session.moment_of after r.events) before.ledger after.ledger called results es) (sym all) two in
+      let four : IsCall LeavesSame callee limits params (session.moment_of before []) (session.moment_of after r.events) before.ledger after.ledger called (answer_values r.answer) r.events =
+      recalled callee limits params (session.moment_of before []) (session.moment_of after r.events) before.ledger after.ledger called results (answer_values r.answer) r.events vals three in
       let moved : ScriptMoves (of_guest (guest_of loaded.core)) entered.events (of_guest (guest_of left.core)) = on_answered called _ short (entered.moves refl) in
       record {
         params = params;
         params_are = their;
-        called = subst (λ (a : Result (Unit {0}) Error). IsCall LeavesSame callee fuel params (session.moment_of before []) (session.moment_of after r.events) before.ledger after.ledger a (answer_values r.answer) r.events) (sym out) four;
+        called = subst (λ (a : Result (Unit {0}) Error). IsCall LeavesSame callee limits params (session.moment_of before []) (session.moment_of after r.events) before.ledger after.ledger a (answer_values r.answer) r.events) (sym out) four;
         left = left.core.guest.guest.plan;
         new_marks = moved.new_marks;
         does = subst (λ (es : List Event). CarriesOut (plan_of call before.allocator) (length before.memory) es moved.new_marks left.core.guest.guest.plan (length after.memory)) (sym all) moved.does;
@@ -173,7 +149,7 @@ module _ (callee : Callee) (call : ScriptCall) (list : List Any) (r : Record) (s
         played = played;
       }
 
-  was_refused : (e : Error) → called ≡ Err e → left ≡ loaded → Called callee s.core.fuel call list (state_of s) (state_of left) r (Some e)
+  was_refused : (e : Error) → called ≡ Err e → left ≡ loaded → Called callee (limits_of s) call list (state_of s) (state_of left) r (Some e)
   was_refused e h same = (answers_error r.answer e (out ∙ h), events ∙ (ap (λ (k : ScriptStore). k.core.guest.events) same ∙ empty), ap state_of same)
 
   abbrev Refused : Result (Unit {0}) Error → Type 0
@@ -181,31 +157,33 @@ module _ (callee : Callee) (call : ScriptCall) (list : List Any) (r : Record) (s
 
   happened : (c : Result (Unit {0}) Error) → called ≡ c → refused_by c ≡ refusal callee (length call.params) call.slots s.trapped → Refused c
       → (IsNone (refused_by c) → Entered callee params loaded left called results) → OnOk called (left.trapped ≡ s.trapped) → (IsNone (refused_by c) → OnErr called (left.trapped ≡ true))
-      → Called callee s.core.fuel call list (state_of s) (state_of left) r (refused_by c)
+      → Called callee (limits_of s) call list (state_of s) (state_of left) r (refused_by c)
   happened (Ok x) h why same entered runs traps = was_called (sym why) (entered refl) runs (traps refl)
   happened (Err error.WrongCount) h why same entered runs traps = was_refused error.WrongCount h same
   happened (Err error.AsyncLifted) h why same entered runs traps = was_refused error.AsyncLifted h same
   happened (Err error.CannotEnterComponent) h why same entered runs traps = was_refused error.CannotEnterComponent h same
   happened (Err error.WrongWords) h why same entered runs traps = was_called (sym why) (entered refl) runs (traps refl)
   happened (Err (error.UnknownImport n)) h why same entered runs traps = was_called (sym why) (entered refl) runs (traps refl)
+  happened (Err error.TurnsExhausted) h why same entered runs traps = was_called (sym why) (entered refl) runs (traps refl)
+  happened (Err (error.ImportFault n f)) h why same entered runs traps = was_called (sym why) (entered refl) runs (traps refl)
   happened (Err (error.Fault f)) h why same entered runs traps = was_called (sym why) (entered refl) runs (traps refl)
 
   made : (before : ScriptStore) (count : ℕ) → r.head ≡ head.Call call.func → r.live ≡ left.core.ledger.handles.counter.live → before ≡ loaded → count ≡ call.slots
       → refused_by called ≡ refusal callee (length params) count before.trapped → IfSome (refused_by called) (λ e. left ≡ before)
       → (IsNone (refused_by called) → Entered callee params before left called results) → OnOk called (left.trapped ≡ before.trapped) → (IsNone (refused_by called) → OnErr called (left.trapped ≡ true))
-      → MakesCall callee s.core.fuel call list (state_of s) (state_of left) r
+      → MakesCall callee (limits_of s) call list (state_of s) (state_of left) r
   made before count hd lv is slots why same entered runs traps =
       let many : length params ≡ length call.params = sym (length-map params literal_view) ∙ (ap length their ∙ length-map call.params (replaced (listed list))) in
       let why2 : refused_by called ≡ refusal callee (length call.params) call.slots s.trapped =
       why ∙ (ap (λ n. refusal callee n count before.trapped) many ∙ (ap (λ n. refusal callee (length call.params) n before.trapped) slots ∙ ap (λ (k : ScriptStore). refusal callee (length call.params) call.slots k.trapped) is)) in
-      let all : Called callee s.core.fuel call list (state_of s) (state_of left) r (refused_by called) = happened called refl why2
+      let all : Called callee (limits_of s) call list (state_of s) (state_of left) r (refused_by called) = happened called refl why2
       (subst (λ (k : ScriptStore). IfSome (refused_by called) (λ e. left ≡ k)) is same)
       (λ none. subst (λ (k : ScriptStore). Entered callee params k left called results) is (entered none))
       (subst (λ (k : ScriptStore). OnOk called (left.trapped ≡ k.trapped)) is runs)
       traps in
       record {
         head = hd;
-        called = subst (λ o. Called callee s.core.fuel call list (state_of s) (state_of left) r o) why2 all;
+        called = subst (λ o. Called callee (limits_of s) call list (state_of s) (state_of left) r o) why2 all;
         live = lv;
       }
 
@@ -234,9 +212,9 @@ module _ (call : ScriptCall) (list : List Any) (r : Record) (s before left final
       → (IsNone (refused_by called) → Entered (callee_of before f) params before left called results) → OnOk called (left.trapped ≡ before.trapped) → (IsNone (refused_by called) → OnErr called (left.trapped ≡ true))
       → r.head ≡ head.Call call.func → r.live ≡ left.core.ledger.handles.counter.live → r.events ≡ left.core.guest.events → outcome r.answer ≡ called
       → length results ≡ slots.len → OnOk called (answer_values r.answer ≡ (with_items slots results).items) → called ≢ Err (error.Fault fault.OutOfMemory) → r.answer ≢ answer.Skipped
-      → MakesCall (callee_at s.core.component call.func) s.core.fuel call list (state_of s) (state_of final) r
+      → MakesCall (callee_at s.core.component call.func) (limits_of s) call list (state_of s) (state_of final) r
   record_is empty is export end their count why same entered runs traps hd lv events out many vals short skipped =
       let it : callee_of before f ≡ callee_at s.core.component call.func = ap (λ (k : ScriptStore). callee_of k f) is ∙ ap (λ n. callee_at s.core.component n) export in
-      let one : MakesCall (callee_of before f) s.core.fuel call list (state_of s) (state_of left) r =
+      let one : MakesCall (callee_of before f) (limits_of s) call list (state_of s) (state_of left) r =
       made (callee_of before f) call list r s left params results called empty events out (kept_results called slots results (answer_values r.answer) many vals) short their skipped before (length slots.items) hd lv is count why same entered runs traps in
-      subst (λ (d : Callee). MakesCall d s.core.fuel call list (state_of s) (state_of final) r) it (subst (λ (k : State). MakesCall (callee_of before f) s.core.fuel call list (state_of s) k r) (sym end) one)
+      subst (λ (d : Callee). MakesCall d (limits_of s) call list (state_of s) (state_of final) r) it (subst (λ (k : State). MakesCall (callee_of before f) (limits_of s) call list (state_of s) k r) (sym end) one)

@@ -6,12 +6,13 @@ use Rattle.canon_context.specs.declared.component.Component.{Component}
 use Rattle.canon_resources.specs.Held.{Any}
 use Rattle.canon_value.specs.Resources.{all_resources}
 use Rattle.canon_func.specs.Call.{refusal}
+use Rattle.canon_func.specs.Asks.{Limits, allowed}
 use Rattle.canon_func.specs.Stores.{Callee}
 use Rattle.canon_script.specs.Script.{IsWellFormed, ItemStands, Play, ScriptItem, call_item, drop_item, item_view, new_item}
 use Rattle.canon_script.specs.declared.script.Item.{Item}
 use Rattle.canon_transcript.specs.declared.transcript.Record.{Record}
 use Rattle.canon_player.specs.Session.{Called, Happened, IsPlayed, Plays, Session, State, answer_values, at_first, played_callee, skips}
-use Rattle.canon_player.specs.Stores.{IsPlayable, IsScripted, ScriptStore, callee_at, fresh_store, state_of}
+use Rattle.canon_player.specs.Stores.{IsPlayable, IsScripted, ScriptStore, callee_at, fresh_store, limits_of, state_of}
 use Rattle.canon_player.proofs.Components.{export_count, scripted_callee}
 
 -- ---- on one store
@@ -20,17 +21,17 @@ use Rattle.canon_player.proofs.Components.{export_count, scripted_callee}
 pub record IsPlaying (first : ScriptStore) (items : List Item) (now : ScriptStore) (left : List Item) (list : List Any) (records : List Record) : Type 0 where
   pub fresh : now.core.guest.events ≡ []
   pub same : now.core.component ≡ first.core.component
-  fuel : now.core.fuel ≡ first.core.fuel
+  limits : limits_of now ≡ limits_of first
   playable : All (IsPlayable first.core.component) (map item_view left)
-  pub rest : (more : List Record) → Plays (callee_at first.core.component) first.core.fuel (map item_view left) list (state_of now) more
-      → Plays (callee_at first.core.component) first.core.fuel (map item_view items) [] (state_of first) (records ++ more)
+  pub rest : (more : List Record) → Plays (callee_at first.core.component) (limits_of first) (map item_view left) list (state_of now) more
+      → Plays (callee_at first.core.component) (limits_of first) (map item_view items) [] (state_of first) (records ++ more)
 
 pub playing_first : (first : ScriptStore) (items left : List Item) (list : List Any) (records : List Record) → left ≡ items → list ≡ [] → records ≡ [] → first.core.guest.events ≡ [] → All (IsPlayable first.core.component) (map item_view items)
     → IsPlaying first items first left list records
 playing_first first items left list records e empty none fresh playable =
     subst (λ (xs : List Item). IsPlaying first items first xs list records) (sym e)
     (subst (λ (ys : List Any). IsPlaying first items first items ys records) (sym empty)
-    (subst (λ (rs : List Record). IsPlaying first items first items [] rs) (sym none) (record { fresh = fresh; same = refl; fuel = refl; playable = playable; rest = λ more h. h })))
+    (subst (λ (rs : List Record). IsPlaying first items first items [] rs) (sym none) (record { fresh = fresh; same = refl; limits = refl; playable = playable; rest = λ more h. h })))
 
 module _ (first : ScriptStore) (items : List Item) (now : ScriptStore) (all left : List Item) (item : Item) (list : List Any) (records : List Record) (next : all ≡ item ∷ left) (h : IsPlaying first items now all list records) where
   before : IsPlaying first items now (item ∷ left) list records
@@ -39,29 +40,29 @@ module _ (first : ScriptStore) (items : List Item) (now : ScriptStore) (all left
   pub playing_playable : IsPlayable now.core.component (item_view item)
   playing_playable = subst (λ (c : Component). IsPlayable c (item_view item)) (sym h.same) (before.playable 0 (item_view item) (omega arith))
 
-  pub playing_next : (after : ScriptStore) (r : Record) (longer : List Any) (more : List Record) → after.core.guest.events ≡ [] → after.core.component ≡ now.core.component → after.core.fuel ≡ now.core.fuel
-      → IsPlayed (callee_at now.core.component) now.core.fuel (item_view item) list (state_of now) (state_of after) r → longer ≡ list ++ all_resources (answer_values r.answer) → more ≡ records ++ r ∷ []
+  pub playing_next : (after : ScriptStore) (r : Record) (longer : List Any) (more : List Record) → after.core.guest.events ≡ [] → after.core.component ≡ now.core.component → (limits_of after) ≡ (limits_of now)
+      → IsPlayed (callee_at now.core.component) (limits_of now) (item_view item) list (state_of now) (state_of after) r → longer ≡ list ++ all_resources (answer_values r.answer) → more ≡ records ++ r ∷ []
       → IsPlaying first items after left longer more
   playing_next after r longer more fresh same fuel played grown e =
       subst (λ (ys : List Any). IsPlaying first items after left ys more) (sym grown) (subst (λ (rs : List Record). IsPlaying first items after left (list ++ all_resources (answer_values r.answer)) rs) (sym e) (record {
         fresh = fresh;
         same = same ∙ h.same;
-        fuel = fuel ∙ h.fuel;
+        limits = limits ∙ h.limits;
         playable = All-tail (IsPlayable first.core.component) (item_view item) (map item_view left) before.playable;
-        rest = λ others g. subst (λ (rs : List Record). Plays (callee_at first.core.component) first.core.fuel (map item_view items) [] (state_of first) rs) (sym (append_assoc records (r ∷ []) others))
+        rest = λ others g. subst (λ (rs : List Record). Plays (callee_at first.core.component) (limits_of first) (map item_view items) [] (state_of first) rs) (sym (append_assoc records (r ∷ []) others))
             (before.rest (r ∷ others) (
               state_of after,
-              subst (λ n. IsPlayed (callee_at first.core.component) n (item_view item) list (state_of now) (state_of after) r) h.fuel
-                  (subst (λ (c : Component). IsPlayed (callee_at c) now.core.fuel (item_view item) list (state_of now) (state_of after) r) h.same played),
+              subst (λ n. IsPlayed (callee_at first.core.component) n (item_view item) list (state_of now) (state_of after) r) h.limits
+                  (subst (λ (c : Component). IsPlayed (callee_at c) (limits_of now) (item_view item) list (state_of now) (state_of after) r) h.same played),
               g,
             ));
       }))
 
 pub playing_last : (first : ScriptStore) (items : List Item) (now : ScriptStore) (left : List Item) (list : List Any) (records : List Record) → left ≡ [] → IsPlaying first items now left list records
-    → Plays (callee_at first.core.component) first.core.fuel (map item_view items) [] (state_of first) records
+    → Plays (callee_at first.core.component) (limits_of first) (map item_view items) [] (state_of first) records
 playing_last first items now left list records e h =
     let last : IsPlaying first items now [] list records = subst (λ (xs : List Item). IsPlaying first items now xs list records) e h in
-    subst (λ (rs : List Record). Plays (callee_at first.core.component) first.core.fuel (map item_view items) [] (state_of first) rs) (append-nil records) (last.rest [] tt)
+    subst (λ (rs : List Record). Plays (callee_at first.core.component) (limits_of first) (map item_view items) [] (state_of first) rs) (append-nil records) (last.rest [] tt)
 
 -- ---- a script
 
@@ -71,41 +72,41 @@ SameCallee callees others (call_item c) = callees c.func ≡ others c.func
 SameCallee callees others (new_item n) = Unit {0}
 SameCallee callees others (drop_item d) = Unit {0}
 
-happened_same : (callees others : ℕ → Callee) (fuel : ℕ) (i : ScriptItem) (list : List Any) (s after : State) (r : Record) (b : Bool) → SameCallee callees others i → Happened b callees fuel i list s after r → Happened b others fuel i list s after r
-happened_same callees others fuel i list s after r true same h = h
-happened_same callees others fuel (call_item c) list s after r false same h =
-    subst (λ (d : Callee). Called d fuel c list s after r (refusal d (length c.params) c.slots s.trapped)) same h
-happened_same callees others fuel (new_item n) list s after r false same h = h
-happened_same callees others fuel (drop_item d) list s after r false same h = h
+happened_same : (callees others : ℕ → Callee) (limits : Limits) (i : ScriptItem) (list : List Any) (s after : State) (r : Record) (b : Bool) → SameCallee callees others i → Happened b callees limits i list s after r → Happened b others limits i list s after r
+happened_same callees others limits i list s after r true same h = h
+happened_same callees others limits (call_item c) list s after r false same h =
+    subst (λ (d : Callee). Called d limits c list s after r (refusal d (length c.params) c.slots s.trapped)) same h
+happened_same callees others limits (new_item n) list s after r false same h = h
+happened_same callees others limits (drop_item d) list s after r false same h = h
 
 -- items whose calls are of the same callees
-plays_same : (callees others : ℕ → Callee) (fuel : ℕ) (items : List ScriptItem) (list : List Any) (s : State) (records : List Record) → All (SameCallee callees others) items → Plays callees fuel items list s records
-    → Plays others fuel items list s records
-plays_same callees others fuel [] list s [] same h = tt
-plays_same callees others fuel [] list s (r ∷ records) same h = h
-plays_same callees others fuel (i ∷ items) list s [] same h = h
-plays_same callees others fuel (i ∷ items) list s (r ∷ records) same (after, played, rest) = (
+plays_same : (callees others : ℕ → Callee) (limits : Limits) (items : List ScriptItem) (list : List Any) (s : State) (records : List Record) → All (SameCallee callees others) items → Plays callees limits items list s records
+    → Plays others limits items list s records
+plays_same callees others limits [] list s [] same h = tt
+plays_same callees others limits [] list s (r ∷ records) same h = h
+plays_same callees others limits (i ∷ items) list s [] same h = h
+plays_same callees others limits (i ∷ items) list s (r ∷ records) same (after, played, rest) = (
   after,
-  record { head = played.head; happened = happened_same callees others fuel i list s after r (skips i list s) (same 0 i (omega arith)) played.happened; live = played.live },
-  plays_same callees others fuel items (list ++ all_resources (answer_values r.answer)) after records (All-tail (SameCallee callees others) i items same) rest,
+  record { head = played.head; happened = happened_same callees others limits i list s after r (skips i list s) (same 0 i (omega arith)) played.happened; live = played.live },
+  plays_same callees others limits items (list ++ all_resources (answer_values r.answer)) after records (All-tail (SameCallee callees others) i items same) rest,
 )
 
-module _ (play : Play) (c : Component) (store : ScriptStore) (posts : List Bool) (sound : IsWellFormed play) (told : posts ≡ play.posts) (built_so : IsScripted play.types play.encoding posts c)
-    (fresh : store ≡ fresh_store play.memory play.heap play.fuel play.handles c) where
-  h : IsScripted play.types play.encoding play.posts c
-  h = subst (λ (ps : List Bool). IsScripted play.types play.encoding ps c) told built_so
+module _ (play : Play) (c : Component) (store : ScriptStore) (posts : List Bool) (sound : IsWellFormed play) (told : posts ≡ play.posts) (built_so : IsScripted play.types play.encoding posts play.imports c)
+    (fresh : store ≡ fresh_store play.memory play.heap play.fuel play.turns play.handles c) where
+  h : IsScripted play.types play.encoding play.posts play.imports c
+  h = subst (λ (ps : List Bool). IsScripted play.types play.encoding ps play.imports c) told built_so
 
   known : (i : ScriptItem) → ItemStands play.types i → SameCallee (callee_at c) (played_callee play) i
   known (call_item call) stands = scripted_callee play c h sound.posts_told call.func stands.0
   known (new_item n) stands = tt
   known (drop_item d) stands = tt
 
-  session : (s : State) (records : List Record) → Plays (callee_at c) play.fuel play.items [] s records → Plays (played_callee play) play.fuel play.items [] s records
-  session s records p = plays_same (callee_at c) (played_callee play) play.fuel play.items [] s records (λ k d lt. known (slice_index_or play.items k d) (sound.items_stand k d lt)) p
+  session : (s : State) (records : List Record) → Plays (callee_at c) (allowed play.fuel play.turns) play.items [] s records → Plays (played_callee play) (allowed play.fuel play.turns) play.items [] s records
+  session s records p = plays_same (callee_at c) (played_callee play) (allowed play.fuel play.turns) play.items [] s records (λ k d lt. known (slice_index_or play.items k d) (sound.items_stand k d lt)) p
 
   stands_playable : (i : ScriptItem) → ItemStands play.types i → IsPlayable c i
   stands_playable (call_item call) stands = record {
-    export = omega (arith, stands.0, sound.posts_told, export_count play.types play.encoding play.posts c h);
+    export = omega (arith, stands.0, sound.posts_told, export_count play.types play.encoding play.posts play.imports c h);
     orders = stands.1;
   }
   stands_playable (new_item n) stands = tt
@@ -117,5 +118,5 @@ module _ (play : Play) (c : Component) (store : ScriptStore) (posts : List Bool)
   pub script_playable : All (IsPlayable store.core.component) play.items
   script_playable = subst (λ (s : ScriptStore). All (IsPlayable s.core.component) play.items) (sym fresh) playable
 
-  pub script_session : (records : List Record) → Plays (callee_at store.core.component) store.core.fuel play.items [] (state_of store) records → Session play records
-  script_session records p = session (at_first play) records (subst (λ (s : ScriptStore). Plays (callee_at s.core.component) s.core.fuel play.items [] (state_of s) records) fresh p)
+  pub script_session : (records : List Record) → Plays (callee_at store.core.component) (limits_of store) play.items [] (state_of store) records → Session play records
+  script_session records p = session (at_first play) records (subst (λ (s : ScriptStore). Plays (callee_at s.core.component) (limits_of s) play.items [] (state_of s) records) fresh p)

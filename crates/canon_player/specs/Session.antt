@@ -20,6 +20,7 @@ use Rattle.canon_context.specs.declared.fault.Fault.TheVariants as fault
 use Rattle.canon_value.specs.Resources.{all_resources}
 use Rattle.canon_value.specs.declared.val.Val.{Val}
 use Rattle.canon_value.specs.declared.val.Val.TheVariants as val
+use Rattle.canon_func.specs.Asks.{Limits, allowed}
 use Rattle.canon_func.specs.Call.{IsCall, refusal}
 use Rattle.canon_func.specs.Drop.{IsCutOff, IsDropped, destructor_at, destructor_events, drop_refusal}
 use Rattle.canon_func.specs.Stores.{Callee}
@@ -46,10 +47,11 @@ abbrev pub script_types : Play → Instance
 script_types play = record { types = play.types; store = 0 }
 
 abbrev pub callee_with : Play → ℕ → Option TypeFunc → Callee
-callee_with play i None = record { func = i; types = script_types play; params = no_members; results = no_members; encoding = encoding_of play.encoding; post = None; async_ = false }
+callee_with play i None = record { func = i; types = script_types play; imports = play.imports; params = no_members; results = no_members; encoding = encoding_of play.encoding; post = None; async_ = false }
 callee_with play i (Some f) = record {
   func = i;
   types = script_types play;
+  imports = play.imports;
   params = param_members play.types f;
   results = result_members play.types f;
   encoding = encoding_of play.encoding;
@@ -126,13 +128,13 @@ abbrev pub LeavesSame : List ℕ → List ℕ → Type 0
 LeavesSame memory after = after ≡ memory
 
 -- The guest was entered, and acted by its plan in its memory, from the length before to the length after; its traps are counted;
--- the results were lifted with this fuel; the store is trapped where the call was refused. After an answer that is Ok, memory is
+-- the asks and the results were within these limits; the store is trapped where the call was refused. After an answer that is Ok, memory is
 -- that of the return; after a refusal nothing reads its bytes, since every later call is refused. The memory that the run has
 -- sufficed. The parameters are those of the script, with the resources of the list in the place of their numbers.
-pub record WasCalled (callee : Callee) (fuel : ℕ) (call : ScriptCall) (list : List Any) (before after : State) (r : Record) : Type 0 where
+pub record WasCalled (callee : Callee) (limits : Limits) (call : ScriptCall) (list : List Any) (before after : State) (r : Record) : Type 0 where
   pub params : List Val
   pub params_are : literals_view params ≡ map (replaced (listed list)) call.params
-  pub called : IsCall LeavesSame callee fuel params (moment_of before []) (moment_of after r.events) before.ledger after.ledger (outcome r.answer) (answer_values r.answer) r.events
+  pub called : IsCall LeavesSame callee limits params (moment_of before []) (moment_of after r.events) before.ledger after.ledger (outcome r.answer) (answer_values r.answer) r.events
   pub left : Plan
   pub new_marks : List Mark
   pub does : CarriesOut (plan_of call before.allocator) (length before.memory) r.events new_marks left (length after.memory)
@@ -144,9 +146,9 @@ pub record WasCalled (callee : Callee) (fuel : ℕ) (call : ScriptCall) (list : 
   pub played : r.answer ≢ answer.Skipped
 
 -- It was refused before the guest was entered, which leaves everything as it was; else it was called.
-abbrev pub Called : Callee → ℕ → ScriptCall → List Any → State → State → Record → Option Error → Type 0
-Called callee fuel call list before after r (Some e) = Idle before after r (answer.Err e)
-Called callee fuel call list before after r None = WasCalled callee fuel call list before after r
+abbrev pub Called : Callee → Limits → ScriptCall → List Any → State → State → Record → Option Error → Type 0
+Called callee limits call list before after r (Some e) = Idle before after r (answer.Err e)
+Called callee limits call list before after r None = WasCalled callee limits call list before after r
 
 -- ---- a new resource
 
@@ -220,33 +222,33 @@ skips (call_item c) list before = not (all_known (length list) (held_among c.par
 skips (new_item n) list before = before.trapped
 skips (drop_item d) list before = before.trapped || not (nat_lt d.resource (length list))
 
-abbrev pub WasPlayed : (ℕ → Callee) → ℕ → ScriptItem → List Any → State → State → Record → Type 0
-WasPlayed callees fuel (call_item c) list before after r =
-    Called (callees c.func) fuel c list before after r (refusal (callees c.func) (length c.params) c.slots before.trapped)
-WasPlayed callees fuel (new_item n) list before after r = WasMade n.borrow n before after r
-WasPlayed callees fuel (drop_item d) list before after r = WasDropped (slice_get list d.resource) d.dtor_trap before after r
+abbrev pub WasPlayed : (ℕ → Callee) → Limits → ScriptItem → List Any → State → State → Record → Type 0
+WasPlayed callees limits (call_item c) list before after r =
+    Called (callees c.func) limits c list before after r (refusal (callees c.func) (length c.params) c.slots before.trapped)
+WasPlayed callees limits (new_item n) list before after r = WasMade n.borrow n before after r
+WasPlayed callees limits (drop_item d) list before after r = WasDropped (slice_get list d.resource) d.dtor_trap before after r
 
-abbrev pub Happened : Bool → (ℕ → Callee) → ℕ → ScriptItem → List Any → State → State → Record → Type 0
-Happened true callees fuel i list before after r = Idle before after r answer.Skipped
-Happened false callees fuel i list before after r = WasPlayed callees fuel i list before after r
+abbrev pub Happened : Bool → (ℕ → Callee) → Limits → ScriptItem → List Any → State → State → Record → Type 0
+Happened true callees limits i list before after r = Idle before after r answer.Skipped
+Happened false callees limits i list before after r = WasPlayed callees limits i list before after r
 
 -- The record of an item, with the list of resources before it and the store before and after it: with how many handles live after it.
-pub record IsPlayed (callees : ℕ → Callee) (fuel : ℕ) (i : ScriptItem) (list : List Any) (before after : State) (r : Record) : Type 0 where
+pub record IsPlayed (callees : ℕ → Callee) (limits : Limits) (i : ScriptItem) (list : List Any) (before after : State) (r : Record) : Type 0 where
   pub head : r.head ≡ head_of i
-  pub happened : Happened (skips i list before) callees fuel i list before after r
+  pub happened : Happened (skips i list before) callees limits i list before after r
   pub live : r.live ≡ after.ledger.handles.counter.live
 
 -- ---- all items
 
--- One record for each item, in order, from one state of the store on; each call of one of these callees has this fuel anew. The list
+-- One record for each item, in order, from one state of the store on; each call of one of these callees has these limits anew. The list
 -- of resources grows by those of each answer, depth first.
-abbrev pub Plays : (ℕ → Callee) → ℕ → List ScriptItem → List Any → State → List Record → Type 0
-Plays callees fuel [] list before [] = ⊤
-Plays callees fuel (i ∷ is) list before (r ∷ records) =
-    (after : State) × IsPlayed callees fuel i list before after r × Plays callees fuel is (list ++ all_resources (answer_values r.answer)) after records
-Plays callees fuel [] list before (r ∷ records) = ⊥
-Plays callees fuel (i ∷ is) list before [] = ⊥
+abbrev pub Plays : (ℕ → Callee) → Limits → List ScriptItem → List Any → State → List Record → Type 0
+Plays callees limits [] list before [] = ⊤
+Plays callees limits (i ∷ is) list before (r ∷ records) =
+    (after : State) × IsPlayed callees limits i list before after r × Plays callees limits is (list ++ all_resources (answer_values r.answer)) after records
+Plays callees limits [] list before (r ∷ records) = ⊥
+Plays callees limits (i ∷ is) list before [] = ⊥
 
 -- what a script's session leaves in the transcript
 abbrev pub Session : Play → List Record → Type 0
-Session play records = Plays (played_callee play) play.fuel play.items [] (at_first play) records
+Session play records = Plays (played_callee play) (allowed play.fuel play.turns) play.items [] (at_first play) records

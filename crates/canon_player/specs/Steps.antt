@@ -9,6 +9,7 @@ use Rattle.canon_resources.specs.Held.{Any, any, table_handle}
 use Rattle.canon_resources.specs.declared.any.ResourceAnyHandle.TheVariants.{Synthetic}
 use Rattle.canon_context.specs.declared.fault.Fault.TheVariants as fault
 use Rattle.canon_value.specs.declared.val.Val.TheVariants as val
+use Rattle.canon_func.specs.Asks.{Limits}
 use Rattle.canon_func.specs.Call.{refusal as call_refusal}
 use Rattle.canon_func.specs.Stores.{Callee}
 use Rattle.canon_func.specs.declared.error.Error.TheVariants as error
@@ -21,9 +22,9 @@ use Rattle.canon_transcript.specs.declared.transcript.Record.{Record}
 use Rattle.canon_player.specs.Session.{AnswersOk, Called, State}
 
 -- the record of a call that wasn't skipped
-pub record MakesCall (callee : Callee) (fuel : ℕ) (call : ScriptCall) (list : List Any) (before after : State) (r : Record) : Type 0 where
+pub record MakesCall (callee : Callee) (limits : Limits) (call : ScriptCall) (list : List Any) (before after : State) (r : Record) : Type 0 where
   pub head : r.head ≡ head.Call call.func
-  pub called : Called callee fuel call list before after r (call_refusal callee (length call.params) call.slots before.trapped)
+  pub called : Called callee limits call list before after r (call_refusal callee (length call.params) call.slots before.trapped)
   pub live : r.live ≡ after.ledger.handles.counter.live
 
 -- an own handle of this type, at the index that the host's table gave, or the ledger's refusal

@@ -9,6 +9,8 @@ use Rattle.canon_scripted.specs.Orders.{AreNarrow}
 use Rattle.canon_scripted.specs.Scripted.{Doing, Plan}
 use Rattle.canon_context.specs.declared.component.Component.{Component}
 use Rattle.canon_context.specs.declared.component.Export.{Export}
+use Rattle.canon_context.specs.declared.component.Import.{Import}
+use Rattle.canon_func.specs.Asks.{Limits, allowed}
 use Rattle.canon_func.specs.Stores.{Callee, StoreView, callee_in}
 use Rattle.canon_ledger.specs.Ledger.{new_ledger}
 use Rattle.canon_script.specs.Script.{ScriptCall, ScriptItem, call_item, drop_item, new_item}
@@ -37,11 +39,12 @@ abbrev pub exports_from : ℕ → List Bool → List Export
 exports_from i [] = []
 exports_from i (has_post ∷ posts) = export_for i ∷ exports_from (i + 1) posts
 
--- one export for each function of the table, each with its own options
-pub record IsScripted (t : Table) (encoding : StringEncoding) (posts : List Bool) (component : Component) : Type 0 where
+-- one export for each function of the table, each with its own options, and the imports
+pub record IsScripted (t : Table) (encoding : StringEncoding) (posts : List Bool) (imports : List Import) (component : Component) : Type 0 where
   pub types : component.types ≡ record { types = t; store = 0 }
   pub options : component.options.items ≡ options_from t encoding 0 posts
   pub exports : component.exports.items ≡ exports_from 0 posts
+  pub imports : component.imports.items ≡ imports
 
 -- the callee of export i
 abbrev pub callee_at : Component → ℕ → Callee
@@ -63,8 +66,8 @@ abbrev pub ScriptStore : Type 0
 ScriptStore = StoreView (Unit {0}) (Recorded Doing)
 
 -- nothing was done
-abbrev pub fresh_store : ℕ → ℕ → ℕ → ℕ → Component → ScriptStore
-fresh_store memory heap fuel handles component = record {
+abbrev pub fresh_store : ℕ → ℕ → ℕ → ℕ → ℕ → Component → ScriptStore
+fresh_store memory heap fuel turns handles component = record {
   core = record {
     id = 0;
     state = tt;
@@ -83,8 +86,13 @@ fresh_store memory heap fuel handles component = record {
     ledger = new_ledger 256 handles 0;
     fuel = fuel;
   };
+  turns = turns;
   trapped = false;
 }
+
+-- what each of its calls may use
+abbrev pub limits_of : ScriptStore → Limits
+limits_of s = allowed s.core.fuel s.turns
 
 abbrev pub state_of : ScriptStore → State
 state_of s = record {

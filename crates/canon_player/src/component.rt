@@ -1,8 +1,8 @@
 //! The component and the store of a script.
 
-ghost use Rattle.std.specs.Prelude.{◌≡◌, ◌≤◌, length, IfOk};
-ghost use Rattle.canon_types.specs.Table.{HasFunc};
-ghost use Rattle.canon_context.specs.Component.{IsComponent};
+ghost use Rattle.std.specs.Prelude.{◌≡◌, ◌≤◌, All, length, IfOk};
+ghost use Rattle.canon_types.specs.Table.{HasFunc, HasResource};
+ghost use Rattle.canon_context.specs.Component.{IsComponent, resource_of};
 ghost use Rattle.canon_player.specs.Stores.{IsScripted, fresh_store, options_for};
 
 use canon_func::Store;
@@ -12,7 +12,7 @@ use canon_types::{
     CanonicalOptions, ComponentTypes, InstanceType, OptionsIndex, OutOfMemory, RuntimeInstance,
     StoreId, StringEncoding, TypeFuncIndex,
 };
-use canon_value::{Component, Core, Export};
+use canon_value::{Component, Core, Export, Import};
 use std::alloc::Global;
 
 /// The store of a script, by its number.
@@ -22,17 +22,19 @@ const SCRIPT_STORE: u64 = 0;
 pub(crate) type ScriptStore = Store<(), Journaled<ScriptedGuest>>;
 
 /// A component that exports each function of the table, each with its own options: its core function and, where it has
-/// one, its post-return function have the function's number.
+/// one, its post-return function have the function's number. It has these imports.
 pub(crate) fn component_of(
     alloc: Global,
     types: ComponentTypes,
     encoding: StringEncoding,
     posts: &[bool],
+    imports: Vec<Import>,
 ) -> Result<Component, OutOfMemory>
     requires told { length posts.now ≡ length types.funcs }
     requires few { length types.funcs ≤ 1048576 }
+    requires known { All (λ i. HasResource types (resource_of i)) imports.items }
     ensures sound { IfOk result IsComponent }
-    ensures scripted { IfOk result (IsScripted types encoding posts.now) }
+    ensures scripted { IfOk result (IsScripted types encoding posts.now imports.items) }
 {
     let mut options = Vec::new(alloc);
     let mut exports = Vec::new(alloc);
@@ -49,6 +51,7 @@ pub(crate) fn component_of(
         types: InstanceType::new(types, StoreId::from_u64(SCRIPT_STORE)),
         options,
         exports,
+        imports,
     })
 }
 
@@ -70,18 +73,19 @@ fn options_of(
     }
 }
 
-/// A store of a component in which nothing was done, with this memory of zeros, this fuel for each call and room for so many live
-/// handles, where the guest's allocator begins at `heap`.
+/// A store of a component in which nothing was done, with this memory of zeros, this fuel and so many asks for each call, and room for
+/// so many live handles, where the guest's allocator begins at `heap`.
 pub(crate) fn store_of(
     alloc: Global,
     component: Component,
     memory: u64,
     heap: u64,
     fuel: u64,
+    turns: u64,
     handles: u64,
 ) -> Result<ScriptStore, OutOfMemory>
     requires { IsComponent component }
-    ensures { IfOk result (λ store. store ≡ fresh_store memory heap fuel handles component) }
+    ensures { IfOk result (λ store. store ≡ fresh_store memory heap fuel turns handles component) }
 {
     let Ok(memory) = Memory::new(alloc, memory) else {
         return Err(OutOfMemory);
@@ -89,5 +93,5 @@ pub(crate) fn store_of(
     let guest = Journaled::new(alloc, ScriptedGuest::new(alloc, heap));
     let id = StoreId::from_u64(SCRIPT_STORE);
     let core = Core::new(alloc, id, (), guest, memory, component, handles, fuel)?;
-    Ok(Store::new(core))
+    Ok(Store::new(core, turns))
 }

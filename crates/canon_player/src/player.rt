@@ -3,7 +3,7 @@ ghost use Rattle.canon_value.specs.Resources.{all_resources};
 ghost use Rattle.canon_script.specs.Script.{IsWellFormed, call_item, call_item_view, drop_item, item_view, new_item, play_of};
 ghost use Rattle.canon_player.specs.Session.{IsPlayed, Plays, Session, WasDropped, answer_values, outcome};
 ghost use Rattle.canon_player.specs.Steps.{MadeAnswer, MakesCall, MakesResource};
-ghost use Rattle.canon_player.specs.Stores.{IsCallable, IsPlayable, callee_at, state_of};
+ghost use Rattle.canon_player.specs.Stores.{IsCallable, IsPlayable, callee_at, limits_of, state_of};
 
 use crate::component::{ScriptStore, component_of, store_of};
 use canon_func::{Error, resource_drop};
@@ -29,14 +29,16 @@ pub fn play(alloc: Global, script: Script, transcript: &mut Transcript) -> Resul
         memory,
         heap,
         fuel,
+        turns,
         handles,
         encoding,
         types,
         posts,
+        imports,
         items,
     } = script;
-    let component = component_of(alloc, types, encoding, &posts)?;
-    let store = store_of(alloc, component, memory, heap, fuel, handles)?;
+    let component = component_of(alloc, types, encoding, &posts, imports)?;
+    let store = store_of(alloc, component, memory, heap, fuel, turns, handles)?;
     *transcript = play_items(alloc, store, items)?;
     Ok(())
 }
@@ -49,7 +51,7 @@ fn play_items(
 ) -> Result<Transcript, OutOfMemory>
     requires fresh { store.core.guest.events ≡ [] }
     requires playable { All (IsPlayable store.core.component) (map item_view items.items) }
-    ensures { IfOk result (λ records. Plays (callee_at store.core.component) store.core.fuel (map item_view items.items) [] (state_of store) records) }
+    ensures { IfOk result (λ records. Plays (callee_at store.core.component) (limits_of store) (map item_view items.items) [] (state_of store) records) }
 {
     let mut store = store;
     let mut records = Transcript::new(alloc);
@@ -90,10 +92,10 @@ fn play_item(
 ) -> Result<Record, OutOfMemory>
     requires fresh { store.old.core.guest.events ≡ [] }
     requires playable { IsPlayable store.old.core.component (item_view item) }
-    ensures played { IfOk result (IsPlayed (callee_at store.old.core.component) store.old.core.fuel (item_view item) list.now (state_of store.old) (state_of store.new)) }
+    ensures played { IfOk result (IsPlayed (callee_at store.old.core.component) (limits_of store.old) (item_view item) list.now (state_of store.old) (state_of store.new)) }
     ensures fresh { store.new.core.guest.events ≡ [] }
     ensures same { store.new.core.component ≡ store.old.core.component }
-    ensures fuel { store.new.core.fuel ≡ store.old.core.fuel }
+    ensures limits { limits_of store.new ≡ limits_of store.old }
 {
     match item {
         Item::Call(call) => play_call(alloc, store, list, call),
@@ -126,10 +128,10 @@ fn play_call(
 ) -> Result<Record, OutOfMemory>
     requires fresh { store.old.core.guest.events ≡ [] }
     requires playable { IsCallable store.old.core.component (call_item_view call) }
-    ensures played { IfOk result (IsPlayed (callee_at store.old.core.component) store.old.core.fuel (call_item (call_item_view call)) list.now (state_of store.old) (state_of store.new)) }
+    ensures played { IfOk result (IsPlayed (callee_at store.old.core.component) (limits_of store.old) (call_item (call_item_view call)) list.now (state_of store.old) (state_of store.new)) }
     ensures fresh { store.new.core.guest.events ≡ [] }
     ensures same { store.new.core.component ≡ store.old.core.component }
-    ensures fuel { store.new.core.fuel ≡ store.old.core.fuel }
+    ensures limits { limits_of store.new ≡ limits_of store.old }
 {
     if !are_known(alloc, &call.params, list.len())? {
         let head = Head::Call(call.func);
@@ -147,10 +149,10 @@ fn make_call(
 ) -> Result<Record, OutOfMemory>
     requires fresh { store.old.core.guest.events ≡ [] }
     requires playable { IsCallable store.old.core.component (call_item_view call) }
-    ensures called { IfOk result (MakesCall (callee_at store.old.core.component call.func) store.old.core.fuel (call_item_view call) list.now (state_of store.old) (state_of store.new)) }
+    ensures called { IfOk result (MakesCall (callee_at store.old.core.component call.func) (limits_of store.old) (call_item_view call) list.now (state_of store.old) (state_of store.new)) }
     ensures fresh { store.new.core.guest.events ≡ [] }
     ensures same { store.new.core.component ≡ store.old.core.component }
-    ensures fuel { store.new.core.fuel ≡ store.old.core.fuel }
+    ensures limits { limits_of store.new ≡ limits_of store.old }
 {
     let CallItem {
         func,
@@ -185,10 +187,10 @@ fn play_new(
     item: NewItem,
 ) -> Result<Record, OutOfMemory>
     requires fresh { store.old.core.guest.events ≡ [] }
-    ensures played { IfOk result (IsPlayed (callee_at store.old.core.component) store.old.core.fuel (new_item item) list.now (state_of store.old) (state_of store.new)) }
+    ensures played { IfOk result (IsPlayed (callee_at store.old.core.component) (limits_of store.old) (new_item item) list.now (state_of store.old) (state_of store.new)) }
     ensures fresh { store.new.core.guest.events ≡ [] }
     ensures same { store.new.core.component ≡ store.old.core.component }
-    ensures fuel { store.new.core.fuel ≡ store.old.core.fuel }
+    ensures limits { limits_of store.new ≡ limits_of store.old }
 {
     if store.is_trapped() {
         return Ok(idle_record(alloc, store, Head::New, Answer::Skipped));
@@ -241,10 +243,10 @@ fn play_drop(
     item: DropItem,
 ) -> Result<Record, OutOfMemory>
     requires fresh { store.old.core.guest.events ≡ [] }
-    ensures played { IfOk result (IsPlayed (callee_at store.old.core.component) store.old.core.fuel (drop_item item) list.now (state_of store.old) (state_of store.new)) }
+    ensures played { IfOk result (IsPlayed (callee_at store.old.core.component) (limits_of store.old) (drop_item item) list.now (state_of store.old) (state_of store.new)) }
     ensures fresh { store.new.core.guest.events ≡ [] }
     ensures same { store.new.core.component ≡ store.old.core.component }
-    ensures fuel { store.new.core.fuel ≡ store.old.core.fuel }
+    ensures limits { limits_of store.new ≡ limits_of store.old }
 {
     let head = Head::Drop(item.resource);
     if store.is_trapped() {
@@ -269,7 +271,7 @@ fn make_drop(
     ensures live { IfOk result (λ r. r.live ≡ store.new.core.ledger.handles.counter.live) }
     ensures fresh { store.new.core.guest.events ≡ [] }
     ensures same { store.new.core.component ≡ store.old.core.component }
-    ensures fuel { store.new.core.fuel ≡ store.old.core.fuel }
+    ensures limits { limits_of store.new ≡ limits_of store.old }
 {
     let scripted = store.core_mut().guest_mut().guest_mut();
     scripted.load(Vec::new(alloc), Vec::new(alloc), false, item.dtor_trap);

@@ -2,6 +2,7 @@ use Rattle.std.proofs.Common.{ap, subst, ◌++◌, ◌≡◌}
 use Rattle.std.specs.Prelude.{IfOk, length}
 use Rattle.canon_model.specs.Shape.{member_count}
 use Rattle.canon_context.specs.Core.{guest_of, moment_of}
+use Rattle.canon_func.specs.Asks.{allowed}
 use Rattle.canon_func.specs.Call.{OnAnswered}
 use Rattle.canon_func.specs.Steps.{Proceeds, IsRest}
 use Rattle.canon_func.specs.Stores.{export_callee}
@@ -18,14 +19,14 @@ returns-in-Ok-clause-call g c =
     let callee = export_callee before.component c.args.export.now in
     let result = c.run.result in
     let words = c.in-Ok.words in
-    let second : Proceeds (moment_of seen mid) (moment_of seen after) (λ es. OnAnswered result (moves (guest_of mid) es (guest_of after))) (λ es. IsRest g.G.Guest.leaves callee before.fuel words.items (moment_of seen mid) (moment_of seen after) mid.ledger after.ledger result es) =
+    let second : Proceeds (moment_of seen mid) (moment_of seen after) (λ es. OnAnswered result (moves (guest_of mid) es (guest_of after))) (λ es. IsRest g.G.Guest.leaves callee (allowed before.fuel c.args.turns) words.items (moment_of seen mid) (moment_of seen after) mid.ledger after.ledger result es) =
     subst (λ k. Proceeds (moment_of seen mid) (moment_of seen after) (λ es. OnAnswered result (moves (guest_of mid) es (guest_of after)))
-    (λ es. IsRest g.G.Guest.leaves (export_callee k.component c.args.export.now) k.fuel words.items (moment_of seen mid) (moment_of seen after) mid.ledger after.ledger result es))
+    (λ es. IsRest g.G.Guest.leaves (export_callee k.component c.args.export.now) (allowed k.fuel c.args.turns) words.items (moment_of seen mid) (moment_of seen after) mid.ledger after.ledger result es))
     c.lower_params.ensures.same
     (subst (λ ws. Proceeds (moment_of seen mid) (moment_of seen after) (λ es. OnAnswered result (moves (guest_of mid) es (guest_of after)))
-    (λ es. IsRest g.G.Guest.leaves (export_callee mid.component c.args.export.now) mid.fuel ws (moment_of seen mid) (moment_of seen after) mid.ledger after.ledger result es))
+    (λ es. IsRest g.G.Guest.leaves (export_callee mid.component c.args.export.now) (allowed mid.fuel c.args.turns) ws (moment_of seen mid) (moment_of seen after) mid.ledger after.ledger result es))
     c.deref.ensures.value c.run.ensures.did) in
-    call_started g.G.Guest.leaves callee before.fuel c.args.params.now (moment_of seen before) (moment_of seen mid) (moment_of seen after) before.ledger mid.ledger after.ledger words result
+    call_started g.G.Guest.leaves callee (allowed before.fuel c.args.turns) c.args.params.now (moment_of seen before) (moment_of seen mid) (moment_of seen after) before.ledger mid.ledger after.ledger words result
     (λ es. moves (guest_of before) es (guest_of mid)) (λ es. OnAnswered result (moves (guest_of mid) es (guest_of after))) (λ es. OnAnswered result (moves (guest_of before) es (guest_of after)))
     (λ xs ys p q. answered result (moves (guest_of mid) ys (guest_of after)) (moves (guest_of before) (xs ++ ys) (guest_of after)) (λ r. g.met.G.Guest.goes_on (guest_of before) (guest_of mid) (guest_of after) xs ys p r) q)
     c.in-Ok.ensures.lowered second
@@ -35,7 +36,7 @@ returns-in-Ok-clause-late g c =
     let seen = g.G.Guest.seen in
     let mid = c.lower_params.new.core in
     let after = c.run.new.core in
-    rest_is_late (export_callee mid.component c.args.export.now) mid.fuel (moment_of seen mid) (moment_of seen after) c.run.ensures.did.events c.run.result c.run.ensures.did.so.cause
+    rest_is_late (export_callee mid.component c.args.export.now) (allowed mid.fuel c.args.turns) (moment_of seen mid) (moment_of seen after) c.run.ensures.did.events c.run.result c.run.ensures.did.so.cause
 
 pub returns-in-Ok-clause-count : goal.returns-in-Ok-clause-count
 returns-in-Ok-clause-count g c =
@@ -47,7 +48,7 @@ returns-in-Err-clause-call g c =
     let seen = g.G.Guest.seen in
     let before = c.args.core.now in
     let after = c.lower_params.new.core in
-    call_refused g.G.Guest.leaves (export_callee before.component c.args.export.now) before.fuel c.args.params.now (moment_of seen before) (moment_of seen after) before.ledger after.ledger c.in-Err.error _ c.in-Err.ensures.lowered
+    call_refused g.G.Guest.leaves (export_callee before.component c.args.export.now) (allowed before.fuel c.args.turns) c.args.params.now (moment_of seen before) (moment_of seen after) before.ledger after.ledger c.in-Err.error _ c.in-Err.ensures.lowered
 
 pub returns-in-Err-clause-late : goal.returns-in-Err-clause-late
 returns-in-Err-clause-late g c =

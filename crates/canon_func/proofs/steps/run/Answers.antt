@@ -1,8 +1,8 @@
-use Rattle.std.proofs.Common.{Err, Global, Vec, ap, subst, sym, ◌++◌}
+use Rattle.std.proofs.Common.{subst, ◌++◌}
 use Rattle.canon_context.specs.Core.{guest_of, moment_of}
-use Rattle.canon_value.specs.declared.val.Val.{Val}
+use Rattle.canon_func.specs.Asks.{allowed}
 use Rattle.canon_func.specs.Call.{OnAnswered}
-use Rattle.canon_func.specs.Steps.{Concluded, IsRest, Proceeds}
+use Rattle.canon_func.specs.Steps.{Concluded, Proceeds}
 use Rattle.canon_func.specs.Stores.{export_callee}
 use Rattle.canon_func.proofs.Composed.{answered, run_refused, run_returned}
 use Rattle.canon_func.proofs.steps.run.Goals as goal
@@ -12,18 +12,18 @@ returns-in-Ok-clause-did g c =
     let seen = g.G.Guest.seen in
     let moves = g.G.Guest.moves in
     let before = c.args.core.now in
-    let mid = c.start.new.core in
+    let mid = c.run_core.new.core in
     let after = c.conclude.new.core in
     let callee = export_callee before.component c.args.export.now in
     let result = c.conclude.result in
-    let second : Proceeds (moment_of seen mid) (moment_of seen after) (λ es. OnAnswered result (moves (guest_of mid) es (guest_of after))) (λ es. Concluded g.G.Guest.leaves callee before.fuel c.in-Ok.returned (moment_of seen mid) (moment_of seen after) before.ledger after.ledger result es) =
+    let second : Proceeds (moment_of seen mid) (moment_of seen after) (λ es. OnAnswered result (moves (guest_of mid) es (guest_of after))) (λ es. Concluded g.G.Guest.leaves callee before.fuel c.in-Ok.returned (moment_of seen mid) (moment_of seen after) mid.ledger after.ledger result es) =
     subst (λ k. Proceeds (moment_of seen mid) (moment_of seen after) (λ es. OnAnswered result (moves (guest_of mid) es (guest_of after)))
-    (λ es. Concluded g.G.Guest.leaves (export_callee k.component c.args.export.now) k.fuel c.in-Ok.returned (moment_of seen mid) (moment_of seen after) k.ledger after.ledger result es))
-    c.start.ensures.same
+    (λ es. Concluded g.G.Guest.leaves (export_callee k.component c.args.export.now) k.fuel c.in-Ok.returned (moment_of seen mid) (moment_of seen after) mid.ledger after.ledger result es))
+    c.run_core.ensures.same
     (subst (λ ws. Proceeds (moment_of seen mid) (moment_of seen after) (λ es. OnAnswered result (moves (guest_of mid) es (guest_of after)))
     (λ es. Concluded g.G.Guest.leaves (export_callee mid.component c.args.export.now) mid.fuel ws (moment_of seen mid) (moment_of seen after) mid.ledger after.ledger result es))
     c.as_slice.ensures c.conclude.ensures.did) in
-    run_returned g.G.Guest.leaves callee before.fuel c.args.words.now before.ledger after.ledger (moment_of seen before) (moment_of seen mid) (moment_of seen after) c.in-Ok.returned result
+    run_returned g.G.Guest.leaves callee (allowed before.fuel c.args.turns) c.args.words.now (moment_of seen before) (moment_of seen mid) (moment_of seen after) before.ledger mid.ledger after.ledger c.in-Ok.returned result
     (λ es. moves (guest_of before) es (guest_of mid)) (λ es. OnAnswered result (moves (guest_of mid) es (guest_of after))) (λ es. OnAnswered result (moves (guest_of before) es (guest_of after)))
     (λ xs ys p q. answered result (moves (guest_of mid) ys (guest_of after)) (moves (guest_of before) (xs ++ ys) (guest_of after)) (λ r. g.met.G.Guest.goes_on (guest_of before) (guest_of mid) (guest_of after) xs ys p r) q)
     c.in-Ok.ensures.did second
@@ -32,8 +32,5 @@ pub returns-in-Err-clause-did : goal.returns-in-Err-clause-did
 returns-in-Err-clause-did g c =
     let seen = g.G.Guest.seen in
     let before = c.args.core.now in
-    let after = c.start.new.core in
-    subst (λ l. Proceeds (moment_of seen before) (moment_of seen after) (λ es. OnAnswered {T = Vec Val Global} (Err c.in-Err.error) (g.G.Guest.moves (guest_of before) es (guest_of after)))
-    (λ es. IsRest g.G.Guest.leaves (export_callee before.component c.args.export.now) before.fuel c.args.words.now (moment_of seen before) (moment_of seen after) before.ledger l (Err c.in-Err.error) es))
-    (sym (ap (λ k. k.ledger) c.in-Err.ensures.same))
-    (run_refused g.G.Guest.leaves (export_callee before.component c.args.export.now) before.fuel c.args.words.now before.ledger before.ledger (moment_of seen before) (moment_of seen after) c.in-Err.error _ c.in-Err.ensures.did)
+    let after = c.run_core.new.core in
+    run_refused g.G.Guest.leaves (export_callee before.component c.args.export.now) (allowed before.fuel c.args.turns) c.args.words.now (moment_of seen before) (moment_of seen after) before.ledger after.ledger c.in-Err.error _ c.in-Err.ensures.did

@@ -21,8 +21,8 @@ returns-in-Err-clause-call g c = λ none.
     let after = c.call_core.new.core in
     let callee = export_callee before.component c.export_in-export.result in
     let e = c.in-Err.error in
-    let made : Adding (moment_of seen before) (moment_of seen after) (λ es. OnAnswered {T = Unit {0}} (Err e) (moves (guest_of before) es (guest_of after))) (λ es. CoreCall g.G.Guest.leaves callee before.fuel c.args.params.now (moment_of seen before) (moment_of seen after) before.ledger after.ledger (Err e) es) =
+    let made : Adding (moment_of seen before) (moment_of seen after) (λ es. OnAnswered {T = Unit {0}} (Err e) (moves (guest_of before) es (guest_of after))) (λ es. CoreCall g.G.Guest.leaves callee (allowed before.fuel store.turns) c.args.params.now (moment_of seen before) (moment_of seen after) before.ledger after.ledger (Err e) es) =
     subst (λ k. Adding (moment_of seen k) (moment_of seen after) (λ es. OnAnswered {T = Unit {0}} (Err e) (moves (guest_of k) es (guest_of after)))
-    (λ es. CoreCall g.G.Guest.leaves (export_callee k.component c.export_in-export.result) k.fuel c.args.params.now (moment_of seen k) (moment_of seen after) k.ledger after.ledger (Err e) es))
+    (λ es. CoreCall g.G.Guest.leaves (export_callee k.component c.export_in-export.result) (allowed k.fuel store.turns) c.args.params.now (moment_of seen k) (moment_of seen after) k.ledger after.ledger (Err e) es))
     c.core_mut.ensures.value c.in-Err.ensures.call in
-    rw (c.export_in-export.ensures.found, c.trap.ensures) (call_left g.G.Guest.leaves callee before.fuel c.args.params.now (moment_of seen before) (moment_of seen after) before.ledger after.ledger e c.args.results.now (λ es. OnAnswered {T = Unit {0}} (Err e) (moves (guest_of before) es (guest_of after))) made)
+    rw (c.export_in-export.ensures.found, c.trap.ensures) (call_left g.G.Guest.leaves callee (allowed before.fuel store.turns) c.args.params.now (moment_of seen before) (moment_of seen after) before.ledger after.ledger e c.args.results.now (λ es. OnAnswered {T = Unit {0}} (Err e) (moves (guest_of before) es (guest_of after))) made)
