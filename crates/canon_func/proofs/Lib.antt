@@ -1,3 +1,4 @@
+pub mod Asking
 pub mod Calls
 pub mod Composed
 pub mod Counts
@@ -10,4 +11,5 @@ pub mod Prefixes
 pub mod Rests
 pub mod Returned
 pub mod Scoped
+pub mod Throughs
 pub mod Turns

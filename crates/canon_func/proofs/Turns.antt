@@ -1,5 +1,5 @@
 -- Asks that were served, one after another.
-use Rattle.std.proofs.Common.{Err, List, None, Ok, Option, Result, Some, [], ap, append_assoc, arith, length, refl, subst, suc, sym, ℕ, ◌++◌, ◌+◌, ◌<◌, ◌∙◌, ◌∷◌, ◌≡◌, ◌≤◌}
+use Rattle.std.proofs.Common.{Err, List, None, Ok, Option, Result, Some, [], ap, append_assoc, arith, inr, length, refl, subst, suc, sym, ℕ, ◌++◌, ◌+◌, ◌<◌, ◌∙◌, ◌∷◌, ◌≡◌, ◌≤◌}
 use Rattle.std.proofs.lemmas.List.{append-nil}
 use Rattle.std.specs.Prelude.{slice_get}
 use Rattle.canon_memory.specs.declared.event.Event.{Event}
@@ -9,12 +9,13 @@ use Rattle.canon_memory.specs.declared.guest.Step.TheVariants as step
 use Rattle.canon_memory.specs.Guest.{Goes, Moment}
 use Rattle.canon_memory.specs.Journal.{step_event, trap_event}
 use Rattle.canon_ledger.specs.Ledger.{Done, LedgerState}
+use Rattle.canon_ledger.specs.declared.fault.ResourceFault.{ResourceFault}
 use Rattle.canon_lowering.proofs.Lowerings.{goes_then}
 use Rattle.canon_context.specs.declared.component.Import.{Import}
 use Rattle.canon_context.specs.declared.fault.Fault.TheVariants as fault
 use Rattle.canon_func.specs.Asks.{AreServed, IsAskOf, IsServed, ask_step}
 use Rattle.canon_func.specs.Runs.{AskTurn, Each, Grows, asks_in, events_in, last_len}
-use Rattle.canon_func.specs.Steps.{Asked, Ran, Serves, Stepping, so_far, turn}
+use Rattle.canon_func.specs.Steps.{Asked, Ran, Resumed, Serves, Stepping, so_far, turn}
 use Rattle.canon_func.specs.Stores.{Callee}
 use Rattle.canon_func.specs.declared.error.Error.{Error}
 use Rattle.canon_func.specs.declared.error.Error.TheVariants as error
@@ -208,3 +209,18 @@ module _ (callee : Callee) (words : List ℕ) (before : Moment) (ledger : Ledger
       is = refl;
       stopped = (index, asked, now.bytes, refl, h.longer, same_le (length now.bytes), h.count_is ∙ all, refl);
     }
+
+-- ---- how an ask was served
+
+module _ (callee : Callee) (index : ℕ) (words : List ℕ) (a b : Moment) (l l2 : LedgerState) (called : Import) (is : IsAskOf callee index words called) where
+  -- its step was taken, and the guest was resumed
+  pub served_by : (answer : ℕ) (result : Result Step Error) (events : List Event) → ask_step callee.types called words l ≡ record { answer = Ok answer; after = l2 }
+      → Resumed (answer ∷ []) a b result events → Serves callee index words a b l l2 result events
+  served_by answer (Ok next) events taken h = (answer ∷ [], record { called = called; is = is; answer = answer; taken = taken; resumed = refl; same = refl; no_request = refl }, h)
+  served_by answer (Err (error.Fault fault.GuestTrap)) events taken h = (answer ∷ [], record { called = called; is = is; answer = answer; taken = taken; resumed = refl; same = refl; no_request = refl }, h)
+  served_by answer (Err (error.Fault fault.OutOfMemory)) events taken h = ((called, is, inr (answer, taken)), h)
+  served_by answer (Err e) events taken h = absurd h
+
+-- an answer and what it leaves are a step's
+pub done_is : {A : Type 0} (d : Done A) (r : Result A ResourceFault) (l : LedgerState) → d.answer ≡ r → l ≡ d.after → d ≡ record { answer = r; after = l }
+done_is d r l h g = λ i. record { answer = h i; after = sym g i }

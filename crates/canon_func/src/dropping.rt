@@ -123,6 +123,7 @@ pub fn resource_drop<T, G: Guest>(r: ResourceAny, store: &mut Store<T, G>) -> Re
     ensures refused { IfSome (host_index r.handle) (λ x. IfSome (drop_refusal store.old.core.ledger store.old.trapped x) (λ e. (result ≡ Err e) × (store.new ≡ store.old))) }
     ensures drops { IfSome (host_index r.handle) (λ x. IfNone (drop_refusal store.old.core.ledger store.old.trapped x) (IsDrop G.seen G.moves G.leaves x store.old store.new result)) }
     ensures same { SameButHandles store.old.core store.new.core }
+    ensures turns { store.new.turns ≡ store.old.turns }
 {
     let Some(index) = r.host_index() else {
         return Ok(());

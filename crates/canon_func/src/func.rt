@@ -132,6 +132,7 @@ impl Func {
         ensures runs { OnOk result (store.new.trapped ≡ store.old.trapped) }
         ensures left { OnErr result (results.new ≡ results.old) }
         ensures same { SameButHandles store.old.core store.new.core }
+        ensures turns { store.new.turns ≡ store.old.turns }
     {
         if let Some(error) = self.refusal(store, params.len(), results.len()) {
             return Err(error);

@@ -5,10 +5,12 @@ mod asks;
 mod dropping;
 mod error;
 mod func;
+mod laws;
 mod steps;
 mod store;
 
 pub use dropping::resource_drop;
 pub use error::Error;
 pub use func::Func;
+pub use laws::call_is_through;
 pub use store::Store;

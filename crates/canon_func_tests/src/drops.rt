@@ -232,8 +232,11 @@ fn a_borrow_of_the_host_has_nothing_to_drop(rt: HostRuntime) -> Result<(), Fail>
 }
 
 #[test]
-fn a_store_has_a_limit_of_live_handles(rt: HostRuntime) -> Result<(), Fail> {
+fn a_store_has_limits_of_handles_and_of_asks(rt: HostRuntime) -> Result<(), Fail> {
     let (mut store, ty) = drop_store(rt.alloc(), false)?;
+    assert!(rt; store.turns() == 100);
+    store.set_turns(7);
+    assert!(rt; store.turns() == 7);
     let resource = resource_of(&mut store, ty)?;
     store.set_handle_limit(0);
     assert!(rt; given(store.core_mut(), ty).is_none());

@@ -195,12 +195,12 @@ kept_results (Err x) v ws vs e h = tt
 -- the store with the guest loaded
 pub loaded_is : (plan : Allocator → Plan) (s : ScriptStore) (core : Parts (Unit {0}) (Recorded Doing)) (told : Recorded Doing) (guest after : Doing) → core ≡ s.core → told ≡ core.guest → guest ≡ told.guest
     → after ≡ record guest { plan = plan guest.plan.allocator }
-    → record { core = record core { guest = record told { guest = after } }; trapped = s.trapped } ≡ with_plan s (plan s.core.guest.guest.plan.allocator)
+    → record { core = record core { guest = record told { guest = after } }; turns = s.turns; trapped = s.trapped } ≡ with_plan s (plan s.core.guest.guest.plan.allocator)
 loaded_is plan s core told guest after a b c d = simp (d, c, b, a)
 
 -- the store without its journal
 pub taken_is : (left : ScriptStore) (core : Parts (Unit {0}) (Recorded Doing)) (told after : Recorded Doing) → core ≡ left.core → told ≡ core.guest → after ≡ record told { events = [] }
-    → state_of (record { core = record core { guest = after }; trapped = left.trapped }) ≡ state_of left
+    → state_of (record { core = record core { guest = after }; turns = left.turns; trapped = left.trapped }) ≡ state_of left
 taken_is left core told after a b c = simp (c, b, a)
 
 -- The store is `s` before the guest is loaded, `before` when the function is called, `left` as the call leaves it, and `final` once

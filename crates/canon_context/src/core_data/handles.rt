@@ -26,7 +26,11 @@ use canon_resources::ResourceAny;
 use canon_types::{OutOfMemory, RuntimeInstance, TypeResourceTableIndex};
 
 impl<T, G> Core<T, G> {
-    ghost use Rattle.canon_ledger.specs.Reached.{known_in, ledger_in, scope_in};
+    ghost use Rattle.std.specs.Borrow.{sem};
+    ghost use denote.Follow.{follows};
+    ghost use Rattle.canon_context.specs.contracts.core_data.Core.{the_row};
+    ghost use Rattle.canon_ledger.specs.contracts.ledger.Ledger as ledger_type;
+    ghost use Rattle.canon_ledger.specs.Reached.{known_in, ledger_in, reference_in, scope_in};
 
     /// The resource tables as the host reaches them: the core's, with the component's types and the top open scope, where there
     /// is one. What a caller does with them isn't told of the core: each call below is told.
@@ -35,6 +39,7 @@ impl<T, G> Core<T, G> {
         ensures same_types { known_in result ≡ Some (types_of self.old) }
         ensures top { scope_number (scope_in result) ≡ top_scope self.old.ledger.handles }
         ensures scope_open { IsOpen (scope_in result) (ledger_in result) }
+        ensures* writes_back { sem 𝓛 (follows (the_row T.row G.row) ledger_type.the_row self.entry.ghost_name (reference_in result) (λ l. record self.old { ledger = l })) }
     {
         let Core {
             ref component,

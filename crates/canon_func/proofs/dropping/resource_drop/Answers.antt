@@ -16,6 +16,7 @@ returns-in-Err-clause-drops g c =
     (not_removed g.G.Guest.seen g.G.Guest.moves g.G.Guest.leaves g.met.G.Guest.stays x store _ e
     (subst (λ k. SameButLedger k mid) first c.in-Err.ensures.same)
     refl
+    refl
     (subst (λ k. Removes k.ledger x mid.ledger (Err e)) first c.in-Err.ensures.removes))
 
 pub returns-in-Ok-finish-clause-drops : goal.returns-in-Ok-finish-clause-drops

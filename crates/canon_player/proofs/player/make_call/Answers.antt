@@ -12,9 +12,9 @@ pub returns-clause-called : goal.returns-clause-called
 returns-clause-called c =
     let call = call_item_view c.args.call in
     let s : ScriptStore = c.args.store.now in
-    let before : ScriptStore = record { core = record c.core_mut.result.now { guest = record c.guest_mut.result.now { guest = c.load.new.self } }; trapped = s.trapped } in
+    let before : ScriptStore = record { core = record c.core_mut.result.now { guest = record c.guest_mut.result.now { guest = c.load.new.self } }; turns = s.turns; trapped = s.trapped } in
     let left : ScriptStore = c.call-called.new.store in
-    let final : ScriptStore = record { core = record c.core_mut-2.result.now { guest = c.take_journal-events.new.self }; trapped = left.trapped } in
+    let final : ScriptStore = record { core = record c.core_mut-2.result.now { guest = c.take_journal-events.new.self }; turns = left.turns; trapped = left.trapped } in
     record_is call c.args.list.now _ s before left final c.unwrap-f.result c.deref-2.result.now c.call-called.new.results c.in_ok-results.results c.call-called.result c.requires.fresh
     (loaded_is (plan_of call) s c.core_mut.result.now c.guest_mut.result.now c.guest_mut-scripted.result.now c.load.new.self c.core_mut.ensures.value c.guest_mut.ensures.value c.guest_mut-scripted.ensures.value c.load.ensures)
     (search rules)

@@ -1,0 +1,85 @@
+-- A guest that runs: how it is started, served and left.
+use Rattle.std.proofs.Common.{Err, List, None, Ok, Option, Result, Some, [], ap, arith, inl, inr, length, refl, subst, sym, ℕ, ◌++◌, ◌+◌, ◌<◌, ◌∙◌, ◌∷◌, ◌≡◌, ◌≤◌}
+use Rattle.std.specs.Prelude.{slice_get}
+use Rattle.canon_memory.specs.declared.error.GuestFault.{GuestFault}
+use Rattle.canon_memory.specs.declared.error.GuestFault.TheVariants as guest
+use Rattle.canon_memory.specs.declared.event.Event.{Event}
+use Rattle.canon_memory.specs.declared.event.Event.TheVariants as event
+use Rattle.canon_memory.specs.declared.guest.Step.{Step}
+use Rattle.canon_memory.specs.declared.guest.Step.TheVariants as step
+use Rattle.canon_memory.specs.Guest.{Goes, HasCause, Moment, OnAnswer, Seen, moment}
+use Rattle.canon_memory.specs.Journal.{step_event, step_events, trap_event}
+use Rattle.canon_ledger.specs.Ledger.{LedgerState}
+use Rattle.canon_lowering.proofs.Lowerings.{goes_none, goes_then}
+use Rattle.canon_context.specs.declared.fault.Fault.TheVariants as fault
+use Rattle.canon_func.specs.Asks.{AskStops}
+use Rattle.canon_func.specs.Call.{OnAnswered}
+use Rattle.canon_func.specs.Steps.{MayRun, Proceeds, Ran, Serves, Started, Stepping, so_far}
+use Rattle.canon_func.specs.Stores.{Callee}
+use Rattle.canon_func.specs.declared.error.Error.{Error}
+use Rattle.canon_func.specs.declared.error.Error.TheVariants as error
+use Rattle.canon_func.proofs.Composed.{answers}
+use Rattle.canon_func.proofs.Turns.{asked_none, ran_exhausted, ran_refused, ran_returned, same_le}
+
+module _ (callee : Callee) (most : ℕ) (words : List ℕ) (before : Moment) (ledger : LedgerState) where
+  -- it wasn't started, or trapped at once
+  start_failed : (now : Moment) (e : Error) (events : List Event) → length before.bytes ≤ length now.bytes → Started callee.func words before now (Err e) events → MayRun callee most words before now ledger ledger (Err e) events
+  start_failed now (error.Fault fault.OutOfMemory) events longer h = inl (refl, h, refl)
+  start_failed now (error.Fault fault.GuestTrap) events longer (rose, are) = inr (record {
+    turns = [];
+    len = length before.bytes;
+    served = ledger;
+    tail = trap_event (length before.bytes) ∷ [];
+    asked = asked_none callee before ledger;
+    few = omega arith;
+    longer = longer;
+    is = are;
+    stopped = (rose, (refl, refl));
+  })
+  start_failed now e events longer h = absurd h
+
+  pub not_started : (now : Moment) (left : LedgerState) (e : Error) (M : List Event → Type 0) → left ≡ ledger → Proceeds before now M (Started callee.func words before now (Err e)) → Proceeds before now M (MayRun callee most words before now ledger left (Err e))
+  not_started now left e M same h = record {
+    events = h.events;
+    goes = h.goes;
+    moves = h.moves;
+    so = subst (λ l. MayRun callee most words before now ledger l (Err e) h.events) (sym same) (start_failed now e h.events h.goes.no_shorter h.so);
+  }
+
+  module _ (now : Moment) (served : LedgerState) (M : List Event → Type 0) (count : ℕ) where
+    pub has_returned : (returned : List ℕ) → Stepping callee words before now ledger served M count (step.Return returned) → count ≤ most → Proceeds before now M (MayRun callee most words before now ledger served (Ok returned))
+    has_returned returned h le = record {
+      events = so_far callee words before h.turns (event.Return returned now.bytes ∷ []);
+      goes = h.goes;
+      moves = h.moves;
+      so = inr (ran_returned callee words before ledger now served M most count returned h le);
+    }
+
+    pub has_exhausted : (index : ℕ) (asked : List ℕ) → Stepping callee words before now ledger served M count (step.Import index asked) → count ≡ most
+        → Proceeds before now M (MayRun callee most words before now ledger served (Err error.TurnsExhausted))
+    has_exhausted index asked h all = record {
+      events = so_far callee words before h.turns (event.Ask index asked now.bytes ∷ []);
+      goes = h.goes;
+      moves = h.moves;
+      so = inr (ran_exhausted callee words before ledger now served M most count index asked h all);
+    }
+
+  -- it wasn't served, or didn't go on
+  pub has_stopped : (now after : Moment) (served left : LedgerState) (M N O : List Event → Type 0) (goes_on : (xs ys : List Event) → M xs → N ys → O (xs ++ ys)) (count index : ℕ) (asked : List ℕ) (e : Error)
+      → Stepping callee words before now ledger served M count (step.Import index asked) → count < most → Proceeds now after N (Serves callee index asked now after served left (Err e))
+      → Proceeds before after O (MayRun callee most words before after ledger left (Err e))
+  has_stopped now after served left M N O goes_on count index asked e h lt second = record {
+    events = so_far callee words before h.turns (event.Ask index asked now.bytes ∷ []) ++ second.events;
+    goes = goes_then before now after [] [] _ second.events h.goes second.goes;
+    moves = goes_on _ second.events h.moves second.moves;
+    so = inr (ran_refused callee words before ledger now after served left M N O goes_on count index asked most e second.events h lt second.goes second.so);
+  }
+
+-- ---- one step of the guest
+
+other : guest.OutOfMemory ≡ guest.Trap → ⊥
+other e = cc
+
+-- nothing was done
+pub nothing : (s : Seen) (bytes : List ℕ) (M IsSo : List Event → Type 0) → M [] → IsSo [] → Proceeds (moment s bytes) (moment s bytes) M IsSo
+nothing s bytes M IsSo stays so = record { events = []; goes = goes_none s bytes bytes (omega arith); moves = stays; so = so }
