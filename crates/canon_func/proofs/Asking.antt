@@ -1,25 +1,24 @@
 -- A guest that runs: how it is started, served and left.
 use Rattle.std.proofs.Common.{Err, List, None, Ok, Option, Result, Some, [], ap, arith, inl, inr, length, refl, subst, sym, ℕ, ◌++◌, ◌+◌, ◌<◌, ◌∙◌, ◌∷◌, ◌≡◌, ◌≤◌}
-use Rattle.std.specs.Prelude.{slice_get}
-use Rattle.canon_memory.specs.declared.error.GuestFault.{GuestFault}
-use Rattle.canon_memory.specs.declared.error.GuestFault.TheVariants as guest
+use Rattle.std.specs.Prelude.{slice_index, slice_index_or}
 use Rattle.canon_memory.specs.declared.event.Event.{Event}
 use Rattle.canon_memory.specs.declared.event.Event.TheVariants as event
 use Rattle.canon_memory.specs.declared.guest.Step.{Step}
 use Rattle.canon_memory.specs.declared.guest.Step.TheVariants as step
-use Rattle.canon_memory.specs.Guest.{Goes, HasCause, Moment, OnAnswer, Seen, moment}
-use Rattle.canon_memory.specs.Journal.{step_event, step_events, trap_event}
-use Rattle.canon_ledger.specs.Ledger.{LedgerState}
+use Rattle.canon_memory.specs.Guest.{Moment, Seen, moment}
+use Rattle.canon_memory.specs.Journal.{trap_event}
+use Rattle.canon_ledger.specs.Ledger.{Did, LedgerState}
+use Rattle.canon_ledger.specs.declared.fault.ResourceFault.{ResourceFault}
+use Rattle.canon_ledger.specs.declared.fault.ResourceFault.TheVariants as resource
 use Rattle.canon_lowering.proofs.Lowerings.{goes_none, goes_then}
 use Rattle.canon_context.specs.declared.fault.Fault.TheVariants as fault
-use Rattle.canon_func.specs.Asks.{AskStops}
-use Rattle.canon_func.specs.Call.{OnAnswered}
-use Rattle.canon_func.specs.Steps.{MayRun, Proceeds, Ran, Serves, Started, Stepping, so_far}
+use Rattle.canon_context.specs.declared.component.Import.{Import}
+use Rattle.canon_func.specs.Asks.{IsAskOf, ask_error, ask_step}
+use Rattle.canon_func.specs.Steps.{MayRun, Proceeds, Serves, Started, Stepping, so_far}
 use Rattle.canon_func.specs.Stores.{Callee}
 use Rattle.canon_func.specs.declared.error.Error.{Error}
 use Rattle.canon_func.specs.declared.error.Error.TheVariants as error
-use Rattle.canon_func.proofs.Composed.{answers}
-use Rattle.canon_func.proofs.Turns.{asked_none, ran_exhausted, ran_refused, ran_returned, same_le}
+use Rattle.canon_func.proofs.Turns.{asked_none, done_is, ran_exhausted, ran_refused, ran_returned}
 
 module _ (callee : Callee) (most : ℕ) (words : List ℕ) (before : Moment) (ledger : LedgerState) where
   -- it wasn't started, or trapped at once
@@ -34,7 +33,7 @@ module _ (callee : Callee) (most : ℕ) (words : List ℕ) (before : Moment) (le
     few = omega arith;
     longer = longer;
     is = are;
-    stopped = (rose, (refl, refl));
+    stopped = (rose, refl, refl);
   })
   start_failed now e events longer h = absurd h
 
@@ -77,9 +76,19 @@ module _ (callee : Callee) (most : ℕ) (words : List ℕ) (before : Moment) (le
 
 -- ---- one step of the guest
 
-other : guest.OutOfMemory ≡ guest.Trap → ⊥
-other e = cc
-
 -- nothing was done
 pub nothing : (s : Seen) (bytes : List ℕ) (M IsSo : List Event → Type 0) → M [] → IsSo [] → Proceeds (moment s bytes) (moment s bytes) M IsSo
 nothing s bytes M IsSo stays so = record { events = []; goes = goes_none s bytes bytes (omega arith); moves = stays; so = so }
+
+-- the step of an ask was refused
+module _ (callee : Callee) (index : ℕ) (words : List ℕ) (a : Moment) (l l2 : LedgerState) (called : Import) (is : IsAskOf callee index words called) where
+  pub refused_step : (e : ResourceFault) → Did (ask_step callee.types called words l) (Err e) l l2 → Serves callee index words a a l l2 (Err (ask_error index e)) []
+  refused_step resource.OutOfMemory (inl h) = ((called, is, inr h.1), refl)
+  refused_step resource.OutOfMemory (inr h) = ((called, is, inl h.1), refl)
+  refused_step e (inl h) = ((refl, refl, (called, is, done_is (ask_step callee.types called words l) (Err e) l2 h.0 h.1)), refl)
+  refused_step e (inr h) = cc
+
+-- the only word
+pub first_word : (words : List ℕ) (w : ℕ) → length words ≡ 1 → w ≡ slice_index_or words 0 w → w ≡ slice_index words 0
+first_word [] w one is = absurd (omega (arith, one))
+first_word (x ∷ words) w one is = is

@@ -170,7 +170,7 @@ module _ (Leaves : List ℕ → List ℕ → Type 0) (callee : Callee) (limits :
 
   -- what the ledger accepts, from the start on
   accepts_rest : (turns : List AskTurn) → LeavesTake (enter l0) (param_parts callee params) given l1 → Accepts callee params turns l0 (first ++ later) → AfterTurns callee turns l1 (λ served. AcceptsLater callee served later)
-  accepts_rest turns took (hs, lowered, takes, end, serves, accepts) =
+  accepts_rest turns took (hs, lowered, takes, (end, serves, accepts)) =
       let same = (leaves_same (enter l0) l1 lowered (param_parts callee params) given hs took takes).1 in
       (end, subst (λ l. AreServed callee turns l end) (sym same) serves, (last_ask_after _ first later accepts.0, each_after _ first later accepts.1))
 
@@ -194,7 +194,7 @@ module _ (Leaves : List ℕ → List ℕ → Type 0) (callee : Callee) (limits :
     requested = λ ts have. record { left = []; met = low.requested ts have; all = each_start ([] ≡ []) refl later };
     quiet = low.quiet;
     given = given;
-    handles = (l1, took, rest.handles.0, rest.handles.1, return_then _ first later early rest.handles.2);
+    handles = (l1, took, (rest.handles.0, rest.handles.1, return_then _ first later early rest.handles.2));
     start = each_then _ first later (each_answer _ (λ c a. tt) (λ c n. tt) answers None) (on_start words mid.bytes _ low.start later rest.start);
     only_results = return_then _ first later early rest.only_results;
     posted = posted_after rest.posted;
@@ -220,7 +220,7 @@ module _ (Leaves : List ℕ → List ℕ → Type 0) (callee : Callee) (limits :
     requested = λ ts have. record { left = []; met = low.requested ts have; all = each_start ([] ≡ []) refl later };
     quiet = asks_started callee.params (lowering_ending (Err e)) answers low.quiet;
     given = given;
-    handles = inr (inr (l1, took, rest.handles.0, rest.handles.1, stops_after callee e rest.handles.0 l2 first later early rest.handles.2));
+    handles = inr (inr (l1, took, (rest.handles.0, rest.handles.1, stops_after callee e rest.handles.0 l2 first later early rest.handles.2)));
     start = each_then _ first later (each_answer _ (λ c a. tt) (λ c n. tt) answers None) (on_start words mid.bytes _ low.start later rest.start);
     only_results = tt;
     posted = posted_after rest.posted;

@@ -1,6 +1,6 @@
 -- What the events from the start on say.
 use Rattle.std.proofs.Common.{Err, List, None, Ok, Option, Result, Some, Vec, Global, [], ap, append_assoc, arith, inl, inr, length, refl, subst, sym, true, ℕ, ⊎_elim, ◌++◌, ◌+◌, ◌∙◌, ◌∷◌, ◌≡◌, ◌≤◌, ◌<◌}
-use Rattle.std.specs.Prelude.{IfErr, IfOk, IsOkUnless, IsSome, OnOk, false, slice_get, ⊤, ◌≢◌}
+use Rattle.std.specs.Prelude.{IfErr, IfOk, IsOkUnless, IsSome, OnOk, false, is_some, slice_get, ⊤, ◌≢◌}
 use Rattle.std.proofs.lemmas.List.{append-nil}
 use Rattle.std.proofs.lemmas.Bool.{cases_lt, le-leb, lt-leb}
 use Rattle.canon_model.specs.Cost.{members_cost}
@@ -65,33 +65,33 @@ grows_post (Some p) ws len last h = h
 -- ---- the events after the turns
 
 -- A prefix of what may come after the turns of a run, perhaps followed by a trap; `len` is the length of memory before it.
-record TailPrefix (post : Option ℕ) (len : ℕ) (tail : List Event) : Type 0 where
-  more : List AskTurn
-  returned : List ℕ
-  memory : List ℕ
-  prefix : List Event
-  rest : List Event
-  trap : List Event
-  begins : events_in more ++ event.Return returned memory ∷ posts post returned ≡ prefix ++ rest
-  tail_is : tail ≡ prefix ++ trap
-  may_trap : MayTrap (last_len len prefix) trap
+pub record TailPrefix (post : Option ℕ) (len : ℕ) (tail : List Event) : Type 0 where
+  pub more : List AskTurn
+  pub returned : List ℕ
+  pub memory : List ℕ
+  pub prefix : List Event
+  pub rest : List Event
+  pub trap : List Event
+  pub begins : events_in more ++ event.Return returned memory ∷ posts post returned ≡ prefix ++ rest
+  pub tail_is : tail ≡ prefix ++ trap
+  pub may_trap : MayTrap (last_len len prefix) trap
 
 -- What the events say that come after so many turns, the last of which let the guest go in a memory of so many bytes.
-record IsTail (Leaves : List ℕ → List ℕ → Type 0) (callee : Callee) (limits : Limits) (before after : Moment) (count len : ℕ) (served left : LedgerState) (answer : Result (Vec Val Global) Error) (tail : List Event) : Type 0 where
-  whole : OnOk answer ((returned memory : List ℕ) × (tail ≡ event.Return returned memory ∷ posts callee.post returned))
-  prefix : TailPrefix callee.post len tail
-  no_resume : Each IsNoResume tail
-  no_start : Each IsNoStart tail
-  no_more : Each IsNoRequest tail
-  grows : Grows len tail (length after.bytes)
-  asks : answer ≢ Err error.TurnsExhausted → count + asks_in tail ≤ limits.turns
-  only_results : IfOk answer (λ vals. Each (OnReturn (λ ws m. (over : ℕ) × AreResults callee.encoding (narrow m) callee.results ws limits.fuel over vals.items)) tail)
-  posted : ¬ Each IsNoPost tail → Each (OnReturn (λ ws m. (over : ℕ) × (vs : List Val) × AreResults callee.encoding (narrow m) callee.results ws limits.fuel over vs)) tail
-  values : IfOk answer (λ vals. length vals.items ≡ member_count callee.results)
-  leaves : OnOk answer (Each (OnReturn (λ ws m. Left Leaves callee.post m after.bytes)) tail)
-  handles : RestPasses callee served left answer tail
-  cause : IfErr answer (λ e. (xs : List Event) → asks_in xs ≡ count → RestCause callee limits before after (xs ++ tail) e)
-  valid : ¬ EndsIn IsTrap tail → count + asks_in tail ≤ limits.turns
+pub record IsTail (Leaves : List ℕ → List ℕ → Type 0) (callee : Callee) (limits : Limits) (before after : Moment) (count len : ℕ) (served left : LedgerState) (answer : Result (Vec Val Global) Error) (tail : List Event) : Type 0 where
+  pub whole : OnOk answer ((returned memory : List ℕ) × (tail ≡ event.Return returned memory ∷ posts callee.post returned))
+  pub prefix : TailPrefix callee.post len tail
+  pub no_resume : Each IsNoResume tail
+  pub no_start : Each IsNoStart tail
+  pub no_more : Each IsNoRequest tail
+  pub grows : Grows len tail (length after.bytes)
+  pub asks : answer ≢ Err error.TurnsExhausted → count + asks_in tail ≤ limits.turns
+  pub only_results : IfOk answer (λ vals. Each (OnReturn (λ ws m. (over : ℕ) × AreResults callee.encoding (narrow m) callee.results ws limits.fuel over vals.items)) tail)
+  pub posted : ¬ Each IsNoPost tail → Each (OnReturn (λ ws m. (over : ℕ) × (vs : List Val) × AreResults callee.encoding (narrow m) callee.results ws limits.fuel over vs)) tail
+  pub values : IfOk answer (λ vals. length vals.items ≡ member_count callee.results)
+  pub leaves : OnOk answer (Each (OnReturn (λ ws m. Left Leaves callee.post m after.bytes)) tail)
+  pub handles : RestPasses callee served left answer tail
+  pub cause : IfErr answer (λ e. (xs : List Event) → asks_in xs ≡ count → RestCause callee limits before after (xs ++ tail) e)
+  pub valid : ¬ EndsIn IsTrap tail → count + asks_in tail ≤ limits.turns
       → Each (OnReturn (λ ws m. (us : Trees) × RepResults false callee.encoding (narrow m) ws callee.results us × (members_cost callee.results us ≤ limits.fuel))) tail
       → AcceptsLater callee served tail → IsOkUnless answer (error.Fault fault.OutOfMemory)
 
@@ -204,7 +204,7 @@ none_some : (o : Option Import) (i : Import) → o ≡ None → o ≡ Some i →
 none_some o i h g = cc
 
 some_there : (o : Option Import) (i : Import) → o ≡ Some i → IsSome o
-some_there o i h = subst IsSome (sym h) tt
+some_there o i h = ap is_some h
 
 module _ (Leaves : List ℕ → List ℕ → Type 0) (callee : Callee) (limits : Limits) (before after : Moment) (count len : ℕ) (served left : LedgerState) where
   trapped_tail : len ≤ length after.bytes → Rose before.guest.traps after.guest.traps → count ≤ limits.turns → left ≡ served → IsTail Leaves callee limits before after count len served left (Err (error.Fault fault.GuestTrap)) (trap_event len ∷ [])
@@ -226,7 +226,7 @@ module _ (Leaves : List ℕ → List ℕ → Type 0) (callee : Callee) (limits :
   }
 
   module _ (index : ℕ) (asked memory : List ℕ) (first : len ≤ length memory) (second : length memory ≤ length after.bytes) where
-    asked_tail : (e : Error) → (Err {T = Vec Val Global} e ≢ Err error.TurnsExhausted → count + 1 ≤ limits.turns) → AskStops callee e index asked served left
+    asked_tail : (e : Error) → (◌≢◌ {A = Result (Vec Val Global) Error} (Err e) (Err error.TurnsExhausted) → count + 1 ≤ limits.turns) → AskStops callee e index asked served left
         → ((xs : List Event) → asks_in xs ≡ count → RestCause callee limits before after (xs ++ event.Ask index asked memory ∷ []) e)
         → (count + 1 ≤ limits.turns → IsAccepted callee index asked served → e ≡ error.Fault fault.OutOfMemory)
         → IsTail Leaves callee limits before after count len served left (Err e) (event.Ask index asked memory ∷ [])
@@ -290,8 +290,8 @@ module _ (Leaves : List ℕ → List ℕ → Type 0) (callee : Callee) (limits :
   stopped_rest (error.Fault fault.GuestTrap) tail longer few (rose, are, same) = subst (λ es. IsTail Leaves callee limits before after count len served left (Err (error.Fault fault.GuestTrap)) es) (sym are) (trapped_tail longer rose few same)
   stopped_rest error.TurnsExhausted tail longer few (index, words, memory, are, a, b, all, same) =
       subst (λ es. IsTail Leaves callee limits before after count len served left (Err error.TurnsExhausted) es) (sym are) (exhausted_tail index words memory a b all same)
-  stopped_rest e tail longer few (index, words, memory, are, a, b, lt, stops) =
-      subst (λ es. IsTail Leaves callee limits before after count len served left (Err e) es) (sym are) (stopped_tail index words memory a b e (omega (arith, lt)) stops (λ q. cc))
+  stopped_rest e tail longer few h =
+      subst (λ es. IsTail Leaves callee limits before after count len served left (Err e) es) (sym h.3) (stopped_tail h.0 h.1 h.2 h.4 h.5 e (omega (arith, h.6)) h.7 (λ q. cc))
 
 -- ---- it returned
 

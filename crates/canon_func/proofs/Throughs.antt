@@ -12,7 +12,8 @@ use Rattle.canon_context.specs.declared.component.Import.{Import}
 use Rattle.canon_value.specs.Resources.{all_resources}
 use Rattle.canon_value.specs.declared.val.Val.{Val}
 use Rattle.canon_func.specs.Asks.{AreServed}
-use Rattle.canon_func.specs.Call.{Concludes, HandlesPass, param_parts, returned_leaves, scope_exit}
+use Rattle.canon_leaves.specs.Steps.{leaves_steps}
+use Rattle.canon_func.specs.Call.{Concludes, param_parts, result_parts, returned_leaves}
 use Rattle.canon_func.specs.Laws.{CallIsThrough, first_steps, last_steps, turn_steps, turns_steps}
 use Rattle.canon_func.specs.Runs.{AskTurn, Each, OnReturn}
 use Rattle.canon_func.specs.Stores.{Callee}
@@ -43,11 +44,13 @@ module _ (callee : Callee) where
       (
         0,
         ap (λ (d : Done (Unit {0})). (numbered (λ _. 0) d).answer) h.lifts.ends,
-        subst (λ k. Through k _ n) ended (compose h.lifts.ended h.lifted n _ _ (subst (λ k. Through h.lifts.ended _ h.lifted) ended (leaves_through h.lifts.ended h.lifted _ taken.0 taken.1)) left),
+        subst (λ k. Through k (leaves_steps k (result_parts callee words memory) ++ Leave ∷ []) n) ended
+            (compose h.lifts.ended h.lifted n (leaves_steps h.lifts.ended (result_parts callee words memory)) (Leave ∷ []) (leaves_through h.lifts.ended h.lifted (result_parts callee words memory) taken.0 taken.1) left),
       )
 
 pub call_is_through : CallIsThrough
-call_is_through callee params turns before after given results events (lowered, took, served, serves, each) =
+call_is_through callee params turns before after given results events (lowered, took, (served, serves, each)) =
     let first : Through before (first_steps callee params turns before) served =
     (0, refl, compose (enter before) lowered served _ _ (leaves_through (enter before) lowered _ given took) (turns_through callee turns lowered served serves)) in
-    each_return _ _ (λ ws m h. compose before served after _ _ first (subst (λ k. Through served (last_steps callee ws m k) after) (ran before served _ first) (last_through callee ws m results served after h))) events each
+    let steps : List LedgerStep = first_steps callee params turns before in
+    each_return _ _ (λ ws m h. compose before served after steps (last_steps callee ws m (run steps before)) first (subst (λ k. Through served (last_steps callee ws m k) after) (ran before served steps first) (last_through callee ws m results served after h))) events each

@@ -35,7 +35,7 @@ events_append [] us = refl
 events_append (t ∷ ts) us = ap (λ es. event.Ask t.index t.words t.memory ∷ es)
     (ap (λ es. t.reallocs ++ event.Resume t.resumed_words t.resumed_memory ∷ es) (events_append ts us) ∙ sym (append_assoc t.reallocs (event.Resume t.resumed_words t.resumed_memory ∷ events_in ts) (events_in us)))
 
-pub events_more : (ts us : List AskTurn) (tail : List Event) → events_in (ts ++ us) ++ tail ≡ events_in ts ++ events_in us ++ tail
+pub events_more : (ts us : List AskTurn) (tail : List Event) → events_in (ts ++ us) ++ tail ≡ events_in ts ++ (events_in us ++ tail)
 events_more ts us tail = ap (λ es. es ++ tail) (events_append ts us) ∙ append_assoc (events_in ts) (events_in us) tail
 
 -- a fact of each of them
@@ -53,14 +53,16 @@ asks_step : (n a b c : ℕ) → n ≡ b + c → 1 + n ≡ 1 + b + c
 asks_step n a b c e = omega (arith, e)
 
 pub asks_then : (xs ys : List Event) → asks_in (xs ++ ys) ≡ asks_in xs + asks_in ys
-asks_then [] ys = refl
+asks_then [] ys = omega arith
 asks_then (event.Ask n ws m ∷ xs) ys = asks_step (asks_in (xs ++ ys)) 0 (asks_in xs) (asks_in ys) (asks_then xs ys)
 asks_then (e ∷ xs) ys = asks_then xs ys
 
 pub asks_served : (callee : Callee) (ts : List AskTurn) (l l2 : LedgerState) → AreServed callee ts l l2 → asks_in (events_in ts) ≡ length ts
 asks_served callee [] l l2 h = refl
 asks_served callee (t ∷ ts) l l2 (mid, is, rest) =
-    ap suc (ap (λ rs. asks_in (rs ++ event.Resume t.resumed_words t.resumed_memory ∷ events_in ts)) is.no_request ∙ asks_served callee ts mid l2 rest)
+    let e : asks_in (t.reallocs ++ event.Resume t.resumed_words t.resumed_memory ∷ events_in ts) ≡ length ts =
+    ap (λ rs. asks_in (rs ++ event.Resume t.resumed_words t.resumed_memory ∷ events_in ts)) is.no_request ∙ asks_served callee ts mid l2 rest in
+    omega (arith, e)
 
 -- ---- the last memory
 
@@ -163,13 +165,13 @@ module _ (callee : Callee) (words : List ℕ) (before : Moment) (ledger : Ledger
           few = omega (arith, lt, length_more h.turns t, h.count_is);
           longer = goes.no_shorter;
           is = ap (λ xs. so_far callee words before h.turns (event.Ask index asked now.bytes ∷ []) ++ xs) are ∙ joined_turn h.turns index asked now.bytes resumed (trap_event (length now.bytes) ∷ []);
-          stopped = (omega (arith, rose, h.goes.traps_later), (refl, refl));
+          stopped = (omega (arith, rose, h.goes.traps_later), refl, refl);
         }
     ran_refused most error.TurnsExhausted es h lt goes serves = absurd serves
     ran_refused most error.WrongCount es h lt goes serves = absurd serves.0
     ran_refused most error.AsyncLifted es h lt goes serves = absurd serves.0
     ran_refused most error.CannotEnterComponent es h lt goes serves = absurd serves.0
-    ran_refused most e es h lt goes (stops, none) = record {
+    ran_refused most e es h lt goes serves = record {
       turns = h.turns;
       len = h.len;
       served = served;
@@ -177,8 +179,8 @@ module _ (callee : Callee) (words : List ℕ) (before : Moment) (ledger : Ledger
       asked = h.asked;
       few = omega (arith, lt, h.count_is);
       longer = omega (arith, h.longer, goes.no_shorter);
-      is = ap (λ xs. so_far callee words before h.turns (event.Ask index asked now.bytes ∷ []) ++ xs) none ∙ append-nil (so_far callee words before h.turns (event.Ask index asked now.bytes ∷ []));
-      stopped = (index, asked, now.bytes, refl, h.longer, goes.no_shorter, omega (arith, lt, h.count_is), stops);
+      is = ap (λ xs. so_far callee words before h.turns (event.Ask index asked now.bytes ∷ []) ++ xs) serves.1 ∙ append-nil (so_far callee words before h.turns (event.Ask index asked now.bytes ∷ []));
+      stopped = (index, asked, now.bytes, refl, h.longer, goes.no_shorter, omega (arith, lt, h.count_is), serves.0);
     }
 
   module _ (now : Moment) (served : LedgerState) (M : List Event → Type 0) (most count : ℕ) where
@@ -218,7 +220,7 @@ module _ (callee : Callee) (index : ℕ) (words : List ℕ) (a b : Moment) (l l2
       → Resumed (answer ∷ []) a b result events → Serves callee index words a b l l2 result events
   served_by answer (Ok next) events taken h = (answer ∷ [], record { called = called; is = is; answer = answer; taken = taken; resumed = refl; same = refl; no_request = refl }, h)
   served_by answer (Err (error.Fault fault.GuestTrap)) events taken h = (answer ∷ [], record { called = called; is = is; answer = answer; taken = taken; resumed = refl; same = refl; no_request = refl }, h)
-  served_by answer (Err (error.Fault fault.OutOfMemory)) events taken h = ((called, is, inr (answer, taken)), h)
+  served_by answer (Err (error.Fault fault.OutOfMemory)) events taken h = ((called, is, inr (sym (ap (λ (d : Done ℕ). d.after) taken))), h)
   served_by answer (Err e) events taken h = absurd h
 
 -- an answer and what it leaves are a step's

@@ -4,6 +4,8 @@ use Rattle.canon_model.specs.Memory.{low}
 use Rattle.canon_handles.specs.declared.handle.TypedResource.TheVariants.{Component}
 use Rattle.canon_handles.specs.declared.handle.TypedResourceIndex.TheVariants.{Component as ComponentIndex}
 use Rattle.canon_ledger.specs.Ledger.{Done, Drop, LedgerState, LedgerStep, New, Rep, do_step}
+use Rattle.canon_ledger.specs.declared.fault.ResourceFault.{ResourceFault}
+use Rattle.canon_ledger.specs.declared.fault.ResourceFault.TheVariants as resource
 use Rattle.canon_leaves.specs.Parts.{refusal_of, table_for}
 use Rattle.canon_types.specs.Instance.{Instance}
 use Rattle.canon_context.specs.declared.component.Import.{Import}
@@ -59,6 +61,11 @@ AreServed callee (t ∷ turns) before after = (mid : LedgerState) × IsServed ca
 
 -- ---- an ask that wasn't
 
+-- a refused step is told with the number of its import
+abbrev pub ask_error : ℕ → ResourceFault → Error
+ask_error index resource.OutOfMemory = error.Fault fault.OutOfMemory
+ask_error index e = error.ImportFault index (fault.Resource e)
+
 -- Why an ask wasn't resumed, and what that left of the ledger. Where memory ran out, its step may have been taken.
 abbrev pub AskStops : Callee → Error → ℕ → List ℕ → LedgerState → LedgerState → Type 0
 AskStops callee error.TurnsExhausted index words before after = after ≡ before
@@ -67,7 +74,7 @@ AskStops callee error.WrongWords index words before after = IsSome (slice_get ca
 AskStops callee (error.ImportFault n (fault.Resource e)) index words before after = (n ≡ index) × (refusal_of e ≡ Some e)
     × ((called : Import) × IsAskOf callee index words called × (ask_step callee.types called words before ≡ record { answer = Err e; after = after }))
 AskStops callee (error.Fault fault.OutOfMemory) index words before after = (called : Import) × IsAskOf callee index words called
-    × ((after ≡ before) ⊎ ((answer : ℕ) × (ask_step callee.types called words before ≡ record { answer = Ok answer; after = after })))
+    × ((after ≡ before) ⊎ (after ≡ (ask_step callee.types called words before).after))
 AskStops callee _ index words before after = ⊥
 
 -- the ledger accepts the step of an ask of an import of the component

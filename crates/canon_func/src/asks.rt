@@ -1,11 +1,11 @@
 //! The asks of a guest, and how they are served.
 
-ghost use Rattle.std.specs.Prelude.{◌≡◌, Some, length, slice_get};
+ghost use Rattle.std.specs.Prelude.{◌≡◌, IfSome, slice_get};
 ghost use Rattle.canon_context.specs.Asks.{SameBut, SameButHandles};
-ghost use Rattle.canon_context.specs.Component.{IsImport};
+ghost use Rattle.canon_context.specs.Component.{IsComponent, IsImport};
 ghost use Rattle.canon_context.specs.Core.{SameButLedger, guest_of, moment_of};
 ghost use Rattle.canon_ledger.specs.Ledger.{Did, do_step};
-ghost use Rattle.canon_func.specs.Asks.{AskStops, import_step};
+ghost use Rattle.canon_func.specs.Asks.{ask_error, import_step};
 ghost use Rattle.canon_func.specs.Call.{OnAnswered};
 ghost use Rattle.canon_func.specs.Steps.{MayRun, Proceeds, Resumed, Serves, Started};
 ghost use Rattle.canon_func.specs.Stores.{export_callee};
@@ -14,7 +14,7 @@ use crate::Error;
 use canon_handles::TypedResourceIndex;
 use canon_ledger::{ResourceFault, resource_drop_ret};
 use canon_memory::{Guest, GuestFault, Step, ValRaw, Words};
-use canon_value::{Core, Export, Fault, Import};
+use canon_value::{Component, Core, Export, Fault, Import};
 
 /// Starts the core function of an export, and serves what it asks for until it returns, `turns` asks at most.
 pub(crate) fn run_core<T, G: Guest>(
@@ -88,7 +88,7 @@ fn serve<T, G: Guest>(
         (λ events. Serves (export_callee core.old.component export.now) index words.now (moment_of G.seen core.old) (moment_of G.seen core.new) core.old.ledger core.new.ledger result events) }
     ensures same { SameButHandles core.old core.new }
 {
-    let Some(import) = core.component().imports.get(index as usize).copied() else {
+    let Some(import) = import_at(core.component(), index) else {
         return Err(Error::UnknownImport(index));
     };
     if words.len() != 1 {
@@ -96,11 +96,29 @@ fn serve<T, G: Guest>(
     }
     match take_step(core, import, words[0].get_u32()) {
         Ok(answer) => resume(core, &[ValRaw::u64(answer)]),
-        Err(ResourceFault::OutOfMemory) => Err(Error::Fault(Fault::OutOfMemory)),
-        Err(fault) => Err(Error::ImportFault {
+        Err(fault) => Err(ask_error(index, fault)),
+    }
+}
+
+/// The import of this number, if there is one.
+fn import_at(component: &Component, index: u32) -> Option<Import>
+    requires sound { IsComponent component.now }
+    ensures found { result ≡ slice_get component.now.imports.items index }
+    ensures known { IfSome result (IsImport component.now) }
+{
+    component.imports.get(index as usize).copied()
+}
+
+/// What is told of a refused step of an import.
+fn ask_error(index: u32, fault: ResourceFault) -> Error
+    ensures { result ≡ ask_error index fault }
+{
+    match fault {
+        ResourceFault::OutOfMemory => Error::Fault(Fault::OutOfMemory),
+        fault => Error::ImportFault {
             index,
             fault: Fault::Resource(fault),
-        }),
+        },
     }
 }
 
