@@ -12,6 +12,8 @@ use Rattle.canon_ledger.specs.declared.fault.ResourceFault.{ResourceFault}
 use Rattle.canon_ledger.specs.declared.fault.ResourceFault.TheVariants as resource
 use Rattle.canon_lowering.proofs.Lowerings.{goes_none, goes_then}
 use Rattle.canon_context.specs.declared.fault.Fault.TheVariants as fault
+use Rattle.canon_context.specs.Asks.{SameBut, SameButHandles}
+use Rattle.canon_context.specs.Core.{Parts}
 use Rattle.canon_context.specs.declared.component.Import.{Import}
 use Rattle.canon_func.specs.Asks.{IsAskOf, ask_error, ask_step}
 use Rattle.canon_func.specs.Steps.{MayRun, Proceeds, Serves, Started, Stepping, so_far}
@@ -37,11 +39,12 @@ module _ (callee : Callee) (most : ℕ) (words : List ℕ) (before : Moment) (le
   })
   start_failed now e events longer h = absurd h
 
-  pub not_started : (now : Moment) (left : LedgerState) (e : Error) (M : List Event → Type 0) → left ≡ ledger → Proceeds before now M (Started callee.func words before now (Err e)) → Proceeds before now M (MayRun callee most words before now ledger left (Err e))
-  not_started now left e M same h = record {
+  pub not_started : (now : Moment) (left : LedgerState) (e : Error) (M N : List Event → Type 0) → ((es : List Event) → M es → N es) → left ≡ ledger
+      → Proceeds before now M (Started callee.func words before now (Err e)) → Proceeds before now N (MayRun callee most words before now ledger left (Err e))
+  not_started now left e M N f same h = record {
     events = h.events;
     goes = h.goes;
-    moves = h.moves;
+    moves = f h.events h.moves;
     so = subst (λ l. MayRun callee most words before now ledger l (Err e) h.events) (sym same) (start_failed now e h.events h.goes.no_shorter h.so);
   }
 
@@ -73,6 +76,15 @@ module _ (callee : Callee) (most : ℕ) (words : List ℕ) (before : Moment) (le
     moves = goes_on _ second.events h.moves second.moves;
     so = inr (ran_refused callee words before ledger now after served left M N O goes_on count index asked most e second.events h lt second.goes second.so);
   }
+
+-- ---- the core
+
+module _ {T G : Type 0} (a b : Parts T G) where
+  pub but_handles : SameBut a b → SameButHandles a b
+  but_handles same = same ∙ (λ i. record a { guest = b.guest; memory = b.memory; ledger = ap (λ k. k.ledger) (sym same) i })
+
+  pub then_handles : (c : Parts T G) → SameButHandles a b → SameButHandles b c → SameButHandles a c
+  then_handles c first second = second ∙ ap (λ (k : Parts T G). record k { guest = c.guest; memory = c.memory; ledger = c.ledger }) first
 
 -- ---- one step of the guest
 

@@ -43,7 +43,7 @@ answers (Err (error.Fault fault.OutOfMemory)) P p = tt
 answers (Err e) P p = p
 
 -- of an answer of another type
-retyped : (T U : Type 0) (e : Error) (P : Type 0) → OnAnswered {T = T} (Err e) P → OnAnswered {T = U} (Err e) P
+pub retyped : (T U : Type 0) (e : Error) (P : Type 0) → OnAnswered {T = T} (Err e) P → OnAnswered {T = U} (Err e) P
 retyped T U (error.Fault fault.OutOfMemory) P h = tt
 retyped T U e P h = h
 
