@@ -2,8 +2,7 @@
 use Rattle.std.proofs.Common.{Err, inl, inr, IsTrue, List, None, Ok, Option, Result, Some, Vec, Global, [], ap, arith, length, refl, subst, sym, true, ℕ, ◌++◌, ◌%◌, ◌+◌, ◌∷◌, ◌∙◌, ◌≡◌, ◌≤◌}
 use Rattle.std.specs.Prelude.{false, ⊤}
 use Rattle.std.proofs.lemmas.List.{append-nil}
-use Rattle.canon_model.specs.Cost.{members_cost}
-use Rattle.canon_model.specs.Flat.{RepResults, max_params}
+use Rattle.canon_model.specs.Flat.{max_params}
 use Rattle.canon_model.specs.Homes.{ParamsHome, PointsTo}
 use Rattle.canon_model.specs.Shape.{Members}
 use Rattle.canon_model.specs.Requests.{Call, Request, params_requests}

@@ -5,7 +5,7 @@ use Rattle.std.specs.Option.{SomeIff}
 use Rattle.std.proofs.lemmas.Bool.{cases_lt, le-leb, lt-leb}
 use Rattle.std.proofs.lemmas.Bool.Decides.{nat_tests}
 use Rattle.canon_model.specs.Layout.{flat, members_flat}
-use Rattle.canon_model.specs.Shape.{Members, Shape, member_count, of_places, product}
+use Rattle.canon_model.specs.Shape.{Members, member_count, of_places, product}
 use Rattle.canon_types.specs.Table.{Table, members_of}
 use Rattle.canon_types.specs.declared.types.InterfaceType.{InterfaceType}
 use Rattle.canon_context.specs.declared.component.Component.{Component}

@@ -1,5 +1,5 @@
 -- What became of the handles of a call.
-use Rattle.std.proofs.Common.{Err, List, None, Ok, Option, Result, Some, [], ap, inl, inr, map, refl, subst, sym, ℕ, ◌++◌, ◌∙◌, ◌∷◌, ◌≡◌}
+use Rattle.std.proofs.Common.{Err, List, None, Ok, Option, Result, Some, [], ap, inl, inr, refl, subst, sym, ℕ, ◌++◌, ◌∙◌, ◌∷◌, ◌≡◌}
 use Rattle.std.proofs.lemmas.List.{append-nil}
 use Rattle.canon_ledger.specs.Ledger.{Done, LedgerState}
 use Rattle.canon_ledger.specs.declared.fault.ResourceFault.{ResourceFault}

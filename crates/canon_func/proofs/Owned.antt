@@ -1,7 +1,6 @@
 -- Where types reach no borrow, each handle that is reached is an own handle.
 use Rattle.std.proofs.Common.{List, [], refl, suc, zero, ℕ, ◌++◌, ◌+◌, ◌∷◌, ◌≡◌}
 use Rattle.std.specs.Prelude.{Bool, false, if◌then◌else◌, nat_le, slice_index, true, ⊤}
-use Rattle.std.proofs.lemmas.Bool.{false≢true}
 use Rattle.canon_model.specs.Leaves.{Leaf, case_flat_leaves, case_reach_leaves, flat_leaves, list_at, list_leaves, members_flat_leaves, members_reach_leaves, reach_leaves, values_leaves}
 use Rattle.canon_model.specs.Layout.{members_align, members_flat, size}
 use Rattle.canon_model.specs.Memory.{Memory, ptr}

@@ -1,11 +1,10 @@
 -- Runs, prefixes of runs, and the events of answers.
-use Rattle.std.proofs.Common.{List, None, Option, Some, [], ap, append_assoc, arith, length, refl, sym, ℕ, ◌++◌, ◌∙◌, ◌∷◌, ◌≡◌, ◌≤◌}
-use Rattle.std.proofs.lemmas.List.{append-nil}
+use Rattle.std.proofs.Common.{List, None, Option, Some, [], ap, append_assoc, arith, refl, sym, ℕ, ◌++◌, ◌∙◌, ◌∷◌, ◌≡◌, ◌≤◌}
 use Rattle.std.specs.Prelude.{⊤}
 use Rattle.canon_model.specs.Requests.{Call}
 use Rattle.canon_memory.specs.declared.event.Event.{Event}
 use Rattle.canon_memory.specs.declared.event.Event.TheVariants as event
-use Rattle.canon_memory.specs.Journal.{answer_event, asked_trap, trap_event}
+use Rattle.canon_memory.specs.Journal.{answer_event, asked_trap}
 use Rattle.canon_lowering.specs.Lowering.{Answer, Trap, events_of}
 use Rattle.canon_func.specs.Runs.{Each, EndsIn, Grows, IsNoPost, IsOneRun, IsPrefixOfRun, IsRealloc, OnLastAsk, OnReturn, asks_in, events_in, last_len, posts}
 

@@ -280,7 +280,7 @@ module _ (Leaves : List ℕ → List ℕ → Type 0) (callee : Callee) (limits :
         asked_tail (error.ImportFault n (fault.Resource r)) (λ none. few) stops
         (λ xs told. (stops.1, last (λ i ws. IsSome (slice_get callee.imports i) × ((i ≡ n) × (length ws ≡ 1))) xs (some_there (slice_get callee.imports index) called is.known, (sym stops.0, is.one))))
         (λ within accepted. absurd (answered_once r accepted.2.0 (ask_step callee.types called asked served) left accepted.2.1 refused
-            (subst (λ i. ask_step callee.types i asked served ≡ record { answer = Ok accepted.2.0; after = accepted.2.1 }) (is_import callee index asked accepted.0 called accepted.1 is) accepted.2.2)))
+        (subst (λ i. ask_step callee.types i asked served ≡ record { answer = Ok accepted.2.0; after = accepted.2.1 }) (is_import callee index asked accepted.0 called accepted.1 is) accepted.2.2)))
     stopped_tail (error.Fault fault.OutOfMemory) few stops other = asked_tail (error.Fault fault.OutOfMemory) (λ none. few) stops (λ xs told. tt) (λ within accepted. refl)
     stopped_tail error.TurnsExhausted few stops other = absurd (other refl)
     stopped_tail e few stops other = absurd stops

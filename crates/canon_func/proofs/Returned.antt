@@ -1,23 +1,21 @@
 -- What lifting the results did.
-use Rattle.std.proofs.Common.{Err, Global, List, Ok, Result, Some, Vec, ap, inl, inr, length, map, refl, subst, sym, ℕ, ◌<◌, ◌∙◌, ◌≡◌}
+use Rattle.std.proofs.Common.{Err, Global, List, Ok, Result, Some, Vec, ap, inl, inr, length, subst, sym, ℕ, ◌<◌, ◌∙◌, ◌≡◌}
 use Rattle.std.specs.Prelude.{All, false, slice_get}
 use Rattle.std.proofs.lemmas.List.Elements.{All-get_or}
 use Rattle.std.proofs.lemmas.Option.{get_or_from_slice_get, slice_get_within}
 use Rattle.canon_model.specs.Flat.{max_results}
 use Rattle.canon_model.specs.Reach.{ValuesFault, values_reach}
-use Rattle.canon_model.specs.Shape.{Members}
 use Rattle.canon_types.specs.Depth.{member_borrows}
-use Rattle.canon_types.specs.Table.{Table, result_members, tuple_members}
+use Rattle.canon_types.specs.Table.{Table, tuple_members}
 use Rattle.canon_types.specs.Valid.{HoldNoBorrow}
 use Rattle.canon_types.specs.declared.types.TypeFunc.{TypeFunc}
-use Rattle.canon_ledger.specs.Ledger.{Done, LedgerState}
+use Rattle.canon_ledger.specs.Ledger.{LedgerState}
 use Rattle.canon_ledger.specs.declared.fault.ResourceFault.{ResourceFault}
-use Rattle.canon_leaves.specs.Parts.{LeavesStop, refusal_of}
+use Rattle.canon_leaves.specs.Parts.{LeavesStop}
 use Rattle.canon_lowering.specs.Storing.{narrow}
 use Rattle.canon_context.specs.Lifter.{origin_in}
 use Rattle.canon_context.specs.Core.{Parts, types_of}
 use Rattle.canon_context.specs.Told.{Exactly, LiftBlames}
-use Rattle.canon_context.specs.declared.component.Component.{Component}
 use Rattle.canon_context.specs.declared.component.Export.{Export}
 use Rattle.canon_context.specs.declared.fault.Fault.{Fault}
 use Rattle.canon_context.specs.declared.fault.Fault.TheVariants as fault

@@ -1,19 +1,17 @@
 -- The ledger of a call, step after step.
-use Rattle.std.proofs.Common.{List, None, Ok, Option, Some, [], ap, refl, subst, sym, true, ℕ, ◌++◌, ◌∙◌, ◌∷◌, ◌≡◌}
-use Rattle.std.specs.Prelude.{slice_get}
+use Rattle.std.proofs.Common.{List, Ok, Some, [], ap, refl, subst, sym, ℕ, ◌++◌, ◌∷◌, ◌≡◌}
 use Rattle.canon_memory.specs.declared.event.Event.{Event}
 use Rattle.canon_memory.specs.declared.event.Event.TheVariants as event
-use Rattle.canon_ledger.specs.Handles.{can_leave, top_scope}
-use Rattle.canon_ledger.specs.Ledger.{Done, Enter, ExitScope, Leave, LedgerState, LedgerStep, Through, do_step, enter, leave, leaving, numbered, run}
+use Rattle.canon_ledger.specs.Handles.{top_scope}
+use Rattle.canon_ledger.specs.Ledger.{Done, ExitScope, Leave, LedgerState, LedgerStep, Through, do_step, enter, leaving, numbered, run}
 use Rattle.canon_ledger.proofs.LedgerLemmas.{compose}
 use Rattle.canon_leaves.proofs.Lifts.{lifts_take}
 use Rattle.canon_leaves.proofs.Through.{leaves_through}
-use Rattle.canon_context.specs.declared.component.Import.{Import}
 use Rattle.canon_value.specs.Resources.{all_resources}
 use Rattle.canon_value.specs.declared.val.Val.{Val}
 use Rattle.canon_func.specs.Asks.{AreServed}
 use Rattle.canon_leaves.specs.Steps.{leaves_steps}
-use Rattle.canon_func.specs.Call.{Concludes, param_parts, result_parts, returned_leaves}
+use Rattle.canon_func.specs.Call.{Concludes, result_parts, returned_leaves}
 use Rattle.canon_func.specs.Laws.{CallIsThrough, first_steps, last_steps, turn_steps, turns_steps}
 use Rattle.canon_func.specs.Runs.{AskTurn, Each, OnReturn}
 use Rattle.canon_func.specs.Stores.{Callee}
@@ -40,8 +38,7 @@ module _ (callee : Callee) where
       let exit : LedgerStep = ExitScope (top_scope l.handles) in
       let ended : h.lifts.ended ≡ (do_step exit l).after = sym (ap (λ (d : Done (Unit {0})). d.after) h.lifts.ends) in
       let taken = lifts_take callee.types h.lifts.ended h.lifted (returned_leaves callee words memory) (all_resources results) h.lifts.lifts in
-      let left : Through h.lifted (Leave ∷ []) n = subst (λ b. (a : ℕ) × ((leaving b h.lifted).answer ≡ Ok a) × (n ≡ (leaving b h.lifted).after)) (sym h.empty) (0, refl, h.left) in
-      (
+      let left : Through h.lifted (Leave ∷ []) n = subst (λ b. (a : ℕ) × ((leaving b h.lifted).answer ≡ Ok a) × (n ≡ (leaving b h.lifted).after)) (sym h.empty) (0, refl, h.left) in (
         0,
         ap (λ (d : Done (Unit {0})). (numbered (λ _. 0) d).answer) h.lifts.ends,
         subst (λ k. Through k (leaves_steps k (result_parts callee words memory) ++ Leave ∷ []) n) ended

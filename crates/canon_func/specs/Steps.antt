@@ -22,7 +22,6 @@ use Rattle.canon_context.specs.Lifter.{Origin}
 use Rattle.canon_value.specs.Lifts.{AreResults, LiftsResults}
 use Rattle.canon_ledger.specs.Handles.{can_leave}
 use Rattle.canon_ledger.specs.Ledger.{LedgerState, leave}
-use Rattle.canon_resources.specs.Held.{Any}
 use Rattle.canon_leaves.specs.Parts.{LeavesStop, LeavesTake, refusal_of}
 use Rattle.canon_value.specs.Args.{LowersParams}
 use Rattle.canon_value.specs.Resources.{Crosses, EndsAs, QuietBut, all_passes, all_resources, stop_of, told_fault}

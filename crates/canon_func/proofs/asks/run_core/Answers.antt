@@ -1,9 +1,7 @@
-use Rattle.std.proofs.Common.{Err, List, Ok, [], ap, arith, subst, sym, ℕ, ◌++◌, ◌∙◌, ◌∷◌, ◌≡◌}
-use Rattle.canon_memory.specs.declared.event.Event.TheVariants as event
+use Rattle.std.proofs.Common.{Err, List, Ok, [], ap, arith, subst, sym, ℕ, ◌++◌}
 use Rattle.canon_memory.specs.declared.guest.Step.{Step}
 use Rattle.canon_memory.specs.declared.guest.Step.TheVariants as step
 use Rattle.canon_memory.specs.Guest.{Goes}
-use Rattle.canon_memory.specs.Journal.{step_event}
 use Rattle.canon_context.specs.Core.{guest_of, moment_of}
 use Rattle.canon_func.specs.Call.{OnAnswered}
 use Rattle.canon_func.specs.Steps.{Proceeds, Serves, Stepping}

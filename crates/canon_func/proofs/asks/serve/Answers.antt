@@ -1,4 +1,4 @@
-use Rattle.std.proofs.Common.{Err, None, Ok, Some, [], ap, length, refl, rules, subst, sym, ℕ, ◌∙◌, ◌∷◌, ◌≡◌}
+use Rattle.std.proofs.Common.{Err, None, Ok, Some, [], ap, length, refl, rules, subst, sym, ◌∙◌, ◌∷◌, ◌≡◌}
 use Rattle.std.specs.Prelude.{is_some, slice_get, slice_index}
 use Rattle.canon_model.specs.Memory.{low}
 use Rattle.canon_context.specs.Core.{guest_of, moment_of}

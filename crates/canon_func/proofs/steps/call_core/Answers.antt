@@ -1,4 +1,4 @@
-use Rattle.std.proofs.Common.{Err, Global, List, Vec, ap, subst, sym, ◌≡◌}
+use Rattle.std.proofs.Common.{Err, Global, Vec, ap, subst, sym, ◌≡◌}
 use Rattle.std.specs.Prelude.{IfOk, length}
 use Rattle.canon_model.specs.Shape.{member_count}
 use Rattle.canon_context.specs.Core.{guest_of, moment_of}

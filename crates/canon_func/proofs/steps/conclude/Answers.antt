@@ -1,4 +1,4 @@
-use Rattle.std.proofs.Common.{Err, Global, Ok, Vec, [], ap, subst, sym, ◌∙◌, ◌≡◌}
+use Rattle.std.proofs.Common.{Err, Global, Ok, Vec, [], ap, subst, sym, ◌∙◌}
 use Rattle.canon_context.specs.Core.{guest_of, moment_of}
 use Rattle.canon_ledger.specs.Handles.{can_leave}
 use Rattle.canon_ledger.specs.Ledger.{leave}
