@@ -17,6 +17,7 @@ module _ (n : ℕ) (p : Play) (e : common ≡ Some p) where
     work_fits = subst (λ m. final_memory m items * 2 * turns items ≤ max_work) (sym (common_memory p e)) (omega arith);
     posts_told = h.posts_told;
     funcs_few = h.funcs_few;
+    imports_stand = h.imports_stand;
     items_stand = All-cons (ItemStands p.types) (call_item (call_made n)) [] (omega (arith, common_funcs p e), tt) (All-nil (ItemStands p.types));
   }
 

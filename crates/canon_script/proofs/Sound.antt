@@ -1,5 +1,5 @@
 -- A script that is read is sound.
-use Rattle.std.proofs.Common.{◌≡◌, ℕ, ◌<◌, ◌≤◌, ◌+◌, ◌*◌, ◌^◌, List, [], ◌∷◌, All, slice_get, Bool, false, is_some, nat_eq, option_map, sym, true, nat_le, nat_lt, IsTrue, if◌then◌else◌, codes, Option, None, Some, Result, Ok, Err, IfOk, subst, option_and_then}
+use Rattle.std.proofs.Common.{◌≡◌, ℕ, ◌<◌, ◌≤◌, ◌+◌, ◌*◌, ◌^◌, List, [], ◌∷◌, All, length, slice_get, Bool, false, is_some, nat_eq, option_map, sym, true, nat_le, nat_lt, IsTrue, if◌then◌else◌, codes, Option, None, Some, Result, Ok, Err, IfOk, subst, option_and_then}
 use Rattle.std.proofs.lemmas.Bool.{and_parts, leb-true, ltb-true}
 use Rattle.std.proofs.lemmas.List.Elements.{All-from_recursion}
 use Rattle.std.proofs.lemmas.Option.{option_and_then_some, same_Some, slice_get_within}
@@ -7,17 +7,20 @@ use Rattle.std.specs.List.{AllByRecursion}
 use Rattle.std.specs.Option.{option_map_or}
 use lib.Pointwise.{pointwise}
 use Rattle.serde_json.specs.Data.{Data, Items, array, boolean, null, number, object, string}
-use Rattle.serde_json.specs.Find.{as_array, as_bool, as_object, get}
+use Rattle.serde_json.specs.Find.{as_array, as_bool, as_object, as_str, get}
+use Rattle.canon_context.specs.Component.{resource_of}
+use Rattle.canon_context.specs.declared.component.Import.{Import}
+use Rattle.canon_context.specs.declared.component.Import.TheVariants as import
 use Rattle.canon_json.specs.Json.{Gives, each, each_of, has_len, u32_of, word_of}
 use Rattle.canon_json.specs.declared.error.ScriptError.{ScriptError}
 use Rattle.canon_json.proofs.Found.{by_map, by_test, each_all}
-use Rattle.canon_types.specs.Table.{HasFunc, Table}
+use Rattle.canon_types.specs.Table.{HasFunc, HasResource, Table}
 use Rattle.canon_layout.specs.Asked.{Funcs}
 use Rattle.canon_script.specs.Actions.{action_of, ordered_of}
 use Rattle.canon_scripted.specs.declared.orders.Ordered.{Ordered}
 use Rattle.canon_scripted.specs.declared.orders.Ordered.TheVariants as order
 use Rattle.canon_scripted.specs.Orders.{AreNarrow, IsNarrow}
-use Rattle.canon_script.specs.Script.{IsWellFormed, ItemStands, Play, ScriptCall, ScriptItem, call_item, call_item_of, call_of_func, call_with, drop_item, drop_item_of, encoding_of, final_memory, fits, fuel_of, handles_of, heap_of, if_fits, item_of, max_memory, max_work, memory_len_of, new_item, new_item_of, optional_call_members, other_item_of, play_of, play_with, played, reallocs_of, result_count, settings_of, settings_with, slots_of, turns}
+use Rattle.canon_script.specs.Script.{IsWellFormed, ItemStands, Play, ScriptCall, ScriptItem, call_item, call_item_of, call_of_func, call_with, drop_item, drop_item_of, encoding_of, final_memory, fits, fuel_of, handles_of, heap_of, if_fits, import_by, import_of, item_of, known_resource, max_memory, max_work, memory_len_of, new_item, new_item_of, optional_call_members, other_item_of, play_of, play_with, played, played_over, reallocs_of, result_count, settings_of, settings_with, slots_of, turns, turns_of}
 use Rattle.canon_script.specs.declared.script.Settings.{Settings}
 use Rattle.canon_script.specs.Types.{funcs_of}
 use Rattle.canon_script.specs.Values.{value_of}
@@ -79,6 +82,28 @@ item_stands t d i e = by_cases (is_some (get (codes "call") d)) e
     by_cases true e = by_map call_item (call_item_of t d) i e (λ c s is. subst (ItemStands t) is (call_stands t d c s))
     by_cases false e = other_stands t d i e
 
+-- ---- imports
+
+import_over : (t : Table) (r : ℕ) (word : List ℕ) (i : Import) → r < length t.resources → import_by r word ≡ Some i → HasResource t (resource_of i)
+import_over t r word i known e = by_word (pointwise nat_eq word (codes "new")) (pointwise nat_eq word (codes "rep")) (pointwise nat_eq word (codes "drop")) e
+  where
+    by_word : (new rep drop : Bool) → (if new then Some (import.ResourceNew r) else (if rep then Some (import.ResourceRep r) else (if drop then Some (import.ResourceDrop r) else None))) ≡ Some i → HasResource t (resource_of i)
+    by_word true rep drop e = subst (λ x. HasResource t (resource_of x)) (same_Some (import.ResourceNew r) i e) known
+    by_word false true drop e = subst (λ x. HasResource t (resource_of x)) (same_Some (import.ResourceRep r) i e) known
+    by_word false false true e = subst (λ x. HasResource t (resource_of x)) (same_Some (import.ResourceDrop r) i e) known
+    by_word false false false e = absurd (cc)
+
+import_known : (t : Table) (n r : ℕ) → known_resource t n ≡ Some r → r < length t.resources
+import_known t n r e = by_test (nat_lt n (length t.resources)) (Some n) r e (λ lt is. subst (λ (k : ℕ). k < length t.resources) (same_Some n r is) (ltb-true n (length t.resources) lt))
+
+import_stands : (t : Table) (d : Data) (i : Import) → import_of t d ≡ Some i → HasResource t (resource_of i)
+import_stands t d i e =
+    by_test (has_len 2 (as_object d)) _ i e (λ two e1.
+    option_and_then_some (λ r. option_and_then (import_by r) (option_and_then as_str (get (codes "builtin") d))) (option_and_then (known_resource t) (option_and_then u32_of (get (codes "resource") d))) i e1 (λ r s1 e2.
+    option_and_then_some (known_resource t) (option_and_then u32_of (get (codes "resource") d)) r s1 (λ n s2 e3.
+    option_and_then_some (import_by r) (option_and_then as_str (get (codes "builtin") d)) i e2 (λ word s3 e4.
+    import_over t r word i (import_known t n r e3) e4))))
+
 -- ---- all of it
 
 pub heap_is : (memory heap : ℕ) (d : Option Data) → heap_of memory d ≡ Some heap → heap ≤ memory
@@ -91,30 +116,38 @@ settings_sound d s e =
     option_and_then_some _ (heap_of memory (get (codes "heap") d)) s e1 (λ heap s2 e2.
     option_and_then_some _ (fuel_of (get (codes "fuel") d)) s e2 (λ fuel s3 e3.
     option_and_then_some _ (handles_of (get (codes "handles") d)) s e3 (λ handles s4 e4.
-    by_map (settings_with memory heap fuel handles) (encoding_of (get (codes "encoding") d)) s e4 (λ encoding s5 is.
-    subst (λ (x : Settings). x.heap ≤ x.memory) is (heap_is memory heap (get (codes "heap") d) s2))))))
+    option_and_then_some _ (turns_of (get (codes "turns") d)) s e4 (λ turns s5 e5.
+    by_map (settings_with memory heap fuel handles turns) (encoding_of (get (codes "encoding") d)) s e5 (λ encoding s6 is.
+    subst (λ (x : Settings). x.heap ≤ x.memory) is (heap_is memory heap (get (codes "heap") d) s2)))))))
 
-fits_sound : (s : Settings) (fs : Funcs) (items : List ScriptItem) → s.heap ≤ s.memory → Told fs → AllByRecursion (ItemStands fs.table) items → IsTrue (fits s.memory items) → IsWellFormed (play_with s fs items)
-fits_sound s fs items inside told stand fit =
-    let last = final_memory s.memory items in
-    let fit2 = and_parts (nat_le last max_memory) (nat_le (last * 2 * turns items) max_work) fit in
-    record {
-      heap_inside = inside;
-      memory_fits = leb-true last max_memory fit2.0;
-      work_fits = leb-true (last * 2 * turns items) max_work fit2.1;
-      posts_told = told.posts;
-      funcs_few = told.few;
-      items_stand = All-from_recursion (ItemStands fs.table) items stand;
-    }
+module _ (s : Settings) (inside : s.heap ≤ s.memory) (imports items : Items) where
+  fits_sound : (fs : Funcs) (is : List Import) (found : List ScriptItem) → Told fs → AllByRecursion (λ i. HasResource fs.table (resource_of i)) is → AllByRecursion (ItemStands fs.table) found → IsTrue (fits s.memory found) → IsWellFormed (play_with s fs is found)
+  fits_sound fs is found told known stand fit =
+      let last = final_memory s.memory found in
+      let fit2 = and_parts (nat_le last max_memory) (nat_le (last * 2 * turns found) max_work) fit in
+      record {
+        heap_inside = inside;
+        memory_fits = leb-true last max_memory fit2.0;
+        work_fits = leb-true (last * 2 * turns found) max_work fit2.1;
+        posts_told = told.posts;
+        funcs_few = told.few;
+        imports_stand = All-from_recursion (λ i. HasResource fs.table (resource_of i)) is known;
+        items_stand = All-from_recursion (ItemStands fs.table) found stand;
+      }
 
-played_sound : (s : Settings) (resources types funcs items : Items) (p : Play) → s.heap ≤ s.memory → played s resources types funcs items ≡ Some p → IsWellFormed p
-played_sound s resources types funcs items p inside e =
-    option_and_then_some (λ fs. option_and_then (if_fits s fs) (each (item_of fs.table) items)) (funcs_of resources types funcs) p e (λ fs s1 e1.
-    option_and_then_some (if_fits s fs) (each (item_of fs.table) items) p e1 (λ found s2 e2.
-    by_test (fits s.memory found) (Some (play_with s fs found)) p e2 (λ fit is.
-    subst IsWellFormed (same_Some (play_with s fs found) p is)
-    (fits_sound s fs found inside (funcs_told resources types funcs fs s1) (each_all (ItemStands fs.table) (item_of fs.table) (item_stands fs.table) items found s2) fit))))
+  over_sound : (fs : Funcs) (p : Play) → Told fs → played_over s imports items fs ≡ Some p → IsWellFormed p
+  over_sound fs p told e =
+      option_and_then_some (λ is. option_and_then (if_fits s fs is) (each (item_of fs.table) items)) (each (import_of fs.table) imports) p e (λ is s1 e1.
+      option_and_then_some (if_fits s fs is) (each (item_of fs.table) items) p e1 (λ found s2 e2.
+      by_test (fits s.memory found) (Some (play_with s fs is found)) p e2 (λ fit same.
+      subst IsWellFormed (same_Some (play_with s fs is found) p same)
+      (fits_sound fs is found told (each_all (λ i. HasResource fs.table (resource_of i)) (import_of fs.table) (import_stands fs.table) imports is s1)
+      (each_all (ItemStands fs.table) (item_of fs.table) (item_stands fs.table) items found s2) fit))))
 
-pub reads_sound : (d : Data) (s : Settings) (resources types funcs items : Items) (r : Result Script ScriptError) → Some s ≡ settings_of d → Gives play_of r (played s resources types funcs items) → IfOk r (λ x. IsWellFormed (play_of x))
-reads_sound d s resources types funcs items (Ok x) e h = played_sound s resources types funcs items (play_of x) (settings_sound d s (sym e)) h
-reads_sound d s resources types funcs items (Err f) e h = tt
+  played_sound : (resources types funcs : Items) (p : Play) → played s resources types funcs imports items ≡ Some p → IsWellFormed p
+  played_sound resources types funcs p e =
+      option_and_then_some (played_over s imports items) (funcs_of resources types funcs) p e (λ fs s1 e1. over_sound fs p (funcs_told resources types funcs fs s1) e1)
+
+pub reads_sound : (d : Data) (s : Settings) (resources types funcs imports items : Items) (r : Result Script ScriptError) → Some s ≡ settings_of d → Gives play_of r (played s resources types funcs imports items) → IfOk r (λ x. IsWellFormed (play_of x))
+reads_sound d s resources types funcs imports items (Ok x) e h = played_sound s (settings_sound d s (sym e)) imports items resources types funcs (play_of x) h
+reads_sound d s resources types funcs imports items (Err f) e h = tt

@@ -4,10 +4,13 @@ use lib.Pointwise.{pointwise}
 use Rattle.std.specs.Option.{option_map_or}
 use Rattle.serde_json.specs.Data.{Data, Items}
 use Rattle.serde_json.specs.Find.{as_bool, as_object, as_str, get}
+use Rattle.canon_context.specs.Component.{resource_of}
+use Rattle.canon_context.specs.declared.component.Import.{Import}
+use Rattle.canon_context.specs.declared.component.Import.TheVariants as import
 use Rattle.canon_json.specs.Json.{each, each_of, has_len, items_of, there, u32_of, word_of}
 use Rattle.canon_indices.specs.declared.options.StringEncoding.{StringEncoding}
 use Rattle.canon_indices.specs.declared.options.StringEncoding.TheVariants as encoding
-use Rattle.canon_types.specs.Table.{HasFunc, Table, types_of}
+use Rattle.canon_types.specs.Table.{HasFunc, HasResource, Table, types_of}
 use Rattle.canon_types.specs.declared.types.ResourceKind.{ResourceKind}
 use Rattle.canon_types.specs.declared.types.ResourceKind.TheVariants as resource
 use Rattle.canon_layout.specs.Asked.{Funcs}
@@ -16,7 +19,7 @@ use Rattle.canon_scripted.specs.Orders.{AreNarrow}
 use Rattle.canon_scripted.specs.declared.orders.Ordered.{Ordered}
 use Rattle.canon_script.specs.Actions.{action_of, ask_count, growth, ordered_of}
 use Rattle.canon_script.specs.Literals.{Literal, literals_view}
-use Rattle.canon_script.specs.Numbers.{number_to}
+use Rattle.canon_script.specs.Numbers.{if_below, number_to}
 use Rattle.canon_script.specs.Types.{funcs_of}
 use Rattle.canon_script.specs.Values.{value_of}
 use Rattle.canon_script.specs.declared.script.CallItem.{CallItem}
@@ -130,6 +133,27 @@ starts (call_item c) = 1
 starts (new_item n) = 0
 starts (drop_item d) = 0
 
+-- ---- imports
+
+-- a call on the handles of the resource type of this number, by its word
+abbrev pub import_by : ℕ → List ℕ → Option Import
+import_by r word =
+    if pointwise nat_eq word (codes "new") then Some (import.ResourceNew r)
+    else (if pointwise nat_eq word (codes "rep") then Some (import.ResourceRep r)
+    else (if pointwise nat_eq word (codes "drop") then Some (import.ResourceDrop r) else None))
+
+-- the number of one of the table's resource types
+abbrev pub known_resource : Table → ℕ → Option ℕ
+known_resource t r = if_below (length t.resources) r
+
+-- an object of these two members
+abbrev pub import_of : Table → Data → Option Import
+import_of t d =
+    if has_len 2 (as_object d)
+    then option_and_then (λ r. option_and_then (import_by r) (option_and_then as_str (get (codes "builtin") d)))
+    (option_and_then (known_resource t) (option_and_then u32_of (get (codes "resource") d)))
+    else None
+
 -- ---- limits
 
 abbrev pub max_memory : ℕ
@@ -162,18 +186,23 @@ pub record Play : Type 0 where
   pub fuel : ℕ
   -- how many handles may live at once
   pub handles : ℕ
+  -- how many asks of imports a call may have served
+  pub turns : ℕ
   -- how texts are spelled in memory
   pub encoding : StringEncoding
   pub types : Table
   -- for each function whether it has a post-return function
   pub posts : List Bool
+  -- what the guest may ask for, by its number
+  pub imports : List Import
   pub items : List ScriptItem
 
-abbrev pub play_with : Settings → Funcs → List ScriptItem → Play
-play_with s funcs items = record { memory = s.memory; heap = s.heap; fuel = s.fuel; handles = s.handles; encoding = s.encoding; types = funcs.table; posts = funcs.posts; items = items }
+abbrev pub play_with : Settings → Funcs → List Import → List ScriptItem → Play
+play_with s funcs imports items =
+    record { memory = s.memory; heap = s.heap; fuel = s.fuel; handles = s.handles; turns = s.turns; encoding = s.encoding; types = funcs.table; posts = funcs.posts; imports = imports; items = items }
 
-abbrev pub if_fits : Settings → Funcs → List ScriptItem → Option Play
-if_fits s funcs items = if fits s.memory items then Some (play_with s funcs items) else None
+abbrev pub if_fits : Settings → Funcs → List Import → List ScriptItem → Option Play
+if_fits s funcs imports items = if fits s.memory items then Some (play_with s funcs imports items) else None
 
 abbrev pub memory_len_of : Option Data → Option ℕ
 memory_len_of d = option_map_or (number_to max_memory) d (Some 65536)
@@ -188,6 +217,9 @@ fuel_of d = option_map_or word_of d (Some 1000000)
 abbrev pub handles_of : Option Data → Option ℕ
 handles_of d = option_map_or (number_to 1000000) d (Some 1000000)
 
+abbrev pub turns_of : Option Data → Option ℕ
+turns_of d = option_map_or (number_to 1000000) d (Some 100)
+
 abbrev pub encoding_named : List ℕ → Option StringEncoding
 encoding_named name =
     if pointwise nat_eq name (codes "utf8") then Some encoding.Utf8
@@ -197,35 +229,42 @@ encoding_named name =
 abbrev pub encoding_of : Option Data → Option StringEncoding
 encoding_of d = option_map_or (λ x. option_and_then encoding_named (as_str x)) d (Some encoding.Utf8)
 
-abbrev pub settings_with : ℕ → ℕ → ℕ → ℕ → StringEncoding → Settings
-settings_with memory heap fuel handles encoding = record { memory = memory; heap = heap; fuel = fuel; handles = handles; encoding = encoding }
+abbrev pub settings_with : ℕ → ℕ → ℕ → ℕ → ℕ → StringEncoding → Settings
+settings_with memory heap fuel handles turns encoding = record { memory = memory; heap = heap; fuel = fuel; handles = handles; turns = turns; encoding = encoding }
 
 -- the members that are no arrays
 abbrev pub settings_of : Data → Option Settings
-settings_of d = option_and_then (λ memory. option_and_then (λ heap. option_and_then (λ fuel. option_and_then (λ handles. option_map (settings_with memory heap fuel handles)
+settings_of d = option_and_then (λ memory. option_and_then (λ heap. option_and_then (λ fuel. option_and_then (λ handles. option_and_then (λ turns. option_map (settings_with memory heap fuel handles turns)
     (encoding_of (get (codes "encoding") d)))
+    (turns_of (get (codes "turns") d)))
     (handles_of (get (codes "handles") d)))
     (fuel_of (get (codes "fuel") d)))
     (heap_of memory (get (codes "heap") d)))
     (memory_len_of (get (codes "memory") d))
 
--- the functions over their resources and types, and the items over these
-abbrev pub played : Settings → Items → Items → Items → Items → Option Play
-played s resources types funcs items = option_and_then (λ fs. option_and_then (if_fits s fs) (each (item_of fs.table) items)) (funcs_of resources types funcs)
+-- imports and items over these functions
+abbrev pub played_over : Settings → Items → Items → Funcs → Option Play
+played_over s imports items fs = option_and_then (λ found. option_and_then (if_fits s fs found) (each (item_of fs.table) items)) (each (import_of fs.table) imports)
+
+-- the functions over their resources and types, and the imports and the items over these
+abbrev pub played : Settings → Items → Items → Items → Items → Items → Option Play
+played s resources types funcs imports items = option_and_then (played_over s imports items) (funcs_of resources types funcs)
 
 abbrev pub settings_members : Data → ℕ
 settings_members d = there (get (codes "memory") d) + (there (get (codes "heap") d) + (there (get (codes "fuel") d) + (there (get (codes "handles") d)
-    + there (get (codes "encoding") d))))
+    + (there (get (codes "turns") d) + there (get (codes "encoding") d)))))
 
 abbrev pub script_members : Data → ℕ
-script_members d = settings_members d + (there (get (codes "resources") d) + (there (get (codes "types") d) + (there (get (codes "funcs") d) + there (get (codes "items") d))))
+script_members d = settings_members d + (there (get (codes "resources") d) + (there (get (codes "types") d) + (there (get (codes "funcs") d)
+    + (there (get (codes "imports") d) + there (get (codes "items") d)))))
 
--- an object of these nine members, each of which may be missing
+-- an object of these eleven members, each of which may be missing
 abbrev pub script_of : Data → Option Play
 script_of d =
     if has_len (script_members d) (as_object d)
-    then option_and_then (λ s. option_and_then (λ resources. option_and_then (λ types. option_and_then (λ funcs. option_and_then (played s resources types funcs)
+    then option_and_then (λ s. option_and_then (λ resources. option_and_then (λ types. option_and_then (λ funcs. option_and_then (λ imports. option_and_then (played s resources types funcs imports)
     (items_of (get (codes "items") d)))
+    (items_of (get (codes "imports") d)))
     (items_of (get (codes "funcs") d)))
     (items_of (get (codes "types") d)))
     (items_of (get (codes "resources") d)))
@@ -243,7 +282,8 @@ item_view (item.New n) = new_item n
 item_view (item.Drop d) = drop_item d
 
 abbrev pub play_of : Script → Play
-play_of s = record { memory = s.memory; heap = s.heap; fuel = s.fuel; handles = s.handles; encoding = s.encoding; types = s.types; posts = s.posts.items; items = map item_view s.items.items }
+play_of s =
+    record { memory = s.memory; heap = s.heap; fuel = s.fuel; handles = s.handles; turns = s.turns; encoding = s.encoding; types = s.types; posts = s.posts.items; imports = s.imports.items; items = map item_view s.items.items }
 
 -- A call is one of a function, and each ordered answer of `realloc` is below 2 ^ 32.
 abbrev pub ItemStands : Table → ScriptItem → Type 0
@@ -251,11 +291,12 @@ ItemStands t (call_item c) = HasFunc t c.func × AreNarrow c.reallocs
 ItemStands t (new_item n) = Unit {0}
 ItemStands t (drop_item d) = Unit {0}
 
--- It keeps the limits, and its items are over its functions. A table has at most 2 ^ 20 entries.
+-- It keeps the limits, its imports are over its resource types, and its items are over its functions. A table has at most 2 ^ 20 entries.
 pub record IsWellFormed (p : Play) : Type 0 where
   pub heap_inside : p.heap ≤ p.memory
   pub memory_fits : final_memory p.memory p.items ≤ max_memory
   pub work_fits : final_memory p.memory p.items * 2 * turns p.items ≤ max_work
   pub posts_told : length p.posts ≡ length p.types.funcs
   pub funcs_few : length p.types.funcs ≤ 1048576
+  pub imports_stand : All (λ i. HasResource p.types (resource_of i)) p.imports
   pub items_stand : All (ItemStands p.types) p.items

@@ -7,10 +7,12 @@
 //! | `heap` | where the allocator begins, at most `memory` | 1024 |
 //! | `fuel` | what each lifting may cost, any `u64` | 1000000 |
 //! | `handles` | how many handles may live at once, at most 1,000,000 | 1000000 |
+//! | `turns` | how many asks of imports a call may have served, at most 1,000,000 | 100 |
 //! | `encoding` | `"utf8"`, `"utf16"` or `"compact"` | `"utf8"` |
 //! | `resources` | resources | `[]` |
 //! | `types` | entries | `[]` |
 //! | `funcs` | functions | `[]` |
+//! | `imports` | imports | `[]` |
 //! | `items` | items | `[]` |
 //!
 //! - A reference is the name of a scalar (`bool`, `s8` .. `u64`, `f32`, `f64`, `char`), `string`, or the number of an entry;
@@ -24,6 +26,8 @@
 //!   function that destroys it, or `null`).
 //! - A function is `{"params": [reference, ..], "results": [reference, ..]}`, and may have `async` and `post`, which are
 //!   false where they are missing. `post` says that it has a post-return function.
+//! - An import is `{"builtin": "new", "resource": resource}`, or so with `"rep"` or `"drop"`, with the number of an entry of
+//!   `resources`: a call on the handles of that resource type, for which the guest asks by the number of the import.
 //! - An item is a call, a new resource or a drop.
 //! - A call is `{"call": number, "params": [value, ..], "guest": [action, ..]}`, and may have `slots` (how many results
 //!   there is room for, at most 1,000; where it is missing, the number of the function's results), `reallocs` (how
@@ -46,6 +50,7 @@
 #![tactic(auto)]
 
 mod actions;
+mod imports;
 mod items;
 mod kinds;
 mod limits;

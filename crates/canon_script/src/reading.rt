@@ -1,19 +1,24 @@
 ghost use Rattle.std.specs.Prelude.{◌≡◌, ◌≤◌, IfOk, option_map};
 ghost use Rattle.serde_json.specs.View.{view, items_view};
 ghost use Rattle.canon_json.specs.Json.{Gives};
+ghost use Rattle.canon_layout.specs.Asked.{funcs_so_far};
 ghost use Rattle.canon_script.specs.Script as spec;
 
+use crate::imports::Imports;
 use crate::items::Items;
 use crate::limits::{MAX_MEMORY, fits};
 use crate::script::{Script, Settings};
 use crate::types::funcs_of_json;
 use canon_json::{ScriptError, each, has_len, items_of, there};
-use canon_types::StringEncoding;
+use canon_types::{ComponentTypes, StringEncoding};
 use serde_json::Value;
 use std::alloc::Global;
 
 /// The most live handles that a script may allow, and how many it allows where it doesn't say.
 const MAX_HANDLES: u64 = 1_000_000;
+
+/// The most asks of imports that a script may have served in a call.
+const MAX_TURNS: u64 = 1_000_000;
 
 /// The script that a JSON value stands for. `BadScript` says that there is none.
 pub fn script_of_json(alloc: Global, v: &Value) -> Result<Script, ScriptError>
@@ -35,10 +40,13 @@ pub fn script_of_json(alloc: Global, v: &Value) -> Result<Script, ScriptError>
     let Some(funcs) = items_of(v.get("funcs")) else {
         return Err(ScriptError::BadScript);
     };
+    let Some(imports) = items_of(v.get("imports")) else {
+        return Err(ScriptError::BadScript);
+    };
     let Some(items) = items_of(v.get("items")) else {
         return Err(ScriptError::BadScript);
     };
-    played(alloc, settings, resources, types, funcs, items)
+    played(alloc, settings, resources, types, funcs, imports, items)
 }
 
 /// How many of its members there are.
@@ -47,17 +55,19 @@ fn script_members(v: &Value) -> usize
 {
     settings_members(v)
         + (there(v.get("resources"))
-            + (there(v.get("types")) + (there(v.get("funcs")) + there(v.get("items")))))
+            + (there(v.get("types"))
+                + (there(v.get("funcs")) + (there(v.get("imports")) + there(v.get("items"))))))
 }
 
 /// How many of the members are there that are no arrays.
 fn settings_members(v: &Value) -> usize
     ensures count { result ≡ spec.settings_members (view v.now) }
-    ensures few { result ≤ 5 }
+    ensures few { result ≤ 6 }
 {
     there(v.get("memory"))
         + (there(v.get("heap"))
-            + (there(v.get("fuel")) + (there(v.get("handles")) + there(v.get("encoding")))))
+            + (there(v.get("fuel"))
+                + (there(v.get("handles")) + (there(v.get("turns")) + there(v.get("encoding"))))))
 }
 
 /// What a script says in numbers, and how texts are spelled.
@@ -68,12 +78,14 @@ fn settings_of(v: &Value) -> Option<Settings>
     let heap = heap_of(memory, v.get("heap"))?;
     let fuel = fuel_of(v.get("fuel"))?;
     let handles = handles_of(v.get("handles"))?;
+    let turns = turns_of(v.get("turns"))?;
     let encoding = encoding_of(v.get("encoding"))?;
     Some(Settings {
         memory,
         heap,
         fuel,
         handles,
+        turns,
         encoding,
     })
 }
@@ -121,6 +133,18 @@ fn handles_of(v: Option<&Value>) -> Option<u64>
     }
 }
 
+fn turns_of(v: Option<&Value>) -> Option<u64>
+    ensures { result ≡ spec.turns_of (option_map (λ x. view x.now) v.entry) }
+{
+    let Some(v) = v else {
+        return Some(100);
+    };
+    match v.as_u64() {
+        Some(turns) if turns <= MAX_TURNS => Some(turns),
+        _ => None,
+    }
+}
+
 fn encoding_of(v: Option<&Value>) -> Option<StringEncoding>
     ensures { result ≡ spec.encoding_of (option_map (λ x. view x.now) v.entry) }
 {
@@ -144,18 +168,34 @@ fn encoding_named(name: &str) -> Option<StringEncoding>
     }
 }
 
-/// The functions over their resources and types, and the items.
+/// The functions over their resources and types, and the imports and the items.
 fn played(
     alloc: Global,
     settings: Settings,
     resources: &[Value],
     types: &[Value],
     funcs: &[Value],
+    imports: &[Value],
     items: &[Value],
 ) -> Result<Script, ScriptError>
-    ensures { Gives spec.play_of result (spec.played settings (items_view resources.now) (items_view types.now) (items_view funcs.now) (items_view items.now)) }
+    ensures { Gives spec.play_of result (spec.played settings (items_view resources.now) (items_view types.now) (items_view funcs.now) (items_view imports.now) (items_view items.now)) }
 {
     let (types, posts) = funcs_of_json(alloc, resources, types, funcs)?;
+    played_over(alloc, settings, types, posts, imports, items)
+}
+
+/// The imports and the items over these types and functions.
+fn played_over(
+    alloc: Global,
+    settings: Settings,
+    types: ComponentTypes,
+    posts: Vec<bool>,
+    imports: &[Value],
+    items: &[Value],
+) -> Result<Script, ScriptError>
+    ensures { Gives spec.play_of result (spec.played_over settings (items_view imports.now) (items_view items.now) (funcs_so_far types posts.items)) }
+{
+    let imports = each(alloc, &Imports { types: &types }, imports)?;
     let items = each(alloc, &Items { types: &types }, items)?;
     if !fits(settings.memory, &items) {
         return Err(ScriptError::BadScript);
@@ -165,6 +205,7 @@ fn played(
         heap,
         fuel,
         handles,
+        turns,
         encoding,
     } = settings;
     Ok(Script {
@@ -172,9 +213,11 @@ fn played(
         heap,
         fuel,
         handles,
+        turns,
         encoding,
         types,
         posts,
+        imports,
         items,
     })
 }

@@ -1,6 +1,6 @@
 use canon_scripted::{Action, Ordered};
 use canon_types::{ComponentTypes, StringEncoding};
-use canon_value::Val;
+use canon_value::{Import, Val};
 
 /// One call of a function.
 #[derive(Debug, Drop)]
@@ -49,13 +49,14 @@ pub enum Item {
 }
 
 /// What a script says in numbers, and how texts are spelled: the bytes of memory at the start, where the guest's allocator begins, the
-/// fuel that each lifting begins with, and how many handles may live at once.
+/// fuel that each lifting begins with, how many handles may live at once, and how many asks of imports a call may have served.
 #[derive(Clone, Copy)]
 pub(crate) struct Settings {
     pub memory: u64,
     pub heap: u64,
     pub fuel: u64,
     pub handles: u64,
+    pub turns: u64,
     pub encoding: StringEncoding,
 }
 
@@ -70,11 +71,15 @@ pub struct Script {
     pub fuel: u64,
     /// How many handles may live at once.
     pub handles: u64,
+    /// How many asks of imports a call may have served.
+    pub turns: u64,
     /// How texts are spelled in memory.
     pub encoding: StringEncoding,
     /// The resources, the types and the functions, in the order of the script.
     pub types: ComponentTypes,
     /// For each function whether it has a post-return function.
     pub posts: Vec<bool>,
+    /// What the guest may ask for, by its number: calls on the handles of the resource types.
+    pub imports: Vec<Import>,
     pub items: Vec<Item>,
 }

@@ -1,10 +1,11 @@
 //! Values, actions and scripts, as they are read and as they are refused.
 
-use canon_indices::{StringEncoding, TypeFuncIndex};
+use canon_indices::{StringEncoding, TypeFuncIndex, TypeResourceTableIndex};
 use canon_json::{ScriptError, items_of};
 use canon_memory::ValRaw;
 use canon_script::{Item, Script, actions_of_json, script_of_json, value_of_json};
 use canon_scripted::{Action, Ordered};
+use canon_value::Import;
 use serde_json::Value;
 use std::alloc::Global;
 use std::test::Fail;
@@ -194,10 +195,29 @@ fn what_is_missing_has_its_default(rt: HostRuntime) -> Result<(), Fail> {
     let script = script(rt.alloc(), "{}")?.expect(&rt, "a script");
     assert!(rt;
         (script.memory, script.heap, script.fuel) == (65536, 1024, 1_000_000)
+            && (script.handles, script.turns) == (1_000_000, 100)
             && script.encoding == StringEncoding::Utf8
             && script.posts.is_empty()
+            && script.imports.is_empty()
             && script.items.is_empty()
     );
+    Ok(())
+}
+
+#[test]
+fn imports_and_turns_are_read(rt: HostRuntime) -> Result<(), Fail> {
+    let text = r#"{"turns":1000000,"resources":[{"kind":"dynamic","id":9},{"kind":"guest","id":4}],
+"imports":[{"builtin":"drop","resource":1},{"resource":0,"builtin":"new"},{"builtin":"rep","resource":1}]}"#;
+    let script = script(rt.alloc(), text)?.expect(&rt, "a script");
+    let first = TypeResourceTableIndex::from_u32(0);
+    let second = TypeResourceTableIndex::from_u32(1);
+    let imports = [
+        Import::ResourceDrop(second),
+        Import::ResourceNew(first),
+        Import::ResourceRep(second),
+    ];
+    assert!(rt; script.turns == 1_000_000);
+    assert!(rt; script.imports.as_slice() == imports.as_slice());
     Ok(())
 }
 
@@ -232,7 +252,16 @@ const NO_SCRIPTS: &str = r#"[
     {"encoding":"UTF8"},
     {"encoding":"latin1"},
     {"encoding":null},
-    {"turns":1},
+    {"turn":1},
+    {"turns":1000001},
+    {"turns":-1},
+    {"imports":{}},
+    {"imports":[{"builtin":"new","resource":0}]},
+    {"resources":[{"kind":"guest","id":0}],"imports":[{"builtin":"new","resource":1}]},
+    {"resources":[{"kind":"guest","id":0}],"imports":[{"builtin":"take","resource":0}]},
+    {"resources":[{"kind":"guest","id":0}],"imports":[{"builtin":"new"}]},
+    {"resources":[{"kind":"guest","id":0}],"imports":[{"builtin":"new","resource":0,"func":0}]},
+    {"resources":[{"kind":"guest","id":0}],"imports":[{"host":"new","resource":0}]},
     {"types":[{"own":0}]},
     {"types":[{"flags":[]}]},
     {"types":[{"list":0}]},

@@ -248,6 +248,8 @@ error_text error.AsyncLifted = codes "AsyncLifted"
 error_text error.CannotEnterComponent = codes "CannotEnterComponent"
 error_text error.WrongWords = codes "WrongWords"
 error_text (error.UnknownImport index) = codes "UnknownImport " ++ decimal index
+error_text error.TurnsExhausted = codes "TurnsExhausted"
+error_text (error.ImportFault index f) = codes "ImportFault " ++ decimal index ++ codes " " ++ fault_text f
 
 -- ---- events
 

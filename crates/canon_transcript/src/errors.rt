@@ -26,6 +26,11 @@ pub(crate) fn print_error(text: &mut String, error: Error) -> Result<(), AllocEr
         Error::CannotEnterComponent => text.push_str("CannotEnterComponent"),
         Error::WrongWords => text.push_str("WrongWords"),
         Error::UnknownImport(index) => write!(text, "UnknownImport {index}"),
+        Error::TurnsExhausted => text.push_str("TurnsExhausted"),
+        Error::ImportFault { index, fault } => {
+            write!(text, "ImportFault {index} ")?;
+            print_fault(text, fault)
+        }
     }
 }
 

@@ -1,7 +1,7 @@
 //! The lines of values, errors, events and records.
 
 use canon_func::Error;
-use canon_ledger::HostResourceIndex;
+use canon_ledger::{HostResourceIndex, ResourceFault};
 use canon_memory::{Bytes, Event, Events, ValRaw, Words};
 use canon_resources::ResourceAny;
 use canon_transcript::{
@@ -92,6 +92,14 @@ fn an_error_prints_its_name_and_what_it_carries(rt: HostRuntime) -> Result<(), F
     // A text or a list of so many bytes or items is in no script.
     let rows = [
         (Error::UnknownImport(3), "UnknownImport 3"),
+        (Error::TurnsExhausted, "TurnsExhausted"),
+        (
+            Error::ImportFault {
+                index: 2,
+                fault: Fault::Resource(ResourceFault::UnknownHandle(1)),
+            },
+            "ImportFault 2 UnknownHandle 1",
+        ),
         (
             Error::Fault(Fault::StringTooLong(2147483648)),
             "StringTooLong 2147483648",
