@@ -1,5 +1,5 @@
 -- Values with other resources in the place of theirs, by their parts.
-use Rattle.std.proofs.Common.{◌≡◌, ◌∙◌, Box, Err, List, None, Ok, Option, Result, Some, String, Vec, [], ◌∷◌, ap, ap₂, map, refl, string_bytes, sym}
+use Rattle.std.proofs.Common.{◌≡◌, ◌∙◌, Box, Err, List, Ok, Option, Result, String, Vec, [], ◌∷◌, ap, map, refl, string_bytes, sym}
 use Rattle.std.specs.declared.alloc.Global.{Global}
 use Rattle.canon_model.specs.Shape.{Name}
 use Rattle.canon_resources.specs.Held.{Any}

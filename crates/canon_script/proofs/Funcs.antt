@@ -1,5 +1,5 @@
 -- The functions of a script.
-use Rattle.std.proofs.Common.{◌≡◌, ◌≤◌, length, Some, refl}
+use Rattle.std.proofs.Common.{◌≡◌, ◌≤◌, length, Some}
 use Rattle.std.proofs.lemmas.Option.{option_and_then_some}
 use Rattle.serde_json.specs.Data.{Items}
 use Rattle.canon_json.specs.Json.{onward}

@@ -1,5 +1,5 @@
 -- A script that is read is sound.
-use Rattle.std.proofs.Common.{◌≡◌, ℕ, ◌<◌, ◌≤◌, ◌+◌, ◌*◌, ◌^◌, List, [], ◌∷◌, All, length, slice_get, Bool, false, is_some, nat_eq, option_map, sym, true, nat_le, nat_lt, IsTrue, if◌then◌else◌, codes, Option, None, Some, Result, Ok, Err, IfOk, subst, option_and_then}
+use Rattle.std.proofs.Common.{◌≡◌, ℕ, ◌<◌, ◌≤◌, ◌+◌, ◌*◌, ◌^◌, List, [], ◌∷◌, length, slice_get, Bool, false, is_some, nat_eq, option_map, sym, true, nat_le, nat_lt, IsTrue, if◌then◌else◌, codes, Option, None, Some, Result, Ok, Err, IfOk, subst, option_and_then}
 use Rattle.std.proofs.lemmas.Bool.{and_parts, leb-true, ltb-true}
 use Rattle.std.proofs.lemmas.List.Elements.{All-from_recursion}
 use Rattle.std.proofs.lemmas.Option.{option_and_then_some, same_Some, slice_get_within}
