@@ -68,8 +68,6 @@ impl Component {
         ensures { IsTrue result ↔ All (IsImport self.now) self.now.imports.items }
     {
         let types = self.types.types();
-        self.imports
-            .iter()
-            .all(|import| types.contains(&InterfaceType::Own(import.resource())))
+        self.imports.iter().all(|import| types.contains(&InterfaceType::Own(import.resource())))
     }
 }

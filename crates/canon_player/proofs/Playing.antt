@@ -43,11 +43,11 @@ module _ (first : ScriptStore) (items : List Item) (now : ScriptStore) (all left
   pub playing_next : (after : ScriptStore) (r : Record) (longer : List Any) (more : List Record) → after.core.guest.events ≡ [] → after.core.component ≡ now.core.component → (limits_of after) ≡ (limits_of now)
       → IsPlayed (callee_at now.core.component) (limits_of now) (item_view item) list (state_of now) (state_of after) r → longer ≡ list ++ all_resources (answer_values r.answer) → more ≡ records ++ r ∷ []
       → IsPlaying first items after left longer more
-  playing_next after r longer more fresh same fuel played grown e =
+  playing_next after r longer more fresh same kept played grown e =
       subst (λ (ys : List Any). IsPlaying first items after left ys more) (sym grown) (subst (λ (rs : List Record). IsPlaying first items after left (list ++ all_resources (answer_values r.answer)) rs) (sym e) (record {
         fresh = fresh;
         same = same ∙ h.same;
-        limits = limits ∙ h.limits;
+        limits = kept ∙ h.limits;
         playable = All-tail (IsPlayable first.core.component) (item_view item) (map item_view left) before.playable;
         rest = λ others g. subst (λ (rs : List Record). Plays (callee_at first.core.component) (limits_of first) (map item_view items) [] (state_of first) rs) (sym (append_assoc records (r ∷ []) others))
             (before.rest (r ∷ others) (

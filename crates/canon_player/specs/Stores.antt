@@ -40,11 +40,11 @@ exports_from i [] = []
 exports_from i (has_post ∷ posts) = export_for i ∷ exports_from (i + 1) posts
 
 -- one export for each function of the table, each with its own options, and the imports
-pub record IsScripted (t : Table) (encoding : StringEncoding) (posts : List Bool) (imports : List Import) (component : Component) : Type 0 where
+pub record IsScripted (t : Table) (encoding : StringEncoding) (posts : List Bool) (given : List Import) (component : Component) : Type 0 where
   pub types : component.types ≡ record { types = t; store = 0 }
   pub options : component.options.items ≡ options_from t encoding 0 posts
   pub exports : component.exports.items ≡ exports_from 0 posts
-  pub imports : component.imports.items ≡ imports
+  pub imports : component.imports.items ≡ given
 
 -- the callee of export i
 abbrev pub callee_at : Component → ℕ → Callee
