@@ -2,7 +2,7 @@
 use Rattle.std.proofs.Common.{◌≡◌, ◌≤◌, ◌*◌, ℕ, List, [], ◌∷◌, Some, arith, subst, sym}
 use Rattle.std.proofs.lemmas.List.Elements.{All-cons, All-nil}
 use Rattle.canon_indices.specs.declared.options.StringEncoding.{StringEncoding}
-use Rattle.canon_script.specs.Script.{IsWellFormed, ItemStands, Play, ScriptItem, call_item, final_memory, max_memory, max_work, turns}
+use Rattle.canon_script.specs.Script.{IsWellFormed, ItemStands, Play, ScriptItem, call_item, final_memory, max_memory, max_work, times_entered}
 use Rattle.canon_gen.proofs.Common.{common_funcs, common_memory}
 use Rattle.canon_gen.specs.Made.{call_made, common, encoding_made, with_call}
 
@@ -14,7 +14,7 @@ module _ (n : ℕ) (p : Play) (e : common ≡ Some p) where
   with_call_sound h = record {
     heap_inside = h.heap_inside;
     memory_fits = subst (λ m. final_memory m items ≤ max_memory) (sym (common_memory p e)) (omega arith);
-    work_fits = subst (λ m. final_memory m items * 2 * turns items ≤ max_work) (sym (common_memory p e)) (omega arith);
+    work_fits = subst (λ m. final_memory m items * 2 * times_entered items ≤ max_work) (sym (common_memory p e)) (omega arith);
     posts_told = h.posts_told;
     funcs_few = h.funcs_few;
     imports_stand = h.imports_stand;

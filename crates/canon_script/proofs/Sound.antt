@@ -20,7 +20,7 @@ use Rattle.canon_script.specs.Actions.{action_of, ordered_of}
 use Rattle.canon_scripted.specs.declared.orders.Ordered.{Ordered}
 use Rattle.canon_scripted.specs.declared.orders.Ordered.TheVariants as order
 use Rattle.canon_scripted.specs.Orders.{AreNarrow, IsNarrow}
-use Rattle.canon_script.specs.Script.{IsWellFormed, ItemStands, Play, ScriptCall, ScriptItem, call_item, call_item_of, call_of_func, call_with, drop_item, drop_item_of, encoding_of, final_memory, fits, fuel_of, handles_of, heap_of, if_fits, import_by, import_of, item_of, known_resource, max_memory, max_work, memory_len_of, new_item, new_item_of, optional_call_members, other_item_of, play_of, play_with, played, played_over, reallocs_of, result_count, settings_of, settings_with, slots_of, turns, turns_of}
+use Rattle.canon_script.specs.Script.{IsWellFormed, ItemStands, Play, ScriptCall, ScriptItem, call_item, call_item_of, call_of_func, call_with, drop_item, drop_item_of, encoding_of, final_memory, fits, fuel_of, handles_of, heap_of, if_fits, import_by, import_of, item_of, known_resource, max_memory, max_work, memory_len_of, new_item, new_item_of, optional_call_members, other_item_of, play_of, play_with, played, played_over, reallocs_of, result_count, settings_of, settings_with, slots_of, times_entered, turns_of}
 use Rattle.canon_script.specs.declared.script.Settings.{Settings}
 use Rattle.canon_script.specs.Types.{funcs_of}
 use Rattle.canon_script.specs.Values.{value_of}
@@ -124,11 +124,11 @@ module _ (s : Settings) (inside : s.heap ≤ s.memory) (imports items : Items) w
   fits_sound : (fs : Funcs) (is : List Import) (found : List ScriptItem) → Told fs → AllByRecursion (λ i. HasResource fs.table (resource_of i)) is → AllByRecursion (ItemStands fs.table) found → IsTrue (fits s.memory found) → IsWellFormed (play_with s fs is found)
   fits_sound fs is found told known stand fit =
       let last = final_memory s.memory found in
-      let fit2 = and_parts (nat_le last max_memory) (nat_le (last * 2 * turns found) max_work) fit in
+      let fit2 = and_parts (nat_le last max_memory) (nat_le (last * 2 * times_entered found) max_work) fit in
       record {
         heap_inside = inside;
         memory_fits = leb-true last max_memory fit2.0;
-        work_fits = leb-true (last * 2 * turns found) max_work fit2.1;
+        work_fits = leb-true (last * 2 * times_entered found) max_work fit2.1;
         posts_told = told.posts;
         funcs_few = told.few;
         imports_stand = All-from_recursion (λ i. HasResource fs.table (resource_of i)) is known;

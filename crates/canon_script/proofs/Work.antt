@@ -8,7 +8,7 @@ and_false : (b : Bool) → b && false ≡ false
 and_false true = refl
 and_false false = refl
 
--- so many turns are too much work, unless there is no memory at all
+-- so many times are too much work, unless there is no memory at all
 pub no_work : (n t most work : ℕ) → work < t → nat_eq n 0 ≡ (nat_le n most && nat_le (n * 2 * t) work)
 no_work zero t most work h = sym (ap (λ b. nat_le 0 most && b) (le-leb (0 * 2 * t) work (omega arith)) ∙ ap (λ b. b && true) (le-leb 0 most (omega arith)))
 no_work (suc n) t most work h =

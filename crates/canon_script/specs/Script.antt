@@ -167,13 +167,13 @@ abbrev pub final_memory : ℕ → List ScriptItem → ℕ
 final_memory memory items = memory + sum_by (λ i. growth (guest_in i)) items
 
 -- how often the guest is started or resumed
-abbrev pub turns : List ScriptItem → ℕ
-turns items = sum_by (λ i. starts i + ask_count (guest_in i)) items
+abbrev pub times_entered : List ScriptItem → ℕ
+times_entered items = sum_by (λ i. starts i + ask_count (guest_in i)) items
 
 abbrev pub fits : ℕ → List ScriptItem → Bool
 fits memory items =
     let final = final_memory memory items in
-    nat_le final max_memory && nat_le (final * 2 * turns items) max_work
+    nat_le final max_memory && nat_le (final * 2 * times_entered items) max_work
 
 -- ---- all of it
 
@@ -295,7 +295,7 @@ ItemStands t (drop_item d) = Unit {0}
 pub record IsWellFormed (p : Play) : Type 0 where
   pub heap_inside : p.heap ≤ p.memory
   pub memory_fits : final_memory p.memory p.items ≤ max_memory
-  pub work_fits : final_memory p.memory p.items * 2 * turns p.items ≤ max_work
+  pub work_fits : final_memory p.memory p.items * 2 * times_entered p.items ≤ max_work
   pub posts_told : length p.posts ≡ length p.types.funcs
   pub funcs_few : length p.types.funcs ≤ 1048576
   pub imports_stand : All (λ i. HasResource p.types (resource_of i)) p.imports

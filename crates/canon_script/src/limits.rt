@@ -18,8 +18,8 @@ pub(crate) fn fits(memory: u64, items: &[Item]) -> bool
     let Some(bytes) = final_memory(memory, items) else {
         return false;
     };
-    match turns(items) {
-        Some(turns) => bytes * 2 * turns <= MAX_WORK,
+    match times_entered(items) {
+        Some(times) => bytes * 2 * times <= MAX_WORK,
         None => bytes == 0,
     }
 }
@@ -64,30 +64,30 @@ fn growth_by(action: &Action) -> u64
 }
 
 /// How often the guest is started or resumed, unless that alone is too much work.
-fn turns(items: &[Item]) -> Option<u64>
-    ensures { MatchOption result (spec.max_work < spec.turns (map spec.item_view items.now)) (λ n. (n ≡ spec.turns (map spec.item_view items.now)) × (n ≤ spec.max_work)) }
+fn times_entered(items: &[Item]) -> Option<u64>
+    ensures { MatchOption result (spec.max_work < spec.times_entered (map spec.item_view items.now)) (λ n. (n ≡ spec.times_entered (map spec.item_view items.now)) × (n ≤ spec.max_work)) }
 {
-    let mut turns = 0;
+    let mut times = 0;
     for item in items {
-        turns = asked(started(turns, item)?, guest_of(item))?;
+        times = asked(started(times, item)?, guest_of(item))?;
     }
-    Some(turns)
+    Some(times)
 }
 
 /// This number and that of the actions that ask, unless it becomes too great.
-fn asked(turns: u64, actions: &[Action]) -> Option<u64>
-    requires { turns ≤ spec.max_work }
-    ensures { MatchOption result (spec.max_work < turns + acted.ask_count actions.now) (λ n. (n ≡ turns + acted.ask_count actions.now) × (n ≤ spec.max_work)) }
+fn asked(times: u64, actions: &[Action]) -> Option<u64>
+    requires { times ≤ spec.max_work }
+    ensures { MatchOption result (spec.max_work < times + acted.ask_count actions.now) (λ n. (n ≡ times + acted.ask_count actions.now) × (n ≤ spec.max_work)) }
 {
-    let mut turns = turns;
+    let mut times = times;
     for action in actions {
         let by = asks_by(action);
-        if by > MAX_WORK - turns {
+        if by > MAX_WORK - times {
             return None;
         }
-        turns += by;
+        times += by;
     }
-    Some(turns)
+    Some(times)
 }
 
 fn asks_by(action: &Action) -> u64
@@ -100,14 +100,14 @@ fn asks_by(action: &Action) -> u64
 }
 
 /// This number, and one more for an item that starts the guest, unless it becomes too great.
-fn started(turns: u64, item: &Item) -> Option<u64>
-    requires { turns ≤ spec.max_work }
-    ensures { MatchOption result (spec.max_work < turns + spec.starts (spec.item_view item.now)) (λ n. (n ≡ turns + spec.starts (spec.item_view item.now)) × (n ≤ spec.max_work)) }
+fn started(times: u64, item: &Item) -> Option<u64>
+    requires { times ≤ spec.max_work }
+    ensures { MatchOption result (spec.max_work < times + spec.starts (spec.item_view item.now)) (λ n. (n ≡ times + spec.starts (spec.item_view item.now)) × (n ≤ spec.max_work)) }
 {
     match item {
-        Item::Call(_) if turns >= MAX_WORK => None,
-        Item::Call(_) => Some(turns + 1),
-        Item::New(_) | Item::Drop(_) => Some(turns),
+        Item::Call(_) if times >= MAX_WORK => None,
+        Item::Call(_) => Some(times + 1),
+        Item::New(_) | Item::Drop(_) => Some(times),
     }
 }
 
