@@ -22,7 +22,7 @@ use Rattle.canon_value.specs.declared.val.Val.{Val}
 use Rattle.canon_func.specs.Asks.{Limits}
 use Rattle.canon_func.specs.Call.{Adding, Advances, IsCall, Left, OnAnswered, param_parts, result_words}
 use Rattle.canon_func.specs.Runs.{AskTurn, events_in, posts}
-use Rattle.canon_func.specs.Steps.{Concluded, CoreCall, Proceeds, IsLate, IsRest, Lifted, LoweredArgs, MayRun, Posted, Ran, RestCause, so_far}
+use Rattle.canon_func.specs.Steps.{Concluded, CoreCall, Proceeds, IsLate, IsRest, Lifted, LoweredArgs, MayRun, Posted, RunsUntil, RestCause, so_far}
 use Rattle.canon_func.specs.Stores.{Callee}
 use Rattle.canon_func.specs.declared.error.Error.{Error}
 use Rattle.canon_func.specs.declared.error.Error.TheVariants as error
@@ -55,7 +55,7 @@ module _ (Leaves : List ℕ → List ℕ → Type 0) (callee : Callee) (limits :
   joined_run : (before : Moment) (turns : List AskTurn) (ret : Event) (later : List Event) → so_far callee words before turns (ret ∷ []) ++ later ≡ so_far callee words before turns (ret ∷ later)
   joined_run before turns ret later = ap (λ es. event.Start callee.func words before.bytes ∷ es) (append_assoc (events_in turns) (ret ∷ []) later)
 
-  rest_returned : (a b c : Moment) (l m l2 : LedgerState) (returned : List ℕ) (answer : Result (Vec Val Global) Error) (xs later : List Event) → Advances a b → Advances b c → Ran callee limits.turns words a b l m (Ok returned) xs
+  rest_returned : (a b c : Moment) (l m l2 : LedgerState) (returned : List ℕ) (answer : Result (Vec Val Global) Error) (xs later : List Event) → Advances a b → Advances b c → RunsUntil callee limits.turns words a b l m (Ok returned) xs
       → Concluded Leaves callee limits.fuel returned b c m l2 answer later → IsRest Leaves callee limits words a c l l2 answer (xs ++ later)
   rest_returned a b c l m l2 returned answer xs later f g ran concluded =
       let tail : List Event = event.Return returned b.bytes ∷ later in

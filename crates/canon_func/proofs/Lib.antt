@@ -7,6 +7,7 @@ pub mod Handled
 pub mod Leaving
 pub mod Lowered
 pub mod Owned
+pub mod Partways
 pub mod Prefixes
 pub mod Rests
 pub mod Returned

@@ -31,10 +31,10 @@ use Rattle.canon_context.specs.declared.fault.Fault.{Fault}
 use Rattle.canon_context.specs.declared.fault.Fault.TheVariants as fault
 use Rattle.canon_value.specs.declared.val.Val.{Val}
 use Rattle.canon_context.specs.declared.component.Import.{Import}
-use Rattle.canon_func.specs.Asks.{AskStops, IsAccepted, Limits, ask_step}
+use Rattle.canon_func.specs.Asks.{AskStops, AcceptsAsk, Limits, ask_step}
 use Rattle.canon_func.specs.Call.{AcceptsLater, Advances, Concludes, HasFault, Left, LiftsReturned, StopsLater, StopsReturned, result_words, stopped_by}
 use Rattle.canon_func.specs.Runs.{AskTurn, Each, EndsIn, Grows, IsAsk, IsNoPost, IsNoRequest, IsNoResume, IsNoStart, IsPrefixOfRun, IsReturn, IsTrap, MayTrap, OnReturn, OnStart, asks_in, events_in, last_len, posts}
-use Rattle.canon_func.specs.Steps.{Asked, Concluded, IsRest, Lifted, RestCause, RestPasses, Stopped, so_far}
+use Rattle.canon_func.specs.Steps.{TurnsTaken, Concluded, IsRest, Lifted, RestCause, RestPasses, Stopped, so_far}
 use Rattle.canon_func.specs.Stores.{Callee}
 use Rattle.canon_func.specs.declared.error.Error.{Error}
 use Rattle.canon_func.specs.declared.error.Error.TheVariants as error
@@ -125,7 +125,7 @@ sum_le a b c n k e f h = omega (arith, e, f, h)
 le_sum : (a b c n k : ℕ) → a ≡ b + c → b ≡ n → a ≤ k → n + c ≤ k
 le_sum a b c n k e f h = omega (arith, e, f, h)
 
-module _ (Leaves : List ℕ → List ℕ → Type 0) (callee : Callee) (limits : Limits) (words : List ℕ) (before after : Moment) (ledger served left : LedgerState) (turns : List AskTurn) (len : ℕ) (asked : Asked callee before ledger served turns len) where
+module _ (Leaves : List ℕ → List ℕ → Type 0) (callee : Callee) (limits : Limits) (words : List ℕ) (before after : Moment) (ledger served left : LedgerState) (turns : List AskTurn) (len : ℕ) (asked : TurnsTaken callee before ledger served turns len) where
   abbrev first : List Event
   first = event.Start callee.func words before.bytes ∷ events_in turns
 
@@ -228,7 +228,7 @@ module _ (Leaves : List ℕ → List ℕ → Type 0) (callee : Callee) (limits :
   module _ (index : ℕ) (asked memory : List ℕ) (first : len ≤ length memory) (second : length memory ≤ length after.bytes) where
     asked_tail : (e : Error) → (◌≢◌ {A = Result (Vec Val Global) Error} (Err e) (Err error.TurnsExhausted) → count + 1 ≤ limits.turns) → AskStops callee e index asked served left
         → ((xs : List Event) → asks_in xs ≡ count → RestCause callee limits before after (xs ++ event.Ask index asked memory ∷ []) e)
-        → (count + 1 ≤ limits.turns → IsAccepted callee index asked served → e ≡ error.Fault fault.OutOfMemory)
+        → (count + 1 ≤ limits.turns → AcceptsAsk callee index asked served → e ≡ error.Fault fault.OutOfMemory)
         → IsTail Leaves callee limits before after count len served left (Err e) (event.Ask index asked memory ∷ [])
     asked_tail e few stops cause excluded = record {
       whole = tt;

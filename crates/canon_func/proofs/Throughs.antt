@@ -22,12 +22,12 @@ each_return P Q f (event.Return ws m ∷ events) h = (f ws m h.0, each_return P 
 each_return P Q f (e ∷ events) h = (tt, each_return P Q f events h.1)
 
 -- what steps leave
-ran : (l n : LedgerState) (steps : List LedgerStep) → Through l steps n → n ≡ run steps l
+pub ran : (l n : LedgerState) (steps : List LedgerStep) → Through l steps n → n ≡ run steps l
 ran l n [] h = h
 ran l n (s ∷ steps) (a, ok, rest) = ran (do_step s l).after n steps rest
 
 module _ (callee : Callee) where
-  turns_through : (turns : List AskTurn) (l n : LedgerState) → AreServed callee turns l n → Through l (turns_steps callee turns) n
+  pub turns_through : (turns : List AskTurn) (l n : LedgerState) → AreServed callee turns l n → Through l (turns_steps callee turns) n
   turns_through [] l n h = h
   turns_through (t ∷ turns) l n (mid, is, rest) =
       let step : Through l (turn_steps callee t (Some is.called)) mid = (is.answer, ap (λ (d : Done ℕ). d.answer) is.taken, sym (ap (λ (d : Done ℕ). d.after) is.taken)) in

@@ -15,7 +15,7 @@ use Rattle.canon_context.specs.declared.component.Import.{Import}
 use Rattle.canon_context.specs.declared.fault.Fault.TheVariants as fault
 use Rattle.canon_func.specs.Asks.{AreServed, IsAskOf, IsServed, ask_step}
 use Rattle.canon_func.specs.Runs.{AskTurn, Each, Grows, asks_in, events_in, last_len}
-use Rattle.canon_func.specs.Steps.{Asked, Ran, Resumed, Serves, Stepping, so_far, turn}
+use Rattle.canon_func.specs.Steps.{TurnsTaken, RunsUntil, Resumed, Serves, Stepping, so_far, ask_turn}
 use Rattle.canon_func.specs.Stores.{Callee}
 use Rattle.canon_func.specs.declared.error.Error.{Error}
 use Rattle.canon_func.specs.declared.error.Error.TheVariants as error
@@ -100,14 +100,14 @@ pub same_le : (n : ℕ) → n ≤ n
 same_le n = omega arith
 
 module _ (callee : Callee) (before : Moment) (ledger : LedgerState) where
-  pub asked_none : Asked callee before ledger ledger [] (length before.bytes)
+  pub asked_none : TurnsTaken callee before ledger ledger [] (length before.bytes)
   asked_none = record { serves = refl; last = refl; grows = λ es last g. g }
 
   module _ (served left : LedgerState) (ts : List AskTurn) (len index : ℕ) (words memory resumed : List ℕ) where
-    pub asked_more : Asked callee before ledger served ts len → len ≤ length memory → IsServed callee (turn index words memory resumed) served left
-        → Asked callee before ledger left (ts ++ turn index words memory resumed ∷ []) (length memory)
+    pub asked_more : TurnsTaken callee before ledger served ts len → len ≤ length memory → IsServed callee (ask_turn index words memory resumed) served left
+        → TurnsTaken callee before ledger left (ts ++ ask_turn index words memory resumed ∷ []) (length memory)
     asked_more h longer is =
-        let t : AskTurn = turn index words memory resumed in
+        let t : AskTurn = ask_turn index words memory resumed in
         record {
           serves = served_more callee ts t ledger served left h.serves is;
           last = ap (λ es. last_len (length before.bytes) es) (events_append ts (t ∷ [])) ∙ len_then (length before.bytes) (events_in ts) (events_in (t ∷ []));
@@ -130,15 +130,15 @@ module _ (callee : Callee) (words : List ℕ) (before : Moment) (ledger : Ledger
 
   -- an ask, and what came after its resume
   joined_turn : (ts : List AskTurn) (index : ℕ) (asked memory resumed : List ℕ) (es : List Event)
-      → so_far callee words before ts (event.Ask index asked memory ∷ []) ++ event.Resume resumed memory ∷ es ≡ so_far callee words before (ts ++ turn index asked memory resumed ∷ []) es
+      → so_far callee words before ts (event.Ask index asked memory ∷ []) ++ event.Resume resumed memory ∷ es ≡ so_far callee words before (ts ++ ask_turn index asked memory resumed ∷ []) es
   joined_turn ts index asked memory resumed es = ap (λ xs. event.Start callee.func words before.bytes ∷ xs)
-      (append_assoc (events_in ts) (event.Ask index asked memory ∷ []) (event.Resume resumed memory ∷ es) ∙ sym (events_more ts (turn index asked memory resumed ∷ []) es))
+      (append_assoc (events_in ts) (event.Ask index asked memory ∷ []) (event.Resume resumed memory ∷ es) ∙ sym (events_more ts (ask_turn index asked memory resumed ∷ []) es))
 
   module _ (now after : Moment) (served left : LedgerState) (M N O : List Event → Type 0) (goes_on : (xs ys : List Event) → M xs → N ys → O (xs ++ ys)) (count index : ℕ) (asked : List ℕ) where
     pub stepping_more : (next : Step) (es : List Event) → Stepping callee words before now ledger served M count (step.Import index asked) → Goes now after [] es → N es
         → Serves callee index asked now after served left (Ok next) es → Stepping callee words before after ledger left O (count + 1) next
     stepping_more next es h goes moves (resumed, is, are) =
-        let t : AskTurn = turn index asked now.bytes resumed in
+        let t : AskTurn = ask_turn index asked now.bytes resumed in
         let e : so_far callee words before h.turns (event.Ask index asked now.bytes ∷ []) ++ es ≡ so_far callee words before (h.turns ++ t ∷ []) (step_event next after.bytes ∷ []) =
         ap (λ xs. so_far callee words before h.turns (event.Ask index asked now.bytes ∷ []) ++ xs) are ∙ joined_turn h.turns index asked now.bytes resumed (step_event next after.bytes ∷ []) in
         record {
@@ -153,9 +153,9 @@ module _ (callee : Callee) (words : List ℕ) (before : Moment) (ledger : Ledger
 
     -- the ask wasn't served, or the guest trapped after it was
     pub ran_refused : (most : ℕ) (e : Error) (es : List Event) (h : Stepping callee words before now ledger served M count (step.Import index asked)) → count < most → Goes now after [] es
-        → Serves callee index asked now after served left (Err e) es → Ran callee most words before after ledger left (Err e) (so_far callee words before h.turns (event.Ask index asked now.bytes ∷ []) ++ es)
+        → Serves callee index asked now after served left (Err e) es → RunsUntil callee most words before after ledger left (Err e) (so_far callee words before h.turns (event.Ask index asked now.bytes ∷ []) ++ es)
     ran_refused most (error.Fault fault.GuestTrap) es h lt goes (resumed, is, (rose, are)) =
-        let t : AskTurn = turn index asked now.bytes resumed in
+        let t : AskTurn = ask_turn index asked now.bytes resumed in
         record {
           turns = h.turns ++ t ∷ [];
           len = length now.bytes;
@@ -185,7 +185,7 @@ module _ (callee : Callee) (words : List ℕ) (before : Moment) (ledger : Ledger
 
   module _ (now : Moment) (served : LedgerState) (M : List Event → Type 0) (most count : ℕ) where
     pub ran_returned : (returned : List ℕ) (h : Stepping callee words before now ledger served M count (step.Return returned)) → count ≤ most
-        → Ran callee most words before now ledger served (Ok returned) (so_far callee words before h.turns (event.Return returned now.bytes ∷ []))
+        → RunsUntil callee most words before now ledger served (Ok returned) (so_far callee words before h.turns (event.Return returned now.bytes ∷ []))
     ran_returned returned h le = record {
       turns = h.turns;
       len = h.len;
@@ -199,7 +199,7 @@ module _ (callee : Callee) (words : List ℕ) (before : Moment) (ledger : Ledger
     }
 
     pub ran_exhausted : (index : ℕ) (asked : List ℕ) (h : Stepping callee words before now ledger served M count (step.Import index asked)) → count ≡ most
-        → Ran callee most words before now ledger served (Err error.TurnsExhausted) (so_far callee words before h.turns (event.Ask index asked now.bytes ∷ []))
+        → RunsUntil callee most words before now ledger served (Err error.TurnsExhausted) (so_far callee words before h.turns (event.Ask index asked now.bytes ∷ []))
     ran_exhausted index asked h all = record {
       turns = h.turns;
       len = h.len;

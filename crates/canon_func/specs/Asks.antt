@@ -78,5 +78,5 @@ AskStops callee (error.Fault fault.OutOfMemory) index words before after = (call
 AskStops callee _ index words before after = ⊥
 
 -- the ledger accepts the step of an ask of an import of the component
-abbrev pub IsAccepted : Callee → ℕ → List ℕ → LedgerState → Type 0
-IsAccepted callee index words l = (called : Import) × IsAskOf callee index words called × ((answer : ℕ) × (after : LedgerState) × (ask_step callee.types called words l ≡ record { answer = Ok answer; after = after }))
+abbrev pub AcceptsAsk : Callee → ℕ → List ℕ → LedgerState → Type 0
+AcceptsAsk callee index words l = (called : Import) × IsAskOf callee index words called × ((answer : ℕ) × (after : LedgerState) × (ask_step callee.types called words l ≡ record { answer = Ok answer; after = after }))

@@ -36,7 +36,7 @@ use Rattle.canon_context.specs.declared.fault.At.{At}
 use Rattle.canon_context.specs.declared.fault.Fault.{Fault}
 use Rattle.canon_context.specs.declared.fault.Fault.TheVariants as fault
 use Rattle.canon_value.specs.declared.val.Val.{Val}
-use Rattle.canon_func.specs.Asks.{AreServed, AskStops, IsAccepted, Limits}
+use Rattle.canon_func.specs.Asks.{AreServed, AskStops, AcceptsAsk, Limits}
 use Rattle.canon_func.specs.Runs.{AskTurn, Each, EndsIn, Grows, IsAnswer, IsAsk, IsNoPost, IsNoRequest, IsNoStart, IsOneRun, IsPrefixOfRun, IsReturn, IsTrap, MayStart, OnLastAsk, OnReturn, OnStart, SomeReturn, asks_in}
 use Rattle.canon_func.specs.Stores.{Callee}
 use Rattle.canon_func.specs.declared.error.Error.{Error}
@@ -251,7 +251,7 @@ HandlesPass callee params turns before after given (Err e) results events =
 
 -- the ledger accepts the step of an ask that the guest ends in, and at a return the end of the scope and each handle of the results
 abbrev pub AcceptsLater : Callee → LedgerState → List Event → Type 0
-AcceptsLater callee before events = OnLastAsk (λ index words. IsAccepted callee index words before) events
+AcceptsLater callee before events = OnLastAsk (λ index words. AcceptsAsk callee index words before) events
     × Each (OnReturn (λ words m. (resources : List Any) × (lifted : LedgerState) × LiftsReturned callee words m resources before lifted)) events
 
 -- the same of the whole call, after each handle of the parameters and each ask that was resumed

@@ -99,20 +99,20 @@ Resumed words before after (Err _) events = ⊥
 -- ---- asks
 
 -- an ask of a guest that left this memory and was resumed in it
-abbrev pub turn : ℕ → List ℕ → List ℕ → List ℕ → AskTurn
-turn index words memory resumed = record { index = index; words = words; memory = memory; reallocs = []; only_reallocs = tt; resumed_words = resumed; resumed_memory = memory }
+abbrev pub ask_turn : ℕ → List ℕ → List ℕ → List ℕ → AskTurn
+ask_turn index words memory resumed = record { index = index; words = words; memory = memory; reallocs = []; only_reallocs = tt; resumed_words = resumed; resumed_memory = memory }
 
 -- an ask was served and the guest resumed, which took this step or trapped; or it wasn't, and nothing was done
 abbrev pub Serves : Callee → ℕ → List ℕ → Moment → Moment → LedgerState → LedgerState → Result Step Error → List Event → Type 0
 Serves callee index words before after ledger left (Ok next) events =
-    (resumed : List ℕ) × IsServed callee (turn index words before.bytes resumed) ledger left × Resumed resumed before after (Ok next) events
+    (resumed : List ℕ) × IsServed callee (ask_turn index words before.bytes resumed) ledger left × Resumed resumed before after (Ok next) events
 Serves callee index words before after ledger left (Err (error.Fault fault.GuestTrap)) events =
-    (resumed : List ℕ) × IsServed callee (turn index words before.bytes resumed) ledger left × Resumed resumed before after (Err (error.Fault fault.GuestTrap)) events
+    (resumed : List ℕ) × IsServed callee (ask_turn index words before.bytes resumed) ledger left × Resumed resumed before after (Err (error.Fault fault.GuestTrap)) events
 Serves callee index words before after ledger left (Err error.TurnsExhausted) events = ⊥
 Serves callee index words before after ledger left (Err e) events = AskStops callee e index words ledger left × (events ≡ [])
 
 -- The guest was started at the moment `before`, asked in these turns and was served; it was last let go in a memory of so many bytes.
-pub record Asked (callee : Callee) (before : Moment) (ledger served : LedgerState) (turns : List AskTurn) (len : ℕ) : Type 0 where
+pub record TurnsTaken (callee : Callee) (before : Moment) (ledger served : LedgerState) (turns : List AskTurn) (len : ℕ) : Type 0 where
   pub serves : AreServed callee turns ledger served
   pub last : last_len (length before.bytes) (events_in turns) ≡ len
   pub grows : (events : List Event) (last : ℕ) → Grows len events last → Grows (length before.bytes) (events_in turns ++ events) last
@@ -125,7 +125,7 @@ so_far callee words before turns tail = event.Start callee.func words before.byt
 pub record Stepping (callee : Callee) (words : List ℕ) (before now : Moment) (ledger served : LedgerState) (Moves : List Event → Type 0) (count : ℕ) (next : Step) : Type 0 where
   pub turns : List AskTurn
   pub len : ℕ
-  pub asked : Asked callee before ledger served turns len
+  pub asked : TurnsTaken callee before ledger served turns len
   pub count_is : length turns ≡ count
   pub longer : len ≤ length now.bytes
   pub goes : Goes before now [] (so_far callee words before turns (step_event next now.bytes ∷ []))
@@ -141,12 +141,12 @@ Stopped callee most count len before after served left (Err e) tail = (index : �
     × (len ≤ length memory) × (length memory ≤ length after.bytes) × (count < most) × AskStops callee e index words served left
 
 -- A core function was started with these words, and asked and was served until it returned these words or stopped otherwise.
-pub record Ran (callee : Callee) (most : ℕ) (words : List ℕ) (before after : Moment) (ledger left : LedgerState) (answer : Result (List ℕ) Error) (events : List Event) : Type 0 where
+pub record RunsUntil (callee : Callee) (most : ℕ) (words : List ℕ) (before after : Moment) (ledger left : LedgerState) (answer : Result (List ℕ) Error) (events : List Event) : Type 0 where
   pub turns : List AskTurn
   pub len : ℕ
   pub served : LedgerState
   pub tail : List Event
-  pub asked : Asked callee before ledger served turns len
+  pub asked : TurnsTaken callee before ledger served turns len
   pub few : length turns ≤ most
   pub longer : len ≤ length after.bytes
   pub is : events ≡ so_far callee words before turns tail
@@ -155,7 +155,7 @@ pub record Ran (callee : Callee) (most : ℕ) (words : List ℕ) (before after :
 -- or memory ran out for its start
 abbrev pub MayRun : Callee → ℕ → List ℕ → Moment → Moment → LedgerState → LedgerState → Result (List ℕ) Error → List Event → Type 0
 MayRun callee most words before after ledger left answer events =
-    ((answer ≡ Err (error.Fault fault.OutOfMemory)) × (events ≡ []) × (left ≡ ledger)) ⊎ Ran callee most words before after ledger left answer events
+    ((answer ≡ Err (error.Fault fault.OutOfMemory)) × (events ≡ []) × (left ≡ ledger)) ⊎ RunsUntil callee most words before after ledger left answer events
 
 -- ---- after the return
 

@@ -12,5 +12,5 @@ mod store;
 pub use dropping::resource_drop;
 pub use error::Error;
 pub use func::Func;
-pub use laws::call_is_through;
+pub use laws::call_is_steps;
 pub use store::Store;

@@ -5,6 +5,7 @@ ghost use Rattle.std.specs.Prelude.{◌≡◌, [], None};
 mod handles;
 
 use canon_func::{Error, Store};
+use canon_ledger::ResourceFault;
 use canon_memory::{Guest, GuestFault, Memory, Step, ValRaw, Words};
 use canon_types::{
     CanonicalOptions, ComponentTypes, ExportIndex, InstanceType, InterfaceType, OptionsIndex,
@@ -208,6 +209,15 @@ fn errors_print_their_names(rt: HostRuntime) -> Result<(), Fail> {
         (Error::Fault(Fault::TypeMismatch(3)), "TypeMismatch 3"),
         (Error::WrongCount, "WrongCount"),
         (Error::UnknownImport(5), "UnknownImport 5"),
+        (Error::WrongWords, "WrongWords"),
+        (Error::TurnsExhausted, "TurnsExhausted"),
+        (
+            Error::ImportFault {
+                index: 2,
+                fault: Fault::Resource(ResourceFault::UnknownHandle(1)),
+            },
+            "ImportFault 2 UnknownHandle 1",
+        ),
     ] {
         let text = format!(in alloc; "{error}")?;
         assert!(rt; text.as_str() == want);

@@ -1,4 +1,4 @@
-//! Plays a script: makes its store, calls its functions, and records each call.
+//! Plays a script: makes its store, calls its functions, makes and drops resources, and records each item.
 #![tactic(auto)]
 
 mod component;
