@@ -3,6 +3,7 @@ pub mod Component
 pub mod Core
 pub mod Faults
 pub mod Fuel
+pub mod Host
 pub mod Lifter
 pub mod Lowers
 pub mod Moves

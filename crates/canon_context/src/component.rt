@@ -21,7 +21,8 @@ pub enum Import {
     ResourceNew(TypeResourceTableIndex),
     /// The representation of a handle (CanonicalABI.md, "canon resource.rep").
     ResourceRep(TypeResourceTableIndex),
-    /// The end of a handle (CanonicalABI.md, "canon resource.drop").
+    /// The end of a handle (CanonicalABI.md, "canon resource.drop"). The guest runs the destructor itself: it gets
+    /// `2 * rep + 1` where there is a representation to end, else 0.
     ResourceDrop(TypeResourceTableIndex),
 }
 

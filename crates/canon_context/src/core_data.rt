@@ -10,6 +10,7 @@ ghost use Rattle.canon_context.specs.Core.{Parts, encoding_by, guest_of, moment_
 ghost use Rattle.canon_context.specs.Lowers.{answer_of, ending_of, guest_answer};
 
 mod handles;
+mod hosting;
 
 use crate::{Component, Fault, Lifter, Source};
 use canon_ledger::{HostResourceData, Ledger};

@@ -8,6 +8,7 @@ mod context;
 mod core_data;
 mod fault;
 mod fuel;
+mod host;
 mod lifter;
 mod resources;
 
@@ -17,4 +18,5 @@ pub use context::{LiftContext, LowerContext, Source};
 pub use core_data::Core;
 pub use fault::{At, Fault};
 pub use fuel::{HostcallFuelExhausted, charge, charge_each};
+pub use host::{HostStop, HostView, MemoryView};
 pub use lifter::Lifter;

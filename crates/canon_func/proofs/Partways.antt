@@ -10,7 +10,7 @@ use Rattle.canon_ledger.specs.Ledger.{Done, ExitScope, Leave, LedgerState, Ledge
 use Rattle.canon_ledger.specs.declared.fault.ResourceFault.{ResourceFault}
 use Rattle.canon_ledger.proofs.LedgerLemmas.{compose, compose_parts}
 use Rattle.canon_leaves.proofs.Lifts.{lifts_take}
-use Rattle.canon_leaves.proofs.Through.{leaves_partway, leaves_through}
+use Rattle.canon_leaves.proofs.Through.{leaves_partway, leaves_through, partway_first, partway_none}
 use Rattle.canon_leaves.specs.Steps.{leaves_steps}
 use Rattle.canon_resources.specs.Held.{Any}
 use Rattle.canon_context.specs.declared.component.Import.{Import}
@@ -42,16 +42,6 @@ last_ask P Q f (e ∷ []) h = is_ask P Q f e h
 last_ask P Q f (e ∷ d ∷ events) h = last_ask P Q f (d ∷ events) h
 
 -- ---- steps
-
-partway_none : (l n : LedgerState) (steps : List LedgerStep) → n ≡ l → Partway l steps n
-partway_none l n [] e = e
-partway_none l n (s ∷ steps) e = inl e
-
-partway_first : (l n : LedgerState) (steps more : List LedgerStep) → Partway l steps n → Partway l (steps ++ more) n
-partway_first l n [] more h = partway_none l n more h
-partway_first l n (s ∷ steps) more (inl e) = inl e
-partway_first l n (s ∷ steps) more (inr (inl refused)) = inr (inl refused)
-partway_first l n (s ∷ steps) more (inr (inr (a, ok, rest))) = inr (inr (a, ok, partway_first (do_step s l).after n steps more rest))
 
 -- one step, whatever it answers
 one_step : (l n : LedgerState) (s : LedgerStep) (r : Result ℕ ResourceFault) → (do_step s l).answer ≡ r → n ≡ (do_step s l).after → Partway l (s ∷ []) n

@@ -14,10 +14,10 @@ use Rattle.canon_types.specs.Keeps.{flags_type, names_of}
 use Rattle.canon_types.specs.Table.{IsDefined, Table}
 use Rattle.canon_types.specs.declared.types.InterfaceType.TheVariants as ty
 use Rattle.canon_types.specs.declared.types.TypeFlags.{TypeFlags}
-use Rattle.canon_plan.specs.Built.{AreBuilt, IsBuilt}
+use Rattle.canon_plan.specs.NoHandle.{HaveNoHandle, HasNoHandle}
 use Rattle.canon_value.specs.Flags.{flag_names}
 use Rattle.canon_value.specs.declared.val.Val.{Val}
-use Rattle.canon_value.proofs.Cases.{case_built, case_shallow}
+use Rattle.canon_value.proofs.Cases.{case_no_handle, case_shallow}
 use Rattle.canon_value.proofs.FlagNames.{names_are}
 use Rattle.canon_image.proofs.Fetching.{number_here}
 use Rattle.canon_image.proofs.Reading.{PartsRead, have_count}
@@ -39,8 +39,8 @@ module _ (s : Shape) (k : VariantKind) (is : s ≡ variant k (variant_cases s)) 
   pub case_falls : (d : ℕ) (ms : Members) → ms ≡ case_members (variant_cases s) d → 4 * deepest ms + 1 < 4 * depth s - 1
   case_falls d ms e = omega (arith, ap deepest e, case_shallow (variant_cases s) d, ap depth is)
 
-  pub payload_built : (d : ℕ) (ms : Members) → ms ≡ case_members (variant_cases s) d → IsBuilt s → AreBuilt ms
-  payload_built d ms e h = subst AreBuilt (sym e) (case_built (variant_cases s) d (subst IsBuilt is h))
+  pub payload_no_handle : (d : ℕ) (ms : Members) → ms ≡ case_members (variant_cases s) d → HasNoHandle s → HaveNoHandle ms
+  payload_no_handle d ms e h = subst HaveNoHandle (sym e) (case_no_handle (variant_cases s) d (subst HasNoHandle is h))
 
 pub payload_count : (bs : List ℕ) (from to : ℕ) (ms ns : Members) (vs : List Val) → ms ≡ ns → PartsRead bs from to ms vs → length vs ≡ member_count ns
 payload_count bs from to ms ns vs e (ts, xs, span, images, are) = have_count ms vs ts are ∙ ap member_count e

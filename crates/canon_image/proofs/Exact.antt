@@ -7,7 +7,7 @@ use Rattle.canon_model.specs.Same.{Carried, CarriedTrees}
 use Rattle.canon_model.specs.Shape.{Members, Shape, member, no_members}
 use Rattle.canon_model.specs.Text.{utf8}
 use Rattle.canon_model.specs.Tree.{Tree, Trees, no_trees, tree}
-use Rattle.canon_plan.specs.Built.{IsBuilt}
+use Rattle.canon_plan.specs.NoHandle.{HasNoHandle}
 use Rattle.canon_context.specs.declared.fault.Fault.{Fault}
 use Rattle.canon_context.specs.declared.fault.Fault.TheVariants as fault
 use Rattle.canon_value.specs.Fails.{BlamesValue, Failure, FailsAt, IsTypeFailure, field_name, mismatch, payload_expected, payload_not_expected, unknown_case, unknown_flag, wrong_length}
@@ -51,22 +51,22 @@ no_tree s v e t told blames has =
 pub same_image : (s : Shape) (v : Val) (r q : Result (Vec ℕ Global) ImageError) → IsImaged s v r → IsImaged s v q → IsSameImage r q
 same_image s v (Err error.OutOfMemory) q h g = tt
 same_image s v (Ok a) (Err error.OutOfMemory) h g = tt
-same_image s v (Ok a) (Ok b) (built, (t, has, is)) (also, (u, has2, is2)) = image_bytes s t u a.items b.items is is2 (one_tree s v t u has has2)
-same_image s v (Ok a) (Err error.Resource) (built, h) g = absurd (g built)
-same_image s v (Ok a) (Err (error.NotOfType e)) (built, (t, has, is)) (also, told, blames) = absurd (no_tree s v e t told blames has)
+same_image s v (Ok a) (Ok b) (no_handle, (t, has, is)) (also, (u, has2, is2)) = image_bytes s t u a.items b.items is is2 (one_tree s v t u has has2)
+same_image s v (Ok a) (Err error.Resource) (no_handle, h) g = absurd (g no_handle)
+same_image s v (Ok a) (Err (error.NotOfType e)) (no_handle, (t, has, is)) (also, told, blames) = absurd (no_tree s v e t told blames has)
 same_image s v (Ok a) (Err (error.Truncated p)) h g = absurd g
 same_image s v (Ok a) (Err (error.Malformed p)) h g = absurd g
 same_image s v (Ok a) (Err (error.Trailing p)) h g = absurd g
 same_image s v (Err error.Resource) (Err error.OutOfMemory) h g = tt
-same_image s v (Err error.Resource) (Ok b) h (built, g) = absurd (h built)
+same_image s v (Err error.Resource) (Ok b) h (no_handle, g) = absurd (h no_handle)
 same_image s v (Err error.Resource) (Err error.Resource) h g = tt
-same_image s v (Err error.Resource) (Err (error.NotOfType e)) h (built, told, blames) = absurd (h built)
+same_image s v (Err error.Resource) (Err (error.NotOfType e)) h (no_handle, told, blames) = absurd (h no_handle)
 same_image s v (Err error.Resource) (Err (error.Truncated p)) h g = absurd g
 same_image s v (Err error.Resource) (Err (error.Malformed p)) h g = absurd g
 same_image s v (Err error.Resource) (Err (error.Trailing p)) h g = absurd g
 same_image s v (Err (error.NotOfType e)) (Err error.OutOfMemory) h g = tt
-same_image s v (Err (error.NotOfType e)) (Ok b) (built, told, blames) (also, (t, has, is)) = absurd (no_tree s v e t told blames has)
-same_image s v (Err (error.NotOfType e)) (Err error.Resource) (built, told, blames) g = absurd (g built)
+same_image s v (Err (error.NotOfType e)) (Ok b) (no_handle, told, blames) (also, (t, has, is)) = absurd (no_tree s v e t told blames has)
+same_image s v (Err (error.NotOfType e)) (Err error.Resource) (no_handle, told, blames) g = absurd (g no_handle)
 same_image s v (Err (error.NotOfType e)) (Err (error.NotOfType f)) h g = tt
 same_image s v (Err (error.NotOfType e)) (Err (error.Truncated p)) h g = absurd g
 same_image s v (Err (error.NotOfType e)) (Err (error.Malformed p)) h g = absurd g
@@ -101,36 +101,36 @@ same_reading s bs (Err error.OutOfMemory) q h g = tt
 same_reading s bs (Err (error.NotOfType e)) q h g = absurd h
 same_reading s bs (Ok v) (Err error.OutOfMemory) h g = tt
 same_reading s bs (Ok v) (Ok w) h g = tt
-same_reading s bs (Ok v) (Err error.Resource) (built, h) g = absurd (g built)
+same_reading s bs (Ok v) (Err error.Resource) (no_handle, h) g = absurd (g no_handle)
 same_reading s bs (Ok v) (Err (error.NotOfType e)) h g = absurd g
-same_reading s bs (Ok v) (Err (error.Truncated p)) (built, (t, is, lifted)) (also, g) = absurd (stops_not_whole s t bs p truncated is g)
-same_reading s bs (Ok v) (Err (error.Malformed p)) (built, (t, is, lifted)) (also, g) = absurd (stops_not_whole s t bs p malformed is g)
-same_reading s bs (Ok v) (Err (error.Trailing p)) (built, (t, is, lifted)) (also, g) = absurd (followed_not_whole s t bs p is g)
+same_reading s bs (Ok v) (Err (error.Truncated p)) (no_handle, (t, is, lifted)) (also, g) = absurd (stops_not_whole s t bs p truncated is g)
+same_reading s bs (Ok v) (Err (error.Malformed p)) (no_handle, (t, is, lifted)) (also, g) = absurd (stops_not_whole s t bs p malformed is g)
+same_reading s bs (Ok v) (Err (error.Trailing p)) (no_handle, (t, is, lifted)) (also, g) = absurd (followed_not_whole s t bs p is g)
 same_reading s bs (Err error.Resource) (Err error.OutOfMemory) h g = tt
-same_reading s bs (Err error.Resource) (Ok v) h (built, g) = absurd (h built)
+same_reading s bs (Err error.Resource) (Ok v) h (no_handle, g) = absurd (h no_handle)
 same_reading s bs (Err error.Resource) (Err error.Resource) h g = refl
 same_reading s bs (Err error.Resource) (Err (error.NotOfType e)) h g = absurd g
-same_reading s bs (Err error.Resource) (Err (error.Truncated p)) h (built, g) = absurd (h built)
-same_reading s bs (Err error.Resource) (Err (error.Malformed p)) h (built, g) = absurd (h built)
-same_reading s bs (Err error.Resource) (Err (error.Trailing p)) h (built, g) = absurd (h built)
+same_reading s bs (Err error.Resource) (Err (error.Truncated p)) h (no_handle, g) = absurd (h no_handle)
+same_reading s bs (Err error.Resource) (Err (error.Malformed p)) h (no_handle, g) = absurd (h no_handle)
+same_reading s bs (Err error.Resource) (Err (error.Trailing p)) h (no_handle, g) = absurd (h no_handle)
 same_reading s bs (Err (error.Truncated p)) (Err error.OutOfMemory) h g = tt
-same_reading s bs (Err (error.Truncated p)) (Ok v) (also, h) (built, (t, is, lifted)) = absurd (stops_not_whole s t bs p truncated is h)
-same_reading s bs (Err (error.Truncated p)) (Err error.Resource) (built, h) g = absurd (g built)
+same_reading s bs (Err (error.Truncated p)) (Ok v) (also, h) (no_handle, (t, is, lifted)) = absurd (stops_not_whole s t bs p truncated is h)
+same_reading s bs (Err (error.Truncated p)) (Err error.Resource) (no_handle, h) g = absurd (g no_handle)
 same_reading s bs (Err (error.Truncated p)) (Err (error.NotOfType e)) h g = absurd g
-same_reading s bs (Err (error.Truncated p)) (Err (error.Truncated q)) (built, h) (also, g) = ap (λ i. error.Truncated i) (stops_at_one s bs p q truncated truncated h g).0
-same_reading s bs (Err (error.Truncated p)) (Err (error.Malformed q)) (built, h) (also, g) = absurd (ways_differ (stops_at_one s bs p q truncated malformed h g).1)
-same_reading s bs (Err (error.Truncated p)) (Err (error.Trailing q)) (built, h) (also, g) = absurd (followed_not_stopped s bs q p truncated g h)
+same_reading s bs (Err (error.Truncated p)) (Err (error.Truncated q)) (no_handle, h) (also, g) = ap (λ i. error.Truncated i) (stops_at_one s bs p q truncated truncated h g).0
+same_reading s bs (Err (error.Truncated p)) (Err (error.Malformed q)) (no_handle, h) (also, g) = absurd (ways_differ (stops_at_one s bs p q truncated malformed h g).1)
+same_reading s bs (Err (error.Truncated p)) (Err (error.Trailing q)) (no_handle, h) (also, g) = absurd (followed_not_stopped s bs q p truncated g h)
 same_reading s bs (Err (error.Malformed p)) (Err error.OutOfMemory) h g = tt
-same_reading s bs (Err (error.Malformed p)) (Ok v) (also, h) (built, (t, is, lifted)) = absurd (stops_not_whole s t bs p malformed is h)
-same_reading s bs (Err (error.Malformed p)) (Err error.Resource) (built, h) g = absurd (g built)
+same_reading s bs (Err (error.Malformed p)) (Ok v) (also, h) (no_handle, (t, is, lifted)) = absurd (stops_not_whole s t bs p malformed is h)
+same_reading s bs (Err (error.Malformed p)) (Err error.Resource) (no_handle, h) g = absurd (g no_handle)
 same_reading s bs (Err (error.Malformed p)) (Err (error.NotOfType e)) h g = absurd g
-same_reading s bs (Err (error.Malformed p)) (Err (error.Truncated q)) (built, h) (also, g) = absurd (ways_differ (stops_at_one s bs q p truncated malformed g h).1)
-same_reading s bs (Err (error.Malformed p)) (Err (error.Malformed q)) (built, h) (also, g) = ap (λ i. error.Malformed i) (stops_at_one s bs p q malformed malformed h g).0
-same_reading s bs (Err (error.Malformed p)) (Err (error.Trailing q)) (built, h) (also, g) = absurd (followed_not_stopped s bs q p malformed g h)
+same_reading s bs (Err (error.Malformed p)) (Err (error.Truncated q)) (no_handle, h) (also, g) = absurd (ways_differ (stops_at_one s bs q p truncated malformed g h).1)
+same_reading s bs (Err (error.Malformed p)) (Err (error.Malformed q)) (no_handle, h) (also, g) = ap (λ i. error.Malformed i) (stops_at_one s bs p q malformed malformed h g).0
+same_reading s bs (Err (error.Malformed p)) (Err (error.Trailing q)) (no_handle, h) (also, g) = absurd (followed_not_stopped s bs q p malformed g h)
 same_reading s bs (Err (error.Trailing p)) (Err error.OutOfMemory) h g = tt
-same_reading s bs (Err (error.Trailing p)) (Ok v) (also, h) (built, (t, is, lifted)) = absurd (followed_not_whole s t bs p is h)
-same_reading s bs (Err (error.Trailing p)) (Err error.Resource) (built, h) g = absurd (g built)
+same_reading s bs (Err (error.Trailing p)) (Ok v) (also, h) (no_handle, (t, is, lifted)) = absurd (followed_not_whole s t bs p is h)
+same_reading s bs (Err (error.Trailing p)) (Err error.Resource) (no_handle, h) g = absurd (g no_handle)
 same_reading s bs (Err (error.Trailing p)) (Err (error.NotOfType e)) h g = absurd g
-same_reading s bs (Err (error.Trailing p)) (Err (error.Truncated q)) (built, h) (also, g) = absurd (followed_not_stopped s bs p q truncated h g)
-same_reading s bs (Err (error.Trailing p)) (Err (error.Malformed q)) (built, h) (also, g) = absurd (followed_not_stopped s bs p q malformed h g)
-same_reading s bs (Err (error.Trailing p)) (Err (error.Trailing q)) (built, h) (also, g) = ap (λ i. error.Trailing i) (followed_once s bs p q h g)
+same_reading s bs (Err (error.Trailing p)) (Err (error.Truncated q)) (no_handle, h) (also, g) = absurd (followed_not_stopped s bs p q truncated h g)
+same_reading s bs (Err (error.Trailing p)) (Err (error.Malformed q)) (no_handle, h) (also, g) = absurd (followed_not_stopped s bs p q malformed h g)
+same_reading s bs (Err (error.Trailing p)) (Err (error.Trailing q)) (no_handle, h) (also, g) = ap (λ i. error.Trailing i) (followed_once s bs p q h g)

@@ -25,7 +25,7 @@ use Rattle.canon_model.specs.Tree.{Tree, bits, text}
 use Rattle.canon_types.specs.Table.{Table, shape_of}
 use Rattle.canon_types.specs.declared.types.InterfaceType.{InterfaceType}
 use Rattle.canon_types.specs.declared.types.InterfaceType.TheVariants as ty
-use Rattle.canon_plan.specs.Built.{IsScalarType, scalar_type}
+use Rattle.canon_plan.specs.NoHandle.{IsScalarType, scalar_type}
 use Rattle.canon_plan.proofs.ScalarTypes.{scalar_shape}
 use Rattle.canon_value.specs.Value.{HasScalar, IsLiftedFrom}
 use Rattle.canon_value.specs.declared.val.Val.{Val}

@@ -6,7 +6,7 @@ use Rattle.canon_model.specs.Shape.{Members, Shape, map_of, member, no_members, 
 use Rattle.canon_model.specs.Text.{utf8}
 use Rattle.canon_model.specs.Tree.{items, no_trees, parts, tree, tree_count}
 use Rattle.canon_types.specs.Depth.{element_shape}
-use Rattle.canon_plan.specs.Built.{IsBuilt, is_built}
+use Rattle.canon_plan.specs.NoHandle.{HasNoHandle, has_no_handle}
 use Rattle.canon_value.specs.Elements.{by_turns}
 use Rattle.canon_value.specs.Fails.{FailsAt, MemberFails, PairFails, SomeFails}
 use Rattle.canon_value.specs.Value.{PairHas, all_places, cap, pair_places, total}
@@ -134,8 +134,8 @@ map_told a b c place n first s xs r is en few eb ef h =
     map_written a b c place n s (first_of (element_shape s)) (second_of (element_shape s)) xs r is en few eb
     (subst (λ (x : Shape). PairsWriteTo b c x xs.items (cap (place + 1)) r) (ap element_shape is) (subst (λ (f : ℕ). PairsWriteTo b c (element_shape s) xs.items f r) ef h))
 
-pub map_parts : (k u : Shape) → IsBuilt (map_of k u) → IsBuilt k × IsBuilt u
-map_parts k u h = let parts = both (is_built k) (is_built u && true) h in (parts.0, (both (is_built u) true parts.1).0)
+pub map_parts : (k u : Shape) → HasNoHandle (map_of k u) → HasNoHandle k × HasNoHandle u
+map_parts k u h = let parts = both (has_no_handle k) (has_no_handle u && true) h in (parts.0, (both (has_no_handle u) true parts.1).0)
 
 pub pair_here : (ps qs : List (Val × Val)) (i : ℕ) (p : Val × Val) → qs ≡ ps → i < length qs → p ≡ get_or qs i p → drop i ps ≡ p ∷ drop (i + 1) ps
 pair_here ps qs i p e l is = subst (λ (xs : List (Val × Val)). drop i xs ≡ p ∷ drop (i + 1) xs) e

@@ -12,7 +12,7 @@ use Rattle.canon_model.specs.Tree.{Trees, items, no_trees, parts, text, tree, tr
 use Rattle.canon_abi.specs.Sizes.{tag_bytes}
 use Rattle.canon_types.specs.Table.{Table, shape_of}
 use Rattle.canon_types.specs.declared.types.InterfaceType.{InterfaceType}
-use Rattle.canon_plan.specs.Built.{AreBuilt, IsBuilt}
+use Rattle.canon_plan.specs.NoHandle.{HaveNoHandle, HasNoHandle}
 use Rattle.canon_value.specs.Fails.{Blames, FailsAt, MemberFails}
 use Rattle.canon_value.specs.Value.{HaveTrees, IsCase, IsProduct, cap, member_names, no_names}
 use Rattle.canon_plan.specs.Plan.{LiesAs, members_from}
@@ -25,7 +25,7 @@ use Rattle.canon_value.specs.declared.case_view.Case.{Case}
 use Rattle.canon_value.specs.declared.members.Member.{Member}
 use Rattle.canon_value.specs.declared.val.Val.{Val}
 use Rattle.canon_value.specs.declared.val.Val.TheVariants as val
-use Rattle.canon_value.proofs.Cases.{case_built, case_has}
+use Rattle.canon_value.proofs.Cases.{case_no_handle, case_has}
 use Rattle.canon_value.proofs.Contents.{places_list, places_text, spelled}
 use Rattle.canon_plan.proofs.Lookups.{both, copies_count, drop_all, members_from-all}
 use Rattle.canon_plan.proofs.ScalarTypes.{scalar_shape}
@@ -268,14 +268,14 @@ text_written a b c s place n next en few eb ec counted =
 
 -- ---- where the walk may go on
 
-pub member_built : (ms : Members) (i : ℕ) (name : Name) (s : Shape) (rest : Members) → members_from i ms ≡ member name s rest → AreBuilt ms → IsBuilt s
-member_built no_members zero name s rest e h = cc
-member_built no_members (suc i) name s rest e h = cc
-member_built (member n u ms) zero name s rest e h = let same : u ≡ s = cc in subst IsBuilt same (both _ _ h).0
-member_built (member n u ms) (suc i) name s rest e h = member_built ms i name s rest e (both _ _ h).1
+pub member_no_handle : (ms : Members) (i : ℕ) (name : Name) (s : Shape) (rest : Members) → members_from i ms ≡ member name s rest → HaveNoHandle ms → HasNoHandle s
+member_no_handle no_members zero name s rest e h = cc
+member_no_handle no_members (suc i) name s rest e h = cc
+member_no_handle (member n u ms) zero name s rest e h = let same : u ≡ s = cc in subst HasNoHandle same (both _ _ h).0
+member_no_handle (member n u ms) (suc i) name s rest e h = member_no_handle ms i name s rest e (both _ _ h).1
 
-pub seen_built : (t : Table) (s : Shape) (v : Val) (x : Case) → IsBuilt s → IsCaseSeen t s v x → AreBuilt (shapes_of t x.payload)
-seen_built t s v x h seen = subst AreBuilt (sym seen.shapes) (case_built seen.cases x.tag (subst IsBuilt seen.shape h))
+pub seen_no_handle : (t : Table) (s : Shape) (v : Val) (x : Case) → HasNoHandle s → IsCaseSeen t s v x → HaveNoHandle (shapes_of t x.payload)
+seen_no_handle t s v x h seen = subst HaveNoHandle (sym seen.shapes) (case_no_handle seen.cases x.tag (subst HasNoHandle seen.shape h))
 
 -- ---- what a step of the walk left, said of what it was asked
 

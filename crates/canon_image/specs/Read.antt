@@ -4,7 +4,7 @@ use Rattle.std.specs.declared.alloc.Global.{Global}
 use Rattle.canon_model.specs.Image.{EachImage, Image, IsField, MembersImage}
 use Rattle.canon_model.specs.Shape.{Members, Shape}
 use Rattle.canon_model.specs.Tree.{Tree, Trees}
-use Rattle.canon_plan.specs.Built.{IsBuilt}
+use Rattle.canon_plan.specs.NoHandle.{HasNoHandle}
 use Rattle.canon_value.specs.Value.{AreLiftedFrom, EachHas, IsLiftedFrom, PairHas}
 use Rattle.canon_value.specs.declared.val.Val.{Val}
 use Rattle.canon_image.specs.Stops.{IsFollowed, MembersStop, RowStops, Stop, StopsAt, malformed, truncated}
@@ -13,11 +13,11 @@ use Rattle.canon_image.specs.declared.error.ImageError.TheVariants as error
 
 -- `read_image` of these bytes answers so
 abbrev pub IsRead : Shape → List ℕ → Result Val ImageError → Type 0
-IsRead s bs (Ok v) = IsBuilt s × ((t : Tree) × Image s t bs × IsLiftedFrom s v t)
-IsRead s bs (Err error.Resource) = ¬ IsBuilt s
-IsRead s bs (Err (error.Truncated p)) = IsBuilt s × StopsAt s bs p truncated
-IsRead s bs (Err (error.Malformed p)) = IsBuilt s × StopsAt s bs p malformed
-IsRead s bs (Err (error.Trailing p)) = IsBuilt s × IsFollowed s bs p
+IsRead s bs (Ok v) = HasNoHandle s × ((t : Tree) × Image s t bs × IsLiftedFrom s v t)
+IsRead s bs (Err error.Resource) = ¬ HasNoHandle s
+IsRead s bs (Err (error.Truncated p)) = HasNoHandle s × StopsAt s bs p truncated
+IsRead s bs (Err (error.Malformed p)) = HasNoHandle s × StopsAt s bs p malformed
+IsRead s bs (Err (error.Trailing p)) = HasNoHandle s × IsFollowed s bs p
 IsRead s bs (Err error.OutOfMemory) = ⊤
 IsRead s bs (Err (error.NotOfType e)) = ⊥
 

@@ -10,7 +10,7 @@ use Rattle.canon_model.specs.Memory.{num}
 use Rattle.canon_model.specs.Shape.{Members, Name, Shape}
 use Rattle.canon_model.specs.Text.{utf8}
 use Rattle.canon_model.specs.Tree.{Tree, Trees}
-use Rattle.canon_plan.specs.Built.{IsBuilt}
+use Rattle.canon_plan.specs.NoHandle.{HasNoHandle}
 use Rattle.canon_value.specs.Fails.{Blames, BlamesValue, FailsAt, Failure, MemberFails, PairFails, SomeFails}
 use Rattle.canon_value.specs.Flags.{AreSet, SomeUnknown}
 use Rattle.canon_value.specs.Value.{EachHas, HasTree, HaveTrees, PairHas, all_places, cap, member_names, pair_places, places, total}
@@ -38,9 +38,9 @@ IsTold e = IsTypeFault e
 
 -- `image` of a value answers so
 abbrev pub IsImaged : Shape → Val → Result (Vec ℕ Global) ImageError → Type 0
-IsImaged s v (Ok bytes) = IsBuilt s × ((t : Tree) × HasTree s v t × Image s t bytes.items)
-IsImaged s v (Err error.Resource) = ¬ IsBuilt s
-IsImaged s v (Err (error.NotOfType e)) = IsBuilt s × IsTypeFault e × BlamesValue utf8 s v e
+IsImaged s v (Ok bytes) = HasNoHandle s × ((t : Tree) × HasTree s v t × Image s t bytes.items)
+IsImaged s v (Err error.Resource) = ¬ HasNoHandle s
+IsImaged s v (Err (error.NotOfType e)) = HasNoHandle s × IsTypeFault e × BlamesValue utf8 s v e
 IsImaged s v (Err error.OutOfMemory) = ⊤
 IsImaged s v (Err _) = ⊥
 

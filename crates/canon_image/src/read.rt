@@ -6,7 +6,7 @@ ghost use Rattle.canon_lowering.specs.Storing.{narrow};
 ghost use Rattle.canon_model.specs.Layout.{flags_size};
 ghost use Rattle.canon_model.specs.Memory.{num};
 ghost use Rattle.canon_model.specs.Shape.{bool, list, of_items, string};
-ghost use Rattle.canon_plan.specs.Built.{AreBuilt, IsBuilt, IsScalarType, scalar_type};
+ghost use Rattle.canon_plan.specs.NoHandle.{HaveNoHandle, HasNoHandle, IsScalarType, scalar_type};
 ghost use Rattle.canon_plan.specs.Element.{IsKnown, IsMap, list_shape};
 ghost use Rattle.canon_plan.specs.Plan.{AreKnown, IsCaseKind, IsVariant, shapes_of};
 ghost use Rattle.canon_types.specs.Depth.{element_shape, variant_cases};
@@ -15,7 +15,7 @@ ghost use Rattle.canon_value.specs.Flags.{flag_names};
 ghost use Rattle.canon_image.specs.Read.{IsOnlyReading, IsRead, NumberReadTo, PairsReadTo, PartsReadTo, ReadsTo};
 
 use crate::ImageError;
-use canon_plan::{Element, Plan, Slots, case_of, is_built, plan_of, slot_count, slot_of};
+use canon_plan::{Element, Plan, Slots, case_of, has_no_handle, plan_of, slot_count, slot_of};
 use canon_types::{ComponentTypes, InterfaceType, TypeFlagsIndex, TypeMapIndex, VariantInfo};
 use canon_value::Val;
 use canon_value::parts::{Marks, flags_of, load_scalar, load_tag, rebuild, rebuild_case};
@@ -45,7 +45,7 @@ fn read_whole(
     requires known { Knows types.now ty.now }
     ensures is { IsRead (shape_of types.now ty.now) bytes.now result }
 {
-    if !is_built(types, ty) {
+    if !has_no_handle(types, ty) {
         return Err(ImageError::Resource);
     }
     let mut at = 0;
@@ -70,7 +70,7 @@ fn read_value(
     at: &mut u64,
 ) -> Result<Val, ImageError>
     requires known { Knows types.now ty.now }
-    requires built { IsBuilt (shape_of types.now ty.now) }
+    requires no_handle { HasNoHandle (shape_of types.now ty.now) }
     requires inside { at.old ≤ length bytes.now }
     ensures reads { ReadsTo bytes.now at.old at.new (shape_of types.now ty.now) result }
 {
@@ -101,7 +101,7 @@ fn read_parts(
     at: &mut u64,
 ) -> Result<Vec<Val>, ImageError>
     requires known { AreKnown types.now members.now }
-    requires built { AreBuilt (shapes_of types.now members.now) }
+    requires no_handle { HaveNoHandle (shapes_of types.now members.now) }
     requires inside { at.old ≤ length bytes.now }
     ensures reads { PartsReadTo bytes.now at.old at.new (shapes_of types.now members.now) result }
 {
@@ -133,7 +133,7 @@ fn read_list(
     at: &mut u64,
 ) -> Result<Val, ImageError>
     requires known { IsKnown types.now element.now }
-    requires built { IsBuilt (list_shape types.now element.now) }
+    requires no_handle { HasNoHandle (list_shape types.now element.now) }
     requires inside { at.old ≤ length bytes.now }
     ensures reads { ReadsTo bytes.now at.old at.new (list_shape types.now element.now) result }
 {
@@ -152,7 +152,7 @@ fn read_items(
     at: &mut u64,
 ) -> Result<Val, ImageError>
     requires known { Knows types.now ty.now }
-    requires built { IsBuilt (shape_of types.now ty.now) }
+    requires no_handle { HasNoHandle (shape_of types.now ty.now) }
     requires inside { at.old ≤ length bytes.now }
     ensures reads { ReadsTo bytes.now at.old at.new (list of_items (shape_of types.now ty.now)) result }
 {
@@ -175,7 +175,7 @@ fn read_map(
 ) -> Result<Val, ImageError>
     requires known { Knows types.now (InterfaceType.Map i) }
     requires map { IsMap (shape_of types.now (InterfaceType.Map i)) }
-    requires built { IsBuilt (shape_of types.now (InterfaceType.Map i)) }
+    requires no_handle { HasNoHandle (shape_of types.now (InterfaceType.Map i)) }
     requires inside { at.old ≤ length bytes.now }
     ensures reads { ReadsTo bytes.now at.old at.new (shape_of types.now (InterfaceType.Map i)) result }
 {
@@ -199,7 +199,7 @@ fn read_pairs(
     at: &mut u64,
 ) -> Result<Vec<(Val, Val)>, ImageError>
     requires known { Knows types.now (InterfaceType.Map i) }
-    requires built { IsBuilt (shape_of types.now (InterfaceType.Map i)) }
+    requires no_handle { HasNoHandle (shape_of types.now (InterfaceType.Map i)) }
     requires inside { at.old ≤ length bytes.now }
     ensures reads { PairsReadTo bytes.now at.old at.new (element_shape (shape_of types.now (InterfaceType.Map i))) count result }
 {
@@ -238,7 +238,7 @@ fn read_case(
     requires kind { IsCaseKind ty.now (shape_of types.now ty.now) }
     requires variant { IsVariant (shape_of types.now ty.now) }
     requires info { HasInfo info.now (variant_cases (shape_of types.now ty.now)) }
-    requires built { IsBuilt (shape_of types.now ty.now) }
+    requires no_handle { HasNoHandle (shape_of types.now ty.now) }
     requires inside { at.old ≤ length bytes.now }
     ensures reads { ReadsTo bytes.now at.old at.new (shape_of types.now ty.now) result }
 {

@@ -6,7 +6,7 @@ ghost use Rattle.canon_model.specs.Layout.{flags_size};
 ghost use Rattle.canon_model.specs.Shape.{list, member_count, of_items, string};
 ghost use Rattle.canon_types.specs.Depth.{element_shape};
 ghost use Rattle.canon_types.specs.Table.{Knows, shape_of};
-ghost use Rattle.canon_plan.specs.Built.{AreBuilt, IsBuilt};
+ghost use Rattle.canon_plan.specs.NoHandle.{HaveNoHandle, HasNoHandle};
 ghost use Rattle.canon_plan.specs.Element.{IsKnown, IsMap, list_shape};
 ghost use Rattle.canon_value.specs.Elements.{element_in, list_value};
 ghost use Rattle.canon_value.specs.Flags.{IsFlagsType, flag_names};
@@ -17,7 +17,7 @@ ghost use Rattle.canon_value.specs.declared.val.Val.TheVariants as val;
 ghost use Rattle.canon_image.specs.Written.{IsImaged, IsOnlyImage, IsTold, MarksTo, PairsWriteTo, PartsWriteTo, WritesTo};
 
 use crate::ImageError;
-use canon_plan::is_built;
+use canon_plan::has_no_handle;
 use canon_types::{ComponentTypes, InterfaceType, TypeFlagsIndex, TypeMapIndex};
 use canon_value::parts::{
     Case, Elements, Members, View, count_of, mark_byte, member_of, number_of, view_of,
@@ -48,7 +48,7 @@ fn image_of(
     requires known { Knows types.now ty.now }
     ensures is { IsImaged (shape_of types.now ty.now) val.now result }
 {
-    if !is_built(types, ty) {
+    if !has_no_handle(types, ty) {
         return Err(ImageError::Resource);
     }
     let mut bytes = Vec::new(alloc);
@@ -69,7 +69,7 @@ fn write_value(
     bytes: &mut Vec<u8>,
 ) -> Result<u64, Fault>
     requires known { Knows types.now ty.now }
-    requires built { IsBuilt (shape_of types.now ty.now) }
+    requires no_handle { HasNoHandle (shape_of types.now ty.now) }
     ensures writes { WritesTo bytes.old.items bytes.new.items (shape_of types.now ty.now) value.now place result }
 {
     match view_of(types, ty, value, place) {
@@ -97,7 +97,7 @@ fn write_parts(
     bytes: &mut Vec<u8>,
 ) -> Result<u64, Fault>
     requires known { AreKnown types.now members.now }
-    requires built { AreBuilt (shapes_of types.now members.now) }
+    requires no_handle { HaveNoHandle (shapes_of types.now members.now) }
     requires count { length (values_of members.now) ≡ member_count (shapes_of types.now members.now) }
     ensures writes { PartsWriteTo bytes.old.items bytes.new.items place (shapes_of types.now members.now) (names_of members.now) (values_of members.now) first result }
 {
@@ -123,7 +123,7 @@ fn write_list(
     bytes: &mut Vec<u8>,
 ) -> Result<u64, Fault>
     requires known { IsKnown types.now (element_in list.now) }
-    requires built { IsBuilt (list_shape types.now (element_in list.now)) }
+    requires no_handle { HasNoHandle (list_shape types.now (element_in list.now)) }
     ensures writes { WritesTo bytes.old.items bytes.new.items (list_shape types.now (element_in list.now)) (list_value list.now) place result }
 {
     match list {
@@ -142,7 +142,7 @@ fn write_items(
     bytes: &mut Vec<u8>,
 ) -> Result<u64, Fault>
     requires known { Knows types.now ty.now }
-    requires built { IsBuilt (shape_of types.now ty.now) }
+    requires no_handle { HasNoHandle (shape_of types.now ty.now) }
     ensures writes { WritesTo bytes.old.items bytes.new.items (list of_items (shape_of types.now ty.now)) (val.List items.now) place result }
 {
     match put_number(bytes, items.len() as u64, 8) {
@@ -165,7 +165,7 @@ fn write_map(
 ) -> Result<u64, Fault>
     requires known { Knows types.now (InterfaceType.Map i) }
     requires map { IsMap (shape_of types.now (InterfaceType.Map i)) }
-    requires built { IsBuilt (shape_of types.now (InterfaceType.Map i)) }
+    requires no_handle { HasNoHandle (shape_of types.now (InterfaceType.Map i)) }
     ensures writes { WritesTo bytes.old.items bytes.new.items (shape_of types.now (InterfaceType.Map i)) (val.Map pairs.now) place result }
 {
     match put_number(bytes, pairs.len() as u64, 8) {
@@ -185,7 +185,7 @@ fn write_pairs(
 ) -> Result<u64, Fault>
     requires known { Knows types.now (InterfaceType.Map i) }
     requires map { IsMap (shape_of types.now (InterfaceType.Map i)) }
-    requires built { IsBuilt (shape_of types.now (InterfaceType.Map i)) }
+    requires no_handle { HasNoHandle (shape_of types.now (InterfaceType.Map i)) }
     ensures writes { PairsWriteTo bytes.old.items bytes.new.items (element_shape (shape_of types.now (InterfaceType.Map i))) pairs.now.items first result }
 {
     let map = types.map(i);
@@ -214,7 +214,7 @@ fn write_case(
     bytes: &mut Vec<u8>,
 ) -> Result<u64, Fault>
     requires seen { IsCaseSeen types.now (shape_of types.now ty.now) value.now case.now }
-    requires built { IsBuilt (shape_of types.now ty.now) }
+    requires no_handle { HasNoHandle (shape_of types.now ty.now) }
     ensures writes { WritesTo bytes.old.items bytes.new.items (shape_of types.now ty.now) value.now place result }
 {
     let _ = ty;

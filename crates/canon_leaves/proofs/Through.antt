@@ -25,7 +25,7 @@ is_step last host_borrow l = inl (_, refl, refl)
 is_step last (refuse e) l = inr (refl, refl)
 is_step last (tell n) l = inr (refl, refl)
 
-partway_none : (l n : LedgerState) (steps : List LedgerStep) → n ≡ l → Partway l steps n
+pub partway_none : (l n : LedgerState) (steps : List LedgerStep) → n ≡ l → Partway l steps n
 partway_none l n [] e = e
 partway_none l n (s ∷ steps) e = inl e
 
@@ -89,7 +89,7 @@ leaves_through l n (x ∷ xs) hs (h, rest, mid, is, leaf, more) =
     let e : mid ≡ after_parts 0 l x = leaf_after l mid x h leaf in
     compose l mid n _ _ (leaf_through l mid x h leaf) (subst (λ (k : LedgerState). Through mid (leaves_steps k xs) n) e (leaves_through mid n xs rest more))
 
-partway_first : (l n : LedgerState) (steps more : List LedgerStep) → Partway l steps n → Partway l (steps ++ more) n
+pub partway_first : (l n : LedgerState) (steps more : List LedgerStep) → Partway l steps n → Partway l (steps ++ more) n
 partway_first l n [] more h = partway_none l n more h
 partway_first l n (s ∷ steps) more (inl e) = inl e
 partway_first l n (s ∷ steps) more (inr (inl refused)) = inr (inl refused)

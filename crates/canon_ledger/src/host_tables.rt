@@ -43,11 +43,12 @@ fn with_its_slot(slot: Option<TableSlot>, rep: Option<u32>) -> Option<(u32, Tabl
 }
 
 /// The resource tables as the host reaches them. The host names its handles by an index with a
-/// generation, so that an index that was given again is told apart from the one before. They hand
-/// out nothing but their calls: who is lent them can't reach the ledger or its scopes besides.
+/// generation, so that an index that was given again is told apart from the one before. Who lends
+/// them on in a struct of its own writes them out, since only then it is told what was left of the
+/// ledger; a function of the host that is lent them must take the host's steps alone.
 #[derive(Drop)]
 pub struct HostResourceTables<'a> {
-    tables: ResourceTables<'a>,
+    pub tables: ResourceTables<'a>,
 }
 
 impl<'a> HostResourceTables<'a> {

@@ -1,4 +1,4 @@
-pub mod BuiltKinds
+pub mod NoHandleKinds
 pub mod CasePlans
 pub mod Flats
 pub mod TypeKinds

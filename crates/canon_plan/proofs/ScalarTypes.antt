@@ -4,7 +4,7 @@ use Rattle.canon_model.specs.Shape.{Scalar, bool, char, f32, f64, s16, s32, s64,
 use Rattle.canon_types.specs.declared.types.InterfaceType.{InterfaceType}
 use Rattle.canon_types.specs.declared.types.InterfaceType.TheVariants as ty
 use Rattle.canon_types.specs.Table.{Table, plain_shape, shape_of}
-use Rattle.canon_plan.specs.Built.{scalar_type, IsScalarType}
+use Rattle.canon_plan.specs.NoHandle.{scalar_type, IsScalarType}
 use Rattle.canon_model.specs.Layout.{flat}
 
 -- a scalar type has the shape of its scalar, and its shape needs no table

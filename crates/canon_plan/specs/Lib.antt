@@ -1,4 +1,4 @@
-pub mod Built
+pub mod NoHandle
 pub mod CasePlan
 pub mod Element
 pub mod Plan

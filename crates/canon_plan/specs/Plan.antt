@@ -8,7 +8,7 @@ use Rattle.canon_types.specs.Depth.{element_shape, product_members, variant_case
 use Rattle.canon_types.specs.Table.{HasTuple, Knows, Table, shape_of, tuple_members}
 use Rattle.canon_types.specs.declared.types.InterfaceType.{InterfaceType}
 use Rattle.canon_types.specs.declared.types.InterfaceType.TheVariants as ty
-use Rattle.canon_plan.specs.Built.{IsScalarType}
+use Rattle.canon_plan.specs.NoHandle.{IsScalarType}
 use Rattle.canon_plan.specs.Element.{IsKnown, IsMap, list_shape, row_of}
 use Rattle.canon_plan.specs.declared.plan.HandleType.{HandleType}
 use Rattle.canon_plan.specs.declared.plan.Plan.{Plan}

@@ -10,7 +10,7 @@ use Rattle.canon_model.specs.Same.{Carried, CarriedTrees}
 use Rattle.canon_model.specs.Text.{Encoding}
 use Rattle.canon_model.specs.Tree.{Trees, no_trees, tree}
 use Rattle.canon_types.specs.Depth.{deepest, deepest_case}
-use Rattle.canon_plan.specs.Built.{AreBuilt, cases_built, is_built}
+use Rattle.canon_plan.specs.NoHandle.{HaveNoHandle, cases_have_no_handle, has_no_handle}
 use Rattle.canon_value.specs.Fails.{CaseFails, Failure, IsOtherCase, MemberFails}
 use Rattle.canon_context.specs.Quiet.{cases_have_block, has_block, have_block}
 use Rattle.canon_value.specs.Value.{CaseHas, IsCase, IsFirst, all_places, case_names, places, result_case, result_payload, unboxed, HaveTreesAs}
@@ -68,12 +68,12 @@ alone : (a : Bool) → IsTrue a → IsTrue (a && true)
 alone true h = refl
 alone false h = cc
 
-pub case_built : (cs : Cases) (i : ℕ) → IsTrue (cases_built cs) → AreBuilt (case_members cs i)
-case_built no_cases i h = refl
-case_built (bare name cs) zero h = refl
-case_built (bare name cs) (suc i) h = case_built cs i h
-case_built (payload name s cs) zero h = alone (is_built s) (both (is_built s) (cases_built cs) h).0
-case_built (payload name s cs) (suc i) h = case_built cs i (both (is_built s) (cases_built cs) h).1
+pub case_no_handle : (cs : Cases) (i : ℕ) → IsTrue (cases_have_no_handle cs) → HaveNoHandle (case_members cs i)
+case_no_handle no_cases i h = refl
+case_no_handle (bare name cs) zero h = refl
+case_no_handle (bare name cs) (suc i) h = case_no_handle cs i h
+case_no_handle (payload name s cs) zero h = alone (has_no_handle s) (both (has_no_handle s) (cases_have_no_handle cs) h).0
+case_no_handle (payload name s cs) (suc i) h = case_no_handle cs i (both (has_no_handle s) (cases_have_no_handle cs) h).1
 
 pub case_shallow : (cs : Cases) (i : ℕ) → deepest (case_members cs i) ≤ deepest_case cs
 case_shallow no_cases i = omega arith

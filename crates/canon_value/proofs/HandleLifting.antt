@@ -21,7 +21,7 @@ use Rattle.canon_model.specs.Reach.{FlatFault, Kind, flat_reach}
 use Rattle.canon_model.specs.Shape.{Shape}
 use Rattle.canon_model.specs.Text.{Encoding}
 use Rattle.canon_model.specs.Tree.{handle}
-use Rattle.canon_plan.specs.Built.{IsScalarType}
+use Rattle.canon_plan.specs.NoHandle.{IsScalarType}
 use Rattle.canon_plan.specs.Plan.{shaped_handle, type_of_handle, typed_handle}
 use Rattle.canon_plan.specs.declared.plan.HandleType.{HandleType}
 use Rattle.canon_resources.specs.Held.{Any}

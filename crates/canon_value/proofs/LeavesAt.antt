@@ -9,7 +9,6 @@ use Rattle.canon_lowering.proofs.Copying.{begins-same, ends-same, next_multiple}
 use Rattle.canon_lowering.proofs.Pairing.{IsNext, at_start, first_at, next_pair, pair_shape, pair_size, second_at}
 use Rattle.canon_lowering.specs.Copies.{case_members, copies, pairs_of}
 use Rattle.canon_lowering.specs.Storing.{narrow}
-use Rattle.canon_model.specs.Flat.{max_results}
 use Rattle.canon_model.specs.Layout.{align, begins, ends, flat, members_align, members_flat, payload_offset, size}
 use Rattle.canon_model.specs.Leaves.{Leaf, case_flat_leaves, case_reach_leaves, flat_leaves, list_at, list_leaves, members_flat_leaves, members_reach_leaves, reach_leaves, values_leaves}
 use Rattle.canon_model.specs.Memory.{Inside, Memory, length_at, low, pointer_at, ptr, tag_at}
@@ -167,9 +166,9 @@ module _ (m : Memory) (ws : List ℕ) where
       → values_leaves m ws most ms ≡ members_reach_leaves m ms 0 (ptr m (slice_index ws 0))
   far_leaves most ms far inside aligned = cond-false (nat_le (members_flat ms) most) _ _ (lt-leb (members_flat ms) most far) ∙ cond-true _ _ _ (and_from _ _ (le-leb _ _ inside) (eq-eqb _ _ aligned))
 
-pub far_lifted : (bytes ws : List ℕ) (ms : Members) (p : ℕ) → p ≡ low (slice_index ws 0) → max_results < members_flat ms → p + size false (product of_places ms) ≤ length bytes → p % members_align false ms ≡ 0
-    → members_reach_leaves (narrow bytes) ms 0 p ≡ values_leaves (narrow bytes) ws max_results ms
-far_lifted bytes ws ms p is far inside aligned =
+pub far_lifted : (bytes ws : List ℕ) (most : ℕ) (ms : Members) (p : ℕ) → p ≡ low (slice_index ws 0) → most < members_flat ms → p + size false (product of_places ms) ≤ length bytes → p % members_align false ms ≡ 0
+    → members_reach_leaves (narrow bytes) ms 0 p ≡ values_leaves (narrow bytes) ws most ms
+far_lifted bytes ws most ms p is far inside aligned =
     let room : low (slice_index ws 0) + size false (product of_places ms) ≤ length bytes = subst (λ (q : ℕ). q + size false (product of_places ms) ≤ length bytes) is inside in
     let whole : low (slice_index ws 0) % members_align false ms ≡ 0 = subst (λ (q : ℕ). q % members_align false ms ≡ 0) is aligned in
-    ap (λ (q : ℕ). members_reach_leaves (narrow bytes) ms 0 q) is ∙ sym (far_leaves (narrow bytes) ws max_results ms far room whole)
+    ap (λ (q : ℕ). members_reach_leaves (narrow bytes) ms 0 q) is ∙ sym (far_leaves (narrow bytes) ws most ms far room whole)

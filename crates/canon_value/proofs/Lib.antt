@@ -57,3 +57,4 @@ pub mod Passing
 pub mod Crossing
 pub mod HandleSteps
 pub mod LiftedSteps
+mod Givens

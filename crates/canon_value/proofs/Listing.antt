@@ -13,7 +13,7 @@ use Rattle.canon_model.specs.Tree.{Tree, Trees, items, tree_count, trees_of}
 use Rattle.canon_types.specs.Depth.{deepest, depth, element_shape}
 use Rattle.canon_types.specs.Table.{Table, shape_of}
 use Rattle.canon_types.specs.declared.types.InterfaceType.TheVariants as ty
-use Rattle.canon_plan.specs.Built.{AreBuilt, IsBuilt}
+use Rattle.canon_plan.specs.NoHandle.{HaveNoHandle, HasNoHandle}
 use Rattle.canon_plan.specs.Element.{IsKnown, first_of, list_shape, row_of, second_of}
 use Rattle.canon_value.specs.Elements.{by_turns, element_in, list_length, list_value, values_listed}
 use Rattle.canon_value.specs.Fails.{Failure, Fails, FailsAt, MemberFails, overflow}
@@ -27,11 +27,11 @@ use Rattle.canon_value.specs.declared.val.Val.{Val}
 use Rattle.canon_value.specs.declared.val.Val.TheVariants as val
 use Rattle.canon_value.proofs.Contents.{places_list}
 use Rattle.canon_value.proofs.MapsAndFlags.{one_pairs}
-use Rattle.canon_value.proofs.PairRows.{have_pairs, pairs_built, pairs_deepest, pairs_fail, pairs_have, pairs_named, places_map}
+use Rattle.canon_value.proofs.PairRows.{have_pairs, pairs_no_handle, pairs_deepest, pairs_fail, pairs_have, pairs_named, places_map}
 use Rattle.canon_value.proofs.Sizes.{items_fit, items_inner, pairs_fit, pairs_inner}
 use Rattle.canon_value.proofs.StoreSteps.{Named}
 use Rattle.canon_value.proofs.Viewing.{block_size}
-use Rattle.canon_value.proofs.Walks.{copies_built, copies_deepest, copies_fail, copies_names, row_back, row_is}
+use Rattle.canon_value.proofs.Walks.{copies_no_handle, copies_deepest, copies_fail, copies_names, row_back, row_is}
 
 -- The value is of a list's shape, with n elements, whose members lie so and have these values.
 pub record IsListOf (whole : Shape) (v : Val) (n : ℕ) (ms : Members) (vs : List Val) : Type 1 where
@@ -100,10 +100,10 @@ listed t (elements.Pairs i xs) (known, is) =
 
 -- ---- a row, by the shape of the list
 
--- it is no deeper, built, and in the block
+-- it is no deeper, reaches no handle, and is in the block
 pub record IsRowOf (whole : Shape) (n : ℕ) : Type 0 where
   pub shallow : deepest (row_of whole n) + 1 ≤ depth whole
-  pub built : IsBuilt whole → AreBuilt (row_of whole n)
+  pub no_handle : HasNoHandle whole → HaveNoHandle (row_of whole n)
   pub room : (p : ℕ) (bytes : List ℕ) → p + n * size false (element_shape whole) ≤ length bytes → p + members_end false 0 (row_of whole n) ≤ length bytes
   pub block : has_block whole ≡ true
   pub words : flat whole ≡ 2
@@ -113,7 +113,7 @@ items_row : (s : Shape) (n : ℕ) → IsRowOf (list of_items s) n
 unfolding size flat
 items_row s n = record {
   shallow = omega (arith, copies_deepest n s);
-  built = copies_built n s;
+  no_handle = copies_no_handle n s;
   room = λ p bytes h. block_size n n p s s bytes refl refl h;
   block = refl;
   words = refl;
@@ -124,7 +124,7 @@ map_row : (s u : Shape) (n : ℕ) → IsRowOf (map_of s u) n
 unfolding size flat
 map_row s u n = record {
   shallow = pairs_deepest n s u;
-  built = pairs_built n s u;
+  no_handle = pairs_no_handle n s u;
   room = λ p bytes h. omega (arith, h, pairs_end false s u n 0 0 (at_start false s u));
   block = refl;
   words = refl;

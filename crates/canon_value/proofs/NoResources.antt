@@ -3,7 +3,7 @@ use Rattle.std.proofs.Common.{◌≡◌, ◌++◌, ◌∙◌, Bool, List, [], �
 use Rattle.canon_context.specs.Quiet.{cases_have_handle, has_handle, have_handle}
 use Rattle.canon_model.specs.Shape.{Cases, Members, Shape, bare, borrow, fixed, flags, list, member, no_cases, no_members, of_items, of_pairs, own, payload, product, scalar, string, variant}
 use Rattle.canon_model.specs.Tree.{Tree, Trees}
-use Rattle.canon_plan.specs.Built.{AreBuilt, IsBuilt, are_built, cases_built, is_built}
+use Rattle.canon_plan.specs.NoHandle.{HaveNoHandle, HasNoHandle, have_no_handle, cases_have_no_handle, has_no_handle}
 use Rattle.canon_resources.specs.Held.{Any}
 use Rattle.canon_value.specs.Resources.{all_resources, joined, resources}
 use Rattle.canon_value.specs.Value.{CaseHas, EachHas, HasTreeAs, HaveTreesAs, PairHas, member_names}
@@ -13,28 +13,28 @@ use Rattle.canon_value.proofs.LiftedValues.{both_resources, fixed_resources, ite
 use Rattle.canon_value.proofs.ResourcesOf.{case_resources, flags_have_none, pair_resources, product_resources, scalar_has_none, text_has_none}
 use Rattle.canon_value.proofs.Steps.{no_first, no_later}
 
--- ---- types that are built reach none
+-- ---- types that reach no handle
 
 mutual
-  pub built_handles : (s : Shape) → IsBuilt s → has_handle s ≡ false
-  built_handles (scalar k) h = refl
-  built_handles string h = refl
-  built_handles (own r) h = cc
-  built_handles (borrow r) h = cc
-  built_handles (list k s) h = built_handles s h
-  built_handles (fixed n s) h = built_handles s h
-  built_handles (product k ms) h = members_handles ms h
-  built_handles (variant k cs) h = cases_handles cs h
-  built_handles (flags names) h = refl
+  pub handleless : (s : Shape) → HasNoHandle s → has_handle s ≡ false
+  handleless (scalar k) h = refl
+  handleless string h = refl
+  handleless (own r) h = cc
+  handleless (borrow r) h = cc
+  handleless (list k s) h = handleless s h
+  handleless (fixed n s) h = handleless s h
+  handleless (product k ms) h = members_handles ms h
+  handleless (variant k cs) h = cases_handles cs h
+  handleless (flags names) h = refl
 
-  pub members_handles : (ms : Members) → AreBuilt ms → have_handle ms ≡ false
+  pub members_handles : (ms : Members) → HaveNoHandle ms → have_handle ms ≡ false
   members_handles no_members h = refl
-  members_handles (member name s ms) h = let parts = both (is_built s) (are_built ms) h in rw (built_handles s parts.0) (members_handles ms parts.1)
+  members_handles (member name s ms) h = let parts = both (has_no_handle s) (have_no_handle ms) h in rw (handleless s parts.0) (members_handles ms parts.1)
 
-  cases_handles : (cs : Cases) → cases_built cs ≡ true → cases_have_handle cs ≡ false
+  cases_handles : (cs : Cases) → cases_have_no_handle cs ≡ true → cases_have_handle cs ≡ false
   cases_handles no_cases h = refl
   cases_handles (bare name cs) h = cases_handles cs h
-  cases_handles (payload name s cs) h = let parts = both (is_built s) (cases_built cs) h in rw (built_handles s parts.0) (cases_handles cs parts.1)
+  cases_handles (payload name s cs) h = let parts = both (has_no_handle s) (cases_have_no_handle cs) h in rw (handleless s parts.0) (cases_handles cs parts.1)
 
 -- ---- and values of types that reach none have none
 

@@ -7,7 +7,7 @@ use Rattle.canon_model.specs.Cost.{cost, members_cost, names_length, pair_parts_
 use Rattle.canon_model.specs.Shape.{Name, Shape, map_of}
 use Rattle.canon_model.specs.Tree.{Trees, no_trees, parts, sum_of, tree, tree_count}
 use Rattle.canon_types.specs.Depth.{deepest, depth}
-use Rattle.canon_plan.specs.Built.{AreBuilt, IsBuilt, is_built}
+use Rattle.canon_plan.specs.NoHandle.{HaveNoHandle, HasNoHandle, has_no_handle}
 use Rattle.canon_value.specs.Elements.{by_turns}
 use Rattle.canon_value.specs.Fails.{Failure, MemberFails, PairFails, SomeFails}
 use Rattle.canon_value.specs.Value.{EachHas, HasTree, HaveTrees, PairHas, all_places, member_names, no_names, pair_places, places, total, HasTreeAs, HaveTreesAs}
@@ -109,11 +109,11 @@ pub pairs_named : (s u : Shape) (ps : List (Val × Val)) → no_names (by_turns 
 pairs_named s u [] = refl
 pairs_named s u (p ∷ ps) = ap (λ (ns : List Name). [] ∷ [] ∷ ns) (pairs_named s u ps)
 
-pub pairs_built : (n : ℕ) (s u : Shape) → IsBuilt (map_of s u) → AreBuilt (pairs_of n s u)
-pairs_built zero s u h = refl
-pairs_built (suc n) s u h =
-    let parts = both (is_built s) (is_built u && true) h in
-    rw parts.0 (rw (both (is_built u) true parts.1).0 (pairs_built n s u h))
+pub pairs_no_handle : (n : ℕ) (s u : Shape) → HasNoHandle (map_of s u) → HaveNoHandle (pairs_of n s u)
+pairs_no_handle zero s u h = refl
+pairs_no_handle (suc n) s u h =
+    let parts = both (has_no_handle s) (has_no_handle u && true) h in
+    rw parts.0 (rw (both (has_no_handle u) true parts.1).0 (pairs_no_handle n s u h))
 
 pub pairs_deepest : (n : ℕ) (s u : Shape) → deepest (pairs_of n s u) + 1 ≤ depth (map_of s u)
 pairs_deepest zero s u = omega arith

@@ -8,7 +8,7 @@ use Rattle.canon_model.specs.Shape.{Members, Name, ProductKind, Scalar, Shape, b
 use Rattle.canon_model.specs.Tree.{Tree, Trees}
 use Rattle.canon_types.specs.Table.{Table, shape_of}
 use Rattle.canon_types.specs.declared.types.InterfaceType.{InterfaceType}
-use Rattle.canon_plan.specs.Built.{IsScalarType}
+use Rattle.canon_plan.specs.NoHandle.{IsScalarType}
 use Rattle.canon_value.specs.Fails.{Blames, FailsAt, IsSmall, MemberFails}
 use Rattle.canon_value.specs.Stores.{Counts, FieldsCount}
 use Rattle.canon_value.specs.Value.{HasTree, HaveTrees, IsProduct, all_places, cap, member_names, places}

@@ -1,4 +1,4 @@
--- What a view tells a walk: room, depth and built members.
+-- What a view tells a walk: room, depth, and members that reach no handle.
 use Rattle.std.proofs.Common.{◌≡◌, ◌≤◌, ◌<◌, ◌+◌, ◌*◌, ◌∙◌, List, ap, arith, false, length, refl, subst, sym, ℕ}
 use Rattle.std.proofs.Math.Nat.{zero-mod}
 use Rattle.std.proofs.lemmas.Nat.Gcd.{dvd_of_mod-eq-zero}
@@ -8,7 +8,7 @@ use Rattle.canon_model.proofs.Layouts.{members_end-le-size}
 use Rattle.canon_model.specs.Layout.{align, flat, members_end, members_flat, size}
 use Rattle.canon_model.specs.Shape.{Members, Shape, borrow, fixed, flags, list, member_count, own, product, scalar, string, variant}
 use Rattle.canon_types.specs.Depth.{deepest, depth}
-use Rattle.canon_plan.specs.Built.{AreBuilt, IsBuilt}
+use Rattle.canon_plan.specs.NoHandle.{HaveNoHandle, HasNoHandle}
 use Rattle.canon_types.specs.Table.{Table, shape_of}
 use Rattle.canon_types.specs.declared.types.InterfaceType.TheVariants as ty
 use Rattle.canon_value.specs.Elements.{by_turns}
@@ -20,7 +20,7 @@ use Rattle.canon_value.proofs.Lookups.{count_values, count_names, count_no_names
 use Rattle.canon_value.proofs.PairRows.{count_turns}
 use Rattle.canon_plan.proofs.Pairs.{pair_slots}
 use Rattle.canon_plan.proofs.Lookups.{copies_count}
-use Rattle.canon_value.proofs.Walks.{copies_built, copies_deepest}
+use Rattle.canon_value.proofs.Walks.{copies_no_handle, copies_deepest}
 
 -- as many names as values
 pub names_count : (ms : View) → length (names_of ms) ≡ length (values_of ms)
@@ -69,16 +69,16 @@ lies_depth (list k s) ms e = absurd e
 lies_depth (variant k cs) ms e = absurd e
 lies_depth (flags names) ms e = absurd e
 
-pub lies_built : (s : Shape) (ms : Members) → LiesAs s ms → IsBuilt s → AreBuilt ms
-lies_built (product k ns) ms e h = subst AreBuilt (sym e) h
-lies_built (fixed n s) ms e h = subst AreBuilt (sym e) (copies_built n s h)
-lies_built (scalar k) ms e h = absurd e
-lies_built string ms e h = absurd e
-lies_built (own r) ms e h = absurd e
-lies_built (borrow r) ms e h = absurd e
-lies_built (list k s) ms e h = absurd e
-lies_built (variant k cs) ms e h = absurd e
-lies_built (flags names) ms e h = absurd e
+pub lies_no_handle : (s : Shape) (ms : Members) → LiesAs s ms → HasNoHandle s → HaveNoHandle ms
+lies_no_handle (product k ns) ms e h = subst HaveNoHandle (sym e) h
+lies_no_handle (fixed n s) ms e h = subst HaveNoHandle (sym e) (copies_no_handle n s h)
+lies_no_handle (scalar k) ms e h = absurd e
+lies_no_handle string ms e h = absurd e
+lies_no_handle (own r) ms e h = absurd e
+lies_no_handle (borrow r) ms e h = absurd e
+lies_no_handle (list k s) ms e h = absurd e
+lies_no_handle (variant k cs) ms e h = absurd e
+lies_no_handle (flags names) ms e h = absurd e
 
 pub lies_words : (s : Shape) (ms : Members) → LiesAs s ms → members_flat ms ≡ flat s
 unfolding flat

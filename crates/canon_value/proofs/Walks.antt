@@ -23,7 +23,7 @@ use Rattle.canon_model.specs.Tree.{Tree, Trees, no_trees, parts, tree_count, tre
 use Rattle.canon_types.specs.Depth.{deepest, depth}
 use Rattle.canon_types.specs.Table.{shape_of}
 use Rattle.canon_types.specs.declared.types.InterfaceType.{InterfaceType}
-use Rattle.canon_plan.specs.Built.{AreBuilt, IsBuilt}
+use Rattle.canon_plan.specs.NoHandle.{HaveNoHandle, HasNoHandle}
 use Rattle.canon_context.specs.Core.{Parts, encoding_by, guest_of, moment_of, types_of}
 use Rattle.canon_value.specs.Fails.{Blames, Failure, FailsAt, MemberFails, SomeFails}
 use Rattle.canon_context.specs.Lowers.{ending_of, fault_ending}
@@ -77,9 +77,9 @@ copies_fail how (suc n) s [] k f = absurd f
 copies_fail how (suc n) s (v ∷ vs) k (inl f) = inl f
 copies_fail how (suc n) s (v ∷ vs) k (inr (j, e, f)) = inr (j, e, copies_fail how n s vs j f)
 
-pub copies_built : (n : ℕ) (s : Shape) → IsBuilt s → AreBuilt (copies n s)
-copies_built zero s h = refl
-copies_built (suc n) s h = rw h (copies_built n s h)
+pub copies_no_handle : (n : ℕ) (s : Shape) → HasNoHandle s → HaveNoHandle (copies n s)
+copies_no_handle zero s h = refl
+copies_no_handle (suc n) s h = rw h (copies_no_handle n s h)
 
 pub copies_deepest : (n : ℕ) (s : Shape) → deepest (copies n s) ≤ depth s
 copies_deepest zero s = omega arith

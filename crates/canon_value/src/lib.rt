@@ -9,6 +9,7 @@ mod elements;
 mod equal;
 mod equal_resources;
 mod flags;
+mod given;
 mod handles;
 pub mod laws;
 mod lift;
@@ -28,5 +29,6 @@ pub use args::lower_args;
 pub use canon_context::{
     At, Component, Core, Export, Fault, HostcallFuelExhausted, Import, LiftContext, LowerContext,
 };
-pub use results::lift_results;
+pub use given::{lower_results, results_area};
+pub use results::{lift_args, lift_results};
 pub use val::Val;

@@ -3,7 +3,7 @@
 ghost use Rattle.std.specs.Prelude.{◌≡◌};
 ghost use Rattle.canon_model.specs.Shape.{string};
 ghost use Rattle.canon_types.specs.Table.{Knows, shape_of};
-ghost use Rattle.canon_plan.specs.Built.{IsScalarType};
+ghost use Rattle.canon_plan.specs.NoHandle.{IsScalarType};
 ghost use Rattle.canon_plan.specs.Plan.{typed_handle};
 ghost use Rattle.canon_value.specs.Viewed.{Viewed};
 

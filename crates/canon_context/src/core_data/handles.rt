@@ -33,7 +33,7 @@ impl<T, G> Core<T, G> {
     ghost use Rattle.canon_ledger.specs.Reached.{known_in, ledger_in, reference_in, scope_in};
 
     /// The resource tables as the host reaches them: the core's, with the component's types and the top open scope, where there
-    /// is one. What a caller does with them isn't told of the core: each call below is told.
+    /// is one. The core ends with the ledger that they leave.
     pub fn tables(&mut self) -> HostResourceTables<'_>
         ensures same_ledger { ledger_in result ≡ self.old.ledger }
         ensures same_types { known_in result ≡ Some (types_of self.old) }

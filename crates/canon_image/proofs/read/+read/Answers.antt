@@ -10,19 +10,19 @@ use Rattle.canon_model.specs.Shape.{Members, Shape, case_count, map_of, member_c
 use Rattle.canon_types.specs.Depth.{deepest, depth, element_shape, variant_cases}
 use Rattle.canon_types.specs.Table.{shape_of}
 use Rattle.canon_types.specs.declared.types.InterfaceType.TheVariants as ty
-use Rattle.canon_plan.specs.Built.{AreBuilt, IsBuilt}
+use Rattle.canon_plan.specs.NoHandle.{HaveNoHandle, HasNoHandle}
 use Rattle.canon_plan.specs.Plan.{members_from, shapes_of}
 use Rattle.canon_plan.proofs.Pairs.{key_known, map_shape, value_known}
 use Rattle.canon_value.specs.declared.val.Val.{Val}
-use Rattle.canon_value.proofs.Viewing.{lies_built, lies_depth}
+use Rattle.canon_value.proofs.Viewing.{lies_no_handle, lies_depth}
 use Rattle.canon_value.proofs.WalkLoops.{member_shallow}
-use Rattle.canon_value.proofs.Walks.{copies_built, copies_deepest}
-use Rattle.canon_image.proofs.CaseReading.{case_cut, case_falls, case_none, payload_built, payload_count, tag_here}
+use Rattle.canon_value.proofs.Walks.{copies_no_handle, copies_deepest}
+use Rattle.canon_image.proofs.CaseReading.{case_cut, case_falls, case_none, payload_no_handle, payload_count, tag_here}
 use Rattle.canon_image.proofs.Fetching.{left_short}
 use Rattle.canon_image.proofs.PairsReading.{PairsAreRead, key_stop, map_read, map_stops, pair_read, pairs_begin, pairs_done, value_stop}
 use Rattle.canon_image.proofs.Reading.{AreRead, PartsRead, all_read, begin_read, case_read, case_stopped, items_read, items_stop, member_read, member_stops, whole_count, whole_read, whole_stops}
 use Rattle.canon_image.proofs.PairsWriting.{map_parts}
-use Rattle.canon_image.proofs.Writing.{member_built}
+use Rattle.canon_image.proofs.Writing.{member_no_handle}
 use Rattle.canon_image.specs.Read.{StopsFrom}
 use Rattle.canon_image.specs.Stops.{MembersStop}
 use Rattle.canon_image.proofs.read.+read.Goals as goal
@@ -35,7 +35,7 @@ read_parts-read_value-requires t c =
     let ms = shapes_of a.types.now a.members.now in
     let is = c.slot_of-member.ensures in
     let s = shape_of a.types.now c.slot_of-member.result.ty in
-    (omega (arith, member_shallow ms c.loop-k.k is.name s _ is.shapes), (is.known, (member_built ms c.loop-k.k is.name s _ is.shapes c.requires.built, c.loop-k.invariant.read.inside)))
+    (omega (arith, member_shallow ms c.loop-k.k is.name s _ is.shapes), (is.known, (member_no_handle ms c.loop-k.k is.name s _ is.shapes c.requires.no_handle, c.loop-k.invariant.read.inside)))
 
 pub read_parts-loop-k-init : goal.read_parts-loop-k-init
 read_parts-loop-k-init t c =
@@ -65,7 +65,7 @@ pub read_items-read_parts-requires : goal.read_items-read_parts-requires
 read_items-read_parts-requires t c =
     let s = shape_of c.args.types.now c.args.ty.now in
     let n = c.in-Ok.count in
-    (omega (arith, copies_deepest n s), (c.requires.known, (copies_built n s c.requires.built, c.in-Ok.ensures.reads.2)))
+    (omega (arith, copies_deepest n s), (c.requires.known, (copies_no_handle n s c.requires.no_handle, c.in-Ok.ensures.reads.2)))
 
 pub read_items-returns-in-Ok-read_parts : goal.read_items-returns-in-Ok-read_parts
 read_items-returns-in-Ok-read_parts t c =
@@ -94,8 +94,8 @@ read_pairs-read_value-requires t c =
     let types = c.args.types.now in
     let m = c.map-map.result.now in
     let is = map_shape types c.args.i m c.map-map.ensures.entry in
-    let built = map_parts (shape_of types m.key) (shape_of types m.value) (subst (λ (s : Shape). IsBuilt s) is c.requires.built) in
-    (omega (arith, ap depth is), (key_known types c.args.i m c.map-map.ensures.entry, (built.0, c.loop.invariant.read.inside)))
+    let no_handle = map_parts (shape_of types m.key) (shape_of types m.value) (subst (λ (s : Shape). HasNoHandle s) is c.requires.no_handle) in
+    (omega (arith, ap depth is), (key_known types c.args.i m c.map-map.ensures.entry, (no_handle.0, c.loop.invariant.read.inside)))
 
 pub read_pairs-loop-init : goal.read_pairs-loop-init
 read_pairs-loop-init t c =
@@ -133,9 +133,9 @@ read_pairs-read_value-requires-in-loop t c =
     let types = c.args.types.now in
     let m = c.map-map.result.now in
     let is = map_shape types c.args.i m c.map-map.ensures.entry in
-    let built = map_parts (shape_of types m.key) (shape_of types m.value) (subst (λ (s : Shape). IsBuilt s) is c.requires.built) in
+    let no_handle = map_parts (shape_of types m.key) (shape_of types m.value) (subst (λ (s : Shape). HasNoHandle s) is c.requires.no_handle) in
     let (t1, xs, span, image, lifted) = c.in-Ok-read_value.ensures.reads in
-    (omega (arith, ap depth is), (value_known types c.args.i m c.map-map.ensures.entry, (built.1, span.inside)))
+    (omega (arith, ap depth is), (value_known types c.args.i m c.map-map.ensures.entry, (no_handle.1, span.inside)))
 
 pub read_pairs-returns-in-Err-read_value : goal.read_pairs-returns-in-Err-read_value
 read_pairs-returns-in-Err-read_value t c =
@@ -196,7 +196,7 @@ read_case-read_parts-requires t c =
     let ms = shapes_of a.types.now c.in-Some.case.payload in
     let inside : a.at.now + c.from-size.result ≤ length a.bytes.now = omega (arith, c.if-bytes-at.false, c.requires.inside) in
     let falls = case_falls s kind is a.bytes.now a.at.now d ms c.in-Some.ensures.shapes in
-    (omega (arith, falls), (c.in-Some.ensures.known, (payload_built s kind is a.bytes.now a.at.now d ms c.in-Some.ensures.shapes c.requires.built, inside)))
+    (omega (arith, falls), (c.in-Some.ensures.known, (payload_no_handle s kind is a.bytes.now a.at.now d ms c.in-Some.ensures.shapes c.requires.no_handle, inside)))
 
 pub read_case-rebuild_case-requires-clause-count : goal.read_case-rebuild_case-requires-clause-count
 read_case-rebuild_case-requires-clause-count t c =
@@ -241,7 +241,7 @@ read_value-read_parts-requires t c =
     let s = shape_of c.args.types.now c.args.ty.now in
     let (known, lies, kind, unnamed) = c.in-Members.ensures in
     let ms = shapes_of c.args.types.now c.in-Members.members in
-    (omega (arith, lies_depth s ms lies), (known, (lies_built s ms lies c.requires.built, c.requires.inside)))
+    (omega (arith, lies_depth s ms lies), (known, (lies_no_handle s ms lies c.requires.no_handle, c.requires.inside)))
 
 pub read_value-rebuild-requires-clause-count : goal.read_value-rebuild-requires-clause-count
 read_value-rebuild-requires-clause-count t c =

@@ -6,7 +6,7 @@ use Rattle.canon_model.specs.Memory.{num}
 use Rattle.canon_model.specs.Shape.{Scalar, bool}
 use Rattle.canon_model.specs.Text.{utf8}
 use Rattle.canon_types.specs.Table.{shape_of}
-use Rattle.canon_plan.specs.Built.{scalar_type}
+use Rattle.canon_plan.specs.NoHandle.{scalar_type}
 use Rattle.canon_image.specs.Read.{ReadsTo}
 use Rattle.canon_image.proofs.Fetching.{bool_high, bool_low, left_short, scalar_bad, scalar_cut, scalar_good, scalar_no_char, scalar_some, scalar_width}
 use Rattle.canon_image.proofs.read.read_scalar.Goals.{After-from-size}

@@ -4,17 +4,17 @@ use Rattle.canon_model.specs.Shape.{Members, Shape, map_of, member_count}
 use Rattle.canon_types.specs.Depth.{deepest, depth, element_shape}
 use Rattle.canon_types.specs.Table.{shape_of}
 use Rattle.canon_types.specs.declared.types.InterfaceType.TheVariants as ty
-use Rattle.canon_plan.specs.Built.{IsBuilt}
+use Rattle.canon_plan.specs.NoHandle.{HasNoHandle}
 use Rattle.canon_plan.proofs.Lookups.{copies_count}
 use Rattle.canon_plan.proofs.Pairs.{key_known, map_shape, value_known}
 use Rattle.canon_value.specs.View.{names_of, shapes_of, values_of}
-use Rattle.canon_value.proofs.Viewing.{lies_built, lies_depth, names_count}
+use Rattle.canon_value.proofs.Viewing.{lies_no_handle, lies_depth, names_count}
 use Rattle.canon_value.proofs.WalkCases.{case_wants}
 use Rattle.canon_value.proofs.WalkLoops.{member_shallow}
-use Rattle.canon_value.proofs.Walks.{copies_built, copies_deepest}
+use Rattle.canon_value.proofs.Walks.{copies_no_handle, copies_deepest}
 use Rattle.canon_value.proofs.Steps.{blocks_none}
 use Rattle.canon_image.proofs.PairsWriting.{key_stops, map_parts, map_told, pair_goes_on, pair_here, pairs_end, value_stops}
-use Rattle.canon_image.proofs.Writing.{case_told, end, go_on, items_told, member_built, members_written, misnamed, parts_told, refused, seen_built, stop}
+use Rattle.canon_image.proofs.Writing.{case_told, end, go_on, items_told, member_no_handle, members_written, misnamed, parts_told, refused, seen_no_handle, stop}
 use Rattle.canon_image.proofs.write.+write.Goals.{write_pairs-After-map-map}
 use Rattle.canon_image.proofs.write.+write.Goals as goal
 
@@ -25,7 +25,7 @@ write_case-write_parts-requires t c =
     let a = c.args in
     let s = shape_of a.types.now a.ty.now in
     let w = case_wants a.types.now s a.value.now a.case.now 0 c.requires.seen in
-    (omega (arith, w.falls), (w.known, (seen_built a.types.now s a.value.now a.case.now c.requires.built c.requires.seen, w.count)))
+    (omega (arith, w.falls), (w.known, (seen_no_handle a.types.now s a.value.now a.case.now c.requires.no_handle c.requires.seen, w.count)))
 
 pub write_case-returns-in-Ok : goal.write_case-returns-in-Ok
 write_case-returns-in-Ok t c =
@@ -41,7 +41,7 @@ pub write_items-write_parts-requires : goal.write_items-write_parts-requires
 write_items-write_parts-requires t c =
     let s = shape_of c.args.types.now c.args.ty.now in
     let n = length c.deref.result.now in
-    (omega (arith, copies_deepest n s), (c.requires.known, (copies_built n s c.requires.built, sym (copies_count n s))))
+    (omega (arith, copies_deepest n s), (c.requires.known, (copies_no_handle n s c.requires.no_handle, sym (copies_count n s))))
 
 pub write_items-returns-in-Ok : goal.write_items-returns-in-Ok
 write_items-returns-in-Ok t c =
@@ -70,14 +70,14 @@ write_pairs-write_value-requires t c =
     let types = c.args.types.now in
     let m = c.map-map.result.now in
     let is = map_shape types c.args.i m c.map-map.ensures.entry in
-    (omega (arith, ap depth is), (key_known types c.args.i m c.map-map.ensures.entry, (map_parts (shape_of types m.key) (shape_of types m.value) (subst (λ (s : Shape). IsBuilt s) is c.requires.built)).0))
+    (omega (arith, ap depth is), (key_known types c.args.i m c.map-map.ensures.entry, (map_parts (shape_of types m.key) (shape_of types m.value) (subst (λ (s : Shape). HasNoHandle s) is c.requires.no_handle)).0))
 
 pub write_pairs-write_value-requires-in-loop-key : goal.write_pairs-write_value-requires-in-loop-key
 write_pairs-write_value-requires-in-loop-key t c =
     let types = c.args.types.now in
     let m = c.map-map.result.now in
     let is = map_shape types c.args.i m c.map-map.ensures.entry in
-    (omega (arith, ap depth is), (value_known types c.args.i m c.map-map.ensures.entry, (map_parts (shape_of types m.key) (shape_of types m.value) (subst (λ (s : Shape). IsBuilt s) is c.requires.built)).1))
+    (omega (arith, ap depth is), (value_known types c.args.i m c.map-map.ensures.entry, (map_parts (shape_of types m.key) (shape_of types m.value) (subst (λ (s : Shape). HasNoHandle s) is c.requires.no_handle)).1))
 
 pub write_pairs-returns-in-Err : goal.write_pairs-returns-in-Err
 write_pairs-returns-in-Err t c =
@@ -137,7 +137,7 @@ write_parts-write_value-requires t c =
     let ms = shapes_of a.types.now a.members.now in
     let is = c.member_of-member.ensures in
     let s = shape_of a.types.now c.member_of-member.result.ty in
-    (omega (arith, member_shallow ms c.loop-k.k is.name s _ is.shapes), (is.known, member_built ms c.loop-k.k is.name s _ is.shapes c.requires.built))
+    (omega (arith, member_shallow ms c.loop-k.k is.name s _ is.shapes), (is.known, member_no_handle ms c.loop-k.k is.name s _ is.shapes c.requires.no_handle))
 
 pub write_parts-returns-in-Err : goal.write_parts-returns-in-Err
 write_parts-returns-in-Err t c =
@@ -173,7 +173,7 @@ write_value-write_parts-requires t c =
     let s = shape_of c.args.types.now c.args.ty.now in
     let (known, lies, has, count) = rw c.in-Ok-Members.field-0-is at c.in-Ok-Members.ensures in
     let ms = shapes_of c.args.types.now c.in-Ok-Members.members in
-    (omega (arith, lies_depth s ms lies), (known, (lies_built s ms lies c.requires.built, count)))
+    (omega (arith, lies_depth s ms lies), (known, (lies_no_handle s ms lies c.requires.no_handle, count)))
 
 pub write_value-returns-in-Ok-Members : goal.write_value-returns-in-Ok-Members
 write_value-returns-in-Ok-Members t c =

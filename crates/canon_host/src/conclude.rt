@@ -1,0 +1,77 @@
+//! The end of an ask, once the function was called.
+
+ghost use Rattle.std.specs.Prelude.{◌≡◌, ◌≤◌, ◌<◌, IfErr, IfOk, OnOk, length, take};
+ghost use Rattle.canon_model.specs.Flat.{max_results};
+ghost use Rattle.canon_model.specs.Layout.{members_flat};
+ghost use Rattle.canon_model.specs.Shape.{member_count};
+ghost use Rattle.canon_types.specs.Table.{tuple_members};
+ghost use Rattle.canon_context.specs.Asks.{SameButHandles};
+ghost use Rattle.canon_context.specs.Core.{types_of};
+ghost use Rattle.canon_host.specs.Asked.{HasRoom, IsAsked};
+ghost use Rattle.canon_host.specs.Serves.{Concludes, IsPlace, IsNoPlace, LowersGiven};
+
+use crate::Asked;
+use crate::asked::{first_words, params_words, results_words};
+use canon_memory::{Guest, ValRaw};
+use canon_value::{Core, Fault, LowerContext, Val, lower_results, results_area};
+
+/// Tests the pointer for the results, ends the scope of the ask and leaves it, and lowers the results.
+pub(crate) fn conclude<T, G: Guest>(
+    core: &mut Core<T, G>,
+    asked: &Asked,
+    results: &[Val],
+    storage: &mut [ValRaw],
+) -> Result<(), Fault>
+    requires asked { IsAsked core.old.component asked.now }
+    requires room { HasRoom (types_of core.old) asked.now storage.old }
+    requires count { length results.now ≡ member_count (tuple_members (types_of core.old) asked.now.func.results) }
+    ensures concludes { Concludes G.seen G.moves asked.now core.old results.now storage.old result core.new storage.new }
+    ensures same { SameButHandles core.old core.new }
+{
+    let at = match place_of(core, asked, storage) {
+        Ok(at) => at,
+        Err(fault) => return Err(fault),
+    };
+    if let Err(fault) = core.validate_scope_exit() {
+        return Err(Fault::Resource(fault));
+    }
+    core.leave();
+    lower(core, asked, at, results, storage)
+}
+
+/// The address at which results are to be stored that don't go in a row; the last of an ask's words gives it.
+fn place_of<T, G>(core: &Core<T, G>, asked: &Asked, storage: &[ValRaw]) -> Result<u64, Fault>
+    requires asked { IsAsked core.now.component asked.now }
+    requires room { HasRoom (types_of core.now) asked.now storage.now }
+    ensures ok { IfOk result (IsPlace (types_of core.now) asked.now core.now.memory storage.now) }
+    ensures err { IfErr result (IsNoPlace (types_of core.now) asked.now core.now.memory storage.now) }
+{
+    let types = core.component().types.types();
+    if results_words(types, asked.func.results).is_some() {
+        return Ok(0);
+    }
+    let word = params_words(types, asked.func.params) as u32;
+    results_area(core, asked.func.results, storage, word)
+}
+
+/// Lowers the results to the first words, or to the address.
+fn lower<T, G: Guest>(
+    core: &mut Core<T, G>,
+    asked: &Asked,
+    at: u64,
+    results: &[Val],
+    storage: &mut [ValRaw],
+) -> Result<(), Fault>
+    requires asked { IsAsked core.old.component asked.now }
+    requires room { HasRoom (types_of core.old) asked.now storage.old }
+    requires place { IsPlace (types_of core.old) asked.now core.old.memory storage.old at }
+    requires count { length results.now ≡ member_count (tuple_members (types_of core.old) asked.now.func.results) }
+    ensures lowers { LowersGiven G.seen G.moves asked.now core.old at results.now result core.new storage.new }
+    ensures same { SameButHandles core.old core.new }
+{
+    let tuple = asked.func.results;
+    let count = first_words(core.component().types.types(), tuple);
+    let words = &mut storage[..count];
+    let mut cx = LowerContext::new(core, asked.options);
+    lower_results(&mut cx, results, tuple, at, words)
+}

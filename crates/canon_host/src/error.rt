@@ -1,0 +1,12 @@
+use canon_value::Fault;
+
+/// Why an ask isn't answered: a fault, or the function refused.
+#[derive(Clone, Copy, Debug, PartialEq, Eq)]
+pub enum HostError {
+    Fault(Fault),
+    Refused,
+}
+
+/// The type of a function isn't the function's.
+#[derive(Clone, Copy, Debug, PartialEq, Eq)]
+pub struct TypecheckFailed;

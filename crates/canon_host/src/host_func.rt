@@ -1,0 +1,143 @@
+//! Functions of the host.
+
+ghost use Rattle.std.specs.Prelude.{◌≡◌, IfErr, IfSome, List, OnOk, Result, false, slice_get, true, ℕ};
+ghost use Rattle.canon_types.specs.Table.{HasFunc};
+ghost use Rattle.canon_context.specs.Component.{HasOptions};
+ghost use Rattle.canon_context.specs.Core.{Parts, types_of};
+ghost use Rattle.canon_host.specs.Asked.{HasRoomFor};
+ghost use Rattle.canon_host.specs.declared.asked.Asked.{Asked};
+ghost use Rattle.canon_host.specs.declared.error.HostError.{HostError};
+
+use crate::asked::asked_of;
+use crate::serve::serve;
+use crate::{HostCx, HostError, HostStop, HostView, TypecheckFailed};
+use canon_memory::{Guest, ValRaw};
+use canon_types::{InstanceType, TypeFunc, TypeFuncIndex};
+use canon_value::Val;
+use std::alloc::Global;
+use std::fmt;
+
+/// A function in one of its forms, over data of the type `T` and a guest of the type `G`.
+pub trait HostFn<T, G: Guest> {
+    /// What is told of an ask that was served.
+    type Log;
+
+    /// It may be called, and keeps what it must.
+    ghost ready: { Self → Type 0 };
+
+    /// What is asked for, the core and the words before, the answer, and the core and the words after.
+    ghost serves: { Self → Asked → Parts T G → List ℕ → Result Self.Log HostError → Parts T G → List ℕ → Type 0 };
+
+    fn serve(
+        &self,
+        alloc: Global,
+        cx: HostCx<'_, T, G>,
+        storage: &mut [ValRaw],
+    ) -> Result<Self::Log, HostError>
+        requires ready { ready self.now }
+        requires func { HasFunc (types_of cx.core.now) cx.ty }
+        requires options { HasOptions cx.core.now.component cx.options }
+        requires room { HasRoomFor (types_of cx.core.now) cx.ty storage.old }
+        ensures serves { IfSome (slice_get (types_of cx.entry.core.now).funcs cx.entry.ty) (λ t. serves self.now (record { ty = cx.entry.ty; func = t; options = cx.entry.options }) cx.entry.core.now storage.old result cx.exit.0.now storage.new) }
+        ensures same { cx.exit.0.now ≡ record cx.entry.core.now { state = cx.exit.0.now.state; guest = cx.exit.0.now.guest; memory = cx.exit.0.now.memory; ledger = cx.exit.0.now.ledger } };
+}
+
+/// A function over values of any types.
+#[derive(Drop)]
+pub struct DynamicHostFn<F> {
+    f: F,
+}
+
+impl<
+    T,
+    G: Guest,
+    F: Fn(&mut HostView<'_, '_, T>, &TypeFunc, &[Val], &mut [Val]) -> Result<(), HostStop>,
+> HostFn<T, G> for DynamicHostFn<F> {
+    ghost use Rattle.std.specs.Prelude.{◌≡◌, IfSome, slice_get};
+    ghost use Rattle.canon_types.specs.Table.{HasFunc};
+    ghost use Rattle.canon_context.specs.Component.{HasOptions};
+    ghost use Rattle.canon_context.specs.Core.{types_of};
+    ghost use Rattle.canon_context.specs.Host.{Keeps};
+    ghost use Rattle.canon_host.specs.Asked.{HasRoomFor};
+    ghost use Rattle.canon_host.specs.Serves.{Serves};
+
+    type Log = Vec<Val>;
+
+    ghost ready = { λ h. Keeps F.Fn h.f };
+
+    ghost serves = { λ h asked before words r after words2. Serves F.Fn h.f G.seen G.moves asked before words r after words2 };
+
+    fn serve(
+        &self,
+        alloc: Global,
+        cx: HostCx<'_, T, G>,
+        storage: &mut [ValRaw],
+    ) -> Result<Vec<Val>, HostError>
+        requires ready { Keeps F.Fn self.now.f }
+        requires func { HasFunc (types_of cx.core.now) cx.ty }
+        requires options { HasOptions cx.core.now.component cx.options }
+        requires room { HasRoomFor (types_of cx.core.now) cx.ty storage.old }
+        ensures serves { IfSome (slice_get (types_of cx.entry.core.now).funcs cx.entry.ty) (λ t. Serves F.Fn self.now.f G.seen G.moves (record { ty = cx.entry.ty; func = t; options = cx.entry.options }) cx.entry.core.now storage.old result cx.exit.0.now storage.new) }
+        ensures same { cx.exit.0.now ≡ record cx.entry.core.now { state = cx.exit.0.now.state; guest = cx.exit.0.now.guest; memory = cx.exit.0.now.memory; ledger = cx.exit.0.now.ledger } }
+    {
+        let HostCx { core, ty, options } = cx;
+        let asked = asked_of(core, ty, options);
+        serve(alloc, &self.f, core, &asked, storage)
+    }
+}
+
+/// A function of the host.
+#[derive(Drop)]
+pub struct HostFunc<H> {
+    h: H,
+}
+
+impl<F> HostFunc<DynamicHostFn<F>> {
+    /// A function over values of any types.
+    pub fn func_new(f: F) -> Self
+        ensures { result.h.f ≡ f }
+    {
+        HostFunc {
+            h: DynamicHostFn { f },
+        }
+    }
+
+    /// Whether the function may be of this type: any that isn't async.
+    pub fn typecheck(&self, ty: TypeFuncIndex, types: &InstanceType) -> Result<(), TypecheckFailed>
+        requires { HasFunc types.now.types ty }
+        ensures refused { IfErr result (λ _. IfSome (slice_get types.now.types.funcs ty) (λ t. t.async_ ≡ true)) }
+        ensures passed { OnOk result (IfSome (slice_get types.now.types.funcs ty) (λ t. t.async_ ≡ false)) }
+    {
+        if types.types().func(ty).async_ {
+            return Err(TypecheckFailed);
+        }
+        Ok(())
+    }
+}
+
+impl<H> HostFunc<H> {
+    /// Serves one ask.
+    pub fn entrypoint<T, G: Guest>(
+        &self,
+        alloc: Global,
+        cx: HostCx<'_, T, G>,
+        storage: &mut [ValRaw],
+    ) -> Result<H::Log, HostError>
+    where
+        H: HostFn<T, G>,
+        requires ready { H.ready self.now.h }
+        requires func { HasFunc (types_of cx.core.now) cx.ty }
+        requires options { HasOptions cx.core.now.component cx.options }
+        requires room { HasRoomFor (types_of cx.core.now) cx.ty storage.old }
+        ensures serves { IfSome (slice_get (types_of cx.entry.core.now).funcs cx.entry.ty) (λ t. H.serves self.now.h (record { ty = cx.entry.ty; func = t; options = cx.entry.options }) cx.entry.core.now storage.old result cx.exit.0.now storage.new) }
+        ensures same { cx.exit.0.now ≡ record cx.entry.core.now { state = cx.exit.0.now.state; guest = cx.exit.0.now.guest; memory = cx.exit.0.now.memory; ledger = cx.exit.0.now.ledger } }
+    {
+        self.h.serve(alloc, cx, storage)
+    }
+}
+
+impl<H> fmt::Debug for HostFunc<H> {
+    fn fmt<W: fmt::Write>(&self, f: &mut fmt::Formatter<W>) -> fmt::Result {
+        f.write_str("HostFunc { .. }")
+    }
+}

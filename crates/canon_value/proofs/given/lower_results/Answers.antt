@@ -1,0 +1,37 @@
+use Rattle.std.proofs.Common.{refl}
+use Rattle.canon_context.proofs.Moves.{GuestLaws}
+use Rattle.canon_context.specs.Core.{encoding_by, guest_of, moment_of, types_of}
+use Rattle.canon_context.specs.Quiet.{have_handle}
+use Rattle.canon_types.specs.Table.{tuple_members}
+use Rattle.canon_value.proofs.Crossing.{crossed, told_blames, told_moves}
+use Rattle.canon_value.proofs.PassesOf.{no_row_passes}
+use Rattle.canon_value.specs.Args.{LowersResults}
+use Rattle.canon_value.specs.Fails.{MemberFails}
+use Rattle.canon_value.specs.Resources.{all_passes}
+use Rattle.canon_value.specs.Value.{HaveTrees}
+use Rattle.canon_value.proofs.given.lower_results.Goals as goal
+
+pub returns-in-Ok-clause-lowered : goal.returns-in-Ok-clause-lowered
+returns-in-Ok-clause-lowered g c = let h = c.in-Ok.ensures.lowered in record { given = h.handles; ending = _; ends = refl; lowered = h.lowered; passed = h.passed; as_told = tt }
+
+pub returns-in-Err-clause-lowered : goal.returns-in-Err-clause-lowered
+returns-in-Err-clause-lowered g c =
+    let a = c.args in
+    let core = a.cx.now.core.now in
+    let by = c.lower_results_by_size in
+    let ms = tuple_members (types_of core) a.ty in
+    let h = c.in-Err.ensures.lowered in
+    crossed core.component.types (have_handle ms) (all_passes ms a.results.now) (no_row_passes ms a.results.now) core.ledger by.new.cx.core.now.ledger c.in-Err.fault h.passed
+    (λ hs ending. LowersResults (moment_of g.G.Guest.seen core) (moment_of g.G.Guest.seen by.new.cx.core.now) (encoding_by core a.cx.now.options) ms (HaveTrees ms a.results.now) a.at by.new.dst hs ending)
+    h.handles c.told.result c.told.ensures h.lowered
+
+pub returns-in-Err-clause-cause : goal.returns-in-Err-clause-cause
+returns-in-Err-clause-cause g c =
+    let a = c.args in
+    let core = a.cx.now.core.now in
+    told_blames (encoding_by core a.cx.now.options) (λ how k. MemberFails how (tuple_members (types_of core) a.ty) a.results.now k) 0 c.in-Err.fault c.told.result c.told.ensures c.in-Err.ensures.cause
+
+pub returns-in-Err-clause-moves : goal.returns-in-Err-clause-moves
+returns-in-Err-clause-moves g c =
+    let L : GuestLaws _ = record { seen = g.G.Guest.seen; moves = g.G.Guest.moves; stays = g.met.G.Guest.stays; goes_on = g.met.G.Guest.goes_on } in
+    told_moves L (guest_of c.args.cx.now.core.now) (guest_of c.lower_results_by_size.new.cx.core.now) c.in-Err.fault c.told.result c.told.ensures c.in-Err.ensures.moves

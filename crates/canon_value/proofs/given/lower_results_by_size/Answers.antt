@@ -1,0 +1,35 @@
+use Rattle.std.proofs.Common.{◌≡◌, ◌∙◌, arith, sym}
+use Rattle.canon_model.specs.Shape.{of_places, product}
+use Rattle.canon_types.specs.Table.{shape_of, tuple_members}
+use Rattle.canon_types.specs.declared.types.InterfaceType.TheVariants as ty
+use Rattle.canon_context.specs.Core.{types_of}
+use Rattle.canon_value.proofs.Far.{tuple_shape_of_now}
+use Rattle.canon_value.proofs.Givens.{more_than_one, one_or_none}
+use Rattle.canon_value.proofs.given.lower_results_by_size.Given.{Over}
+use Rattle.canon_value.proofs.given.lower_results_by_size.Goals.{After-tuple}
+use Rattle.canon_value.proofs.given.lower_results_by_size.Goals as goal
+
+shape : (g : Over) (c : After-tuple g) → shape_of c.types.result.now (ty.Tuple c.args.ty) ≡ product of_places (tuple_members (types_of c.args.cx.now.core.now) c.args.ty)
+shape g c = tuple_shape_of_now (types_of c.args.cx.now.core.now) c.types.result.now c.args.ty c.tuple.result.now.types.items c.types.ensures c.tuple.ensures.entry c.tuple.ensures.types
+
+pub lower_results_near-requires-clause-words : goal.lower_results_near-requires-clause-words
+lower_results_near-requires-clause-words g c =
+    c.requires.near (one_or_none _ _ c.flat_count.result c.from.result (shape g (goal.at.lower_results_near-requires-clause-words g c).After-tuple) c.from.ensures (c.flat_count.ensures.words _ c.tuple.ensures.abi) (sym c.is_some.ensures ∙ c.if-is_some.true))
+
+pub store_results-requires-clause-room : goal.store_results-requires-clause-room
+store_results-requires-clause-room g c =
+    c.requires.far (more_than_one _ _ c.flat_count.result c.from.result (shape g (goal.at.store_results-requires-clause-room g c).After-tuple) c.from.ensures (c.flat_count.ensures.words _ c.tuple.ensures.abi) (sym c.is_some.ensures ∙ c.if-is_some.false))
+
+pub returns-then-is_some-clause-lowered : goal.returns-then-is_some-clause-lowered
+returns-then-is_some-clause-lowered g c =
+    let near =
+    one_or_none _ _ c.flat_count.result c.from.result (shape g (goal.at.returns-then-is_some-clause-lowered g c).After-tuple) c.from.ensures (c.flat_count.ensures.words _ c.tuple.ensures.abi) (sym c.is_some.ensures ∙ c.if-is_some.true) in
+    let low = c.lower_results_near.ensures.lowered in
+    record { handles = low.handles; lowered = record { near = λ _. low.lowered; far = λ far. absurd (omega (arith, near, far)) }; passed = low.passed }
+
+pub returns-else-is_some-clause-lowered : goal.returns-else-is_some-clause-lowered
+returns-else-is_some-clause-lowered g c =
+    let far =
+    more_than_one _ _ c.flat_count.result c.from.result (shape g (goal.at.returns-else-is_some-clause-lowered g c).After-tuple) c.from.ensures (c.flat_count.ensures.words _ c.tuple.ensures.abi) (sym c.is_some.ensures ∙ c.if-is_some.false) in
+    let low = c.store_results.ensures.stored in
+    record { handles = low.handles; lowered = record { near = λ near. absurd (omega (arith, near, far)); far = λ _. low.lowered }; passed = low.passed }

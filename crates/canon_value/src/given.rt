@@ -1,0 +1,138 @@
+//! The results that a function of the host gives, as words and memory of the guest that asked for them.
+
+ghost use Rattle.std.specs.Prelude.{◌≡◌, ◌≤◌, ◌<◌, ◌+◌, IfErr, IfOk, OnOk, false, length};
+ghost use Rattle.canon_model.specs.Flat.{max_results};
+ghost use Rattle.canon_model.specs.Layout.{members_flat, size};
+ghost use Rattle.canon_model.specs.Shape.{member_count, of_places, product};
+ghost use Rattle.canon_lowering.specs.Attempt.{StoresMembers};
+ghost use Rattle.canon_types.specs.Table.{HasTuple, tuple_members};
+ghost use Rattle.canon_value.specs.Args.{IsArea, IsNoArea, LowersResults};
+ghost use Rattle.canon_value.specs.Resources.{Crosses, PartsLower, all_passes};
+ghost use Rattle.canon_context.specs.Core.{encoding_by, guest_of, moment_of, types_of};
+ghost use Rattle.canon_value.specs.Fails.{AreSmall, BlamesMembers};
+ghost use Rattle.canon_context.specs.Lowers.{ending_of};
+ghost use Rattle.canon_context.specs.Moves.{Moves};
+ghost use Rattle.canon_context.specs.Quiet.{have_handle};
+ghost use Rattle.canon_context.specs.Asks.{SameButHandles};
+ghost use Rattle.canon_value.specs.Value.{HaveTrees};
+
+use crate::handles::told;
+use crate::lower::lower_results_near;
+use crate::members::Members;
+use crate::store::store_parts;
+use crate::{At, Core, Fault, LowerContext, Val};
+use canon_abi::MAX_FLAT_RESULTS;
+use canon_memory::{Guest, ValRaw};
+use canon_types::TypeTupleIndex;
+
+/// The address that a word gives for the results of a function, where they are stored as a tuple. It is tested first that it is a
+/// multiple of the tuple's alignment (`PointerMisaligned`), then that the tuple ends inside memory (`PointerOutOfBounds`).
+pub fn results_area<T, G>(
+    core: &Core<T, G>,
+    ty: TypeTupleIndex,
+    words: &[ValRaw],
+    word: u32,
+) -> Result<u64, Fault>
+    requires tuple { HasTuple (types_of core.now) ty }
+    requires room { word < length words.now }
+    ensures ok { IfOk result (IsArea core.now.memory (tuple_members (types_of core.now) ty) words.now word) }
+    ensures err { IfErr result (IsNoArea core.now.memory (tuple_members (types_of core.now) ty) words.now word) }
+{
+    let tuple = core.component().types.types().tuple(ty);
+    let at = u64::from(words[word as usize].get_u32());
+    if at % u64::from(tuple.abi.align32) != 0 {
+        return Err(Fault::PointerMisaligned(At::Word(word)));
+    }
+    if at + u64::from(tuple.abi.size32) > core.memory().len() {
+        return Err(Fault::PointerOutOfBounds(At::Word(word)));
+    }
+    Ok(at)
+}
+
+/// Lowers the results of a function that a guest asked for (CanonicalABI.md, "lower_flat_values"): into words in a row, up to
+/// MAX_FLAT_RESULTS, else as a tuple at the address `at`, where there is room. At an error `dst` and what stands there may have changed.
+pub fn lower_results<T, G: Guest>(
+    cx: &mut LowerContext<'_, T, G>,
+    results: &[Val],
+    ty: TypeTupleIndex,
+    at: u64,
+    dst: &mut [ValRaw],
+) -> Result<(), Fault>
+    requires tuple { HasTuple (types_of cx.old.core.now) ty }
+    requires count { length results.now ≡ member_count (tuple_members (types_of cx.old.core.now) ty) }
+    requires near { members_flat (tuple_members (types_of cx.old.core.now) ty) ≤ max_results → length dst.old ≡ members_flat (tuple_members (types_of cx.old.core.now) ty) }
+    requires far { max_results < members_flat (tuple_members (types_of cx.old.core.now) ty) → at + size false (product of_places (tuple_members (types_of cx.old.core.now) ty)) ≤ length cx.old.core.now.memory }
+    ensures lowered { Crosses cx.old.core.now.component.types (have_handle (tuple_members (types_of cx.old.core.now) ty)) (all_passes (tuple_members (types_of cx.old.core.now) ty) results.now)
+        (λ hs ending. LowersResults (moment_of G.seen cx.old.core.now) (moment_of G.seen cx.new.core.now) (encoding_by cx.old.core.now cx.old.options)
+        (tuple_members (types_of cx.old.core.now) ty) (HaveTrees (tuple_members (types_of cx.old.core.now) ty) results.now) at dst.new hs ending)
+        cx.old.core.now.ledger cx.new.core.now.ledger result }
+    ensures cause { IfErr result (BlamesMembers (encoding_by cx.old.core.now cx.old.options) (tuple_members (types_of cx.old.core.now) ty) results.now) }
+    ensures small { OnOk result (AreSmall (encoding_by cx.old.core.now cx.old.options) (tuple_members (types_of cx.old.core.now) ty) results.now) }
+    ensures moves { Moves G.seen G.moves (guest_of cx.old.core.now) (guest_of cx.new.core.now) (ending_of result) }
+    ensures same_core { SameButHandles cx.old.core.now cx.new.core.now }
+    ensures same_reference { cx.new.core.ghost_name ≡ cx.old.core.ghost_name }
+    ensures same_options { cx.new.options ≡ cx.old.options }
+{
+    match lower_results_by_size(cx, results, ty, at, dst) {
+        Ok(()) => Ok(()),
+        Err(fault) => Err(told(fault)),
+    }
+}
+
+/// The same, with want of the ledger's memory told as its fault.
+fn lower_results_by_size<T, G: Guest>(
+    cx: &mut LowerContext<'_, T, G>,
+    results: &[Val],
+    ty: TypeTupleIndex,
+    at: u64,
+    dst: &mut [ValRaw],
+) -> Result<(), Fault>
+    requires tuple { HasTuple (types_of cx.old.core.now) ty }
+    requires count { length results.now ≡ member_count (tuple_members (types_of cx.old.core.now) ty) }
+    requires near { members_flat (tuple_members (types_of cx.old.core.now) ty) ≤ max_results → length dst.old ≡ members_flat (tuple_members (types_of cx.old.core.now) ty) }
+    requires far { max_results < members_flat (tuple_members (types_of cx.old.core.now) ty) → at + size false (product of_places (tuple_members (types_of cx.old.core.now) ty)) ≤ length cx.old.core.now.memory }
+    ensures lowered { PartsLower cx.old.core.now cx.new.core.now (all_passes (tuple_members (types_of cx.old.core.now) ty) results.now)
+        (λ hs. LowersResults (moment_of G.seen cx.old.core.now) (moment_of G.seen cx.new.core.now) (encoding_by cx.old.core.now cx.old.options)
+        (tuple_members (types_of cx.old.core.now) ty) (HaveTrees (tuple_members (types_of cx.old.core.now) ty) results.now) at dst.new hs (ending_of result)) result }
+    ensures cause { IfErr result (BlamesMembers (encoding_by cx.old.core.now cx.old.options) (tuple_members (types_of cx.old.core.now) ty) results.now) }
+    ensures small { OnOk result (AreSmall (encoding_by cx.old.core.now cx.old.options) (tuple_members (types_of cx.old.core.now) ty) results.now) }
+    ensures moves { Moves G.seen G.moves (guest_of cx.old.core.now) (guest_of cx.new.core.now) (ending_of result) }
+    ensures same_core { SameButHandles cx.old.core.now cx.new.core.now }
+    ensures same_reference { cx.new.core.ghost_name ≡ cx.old.core.ghost_name }
+    ensures same_options { cx.new.options ≡ cx.old.options }
+{
+    let abi = cx.types().tuple(ty).abi;
+    if abi.flat_count(u64::from(MAX_FLAT_RESULTS)).is_some() {
+        lower_results_near(cx, results, ty, dst)
+    } else {
+        store_results(cx, results, ty, at)
+    }
+}
+
+/// Stores a function's results as a tuple at an address.
+fn store_results<T, G: Guest>(
+    cx: &mut LowerContext<'_, T, G>,
+    results: &[Val],
+    ty: TypeTupleIndex,
+    at: u64,
+) -> Result<(), Fault>
+    requires tuple { HasTuple (types_of cx.old.core.now) ty }
+    requires count { length results.now ≡ member_count (tuple_members (types_of cx.old.core.now) ty) }
+    requires room { at + size false (product of_places (tuple_members (types_of cx.old.core.now) ty)) ≤ length cx.old.core.now.memory }
+    ensures stored { PartsLower cx.old.core.now cx.new.core.now (all_passes (tuple_members (types_of cx.old.core.now) ty) results.now)
+        (λ hs. StoresMembers false (moment_of G.seen cx.old.core.now) (moment_of G.seen cx.new.core.now) (encoding_by cx.old.core.now cx.old.options)
+        (tuple_members (types_of cx.old.core.now) ty) 0 at (HaveTrees (tuple_members (types_of cx.old.core.now) ty) results.now) hs (ending_of result)) result }
+    ensures cause { IfErr result (BlamesMembers (encoding_by cx.old.core.now cx.old.options) (tuple_members (types_of cx.old.core.now) ty) results.now) }
+    ensures small { OnOk result (AreSmall (encoding_by cx.old.core.now cx.old.options) (tuple_members (types_of cx.old.core.now) ty) results.now) }
+    ensures moves { Moves G.seen G.moves (guest_of cx.old.core.now) (guest_of cx.new.core.now) (ending_of result) }
+    ensures same_core { SameButHandles cx.old.core.now cx.new.core.now }
+    ensures same_reference { cx.new.core.ghost_name ≡ cx.old.core.ghost_name }
+    ensures same_options { cx.new.options ≡ cx.old.options }
+{
+    let _memory = cx.core.memory();
+    let members = Members::Places(ty, results);
+    match store_parts(cx, &members, at, 0, 0) {
+        Ok(_) => Ok(()),
+        Err(fault) => Err(fault),
+    }
+}
