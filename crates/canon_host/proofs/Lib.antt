@@ -1,3 +1,4 @@
-mod Counts
+pub mod Counts
+pub mod Importing
 mod Leaving
-mod Serving
+pub mod Serving

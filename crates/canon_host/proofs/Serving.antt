@@ -1,5 +1,5 @@
 -- The steps of an ask, one after another.
-use Rattle.std.proofs.Common.{[], Err, List, Ok, Result, Vec, ap, false, inr, length, refl, subst, subst₂, sym, ℕ, ◌++◌, ◌-◌, ◌∙◌, ◌≡◌, ◌≤◌}
+use Rattle.std.proofs.Common.{[], Err, List, Ok, Result, Vec, ap, false, inl, inr, length, true, refl, subst, subst₂, sym, ℕ, ◌++◌, ◌-◌, ◌∙◌, ◌≡◌, ◌≤◌}
 use Rattle.std.proofs.Math.Seq.{drop-append_seam, drop-length, take-append_seam}
 use Rattle.std.proofs.lemmas.List.{append-nil, length-drop, take-append-drop}
 use Rattle.std.specs.Prelude.{IfErr, IfSome, Option, Some, drop, replicate, take}
@@ -20,9 +20,10 @@ use Rattle.canon_memory.specs.Guest.{GuestIn, Moment, Seen}
 use Rattle.canon_memory.specs.declared.event.Event.{Event}
 use Rattle.canon_model.specs.Flat.{max_results}
 use Rattle.canon_model.specs.Layout.{members_flat}
-use Rattle.canon_model.specs.Shape.{Members}
+use Rattle.canon_model.specs.Shape.{Members, member_count}
 use Rattle.canon_model.specs.Text.{Encoding}
 use Rattle.canon_model.specs.Tree.{Trees}
+use Rattle.canon_types.specs.Table.{param_members, result_members}
 use Rattle.canon_types.specs.declared.types.TypeFunc.{TypeFunc}
 use Rattle.canon_value.specs.Args.{LowersResults}
 use Rattle.canon_value.specs.Fails.{BlamesMembers}
@@ -30,8 +31,8 @@ use Rattle.canon_value.specs.Resources.{Crosses, all_passes}
 use Rattle.canon_value.specs.Value.{HaveTrees}
 use Rattle.canon_value.specs.declared.val.Val.{Val}
 use Rattle.canon_value.specs.declared.val.Val.TheVariants as val
-use Rattle.canon_host.specs.Asked.{results_in}
-use Rattle.canon_host.specs.Serves.{Answers, Calls, Concludes, Ends, IsPlace, LiftsAsked, LowersGiven, Serves, ServesEntered, blank}
+use Rattle.canon_value.proofs.Values.{have_count}
+use Rattle.canon_host.specs.Serves.{Answers, AskValues, Calling, Calls, CallsBlank, Concludes, Ends, InRow, IsPlace, LiftsAsked, LowersGiven, Serves, ServesEntered, ServesInRow, blank, values_of}
 use Rattle.canon_host.specs.declared.asked.Asked.{Asked}
 use Rattle.canon_host.specs.declared.error.HostError.{HostError}
 use Rattle.canon_host.specs.declared.error.HostError.TheVariants as error
@@ -75,17 +76,17 @@ lowered_first a c enc ms Have at ws rest hs e count h = record {
 
 module _ {T G : Type 0} (seen : G → Seen) (moves : GuestIn G → List Event → GuestIn G → Type 0) (asked : Asked) where
   pub lowered_given : (before mid after : Parts T G) (at : ℕ) (results : List Val) (ws rest : List ℕ) (r : Result (Unit {0}) Fault)
-      → Crosses before.component.types (have_handle (results_in (types_of before) asked.func)) (all_passes (results_in (types_of before) asked.func) results)
-      (λ hs ending. LowersResults (moment_of seen before) (moment_of seen mid) (encoding_by before asked.options) (results_in (types_of before) asked.func) (HaveTrees (results_in (types_of before) asked.func) results) at ws hs ending)
+      → Crosses before.component.types (have_handle (result_members (types_of before) asked.func)) (all_passes (result_members (types_of before) asked.func) results)
+      (λ hs ending. LowersResults (moment_of seen before) (moment_of seen mid) (encoding_by before asked.options) (result_members (types_of before) asked.func) (HaveTrees (result_members (types_of before) asked.func) results) at ws hs ending)
       before.ledger mid.ledger r
-      → IfErr r (BlamesMembers (encoding_by before asked.options) (results_in (types_of before) asked.func) results) → Moves seen moves (guest_of before) (guest_of mid) (ending_of r) → SameButHandles before mid
-      → (members_flat (results_in (types_of before) asked.func) ≤ max_results → length ws ≡ members_flat (results_in (types_of before) asked.func)) → after ≡ mid → LowersGiven seen moves asked before at results r after (ws ++ rest)
+      → IfErr r (BlamesMembers (encoding_by before asked.options) (result_members (types_of before) asked.func) results) → Moves seen moves (guest_of before) (guest_of mid) (ending_of r) → SameButHandles before mid
+      → (members_flat (result_members (types_of before) asked.func) ≤ max_results → length ws ≡ members_flat (result_members (types_of before) asked.func)) → after ≡ mid → LowersGiven seen moves asked before at results r after (ws ++ rest)
   lowered_given before mid after at results ws rest r h cause moved same count is = subst (λ x. LowersGiven seen moves asked before at results r x (ws ++ rest)) (sym is) (record {
     lowered = record {
       given = h.given;
       ending = h.ending;
       ends = h.ends;
-      lowered = lowered_first (moment_of seen before) (moment_of seen mid) (encoding_by before asked.options) (results_in (types_of before) asked.func) (HaveTrees (results_in (types_of before) asked.func) results) at ws rest h.given h.ending count h.lowered;
+      lowered = lowered_first (moment_of seen before) (moment_of seen mid) (encoding_by before asked.options) (result_members (types_of before) asked.func) (HaveTrees (result_members (types_of before) asked.func) results) at ws rest h.given h.ending count h.lowered;
       passed = h.passed;
       as_told = h.as_told;
     };
@@ -104,7 +105,7 @@ module _ {T G : Type 0} (seen : G → Seen) (moves : GuestIn G → List Event �
 pub with_ledger : {T G : Type 0} (before after : Parts T G) (l : LedgerState) → after ≡ record before { ledger = after.ledger } → after.ledger ≡ l → after ≡ record before { ledger = l }
 with_ledger before after l same is = same ∙ ap (λ (x : LedgerState). record before { ledger = x }) is
 
--- ---- the whole ask
+-- ---- the call and what follows it
 
 module _ {F T G : Type 0} (g : Closure F (HostView T) Val (Result (Unit {0}) HostStop)) (f : F) (seen : G → Seen) (moves : GuestIn G → List Event → GuestIn G → Type 0) (asked : Asked) where
   module _ (before made after : Parts T G) (params items old nv shown : List Val) (n k : ℕ) (words words2 : List ℕ) (hn : n ≡ length params) (hk : replicate k (val.Bool false) ≡ blank (types_of before) asked)
@@ -125,28 +126,73 @@ module _ {F T G : Type 0} (g : Closure F (HostView T) Val (Result (Unit {0}) Hos
     split = sym (take-append-drop n nv) ∙ ap (λ xs. xs ++ drop n nv) (hp ∙ front)
 
     pub answered_ok : (final : List Val) → final ≡ nv → Concludes seen moves asked made shown words (Ok tt) after words2
-        → (results : List Val) × (called : Parts T G) × (final ≡ params ++ results) × Calls g f asked before params (blank (types_of before) asked) (Ok tt) called results × Concludes seen moves asked called results words (Ok tt) after words2
-    answered_ok final is h = (drop n nv, made, is ∙ split, calls, subst (λ xs. Concludes seen moves asked made xs words (Ok tt) after words2) hs h)
+        → (told : AskValues) × (final ≡ told.params ++ told.results) × Answers (CallsBlank g f asked) seen moves asked before params words (Ok told) after words2
+    answered_ok final is h = (values_of params (drop n nv), is ∙ split, (made, refl, calls, subst (λ xs. Concludes seen moves asked made xs words (Ok tt) after words2) hs h))
 
-    pub answered_err : (x : Fault) → Concludes seen moves asked made shown words (Err x) after words2 → Answers g f seen moves asked before params words (Err (error.Fault x)) after words2
+    pub answered_err : (x : Fault) → Concludes seen moves asked made shown words (Err x) after words2 → Answers (CallsBlank g f asked) seen moves asked before params words (Err (error.Fault x)) after words2
     answered_err x h = inr (inr (drop n nv, made, x, refl, calls, subst (λ xs. Concludes seen moves asked made xs words (Err x) after words2) hs h))
 
+-- ---- the whole ask
+
+module _ {T G : Type 0} (C : Calling T G) (seen : G → Seen) (moves : GuestIn G → List Event → GuestIn G → Type 0) (asked : Asked) where
   pub entered : (before lifted after : Parts T G) (words words2 : List ℕ) (params : Vec Val Global) (r : Result (Vec Val Global) HostError) → LiftsAsked asked before words (Ok params) lifted
-      → Answers g f seen moves asked lifted params.items words r after words2 → ServesEntered g f seen moves asked before words r after words2
-  entered before lifted after words words2 params (Ok values) lifts h = (params, lifted, lifts, h)
+      → InRow (λ told. Answers C seen moves asked lifted params.items words told after words2) r → InRow (λ told. ServesEntered C seen moves asked before words told after words2) r
+  entered before lifted after words words2 params (Ok values) lifts h = (h.0, h.1, (params, lifted, lifts, h.2))
   entered before lifted after words words2 params (Err e) lifts h = inr (params, lifted, lifts, h)
 
-  pub served : (before mid after : Parts T G) (words words2 : List ℕ) (r : Result (Vec Val Global) HostError) → mid ≡ record before { ledger = enter before.ledger } → ServesEntered g f seen moves asked mid words r after words2
-      → Serves g f seen moves asked before words r after words2
-  served before mid after words words2 (Ok values) is h = subst (λ k. ServesEntered g f seen moves asked k words (Ok values) after words2) is h
-  served before mid after words words2 (Err e) is h = inr (subst (λ k. ServesEntered g f seen moves asked k words (Err e) after words2) is h)
+  pub served : (before mid after : Parts T G) (words words2 : List ℕ) (r : Result (Vec Val Global) HostError) → mid ≡ record before { ledger = enter before.ledger }
+      → InRow (λ told. ServesEntered C seen moves asked mid words told after words2) r → InRow (λ told. Serves C seen moves asked before words told after words2) r
+  served before mid after words words2 (Ok values) is h = (h.0, h.1, subst (λ k. ServesEntered C seen moves asked k words (Ok h.0) after words2) is h.2)
+  served before mid after words words2 (Err e) is h = inr (subst (λ k. ServesEntered C seen moves asked k words (Err e) after words2) is h)
 
-  -- of the type that was found
-  pub found_serves : (ty options : ℕ) (before made after : Parts T G) (words words2 words3 : List ℕ) (r : Result (Vec Val Global) HostError) (o : Option TypeFunc) → o ≡ Some asked.func → asked.ty ≡ ty → asked.options ≡ options
-      → Serves g f seen moves asked before words r made words2 → after ≡ made → words3 ≡ words2
-      → IfSome o (λ t. Serves g f seen moves (record { ty = ty; func = t; options = options }) before words r after words3)
-  found_serves ty options before made after words words2 words3 r o found ety eopt h ea ew =
-      let told : Serves g f seen moves (record { ty = ty; func = asked.func; options = options }) before words r made words2 =
-      subst₂ (λ a b. Serves g f seen moves (record { ty = a; func = asked.func; options = b }) before words r made words2) ety eopt h in
-      subst (λ p. IfSome p (λ t. Serves g f seen moves (record { ty = ty; func = t; options = options }) before words r after words3)) (sym found)
-      (subst₂ (λ k ws. Serves g f seen moves (record { ty = ty; func = asked.func; options = options }) before words r k ws) (sym ea) (sym ew) told)
+  -- there are as many parameters as the type has
+  pub params_count : (before lifted : Parts T G) (words : List ℕ) (params : Vec Val Global) → LiftsAsked asked before words (Ok params) lifted → length params.items ≡ member_count (param_members (types_of before) asked.func)
+  params_count before lifted words params lifts = have_count true (param_members (types_of before) asked.func) params.items lifts.0.1.ok.its_trees lifts.0.1.ok.have
+
+  pub told_count : (before after : Parts T G) (words words2 : List ℕ) (told : AskValues) → Serves C seen moves asked before words (Ok told) after words2 → length told.params ≡ member_count (param_members (types_of before) asked.func)
+  told_count before after words words2 told h = ap length h.3.1 ∙ params_count (record before { ledger = enter before.ledger }) h.1 words h.0 h.2
+
+-- of the type that was found
+pub found_serves : {F T G : Type 0} (g : Closure F (HostView T) Val (Result (Unit {0}) HostStop)) (f : F) (seen : G → Seen) (moves : GuestIn G → List Event → GuestIn G → Type 0) (asked : Asked)
+    (ty options : ℕ) (before made after : Parts T G) (words words2 words3 : List ℕ) (r : Result (Vec Val Global) HostError) (o : Option TypeFunc) → o ≡ Some asked.func → asked.ty ≡ ty → asked.options ≡ options
+    → ServesInRow g f seen moves asked before words r made words2 → after ≡ made → words3 ≡ words2
+    → IfSome o (λ t. ServesInRow g f seen moves (record { ty = ty; func = t; options = options }) before words r after words3)
+found_serves g f seen moves asked ty options before made after words words2 words3 r o found ety eopt h ea ew =
+    let told : ServesInRow g f seen moves (record { ty = ty; func = asked.func; options = options }) before words r made words2 =
+    subst₂ (λ a b. ServesInRow g f seen moves (record { ty = a; func = asked.func; options = b }) before words r made words2) ety eopt h in
+    subst (λ p. IfSome p (λ t. ServesInRow g f seen moves (record { ty = ty; func = t; options = options }) before words r after words3)) (sym found)
+    (subst₂ (λ k ws. ServesInRow g f seen moves (record { ty = ty; func = asked.func; options = options }) before words r k ws) (sym ea) (sym ew) told)
+
+-- ---- the data of the host
+
+-- nothing after the call changes them
+concluded_state : {T G : Type 0} (seen : G → Seen) (moves : GuestIn G → List Event → GuestIn G → Type 0) (asked : Asked) (before after : Parts T G) (results : List Val) (words words2 : List ℕ) (r : Result (Unit {0}) Fault)
+    → Concludes seen moves asked before results words r after words2 → after.state ≡ before.state
+concluded_state {T} {G} seen moves asked before after results words words2 (Ok x) h = ap (λ (k : Parts T G). k.state) h.4.same ∙ ap (λ (k : Parts T G). k.state) h.3.1
+concluded_state {T} {G} seen moves asked before after results words words2 (Err e) (inl (none, same)) = ap (λ (k : Parts T G). k.state) same
+concluded_state {T} {G} seen moves asked before after results words words2 (Err e) (inr (at, place, inl (x, is, ends))) = ap (λ (k : Parts T G). k.state) ends.1
+concluded_state {T} {G} seen moves asked before after results words words2 (Err e) (inr (at, place, inr (ended, ends, lowered))) = ap (λ (k : Parts T G). k.state) lowered.same ∙ ap (λ (k : Parts T G). k.state) ends.1
+
+-- What is served by one relation of a call is served by each that holds of the same calls: those from the data that the ask began with to
+-- the data that it left.
+module _ {T G : Type 0} (C D : Calling T G) (seen : G → Seen) (moves : GuestIn G → List Event → GuestIn G → Type 0) (asked : Asked) (before after : Parts T G)
+    (more : (b a : Parts T G) (params results : List Val) (r : Result (Unit {0}) HostStop) → b.state ≡ before.state → after.state ≡ a.state → C b params r a results → D b params r a results) where
+  answers_more : (lifted : Parts T G) (params : List Val) (words words2 : List ℕ) (r : Result AskValues HostError) → lifted.state ≡ before.state
+      → Answers C seen moves asked lifted params words r after words2 → Answers D seen moves asked lifted params words r after words2
+  answers_more lifted params words words2 (Ok told) begun h = (h.0, h.1, more lifted h.0 params told.results (Ok tt) begun (concluded_state seen moves asked h.0 after told.results words words2 (Ok tt) h.3) h.2, h.3)
+  answers_more lifted params words words2 (Err e) begun (inl h) = inl h
+  answers_more lifted params words words2 (Err e) begun (inr (inl (results, why, is, called))) = inr (inl (results, why, is, more lifted after params results (Err why) begun refl called))
+  answers_more lifted params words words2 (Err e) begun (inr (inr (results, mid, x, is, called, ends))) =
+      inr (inr (results, mid, x, is, more lifted mid params results (Ok tt) begun (concluded_state seen moves asked mid after results words words2 (Err x) ends) called, ends))
+
+  entered_more : (entered : Parts T G) (words words2 : List ℕ) (r : Result AskValues HostError) → entered.state ≡ before.state
+      → ServesEntered C seen moves asked entered words r after words2 → ServesEntered D seen moves asked entered words r after words2
+  entered_more entered words words2 (Ok told) begun h = (h.0, h.1, h.2, answers_more h.1 h.0.items words words2 (Ok told) (ap (λ (k : Parts T G). k.state) h.2.1 ∙ begun) h.3)
+  entered_more entered words words2 (Err e) begun (inl h) = inl h
+  entered_more entered words words2 (Err e) begun (inr (params, lifted, lifts, h)) =
+      inr (params, lifted, lifts, answers_more lifted params.items words words2 (Err e) (ap (λ (k : Parts T G). k.state) lifts.1 ∙ begun) h)
+
+  pub serves_more : (words words2 : List ℕ) (r : Result AskValues HostError) → Serves C seen moves asked before words r after words2 → Serves D seen moves asked before words r after words2
+  serves_more words words2 (Ok told) h = entered_more (record before { ledger = enter before.ledger }) words words2 (Ok told) refl h
+  serves_more words words2 (Err e) (inl h) = inl h
+  serves_more words words2 (Err e) (inr h) = inr (entered_more (record before { ledger = enter before.ledger }) words words2 (Err e) refl h)

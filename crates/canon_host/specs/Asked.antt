@@ -1,21 +1,14 @@
 -- What is asked for, and with how many words.
-use Rattle.std.specs.Prelude.{IfSome, List, Some, length, slice_get, ℕ, ◌<◌, ◌≡◌, ◌≤◌}
+use Rattle.std.specs.Prelude.{IfSome, List, Some, if◌then◌else◌, length, max, nat_le, slice_get, ℕ, ◌+◌, ◌<◌, ◌≡◌, ◌≤◌}
 use Rattle.canon_model.specs.Flat.{max_results}
 use Rattle.canon_model.specs.Layout.{members_flat}
 use Rattle.canon_model.specs.Shape.{Members}
-use Rattle.canon_types.specs.Table.{HasTuple, Table, tuple_members}
+use Rattle.canon_types.specs.Table.{HasTuple, Table, param_members, result_members}
 use Rattle.canon_types.specs.declared.types.TypeFunc.{TypeFunc}
 use Rattle.canon_context.specs.Component.{HasOptions}
 use Rattle.canon_context.specs.declared.component.Component.{Component}
 use Rattle.canon_value.specs.Args.{args_words}
 use Rattle.canon_host.specs.declared.asked.Asked.{Asked}
-
--- the parameters and the results of a function type
-abbrev pub params_in : Table → TypeFunc → Members
-params_in types func = tuple_members types func.params
-
-abbrev pub results_in : Table → TypeFunc → Members
-results_in types func = tuple_members types func.results
 
 -- it is a function of the component, under options of it
 pub record IsAsked (component : Component) (asked : Asked) : Type 0 where
@@ -23,6 +16,22 @@ pub record IsAsked (component : Component) (asked : Asked) : Type 0 where
   pub params : HasTuple component.types.types asked.func.params
   pub results : HasTuple component.types.types asked.func.results
   pub options : HasOptions component asked.options
+
+-- how many words point to where results are stored that don't go in a row
+abbrev pub pointer_words : Members → ℕ
+pointer_words results = if nat_le (members_flat results) max_results then 0 else 1
+
+-- how many words results take in a row: none where they don't go so
+abbrev pub row_words : Members → ℕ
+row_words results = if nat_le (members_flat results) max_results then members_flat results else 0
+
+-- how many words the guest asks with: those of the parameters, and the pointer
+abbrev pub asked_words : Members → Members → ℕ
+asked_words params results = args_words params + pointer_words results
+
+-- how long storage is that has room for them, and for results in a row
+abbrev pub storage_words : Members → Members → ℕ
+storage_words params results = max (asked_words params results) (row_words results)
 
 -- The words are enough: those of the parameters, one after them that points to where results are stored that don't go in a row, and
 -- else as many as the results take.
@@ -32,7 +41,7 @@ pub record AreEnough (params results : Members) (words : List ℕ) : Type 0 wher
   pub room : members_flat results ≤ max_results → members_flat results ≤ length words
 
 abbrev pub HasRoom : Table → Asked → List ℕ → Type 0
-HasRoom types asked words = AreEnough (params_in types asked.func) (results_in types asked.func) words
+HasRoom types asked words = AreEnough (param_members types asked.func) (result_members types asked.func) words
 
 abbrev pub HasRoomFor : Table → ℕ → List ℕ → Type 0
-HasRoomFor types ty words = IfSome (slice_get types.funcs ty) (λ t. AreEnough (params_in types t) (results_in types t) words)
+HasRoomFor types ty words = IfSome (slice_get types.funcs ty) (λ t. AreEnough (param_members types t) (result_members types t) words)

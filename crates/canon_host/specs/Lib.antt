@@ -1,2 +1,4 @@
 pub mod Asked
+pub mod HostSide
+pub mod Imports
 pub mod Serves

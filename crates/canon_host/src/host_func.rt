@@ -16,6 +16,7 @@ use canon_types::{InstanceType, TypeFunc, TypeFuncIndex};
 use canon_value::Val;
 use std::alloc::Global;
 use std::fmt;
+use std::marker::Model;
 
 /// A function in one of its forms, over data of the type `T` and a guest of the type `G`.
 pub trait HostFn<T, G: Guest> {
@@ -42,10 +43,16 @@ pub trait HostFn<T, G: Guest> {
         ensures same { cx.exit.0.now ≡ record cx.entry.core.now { state = cx.exit.0.now.state; guest = cx.exit.0.now.guest; memory = cx.exit.0.now.memory; ledger = cx.exit.0.now.ledger } };
 }
 
-/// A function over values of any types.
+/// A function over values of any types. Contracts see the function.
 #[derive(Drop)]
 pub struct DynamicHostFn<F> {
     f: F,
+}
+
+impl<F> Model for DynamicHostFn<F> {
+    ghost Value = { F };
+
+    ghost view = { λ h. h.f };
 }
 
 impl<
@@ -59,13 +66,13 @@ impl<
     ghost use Rattle.canon_context.specs.Core.{types_of};
     ghost use Rattle.canon_context.specs.Host.{Keeps};
     ghost use Rattle.canon_host.specs.Asked.{HasRoomFor};
-    ghost use Rattle.canon_host.specs.Serves.{Serves};
+    ghost use Rattle.canon_host.specs.Serves.{ServesInRow};
 
     type Log = Vec<Val>;
 
-    ghost ready = { λ h. Keeps F.Fn h.f };
+    ghost ready = { λ f. Keeps F.Fn f };
 
-    ghost serves = { λ h asked before words r after words2. Serves F.Fn h.f G.seen G.moves asked before words r after words2 };
+    ghost serves = { λ f asked before words r after words2. ServesInRow F.Fn f G.seen G.moves asked before words r after words2 };
 
     fn serve(
         &self,
@@ -73,11 +80,11 @@ impl<
         cx: HostCx<'_, T, G>,
         storage: &mut [ValRaw],
     ) -> Result<Vec<Val>, HostError>
-        requires ready { Keeps F.Fn self.now.f }
+        requires ready { Keeps F.Fn self.now }
         requires func { HasFunc (types_of cx.core.now) cx.ty }
         requires options { HasOptions cx.core.now.component cx.options }
         requires room { HasRoomFor (types_of cx.core.now) cx.ty storage.old }
-        ensures serves { IfSome (slice_get (types_of cx.entry.core.now).funcs cx.entry.ty) (λ t. Serves F.Fn self.now.f G.seen G.moves (record { ty = cx.entry.ty; func = t; options = cx.entry.options }) cx.entry.core.now storage.old result cx.exit.0.now storage.new) }
+        ensures serves { IfSome (slice_get (types_of cx.entry.core.now).funcs cx.entry.ty) (λ t. ServesInRow F.Fn self.now G.seen G.moves (record { ty = cx.entry.ty; func = t; options = cx.entry.options }) cx.entry.core.now storage.old result cx.exit.0.now storage.new) }
         ensures same { cx.exit.0.now ≡ record cx.entry.core.now { state = cx.exit.0.now.state; guest = cx.exit.0.now.guest; memory = cx.exit.0.now.memory; ledger = cx.exit.0.now.ledger } }
     {
         let HostCx { core, ty, options } = cx;
@@ -86,16 +93,22 @@ impl<
     }
 }
 
-/// A function of the host.
+/// A function of the host. Contracts see its form.
 #[derive(Drop)]
 pub struct HostFunc<H> {
     h: H,
 }
 
+impl<H> Model for HostFunc<H> {
+    ghost Value = { H };
+
+    ghost view = { λ f. f.h };
+}
+
 impl<F> HostFunc<DynamicHostFn<F>> {
     /// A function over values of any types.
     pub fn func_new(f: F) -> Self
-        ensures { result.h.f ≡ f }
+        ensures { result ≡ f }
     {
         HostFunc {
             h: DynamicHostFn { f },
@@ -125,11 +138,11 @@ impl<H> HostFunc<H> {
     ) -> Result<H::Log, HostError>
     where
         H: HostFn<T, G>,
-        requires ready { H.ready self.now.h }
+        requires ready { H.ready self.now }
         requires func { HasFunc (types_of cx.core.now) cx.ty }
         requires options { HasOptions cx.core.now.component cx.options }
         requires room { HasRoomFor (types_of cx.core.now) cx.ty storage.old }
-        ensures serves { IfSome (slice_get (types_of cx.entry.core.now).funcs cx.entry.ty) (λ t. H.serves self.now.h (record { ty = cx.entry.ty; func = t; options = cx.entry.options }) cx.entry.core.now storage.old result cx.exit.0.now storage.new) }
+        ensures serves { IfSome (slice_get (types_of cx.entry.core.now).funcs cx.entry.ty) (λ t. H.serves self.now (record { ty = cx.entry.ty; func = t; options = cx.entry.options }) cx.entry.core.now storage.old result cx.exit.0.now storage.new) }
         ensures same { cx.exit.0.now ≡ record cx.entry.core.now { state = cx.exit.0.now.state; guest = cx.exit.0.now.guest; memory = cx.exit.0.now.memory; ledger = cx.exit.0.now.ledger } }
     {
         self.h.serve(alloc, cx, storage)

@@ -5,9 +5,13 @@ mod asked;
 mod conclude;
 mod error;
 mod host_func;
+mod imports;
 mod serve;
 
-pub use asked::{Asked, HostCx};
+pub use asked::{
+    Asked, HostCx, asked_of, asked_words, first_words, param_count, storage_for, storage_words,
+};
 pub use canon_context::{HostStop, HostView, MemoryView};
 pub use error::{HostError, TypecheckFailed};
 pub use host_func::{DynamicHostFn, HostFn, HostFunc};
+pub use imports::Imports;

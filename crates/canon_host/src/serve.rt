@@ -8,7 +8,7 @@ ghost use Rattle.canon_context.specs.Core.{SameButLedger, types_of};
 ghost use Rattle.canon_context.specs.Host.{Keeps};
 ghost use Rattle.canon_value.specs.declared.val.Val.TheVariants as val;
 ghost use Rattle.canon_host.specs.Asked.{HasRoom, IsAsked};
-ghost use Rattle.canon_host.specs.Serves.{Answers, Calls, LiftsAsked, ServesEntered, Serves};
+ghost use Rattle.canon_host.specs.Serves.{Answers, Calls, CallsBlank, InRow, LiftsAsked, ServesEntered, ServesInRow};
 
 use crate::asked::{params_words, value_count};
 use crate::conclude::conclude;
@@ -34,7 +34,7 @@ pub(crate) fn serve<
     requires keeps { Keeps F.Fn f.now }
     requires asked { IsAsked core.old.component asked.now }
     requires room { HasRoom (types_of core.old) asked.now storage.old }
-    ensures serves { Serves F.Fn f.now G.seen G.moves asked.now core.old storage.old result core.new storage.new }
+    ensures serves { ServesInRow F.Fn f.now G.seen G.moves asked.now core.old storage.old result core.new storage.new }
     ensures same { core.new ≡ record core.old { state = core.new.state; guest = core.new.guest; memory = core.new.memory; ledger = core.new.ledger } }
 {
     match core.enter() {
@@ -58,7 +58,7 @@ fn serve_entered<
     requires keeps { Keeps F.Fn f.now }
     requires asked { IsAsked core.old.component asked.now }
     requires room { HasRoom (types_of core.old) asked.now storage.old }
-    ensures serves { ServesEntered F.Fn f.now G.seen G.moves asked.now core.old storage.old result core.new storage.new }
+    ensures serves { InRow (λ told. ServesEntered (CallsBlank F.Fn f.now asked.now) G.seen G.moves asked.now core.old storage.old told core.new storage.new) result }
     ensures same { core.new ≡ record core.old { state = core.new.state; guest = core.new.guest; memory = core.new.memory; ledger = core.new.ledger } }
 {
     match lift(alloc, core, asked, storage) {
@@ -100,7 +100,7 @@ fn answer<
     requires keeps { Keeps F.Fn f.now }
     requires asked { IsAsked core.old.component asked.now }
     requires room { HasRoom (types_of core.old) asked.now storage.old }
-    ensures answers { Answers F.Fn f.now G.seen G.moves asked.now core.old params.items storage.old result core.new storage.new }
+    ensures answers { InRow (λ told. Answers (CallsBlank F.Fn f.now asked.now) G.seen G.moves asked.now core.old params.items storage.old told core.new storage.new) result }
     ensures same { core.new ≡ record core.old { state = core.new.state; guest = core.new.guest; memory = core.new.memory; ledger = core.new.ledger } }
 {
     let given = params.len();

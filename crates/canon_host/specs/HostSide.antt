@@ -1,0 +1,30 @@
+-- What a host has beside its guest.
+use Rattle.std.specs.Prelude.{List, Option, ℕ}
+use Rattle.canon_ledger.specs.Ledger.{LedgerState}
+use Rattle.canon_context.specs.Core.{Parts}
+use Rattle.canon_value.specs.declared.val.Val.{Val}
+
+-- an ask that was served: the number of its import, its parameters and its results
+pub record Entry : Type 0 where
+  pub index : ℕ
+  pub params : List Val
+  pub results : List Val
+
+abbrev pub entry : ℕ → List Val → List Val → Entry
+entry index params results = record { index = index; params = params; results = results }
+
+-- What the function of an import may give: by the asks that were served before, its number, the data of the store, its parameters, its
+-- results, and the data after the ask.
+abbrev pub Giving : Type 0 → Type 1
+Giving T = List Entry → ℕ → T → List Val → List Val → T → Type 0
+
+-- The data of a store, the ledger of its handles, and what its imports tell: the asks that they served, if they tell them, and how often
+-- they refused one for no fault.
+pub record HostSide (T : Type 0) : Type 0 where
+  pub state : T
+  pub ledger : LedgerState
+  pub log : Option (List Entry)
+  pub refusals : ℕ
+
+abbrev pub host_side : {T G : Type 0} → Parts T G → Option (List Entry) → ℕ → HostSide T
+host_side core log refusals = record { state = core.state; ledger = core.ledger; log = log; refusals = refusals }

@@ -1,0 +1,53 @@
+//! The imports of a component.
+
+ghost use Rattle.std.specs.Prelude.{◌≡◌, ◌≤◌, IfSome, List, Option, slice_get, ℕ};
+ghost use Rattle.canon_types.specs.Table.{HasFunc};
+ghost use Rattle.canon_context.specs.Component.{HasOptions};
+ghost use Rattle.canon_context.specs.Core.{types_of};
+ghost use Rattle.canon_value.specs.declared.val.Val.{Val};
+ghost use Rattle.canon_host.specs.Asked.{HasRoomFor};
+ghost use Rattle.canon_host.specs.HostSide.{Entry};
+ghost use Rattle.canon_host.specs.Imports.{ServesImport};
+
+use crate::{HostCx, HostError};
+use canon_memory::{Guest, ValRaw};
+use std::alloc::Global;
+
+/// The functions that a component imports, over data of the type `T` and a guest of the type `G`.
+pub trait Imports<T, G: Guest> {
+    /// Plain data that no call changes.
+    type Plan;
+
+    /// They may be called, and keep what they must.
+    ghost ready: { Self → Type 0 };
+
+    ghost plan: { Self → Self.Plan };
+
+    /// The asks that were served, where they are told.
+    ghost log: { Self → Option (List Entry) };
+
+    /// How many asks were refused for no fault.
+    ghost refusals: { Self → ℕ };
+
+    /// By this plan and the log so far, the function of an import may give these results for the data of the store and these parameters,
+    /// also where the results aren't of their types, and leave this data.
+    ghost gives: { Self.Plan → List Entry → ℕ → T → List Val → List Val → T → Type 0 };
+
+    /// Serves one ask of the import of this number.
+    fn serve(
+        &mut self,
+        alloc: Global,
+        n: u32,
+        cx: HostCx<'_, T, G>,
+        storage: &mut [ValRaw],
+    ) -> Result<(), HostError>
+        requires ready { ready self.old }
+        requires func { HasFunc (types_of cx.core.now) cx.ty }
+        requires options { HasOptions cx.core.now.component cx.options }
+        requires room { HasRoomFor (types_of cx.core.now) cx.ty storage.old }
+        ensures still_ready { ready self.new }
+        ensures plan { plan self.new ≡ plan self.old }
+        ensures refusals { refusals self.old ≤ refusals self.new }
+        ensures serves { IfSome (slice_get (types_of cx.entry.core.now).funcs cx.entry.ty) (λ t. ServesImport (gives (plan self.old)) (log self.old) n G.seen G.moves (record { ty = cx.entry.ty; func = t; options = cx.entry.options }) (log self.new) (refusals self.old) (refusals self.new) cx.entry.core.now storage.old result cx.exit.0.now storage.new) }
+        ensures same { cx.exit.0.now ≡ record cx.entry.core.now { state = cx.exit.0.now.state; guest = cx.exit.0.now.guest; memory = cx.exit.0.now.memory; ledger = cx.exit.0.now.ledger } };
+}
