@@ -1,10 +1,10 @@
 -- Imports whose functions are called by `entrypoint`.
-use Rattle.std.proofs.Common.{Err, List, Ok, Option, Result, Some, Vec, ap, length, refl, subst₂, sym, ℕ, ◌++◌, ◌∙◌, ◌≡◌}
+use Rattle.std.proofs.Common.{Err, List, None, Ok, Option, Result, Some, Vec, ap, length, subst₂, sym, ℕ, ◌++◌, ◌∙◌, ◌≡◌}
 use Rattle.std.proofs.Math.Seq.{drop-append_seam, take-append_seam}
 use Rattle.std.specs.Prelude.{IfSome, drop, take}
 use Rattle.std.specs.declared.alloc.Global.{Global}
 use Rattle.canon_context.specs.Core.{Parts, types_of}
-use Rattle.canon_context.specs.Host.{Closure, Returns}
+use Rattle.canon_context.specs.Host.{Closure}
 use Rattle.canon_context.specs.declared.host.HostStop.{HostStop}
 use Rattle.canon_context.specs.declared.host.HostView.{HostView}
 use Rattle.canon_memory.specs.Guest.{GuestIn, Seen}

@@ -16,25 +16,25 @@ use Rattle.canon_ledger.specs.declared.fault.ResourceFault.{ResourceFault}
 use Rattle.canon_ledger.specs.declared.fault.ResourceFault.TheVariants as fault
 
 module _ (h : Handles) (scopes : List OpenScope) (same : h.scopes ≡ scopes) where
-  undone_keeps : (r : StepAnswer (Unit {0})) → IfOk r (λ w. w.1.scopes ≡ scopes) → (undone h r).scopes ≡ scopes
+  pub undone_keeps : (r : StepAnswer (Unit {0})) → IfOk r (λ w. w.1.scopes ≡ scopes) → (undone h r).scopes ≡ scopes
   undone_keeps (Ok (u, m)) e = e
   undone_keeps (Err x) e = same
 
-  undo_keeps : (lender : Lender) → (undone h (on_table h lender.table (raw_index lender.index) (λ t c. resource_undo_lend t c lender.index))).scopes ≡ scopes
+  pub undo_keeps : (lender : Lender) → (undone h (on_table h lender.table (raw_index lender.index) (λ t c. resource_undo_lend t c lender.index))).scopes ≡ scopes
   undo_keeps lender = undone_keeps (on_table h lender.table (raw_index lender.index) (λ t c. resource_undo_lend t c lender.index))
       (if_ok-finished (λ (w : Unit {0} × Handles). w.1.scopes ≡ scopes) h lender.table (raw_index lender.index) _ (if_ok_always _ _ (λ (a : Unit {0} × Table Entry × Counter). same)))
 
 -- ---- the end of a scope
 
-err_is : {A : Type 0} (d e : ResourceFault) → ◌≡◌ {A = Result A ResourceFault} (Err d) (Err e) → d ≡ e
+pub err_is : {A : Type 0} (d e : ResourceFault) → ◌≡◌ {A = Result A ResourceFault} (Err d) (Err e) → d ≡ e
 err_is d e h = cc
 
-given_back : (lenders : List Lender) (h : Handles) (scopes : List OpenScope) → h.scopes ≡ scopes → (give_back lenders h).scopes ≡ scopes
+pub given_back : (lenders : List Lender) (h : Handles) (scopes : List OpenScope) → h.scopes ≡ scopes → (give_back lenders h).scopes ≡ scopes
 given_back [] h scopes same = same
 given_back (lender ∷ lenders) h scopes same = given_back lenders _ scopes (undo_keeps h scopes same lender)
 
 -- the top one is empty
-abbrev HasEmptyTop : Handles → Type 0
+abbrev pub HasEmptyTop : Handles → Type 0
 HasEmptyTop h = (0 < length h.scopes) × (scope_at h (length h.scopes - 1) ≡ no_scope)
 
 emptied : (h m : Handles) (k : ℕ) → k < length h.scopes → k ≡ length h.scopes - 1 → m.scopes ≡ (with_scope h k no_scope).scopes → HasEmptyTop m
@@ -44,11 +44,11 @@ emptied h m k within is same =
       ap (λ n. scope_at m (n - 1)) count ∙ (ap (λ n. scope_at m n) (sym is) ∙ (ap (λ scopes. scope_at (record { tables = m.tables; counter = m.counter; scopes = scopes }) k) same ∙ get_or-set_same h.scopes k no_scope no_scope within)),
     )
 
-exit_refused : (h : Handles) (k : ℕ) (b : Bool) (answer : StepAnswer (Unit {0})) (l m : LedgerState) → plainly (refuse_if b fault.BorrowsRemain answer) l ≡ record { answer = Ok tt; after = m } → refuse_if b fault.BorrowsRemain answer ≡ answer
+pub exit_refused : (h : Handles) (k : ℕ) (b : Bool) (answer : StepAnswer (Unit {0})) (l m : LedgerState) → plainly (refuse_if b fault.BorrowsRemain answer) l ≡ record { answer = Ok tt; after = m } → refuse_if b fault.BorrowsRemain answer ≡ answer
 exit_refused h k true answer l m e = absurd (let w = ap (λ (d : Done (Unit {0})). d.answer) e in cc)
 exit_refused h k false answer l m e = refl
 
-some_if : (b : Bool) (n k : ℕ) → Some k ≡ (if b then Some n else None) → (k ≡ n) × (b ≡ true)
+pub some_if : (b : Bool) (n k : ℕ) → Some k ≡ (if b then Some n else None) → (k ≡ n) × (b ≡ true)
 some_if true n k e = (cc, refl)
 some_if false n k e = absurd (cc)
 
@@ -66,10 +66,10 @@ exit_top : (l m : LedgerState) (b : Bool) → plainly (exit_scope (opened l.hand
 exit_top l m true e = absurd (let w = ap (λ (d : Done (Unit {0})). d.answer) e in cc)
 exit_top l m false e = exit_at l m _ (length l.handles.scopes - 1) refl refl e
 
-ended_empty : (l m : LedgerState) → validate_scope_exit (top_scope l.handles) l ≡ record { answer = Ok tt; after = m } → HasEmptyTop m.handles
+pub ended_empty : (l m : LedgerState) → validate_scope_exit (top_scope l.handles) l ≡ record { answer = Ok tt; after = m } → HasEmptyTop m.handles
 ended_empty l m e = exit_top l m (length l.handles.scopes == 0) e
 
-empty_leaves : (h : Handles) → HasEmptyTop h → can_leave h ≡ true
+pub empty_leaves : (h : Handles) → HasEmptyTop h → can_leave h ≡ true
 empty_leaves h e = ap (λ b. b && is_empty_scope (scope_at h (length h.scopes - 1))) (lt-ltb 0 (length h.scopes) e.0) ∙ ap is_empty_scope e.1
 
 pub ended_leaves : (l m : LedgerState) → DidSurely (validate_scope_exit (top_scope l.handles) l) (Ok tt) m → can_leave m.handles ≡ true

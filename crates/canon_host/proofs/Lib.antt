@@ -1,4 +1,4 @@
 pub mod Counts
 pub mod Importing
-mod Leaving
+pub mod Leaving
 pub mod Serving

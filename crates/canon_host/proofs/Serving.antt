@@ -153,15 +153,15 @@ module _ {T G : Type 0} (C : Calling T G) (seen : G → Seen) (moves : GuestIn G
   told_count before after words words2 told h = ap length h.3.1 ∙ params_count (record before { ledger = enter before.ledger }) h.1 words h.0 h.2
 
 -- of the type that was found
-pub found_serves : {F T G : Type 0} (g : Closure F (HostView T) Val (Result (Unit {0}) HostStop)) (f : F) (seen : G → Seen) (moves : GuestIn G → List Event → GuestIn G → Type 0) (asked : Asked)
-    (ty options : ℕ) (before made after : Parts T G) (words words2 words3 : List ℕ) (r : Result (Vec Val Global) HostError) (o : Option TypeFunc) → o ≡ Some asked.func → asked.ty ≡ ty → asked.options ≡ options
+pub found_serves : {F T G : Type 0} (g : Closure F (HostView T) Val (Result (Unit {0}) HostStop)) (f f2 : F) (seen : G → Seen) (moves : GuestIn G → List Event → GuestIn G → Type 0) (asked : Asked)
+    (ty options : ℕ) (before made after : Parts T G) (words words2 words3 : List ℕ) (r : Result (Vec Val Global) HostError) (o : Option TypeFunc) → f ≡ f2 → o ≡ Some asked.func → asked.ty ≡ ty → asked.options ≡ options
     → ServesInRow g f seen moves asked before words r made words2 → after ≡ made → words3 ≡ words2
-    → IfSome o (λ t. ServesInRow g f seen moves (record { ty = ty; func = t; options = options }) before words r after words3)
-found_serves g f seen moves asked ty options before made after words words2 words3 r o found ety eopt h ea ew =
-    let told : ServesInRow g f seen moves (record { ty = ty; func = asked.func; options = options }) before words r made words2 =
-    subst₂ (λ a b. ServesInRow g f seen moves (record { ty = a; func = asked.func; options = b }) before words r made words2) ety eopt h in
-    subst (λ p. IfSome p (λ t. ServesInRow g f seen moves (record { ty = ty; func = t; options = options }) before words r after words3)) (sym found)
-    (subst₂ (λ k ws. ServesInRow g f seen moves (record { ty = ty; func = asked.func; options = options }) before words r k ws) (sym ea) (sym ew) told)
+    → IfSome o (λ t. ServesInRow g f2 seen moves (record { ty = ty; func = t; options = options }) before words r after words3)
+found_serves g f f2 seen moves asked ty options before made after words words2 words3 r o ef found ety eopt h ea ew =
+    let told : ServesInRow g f2 seen moves (record { ty = ty; func = asked.func; options = options }) before words r made words2 =
+    subst₂ (λ a b. ServesInRow g f2 seen moves (record { ty = a; func = asked.func; options = b }) before words r made words2) ety eopt (subst (λ x. ServesInRow g x seen moves asked before words r made words2) ef h) in
+    subst (λ p. IfSome p (λ t. ServesInRow g f2 seen moves (record { ty = ty; func = t; options = options }) before words r after words3)) (sym found)
+    (subst₂ (λ k ws. ServesInRow g f2 seen moves (record { ty = ty; func = asked.func; options = options }) before words r k ws) (sym ea) (sym ew) told)
 
 -- ---- the data of the host
 

@@ -4,7 +4,6 @@ use Rattle.canon_model.specs.Flat.{max_results}
 use Rattle.canon_model.specs.Layout.{members_flat}
 use Rattle.canon_model.specs.Shape.{Members}
 use Rattle.canon_types.specs.Table.{HasTuple, Table, param_members, result_members}
-use Rattle.canon_types.specs.declared.types.TypeFunc.{TypeFunc}
 use Rattle.canon_context.specs.Component.{HasOptions}
 use Rattle.canon_context.specs.declared.component.Component.{Component}
 use Rattle.canon_value.specs.Args.{args_words}

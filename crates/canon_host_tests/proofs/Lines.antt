@@ -1,6 +1,6 @@
 -- The entries of lines, and asks that are answered by numbers.
-use Rattle.std.proofs.Common.{Err, List, None, Ok, Option, Result, Some, [], Vec, ap, inl, inr, refl, ℕ, ◌++◌, ◌∙◌, ◌∷◌, ◌≡◌}
-use Rattle.std.specs.Prelude.{IfSome}
+use Rattle.std.proofs.Common.{Err, List, None, Ok, Option, Result, Some, [], Vec, ap, inl, inr, length, refl, suc, sym, ℕ, ◌++◌, ◌∙◌, ◌∷◌, ◌≡◌}
+use Rattle.std.specs.Prelude.{IfSome, slice_get}
 use Rattle.std.specs.declared.alloc.Global.{Global}
 use Rattle.canon_context.specs.Core.{Parts, types_of}
 use Rattle.canon_context.specs.declared.fault.Fault.{Fault}
@@ -13,8 +13,7 @@ use Rattle.canon_types.specs.Table.{param_members}
 use Rattle.canon_types.specs.declared.types.TypeFunc.{TypeFunc}
 use Rattle.canon_value.specs.declared.val.Val.{Val}
 use Rattle.canon_host.proofs.Importing.{asked_by, entry_in_row}
-use Rattle.canon_host.specs.HostSide.{Entry}
-use Rattle.canon_host.specs.Imports.{ServesImport, ServesWith, entry_of}
+use Rattle.canon_host.specs.Imports.{ServesImport, ServesWith}
 use Rattle.canon_host.specs.Serves.{InRow}
 use Rattle.canon_host.specs.declared.error.HostError.{HostError}
 use Rattle.canon_host.specs.declared.error.HostError.TheVariants as error
@@ -24,6 +23,14 @@ use Rattle.canon_host_tests.specs.declared.answers.Line.{Line}
 entries_more : (lines : List Line) (l : Line) → entries_of (lines ++ l ∷ []) ≡ entries_of lines ++ line_entry l ∷ []
 entries_more [] l = refl
 entries_more (k ∷ lines) l = ap (λ es. line_entry k ∷ es) (entries_more lines l)
+
+entries_length : (lines : List Line) → length (entries_of lines) ≡ length lines
+entries_length [] = refl
+entries_length (k ∷ lines) = ap suc (entries_length lines)
+
+-- the number of the next ask, by the entries
+pub next_of : (numbers : List ℕ) (lines lines2 : List Line) (number : Option ℕ) → number ≡ slice_get numbers (length lines2) → lines2 ≡ lines → number ≡ slice_get numbers (length (entries_of lines))
+next_of numbers lines lines2 number is same = is ∙ ap (λ k. slice_get numbers k) (ap (λ (ls : List Line). length ls) same ∙ sym (entries_length lines))
 
 module _ {T G : Type 0} (numbers : List ℕ) (lines lines2 : List Line) (n : ℕ) (seen : G → Seen) (moves : GuestIn G → List Event → GuestIn G → Type 0) (ty options r r2 : ℕ) (before after : Parts T G) (words words2 : List ℕ) where
   -- what was done, as told of its values in a row

@@ -82,21 +82,19 @@ fn answer_by<T, G: Guest>(
         → IfSome (slice_get (types_of cx.entry.core.now).funcs cx.entry.ty) (λ t. InRow (λ told. ServesWith (GivesNumber numbers) (Some log) n G.seen G.moves (record { ty = cx.entry.ty; func = t; options = cx.entry.options }) cx.entry.core.now storage.old told cx.exit.0.now storage.new) result) }
     ensures same { cx.exit.0.now ≡ record cx.entry.core.now { state = cx.exit.0.now.state; guest = cx.exit.0.now.guest; memory = cx.exit.0.now.memory; ledger = cx.exit.0.now.ledger } }
 {
-    let func = HostFunc::func_new(
-        move |_view: &mut HostView<'_, '_, T>,
-              _ty: &TypeFunc,
-              _params: &[Val],
-              results: &mut [Val]|
-              -> Result<(), HostStop> {
-            let Some(number) = number else {
-                return Err(HostStop::Refused);
-            };
-            if let Some(slot) = results.first_mut() {
-                *slot = Val::U32(number);
-            }
-            Ok(())
-        },
-    );
+    let func = HostFunc::func_new(move |_view: &mut HostView<
+        '_,
+        '_,
+        T,
+    >, _ty: &TypeFunc, _params: &[Val], results: &mut [Val]| -> Result<(), HostStop> {
+        let Some(number) = number else {
+            return Err(HostStop::Refused);
+        };
+        if let Some(slot) = results.first_mut() {
+            *slot = Val::U32(number);
+        }
+        Ok(())
+    });
     answer_with(&func, number, alloc, cx, storage)
 }
 
@@ -141,8 +139,10 @@ impl<T, G: Guest> Imports<T, G> for Answers {
         if self.lines.reserve(1).is_err() {
             return Err(HostError::Fault(Fault::OutOfMemory));
         }
-        let given = param_count(cx.core.component().types.types(), cx.ty);
+        let HostCx { core, ty, options } = cx;
+        let given = param_count(core.component().types.types(), ty);
         let number = self.next();
+        let cx = HostCx { core, ty, options };
         let values = match answer_by(number, alloc, cx, storage) {
             Ok(values) => values,
             Err(HostError::Refused) => {

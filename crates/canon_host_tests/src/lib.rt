@@ -2,7 +2,6 @@
 #![tactic(auto)]
 
 mod answers;
-
 #[cfg(test)]
 mod tests;
 

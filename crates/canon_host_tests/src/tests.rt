@@ -89,6 +89,9 @@ fn core_of(alloc: Global, types: ComponentTypes) -> Result<Core<u64, Trapper>, F
         exports: Vec::new(alloc),
         imports: Vec::new(alloc),
     };
+    if !component.check() {
+        return Err(Fail::from("an index is outside its table"));
+    }
     let guest = Trapper { traps: 0 };
     let memory = Memory::new(alloc, 65_536)?;
     let core = Core::new(alloc, id, 0, guest, memory, component, 8, 1_000_000)?;
