@@ -1,5 +1,5 @@
 -- A component: each index is inside its table.
-use Rattle.std.specs.Prelude.{ℕ, ◌<◌, length, All, Option, None, Some, slice_get}
+use Rattle.std.specs.Prelude.{ℕ, ◌<◌, ◌≡◌, length, false, All, IfSome, Option, None, Some, slice_get}
 use Rattle.canon_model.specs.Text.{Encoding, utf8}
 use Rattle.canon_indices.specs.declared.options.CanonicalOptions.{CanonicalOptions}
 use Rattle.canon_indices.specs.Options.{encoding_of}
@@ -16,14 +16,18 @@ pub record IsInside (component : Component) (export : Export) : Type 0 where
   pub func : HasFunc component.types.types export.ty
   pub options : HasOptions component export.options
 
--- the resource type whose handles an import is a call on
-abbrev pub resource_of : Import → ℕ
-resource_of (import.ResourceNew t) = t
-resource_of (import.ResourceRep t) = t
-resource_of (import.ResourceDrop t) = t
+-- a function of the host: it is of a function type under options, neither of which is async
+pub record IsHostImport (component : Component) (type o : ℕ) : Type 0 where
+  pub func : HasFunc component.types.types type
+  pub sync : IfSome (slice_get component.types.types.funcs type) (λ f. f.async_ ≡ false)
+  pub options : HasOptions component o
+  pub sync_options : IfSome (slice_get component.options.items o) (λ f. f.async_ ≡ false)
 
 abbrev pub IsImport : Component → Import → Type 0
-IsImport component i = HasResource component.types.types (resource_of i)
+IsImport component (import.Host type options) = IsHostImport component type options
+IsImport component (import.ResourceNew t) = HasResource component.types.types t
+IsImport component (import.ResourceRep t) = HasResource component.types.types t
+IsImport component (import.ResourceDrop t) = HasResource component.types.types t
 
 abbrev pub IsComponent : Component → Type 0
 IsComponent component = All (IsInside component) component.exports.items × All (IsImport component) component.imports.items

@@ -1,5 +1,5 @@
 ghost use Rattle.std.specs.Prelude.{◌≡◌, ◌↔◌, All, IsTrue};
-ghost use Rattle.canon_context.specs.Component.{IsComponent, IsImport, IsInside, resource_of};
+ghost use Rattle.canon_context.specs.Component.{IsComponent, IsHostImport, IsImport, IsInside};
 
 use canon_types::{
     CanonicalOptions, InstanceType, InterfaceType, OptionsIndex, TypeFuncIndex,
@@ -14,9 +14,14 @@ pub struct Export {
     pub options: OptionsIndex,
 }
 
-/// What a component's core functions may ask for by its number: a call on the handles of a resource type.
+/// What a component's core functions may ask for by its number: a function of the host, or a call on the handles of a resource type.
 #[derive(Clone, Copy, Debug, PartialEq, Eq)]
 pub enum Import {
+    /// A function of the host, of a function type under options (CanonicalABI.md, "canon lower").
+    Host {
+        ty: TypeFuncIndex,
+        options: OptionsIndex,
+    },
     /// A new own handle of a representation (CanonicalABI.md, "canon resource.new").
     ResourceNew(TypeResourceTableIndex),
     /// The representation of a handle (CanonicalABI.md, "canon resource.rep").
@@ -24,17 +29,6 @@ pub enum Import {
     /// The end of a handle (CanonicalABI.md, "canon resource.drop"). The guest runs the destructor itself: it gets
     /// `2 * rep + 1` where there is a representation to end, else 0.
     ResourceDrop(TypeResourceTableIndex),
-}
-
-impl Import {
-    /// The resource type whose handles it is a call on.
-    pub fn resource(&self) -> TypeResourceTableIndex
-        ensures { result ≡ resource_of self.now }
-    {
-        match *self {
-            Import::ResourceNew(ty) | Import::ResourceRep(ty) | Import::ResourceDrop(ty) => ty,
-        }
-    }
 }
 
 /// What a component has: its types, the options of its functions, its exports, and its imports.
@@ -47,7 +41,8 @@ pub struct Component {
 }
 
 impl Component {
-    /// Whether all indexes of its exports and imports are inside their tables. It is a condition of `Core::new`.
+    /// Whether all indexes of its exports and imports are inside their tables, and no function of the host is async, by its type
+    /// or its options. It is a condition of `Core::new`.
     pub fn check(&self) -> bool
         ensures { IsTrue result ↔ IsComponent self.now }
     {
@@ -68,7 +63,29 @@ impl Component {
     fn has_imports(&self) -> bool
         ensures { IsTrue result ↔ All (IsImport self.now) self.now.imports.items }
     {
+        self.imports.iter().all(|import| self.has_import(import))
+    }
+
+    // Whether an import's are.
+    fn has_import(&self, import: &Import) -> bool
+        ensures { IsTrue result ↔ IsImport self.now import.now }
+    {
+        match *import {
+            Import::Host { ty, options } => self.has_host_import(ty, options),
+            Import::ResourceNew(ty) | Import::ResourceRep(ty) | Import::ResourceDrop(ty) => {
+                self.types.types().contains(&InterfaceType::Own(ty))
+            }
+        }
+    }
+
+    // Whether those of a function of the host are, and it isn't async.
+    fn has_host_import(&self, ty: TypeFuncIndex, options: OptionsIndex) -> bool
+        ensures { IsTrue result ↔ IsHostImport self.now ty options }
+    {
         let types = self.types.types();
-        self.imports.iter().all(|import| types.contains(&InterfaceType::Own(import.resource())))
+        let Some(options) = self.options.get(options.as_u32() as usize) else {
+            return false;
+        };
+        types.contains_func(ty) && !types.func(ty).async_ && !options.async_
     }
 }

@@ -7,12 +7,12 @@ ghost use Rattle.canon_model.specs.Shape.{member_count, of_places, product};
 ghost use Rattle.canon_lowering.specs.Attempt.{StoresMembers};
 ghost use Rattle.canon_types.specs.Table.{HasTuple, tuple_members};
 ghost use Rattle.canon_value.specs.Args.{IsArea, IsNoArea, LowersResults};
-ghost use Rattle.canon_value.specs.Resources.{Crosses, PartsLower, all_passes};
+ghost use Rattle.canon_value.specs.Resources.{Crosses, PartsLower, QuietBut, all_passes};
 ghost use Rattle.canon_context.specs.Core.{encoding_by, guest_of, moment_of, types_of};
 ghost use Rattle.canon_value.specs.Fails.{AreSmall, BlamesMembers};
 ghost use Rattle.canon_context.specs.Lowers.{ending_of};
 ghost use Rattle.canon_context.specs.Moves.{Moves};
-ghost use Rattle.canon_context.specs.Quiet.{have_handle};
+ghost use Rattle.canon_context.specs.Quiet.{Quiet, have_block, have_handle};
 ghost use Rattle.canon_context.specs.Asks.{SameButHandles};
 ghost use Rattle.canon_value.specs.Value.{HaveTrees};
 
@@ -68,6 +68,11 @@ pub fn lower_results<T, G: Guest>(
         cx.old.core.now.ledger cx.new.core.now.ledger result }
     ensures cause { IfErr result (BlamesMembers (encoding_by cx.old.core.now cx.old.options) (tuple_members (types_of cx.old.core.now) ty) results.now) }
     ensures small { OnOk result (AreSmall (encoding_by cx.old.core.now cx.old.options) (tuple_members (types_of cx.old.core.now) ty) results.now) }
+    ensures quiet { QuietBut (have_handle (tuple_members (types_of cx.old.core.now) ty)) (all_passes (tuple_members (types_of cx.old.core.now) ty) results.now) (have_block (tuple_members (types_of cx.old.core.now) ty))
+        (cx.new.core.now.guest ≡ cx.old.core.now.guest) result }
+    ensures quiet_near { members_flat (tuple_members (types_of cx.old.core.now) ty) ≤ max_results →
+        QuietBut (have_handle (tuple_members (types_of cx.old.core.now) ty)) (all_passes (tuple_members (types_of cx.old.core.now) ty) results.now) (have_block (tuple_members (types_of cx.old.core.now) ty))
+        (cx.new.core.now ≡ record cx.old.core.now { ledger = cx.new.core.now.ledger }) result }
     ensures moves { Moves G.seen G.moves (guest_of cx.old.core.now) (guest_of cx.new.core.now) (ending_of result) }
     ensures same_core { SameButHandles cx.old.core.now cx.new.core.now }
     ensures same_reference { cx.new.core.ghost_name ≡ cx.old.core.ghost_name }
@@ -96,6 +101,9 @@ fn lower_results_by_size<T, G: Guest>(
         (tuple_members (types_of cx.old.core.now) ty) (HaveTrees (tuple_members (types_of cx.old.core.now) ty) results.now) at dst.new hs (ending_of result)) result }
     ensures cause { IfErr result (BlamesMembers (encoding_by cx.old.core.now cx.old.options) (tuple_members (types_of cx.old.core.now) ty) results.now) }
     ensures small { OnOk result (AreSmall (encoding_by cx.old.core.now cx.old.options) (tuple_members (types_of cx.old.core.now) ty) results.now) }
+    ensures quiet { Quiet (have_block (tuple_members (types_of cx.old.core.now) ty)) (cx.new.core.now.guest ≡ cx.old.core.now.guest) result }
+    ensures quiet_near { members_flat (tuple_members (types_of cx.old.core.now) ty) ≤ max_results →
+        Quiet (have_block (tuple_members (types_of cx.old.core.now) ty)) (cx.new.core.now ≡ record cx.old.core.now { ledger = cx.new.core.now.ledger }) result }
     ensures moves { Moves G.seen G.moves (guest_of cx.old.core.now) (guest_of cx.new.core.now) (ending_of result) }
     ensures same_core { SameButHandles cx.old.core.now cx.new.core.now }
     ensures same_reference { cx.new.core.ghost_name ≡ cx.old.core.ghost_name }
@@ -124,6 +132,7 @@ fn store_results<T, G: Guest>(
         (tuple_members (types_of cx.old.core.now) ty) 0 at (HaveTrees (tuple_members (types_of cx.old.core.now) ty) results.now) hs (ending_of result)) result }
     ensures cause { IfErr result (BlamesMembers (encoding_by cx.old.core.now cx.old.options) (tuple_members (types_of cx.old.core.now) ty) results.now) }
     ensures small { OnOk result (AreSmall (encoding_by cx.old.core.now cx.old.options) (tuple_members (types_of cx.old.core.now) ty) results.now) }
+    ensures quiet { Quiet (have_block (tuple_members (types_of cx.old.core.now) ty)) (cx.new.core.now.guest ≡ cx.old.core.now.guest) result }
     ensures moves { Moves G.seen G.moves (guest_of cx.old.core.now) (guest_of cx.new.core.now) (ending_of result) }
     ensures same_core { SameButHandles cx.old.core.now cx.new.core.now }
     ensures same_reference { cx.new.core.ghost_name ≡ cx.old.core.ghost_name }

@@ -1,9 +1,9 @@
 use Rattle.std.proofs.Common.{refl}
 use Rattle.canon_context.proofs.Moves.{GuestLaws}
 use Rattle.canon_context.specs.Core.{encoding_by, guest_of, moment_of, types_of}
-use Rattle.canon_context.specs.Quiet.{have_handle}
+use Rattle.canon_context.specs.Quiet.{have_block, have_handle}
 use Rattle.canon_types.specs.Table.{tuple_members}
-use Rattle.canon_value.proofs.Crossing.{crossed, told_blames, told_moves}
+use Rattle.canon_value.proofs.Crossing.{crossed, quiet_but, told_blames, told_moves}
 use Rattle.canon_value.proofs.PassesOf.{no_row_passes}
 use Rattle.canon_value.specs.Args.{LowersResults}
 use Rattle.canon_value.specs.Fails.{MemberFails}
@@ -35,3 +35,27 @@ pub returns-in-Err-clause-moves : goal.returns-in-Err-clause-moves
 returns-in-Err-clause-moves g c =
     let L : GuestLaws _ = record { seen = g.G.Guest.seen; moves = g.G.Guest.moves; stays = g.met.G.Guest.stays; goes_on = g.met.G.Guest.goes_on } in
     told_moves L (guest_of c.args.cx.now.core.now) (guest_of c.lower_results_by_size.new.cx.core.now) c.in-Err.fault c.told.result c.told.ensures c.in-Err.ensures.moves
+
+pub returns-in-Ok-clause-quiet : goal.returns-in-Ok-clause-quiet
+returns-in-Ok-clause-quiet g c = λ none. c.in-Ok.ensures.quiet none
+
+pub returns-in-Ok-clause-quiet_near : goal.returns-in-Ok-clause-quiet_near
+returns-in-Ok-clause-quiet_near g c = λ near none. c.in-Ok.ensures.quiet_near near none
+
+pub returns-in-Err-clause-quiet : goal.returns-in-Err-clause-quiet
+returns-in-Err-clause-quiet g c =
+    let a = c.args in
+    let core = a.cx.now.core.now in
+    let ms = tuple_members (types_of core) a.ty in
+    let h = c.in-Err.ensures in
+    quiet_but core.component.types (have_handle ms) (all_passes ms a.results.now) (no_row_passes ms a.results.now) core.ledger c.lower_results_by_size.new.cx.core.now.ledger c.in-Err.fault h.lowered.passed (have_block ms) _
+    c.told.result c.told.ensures h.quiet
+
+pub returns-in-Err-clause-quiet_near : goal.returns-in-Err-clause-quiet_near
+returns-in-Err-clause-quiet_near g c =
+    let a = c.args in
+    let core = a.cx.now.core.now in
+    let ms = tuple_members (types_of core) a.ty in
+    let h = c.in-Err.ensures in
+    λ near. quiet_but core.component.types (have_handle ms) (all_passes ms a.results.now) (no_row_passes ms a.results.now) core.ledger c.lower_results_by_size.new.cx.core.now.ledger c.in-Err.fault h.lowered.passed (have_block ms) _
+    c.told.result c.told.ensures (h.quiet_near near)

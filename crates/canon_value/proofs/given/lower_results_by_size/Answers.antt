@@ -1,8 +1,8 @@
-use Rattle.std.proofs.Common.{◌≡◌, ◌∙◌, arith, sym}
+use Rattle.std.proofs.Common.{◌≡◌, ◌∙◌, ap, arith, sym}
 use Rattle.canon_model.specs.Shape.{of_places, product}
 use Rattle.canon_types.specs.Table.{shape_of, tuple_members}
 use Rattle.canon_types.specs.declared.types.InterfaceType.TheVariants as ty
-use Rattle.canon_context.specs.Core.{types_of}
+use Rattle.canon_context.specs.Core.{Parts, types_of}
 use Rattle.canon_value.proofs.Far.{tuple_shape_of_now}
 use Rattle.canon_value.proofs.Givens.{more_than_one, one_or_none}
 use Rattle.canon_value.proofs.given.lower_results_by_size.Given.{Over}
@@ -33,3 +33,15 @@ returns-else-is_some-clause-lowered g c =
     more_than_one _ _ c.flat_count.result c.from.result (shape g (goal.at.returns-else-is_some-clause-lowered g c).After-tuple) c.from.ensures (c.flat_count.ensures.words _ c.tuple.ensures.abi) (sym c.is_some.ensures ∙ c.if-is_some.false) in
     let low = c.store_results.ensures.stored in
     record { handles = low.handles; lowered = record { near = λ near. absurd (omega (arith, near, far)); far = λ _. low.lowered }; passed = low.passed }
+
+pub returns-then-is_some-clause-quiet : goal.returns-then-is_some-clause-quiet
+returns-then-is_some-clause-quiet g c = λ none. let (same, why) = c.lower_results_near.ensures.quiet none in (ap (λ (x : Parts _ _). x.guest) same, why)
+
+pub returns-then-is_some-clause-quiet_near : goal.returns-then-is_some-clause-quiet_near
+returns-then-is_some-clause-quiet_near g c = λ near. c.lower_results_near.ensures.quiet
+
+pub returns-else-is_some-clause-quiet_near : goal.returns-else-is_some-clause-quiet_near
+returns-else-is_some-clause-quiet_near g c =
+    let far =
+    more_than_one _ _ c.flat_count.result c.from.result (shape g (goal.at.returns-else-is_some-clause-quiet_near g c).After-tuple) c.from.ensures (c.flat_count.ensures.words _ c.tuple.ensures.abi) (sym c.is_some.ensures ∙ c.if-is_some.false) in
+    λ near. absurd (omega (arith, near, far))
