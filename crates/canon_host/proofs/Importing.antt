@@ -1,56 +1,61 @@
 -- Imports whose functions are called by `entrypoint`.
-use Rattle.std.proofs.Common.{Err, List, None, Ok, Option, Result, Some, Vec, ap, length, subst₂, sym, ℕ, ◌++◌, ◌∙◌, ◌≡◌}
+use Rattle.std.proofs.Common.{Err, List, None, Ok, Option, Result, Some, Vec, ap, arith, inl, length, refl, subst₂, sym, ⊎_elim, ℕ, ◌++◌, ◌∙◌, ◌≡◌, ◌≢◌}
+use Rattle.std.proofs.lemmas.Option.{none-some, slice_get_cases}
 use Rattle.std.proofs.Math.Seq.{drop-append_seam, take-append_seam}
-use Rattle.std.specs.Prelude.{IfSome, drop, take}
+use Rattle.std.specs.Prelude.{IfSome, drop, slice_get, take}
 use Rattle.std.specs.declared.alloc.Global.{Global}
 use Rattle.canon_context.specs.Core.{Parts, types_of}
-use Rattle.canon_context.specs.Host.{Closure}
+use Rattle.canon_context.specs.Host.{Closure, IsOutside, Returns}
+use Rattle.canon_context.specs.declared.fault.Fault.{Fault}
+use Rattle.canon_context.specs.declared.fault.Fault.TheVariants as fault
 use Rattle.canon_context.specs.declared.host.HostStop.{HostStop}
 use Rattle.canon_context.specs.declared.host.HostView.{HostView}
+use Rattle.canon_ledger.specs.Ledger.{LedgerState}
+use Rattle.canon_ledger.specs.Reached.{ledger_in}
+use Rattle.canon_memory.specs.Counts.{Rose}
 use Rattle.canon_memory.specs.Guest.{GuestIn, Seen}
 use Rattle.canon_memory.specs.declared.event.Event.{Event}
 use Rattle.canon_model.specs.Shape.{member_count}
-use Rattle.canon_types.specs.Table.{param_members}
+use Rattle.canon_types.specs.Table.{HasFunc, param_members}
 use Rattle.canon_types.specs.declared.types.TypeFunc.{TypeFunc}
 use Rattle.canon_value.specs.declared.val.Val.{Val}
-use Rattle.canon_host.specs.HostSide.{Entry, Giving}
-use Rattle.canon_host.specs.Imports.{CallsImport, GivesOnly, ServesWith, entry_of}
+use Rattle.canon_host.specs.HostSide.{Entry, Giving, outcome}
+use Rattle.canon_host.specs.Imports.{CallsImport, GivesOnly, ServesImport, ServesWith, entry_of, logged}
 use Rattle.canon_host.specs.Serves.{AskValues, CallsBlank, InRow, ServesInRow, values_of}
 use Rattle.canon_host.specs.declared.asked.Asked.{Asked}
 use Rattle.canon_host.specs.declared.error.HostError.{HostError}
+use Rattle.canon_host.specs.declared.error.HostError.TheVariants as error
 use Rattle.canon_host.proofs.Serving.{serves_more, told_count}
 
 -- what is asked for by a type and options
 abbrev pub asked_by : ℕ → TypeFunc → ℕ → Asked
 asked_by ty func options = record { ty = ty; func = func; options = options }
 
--- The function that is called gives only what the import may give.
+-- The function that is called answers only what the import may answer.
 module _ {F T G : Type 0} (g : Closure F (HostView T) Val (Result (Unit {0}) HostStop)) (f : F) (gives : Giving T) (log : Option (List Entry)) (n : ℕ) (seen : G → Seen) (moves : GuestIn G → List Event → GuestIn G → Type 0)
-    (only : GivesOnly g f (λ s params results t. IfSome log (λ entries. gives entries n s params results t))) where
-  abbrev AtStates : T → T → List Entry → ℕ → List Val → List Val → Type 0
-  AtStates s t entries k params results = gives entries k s params results t
+    (only : IfSome log (λ entries. GivesOnly g f (gives entries n))) where
+  gave_only : (o : Option (List Entry)) → IfSome o (λ entries. GivesOnly g f (gives entries n)) → (v w : HostView T) (type : TypeFunc) (params slots results : List Val) (r : Result (Unit {0}) HostStop) → IsOutside v → Returns g f v type params slots r w results
+      → IfSome o (λ entries. (ledger_in w.tables ≡ ledger_in v.tables) × gives entries n v.state.now params (outcome r results) w.state.now)
+  gave_only (Some entries) h v w type params slots results r outside returned = h v w type params slots results r outside returned
+  gave_only None h v w type params slots results r outside returned = tt
 
-  gave_only : (s s2 t t2 : T) (params results : List Val) → s ≡ s2 → t ≡ t2 → IfSome log (λ entries. gives entries n s params results t) → IfSome log (λ entries. gives entries n s2 params results t2)
-  gave_only s s2 t t2 params results es et h = subst₂ (λ x y. IfSome log (λ entries. gives entries n x params results y)) es et h
+  moved_to : (params : List Val) (answer : Result (List Val) HostStop) (s s2 t t2 : T) (l l2 m m2 : LedgerState) → s ≡ s2 → t ≡ t2 → l ≡ l2 → m ≡ m2
+      → IfSome log (λ entries. (m ≡ l) × gives entries n s params answer t) → IfSome log (λ entries. (m2 ≡ l2) × gives entries n s2 params answer t2)
+  moved_to params answer s s2 t t2 l l2 m m2 es et el em h =
+      subst₂ (λ x y. IfSome log (λ entries. (y ≡ x) × gives entries n s2 params answer t2)) el em (subst₂ (λ x y. IfSome log (λ entries. (m ≡ l) × gives entries n x params answer y)) es et h)
 
-  calls_import : (asked : Asked) (before after b a : Parts T G) (params results : List Val) (r : Result (Unit {0}) HostStop) → b.state ≡ before.state → after.state ≡ a.state → CallsBlank g f asked b params r a results
-      → CallsImport (AtStates before.state after.state) log n b params r a results
-  calls_import asked before after b a params results (Ok x) begun ended h = record {
+  calls_import : (asked : Asked) (b a : Parts T G) (params results : List Val) (r : Result (Unit {0}) HostStop) → CallsBlank g f asked b params r a results → CallsImport gives log n b params r a results
+  calls_import asked b a params results r h = record {
     steps = h.steps;
     same = h.same;
-    may_give = gave_only h.gave.view.state.now before.state h.gave.left.state.now after.state params results (h.gave.state_is ∙ begun) (h.gave.state_left ∙ sym ended) (only h.gave.view h.gave.left asked.func params _ results h.gave.outside h.gave.returned);
+    may_give = moved_to params (outcome r results) _ _ _ _ _ _ _ _ h.gave.state_is h.gave.state_left h.gave.ledger_is h.gave.ledger_left
+        (gave_only log only h.gave.view h.gave.left asked.func params _ results r h.gave.outside h.gave.returned);
   }
-  calls_import asked before after b a params results (Err e) begun ended h = record { steps = h.steps; same = h.same; may_give = tt }
 
   pub served_import : (asked : Asked) (before after : Parts T G) (words words2 : List ℕ) (r : Result (Vec Val Global) HostError) → ServesInRow g f seen moves asked before words r after words2
       → InRow (λ told. ServesWith gives log n seen moves asked before words told after words2) r
-  served_import asked before after words words2 (Ok values) h = (
-    h.0,
-    h.1,
-    record { given = before.state; left = after.state; served = serves_more (CallsBlank g f asked) (CallsImport (AtStates before.state after.state) log n) seen moves asked before after (calls_import asked before after) words words2 (Ok h.0) h.2 },
-  )
-  served_import asked before after words words2 (Err e) h =
-      record { given = before.state; left = after.state; served = serves_more (CallsBlank g f asked) (CallsImport (AtStates before.state after.state) log n) seen moves asked before after (calls_import asked before after) words words2 (Err e) h }
+  served_import asked before after words words2 (Ok values) h = (h.0, h.1, serves_more (CallsBlank g f asked) (CallsImport gives log n) seen moves asked after (calls_import asked) before words words2 (Ok h.0) h.2)
+  served_import asked before after words words2 (Err e) h = serves_more (CallsBlank g f asked) (CallsImport gives log n) seen moves asked after (calls_import asked) before words words2 (Err e) h
 
   -- of a type that was found
   pub found_import : (ty options : ℕ) (before after : Parts T G) (words words2 : List ℕ) (r : Result (Vec Val Global) HostError) (o : Option TypeFunc) → IfSome o (λ t. ServesInRow g f seen moves (asked_by ty t options) before words r after words2)
@@ -65,7 +70,52 @@ module _ {T G : Type 0} (gives : Giving T) (log : Option (List Entry)) (n : ℕ)
   pub entry_in_row : (before after : Parts T G) (words words2 : List ℕ) (values : List Val) (told : AskValues) (count : ℕ) → ServesWith gives log n seen moves asked before words (Ok told) after words2 → values ≡ told.params ++ told.results
       → count ≡ member_count (param_members (types_of before) asked.func) → entry_of n (values_of (take count values) (drop count values)) ≡ entry_of n told
   entry_in_row before after words words2 values told count served row is =
-      let parts : count ≡ length told.params = is ∙ sym (told_count (CallsImport (λ entries k params results. gives entries k before.state params results after.state) log n) seen moves asked (record before { state = served.given }) (record after { state = served.left }) words words2 told served.served) in
+      let parts : count ≡ length told.params = is ∙ sym (told_count (CallsImport gives log n) seen moves asked before after words words2 told served) in
       let front : take count values ≡ told.params = ap (take count) row ∙ (ap (λ k. take k (told.params ++ told.results)) parts ∙ take-append_seam told.params told.results) in
       let back : drop count values ≡ told.results = ap (drop count) row ∙ (ap (λ k. drop k (told.params ++ told.results)) parts ∙ drop-append_seam told.params told.results) in
       ap (λ ps. entry_of n (values_of ps (drop count values))) front ∙ ap (λ rs. entry_of n (values_of told.params rs)) back
+
+-- ---- one ask, by what was done
+
+module _ {T G : Type 0} (gives : Giving T) (log log2 : Option (List Entry)) (n : ℕ) (seen : G → Seen) (moves : GuestIn G → List Event → GuestIn G → Type 0) (ty options r r2 : ℕ) (before after : Parts T G) (words words2 : List ℕ) where
+  -- what was done, as told of its values in a row
+  abbrev pub Done : Result (Vec Val Global) HostError → TypeFunc → Type 0
+  Done result t = InRow (λ told. ServesWith gives log n seen moves (asked_by ty t options) before words told after words2) result
+
+  abbrev pub Answered : Result (Unit {0}) HostError → TypeFunc → Type 0
+  Answered result t = ServesImport gives log n seen moves (asked_by ty t options) log2 r r2 before words result after words2
+
+  pub logs : (o : Option TypeFunc) (values : Vec Val Global) (count : ℕ) → IfSome o (Done (Ok values)) → IfSome o (λ t. count ≡ member_count (param_members (types_of before) t))
+      → log2 ≡ logged log (entry_of n (values_of (take count values.items) (drop count values.items))) → r2 ≡ r → IfSome o (Answered (Ok tt))
+  logs (Some t) values count (told, row, served) is more same =
+      (told, served, more ∙ ap (logged log) (entry_in_row gives log n seen moves (asked_by ty t options) before after words words2 values.items told count served row is), same)
+  logs None values count done is more same = tt
+
+  pub refuses : (o : Option TypeFunc) → IfSome o (Done (Err error.Refused)) → log2 ≡ log → Rose r r2 → IfSome o (Answered (Err error.Refused))
+  refuses (Some t) done same rose = (same, rose, done)
+  refuses None done same rose = tt
+
+  pub faults : (o : Option TypeFunc) (e : Fault) → IfSome o (Done (Err (error.Fault e))) → log2 ≡ log → r2 ≡ r → IfSome o (Answered (Err (error.Fault e)))
+  faults (Some t) e done same count = (same, count, done)
+  faults None e done same count = tt
+
+  -- nothing was done for want of memory
+  pub wants : (o : Option TypeFunc) → after ≡ before → log2 ≡ log → r2 ≡ r → IfSome o (Answered (Err (error.Fault fault.OutOfMemory)))
+  wants (Some t) same none count = (none, count, inl (refl, same))
+  wants None same none count = tt
+
+-- ---- what its function gave
+
+module _ {T G : Type 0} (gives : Giving T) (entries : List Entry) (n : ℕ) (seen : G → Seen) (moves : GuestIn G → List Event → GuestIn G → Type 0) (P : Type 0) (gave : (s t : T) (params results : List Val) → gives entries n s params (Ok results) t → P)
+    (before after : Parts T G) (words words2 : List ℕ) where
+  gave_in : (asked : Asked) (told : AskValues) → ServesWith gives (Some entries) n seen moves asked before words (Ok told) after words2 → P
+  gave_in asked told h = let (params, lifted, lifts, (called, same, c, ends)) = h in gave _ _ _ _ c.may_give.1
+
+  -- of a type that was found
+  pub found_gave : (ty options : ℕ) (values : Vec Val Global) (o : Option TypeFunc) → o ≢ None → IfSome o (λ t. InRow (λ told. ServesWith gives (Some entries) n seen moves (asked_by ty t options) before words told after words2) (Ok values)) → P
+  found_gave ty options values (Some t) there (told, row, served) = gave_in (asked_by ty t options) told served
+  found_gave ty options values None there served = absurd (there refl)
+
+-- a function of the table is found
+pub there : {G T : Type 0} (before : Parts T G) (ty : ℕ) → HasFunc (types_of before) ty → slice_get (types_of before).funcs ty ≢ None
+there before ty inside none = ⊎_elim (λ at. absurd (none-some at.0 (sym none ∙ at.2))) (λ past. absurd (omega (arith, inside, past.0))) (slice_get_cases (types_of before).funcs ty).1

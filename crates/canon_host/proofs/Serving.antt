@@ -2,14 +2,14 @@
 use Rattle.std.proofs.Common.{[], Err, List, Ok, Result, Vec, ap, false, inl, inr, length, true, refl, subst, subst₂, sym, ℕ, ◌++◌, ◌-◌, ◌∙◌, ◌≡◌, ◌≤◌}
 use Rattle.std.proofs.Math.Seq.{drop-append_seam, drop-length, take-append_seam}
 use Rattle.std.proofs.lemmas.List.{append-nil, length-drop, take-append-drop}
-use Rattle.std.specs.Prelude.{IfErr, IfSome, Option, Some, drop, replicate, take}
+use Rattle.std.specs.Prelude.{IfErr, IfSome, OnOk, Option, Some, drop, replicate, take}
 use Rattle.std.specs.declared.alloc.Global.{Global}
 use Rattle.canon_context.specs.Asks.{SameButHandles}
-use Rattle.canon_context.specs.Core.{Parts, encoding_by, guest_of, moment_of, types_of}
+use Rattle.canon_context.specs.Core.{Parts, SameButLedger, encoding_by, guest_of, moment_of, types_of}
 use Rattle.canon_context.specs.Host.{Closure, Gave, HostSteps}
 use Rattle.canon_context.specs.Lowers.{ending_of}
 use Rattle.canon_context.specs.Moves.{Moves}
-use Rattle.canon_context.specs.Quiet.{have_handle}
+use Rattle.canon_context.specs.Quiet.{have_block, have_handle}
 use Rattle.canon_context.specs.declared.fault.Fault.{Fault}
 use Rattle.canon_context.specs.declared.host.HostStop.{HostStop}
 use Rattle.canon_context.specs.declared.host.HostView.{HostView}
@@ -26,8 +26,8 @@ use Rattle.canon_model.specs.Tree.{Trees}
 use Rattle.canon_types.specs.Table.{param_members, result_members}
 use Rattle.canon_types.specs.declared.types.TypeFunc.{TypeFunc}
 use Rattle.canon_value.specs.Args.{LowersResults}
-use Rattle.canon_value.specs.Fails.{BlamesMembers}
-use Rattle.canon_value.specs.Resources.{Crosses, all_passes}
+use Rattle.canon_value.specs.Fails.{AreSmall, BlamesMembers}
+use Rattle.canon_value.specs.Resources.{Crosses, QuietBut, all_passes}
 use Rattle.canon_value.specs.Value.{HaveTrees}
 use Rattle.canon_value.specs.declared.val.Val.{Val}
 use Rattle.canon_value.specs.declared.val.Val.TheVariants as val
@@ -79,9 +79,14 @@ module _ {T G : Type 0} (seen : G → Seen) (moves : GuestIn G → List Event �
       → Crosses before.component.types (have_handle (result_members (types_of before) asked.func)) (all_passes (result_members (types_of before) asked.func) results)
       (λ hs ending. LowersResults (moment_of seen before) (moment_of seen mid) (encoding_by before asked.options) (result_members (types_of before) asked.func) (HaveTrees (result_members (types_of before) asked.func) results) at ws hs ending)
       before.ledger mid.ledger r
-      → IfErr r (BlamesMembers (encoding_by before asked.options) (result_members (types_of before) asked.func) results) → Moves seen moves (guest_of before) (guest_of mid) (ending_of r) → SameButHandles before mid
+      → IfErr r (BlamesMembers (encoding_by before asked.options) (result_members (types_of before) asked.func) results)
+      → OnOk r (AreSmall (encoding_by before asked.options) (result_members (types_of before) asked.func) results)
+      → QuietBut (have_handle (result_members (types_of before) asked.func)) (all_passes (result_members (types_of before) asked.func) results) (have_block (result_members (types_of before) asked.func)) (mid.guest ≡ before.guest) r
+      → (members_flat (result_members (types_of before) asked.func) ≤ max_results
+      → QuietBut (have_handle (result_members (types_of before) asked.func)) (all_passes (result_members (types_of before) asked.func) results) (have_block (result_members (types_of before) asked.func)) (SameButLedger before mid) r)
+      → Moves seen moves (guest_of before) (guest_of mid) (ending_of r) → SameButHandles before mid
       → (members_flat (result_members (types_of before) asked.func) ≤ max_results → length ws ≡ members_flat (result_members (types_of before) asked.func)) → after ≡ mid → LowersGiven seen moves asked before at results r after (ws ++ rest)
-  lowered_given before mid after at results ws rest r h cause moved same count is = subst (λ x. LowersGiven seen moves asked before at results r x (ws ++ rest)) (sym is) (record {
+  lowered_given before mid after at results ws rest r h cause small quiet quiet_near moved same count is = subst (λ x. LowersGiven seen moves asked before at results r x (ws ++ rest)) (sym is) (record {
     lowered = record {
       given = h.given;
       ending = h.ending;
@@ -91,6 +96,9 @@ module _ {T G : Type 0} (seen : G → Seen) (moves : GuestIn G → List Event �
       as_told = h.as_told;
     };
     cause = cause;
+    small = small;
+    quiet = quiet;
+    quiet_near = quiet_near;
     moved = moved;
     same = same;
   })
@@ -166,33 +174,28 @@ found_serves g f f2 seen moves asked ty options before made after words words2 w
 -- ---- the data of the host
 
 -- nothing after the call changes them
-concluded_state : {T G : Type 0} (seen : G → Seen) (moves : GuestIn G → List Event → GuestIn G → Type 0) (asked : Asked) (before after : Parts T G) (results : List Val) (words words2 : List ℕ) (r : Result (Unit {0}) Fault)
+pub concluded_state : {T G : Type 0} (seen : G → Seen) (moves : GuestIn G → List Event → GuestIn G → Type 0) (asked : Asked) (before after : Parts T G) (results : List Val) (words words2 : List ℕ) (r : Result (Unit {0}) Fault)
     → Concludes seen moves asked before results words r after words2 → after.state ≡ before.state
 concluded_state {T} {G} seen moves asked before after results words words2 (Ok x) h = ap (λ (k : Parts T G). k.state) h.4.same ∙ ap (λ (k : Parts T G). k.state) h.3.1
 concluded_state {T} {G} seen moves asked before after results words words2 (Err e) (inl (none, same)) = ap (λ (k : Parts T G). k.state) same
 concluded_state {T} {G} seen moves asked before after results words words2 (Err e) (inr (at, place, inl (x, is, ends))) = ap (λ (k : Parts T G). k.state) ends.1
 concluded_state {T} {G} seen moves asked before after results words words2 (Err e) (inr (at, place, inr (ended, ends, lowered))) = ap (λ (k : Parts T G). k.state) lowered.same ∙ ap (λ (k : Parts T G). k.state) ends.1
 
--- What is served by one relation of a call is served by each that holds of the same calls: those from the data that the ask began with to
--- the data that it left.
-module _ {T G : Type 0} (C D : Calling T G) (seen : G → Seen) (moves : GuestIn G → List Event → GuestIn G → Type 0) (asked : Asked) (before after : Parts T G)
-    (more : (b a : Parts T G) (params results : List Val) (r : Result (Unit {0}) HostStop) → b.state ≡ before.state → after.state ≡ a.state → C b params r a results → D b params r a results) where
-  answers_more : (lifted : Parts T G) (params : List Val) (words words2 : List ℕ) (r : Result AskValues HostError) → lifted.state ≡ before.state
-      → Answers C seen moves asked lifted params words r after words2 → Answers D seen moves asked lifted params words r after words2
-  answers_more lifted params words words2 (Ok told) begun h = (h.0, h.1, more lifted h.0 params told.results (Ok tt) begun (concluded_state seen moves asked h.0 after told.results words words2 (Ok tt) h.3) h.2, h.3)
-  answers_more lifted params words words2 (Err e) begun (inl h) = inl h
-  answers_more lifted params words words2 (Err e) begun (inr (inl (results, why, is, called))) = inr (inl (results, why, is, more lifted after params results (Err why) begun refl called))
-  answers_more lifted params words words2 (Err e) begun (inr (inr (results, mid, x, is, called, ends))) =
-      inr (inr (results, mid, x, is, more lifted mid params results (Ok tt) begun (concluded_state seen moves asked mid after results words words2 (Err x) ends) called, ends))
+-- what is served by one relation of a call is served by each that holds of the same calls
+module _ {T G : Type 0} (C D : Calling T G) (seen : G → Seen) (moves : GuestIn G → List Event → GuestIn G → Type 0) (asked : Asked) (after : Parts T G)
+    (more : (b a : Parts T G) (params results : List Val) (r : Result (Unit {0}) HostStop) → C b params r a results → D b params r a results) where
+  answers_more : (lifted : Parts T G) (params : List Val) (words words2 : List ℕ) (r : Result AskValues HostError) → Answers C seen moves asked lifted params words r after words2 → Answers D seen moves asked lifted params words r after words2
+  answers_more lifted params words words2 (Ok told) h = (h.0, h.1, more lifted h.0 params told.results (Ok tt) h.2, h.3)
+  answers_more lifted params words words2 (Err e) (inl h) = inl h
+  answers_more lifted params words words2 (Err e) (inr (inl (results, why, is, called))) = inr (inl (results, why, is, more lifted after params results (Err why) called))
+  answers_more lifted params words words2 (Err e) (inr (inr (results, mid, x, is, called, ends))) = inr (inr (results, mid, x, is, more lifted mid params results (Ok tt) called, ends))
 
-  entered_more : (entered : Parts T G) (words words2 : List ℕ) (r : Result AskValues HostError) → entered.state ≡ before.state
-      → ServesEntered C seen moves asked entered words r after words2 → ServesEntered D seen moves asked entered words r after words2
-  entered_more entered words words2 (Ok told) begun h = (h.0, h.1, h.2, answers_more h.1 h.0.items words words2 (Ok told) (ap (λ (k : Parts T G). k.state) h.2.1 ∙ begun) h.3)
-  entered_more entered words words2 (Err e) begun (inl h) = inl h
-  entered_more entered words words2 (Err e) begun (inr (params, lifted, lifts, h)) =
-      inr (params, lifted, lifts, answers_more lifted params.items words words2 (Err e) (ap (λ (k : Parts T G). k.state) lifts.1 ∙ begun) h)
+  entered_more : (entered : Parts T G) (words words2 : List ℕ) (r : Result AskValues HostError) → ServesEntered C seen moves asked entered words r after words2 → ServesEntered D seen moves asked entered words r after words2
+  entered_more entered words words2 (Ok told) h = (h.0, h.1, h.2, answers_more h.1 h.0.items words words2 (Ok told) h.3)
+  entered_more entered words words2 (Err e) (inl h) = inl h
+  entered_more entered words words2 (Err e) (inr (params, lifted, lifts, h)) = inr (params, lifted, lifts, answers_more lifted params.items words words2 (Err e) h)
 
-  pub serves_more : (words words2 : List ℕ) (r : Result AskValues HostError) → Serves C seen moves asked before words r after words2 → Serves D seen moves asked before words r after words2
-  serves_more words words2 (Ok told) h = entered_more (record before { ledger = enter before.ledger }) words words2 (Ok told) refl h
-  serves_more words words2 (Err e) (inl h) = inl h
-  serves_more words words2 (Err e) (inr h) = inr (entered_more (record before { ledger = enter before.ledger }) words words2 (Err e) refl h)
+  pub serves_more : (before : Parts T G) (words words2 : List ℕ) (r : Result AskValues HostError) → Serves C seen moves asked before words r after words2 → Serves D seen moves asked before words r after words2
+  serves_more before words words2 (Ok told) h = entered_more (record before { ledger = enter before.ledger }) words words2 (Ok told) h
+  serves_more before words words2 (Err e) (inl h) = inl h
+  serves_more before words words2 (Err e) (inr h) = inr (entered_more (record before { ledger = enter before.ledger }) words words2 (Err e) h)

@@ -1,7 +1,8 @@
 -- What a host has beside its guest.
-use Rattle.std.specs.Prelude.{List, Option, ℕ}
+use Rattle.std.specs.Prelude.{Err, List, Ok, Option, Result, ℕ}
 use Rattle.canon_ledger.specs.Ledger.{LedgerState}
 use Rattle.canon_context.specs.Core.{Parts}
+use Rattle.canon_context.specs.declared.host.HostStop.{HostStop}
 use Rattle.canon_value.specs.declared.val.Val.{Val}
 
 -- an ask that was served: the number of its import, its parameters and its results
@@ -13,10 +14,15 @@ pub record Entry : Type 0 where
 abbrev pub entry : ℕ → List Val → List Val → Entry
 entry index params results = record { index = index; params = params; results = results }
 
--- What the function of an import may give: by the asks that were served before, its number, the data of the store, its parameters, its
--- results, and the data after the ask.
+-- what a function answered and left in its slots: the results that it gave, or why it gave none
+abbrev pub outcome : Result (Unit {0}) HostStop → List Val → Result (List Val) HostStop
+outcome (Ok x) results = Ok results
+outcome (Err why) results = Err why
+
+-- What the function of an import may answer: by the asks that were served before, its number, the data of the store, its parameters, its
+-- results or why it gave none, and the data after.
 abbrev pub Giving : Type 0 → Type 1
-Giving T = List Entry → ℕ → T → List Val → List Val → T → Type 0
+Giving T = List Entry → ℕ → T → List Val → Result (List Val) HostStop → T → Type 0
 
 -- The data of a store, the ledger of its handles, and what its imports tell: the asks that they served, if they tell them, and how often
 -- they refused one for no fault.

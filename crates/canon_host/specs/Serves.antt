@@ -1,6 +1,6 @@
 -- How one ask is served, step by step: from one core to another, with the words before and after. A refusal leaves what the steps before
 -- it left.
-use Rattle.std.specs.Prelude.{◌++◌, ◌<◌, ◌≡◌, ◌⊎◌, Err, IfErr, List, Ok, Result, Vec, false, replicate, take, ℕ}
+use Rattle.std.specs.Prelude.{◌++◌, ◌<◌, ◌≡◌, ◌≤◌, ◌⊎◌, Err, IfErr, List, Ok, OnOk, Result, Vec, false, replicate, take, ℕ}
 use Rattle.std.specs.declared.alloc.Global.{Global}
 use Rattle.canon_context.specs.Asks.{SameButHandles}
 use Rattle.canon_context.specs.Core.{Parts, SameButLedger, encoding_by, guest_of, moment_of, types_of}
@@ -8,7 +8,7 @@ use Rattle.canon_context.specs.Host.{Closure, Gave, HostSteps}
 use Rattle.canon_context.specs.Lifter.{origin_in}
 use Rattle.canon_context.specs.Lowers.{ending_of}
 use Rattle.canon_context.specs.Moves.{Moves}
-use Rattle.canon_context.specs.Quiet.{have_handle}
+use Rattle.canon_context.specs.Quiet.{have_block, have_handle}
 use Rattle.canon_context.specs.declared.fault.Fault.{Fault}
 use Rattle.canon_context.specs.declared.fault.Fault.TheVariants as fault
 use Rattle.canon_context.specs.declared.host.HostStop.{HostStop}
@@ -25,9 +25,9 @@ use Rattle.canon_model.specs.Layout.{members_flat}
 use Rattle.canon_model.specs.Shape.{member_count}
 use Rattle.canon_types.specs.Table.{Table, param_members, result_members}
 use Rattle.canon_value.specs.Args.{IsArea, IsNoArea, LowersResults, args_words}
-use Rattle.canon_value.specs.Fails.{BlamesMembers}
+use Rattle.canon_value.specs.Fails.{AreSmall, BlamesMembers}
 use Rattle.canon_value.specs.Lifts.{LiftsParams}
-use Rattle.canon_value.specs.Resources.{Crosses, all_passes}
+use Rattle.canon_value.specs.Resources.{Crosses, QuietBut, all_passes}
 use Rattle.canon_value.specs.Value.{HaveTrees}
 use Rattle.canon_value.specs.declared.val.Val.{Val}
 use Rattle.canon_value.specs.declared.val.Val.TheVariants as val
@@ -79,6 +79,11 @@ module _ {T G : Type 0} (seen : G → Seen) (moves : GuestIn G → List Event �
         (λ hs ending. LowersResults (moment_of seen before) (moment_of seen after) (encoding_by before asked.options) (result_members (types_of before) asked.func) (HaveTrees (result_members (types_of before) asked.func) results) at (take (members_flat (result_members (types_of before) asked.func)) words) hs ending)
         before.ledger after.ledger result
     pub cause : IfErr result (BlamesMembers (encoding_by before asked.options) (result_members (types_of before) asked.func) results)
+    pub small : OnOk result (AreSmall (encoding_by before asked.options) (result_members (types_of before) asked.func) results)
+    -- results that reach no text and no list ask for nothing, and leave all but the ledger where they go in a row
+    pub quiet : QuietBut (have_handle (result_members (types_of before) asked.func)) (all_passes (result_members (types_of before) asked.func) results) (have_block (result_members (types_of before) asked.func)) (after.guest ≡ before.guest) result
+    pub quiet_near : members_flat (result_members (types_of before) asked.func) ≤ max_results
+        → QuietBut (have_handle (result_members (types_of before) asked.func)) (all_passes (result_members (types_of before) asked.func) results) (have_block (result_members (types_of before) asked.func)) (SameButLedger before after) result
     pub moved : Moves seen moves (guest_of before) (guest_of after) (ending_of result)
     pub same : SameButHandles before after
 

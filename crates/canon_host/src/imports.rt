@@ -4,9 +4,8 @@ ghost use Rattle.std.specs.Prelude.{◌≡◌, ◌≤◌, IfSome, List, Option, 
 ghost use Rattle.canon_types.specs.Table.{HasFunc};
 ghost use Rattle.canon_context.specs.Component.{HasOptions};
 ghost use Rattle.canon_context.specs.Core.{types_of};
-ghost use Rattle.canon_value.specs.declared.val.Val.{Val};
 ghost use Rattle.canon_host.specs.Asked.{HasRoomFor};
-ghost use Rattle.canon_host.specs.HostSide.{Entry};
+ghost use Rattle.canon_host.specs.HostSide.{Entry, Giving};
 ghost use Rattle.canon_host.specs.Imports.{ServesImport};
 
 use crate::{HostCx, HostError};
@@ -29,9 +28,9 @@ pub trait Imports<T, G: Guest> {
     /// How many asks were refused for no fault.
     ghost refusals: { Self → ℕ };
 
-    /// By this plan and the log so far, the function of an import may give these results for the data of the store and these parameters,
-    /// also where the results aren't of their types, and leave this data.
-    ghost gives: { Self.Plan → List Entry → ℕ → T → List Val → List Val → T → Type 0 };
+    /// By this plan and the log so far, the function of an import may answer so: for the data of the store and these parameters with
+    /// these results, also where they aren't of their types, or with why there are none, leaving this data.
+    ghost gives: { Self.Plan → Giving T };
 
     /// Serves one ask of the import of this number.
     fn serve(

@@ -6,6 +6,7 @@ mod conclude;
 mod error;
 mod host_func;
 mod imports;
+mod no_imports;
 mod serve;
 
 pub use asked::{
@@ -15,3 +16,4 @@ pub use canon_context::{HostStop, HostView, MemoryView};
 pub use error::{HostError, TypecheckFailed};
 pub use host_func::{DynamicHostFn, HostFn, HostFunc};
 pub use imports::Imports;
+pub use no_imports::NoImports;

@@ -57,7 +57,7 @@ fn answer_with<
     storage: &mut [ValRaw],
 ) -> Result<Vec<Val>, HostError>
     requires keeps { Keeps F.Fn func.now }
-    requires gives { GivesOnly F.Fn func.now (λ s params results t. GivesFirst number results) }
+    requires gives { GivesOnly F.Fn func.now (λ s params result t. GivesFirst number result × (t ≡ s)) }
     requires func { HasFunc (types_of cx.core.now) cx.ty }
     requires options { HasOptions cx.core.now.component cx.options }
     requires room { HasRoomFor (types_of cx.core.now) cx.ty storage.old }
