@@ -15,14 +15,15 @@ use Rattle.canon_lowering.proofs.Lowerings.{goes_none, goes_then}
 use Rattle.canon_lowering.specs.Storing.{narrow}
 use Rattle.canon_value.specs.Resources.{all_resources}
 use Rattle.canon_lowering.specs.Attempt.{LowersArgs}
-use Rattle.canon_lowering.specs.Lowering.{done, events_of, marks_of}
+use Rattle.canon_lowering.specs.Lowering.{Answer, done, events_of, marks_of}
 use Rattle.canon_value.specs.Value.{HaveTrees}
 use Rattle.canon_context.specs.declared.fault.Fault.TheVariants as fault
 use Rattle.canon_value.specs.declared.val.Val.{Val}
+use Rattle.canon_host.specs.HostSide.{Giving, HostSide}
 use Rattle.canon_func.specs.Asks.{Limits}
 use Rattle.canon_func.specs.Call.{Adding, Advances, IsCall, Left, OnAnswered, param_parts, result_words}
-use Rattle.canon_func.specs.Runs.{AskTurn, events_in, posts}
-use Rattle.canon_func.specs.Steps.{Concluded, CoreCall, Proceeds, IsLate, IsRest, Lifted, LoweredArgs, MayRun, Posted, RunsUntil, RestCause, so_far}
+use Rattle.canon_func.specs.Runs.{AskTurn, answers_in, events_in, posts}
+use Rattle.canon_func.specs.Steps.{Concluded, CoreCall, Proceeds, IsLate, IsRest, Lifted, LoweredArgs, MayRun, Posted, RunsUntil, RestCause, Serving, so_far}
 use Rattle.canon_func.specs.Stores.{Callee}
 use Rattle.canon_func.specs.declared.error.Error.{Error}
 use Rattle.canon_func.specs.declared.error.Error.TheVariants as error
@@ -50,43 +51,49 @@ retyped T U e P h = h
 other : guest.OutOfMemory ≡ guest.Trap → ⊥
 other e = cc
 
-module _ (Leaves : List ℕ → List ℕ → Type 0) (callee : Callee) (limits : Limits) (words : List ℕ) where
+module _ {T : Type 0} (gives : Giving T) (callee : Callee) (limits : Limits) (Leaves : List ℕ → List ℕ → Type 0) (words : List ℕ) where
   -- how the guest ran, and what came after its return
   joined_run : (before : Moment) (turns : List AskTurn) (ret : Event) (later : List Event) → so_far callee words before turns (ret ∷ []) ++ later ≡ so_far callee words before turns (ret ∷ later)
   joined_run before turns ret later = ap (λ es. event.Start callee.func words before.bytes ∷ es) (append_assoc (events_in turns) (ret ∷ []) later)
 
-  rest_returned : (a b c : Moment) (l m l2 : LedgerState) (returned : List ℕ) (answer : Result (Vec Val Global) Error) (xs later : List Event) → Advances a b → Advances b c → RunsUntil callee limits.turns words a b l m (Ok returned) xs
-      → Concluded Leaves callee limits.fuel returned b c m l2 answer later → IsRest Leaves callee limits words a c l l2 answer (xs ++ later)
-  rest_returned a b c l m l2 returned answer xs later f g ran concluded =
+  rest_returned : (a b c : Moment) (l m l2 : HostSide T) → l2 ≡ record m { ledger = l2.ledger } → (returned : List ℕ) (answer : Result (Vec Val Global) Error) (answers : List Answer) (xs later : List Event) → Advances a b → Advances b c
+      → RunsUntil gives callee limits words a b l m (Ok returned) answers xs → Concluded Leaves callee limits.fuel returned b c m.ledger l2.ledger answer later → IsRest gives callee limits Leaves words a c l l2 answer answers (xs ++ later)
+  rest_returned a b c l m l2 kept returned answer answers xs later f g ran concluded =
       let tail : List Event = event.Return returned b.bytes ∷ later in
       let events : xs ++ later ≡ so_far callee words a ran.turns tail =
       ap (λ es. es ++ later) (ran.is ∙ ap (λ es. so_far callee words a ran.turns es) ran.stopped.0) ∙ joined_run a ran.turns (event.Return returned b.bytes) later in
-      subst (λ es. IsRest Leaves callee limits words a c l l2 answer es) (sym events)
-      (rest_of_tail Leaves callee limits words a c l ran.served l2 ran.turns ran.len ran.asked answer tail
-      (returned_rest Leaves callee limits a b c (length ran.turns) ran.len ran.served l2 returned answer later ran.few ran.longer f g
-      (subst (λ k. Concluded Leaves callee limits.fuel returned b c k l2 answer later) ran.stopped.1 concluded)))
+      let none : answers ≡ answers_in ran.turns ++ [] = ran.answers_are ∙ ap (λ ys. answers_in ran.turns ++ ys) ran.stopped.1.0 in
+      let same : m ≡ ran.served = ran.stopped.1.2 in
+      subst (λ es. IsRest gives callee limits Leaves words a c l l2 answer answers es) (sym events)
+      (rest_of_tail gives callee limits Leaves words a c l ran.served l2 ran.turns ran.len ran.asked answer answers [] None tail none
+      (returned_rest gives callee limits Leaves a b c (length ran.turns) ran.len ran.served l2 (subst (λ (k : HostSide T). l2 ≡ record k { ledger = l2.ledger }) same kept) returned answer later ran.few ran.longer f g
+      (subst (λ (k : HostSide T). Concluded Leaves callee limits.fuel returned b c k.ledger l2.ledger answer later) same concluded)))
 
   -- the guest returned
-  pub run_returned : (a b c : Moment) (l m l2 : LedgerState) (returned : List ℕ) (answer : Result (Vec Val Global) Error) (M N O : List Event → Type 0) → ((xs ys : List Event) → M xs → N ys → O (xs ++ ys))
-      → Proceeds a b M (MayRun callee limits.turns words a b l m (Ok returned)) → Proceeds b c N (Concluded Leaves callee limits.fuel returned b c m l2 answer) → Proceeds a c O (IsRest Leaves callee limits words a c l l2 answer)
-  run_returned a b c l m l2 returned answer M N O f first second = record {
+  pub run_returned : (a b c : Moment) (l m l2 : HostSide T) → l2 ≡ record m { ledger = l2.ledger } → (returned : List ℕ) (answer : Result (Vec Val Global) Error) (M N O : List Event → Type 0) → ((xs ys : List Event) → M xs → N ys → O (xs ++ ys))
+      → Serving a b M (MayRun gives callee limits words a b l m (Ok returned)) → Proceeds b c N (Concluded Leaves callee limits.fuel returned b c m.ledger l2.ledger answer) → Serving a c O (IsRest gives callee limits Leaves words a c l l2 answer)
+  run_returned a b c l m l2 kept returned answer M N O f first second = record {
+    answers = first.answers;
     events = first.events ++ second.events;
-    goes = goes_then a b c [] [] first.events second.events first.goes second.goes;
-    moves = f first.events second.events first.moves second.moves;
+    goes = subst (λ ms. Goes a c ms (first.events ++ second.events)) (append-nil (marks_of first.answers)) (goes_then a b c (marks_of first.answers) [] first.events second.events first.goes second.goes);
+    moves = λ told. f first.events second.events (first.moves told) second.moves;
     so = ⊎_elim (λ none. absurd (not_ok returned (error.Fault fault.OutOfMemory) none.0))
-        (λ ran. rest_returned a b c l m l2 returned answer first.events second.events (goes_advance a b _ _ first.goes) (goes_advance b c _ _ second.goes) ran second.so) first.so;
+        (λ ran. rest_returned a b c l m l2 kept returned answer first.answers first.events second.events (goes_advance a b _ _ first.goes) (goes_advance b c _ _ second.goes) ran second.so) first.so;
   }
 
-  rest_stopped : (a b : Moment) (l l2 : LedgerState) (e : Error) (xs : List Event) → length a.bytes ≤ length b.bytes → MayRun callee limits.turns words a b l l2 (Err e) xs → IsRest Leaves callee limits words a b l l2 (Err e) xs
-  rest_stopped a b l l2 e xs longer (inl (is, none, same)) =
-      subst (λ k. IsRest Leaves callee limits words a b l k (Err e) xs) (sym same) (subst (λ es. IsRest Leaves callee limits words a b l l (Err e) es) (sym none)
-      (subst (λ r. IsRest Leaves callee limits words a b l l (Err r) []) (sym (err_same {T = List ℕ} e (error.Fault fault.OutOfMemory) is)) (rest_of_none Leaves callee limits words a b l longer)))
-  rest_stopped a b l l2 e xs longer (inr ran) = subst (λ es. IsRest Leaves callee limits words a b l l2 (Err e) es) (sym ran.is)
-      (rest_of_tail Leaves callee limits words a b l ran.served l2 ran.turns ran.len ran.asked (Err e) ran.tail (stopped_rest Leaves callee limits a b (length ran.turns) ran.len ran.served l2 e ran.tail ran.longer ran.few ran.stopped))
+  rest_stopped : (a b : Moment) (l l2 : HostSide T) (e : Error) (answers : List Answer) (xs : List Event) → length a.bytes ≤ length b.bytes → MayRun gives callee limits words a b l l2 (Err e) answers xs → IsRest gives callee limits Leaves words a b l l2 (Err e) answers xs
+  rest_stopped a b l l2 e answers xs longer (inl (is, none, quiet, same)) =
+      subst (λ k. IsRest gives callee limits Leaves words a b l k (Err e) answers xs) (sym same) (subst (λ es. IsRest gives callee limits Leaves words a b l l (Err e) answers es) (sym none)
+      (subst (λ ys. IsRest gives callee limits Leaves words a b l l (Err e) ys []) (sym quiet)
+      (subst (λ r. IsRest gives callee limits Leaves words a b l l (Err r) [] []) (sym (err_same {T = List ℕ} e (error.Fault fault.OutOfMemory) is)) (rest_of_none gives callee limits Leaves words a b l longer))))
+  rest_stopped a b l l2 e answers xs longer (inr ran) = subst (λ es. IsRest gives callee limits Leaves words a b l l2 (Err e) answers es) (sym ran.is)
+      (rest_of_tail gives callee limits Leaves words a b l ran.served l2 ran.turns ran.len ran.asked (Err e) answers ran.late ran.late_trap ran.tail ran.answers_are
+      (stopped_rest gives callee limits Leaves a b (length ran.turns) ran.len ran.served l2 e ran.late ran.late_trap ran.tail ran.longer ran.few ran.stopped))
 
   -- it didn't
-  pub run_refused : (a b : Moment) (l l2 : LedgerState) (e : Error) (M : List Event → Type 0) → Proceeds a b M (MayRun callee limits.turns words a b l l2 (Err e)) → Proceeds a b M (IsRest Leaves callee limits words a b l l2 (Err e))
-  run_refused a b l l2 e M first = record { events = first.events; goes = first.goes; moves = first.moves; so = rest_stopped a b l l2 e first.events first.goes.no_shorter first.so }
+  pub run_refused : (a b : Moment) (l l2 : HostSide T) (e : Error) (M N : List Event → Type 0) → ((es : List Event) → M es → N es) → Serving a b M (MayRun gives callee limits words a b l l2 (Err e)) → Serving a b N (IsRest gives callee limits Leaves words a b l l2 (Err e))
+  run_refused a b l l2 e M N f first =
+      record { answers = first.answers; events = first.events; goes = first.goes; moves = λ told. f first.events (first.moves told); so = rest_stopped a b l l2 e first.answers first.events first.goes.no_shorter first.so }
 
 module _ (Leaves : List ℕ → List ℕ → Type 0) (callee : Callee) (fuel : ℕ) (words : List ℕ) (l l2 : LedgerState) where
   -- ---- after the return
@@ -163,16 +170,17 @@ module _ (Leaves : List ℕ → List ℕ → Type 0) (callee : Callee) (words : 
 -- ---- the whole
 
 -- none of the refusals before the guest is entered
-pub rest_is_late : (callee : Callee) (limits : Limits) (a b : Moment) (es : List Event) (r : Result (Vec Val Global) Error) → IfErr r (RestCause callee limits a b es) → IfErr r IsLate
-rest_is_late callee limits a b es (Ok vals) h = tt
-rest_is_late callee limits a b es (Err error.WrongCount) h = absurd h
-rest_is_late callee limits a b es (Err error.AsyncLifted) h = absurd h
-rest_is_late callee limits a b es (Err error.CannotEnterComponent) h = absurd h
-rest_is_late callee limits a b es (Err error.WrongWords) h = refl
-rest_is_late callee limits a b es (Err (error.UnknownImport n)) h = refl
-rest_is_late callee limits a b es (Err error.TurnsExhausted) h = refl
-rest_is_late callee limits a b es (Err (error.ImportFault n f)) h = refl
-rest_is_late callee limits a b es (Err (error.Fault f)) h = refl
+pub rest_is_late : (callee : Callee) (limits : Limits) (a b : Moment) (es tail : List Event) (r : Result (Vec Val Global) Error) → IfErr r (RestCause callee limits a b es tail) → IfErr r IsLate
+rest_is_late callee limits a b es tail (Ok vals) h = tt
+rest_is_late callee limits a b es tail (Err error.WrongCount) h = absurd h
+rest_is_late callee limits a b es tail (Err error.AsyncLifted) h = absurd h
+rest_is_late callee limits a b es tail (Err error.CannotEnterComponent) h = absurd h
+rest_is_late callee limits a b es tail (Err error.WrongWords) h = refl
+rest_is_late callee limits a b es tail (Err (error.UnknownImport n)) h = refl
+rest_is_late callee limits a b es tail (Err error.TurnsExhausted) h = refl
+rest_is_late callee limits a b es tail (Err (error.ImportFault n f)) h = refl
+rest_is_late callee limits a b es tail (Err (error.HostRefused n)) h = refl
+rest_is_late callee limits a b es tail (Err (error.Fault f)) h = refl
 
 pub lowered_is_late : (callee : Callee) (params : List Val) (a b : Moment) (l l2 : LedgerState) (es : List Event) (e : Error) → LoweredArgs callee params a b l l2 (Err e) es → IsLate e
 lowered_is_late callee params a b l l2 es (error.Fault f) h = refl
@@ -183,65 +191,72 @@ lowered_is_late callee params a b l l2 es error.WrongWords h = absurd h
 lowered_is_late callee params a b l l2 es (error.UnknownImport n) h = absurd h
 lowered_is_late callee params a b l l2 es error.TurnsExhausted h = absurd h
 lowered_is_late callee params a b l l2 es (error.ImportFault n f) h = absurd h
+lowered_is_late callee params a b l l2 es (error.HostRefused n) h = absurd h
 
-module _ (Leaves : List ℕ → List ℕ → Type 0) (callee : Callee) (limits : Limits) (params : List Val) where
+module _ {T : Type 0} (gives : Giving T) (callee : Callee) (limits : Limits) (Leaves : List ℕ → List ℕ → Type 0) (params : List Val) where
   -- memory ran out for the scope
-  pub scope_short : (s : Seen) (bytes : List ℕ) (l0 l2 : LedgerState) (M : List Event → Type 0) → l2 ≡ l0 → (IsSome s.journal → M [])
-      → Adding (moment s bytes) (moment s bytes) M (CoreCall Leaves callee limits params (moment s bytes) (moment s bytes) l0 l2 (Err (error.Fault fault.OutOfMemory)))
+  pub scope_short : (s : Seen) (bytes : List ℕ) (l0 l2 : HostSide T) (M : List Event → Type 0) → l2 ≡ l0 → (IsSome s.journal → M [])
+      → Adding (moment s bytes) (moment s bytes) M (CoreCall gives callee limits Leaves params (moment s bytes) (moment s bytes) l0 l2 (Err (error.Fault fault.OutOfMemory)))
   scope_short s bytes l0 l2 M same stays = record {
     events = [];
     added = (goes_none s bytes bytes (omega arith)).events;
     moves = stays;
-    so = short_call Leaves callee limits params (moment s bytes) (moment s bytes) l0 l2 refl (λ results. inl (refl, refl, same));
+    so = short_call gives callee limits Leaves params (moment s bytes) (moment s bytes) l0 l2 refl (λ results. inl (refl, refl, same));
   }
 
-  core_refused : (a b : Moment) (l0 l2 : LedgerState) (e : Error) (es : List Event) → LoweredArgs callee params a b (enter l0) l2 (Err e) es → CoreCall Leaves callee limits params a b l0 l2 (Err e) es
-  core_refused a b l0 l2 (error.Fault f) es (inl (short, same, kept, none)) = subst (λ fs. CoreCall Leaves callee limits params a b l0 l2 (Err (error.Fault f)) fs) (sym none)
-      (subst (λ g. CoreCall Leaves callee limits params a b l0 l2 (Err (error.Fault g)) []) (sym short) (short_call Leaves callee limits params a b l0 l2 same (λ results. inr (inl (tt, stops_at_once (enter l0) l2 (param_parts callee params) kept)))))
-  core_refused a b l0 l2 (error.Fault f) es (inr (words, handles, ending, low, ends, blames, told, is, quiet, stops)) = subst (λ fs. CoreCall Leaves callee limits params a b l0 l2 (Err (error.Fault f)) fs) (sym is)
-      (refused_call Leaves callee limits params a b l0 l2 f ending words handles low ends blames told quiet stops)
-  core_refused a b l0 l2 error.WrongCount es h = absurd h
-  core_refused a b l0 l2 error.AsyncLifted es h = absurd h
-  core_refused a b l0 l2 error.CannotEnterComponent es h = absurd h
-  core_refused a b l0 l2 error.WrongWords es h = absurd h
-  core_refused a b l0 l2 (error.UnknownImport n) es h = absurd h
-  core_refused a b l0 l2 error.TurnsExhausted es h = absurd h
-  core_refused a b l0 l2 (error.ImportFault n f) es h = absurd h
+  core_refused : (a b : Moment) (l0 l2 : HostSide T) → l2 ≡ record l0 { ledger = l2.ledger } → (e : Error) (es : List Event) → LoweredArgs callee params a b (enter l0.ledger) l2.ledger (Err e) es → CoreCall gives callee limits Leaves params a b l0 l2 (Err e) es
+  core_refused a b l0 l2 left (error.Fault f) es (inl (short, same, kept, none)) = subst (λ fs. CoreCall gives callee limits Leaves params a b l0 l2 (Err (error.Fault f)) fs) (sym none)
+      (subst (λ g. CoreCall gives callee limits Leaves params a b l0 l2 (Err (error.Fault g)) []) (sym short) (short_call gives callee limits Leaves params a b l0 l2 same (λ results. inr (inl (tt, stops_at_once (enter l0.ledger) l2.ledger (param_parts callee params) kept, left)))))
+  core_refused a b l0 l2 left (error.Fault f) es (inr (words, handles, ending, low, ends, blames, told, is, quiet, stops)) = subst (λ fs. CoreCall gives callee limits Leaves params a b l0 l2 (Err (error.Fault f)) fs) (sym is)
+      (refused_call gives callee limits Leaves params a b l0 l2 left f ending words handles low ends blames told quiet stops)
+  core_refused a b l0 l2 left error.WrongCount es h = absurd h
+  core_refused a b l0 l2 left error.AsyncLifted es h = absurd h
+  core_refused a b l0 l2 left error.CannotEnterComponent es h = absurd h
+  core_refused a b l0 l2 left error.WrongWords es h = absurd h
+  core_refused a b l0 l2 left (error.UnknownImport n) es h = absurd h
+  core_refused a b l0 l2 left error.TurnsExhausted es h = absurd h
+  core_refused a b l0 l2 left (error.ImportFault n f) es h = absurd h
+  core_refused a b l0 l2 left (error.HostRefused n) es h = absurd h
 
   -- a call in the scope that was opened on its ledger
-  abbrev pub InScope : LedgerState → Moment → Moment → LedgerState → Result (Vec Val Global) Error → List Event → Type 0
-  InScope l a b l2 answer es = (l0 : LedgerState) → enter l0 ≡ l → CoreCall Leaves callee limits params a b l0 l2 answer es
+  abbrev pub InScope : HostSide T → Moment → Moment → HostSide T → Result (Vec Val Global) Error → List Event → Type 0
+  InScope l a b l2 answer es = (before : LedgerState) → enter before ≡ l.ledger → CoreCall gives callee limits Leaves params a b (record l { ledger = before }) l2 answer es
 
   -- the parameters were lowered
-  pub call_started : (a b c : Moment) (l l1 l2 : LedgerState) (words : Vec ℕ Global) (answer : Result (Vec Val Global) Error) (M N O : List Event → Type 0) → ((xs ys : List Event) → M xs → N ys → O (xs ++ ys))
-      → Adding a b M (LoweredArgs callee params a b l l1 (Ok words)) → Proceeds b c N (IsRest Leaves callee limits words.items b c l1 l2 answer) → Adding a c O (InScope l a c l2 answer)
-  call_started a b c l l1 l2 words answer M N O f first second =
+  pub call_started : (a b c : Moment) (l l1 l2 : HostSide T) → l1 ≡ record l { ledger = l1.ledger } → (words : Vec ℕ Global) (answer : Result (Vec Val Global) Error) (M N O : List Event → Type 0) → (IsSome a.guest.journal → IsSome b.guest.journal) → ((xs ys : List Event) → M xs → N ys → O (xs ++ ys))
+      → Adding a b M (LoweredArgs callee params a b l.ledger l1.ledger (Ok words)) → Serving b c N (IsRest gives callee limits Leaves words.items b c l1 l2 answer) → Adding a c O (InScope l a c l2 answer)
+  call_started a b c l l1 l2 same words answer M N O told f first second =
       let low : LowersArgs false a b callee.encoding callee.params (HaveTrees callee.params params) words.items first.so.0 done = first.so.1 in
       let xs : List Event = events_of low.answers low.trap in
       let ys : List Event = second.events in
       record {
         events = xs ++ ys;
-        added = (goes_then a b c (marks_of low.answers) [] xs ys low.lowering.goes second.goes).events;
-        moves = λ there. f xs ys (subst M first.so.2 (first.moves there)) second.moves;
-        so = λ l0 entered. subst (λ o. CoreCall Leaves callee limits params a c l0 l2 answer (events_of low.answers o ++ ys)) (sym low.lowering.cause)
-            (joined Leaves callee limits params a b c l0 l1 l2 words.items low.answers first.so.0 ys answer (ready callee params a b words.items low first.so.3 first.so.4 first.so.5)
-            (subst (λ k. LeavesTake k (param_parts callee params) first.so.0 l1) (sym entered) first.so.6)
-            (goes_advance a b _ _ low.lowering.goes) (goes_advance b c _ _ second.goes) (second.goes.marks ∙ append-nil b.guest.marks) second.so);
+        added = (goes_then a b c (marks_of low.answers) (marks_of second.answers) xs ys low.lowering.goes second.goes).events;
+        moves = λ there. f xs ys (subst M first.so.2 (first.moves there)) (second.moves (told there));
+        so = λ before entered. subst (λ o. CoreCall gives callee limits Leaves params a c (record l { ledger = before }) l2 answer (events_of low.answers o ++ ys)) (sym low.lowering.cause)
+            (joined gives callee limits Leaves params a b c (record l { ledger = before }) l1 l2 same words.items low.answers first.so.0 ys second.answers answer (ready callee params a b words.items low first.so.3 first.so.4 first.so.5)
+            (subst (λ k. LeavesTake k (param_parts callee params) first.so.0 l1.ledger) (sym entered) first.so.6)
+            (goes_advance a b _ _ low.lowering.goes) (goes_advance b c _ _ second.goes) second.goes.marks second.so);
       }
 
   -- they weren't
-  pub call_refused : (a b : Moment) (l l2 : LedgerState) (e : Error) (M : List Event → Type 0) → Adding a b M (LoweredArgs callee params a b l l2 (Err e)) → Adding a b M (InScope l a b l2 (Err e))
-  call_refused a b l l2 e M low = record {
+  pub call_refused : (a b : Moment) (l l2 : HostSide T) → l2 ≡ record l { ledger = l2.ledger } → (e : Error) (M : List Event → Type 0) → Adding a b M (LoweredArgs callee params a b l.ledger l2.ledger (Err e)) → Adding a b M (InScope l a b l2 (Err e))
+  call_refused a b l l2 same e M low = record {
     events = low.events;
     added = low.added;
     moves = low.moves;
-    so = λ l0 entered. core_refused a b l0 l2 e low.events (subst (λ k. LoweredArgs callee params a b k l2 (Err e) low.events) (sym entered) low.so);
+    so = λ before entered. core_refused a b (record l { ledger = before }) l2 same e low.events (subst (λ k. LoweredArgs callee params a b k l2.ledger (Err e) low.events) (sym entered) low.so);
   }
 
   -- the scope was opened
-  pub entered_call : (a b : Moment) (l0 l l2 : LedgerState) (answer : Result (Vec Val Global) Error) (M : List Event → Type 0) → l ≡ enter l0 → Adding a b M (InScope l a b l2 answer) → Adding a b M (CoreCall Leaves callee limits params a b l0 l2 answer)
-  entered_call a b l0 l l2 answer M entered h = record { events = h.events; added = h.added; moves = h.moves; so = h.so l0 (sym entered) }
+  pub entered_call : (a b : Moment) (l0 l l2 : HostSide T) (answer : Result (Vec Val Global) Error) (M : List Event → Type 0) → l ≡ record l0 { ledger = enter l0.ledger } → Adding a b M (InScope l a b l2 answer) → Adding a b M (CoreCall gives callee limits Leaves params a b l0 l2 answer)
+  entered_call a b l0 l l2 answer M entered h = record {
+    events = h.events;
+    added = h.added;
+    moves = h.moves;
+    so = subst (λ (k : HostSide T). CoreCall gives callee limits Leaves params a b (record k { ledger = l0.ledger }) l2 answer h.events) entered (h.so l0.ledger (sym (ap (λ k. k.ledger) entered)));
+  }
 
   -- it is refused, whatever the results
-  pub call_left : (a b : Moment) (l0 l2 : LedgerState) (e : Error) (results : List Val) (M : List Event → Type 0) → Adding a b M (CoreCall Leaves callee limits params a b l0 l2 (Err e)) → Adding a b M (IsCall Leaves callee limits params a b l0 l2 (Err e) results)
+  pub call_left : (a b : Moment) (l0 l2 : HostSide T) (e : Error) (results : List Val) (M : List Event → Type 0) → Adding a b M (CoreCall gives callee limits Leaves params a b l0 l2 (Err e)) → Adding a b M (IsCall Leaves gives callee limits params a b l0 l2 (Err e) results)
   call_left a b l0 l2 e results M h = record { events = h.events; added = h.added; moves = h.moves; so = h.so results }

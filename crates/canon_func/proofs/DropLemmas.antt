@@ -76,21 +76,21 @@ module _ {T G : Type 0} (seen : G → Seen) (moves : GuestIn G → List Event �
   but_ledger : (before after : Parts T G) → SameButLedger before after → after ≡ record before { guest = after.guest; memory = after.memory; ledger = after.ledger }
   but_ledger before after same = same ∙ (λ i. record before { guest = ap (λ k. k.guest) (sym same) i; memory = ap (λ k. k.memory) (sym same) i; ledger = after.ledger })
 
-  module _ (stays : (g : GuestIn G) → moves g [] g) (x : GivenIndex) (before after : StoreView T G) where
+  module _ {I : Type 0} (stays : (g : GuestIn G) → moves g [] g) (x : GivenIndex) (before after : StoreView T G I) where
     -- the handle wasn't removed
-    pub not_removed : (e : Error) → SameButLedger before.core after.core → after.turns ≡ before.turns → after.trapped ≡ before.trapped → Removes before.core.ledger x after.core.ledger (Err e) → IsDrop seen moves Leaves x before after (Err e)
-    not_removed (error.Fault fault.OutOfMemory) same turns trapped unchanged = record {
-      outcome = inl (λ i. record { core = (same ∙ ap (λ (l : LedgerState). record before.core { ledger = l }) unchanged) i; turns = turns i; trapped = trapped i });
+    pub not_removed : (e : Error) → SameButLedger before.core after.core → after.imports ≡ before.imports → after.turns ≡ before.turns → after.trapped ≡ before.trapped → Removes before.core.ledger x after.core.ledger (Err e) → IsDrop seen moves Leaves x before after (Err e)
+    not_removed (error.Fault fault.OutOfMemory) same imports turns trapped unchanged = record {
+      outcome = inl (λ i. record { core = (same ∙ ap (λ (l : LedgerState). record before.core { ledger = l }) unchanged) i; imports = imports i; turns = turns i; trapped = trapped i });
       destructor = ran_not stays before.core after.core (ap (λ k. k.guest) same) (ap (λ k. k.memory) same) (destructor_at before.core.ledger x) (error.Fault fault.OutOfMemory) (no_events _ before.core.memory);
       same = but_ledger before.core after.core same;
     }
-    not_removed (error.Fault (fault.Resource e)) same turns trapped (refused, left) = record {
-      outcome = (refused, λ i. record { core = (same ∙ ap (λ (l : LedgerState). record before.core { ledger = l }) left) i; turns = turns i; trapped = trapped i });
+    not_removed (error.Fault (fault.Resource e)) same imports turns trapped (refused, left) = record {
+      outcome = (refused, λ i. record { core = (same ∙ ap (λ (l : LedgerState). record before.core { ledger = l }) left) i; imports = imports i; turns = turns i; trapped = trapped i });
       destructor = ran_not stays before.core after.core (ap (λ k. k.guest) same) (ap (λ k. k.memory) same) (destructor_at before.core.ledger x) (error.Fault (fault.Resource e))
           (ap (λ r. destructor_events (destructor_by r) before.core.memory (Err (error.Fault (fault.Resource e)))) refused);
       same = but_ledger before.core after.core same;
     }
-    not_removed e same turns trapped none = absurd none
+    not_removed e same imports turns trapped none = absurd none
 
     module _ (mid : Parts T G) (destructor : Option Destructor) (removed : IsRemoved before.core.ledger x destructor mid.ledger) (same : SameButLedger before.core mid)
         (rest : after.core ≡ record mid { guest = after.core.guest; memory = after.core.memory; ledger = after.core.ledger }) where

@@ -1,45 +1,14 @@
 -- What became of the handles of a call.
-use Rattle.std.proofs.Common.{Err, List, None, Ok, Option, Result, Some, [], ap, inl, inr, refl, subst, sym, ℕ, ◌++◌, ◌∙◌, ◌∷◌, ◌≡◌}
+use Rattle.std.proofs.Common.{Err, List, None, Ok, Result, Some, [], ap, inl, inr, refl, subst, sym, ℕ, ◌∙◌, ◌∷◌, ◌≡◌}
 use Rattle.std.proofs.lemmas.List.{append-nil}
 use Rattle.canon_ledger.specs.Ledger.{Done, LedgerState}
 use Rattle.canon_ledger.specs.declared.fault.ResourceFault.{ResourceFault}
 use Rattle.canon_leaves.proofs.Leaves.{leaf_same, leaves_stop_then}
 use Rattle.canon_leaves.proofs.Lifts.{lifts_take}
 use Rattle.canon_leaves.specs.Parts.{LeavesStop, LeavesTake, Part, Stops, Takes, do_part}
-use Rattle.canon_memory.specs.declared.event.Event.{Event}
-use Rattle.canon_memory.specs.declared.event.Event.TheVariants as event
 use Rattle.canon_resources.specs.Held.{Any}
-use Rattle.canon_func.specs.Call.{LiftsReturned, StopsLater, StopsReturned, StopsStarted, result_parts, returned_leaves, scope_exit, stopped_by}
-use Rattle.canon_func.specs.Runs.{Each, EndsIn, IsNoPost, IsTrap, SomeReturn}
+use Rattle.canon_func.specs.Call.{LiftsReturned, StopsReturned, result_parts, returned_leaves, scope_exit}
 use Rattle.canon_func.specs.Stores.{Callee}
-use Rattle.canon_func.specs.declared.error.Error.{Error}
-use Rattle.canon_func.proofs.Prefixes.{IsEarly, each_after, ends_after, post_then, return_then}
-
--- ---- after what stands before a return
-
-some_after : (P : List ℕ → List ℕ → Type 0) (xs ys : List Event) → SomeReturn P ys → SomeReturn P (xs ++ ys)
-some_after P [] ys h = h
-some_after P (event.Return ws m ∷ xs) ys h = inr (some_after P xs ys h)
-some_after P (e ∷ xs) ys h = some_after P xs ys h
-
--- what follows decides how it ends
-ends_later : (P : Event → Type 0) (xs : List Event) (y : Event) (ys : List Event) → EndsIn P (xs ++ y ∷ ys) → EndsIn P (y ∷ ys)
-ends_later P [] y ys h = h
-ends_later P (x ∷ []) y ys h = h
-ends_later P (x ∷ z ∷ xs) y ys h = ends_later P (z ∷ xs) y ys h
-
-calm_after : (P : List ℕ → List ℕ → Type 0) (xs later : List Event) → SomeReturn P later → ¬ EndsIn IsTrap later → ¬ EndsIn IsTrap (xs ++ later)
-calm_after P xs [] some calm = absurd some
-calm_after P xs (y ∷ later) some calm = λ h. calm (ends_later IsTrap xs y later h)
-
-stops_later : (callee : Callee) (why : Option ResourceFault) (l m : LedgerState) (xs later : List Event) → Each IsEarly xs → StopsLater callee why l m later → StopsLater callee why l m (xs ++ later)
-stops_later callee why l m xs later early (inl (none, same, each)) = inl (none, same, return_then _ xs later early each)
-stops_later callee why l m xs later early (inr (inl (untold, calm, some))) = inr (inl (post_then xs later early untold, calm_after _ xs later some calm, some_after _ xs later some))
-stops_later callee why l m xs later early (inr (inr (none, posts, some))) = inr (inr (none, (λ untold. posts (each_after IsNoPost xs later untold)), some_after _ xs later some))
-
-pub stops_after : (callee : Callee) (e : Error) (l m : LedgerState) (xs later : List Event) → Each IsEarly xs → StopsStarted callee e l m later → StopsStarted callee e l m (xs ++ later)
-stops_after callee e l m xs later early (inl stops) = inl (stops_later callee (stopped_by e) l m xs later early stops)
-stops_after callee e l m xs later early (inr asked) = inr (ends_after _ xs later asked)
 
 -- ---- what is accepted isn't refused
 
@@ -65,10 +34,10 @@ leaves_excluded e l n m (leaf ∷ leaves) hs (inl stops) (h, rest, mid, are, tak
 leaves_excluded e l n m (leaf ∷ leaves) hs (inr (k, there, took, stops)) (h, rest, mid, are, takes, more) =
     leaves_excluded e mid n m leaves rest (subst (λ q. LeavesStop (Some e) q leaves n) (leaf_same l there mid leaf k h took takes).1 stops) more
 
-same_end : (l a b : LedgerState) → scope_exit l ≡ record { answer = Ok tt; after = a } → scope_exit l ≡ record { answer = Ok tt; after = b } → a ≡ b
+pub same_end : (l a b : LedgerState) → scope_exit l ≡ record { answer = Ok tt; after = a } → scope_exit l ≡ record { answer = Ok tt; after = b } → a ≡ b
 same_end l a b h g = ap (λ (d : Done (Unit {0})). d.after) (sym h ∙ g)
 
-not_both : (l a b : LedgerState) (e : ResourceFault) → scope_exit l ≡ record { answer = Err e; after = a } → scope_exit l ≡ record { answer = Ok tt; after = b } → ⊥
+pub not_both : (l a b : LedgerState) (e : ResourceFault) → scope_exit l ≡ record { answer = Err e; after = a } → scope_exit l ≡ record { answer = Ok tt; after = b } → ⊥
 not_both l a b e h g = let w : ◌≡◌ {A = Result (Unit {0}) ResourceFault} (Err e) (Ok tt) = ap (λ (d : Done (Unit {0})). d.answer) (sym h ∙ g) in cc
 
 module _ (callee : Callee) (words memory : List ℕ) where

@@ -127,6 +127,9 @@ abbrev leaves_by : List OpenScope → Bool
 leaves_by scopes = can_leave (record { tables = []; counter = record { live = 0; limit = 0 }; scopes = scopes })
 
 -- so the scope may be left
+pub ended_leaves : (l m : LedgerState) → scope_exit l ≡ record { answer = Ok tt; after = m } → can_leave m.handles ≡ true
+ended_leaves l m e = empty_leaves m.handles (ended_empty l m e)
+
 pub lifted_empty : (callee : Callee) (words memory : List ℕ) (xs : List Any) (before after : LedgerState) → AreOwned (returned_leaves callee words memory) → LiftsReturned callee words memory xs before after → can_leave after.handles ≡ true
 lifted_empty callee words memory xs before after owned h =
     ap leaves_by (lifts_scopes callee.types h.ended after (returned_leaves callee words memory) xs owned h.lifts) ∙ empty_leaves h.ended.handles (ended_empty before h.ended h.ends)

@@ -4,6 +4,9 @@ pub mod Composed
 pub mod Counts
 pub mod DropLemmas
 pub mod Handled
+pub mod HostAccepts
+pub mod HostServed
+pub mod HostStopped
 pub mod Leaving
 pub mod Lowered
 pub mod Owned

@@ -32,7 +32,7 @@ use Rattle.canon_func.specs.Steps.{LowersFor}
 use Rattle.canon_func.specs.declared.error.Error.TheVariants as error
 
 -- a fact of the new events of a told journal
-told : (before after : Option (List Event)) (events : List Event) (P : List Event → Type 0) → Adds before after events
+pub told : (before after : Option (List Event)) (events : List Event) (P : List Event → Type 0) → Adds before after events
     → ((l es : List Event) → before ≡ Some l → after ≡ Some (l ++ es) → P es) → IsSome before → P events
 told None after events P added so there = absurd (false≢true there)
 told (Some l) after events P added so there = so l events refl added
@@ -50,14 +50,14 @@ lowers_at seen moves core made after b options own tuple params words result sam
     (subst (λ k. LowersFor seen moves k after own tuple params words result) same h))
 
 -- how a lowering ended that asked for nothing
-ending_quiet : (some : Bool) (ps : List Passed) (f : Fault) (ending : Ending) → EndsAs {T = Unit {0}} some ps (Err f) ending → (fault_ending f ≡ refused) ⊎ (UsesLedger some ps × (f ≡ fault.OutOfMemory)) → (ending ≡ short) ⊎ (ending ≡ refused)
+pub ending_quiet : (some : Bool) (ps : List Passed) (f : Fault) (ending : Ending) → EndsAs {T = Unit {0}} some ps (Err f) ending → (fault_ending f ≡ refused) ⊎ (UsesLedger some ps × (f ≡ fault.OutOfMemory)) → (ending ≡ short) ⊎ (ending ≡ refused)
 ending_quiet some ps fault.OutOfMemory ending (inl is) h = inl is
 ending_quiet some ps fault.OutOfMemory ending (inr both) h = inr both.1
 ending_quiet some ps f ending is (inl e) = inr (is ∙ e)
 ending_quiet some ps f ending is (inr both) = let want : f ≡ fault.OutOfMemory = both.1 in cc
 
 -- no request trapped
-untrapped : (a b : Moment) (answers : List Answer) (trap : Option Trap) (ending : Ending) → CauseOf a b answers trap ending → (ending ≡ short) ⊎ (ending ≡ refused) → trap ≡ None
+pub untrapped : (a b : Moment) (answers : List Answer) (trap : Option Trap) (ending : Ending) → CauseOf a b answers trap ending → (ending ≡ short) ⊎ (ending ≡ refused) → trap ≡ None
 untrapped a b answers trap ending cause (inl is) = (subst (λ end. CauseOf a b answers trap end) is cause).0
 untrapped a b answers trap ending cause (inr is) = subst (λ end. CauseOf a b answers trap end) is cause
 

@@ -1,12 +1,19 @@
 -- Runs, prefixes of runs, and the events of answers.
-use Rattle.std.proofs.Common.{List, None, Option, Some, [], ap, append_assoc, arith, refl, sym, ℕ, ◌++◌, ◌∙◌, ◌∷◌, ◌≡◌, ◌≤◌}
+use Rattle.std.proofs.Common.{IsTrue, List, None, Option, Some, [], ap, append_assoc, arith, refl, subst, sym, ℕ, ◌++◌, ◌∙◌, ◌∷◌, ◌≡◌, ◌<◌, ◌≤◌}
 use Rattle.std.specs.Prelude.{⊤}
+use Rattle.std.proofs.lemmas.List.{append-nil}
 use Rattle.canon_model.specs.Requests.{Call}
 use Rattle.canon_memory.specs.declared.event.Event.{Event}
 use Rattle.canon_memory.specs.declared.event.Event.TheVariants as event
 use Rattle.canon_memory.specs.Journal.{answer_event, asked_trap}
-use Rattle.canon_lowering.specs.Lowering.{Answer, Trap, events_of}
-use Rattle.canon_func.specs.Runs.{Each, EndsIn, Grows, IsNoPost, IsOneRun, IsPrefixOfRun, IsRealloc, OnLastAsk, OnReturn, asks_in, events_in, last_len, posts}
+use Rattle.canon_lowering.proofs.Lowerings.{lawful_second}
+use Rattle.canon_lowering.specs.Lowering.{AllLawful, Answer, LastIs, Trap, events_of}
+use Rattle.canon_func.specs.Steps.{TrapsLate}
+use Rattle.canon_func.specs.Runs.{Each, EndsIn, Grows, IsAnswer, IsNoPost, IsOneRun, IsPrefixOfRun, IsRealloc, IsTrap, OnReturn, asks_in, events_in, last_len, posts}
+
+-- what costs more than the fuel doesn't cost so little
+pub past_cost : (fuel reach cost : ℕ) → fuel < reach → reach ≡ cost → cost ≤ fuel → ⊥
+past_cost fuel reach cost h e few = omega (arith, h, e, few)
 
 -- ---- properties of events in a row
 
@@ -23,12 +30,6 @@ ends_after P [] ys h = h
 ends_after P (e ∷ []) [] h = absurd h
 ends_after P (e ∷ []) (f ∷ ys) h = h
 ends_after P (e ∷ f ∷ xs) ys h = ends_after P (f ∷ xs) ys h
-
-pub last_ask_after : (P : ℕ → List ℕ → Type 0) (xs ys : List Event) → OnLastAsk P (xs ++ ys) → OnLastAsk P ys
-last_ask_after P xs [] h = tt
-last_ask_after P [] (y ∷ ys) h = h
-last_ask_after P (x ∷ []) (y ∷ ys) h = h
-last_ask_after P (x ∷ z ∷ xs) (y ∷ ys) h = last_ask_after P (z ∷ xs) (y ∷ ys) h
 
 -- ---- what stands before a return and before a trap
 
@@ -70,6 +71,11 @@ pub asks_answers : (xs : List Answer) (trap : Option Trap) (later : List Event) 
 asks_answers [] None later = refl
 asks_answers [] (Some t) later = refl
 asks_answers (x ∷ xs) trap later = asks_answers xs trap later
+
+-- and no memory
+pub last_len_answers : (n : ℕ) (xs : List Answer) (es : List Event) → last_len n (events_of xs None ++ es) ≡ last_len n es
+last_len_answers n [] es = refl
+last_len_answers n (x ∷ xs) es = last_len_answers n xs es
 
 pub answers_are : (xs : List Answer) → Each IsRealloc (events_of xs None)
 answers_are [] = tt
@@ -175,3 +181,37 @@ module _ (func : ℕ) (post : Option ℕ) where
     events_are = refl;
     may_trap = h;
   }
+
+-- ---- requests, and perhaps a trap
+
+pub prefix_requests : (func : ℕ) (post : Option ℕ) (len : ℕ) (answers : List Answer) (trap : Option Trap) → TrapsLate len trap → IsPrefixOfRun func post len (events_of answers trap)
+prefix_requests func post len answers None h =
+    subst (λ es. IsPrefixOfRun func post len es) (append-nil (events_of answers None)) (prefix_after func post len (events_of answers None) [] (answers_are answers) (prefix_none func post len))
+prefix_requests func post len answers (Some t) h =
+    subst (λ es. IsPrefixOfRun func post len es) (sym (events_of-trap answers t)) (prefix_after func post len (events_of answers None) _ (answers_are answers) (prefix_request func post len t.call t.len h))
+
+pub grows_request : (len last : ℕ) (answers : List Answer) (trap : Option Trap) → TrapsLate len trap → len ≤ last → Grows len (events_of answers trap) last
+grows_request len last answers None late h = subst (λ es. Grows len es last) (append-nil (events_of answers None)) (grows_answers len last answers [] h)
+grows_request len last answers (Some t) late h = subst (λ es. Grows len es last) (sym (events_of-trap answers t)) (grows_answers len last answers _ (late, h))
+
+-- the last answer was given to such a request
+pub ends_in_answer : (P : Call → ℕ → Type 0) (answers : List Answer) (trap : Option Trap) (a : ℕ) (Bad : Answer → Type 0) → trap ≡ None → ((x : Answer) → x.at ≡ a → Bad x → P x.call x.at) → LastIs answers a Bad
+    → EndsIn (IsAnswer P) (events_of answers trap)
+ends_in_answer P answers trap a Bad none f (prefix, x, e, is, bad) = subst (λ o. EndsIn (IsAnswer P) (events_of answers o)) (sym none)
+    (subst (λ xs. EndsIn (IsAnswer P) (events_of xs None)) (sym e)
+    (subst (λ es. EndsIn (IsAnswer P) es) (sym (events_of-then prefix (x ∷ []) None)) (ends_after (IsAnswer P) (events_of prefix None) _ (f x is bad))))
+
+pub ends_in_trap : (answers : List Answer) (t : Trap) → EndsIn IsTrap (events_of answers (Some t))
+ends_in_trap answers t = subst (λ es. EndsIn IsTrap es) (sym (events_of-trap answers t)) (ends_after IsTrap (events_of answers None) _ tt)
+
+-- where each answer is lawful, so is the last
+pub last_lawful : (answers : List Answer) (a : ℕ) (Bad : Answer → Type 0) → ((x : Answer) → Bad x → IsTrue x.mark.lawful → ⊥) → LastIs answers a Bad → AllLawful answers → ⊥
+last_lawful answers a Bad f (prefix, x, e, is, bad) lawful = f x bad (lawful_second prefix (x ∷ []) (subst AllLawful e lawful)).0
+
+pub no_trap : (answers : List Answer) → ¬ EndsIn IsTrap (events_of answers None)
+no_trap [] h = h
+no_trap (x ∷ []) h = h
+no_trap (x ∷ y ∷ answers) h = no_trap (y ∷ answers) h
+
+pub none_trapped : (answers : List Answer) (trap : Option Trap) → trap ≡ None → ¬ EndsIn IsTrap (events_of answers trap)
+none_trapped answers trap none h = no_trap answers (subst (λ o. EndsIn IsTrap (events_of answers o)) none h)

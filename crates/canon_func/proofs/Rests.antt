@@ -1,6 +1,7 @@
 -- What the events from the start on say.
 use Rattle.std.proofs.Common.{Err, List, None, Ok, Option, Result, Some, Vec, Global, [], ap, append_assoc, arith, inl, inr, length, refl, subst, sym, true, ℕ, ⊎_elim, ◌++◌, ◌+◌, ◌∙◌, ◌∷◌, ◌≡◌, ◌≤◌, ◌<◌}
-use Rattle.std.specs.Prelude.{IfErr, IfOk, IsOkUnless, IsSome, OnOk, false, is_some, slice_get, ⊤, ◌≢◌}
+use Rattle.std.specs.Prelude.{IfErr, IfOk, IsOkUnless, OnOk, false, slice_get, ◌≢◌}
+use Rattle.std.specs.Option.{option_and_then}
 use Rattle.std.proofs.lemmas.List.{append-nil}
 use Rattle.std.proofs.lemmas.Bool.{cases_lt, le-leb, lt-leb}
 use Rattle.canon_model.specs.Cost.{members_cost}
@@ -17,7 +18,8 @@ use Rattle.canon_memory.specs.declared.event.Event.{Event}
 use Rattle.canon_memory.specs.declared.event.Event.TheVariants as event
 use Rattle.canon_memory.specs.Counts.{Rose}
 use Rattle.canon_memory.specs.Guest.{Moment}
-use Rattle.canon_memory.specs.Journal.{trap_event}
+use Rattle.canon_memory.specs.Journal.{asked_trap, trap_event}
+use Rattle.canon_lowering.specs.Lowering.{AllLawful, Answer, Trap, events_of}
 use Rattle.canon_lowering.specs.Storing.{narrow}
 use Rattle.canon_value.proofs.Values.{have_count}
 use Rattle.canon_ledger.specs.Ledger.{Done, LedgerState}
@@ -31,24 +33,27 @@ use Rattle.canon_context.specs.declared.fault.Fault.{Fault}
 use Rattle.canon_context.specs.declared.fault.Fault.TheVariants as fault
 use Rattle.canon_value.specs.declared.val.Val.{Val}
 use Rattle.canon_context.specs.declared.component.Import.{Import}
-use Rattle.canon_func.specs.Asks.{AskStops, AcceptsAsk, Limits, ask_step}
+use Rattle.canon_context.specs.declared.component.Import.TheVariants as import
+use Rattle.canon_host.specs.HostSide.{Giving, HostSide}
+use Rattle.canon_host.specs.declared.asked.Asked.{Asked}
+use Rattle.canon_func.specs.Asks.{AcceptsAsk, AreServed, AskStops, BuiltinStops, IsAskOf, Limits, ask_step, builtin_at, builtin_of, host_words, import_words}
 use Rattle.canon_func.specs.Call.{AcceptsLater, Advances, Concludes, HasFault, Left, LiftsReturned, StopsLater, StopsReturned, result_words, stopped_by}
-use Rattle.canon_func.specs.Runs.{AskTurn, Each, EndsIn, Grows, IsAsk, IsNoPost, IsNoRequest, IsNoResume, IsNoStart, IsPrefixOfRun, IsReturn, IsTrap, MayTrap, OnReturn, OnStart, asks_in, events_in, last_len, posts}
-use Rattle.canon_func.specs.Steps.{TurnsTaken, Concluded, IsRest, Lifted, RestCause, RestPasses, Stopped, so_far}
+use Rattle.canon_func.specs.HostAsks.{AcceptsHost, HostStops, IsHostAsk}
+use Rattle.canon_func.specs.Runs.{AskTurn, Each, EndsAsking, EndsIn, Grows, IsNoPost, IsNoRequest, IsNoResume, IsNoStart, IsPrefixOfRun, IsReturn, IsTrap, MayTrap, OnReturn, OnStart, answers_in, asks_in, events_in, last_len, posts}
+use Rattle.canon_func.specs.Steps.{Concluded, IsRest, Lifted, RestCause, RestPasses, RisesAt, Stopped, StopsInAsk, TrapsLate, TurnsTaken, ask_turn, so_far}
 use Rattle.canon_func.specs.Stores.{Callee}
+use Rattle.canon_func.specs.declared.asks.Builtin.{Builtin}
 use Rattle.canon_func.specs.declared.error.Error.{Error}
 use Rattle.canon_func.specs.declared.error.Error.TheVariants as error
-use Rattle.canon_func.proofs.Handled.{returned_excluded, stops_after}
-use Rattle.canon_func.proofs.Prefixes.{IsEarly, each_after, each_then, ends_after, last_ask_after, post_then, prefix_none, return_then}
-use Rattle.canon_func.proofs.Turns.{asks_served, asks_then, each_served, events_more, is_import, len_then, same_le, served_same}
+use Rattle.canon_func.proofs.Handled.{returned_excluded}
+use Rattle.canon_func.proofs.HostAccepts.{asked_excluded, is_asked}
+use Rattle.canon_func.proofs.HostStopped.{asked_traps, none_more, refused_alone}
+use Rattle.canon_func.proofs.Prefixes.{IsEarly, asks_answers, each_after, each_answer, each_then, ends_after, ends_in_trap, events_of-trap, grows_request, last_len_answers, past_cost, post_then, prefix_none, return_then}
+use Rattle.canon_func.proofs.Turns.{asks_then, asks_turns, each_turn, events_more, len_then, same_le}
 
 -- what represents results is as many words as they take
 pub words_of_results : (enc : Encoding) (m : Memory) (ws : List ℕ) (ms : Members) (ts : Trees) → RepResults false enc m ws ms ts → length ws ≡ result_words ms
 words_of_results enc m ws ms ts h = ⊎_elim (λ far. rw (lt-leb (members_flat ms) max_results far) (h.far far).0) (λ near. rw (le-leb (members_flat ms) max_results near) (h.near near).0) (cases_lt max_results (members_flat ms))
-
--- what costs more than the fuel doesn't cost so little
-past_cost : (fuel reach cost : ℕ) → fuel < reach → reach ≡ cost → cost ≤ fuel → ⊥
-past_cost fuel reach cost h e few = omega (arith, h, e, few)
 
 each_post : (P : Event → Type 0) → ((p : ℕ) (ws : List ℕ) → P (event.Post p ws)) → (post : Option ℕ) (ws : List ℕ) → Each P (posts post ws)
 each_post P f None ws = tt
@@ -77,23 +82,23 @@ pub record TailPrefix (post : Option ℕ) (len : ℕ) (tail : List Event) : Type
   pub may_trap : MayTrap (last_len len prefix) trap
 
 -- What the events say that come after so many turns, the last of which let the guest go in a memory of so many bytes.
-pub record IsTail (Leaves : List ℕ → List ℕ → Type 0) (callee : Callee) (limits : Limits) (before after : Moment) (count len : ℕ) (served left : LedgerState) (answer : Result (Vec Val Global) Error) (tail : List Event) : Type 0 where
+pub record IsTail {T : Type 0} (gives : Giving T) (callee : Callee) (limits : Limits) (Leaves : List ℕ → List ℕ → Type 0) (before after : Moment) (count len : ℕ) (served left : HostSide T) (answer : Result (Vec Val Global) Error) (late : List Answer) (late_trap : Option Trap) (tail : List Event) : Type 0 where
   pub whole : OnOk answer ((returned memory : List ℕ) × (tail ≡ event.Return returned memory ∷ posts callee.post returned))
   pub prefix : TailPrefix callee.post len tail
   pub no_resume : Each IsNoResume tail
   pub no_start : Each IsNoStart tail
-  pub no_more : Each IsNoRequest tail
+  pub asking : EndsAsking late late_trap tail
   pub grows : Grows len tail (length after.bytes)
   pub asks : answer ≢ Err error.TurnsExhausted → count + asks_in tail ≤ limits.turns
   pub only_results : IfOk answer (λ vals. Each (OnReturn (λ ws m. (over : ℕ) × AreResults callee.encoding (narrow m) callee.results ws limits.fuel over vals.items)) tail)
   pub posted : ¬ Each IsNoPost tail → Each (OnReturn (λ ws m. (over : ℕ) × (vs : List Val) × AreResults callee.encoding (narrow m) callee.results ws limits.fuel over vs)) tail
   pub values : IfOk answer (λ vals. length vals.items ≡ member_count callee.results)
   pub leaves : OnOk answer (Each (OnReturn (λ ws m. Left Leaves callee.post m after.bytes)) tail)
-  pub handles : RestPasses callee served left answer tail
-  pub cause : IfErr answer (λ e. (xs : List Event) → asks_in xs ≡ count → RestCause callee limits before after (xs ++ tail) e)
-  pub valid : ¬ EndsIn IsTrap tail → count + asks_in tail ≤ limits.turns
+  pub handles : RestPasses gives callee limits after.bytes late late_trap served left answer tail
+  pub cause : IfErr answer (λ e. (xs : List Event) → asks_in xs ≡ count → RestCause callee limits before after (xs ++ tail) tail e)
+  pub valid : AllLawful late → ¬ Rose served.refusals left.refusals → ¬ EndsIn IsTrap tail → count + asks_in tail ≤ limits.turns
       → Each (OnReturn (λ ws m. (us : Trees) × RepResults false callee.encoding (narrow m) ws callee.results us × (members_cost callee.results us ≤ limits.fuel))) tail
-      → AcceptsLater callee served tail → IsOkUnless answer (error.Fault fault.OutOfMemory)
+      → AcceptsLater gives callee limits.fuel served tail → IsOkUnless answer (error.Fault fault.OutOfMemory)
 
 -- ---- a call from what came after the turns
 
@@ -115,9 +120,20 @@ no_starts P [] h = tt
 no_starts P (event.Start f ws m ∷ xs) h = absurd h.0
 no_starts P (e ∷ xs) h = (tt, no_starts P xs h.1)
 
-passes_after : (callee : Callee) (served left : LedgerState) (answer : Result (Vec Val Global) Error) (xs tail : List Event) → Each IsEarly xs → RestPasses callee served left answer tail → RestPasses callee served left answer (xs ++ tail)
-passes_after callee served left (Ok vals) xs tail early h = return_then _ xs tail early h
-passes_after callee served left (Err e) xs tail early h = stops_after callee e served left xs tail early h
+-- refusals don't fall
+pub served_later : {T : Type 0} (gives : Giving T) (callee : Callee) (fuel : ℕ) (ts : List AskTurn) (l m : HostSide T) → AreServed gives callee fuel ts l m → l.refusals ≤ m.refusals
+served_later gives callee fuel [] l m h = let same : m.refusals ≡ l.refusals = ap (λ s. s.refusals) h in omega (arith, same)
+served_later gives callee fuel (t ∷ ts) l m (mid, inl is, rest) =
+    let one : mid.refusals ≡ l.refusals = ap (λ s. s.refusals) is.kept in
+    let later : mid.refusals ≤ m.refusals = served_later gives callee fuel ts mid m rest in
+    omega (arith, one, later)
+served_later gives callee fuel (t ∷ ts) l m (mid, inr is, rest) =
+    let later : mid.refusals ≤ m.refusals = served_later gives callee fuel ts mid m rest in
+    let one : mid.refusals ≡ l.refusals = is.refused_none in
+    omega (arith, one, later)
+
+rises_first : (a b c : ℕ) → a ≤ b → Rose b c → Rose a c
+rises_first a b c le rose = omega (arith, le, rose)
 
 sum_le : (a b c n k : ℕ) → a ≡ b + c → b ≡ n → n + c ≤ k → a ≤ k
 sum_le a b c n k e f h = omega (arith, e, f, h)
@@ -125,15 +141,16 @@ sum_le a b c n k e f h = omega (arith, e, f, h)
 le_sum : (a b c n k : ℕ) → a ≡ b + c → b ≡ n → a ≤ k → n + c ≤ k
 le_sum a b c n k e f h = omega (arith, e, f, h)
 
-module _ (Leaves : List ℕ → List ℕ → Type 0) (callee : Callee) (limits : Limits) (words : List ℕ) (before after : Moment) (ledger served left : LedgerState) (turns : List AskTurn) (len : ℕ) (asked : TurnsTaken callee before ledger served turns len) where
+module _ {T : Type 0} (gives : Giving T) (callee : Callee) (limits : Limits) (Leaves : List ℕ → List ℕ → Type 0) (words : List ℕ) (before after : Moment) (host served left : HostSide T) (turns : List AskTurn) (len : ℕ)
+    (asked : TurnsTaken gives callee limits.fuel before host served turns len) where
   abbrev first : List Event
   first = event.Start callee.func words before.bytes ∷ events_in turns
 
   early : Each IsEarly first
-  early = (tt, each_served IsEarly (λ n ws m. tt) (λ ws m. tt) callee turns ledger served asked.serves)
+  early = (tt, each_turn IsEarly (λ n ws m. tt) (λ o s a n p. tt) (λ ws m. tt) turns)
 
   count : asks_in first ≡ length turns
-  count = asks_served callee turns ledger served asked.serves
+  count = asks_turns turns
 
   prefix_of : (n : ℕ) (tail : List Event) → TailPrefix callee.post len tail → IsPrefixOfRun callee.func callee.post n (first ++ tail)
   prefix_of n tail h =
@@ -149,49 +166,54 @@ module _ (Leaves : List ℕ → List ℕ → Type 0) (callee : Callee) (limits :
         may_trap = subst (λ k. MayTrap k h.trap) (sym (len_then n first h.prefix ∙ ap (λ k. last_len k h.prefix) asked.last)) h.may_trap;
       }
 
-  pub rest_of_tail : (answer : Result (Vec Val Global) Error) (tail : List Event) → IsTail Leaves callee limits before after (length turns) len served left answer tail
-      → IsRest Leaves callee limits words before after ledger left answer (so_far callee words before turns tail)
-  rest_of_tail answer tail h = record {
+  pub rest_of_tail : (answer : Result (Vec Val Global) Error) (answers late : List Answer) (trap : Option Trap) (tail : List Event) → answers ≡ answers_in turns ++ late
+      → IsTail gives callee limits Leaves before after (length turns) len served left answer late trap tail → IsRest gives callee limits Leaves words before after host left answer answers (so_far callee words before turns tail)
+  rest_of_tail answer answers late trap tail all h = record {
     one_run = ok_then answer _ _ (λ (returned, memory, is). (words, before.bytes, returned, memory, record { reallocs = []; only_reallocs = tt; turns = turns; is = ap (λ es. first ++ es) is })) h.whole;
     prefix = λ n. prefix_of n tail h.prefix;
     turns = turns;
-    starts = inr (record { words = words; memory = before.bytes; tail = tail; is = refl; no_resume = h.no_resume });
+    late = late;
+    late_trap = trap;
+    tail = tail;
+    answers_are = all;
+    starts = inr (record { words = words; memory = before.bytes; is = refl; no_resume = h.no_resume; asking = h.asking });
     asks = λ none. sum_le (asks_in (first ++ tail)) (asks_in first) (asks_in tail) (length turns) limits.turns (asks_then first tail) count (h.asks none);
-    no_more = each_then IsNoRequest first tail (tt, each_served IsNoRequest (λ n ws m. tt) (λ ws m. tt) callee turns ledger served asked.serves) h.no_more;
     grows = (same_le (length before.bytes), asked.grows tail (length after.bytes) h.grows);
-    start = ((refl, refl), each_then _ (events_in turns) tail (each_served _ (λ n ws m. tt) (λ ws m. tt) callee turns ledger served asked.serves) (no_starts _ tail h.no_start));
+    start = ((refl, refl), each_then _ (events_in turns) tail (each_turn _ (λ n ws m. tt) (λ o s a n p. tt) (λ ws m. tt) turns) (no_starts _ tail h.no_start));
     only_results = if_ok_then answer _ _ (λ vals each. return_then _ first tail early each) h.only_results;
     posted = λ some. return_then _ first tail early (h.posted (λ none. some (post_then first tail early none)));
     count = h.values;
     leaves = ok_then answer _ _ (λ each. return_then _ first tail early each) h.leaves;
-    handles = (served, asked.serves, passes_after callee served left answer first tail early h.handles);
+    handles = (served, asked.serves, h.handles);
     cause = if_err_then answer _ _ (λ e because. because first count) h.cause;
-    valid = λ calm few right (end, serves, accepts).
-        let same : served ≡ end = served_same callee turns ledger served end asked.serves serves in
-        let mine : AcceptsLater callee served (first ++ tail) = subst (λ l. AcceptsLater callee l (first ++ tail)) (sym same) accepts in
-        h.valid (λ trapped. calm (ends_after IsTrap first tail trapped)) (le_sum (asks_in (first ++ tail)) (asks_in first) (asks_in tail) (length turns) limits.turns (asks_then first tail) count few) (each_after _ first tail right)
-        (last_ask_after _ first tail mine.0, each_after _ first tail mine.1);
+    valid = λ lawful same calm few right accepts.
+        h.valid lawful (λ rose. same (rises_first host.refusals served.refusals left.refusals (served_later gives callee limits.fuel turns host served asked.serves) rose))
+        (λ trapped. calm (ends_after IsTrap first tail trapped)) (le_sum (asks_in (first ++ tail)) (asks_in first) (asks_in tail) (length turns) limits.turns (asks_then first tail) count few) (each_after _ first tail right)
+        (accepts served asked.serves);
   }
 
 -- memory ran out for the start
-pub rest_of_none : (Leaves : List ℕ → List ℕ → Type 0) (callee : Callee) (limits : Limits) (words : List ℕ) (before after : Moment) (ledger : LedgerState) → length before.bytes ≤ length after.bytes
-    → IsRest Leaves callee limits words before after ledger ledger (Err (error.Fault fault.OutOfMemory)) []
-rest_of_none Leaves callee limits words before after ledger longer = record {
+pub rest_of_none : {T : Type 0} (gives : Giving T) (callee : Callee) (limits : Limits) (Leaves : List ℕ → List ℕ → Type 0) (words : List ℕ) (before after : Moment) (host : HostSide T) → length before.bytes ≤ length after.bytes
+    → IsRest gives callee limits Leaves words before after host host (Err (error.Fault fault.OutOfMemory)) [] []
+rest_of_none gives callee limits Leaves words before after host longer = record {
   one_run = tt;
   prefix = prefix_none callee.func callee.post;
   turns = [];
-  starts = inl (refl, refl);
+  late = [];
+  late_trap = None;
+  tail = [];
+  answers_are = refl;
+  starts = inl (refl, refl, refl, refl, refl);
   asks = λ none. omega arith;
-  no_more = tt;
   grows = longer;
   start = tt;
   only_results = tt;
   posted = λ some. absurd (some tt);
   count = tt;
   leaves = tt;
-  handles = (ledger, refl, inl (inl (refl, refl, tt)));
+  handles = (host, refl, inl (inl (refl, refl, inl tt, tt), refl));
   cause = tt;
-  valid = λ calm few right accepted. refl;
+  valid = λ lawful same calm few right accepted. refl;
 }
 
 -- ---- the guest didn't return
@@ -200,111 +222,232 @@ rest_of_none Leaves callee limits words before after ledger longer = record {
 answered_once : (e : ResourceFault) (a : ℕ) (d : Done ℕ) (l m : LedgerState) → d ≡ record { answer = Err e; after = l } → d ≡ record { answer = Ok a; after = m } → ⊥
 answered_once e a d l m h g = let w : ◌≡◌ {A = Result ℕ ResourceFault} (Err e) (Ok a) = ap (λ (x : Done ℕ). x.answer) (sym h ∙ g) in cc
 
+more_than : (n most : ℕ) → n ≡ most → n + 1 ≤ most → ⊥
+more_than n most e h = omega (arith, e, h)
+
+kept_side : {T : Type 0} (a b : HostSide T) → b ≡ a → b ≡ record a { ledger = b.ledger }
+kept_side a b same = same ∙ (λ i. record a { ledger = ap (λ s. s.ledger) (sym same) i })
+
+-- ---- an ask that isn't resumed
+
+asks_late : (late : List Answer) (trap : Option Trap) → asks_in (events_of late trap) ≡ 0
+asks_late late trap = ap asks_in (sym (append-nil (events_of late trap))) ∙ asks_answers late trap []
+
+one_more : (count n most : ℕ) → n ≡ 0 → count + 1 ≤ most → count + (1 + n) ≤ most
+one_more count n most e h = omega (arith, e, h)
+
+one_fewer : (count n most : ℕ) → count + (1 + n) ≤ most → count + 1 ≤ most
+one_fewer count n most h = omega (arith, h)
+
+turns_more : (n k most : ℕ) → n ≡ most → k ≡ 0 → n + (1 + k) ≡ most + 1
+turns_more n k most e h = omega (arith, e, h)
+
+untrapped_late : (index : ℕ) (asked memory : List ℕ) (late : List Answer) (trap : Option Trap) → ¬ EndsIn IsTrap (event.Ask index asked memory ∷ events_of late trap) → trap ≡ None
+untrapped_late index asked memory late None calm = refl
+untrapped_late index asked memory late (Some t) calm = absurd (calm (ends_after IsTrap (event.Ask index asked memory ∷ []) (events_of late (Some t)) (ends_in_trap late t)))
+
+abbrev traps_in : Option Trap → List Event
+traps_in None = []
+traps_in (Some t) = asked_trap t.call t.len ∷ []
+
+split_trap : (late : List Answer) (trap : Option Trap) → events_of late trap ≡ events_of late None ++ traps_in trap
+split_trap late None = sym (append-nil (events_of late None))
+split_trap late (Some t) = events_of-trap late t
+
+late_trap_may : (n : ℕ) (late : List Answer) (trap : Option Trap) → TrapsLate n trap → MayTrap (last_len n (events_of late None)) (traps_in trap)
+late_trap_may n late None h = tt
+late_trap_may n late (Some t) h = rw (ap (λ es. last_len n es) (sym (append-nil (events_of late None))) ∙ last_len_answers n late []) h
+
+asked_prefix : (post : Option ℕ) (len index : ℕ) (asked memory : List ℕ) (late : List Answer) (trap : Option Trap) → TrapsLate (length memory) trap → TailPrefix post len (event.Ask index asked memory ∷ events_of late trap)
+asked_prefix post len index asked memory late trap h = record {
+  more = ask_turn index asked memory late [] [] ∷ [];
+  returned = [];
+  memory = [];
+  prefix = event.Ask index asked memory ∷ events_of late None;
+  rest = event.Resume [] [] ∷ event.Return [] [] ∷ posts post [];
+  trap = traps_in trap;
+  begins = ap (λ es. event.Ask index asked memory ∷ es) (append_assoc (events_of late None) (event.Resume [] [] ∷ []) (event.Return [] [] ∷ posts post []));
+  tail_is = ap (λ es. event.Ask index asked memory ∷ es) (split_trap late trap);
+  may_trap = late_trap_may (length memory) late trap h;
+}
+
+-- ---- an import
+
+same_import : (o : Option Import) (a b : Import) → o ≡ Some a → o ≡ Some b → a ≡ b
+same_import o a b h g = cc
+
 none_some : (o : Option Import) (i : Import) → o ≡ None → o ≡ Some i → ⊥
 none_some o i h g = cc
 
-some_there : (o : Option Import) (i : Import) → o ≡ Some i → IsSome o
-some_there o i h = ap is_some h
+-- a builtin is an import, and takes one word
+record ImportOf (callee : Callee) (index words : ℕ) : Type 0 where
+  called : Import
+  there : slice_get callee.imports index ≡ Some called
+  takes : words ≡ import_words callee called
 
-module _ (Leaves : List ℕ → List ℕ → Type 0) (callee : Callee) (limits : Limits) (before after : Moment) (count len : ℕ) (served left : LedgerState) where
-  trapped_tail : len ≤ length after.bytes → Rose before.guest.traps after.guest.traps → count ≤ limits.turns → left ≡ served → IsTail Leaves callee limits before after count len served left (Err (error.Fault fault.GuestTrap)) (trap_event len ∷ [])
+builtin_import : (callee : Callee) (o : Option Import) (b : Builtin) → option_and_then builtin_of o ≡ Some b → (i : Import) × (o ≡ Some i) × (import_words callee i ≡ 1)
+builtin_import callee None b h = cc
+builtin_import callee (Some (import.Host t p)) b h = cc
+builtin_import callee (Some (import.ResourceNew t)) b h = (import.ResourceNew t, refl, refl)
+builtin_import callee (Some (import.ResourceRep t)) b h = (import.ResourceRep t, refl, refl)
+builtin_import callee (Some (import.ResourceDrop t)) b h = (import.ResourceDrop t, refl, refl)
+
+builtin_words : (callee : Callee) (index : ℕ) (words : List ℕ) (b : Builtin) → IsAskOf callee index words b → ImportOf callee index (length words)
+builtin_words callee index words b h = let (i, there, one) = builtin_import callee (slice_get callee.imports index) b h.known in record { called = i; there = there; takes = h.one ∙ sym one }
+
+host_words_of : (callee : Callee) (index : ℕ) (words : List ℕ) (asked : Asked) → IsHostAsk callee index words asked → ImportOf callee index (length words)
+host_words_of callee index words asked h = record {
+  called = import.Host asked.ty asked.options;
+  there = h.known;
+  takes = h.count ∙ ap (λ o. host_words callee.types o) (sym h.func);
+}
+
+-- an ask is of a builtin or of a function of the host
+not_both_kinds : (o : Option Import) (b : Builtin) (t p : ℕ) → option_and_then builtin_of o ≡ Some b → o ≡ Some (import.Host t p) → ⊥
+not_both_kinds o b t p h g = let w : option_and_then builtin_of (Some (import.Host t p)) ≡ Some b = subst (λ k. option_and_then builtin_of k ≡ Some b) g h in cc
+
+same_builtin : (o : Option Builtin) (a b : Builtin) → o ≡ Some a → o ≡ Some b → a ≡ b
+same_builtin o a b h g = cc
+
+module _ {T : Type 0} (gives : Giving T) (callee : Callee) (limits : Limits) (Leaves : List ℕ → List ℕ → Type 0) (before after : Moment) (count len : ℕ) (served left : HostSide T) where
+  trapped_tail : len ≤ length after.bytes → Rose before.guest.traps after.guest.traps → count ≤ limits.turns → left ≡ served
+      → IsTail gives callee limits Leaves before after count len served left (Err (error.Fault fault.GuestTrap)) [] None (trap_event len ∷ [])
   trapped_tail longer rose few same = record {
     whole = tt;
     prefix = record { more = []; returned = []; memory = []; prefix = []; rest = event.Return [] [] ∷ posts callee.post []; trap = trap_event len ∷ []; begins = refl; tail_is = refl; may_trap = same_le len };
     no_resume = (tt, tt);
     no_start = (tt, tt);
-    no_more = (tt, tt);
+    asking = ((tt, tt), refl, refl);
     grows = (same_le len, longer);
     asks = λ none. omega (arith, few);
     only_results = tt;
     posted = λ some. absurd (some (tt, tt));
     values = tt;
     leaves = tt;
-    handles = inl (inl (refl, same, (tt, tt)));
+    handles = inl (inl (refl, ap (λ s. s.ledger) same, inl (tt, tt), tt), kept_side served left same);
     cause = λ xs told. (rose, ends_after IsTrap xs (trap_event len ∷ []) tt);
-    valid = λ calm few right accepted. absurd (calm tt);
+    valid = λ lawful rest calm few right accepted. absurd (calm tt);
   }
 
-  module _ (index : ℕ) (asked memory : List ℕ) (first : len ≤ length memory) (second : length memory ≤ length after.bytes) where
-    asked_tail : (e : Error) → (◌≢◌ {A = Result (Vec Val Global) Error} (Err e) (Err error.TurnsExhausted) → count + 1 ≤ limits.turns) → AskStops callee e index asked served left
-        → ((xs : List Event) → asks_in xs ≡ count → RestCause callee limits before after (xs ++ event.Ask index asked memory ∷ []) e)
-        → (count + 1 ≤ limits.turns → AcceptsAsk callee index asked served → e ≡ error.Fault fault.OutOfMemory)
-        → IsTail Leaves callee limits before after count len served left (Err e) (event.Ask index asked memory ∷ [])
+  module _ (index : ℕ) (asked memory : List ℕ) (late : List Answer) (trap : Option Trap) (first : len ≤ length memory) (second : length memory ≤ length after.bytes) (traps_late : TrapsLate (length memory) trap) where
+    abbrev tail : List Event
+    tail = event.Ask index asked memory ∷ events_of late trap
+
+    asked_tail : (e : Error) → (◌≢◌ {A = Result (Vec Val Global) Error} (Err e) (Err error.TurnsExhausted) → count + 1 ≤ limits.turns) → AskStops gives callee limits.fuel e index asked memory after.bytes late trap served left
+        → ((xs : List Event) → asks_in xs ≡ count → RestCause callee limits before after (xs ++ tail) tail e)
+        → (AllLawful late → trap ≡ None → ¬ Rose served.refusals left.refusals → count + 1 ≤ limits.turns → AcceptsAsk gives callee limits.fuel index asked memory served → e ≡ error.Fault fault.OutOfMemory)
+        → IsTail gives callee limits Leaves before after count len served left (Err e) late trap tail
     asked_tail e few stops cause excluded = record {
       whole = tt;
-      prefix = record {
-        more = record { index = index; words = asked; memory = memory; reallocs = []; only_reallocs = tt; resumed_words = []; resumed_memory = [] } ∷ [];
-        returned = [];
-        memory = [];
-        prefix = event.Ask index asked memory ∷ [];
-        rest = event.Resume [] [] ∷ event.Return [] [] ∷ posts callee.post [];
-        trap = [];
-        begins = refl;
-        tail_is = refl;
-        may_trap = tt;
-      };
-      no_resume = (tt, tt);
-      no_start = (tt, tt);
-      no_more = (tt, tt);
-      grows = (first, second);
-      asks = few;
+      prefix = asked_prefix callee.post len index asked memory late trap traps_late;
+      no_resume = (tt, each_answer IsNoResume (λ c a. tt) (λ c n. tt) late trap);
+      no_start = (tt, each_answer IsNoStart (λ c a. tt) (λ c n. tt) late trap);
+      asking = refl;
+      grows = (first, grows_request (length memory) (length after.bytes) late trap traps_late second);
+      asks = λ other. one_more count (asks_in (events_of late trap)) limits.turns (asks_late late trap) (few other);
       only_results = tt;
-      posted = λ some. absurd (some (tt, tt));
+      posted = λ some. absurd (some (tt, each_answer IsNoPost (λ c a. tt) (λ c n. tt) late trap));
       values = tt;
       leaves = tt;
       handles = inr stops;
       cause = cause;
-      valid = λ calm within right accepted. excluded within accepted.0;
+      valid = λ lawful rest calm within right accepted. excluded lawful (untrapped_late index asked memory late trap calm) rest (one_fewer count (asks_in (events_of late trap)) limits.turns within) accepted.0;
     }
 
-    -- it was the last event
-    last : (P : ℕ → List ℕ → Type 0) (xs : List Event) → P index asked → EndsIn (IsAsk P) (xs ++ event.Ask index asked memory ∷ [])
-    last P xs p = ends_after (IsAsk P) xs (event.Ask index asked memory ∷ []) p
+    counted : late ≡ [] → trap ≡ None → (xs : List Event) → asks_in xs ≡ count → count ≡ limits.turns → asks_in (xs ++ tail) ≡ limits.turns + 1
+    counted none quiet xs told all = asks_then xs tail ∙ turns_more (asks_in xs) (asks_in (events_of late trap)) limits.turns (told ∙ all) (asks_late late trap)
 
-    more_than : (n most : ℕ) → n ≡ most → n + 1 ≤ most → ⊥
-    more_than n most e h = omega (arith, e, h)
+    exhausted_tail : count ≡ limits.turns → AskStops gives callee limits.fuel error.TurnsExhausted index asked memory after.bytes late trap served left
+        → IsTail gives callee limits Leaves before after count len served left (Err error.TurnsExhausted) late trap tail
+    exhausted_tail all stops = asked_tail error.TurnsExhausted (λ none. absurd (none refl)) stops (λ xs told. (none_more late trap stops.1.0 stops.1.1, counted stops.1.0 stops.1.1 xs told all)) (λ lawful quiet rest within accepted. absurd (more_than count limits.turns all within))
 
-    counted : (xs : List Event) → asks_in xs ≡ count → count ≡ limits.turns → asks_in (xs ++ event.Ask index asked memory ∷ []) ≡ limits.turns + 1
-    counted xs told all = asks_then xs (event.Ask index asked memory ∷ []) ∙ ap (λ n. n + 1) (told ∙ all)
+    -- the ask can be served
+    builtin_excluded : (r : ResourceFault) → BuiltinStops callee index asked served left (error.ImportFault index (fault.Resource r)) → AcceptsAsk gives callee limits.fuel index asked memory served → ⊥
+    builtin_excluded r h (inl (b, is, (answer, next, taken))) =
+        answered_once h.why answer (ask_step callee.types h.called asked served.ledger) left.ledger next h.refused
+        (subst (λ k. ask_step callee.types k asked served.ledger ≡ record { answer = Ok answer; after = next }) (same_builtin (builtin_at callee index) b h.called is.known h.is.known) taken)
+    builtin_excluded r h (inr (a, ok)) = not_both_kinds (slice_get callee.imports index) h.called a.ty a.options h.is.known ok.is.known
 
-    exhausted_tail : count ≡ limits.turns → left ≡ served → IsTail Leaves callee limits before after count len served left (Err error.TurnsExhausted) (event.Ask index asked memory ∷ [])
-    exhausted_tail all same = asked_tail error.TurnsExhausted (λ none. absurd (none refl)) same (λ xs told. (last (λ i ws. ⊤) xs tt, counted xs told all)) (λ within accepted. absurd (more_than count limits.turns all within))
+    host_excluded : (e : Error) (a : Asked) → HostStops gives callee limits.fuel a index asked memory after.bytes late trap served left e → AllLawful late → trap ≡ None → ¬ Rose served.refusals left.refusals
+        → AcceptsAsk gives callee limits.fuel index asked memory served → e ≡ error.Fault fault.OutOfMemory
+    host_excluded e a h lawful none few (inl (b, is, more)) = absurd (not_both_kinds (slice_get callee.imports index) b a.ty a.options is.known h.is.known)
+    host_excluded e a h lawful none few (inr (b, ok)) =
+        asked_excluded gives callee limits.fuel a index asked memory after.bytes late trap served left lawful none e h
+        (subst (λ k. AcceptsHost gives callee limits.fuel k index asked memory served) (is_asked callee index asked a b h.is ok.is) ok) few
 
-    stopped_tail : (e : Error) → count + 1 ≤ limits.turns → AskStops callee e index asked served left → (e ≡ error.TurnsExhausted → ⊥) → IsTail Leaves callee limits before after count len served left (Err e) (event.Ask index asked memory ∷ [])
-    stopped_tail (error.UnknownImport n) few stops other = asked_tail (error.UnknownImport n) (λ none. few) stops (λ xs told. last (λ i ws. (i ≡ n) × (slice_get callee.imports i ≡ None)) xs (sym stops.0, stops.1))
-        (λ within accepted. absurd (none_some (slice_get callee.imports index) accepted.0 stops.1 accepted.1.known))
-    stopped_tail error.WrongWords few stops other = asked_tail error.WrongWords (λ none. few) stops (λ xs told. inr (last (λ i ws. IsSome (slice_get callee.imports i) × ¬ (length ws ≡ 1)) xs (stops.0, stops.1)))
-        (λ within accepted. absurd (stops.1 accepted.1.one))
-    stopped_tail (error.ImportFault n (fault.Resource r)) few stops other =
-        let (called, is, refused) = stops.2 in
-        asked_tail (error.ImportFault n (fault.Resource r)) (λ none. few) stops
-        (λ xs told. (stops.1, last (λ i ws. IsSome (slice_get callee.imports i) × ((i ≡ n) × (length ws ≡ 1))) xs (some_there (slice_get callee.imports index) called is.known, (sym stops.0, is.one))))
-        (λ within accepted. absurd (answered_once r accepted.2.0 (ask_step callee.types called asked served) left accepted.2.1 refused
-        (subst (λ i. ask_step callee.types i asked served ≡ record { answer = Ok accepted.2.0; after = accepted.2.1 }) (is_import callee index asked accepted.0 called accepted.1 is) accepted.2.2)))
-    stopped_tail (error.Fault fault.OutOfMemory) few stops other = asked_tail (error.Fault fault.OutOfMemory) (λ none. few) stops (λ xs told. tt) (λ within accepted. refl)
-    stopped_tail error.TurnsExhausted few stops other = absurd (other refl)
-    stopped_tail e few stops other = absurd stops
+    fault_excluded : (n : ℕ) (f : Fault) → AskStops gives callee limits.fuel (error.ImportFault n f) index asked memory after.bytes late trap served left → AllLawful late → trap ≡ None → ¬ Rose served.refusals left.refusals
+        → AcceptsAsk gives callee limits.fuel index asked memory served → error.ImportFault n f ≡ error.Fault fault.OutOfMemory
+    fault_excluded n f (same, inl (h, quiet)) lawful none few accepted = absurd (builtin_excluded h.why (subst (λ err. BuiltinStops callee index asked served left err) h.fault h) accepted)
+    fault_excluded n f (same, inr (a, h)) lawful none few accepted = host_excluded (error.ImportFault n f) a h lawful none few accepted
+
+    fault_import : (n : ℕ) (f : Fault) → AskStops gives callee limits.fuel (error.ImportFault n f) index asked memory after.bytes late trap served left → ImportOf callee index (length asked)
+    fault_import n f (same, inl (h, quiet)) = builtin_words callee index asked h.called h.is
+    fault_import n f (same, inr (a, h)) = host_words_of callee index asked a h.is
+
+    import_accepted : AcceptsAsk gives callee limits.fuel index asked memory served → ImportOf callee index (length asked)
+    import_accepted (inl (b, is, more)) = builtin_words callee index asked b is
+    import_accepted (inr (a, ok)) = host_words_of callee index asked a ok.is
+
+    unknown_excluded : slice_get callee.imports index ≡ None → AcceptsAsk gives callee limits.fuel index asked memory served → ⊥
+    unknown_excluded none accepted = let of = import_accepted accepted in none_some (slice_get callee.imports index) of.called none of.there
+
+    words_excluded : (called : Import) → slice_get callee.imports index ≡ Some called → ¬ (length asked ≡ import_words callee called) → AcceptsAsk gives callee limits.fuel index asked memory served → ⊥
+    words_excluded called is other accepted =
+        let of = import_accepted accepted in other (subst (λ k. length asked ≡ import_words callee k) (same_import (slice_get callee.imports index) of.called called of.there is) of.takes)
+
+    no_builtin_trap : (n : ℕ) (f : Fault) → f ≡ fault.GuestTrap → BuiltinStops callee index asked served left (error.ImportFault n f) → ⊥
+    no_builtin_trap n f trapped h = let w = subst (λ g. error.ImportFault n g ≡ error.ImportFault index (fault.Resource h.why)) trapped h.fault in cc
+
+    trap_ends : (n : ℕ) (f : Fault) (xs : List Event) → AskStops gives callee limits.fuel (error.ImportFault n f) index asked memory after.bytes late trap served left → f ≡ fault.GuestTrap → EndsIn IsTrap (xs ++ tail)
+    trap_ends n f xs (same, inl (h, quiet)) trapped = absurd (no_builtin_trap n f trapped h)
+    trap_ends n f xs (same, inr (a, h)) trapped =
+        let (t, is) = asked_traps gives callee limits.fuel a index asked memory after.bytes late trap served left n (subst (λ g. HostStops gives callee limits.fuel a index asked memory after.bytes late trap served left (error.ImportFault n g)) trapped h) in
+        ends_after IsTrap xs tail (ends_after IsTrap (event.Ask index asked memory ∷ []) (events_of late trap) (subst (λ o. EndsIn IsTrap (events_of late o)) (sym is) (ends_in_trap late t)))
+
+    rises_of : (n : ℕ) (f : Fault) → f ≡ fault.GuestTrap → RisesAt (error.ImportFault n f) before after → Rose before.guest.traps after.guest.traps
+    rises_of n f trapped rises = subst (λ g. RisesAt (error.ImportFault n g) before after) trapped rises
+
+    stopped_tail : (e : Error) → count + 1 ≤ limits.turns → AskStops gives callee limits.fuel e index asked memory after.bytes late trap served left → RisesAt e before after → (e ≡ error.TurnsExhausted → ⊥)
+        → IsTail gives callee limits Leaves before after count len served left (Err e) late trap tail
+    stopped_tail (error.UnknownImport n) few stops rises other = asked_tail (error.UnknownImport n) (λ none. few) stops (λ xs told. (sym stops.0, stops.1, none_more late trap stops.3.0 stops.3.1)) (λ lawful quiet rest within accepted. absurd (unknown_excluded stops.1 accepted))
+    stopped_tail error.WrongWords few stops rises other = asked_tail error.WrongWords (λ none. few) stops (λ xs told. inr (stops.0, stops.1, stops.2, none_more late trap stops.4.0 stops.4.1)) (λ lawful quiet rest within accepted. absurd (words_excluded stops.0 stops.1 stops.2 accepted))
+    stopped_tail (error.ImportFault n f) few stops rises other =
+        let of = fault_import n f stops in
+        asked_tail (error.ImportFault n f) (λ none. few) stops (λ xs told. ((sym stops.0, (of.called, of.there, of.takes)), λ trapped. (rises_of n f trapped rises, trap_ends n f xs stops trapped)))
+        (λ lawful quiet rest within accepted. fault_excluded n f stops lawful quiet rest accepted)
+    stopped_tail (error.HostRefused n) few stops rises other = asked_tail (error.HostRefused n) (λ none. few) stops (λ xs told. (sym stops.0, refused_alone gives callee limits.fuel stops.1.0 index asked memory after.bytes late trap served left n stops.1.1, (stops.1.0.ty, stops.1.0.options, stops.1.1.is.known)))
+        (λ lawful quiet rest within accepted. host_excluded (error.HostRefused n) stops.1.0 stops.1.1 lawful quiet rest accepted)
+    stopped_tail (error.Fault fault.OutOfMemory) few stops rises other = asked_tail (error.Fault fault.OutOfMemory) (λ none. few) stops (λ xs told. tt) (λ lawful quiet rest within accepted. refl)
+    stopped_tail error.TurnsExhausted few stops rises other = absurd (other refl)
+    stopped_tail e few stops rises other = absurd stops
+
+  in_ask_rest : (e : Error) (late : List Answer) (trap : Option Trap) (tail : List Event) → count < limits.turns → StopsInAsk gives callee limits count len before after served left e late trap tail → (e ≡ error.TurnsExhausted → ⊥)
+      → IsTail gives callee limits Leaves before after count len served left (Err e) late trap tail
+  in_ask_rest e late trap tail lt h other =
+      subst (λ es. IsTail gives callee limits Leaves before after count len served left (Err e) late trap es) (sym h.is)
+      (stopped_tail h.index h.words h.memory late trap h.longer h.shorter h.traps_late e (omega (arith, lt)) h.stops h.rises other)
 
   -- however it stopped
-  pub stopped_rest : (e : Error) (tail : List Event) → len ≤ length after.bytes → count ≤ limits.turns → Stopped callee limits.turns count len before after served left (Err e) tail → IsTail Leaves callee limits before after count len served left (Err e) tail
-  stopped_rest (error.Fault fault.GuestTrap) tail longer few (rose, are, same) = subst (λ es. IsTail Leaves callee limits before after count len served left (Err (error.Fault fault.GuestTrap)) es) (sym are) (trapped_tail longer rose few same)
-  stopped_rest error.TurnsExhausted tail longer few (index, words, memory, are, a, b, all, same) =
-      subst (λ es. IsTail Leaves callee limits before after count len served left (Err error.TurnsExhausted) es) (sym are) (exhausted_tail index words memory a b all same)
-  stopped_rest e tail longer few h =
-      subst (λ es. IsTail Leaves callee limits before after count len served left (Err e) es) (sym h.3) (stopped_tail h.0 h.1 h.2 h.4 h.5 e (omega (arith, h.6)) h.7 (λ q. cc))
+  pub stopped_rest : (e : Error) (late : List Answer) (trap : Option Trap) (tail : List Event) → len ≤ length after.bytes → count ≤ limits.turns → Stopped gives callee limits count len before after served left (Err e) late trap tail
+      → IsTail gives callee limits Leaves before after count len served left (Err e) late trap tail
+  stopped_rest (error.Fault fault.GuestTrap) late trap tail longer few (rose, are, (none, quiet, same)) =
+      rw (none, quiet) (subst (λ es. IsTail gives callee limits Leaves before after count len served left (Err (error.Fault fault.GuestTrap)) [] None es) (sym are) (trapped_tail longer rose few same))
+  stopped_rest error.TurnsExhausted late trap tail longer few (all, h) =
+      subst (λ es. IsTail gives callee limits Leaves before after count len served left (Err error.TurnsExhausted) late trap es) (sym h.is) (exhausted_tail h.index h.words h.memory late trap h.longer h.shorter h.traps_late all h.stops)
+  stopped_rest e late trap tail longer few h = in_ask_rest e late trap tail h.0 h.1 (λ q. cc)
 
 -- ---- it returned
 
-module _ (Leaves : List ℕ → List ℕ → Type 0) (callee : Callee) (limits : Limits) (before after : Moment) (count len : ℕ) (ledger left : LedgerState) (returned memory : List ℕ) (few : count ≤ limits.turns) (first : len ≤ length memory) (second : length memory ≤ length after.bytes) where
+module _ {T : Type 0} (gives : Giving T) (callee : Callee) (limits : Limits) (Leaves : List ℕ → List ℕ → Type 0) (before after : Moment) (count len : ℕ) (host left : HostSide T) (kept : left ≡ record host { ledger = left.ledger }) (returned memory : List ℕ) (few : count ≤ limits.turns) (first : len ≤ length memory) (second : length memory ≤ length after.bytes) where
   -- the ledger accepts the handles of what was returned
   abbrev Accepted : Type 0
-  Accepted = (resources : List Any) × (lifted : LedgerState) × LiftsReturned callee returned memory resources ledger lifted
+  Accepted = (resources : List Any) × (lifted : LedgerState) × LiftsReturned callee returned memory resources host.ledger lifted
 
   -- and then nothing was told to it
-  returned_made : (e : Error) → StopsLater callee (stopped_by e) ledger left (event.Return returned memory ∷ [])
-      → ((xs : List Event) → asks_in xs ≡ count → RestCause callee limits before after (xs ++ event.Return returned memory ∷ []) e)
+  returned_made : (e : Error) → StopsLater callee (stopped_by e) host.ledger left.ledger (event.Return returned memory ∷ [])
+      → ((xs : List Event) → asks_in xs ≡ count → RestCause callee limits before after (xs ++ event.Return returned memory ∷ []) (event.Return returned memory ∷ []) e)
       → ((us : Trees) → RepResults false callee.encoding (narrow memory) returned callee.results us → members_cost callee.results us ≤ limits.fuel → Accepted → e ≡ error.Fault fault.OutOfMemory)
-      → IsTail Leaves callee limits before after count len ledger left (Err e) (event.Return returned memory ∷ [])
+      → IsTail gives callee limits Leaves before after count len host left (Err e) [] None (event.Return returned memory ∷ [])
   returned_made e handles cause excluded = record {
     whole = tt;
     prefix = record {
@@ -320,16 +463,16 @@ module _ (Leaves : List ℕ → List ℕ → Type 0) (callee : Callee) (limits :
     };
     no_resume = (tt, tt);
     no_start = (tt, tt);
-    no_more = (tt, tt);
+    asking = ((tt, tt), refl, refl);
     grows = (first, second);
     asks = λ none. omega (arith, few);
     only_results = tt;
     posted = λ some. absurd (some (tt, tt));
     values = tt;
     leaves = tt;
-    handles = inl handles;
+    handles = inl (handles, kept);
     cause = cause;
-    valid = λ calm within right accepted. excluded right.0.0 right.0.1 right.0.2 accepted.1.0;
+    valid = λ lawful rest calm within right accepted. excluded right.0.0 right.0.1 right.0.2 accepted.1.0;
   }
 
   -- it was the last event
@@ -342,17 +485,17 @@ module _ (Leaves : List ℕ → List ℕ → Type 0) (callee : Callee) (limits :
   excludes e k at f us r few accepted = absurd (fault_excludes.values max_results false callee.encoding (narrow memory) returned callee.results us k (place_of at) f.1 r)
 
   -- handles stopped at the end of the scope or after it
-  stopped : (f : Fault) → Lifted callee limits.fuel returned memory ledger left (Err (error.Fault f)) → StopsLater callee (stop_of f) ledger left (event.Return returned memory ∷ [])
+  stopped : (f : Fault) → Lifted callee limits.fuel returned memory host.ledger left.ledger (Err (error.Fault f)) → StopsLater callee (stop_of f) host.ledger left.ledger (event.Return returned memory ∷ [])
   stopped f h = inr (inl ((tt, tt), (λ trapped. trapped), inl (h.0, h.2)))
 
-  faulted : (f : Fault) → Lifted callee limits.fuel returned memory ledger left (Err (error.Fault f))
-      → ((xs : List Event) → asks_in xs ≡ count → RestCause callee limits before after (xs ++ event.Return returned memory ∷ []) (error.Fault f))
+  faulted : (f : Fault) → Lifted callee limits.fuel returned memory host.ledger left.ledger (Err (error.Fault f))
+      → ((xs : List Event) → asks_in xs ≡ count → RestCause callee limits before after (xs ++ event.Return returned memory ∷ []) (event.Return returned memory ∷ []) (error.Fault f))
       → ((us : Trees) → RepResults false callee.encoding (narrow memory) returned callee.results us → members_cost callee.results us ≤ limits.fuel → Accepted → error.Fault f ≡ error.Fault fault.OutOfMemory)
-      → IsTail Leaves callee limits before after count len ledger left (Err (error.Fault f)) (event.Return returned memory ∷ [])
+      → IsTail gives callee limits Leaves before after count len host left (Err (error.Fault f)) [] None (event.Return returned memory ∷ [])
   faulted f h cause excluded = returned_made (error.Fault f) (stopped f h) cause excluded
 
-  pub lifted_made : (e : Error) → (e ≡ error.Fault fault.GuestTrap → ⊥) → Lifted callee limits.fuel returned memory ledger left (Err e) → IsTail Leaves callee limits before after count len ledger left (Err e) (event.Return returned memory ∷ [])
-  lifted_made error.WrongWords n h = returned_made error.WrongWords (inl (refl, h.1, (h.0, tt))) (λ xs told. inl (at_end _ xs h.0)) (λ us r few accepted. absurd (h.0 (words_of_results callee.encoding (narrow memory) returned callee.results us r)))
+  pub lifted_made : (e : Error) → (e ≡ error.Fault fault.GuestTrap → ⊥) → Lifted callee limits.fuel returned memory host.ledger left.ledger (Err e) → IsTail gives callee limits Leaves before after count len host left (Err e) [] None (event.Return returned memory ∷ [])
+  lifted_made error.WrongWords n h = returned_made error.WrongWords (inl (refl, h.1, inr h.0, tt)) (λ xs told. inl (at_end _ xs h.0)) (λ us r few accepted. absurd (h.0 (words_of_results callee.encoding (narrow memory) returned callee.results us r)))
   lifted_made (error.Fault (fault.PointerMisaligned at)) n h = faulted (fault.PointerMisaligned at) h (λ xs told. at_end _ xs h.1) (excludes (error.Fault (fault.PointerMisaligned at)) _ _ h.1)
   lifted_made (error.Fault (fault.PointerOutOfBounds at)) n h = faulted (fault.PointerOutOfBounds at) h (λ xs told. at_end _ xs h.1) (excludes (error.Fault (fault.PointerOutOfBounds at)) _ _ h.1)
   lifted_made (error.Fault (fault.InvalidUtf8 at)) n h = faulted (fault.InvalidUtf8 at) h (λ xs told. at_end _ xs h.1) (excludes (error.Fault (fault.InvalidUtf8 at)) _ _ h.1)
@@ -363,7 +506,7 @@ module _ (Leaves : List ℕ → List ℕ → Type 0) (callee : Callee) (limits :
       (λ us r few accepted. absurd (past_cost limits.fuel _ _ h.1.1 (reach_is_the_cost.values max_results false callee.encoding (narrow memory) returned callee.results us r) few))
   lifted_made (error.Fault fault.OutOfMemory) n h = faulted fault.OutOfMemory h (λ xs told. tt) (λ us r few accepted. refl)
   lifted_made (error.Fault (fault.Resource r)) n h = faulted (fault.Resource r) h (λ xs told. (h.1, at_end _ xs h.0))
-      (λ us rep few accepted. absurd (returned_excluded callee returned memory r ledger left accepted.1 accepted.0 (subst (λ why. StopsReturned callee returned memory why ledger left) h.1 h.2) accepted.2))
+      (λ us rep few accepted. absurd (returned_excluded callee returned memory r host.ledger left.ledger accepted.1 accepted.0 (subst (λ why. StopsReturned callee returned memory why host.ledger left.ledger) h.1 h.2) accepted.2))
   lifted_made (error.Fault f) n h = absurd h.1
   lifted_made e n h = absurd h
 
@@ -372,8 +515,8 @@ module _ (Leaves : List ℕ → List ℕ → Type 0) (callee : Callee) (limits :
 
   -- the whole was done
   pub done_made : (vals : Vec Val Global) → (rest : ℕ) × AreResults callee.encoding (narrow memory) callee.results returned limits.fuel rest vals.items → Left Leaves callee.post memory after.bytes
-      → Concludes callee returned memory vals.items ledger left → IsTail Leaves callee limits before after count len ledger left (Ok vals) (event.Return returned memory ∷ posts callee.post returned)
-  done_made vals (rest, results) kept concludes = record {
+      → Concludes callee returned memory vals.items host.ledger left.ledger → IsTail gives callee limits Leaves before after count len host left (Ok vals) [] None (event.Return returned memory ∷ posts callee.post returned)
+  done_made vals (rest, results) stays concludes = record {
     whole = (returned, memory, refl);
     prefix = record {
       more = [];
@@ -388,23 +531,23 @@ module _ (Leaves : List ℕ → List ℕ → Type 0) (callee : Callee) (limits :
     };
     no_resume = (tt, each_post IsNoResume (λ p ws. tt) callee.post returned);
     no_start = (tt, each_post IsNoStart (λ p ws. tt) callee.post returned);
-    no_more = (tt, each_post IsNoRequest (λ p ws. tt) callee.post returned);
+    asking = ((tt, each_post IsNoRequest (λ p ws. tt) callee.post returned), refl, refl);
     grows = (first, grows_post callee.post returned (length memory) (length after.bytes) second);
     asks = λ none. asks_few few (asks_post callee.post returned);
     only_results = ((rest, results), each_post _ (λ p ws. tt) callee.post returned);
     posted = λ some. ((rest, vals.items, results), each_post _ (λ p ws. tt) callee.post returned);
     values = have_count true callee.results vals.items results.its_trees results.have;
-    leaves = (kept, each_post _ (λ p ws. tt) callee.post returned);
-    handles = (concludes, each_post _ (λ p ws. tt) callee.post returned);
+    leaves = (stays, each_post _ (λ p ws. tt) callee.post returned);
+    handles = ((concludes, each_post _ (λ p ws. tt) callee.post returned), kept);
     cause = tt;
-    valid = λ calm within right accepted. tt;
+    valid = λ lawful rest calm within right accepted. tt;
   }
 
 -- post-return trapped
-post_trapped_made : (Leaves : List ℕ → List ℕ → Type 0) (callee : Callee) (limits : Limits) (before after : Moment) (count len : ℕ) (ledger left : LedgerState) (returned memory : List ℕ) (p : ℕ) → count ≤ limits.turns → len ≤ length memory
-    → length memory ≤ length after.bytes → callee.post ≡ Some p → Rose before.guest.traps after.guest.traps → ((vals : Vec Val Global) × Lifted callee limits.fuel returned memory ledger left (Ok vals))
-    → IsTail Leaves callee limits before after count len ledger left (Err (error.Fault fault.GuestTrap)) (event.Return returned memory ∷ event.Post p returned ∷ trap_event (length memory) ∷ [])
-post_trapped_made Leaves callee limits before after count len ledger left returned memory p few first second e rose (vals, (rest, results, lifts, empty)) = record {
+post_trapped_made : {T : Type 0} (gives : Giving T) (callee : Callee) (limits : Limits) (Leaves : List ℕ → List ℕ → Type 0) (before after : Moment) (count len : ℕ) (host left : HostSide T) → left ≡ record host { ledger = left.ledger } → (returned memory : List ℕ) (p : ℕ)
+    → count ≤ limits.turns → len ≤ length memory → length memory ≤ length after.bytes → callee.post ≡ Some p → Rose before.guest.traps after.guest.traps → ((vals : Vec Val Global) × Lifted callee limits.fuel returned memory host.ledger left.ledger (Ok vals))
+    → IsTail gives callee limits Leaves before after count len host left (Err (error.Fault fault.GuestTrap)) [] None (event.Return returned memory ∷ event.Post p returned ∷ trap_event (length memory) ∷ [])
+post_trapped_made gives callee limits Leaves before after count len host left kept returned memory p few first second e rose (vals, (rest, results, lifts, empty)) = record {
   whole = tt;
   prefix = record {
     more = [];
@@ -419,28 +562,28 @@ post_trapped_made Leaves callee limits before after count len ledger left return
   };
   no_resume = (tt, (tt, (tt, tt)));
   no_start = (tt, (tt, (tt, tt)));
-  no_more = (tt, (tt, (tt, tt)));
+  asking = ((tt, (tt, (tt, tt))), refl, refl);
   grows = (first, (same_le (length memory), second));
   asks = λ none. omega (arith, few);
   only_results = tt;
   posted = λ some. ((rest, vals.items, results), (tt, (tt, tt)));
   values = tt;
   leaves = tt;
-  handles = inl (inr (inr (refl, (λ none. none.1.0), inl (all_resources vals.items, lifts))));
+  handles = inl (inr (inr (refl, (λ none. none.1.0), inl (all_resources vals.items, lifts))), kept);
   cause = λ xs told. (rose, ends_after IsTrap xs (event.Return returned memory ∷ event.Post p returned ∷ trap_event (length memory) ∷ []) tt);
-  valid = λ calm within right accepted. absurd (calm tt);
+  valid = λ lawful rest calm within right accepted. absurd (calm tt);
 }
 
 -- from the return on
-pub returned_rest : (Leaves : List ℕ → List ℕ → Type 0) (callee : Callee) (limits : Limits) (before mid after : Moment) (count len : ℕ) (ledger left : LedgerState) (returned : List ℕ) (answer : Result (Vec Val Global) Error) (later : List Event)
-    → count ≤ limits.turns → len ≤ length mid.bytes → Advances before mid → Advances mid after → Concluded Leaves callee limits.fuel returned mid after ledger left answer later
-    → IsTail Leaves callee limits before after count len ledger left answer (event.Return returned mid.bytes ∷ later)
-returned_rest Leaves callee limits before mid after count len ledger left returned (Ok vals) later few longer f g (((lifted, (rest, results, lifts, empty), left_is)), (are, kept)) =
-    subst (λ es. IsTail Leaves callee limits before after count len ledger left (Ok vals) (event.Return returned mid.bytes ∷ es)) (sym are)
-    (done_made Leaves callee limits before after count len ledger left returned mid.bytes few longer g.no_shorter vals (rest, results) kept (record { lifted = lifted; lifts = lifts; empty = empty; left = left_is }))
-returned_rest Leaves callee limits before mid after count len ledger left returned (Err (error.Fault fault.GuestTrap)) later few longer f g (lifted, (rose, (p, is, e))) =
-    subst (λ es. IsTail Leaves callee limits before after count len ledger left (Err (error.Fault fault.GuestTrap)) (event.Return returned mid.bytes ∷ es)) (sym e)
-    (post_trapped_made Leaves callee limits before after count len ledger left returned mid.bytes p few longer g.no_shorter is (omega (arith, rose, f.traps_later)) lifted)
-returned_rest Leaves callee limits before mid after count len ledger left returned (Err e) later few longer f g h =
-    subst (λ es. IsTail Leaves callee limits before after count len ledger left (Err e) (event.Return returned mid.bytes ∷ es)) (sym h.1)
-    (lifted_made Leaves callee limits before after count len ledger left returned mid.bytes few longer g.no_shorter e (λ q. cc) h.0)
+pub returned_rest : {T : Type 0} (gives : Giving T) (callee : Callee) (limits : Limits) (Leaves : List ℕ → List ℕ → Type 0) (before mid after : Moment) (count len : ℕ) (host left : HostSide T) → left ≡ record host { ledger = left.ledger }
+    → (returned : List ℕ) (answer : Result (Vec Val Global) Error) (later : List Event) → count ≤ limits.turns → len ≤ length mid.bytes → Advances before mid → Advances mid after
+    → Concluded Leaves callee limits.fuel returned mid after host.ledger left.ledger answer later → IsTail gives callee limits Leaves before after count len host left answer [] None (event.Return returned mid.bytes ∷ later)
+returned_rest gives callee limits Leaves before mid after count len host left kept returned (Ok vals) later few longer f g (((lifted, (rest, results, lifts, empty), left_is)), (are, stays)) =
+    subst (λ es. IsTail gives callee limits Leaves before after count len host left (Ok vals) [] None (event.Return returned mid.bytes ∷ es)) (sym are)
+    (done_made gives callee limits Leaves before after count len host left kept returned mid.bytes few longer g.no_shorter vals (rest, results) stays (record { lifted = lifted; lifts = lifts; empty = empty; left = left_is }))
+returned_rest gives callee limits Leaves before mid after count len host left kept returned (Err (error.Fault fault.GuestTrap)) later few longer f g (lifted, (rose, (p, is, e))) =
+    subst (λ es. IsTail gives callee limits Leaves before after count len host left (Err (error.Fault fault.GuestTrap)) [] None (event.Return returned mid.bytes ∷ es)) (sym e)
+    (post_trapped_made gives callee limits Leaves before after count len host left kept returned mid.bytes p few longer g.no_shorter is (omega (arith, rose, f.traps_later)) lifted)
+returned_rest gives callee limits Leaves before mid after count len host left kept returned (Err e) later few longer f g h =
+    subst (λ es. IsTail gives callee limits Leaves before after count len host left (Err e) [] None (event.Return returned mid.bytes ∷ es)) (sym h.1)
+    (lifted_made gives callee limits Leaves before after count len host left kept returned mid.bytes few longer g.no_shorter e (λ q. cc) h.0)

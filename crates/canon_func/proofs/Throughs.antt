@@ -1,18 +1,22 @@
 -- The ledger of a call, step after step.
-use Rattle.std.proofs.Common.{List, Ok, Some, [], ap, refl, subst, sym, ℕ, ◌++◌, ◌∷◌, ◌≡◌}
+use Rattle.std.proofs.Common.{List, Ok, [], ap, inl, inr, refl, subst, sym, true, ℕ, ◌++◌, ◌∷◌, ◌≡◌}
 use Rattle.canon_memory.specs.declared.event.Event.{Event}
 use Rattle.canon_memory.specs.declared.event.Event.TheVariants as event
-use Rattle.canon_ledger.specs.Handles.{top_scope}
-use Rattle.canon_ledger.specs.Ledger.{Done, ExitScope, Leave, LedgerState, LedgerStep, Through, do_step, enter, leaving, numbered, run}
+use Rattle.canon_ledger.specs.Handles.{can_leave, top_scope}
+use Rattle.canon_ledger.specs.Ledger.{Done, ExitScope, Leave, LedgerState, LedgerStep, Through, do_step, enter, leave, leaving, numbered}
 use Rattle.canon_ledger.proofs.LedgerLemmas.{compose}
 use Rattle.canon_leaves.proofs.Lifts.{lifts_take}
 use Rattle.canon_leaves.proofs.Through.{leaves_through}
+use Rattle.canon_leaves.specs.Parts.{LeavesTake}
+use Rattle.canon_leaves.specs.Steps.{leaves_steps}
 use Rattle.canon_value.specs.Resources.{all_resources}
 use Rattle.canon_value.specs.declared.val.Val.{Val}
+use Rattle.canon_func.proofs.Leaving.{ended_leaves}
+use Rattle.canon_host.specs.HostSide.{Giving, HostSide}
 use Rattle.canon_func.specs.Asks.{AreServed}
-use Rattle.canon_leaves.specs.Steps.{leaves_steps}
-use Rattle.canon_func.specs.Call.{Concludes, result_parts, returned_leaves}
-use Rattle.canon_func.specs.Laws.{CallIsThrough, first_steps, last_steps, turn_steps, turns_steps}
+use Rattle.canon_func.specs.Call.{Concludes, param_parts, result_parts, returned_leaves}
+use Rattle.canon_func.specs.HostAsks.{IsHostServed, asked_exit}
+use Rattle.canon_func.specs.Laws.{AskThrough, AsksThrough, CallIsThrough, CallThrough, asked_parts, given_parts, last_steps}
 use Rattle.canon_func.specs.Runs.{AskTurn, Each, OnReturn}
 use Rattle.canon_func.specs.Stores.{Callee}
 
@@ -21,33 +25,64 @@ each_return P Q f [] h = tt
 each_return P Q f (event.Return ws m ∷ events) h = (f ws m h.0, each_return P Q f events h.1)
 each_return P Q f (e ∷ events) h = (tt, each_return P Q f events h.1)
 
--- what steps leave
-pub ran : (l n : LedgerState) (steps : List LedgerStep) → Through l steps n → n ≡ run steps l
-ran l n [] h = h
-ran l n (s ∷ steps) (a, ok, rest) = ran (do_step s l).after n steps rest
+-- the scope that ended is left
+pub left_through : (l n : LedgerState) → can_leave l.handles ≡ true → n ≡ leave l → Through l (Leave ∷ []) n
+left_through l n empty left = subst (λ b. (a : ℕ) × ((leaving b l).answer ≡ Ok a) × (n ≡ (leaving b l).after)) (sym empty) (0, refl, left)
 
-module _ (callee : Callee) where
-  pub turns_through : (turns : List AskTurn) (l n : LedgerState) → AreServed callee turns l n → Through l (turns_steps callee turns) n
-  turns_through [] l n h = h
-  turns_through (t ∷ turns) l n (mid, is, rest) =
-      let step : Through l (turn_steps callee t (Some is.called)) mid = (is.answer, ap (λ (d : Done ℕ). d.answer) is.taken, sym (ap (λ (d : Done ℕ). d.after) is.taken)) in
-      compose l mid n _ _ (subst (λ o. Through l (turn_steps callee t o) mid) (sym is.is.known) step) (turns_through turns mid n rest)
+-- a scope ends, and the steps after it
+pub ended_through : (l ended n : LedgerState) (steps : List LedgerStep) → asked_exit l ≡ record { answer = Ok tt; after = ended } → Through ended steps n → Through l (ExitScope (top_scope l.handles) ∷ steps) n
+ended_through l ended n steps ends rest = (
+  0,
+  ap (λ (d : Done (Unit {0})). (numbered (λ _. 0) d).answer) ends,
+  subst (λ k. Through k steps n) (sym (ap (λ (d : Done (Unit {0})). d.after) ends)) rest,
+)
 
-  last_through : (words memory : List ℕ) (results : List Val) (l n : LedgerState) → Concludes callee words memory results l n → Through l (last_steps callee words memory l) n
-  last_through words memory results l n h =
-      let exit : LedgerStep = ExitScope (top_scope l.handles) in
-      let ended : h.lifts.ended ≡ (do_step exit l).after = sym (ap (λ (d : Done (Unit {0})). d.after) h.lifts.ends) in
-      let taken = lifts_take callee.types h.lifts.ended h.lifted (returned_leaves callee words memory) (all_resources results) h.lifts.lifts in
-      let left : Through h.lifted (Leave ∷ []) n = subst (λ b. (a : ℕ) × ((leaving b h.lifted).answer ≡ Ok a) × (n ≡ (leaving b h.lifted).after)) (sym h.empty) (0, refl, h.left) in (
-        0,
-        ap (λ (d : Done (Unit {0})). (numbered (λ _. 0) d).answer) h.lifts.ends,
-        subst (λ k. Through k (leaves_steps k (result_parts callee words memory) ++ Leave ∷ []) n) ended
-            (compose h.lifts.ended h.lifted n (leaves_steps h.lifts.ended (result_parts callee words memory)) (Leave ∷ []) (leaves_through h.lifts.ended h.lifted (result_parts callee words memory) taken.0 taken.1) left),
-      )
+pub ended_is : (l ended : LedgerState) → asked_exit l ≡ record { answer = Ok tt; after = ended } → ended ≡ (do_step (ExitScope (top_scope l.handles)) l).after
+ended_is l ended ends = sym (ap (λ (d : Done (Unit {0})). d.after) ends)
 
-pub call_is_through : CallIsThrough
-call_is_through callee params turns before after given results events (lowered, took, (served, serves, each)) =
-    let first : Through before (first_steps callee params turns before) served =
-    (0, refl, compose (enter before) lowered served _ _ (leaves_through (enter before) lowered _ given took) (turns_through callee turns lowered served serves)) in
-    let steps : List LedgerStep = first_steps callee params turns before in
-    each_return _ _ (λ ws m h. compose before served after steps (last_steps callee ws m (run steps before)) first (subst (λ k. Through served (last_steps callee ws m k) after) (ran before served steps first) (last_through callee ws m results served after h))) events each
+pub ended_can_leave : (l ended : LedgerState) → asked_exit l ≡ record { answer = Ok tt; after = ended } → can_leave ended.handles ≡ true
+ended_can_leave l ended ends = ended_leaves l ended ends
+
+module _ {T : Type 0} (gives : Giving T) (callee : Callee) (fuel : ℕ) where
+  pub host_through : (t : AskTurn) (l n : HostSide T) → IsHostServed gives callee fuel t l n → AskThrough callee t l.ledger n.ledger
+  host_through t l n h =
+      let lifts = lifts_take callee.types (enter l.ledger) h.lifted _ _ h.lifts.1.handles in
+      let lowered : LeavesTake (leave h.ended) (given_parts callee h.asked h.results) h.lowers.crosses.given n.ledger = h.lowers.crosses.passed in
+      inr (record {
+        asked = h.asked;
+        is = h.is;
+        results = h.results;
+        lifted = h.lifted;
+        called = h.called;
+        first = (0, refl, leaves_through (enter l.ledger) h.lifted (asked_parts callee h.asked t.words t.memory) lifts.0 lifts.1);
+        steps = h.steps;
+        last = subst (λ k. Through h.called (ExitScope (top_scope h.called.handles) ∷ Leave ∷ leaves_steps (leave k) (given_parts callee h.asked h.results)) n.ledger) (ended_is h.called h.ended h.ends)
+            (ended_through h.called h.ended n.ledger (Leave ∷ leaves_steps (leave h.ended) (given_parts callee h.asked h.results)) h.ends
+            (compose h.ended (leave h.ended) n.ledger (Leave ∷ []) (leaves_steps (leave h.ended) (given_parts callee h.asked h.results)) (left_through h.ended (leave h.ended) (ended_can_leave h.called h.ended h.ends) refl)
+            (leaves_through (leave h.ended) n.ledger (given_parts callee h.asked h.results) h.lowers.crosses.given lowered)));
+      })
+
+  pub turns_through : (turns : List AskTurn) (l n : HostSide T) → AreServed gives callee fuel turns l n → AsksThrough callee turns l.ledger n.ledger
+  turns_through [] l n h = ap (λ s. s.ledger) h
+  turns_through (t ∷ turns) l n (mid, inl is, rest) =
+      (mid.ledger, inl (is.called, is.is.known, (is.answer, ap (λ (d : Done ℕ). d.answer) is.taken, sym (ap (λ (d : Done ℕ). d.after) is.taken))), turns_through turns mid n rest)
+  turns_through (t ∷ turns) l n (mid, inr is, rest) = (mid.ledger, host_through t l mid is, turns_through turns mid n rest)
+
+  pub call_through : (params : List Val) (turns : List AskTurn) (before served : HostSide T) (given : List ℕ) (lowered : LedgerState) → LeavesTake (enter before.ledger) (param_parts callee params) given lowered
+      → AreServed gives callee fuel turns (record before { ledger = lowered }) served → CallThrough callee params turns before.ledger served.ledger
+  call_through params turns before served given lowered took serves = record {
+    lowered = lowered;
+    first = (0, refl, leaves_through (enter before.ledger) lowered (param_parts callee params) given took);
+    asks = turns_through turns (record before { ledger = lowered }) served serves;
+  }
+
+last_through : (callee : Callee) (words memory : List ℕ) (results : List Val) (l n : LedgerState) → Concludes callee words memory results l n → Through l (last_steps callee words memory l) n
+last_through callee words memory results l n h =
+    let taken = lifts_take callee.types h.lifts.ended h.lifted (returned_leaves callee words memory) (all_resources results) h.lifts.lifts in
+    subst (λ k. Through l (ExitScope (top_scope l.handles) ∷ leaves_steps k (result_parts callee words memory) ++ Leave ∷ []) n) (ended_is l h.lifts.ended h.lifts.ends)
+    (ended_through l h.lifts.ended n (leaves_steps h.lifts.ended (result_parts callee words memory) ++ Leave ∷ []) h.lifts.ends
+    (compose h.lifts.ended h.lifted n (leaves_steps h.lifts.ended (result_parts callee words memory)) (Leave ∷ []) (leaves_through h.lifts.ended h.lifted (result_parts callee words memory) taken.0 taken.1) (left_through h.lifted n h.empty h.left)))
+
+pub call_is_through : {T : Type 0} (gives : Giving T) → CallIsThrough gives
+call_is_through gives callee fuel params turns memory2 late trap before after given results events tail (lowered, took, (served, serves, (each, kept))) =
+    (served.ledger, call_through gives callee fuel params turns before served given lowered took serves, each_return _ _ (λ ws m h. last_through callee ws m results served.ledger after.ledger h) tail each)

@@ -1,24 +1,26 @@
 -- Asks that were served, one after another.
-use Rattle.std.proofs.Common.{Err, List, Ok, Option, Result, Some, [], ap, append_assoc, arith, inr, length, refl, subst, suc, sym, ℕ, ◌++◌, ◌+◌, ◌<◌, ◌∙◌, ◌∷◌, ◌≡◌, ◌≤◌}
+use Rattle.std.proofs.Common.{Err, List, None, Ok, Option, Result, Some, [], ap, append_assoc, arith, length, refl, subst, suc, sym, ℕ, ◌++◌, ◌+◌, ◌<◌, ◌∙◌, ◌∷◌, ◌≡◌, ◌≤◌}
 use Rattle.std.proofs.lemmas.List.{append-nil}
-use Rattle.std.specs.Prelude.{slice_get}
+use Rattle.std.specs.Prelude.{IsSome}
 use Rattle.canon_memory.specs.declared.event.Event.{Event}
 use Rattle.canon_memory.specs.declared.event.Event.TheVariants as event
 use Rattle.canon_memory.specs.declared.guest.Step.{Step}
 use Rattle.canon_memory.specs.declared.guest.Step.TheVariants as step
-use Rattle.canon_memory.specs.Guest.{Goes, Moment}
-use Rattle.canon_memory.specs.Journal.{step_event, trap_event}
+use Rattle.canon_memory.specs.Guest.{Goes, Mark, Moment}
+use Rattle.canon_memory.specs.Journal.{Adds, step_event, trap_event}
 use Rattle.canon_ledger.specs.Ledger.{Done, LedgerState}
 use Rattle.canon_ledger.specs.declared.fault.ResourceFault.{ResourceFault}
 use Rattle.canon_lowering.proofs.Lowerings.{goes_then}
-use Rattle.canon_context.specs.declared.component.Import.{Import}
+use Rattle.canon_lowering.specs.Lowering.{Answer, events_of, marks_of}
 use Rattle.canon_context.specs.declared.fault.Fault.TheVariants as fault
-use Rattle.canon_func.specs.Asks.{AreServed, IsAskOf, IsServed, ask_step}
-use Rattle.canon_func.specs.Runs.{AskTurn, Each, Grows, asks_in, events_in, last_len}
-use Rattle.canon_func.specs.Steps.{TurnsTaken, RunsUntil, Resumed, Serves, Stepping, so_far, ask_turn}
+use Rattle.canon_host.specs.HostSide.{Giving, HostSide}
+use Rattle.canon_func.specs.Asks.{AreServed, IsServed, Limits}
+use Rattle.canon_func.specs.Runs.{AskTurn, Each, Grows, answers_in, asks_in, events_in, last_len}
+use Rattle.canon_func.specs.Steps.{RisesAt, RunsUntil, Serves, Stepping, TurnsTaken, ask_turn, so_far}
 use Rattle.canon_func.specs.Stores.{Callee}
 use Rattle.canon_func.specs.declared.error.Error.{Error}
 use Rattle.canon_func.specs.declared.error.Error.TheVariants as error
+use Rattle.canon_func.proofs.Prefixes.{asks_answers, each_then, grows_answers, last_len_answers}
 
 -- ---- answers
 
@@ -28,24 +30,38 @@ not_ok x e h = cc
 pub err_same : {T E : Type 0} (e d : E) → ◌≡◌ {A = Result T E} (Err e) (Err d) → e ≡ d
 err_same e d h = cc
 
+pub marks_then : (xs ys : List Answer) → marks_of (xs ++ ys) ≡ marks_of xs ++ marks_of ys
+marks_then [] ys = refl
+marks_then (x ∷ xs) ys = ap (λ ms. x.mark ∷ ms) (marks_then xs ys)
+
+pub answers_append : (ts us : List AskTurn) → answers_in (ts ++ us) ≡ answers_in ts ++ answers_in us
+answers_append [] us = refl
+answers_append (t ∷ ts) us = ap (λ xs. t.answers ++ xs) (answers_append ts us) ∙ sym (append_assoc t.answers (answers_in ts) (answers_in us))
+
 -- ---- the events of turns
+
+-- what follows an ask
+abbrev pub rest_of_turn : AskTurn → List Event → List Event
+rest_of_turn t events = events_of t.answers None ++ event.Resume t.resumed_words t.resumed_memory ∷ events
 
 pub events_append : (ts us : List AskTurn) → events_in (ts ++ us) ≡ events_in ts ++ events_in us
 events_append [] us = refl
 events_append (t ∷ ts) us = ap (λ es. event.Ask t.index t.words t.memory ∷ es)
-    (ap (λ es. t.reallocs ++ event.Resume t.resumed_words t.resumed_memory ∷ es) (events_append ts us) ∙ sym (append_assoc t.reallocs (event.Resume t.resumed_words t.resumed_memory ∷ events_in ts) (events_in us)))
+    (ap (λ es. rest_of_turn t es) (events_append ts us) ∙ sym (append_assoc (events_of t.answers None) (event.Resume t.resumed_words t.resumed_memory ∷ events_in ts) (events_in us)))
 
 pub events_more : (ts us : List AskTurn) (tail : List Event) → events_in (ts ++ us) ++ tail ≡ events_in ts ++ (events_in us ++ tail)
 events_more ts us tail = ap (λ es. es ++ tail) (events_append ts us) ∙ append_assoc (events_in ts) (events_in us) tail
 
 -- a fact of each of them
-pub each_served : (P : Event → Type 0) → ((n : ℕ) (ws m : List ℕ) → P (event.Ask n ws m)) → ((ws m : List ℕ) → P (event.Resume ws m)) → (callee : Callee) (ts : List AskTurn) (l l2 : LedgerState)
-    → AreServed callee ts l l2 → Each P (events_in ts)
-each_served P f g callee [] l l2 h = tt
-each_served P f g callee (t ∷ ts) l l2 (mid, is, rest) = (
-  f t.index t.words t.memory,
-  subst (λ rs. Each P (rs ++ event.Resume t.resumed_words t.resumed_memory ∷ events_in ts)) (sym is.no_request) (g t.resumed_words t.resumed_memory, each_served P f g callee ts mid l2 rest),
-)
+each_real : (P : Event → Type 0) → ((o s a n p : ℕ) → P (event.Realloc o s a n p)) → (xs : List Answer) → Each P (events_of xs None)
+each_real P r [] = tt
+each_real P r (x ∷ xs) = (r x.call.old x.call.old_size x.call.align x.call.new_size x.at, each_real P r xs)
+
+pub each_turn : (P : Event → Type 0) → ((n : ℕ) (ws m : List ℕ) → P (event.Ask n ws m)) → ((o s a n p : ℕ) → P (event.Realloc o s a n p)) → ((ws m : List ℕ) → P (event.Resume ws m))
+    → (ts : List AskTurn) → Each P (events_in ts)
+each_turn P f r g [] = tt
+each_turn P f r g (t ∷ ts) =
+    (f t.index t.words t.memory, each_then P (events_of t.answers None) (event.Resume t.resumed_words t.resumed_memory ∷ events_in ts) (each_real P r t.answers) (g t.resumed_words t.resumed_memory, each_turn P f r g ts))
 
 -- ---- how many asks
 
@@ -57,11 +73,10 @@ asks_then [] ys = omega arith
 asks_then (event.Ask n ws m ∷ xs) ys = asks_step (asks_in (xs ++ ys)) 0 (asks_in xs) (asks_in ys) (asks_then xs ys)
 asks_then (e ∷ xs) ys = asks_then xs ys
 
-pub asks_served : (callee : Callee) (ts : List AskTurn) (l l2 : LedgerState) → AreServed callee ts l l2 → asks_in (events_in ts) ≡ length ts
-asks_served callee [] l l2 h = refl
-asks_served callee (t ∷ ts) l l2 (mid, is, rest) =
-    let e : asks_in (t.reallocs ++ event.Resume t.resumed_words t.resumed_memory ∷ events_in ts) ≡ length ts =
-    ap (λ rs. asks_in (rs ++ event.Resume t.resumed_words t.resumed_memory ∷ events_in ts)) is.no_request ∙ asks_served callee ts mid l2 rest in
+pub asks_turns : (ts : List AskTurn) → asks_in (events_in ts) ≡ length ts
+asks_turns [] = refl
+asks_turns (t ∷ ts) =
+    let e : asks_in (rest_of_turn t (events_in ts)) ≡ length ts = asks_answers t.answers None (event.Resume t.resumed_words t.resumed_memory ∷ events_in ts) ∙ asks_turns ts in
     omega (arith, e)
 
 -- ---- the last memory
@@ -74,44 +89,47 @@ len_then n (event.Resume w m ∷ xs) ys = len_then (length m) xs ys
 len_then n (event.Return w m ∷ xs) ys = len_then (length m) xs ys
 len_then n (e ∷ xs) ys = len_then n xs ys
 
--- ---- the ledger
-
-same_import : (o : Option Import) (a b : Import) → o ≡ Some a → o ≡ Some b → a ≡ b
-same_import o a b h g = cc
-
-pub is_import : (callee : Callee) (index : ℕ) (ws : List ℕ) (a b : Import) → IsAskOf callee index ws a → IsAskOf callee index ws b → a ≡ b
-is_import callee index ws a b h g = same_import (slice_get callee.imports index) a b h.known g.known
-
-served_once : (callee : Callee) (t : AskTurn) (l m n : LedgerState) → IsServed callee t l m → IsServed callee t l n → m ≡ n
-served_once callee t l m n h g =
-    ap (λ (d : Done ℕ). d.after) (sym h.taken ∙ (ap (λ i. ask_step callee.types i t.words l) (is_import callee t.index t.words h.called g.called h.is g.is) ∙ g.taken))
-
-pub served_same : (callee : Callee) (ts : List AskTurn) (l m n : LedgerState) → AreServed callee ts l m → AreServed callee ts l n → m ≡ n
-served_same callee [] l m n h g = h ∙ sym g
-served_same callee (t ∷ ts) l m n (a, is, rest) (b, also, others) = served_same callee ts a m n rest (subst (λ k. AreServed callee ts k n) (sym (served_once callee t l a b is also)) others)
-
-served_more : (callee : Callee) (ts : List AskTurn) (t : AskTurn) (l m n : LedgerState) → AreServed callee ts l m → IsServed callee t m n → AreServed callee (ts ++ t ∷ []) l n
-served_more callee [] t l m n h g = (n, subst (λ k. IsServed callee t k n) h g, refl)
-served_more callee (u ∷ ts) t l m n (mid, is, rest) g = (mid, is, served_more callee ts t mid m n rest g)
-
--- ---- one more turn
-
 pub same_le : (n : ℕ) → n ≤ n
 same_le n = omega arith
 
-module _ (callee : Callee) (before : Moment) (ledger : LedgerState) where
-  pub asked_none : TurnsTaken callee before ledger ledger [] (length before.bytes)
-  asked_none = record { serves = refl; last = refl; grows = λ es last g. g }
+-- ---- what is told
 
-  module _ (served left : LedgerState) (ts : List AskTurn) (len index : ℕ) (words memory resumed : List ℕ) where
-    pub asked_more : TurnsTaken callee before ledger served ts len → len ≤ length memory → IsServed callee (ask_turn index words memory resumed) served left
-        → TurnsTaken callee before ledger left (ts ++ ask_turn index words memory resumed ∷ []) (length memory)
-    asked_more h longer is =
-        let t : AskTurn = ask_turn index words memory resumed in
+-- a journal that was told is told afterwards
+pub told_after : (o p : Option (List Event)) (es : List Event) → Adds o p es → IsSome o → IsSome p
+told_after None p es adds told = cc
+told_after (Some xs) p es adds told = rw adds refl
+
+pub told_later : (a b : Moment) (marks : List Mark) (events : List Event) → Goes a b marks events → IsSome a.guest.journal → IsSome b.guest.journal
+told_later a b marks events goes told = told_after a.guest.journal b.guest.journal events goes.events told
+
+pub rises_later : (e : Error) (a b c : Moment) → a.guest.traps ≤ b.guest.traps → RisesAt e b c → RisesAt e a c
+rises_later (error.ImportFault n fault.GuestTrap) a b c le rose = omega (arith, le, rose)
+rises_later e a b c le rose = tt
+
+module _ {T : Type 0} (gives : Giving T) (callee : Callee) where
+  pub served_more : (fuel : ℕ) (ts : List AskTurn) (t : AskTurn) (l m n : HostSide T) → AreServed gives callee fuel ts l m → IsServed gives callee fuel t m n → AreServed gives callee fuel (ts ++ t ∷ []) l n
+  served_more fuel [] t l m n h g = (n, subst (λ k. IsServed gives callee fuel t k n) h g, refl)
+  served_more fuel (u ∷ ts) t l m n (mid, is, rest) g = (mid, is, served_more fuel ts t mid m n rest g)
+
+  -- ---- one more turn
+
+  module _ (fuel : ℕ) (before : Moment) (host : HostSide T) where
+    pub asked_none : TurnsTaken gives callee fuel before host host [] (length before.bytes)
+    asked_none = record { serves = refl; last = refl; grows = λ es last g. g }
+
+    pub asked_more : (served left : HostSide T) (ts : List AskTurn) (len : ℕ) (t : AskTurn) → TurnsTaken gives callee fuel before host served ts len → len ≤ length t.memory → length t.memory ≤ length t.resumed_memory
+        → IsServed gives callee fuel t served left → TurnsTaken gives callee fuel before host left (ts ++ t ∷ []) (length t.resumed_memory)
+    asked_more served left ts len t h longer wider is =
+        let after_ask : last_len (last_len (length before.bytes) (events_in ts)) (events_in (t ∷ [])) ≡ length t.resumed_memory = last_len_answers (length t.memory) t.answers (event.Resume t.resumed_words t.resumed_memory ∷ []) in
         record {
-          serves = served_more callee ts t ledger served left h.serves is;
-          last = ap (λ es. last_len (length before.bytes) es) (events_append ts (t ∷ [])) ∙ len_then (length before.bytes) (events_in ts) (events_in (t ∷ []));
-          grows = λ es last g. subst (λ xs. Grows (length before.bytes) xs last) (sym (events_more ts (t ∷ []) es)) (h.grows (event.Ask index words memory ∷ event.Resume resumed memory ∷ es) last (longer, (same_le (length memory), g)));
+          serves = served_more fuel ts t host served left h.serves is;
+          last = ap (λ es. last_len (length before.bytes) es) (events_append ts (t ∷ [])) ∙ (len_then (length before.bytes) (events_in ts) (events_in (t ∷ [])) ∙ after_ask);
+          grows = λ es last g. subst (λ xs. Grows (length before.bytes) xs last) (sym (events_more ts (t ∷ []) es))
+              (h.grows (events_in (t ∷ []) ++ es) last (
+                longer,
+                subst (λ xs. Grows (length t.memory) xs last) (sym (append_assoc (events_of t.answers None) (event.Resume t.resumed_words t.resumed_memory ∷ []) es))
+                    (grows_answers (length t.memory) last t.answers (event.Resume t.resumed_words t.resumed_memory ∷ es) (wider, g)),
+              ));
         }
 
 -- ---- the loop
@@ -123,71 +141,103 @@ pub length_more : {A : Type 0} (xs : List A) (x : A) → length (xs ++ x ∷ [])
 length_more [] x = refl
 length_more (y ∷ xs) x = ap suc (length_more xs x) ∙ sym (suc_add (length xs) 1)
 
-module _ (callee : Callee) (words : List ℕ) (before : Moment) (ledger : LedgerState) where
+module _ {T : Type 0} (gives : Giving T) (callee : Callee) (limits : Limits) (words : List ℕ) (before : Moment) (host : HostSide T) where
   pub stepping_begin : (now : Moment) (M : List Event → Type 0) (next : Step) → Goes before now [] (event.Start callee.func words before.bytes ∷ step_event next now.bytes ∷ [])
-      → M (event.Start callee.func words before.bytes ∷ step_event next now.bytes ∷ []) → Stepping callee words before now ledger ledger M 0 next
-  stepping_begin now M next goes moves = record { turns = []; len = length before.bytes; asked = asked_none callee before ledger; count_is = refl; longer = goes.no_shorter; goes = goes; moves = moves }
+      → (IsSome before.guest.journal → M (event.Start callee.func words before.bytes ∷ step_event next now.bytes ∷ [])) → Stepping gives callee limits words before now host host M 0 next
+  stepping_begin now M next goes moves =
+      record { turns = []; len = length before.bytes; asked = asked_none gives callee limits.fuel before host; count_is = refl; longer = goes.no_shorter; goes = goes; moves = moves }
 
-  -- an ask, and what came after its resume
-  joined_turn : (ts : List AskTurn) (index : ℕ) (asked memory resumed : List ℕ) (es : List Event)
-      → so_far callee words before ts (event.Ask index asked memory ∷ []) ++ event.Resume resumed memory ∷ es ≡ so_far callee words before (ts ++ ask_turn index asked memory resumed ∷ []) es
-  joined_turn ts index asked memory resumed es = ap (λ xs. event.Start callee.func words before.bytes ∷ xs)
-      (append_assoc (events_in ts) (event.Ask index asked memory ∷ []) (event.Resume resumed memory ∷ es) ∙ sym (events_more ts (ask_turn index asked memory resumed ∷ []) es))
+  -- an ask, and what came after it
+  after_ask : (ts : List AskTurn) (index : ℕ) (asked memory : List ℕ) (es : List Event) → so_far callee words before ts (event.Ask index asked memory ∷ []) ++ es ≡ so_far callee words before ts (event.Ask index asked memory ∷ es)
+  after_ask ts index asked memory es = ap (λ xs. event.Start callee.func words before.bytes ∷ xs) (append_assoc (events_in ts) (event.Ask index asked memory ∷ []) es)
 
-  module _ (now after : Moment) (served left : LedgerState) (M N O : List Event → Type 0) (goes_on : (xs ys : List Event) → M xs → N ys → O (xs ++ ys)) (count index : ℕ) (asked : List ℕ) where
-    pub stepping_more : (next : Step) (es : List Event) → Stepping callee words before now ledger served M count (step.Import index asked) → Goes now after [] es → N es
-        → Serves callee index asked now after served left (Ok next) es → Stepping callee words before after ledger left O (count + 1) next
-    stepping_more next es h goes moves (resumed, is, are) =
-        let t : AskTurn = ask_turn index asked now.bytes resumed in
+  -- an ask, and what came from its resume on
+  joined_turn : (ts : List AskTurn) (t : AskTurn) (es : List Event) → so_far callee words before ts (event.Ask t.index t.words t.memory ∷ []) ++ rest_of_turn t es ≡ so_far callee words before (ts ++ t ∷ []) es
+  joined_turn ts t es = after_ask ts t.index t.words t.memory (rest_of_turn t es) ∙ ap (λ xs. event.Start callee.func words before.bytes ∷ xs)
+      (ap (λ xs. events_in ts ++ event.Ask t.index t.words t.memory ∷ xs) (sym (append_assoc (events_of t.answers None) (event.Resume t.resumed_words t.resumed_memory ∷ []) es)) ∙ sym (events_more ts (t ∷ []) es))
+
+  -- the marks of the turns and of one more
+  marks_more : (ts : List AskTurn) (t : AskTurn) → marks_of (answers_in ts) ++ marks_of t.answers ≡ marks_of (answers_in (ts ++ t ∷ []))
+  marks_more ts t = sym (marks_then (answers_in ts) t.answers) ∙ ap marks_of (ap (λ xs. answers_in ts ++ xs) (sym (append-nil t.answers)) ∙ sym (answers_append ts (t ∷ [])))
+
+  module _ (now after : Moment) (served left : HostSide T) (M N O : List Event → Type 0) (goes_on : (xs ys : List Event) → M xs → N ys → O (xs ++ ys)) (count index : ℕ) (asked : List ℕ) where
+    pub stepping_more : (next : Step) (xs : List Answer) (es : List Event) → Stepping gives callee limits words before now host served M count (step.Import index asked) → Goes now after (marks_of xs) es
+        → (IsSome now.guest.journal → N es) → Serves gives callee limits.fuel index asked now after served left (Ok next) xs es → Stepping gives callee limits words before after host left O (count + 1) next
+    stepping_more next xs es h goes moves (r, are) =
+        let t : AskTurn = ask_turn index asked now.bytes xs r.resumed r.memory in
         let e : so_far callee words before h.turns (event.Ask index asked now.bytes ∷ []) ++ es ≡ so_far callee words before (h.turns ++ t ∷ []) (step_event next after.bytes ∷ []) =
-        ap (λ xs. so_far callee words before h.turns (event.Ask index asked now.bytes ∷ []) ++ xs) are ∙ joined_turn h.turns index asked now.bytes resumed (step_event next after.bytes ∷ []) in
+        ap (λ ys. so_far callee words before h.turns (event.Ask index asked now.bytes ∷ []) ++ ys) are ∙ joined_turn h.turns t (step_event next after.bytes ∷ []) in
         record {
           turns = h.turns ++ t ∷ [];
-          len = length now.bytes;
-          asked = asked_more callee before ledger served left h.turns h.len index asked now.bytes resumed h.asked h.longer is;
+          len = length r.memory;
+          asked = asked_more gives callee limits.fuel before host served left h.turns h.len t h.asked h.longer r.longer r.served;
           count_is = length_more h.turns t ∙ ap (λ n. n + 1) h.count_is;
-          longer = goes.no_shorter;
-          goes = subst (λ xs. Goes before after [] xs) e (goes_then before now after [] [] _ es h.goes goes);
-          moves = subst O e (goes_on _ es h.moves moves);
+          longer = r.shorter;
+          goes = subst (λ ms. Goes before after ms (so_far callee words before (h.turns ++ t ∷ []) (step_event next after.bytes ∷ []))) (marks_more h.turns t)
+              (subst (λ ys. Goes before after (marks_of (answers_in h.turns) ++ marks_of xs) ys) e (goes_then before now after _ _ _ es h.goes goes));
+          moves = λ told. subst O e (goes_on _ es (h.moves told) (moves (told_later before now _ _ h.goes told)));
         }
 
     -- the ask wasn't served, or the guest trapped after it was
-    pub ran_refused : (most : ℕ) (e : Error) (es : List Event) (h : Stepping callee words before now ledger served M count (step.Import index asked)) → count < most → Goes now after [] es
-        → Serves callee index asked now after served left (Err e) es → RunsUntil callee most words before after ledger left (Err e) (so_far callee words before h.turns (event.Ask index asked now.bytes ∷ []) ++ es)
-    ran_refused most (error.Fault fault.GuestTrap) es h lt goes (resumed, is, (rose, are)) =
-        let t : AskTurn = ask_turn index asked now.bytes resumed in
+    pub ran_refused : (e : Error) (xs : List Answer) (es : List Event) (h : Stepping gives callee limits words before now host served M count (step.Import index asked)) → count < limits.turns → Goes now after (marks_of xs) es
+        → Serves gives callee limits.fuel index asked now after served left (Err e) xs es
+        → RunsUntil gives callee limits words before after host left (Err e) (answers_in h.turns ++ xs) (so_far callee words before h.turns (event.Ask index asked now.bytes ∷ []) ++ es)
+    ran_refused (error.Fault fault.GuestTrap) xs es h lt goes (r, rose, are) =
+        let t : AskTurn = ask_turn index asked now.bytes xs r.resumed r.memory in
         record {
           turns = h.turns ++ t ∷ [];
-          len = length now.bytes;
+          late = [];
+          late_trap = None;
+          answers_are = ap (λ ys. answers_in h.turns ++ ys) (sym (append-nil xs)) ∙ (sym (answers_append h.turns (t ∷ [])) ∙ sym (append-nil (answers_in (h.turns ++ t ∷ []))));
+          len = length r.memory;
           served = left;
-          tail = trap_event (length now.bytes) ∷ [];
-          asked = asked_more callee before ledger served left h.turns h.len index asked now.bytes resumed h.asked h.longer is;
+          tail = trap_event (length r.memory) ∷ [];
+          asked = asked_more gives callee limits.fuel before host served left h.turns h.len t h.asked h.longer r.longer r.served;
           few = omega (arith, lt, length_more h.turns t, h.count_is);
-          longer = goes.no_shorter;
-          is = ap (λ xs. so_far callee words before h.turns (event.Ask index asked now.bytes ∷ []) ++ xs) are ∙ joined_turn h.turns index asked now.bytes resumed (trap_event (length now.bytes) ∷ []);
-          stopped = (omega (arith, rose, h.goes.traps_later), refl, refl);
+          longer = r.shorter;
+          is = ap (λ ys. so_far callee words before h.turns (event.Ask index asked now.bytes ∷ []) ++ ys) are ∙ joined_turn h.turns t (trap_event (length r.memory) ∷ []);
+          stopped = (omega (arith, rose, h.goes.traps_later), refl, (refl, refl, refl));
         }
-    ran_refused most error.TurnsExhausted es h lt goes serves = absurd serves
-    ran_refused most error.WrongCount es h lt goes serves = absurd serves.0
-    ran_refused most error.AsyncLifted es h lt goes serves = absurd serves.0
-    ran_refused most error.CannotEnterComponent es h lt goes serves = absurd serves.0
-    ran_refused most e es h lt goes serves = record {
+    ran_refused error.TurnsExhausted xs es h lt goes serves = absurd serves
+    ran_refused error.WrongCount xs es h lt goes serves = absurd serves.1
+    ran_refused error.AsyncLifted xs es h lt goes serves = absurd serves.1
+    ran_refused error.CannotEnterComponent xs es h lt goes serves = absurd serves.1
+    ran_refused e xs es h lt goes serves = record {
       turns = h.turns;
+      late = xs;
+      late_trap = serves.0;
+      answers_are = refl;
       len = h.len;
       served = served;
-      tail = event.Ask index asked now.bytes ∷ [];
+      tail = event.Ask index asked now.bytes ∷ events_of xs serves.0;
       asked = h.asked;
       few = omega (arith, lt, h.count_is);
       longer = omega (arith, h.longer, goes.no_shorter);
-      is = ap (λ xs. so_far callee words before h.turns (event.Ask index asked now.bytes ∷ []) ++ xs) serves.1 ∙ append-nil (so_far callee words before h.turns (event.Ask index asked now.bytes ∷ []));
-      stopped = (index, asked, now.bytes, refl, h.longer, goes.no_shorter, omega (arith, lt, h.count_is), serves.0);
+      is = ap (λ ys. so_far callee words before h.turns (event.Ask index asked now.bytes ∷ []) ++ ys) serves.2 ∙ after_ask h.turns index asked now.bytes (events_of xs serves.0);
+      stopped = (
+        omega (arith, lt, h.count_is),
+        record {
+          index = index;
+          words = asked;
+          memory = now.bytes;
+          is = refl;
+          longer = h.longer;
+          shorter = goes.no_shorter;
+          stops = serves.1;
+          traps_late = serves.3;
+          rises = rises_later e before now after h.goes.traps_later serves.4;
+        },
+      );
     }
 
-  module _ (now : Moment) (served : LedgerState) (M : List Event → Type 0) (most count : ℕ) where
-    pub ran_returned : (returned : List ℕ) (h : Stepping callee words before now ledger served M count (step.Return returned)) → count ≤ most
-        → RunsUntil callee most words before now ledger served (Ok returned) (so_far callee words before h.turns (event.Return returned now.bytes ∷ []))
+  module _ (now : Moment) (served : HostSide T) (M : List Event → Type 0) (count : ℕ) where
+    pub ran_returned : (returned : List ℕ) (h : Stepping gives callee limits words before now host served M count (step.Return returned)) → count ≤ limits.turns
+        → RunsUntil gives callee limits words before now host served (Ok returned) (answers_in h.turns) (so_far callee words before h.turns (event.Return returned now.bytes ∷ []))
     ran_returned returned h le = record {
       turns = h.turns;
+      late = [];
+      late_trap = None;
+      answers_are = sym (append-nil (answers_in h.turns));
       len = h.len;
       served = served;
       tail = event.Return returned now.bytes ∷ [];
@@ -195,13 +245,16 @@ module _ (callee : Callee) (words : List ℕ) (before : Moment) (ledger : Ledger
       few = omega (arith, le, h.count_is);
       longer = h.longer;
       is = refl;
-      stopped = (refl, refl);
+      stopped = (refl, (refl, refl, refl));
     }
 
-    pub ran_exhausted : (index : ℕ) (asked : List ℕ) (h : Stepping callee words before now ledger served M count (step.Import index asked)) → count ≡ most
-        → RunsUntil callee most words before now ledger served (Err error.TurnsExhausted) (so_far callee words before h.turns (event.Ask index asked now.bytes ∷ []))
+    pub ran_exhausted : (index : ℕ) (asked : List ℕ) (h : Stepping gives callee limits words before now host served M count (step.Import index asked)) → count ≡ limits.turns
+        → RunsUntil gives callee limits words before now host served (Err error.TurnsExhausted) (answers_in h.turns) (so_far callee words before h.turns (event.Ask index asked now.bytes ∷ []))
     ran_exhausted index asked h all = record {
       turns = h.turns;
+      late = [];
+      late_trap = None;
+      answers_are = sym (append-nil (answers_in h.turns));
       len = h.len;
       served = served;
       tail = event.Ask index asked now.bytes ∷ [];
@@ -209,19 +262,21 @@ module _ (callee : Callee) (words : List ℕ) (before : Moment) (ledger : Ledger
       few = omega (arith, all, h.count_is);
       longer = h.longer;
       is = refl;
-      stopped = (index, asked, now.bytes, refl, h.longer, same_le (length now.bytes), h.count_is ∙ all, refl);
+      stopped = (
+        h.count_is ∙ all,
+        record {
+          index = index;
+          words = asked;
+          memory = now.bytes;
+          is = refl;
+          longer = h.longer;
+          shorter = same_le (length now.bytes);
+          stops = (refl, (refl, refl, refl));
+          traps_late = tt;
+          rises = tt;
+        },
+      );
     }
-
--- ---- how an ask was served
-
-module _ (callee : Callee) (index : ℕ) (words : List ℕ) (a b : Moment) (l l2 : LedgerState) (called : Import) (is : IsAskOf callee index words called) where
-  -- its step was taken, and the guest was resumed
-  pub served_by : (answer : ℕ) (result : Result Step Error) (events : List Event) → ask_step callee.types called words l ≡ record { answer = Ok answer; after = l2 }
-      → Resumed (answer ∷ []) a b result events → Serves callee index words a b l l2 result events
-  served_by answer (Ok next) events taken h = (answer ∷ [], record { called = called; is = is; answer = answer; taken = taken; resumed = refl; same = refl; no_request = refl }, h)
-  served_by answer (Err (error.Fault fault.GuestTrap)) events taken h = (answer ∷ [], record { called = called; is = is; answer = answer; taken = taken; resumed = refl; same = refl; no_request = refl }, h)
-  served_by answer (Err (error.Fault fault.OutOfMemory)) events taken h = ((called, is, inr (sym (ap (λ (d : Done ℕ). d.after) taken))), h)
-  served_by answer (Err e) events taken h = absurd h
 
 -- an answer and what it leaves are a step's
 pub done_is : {A : Type 0} (d : Done A) (r : Result A ResourceFault) (l : LedgerState) → d.answer ≡ r → l ≡ d.after → d ≡ record { answer = r; after = l }

@@ -34,10 +34,13 @@ use Rattle.canon_value.specs.Resources.{all_passes, all_resources, stop_of}
 use Rattle.canon_value.specs.Value.{HaveTrees}
 use Rattle.canon_context.specs.declared.fault.At.{At}
 use Rattle.canon_context.specs.declared.fault.Fault.{Fault}
+use Rattle.canon_context.specs.declared.component.Import.{Import}
+use Rattle.canon_context.specs.declared.component.Import.TheVariants as import
 use Rattle.canon_context.specs.declared.fault.Fault.TheVariants as fault
 use Rattle.canon_value.specs.declared.val.Val.{Val}
-use Rattle.canon_func.specs.Asks.{AreServed, AskStops, AcceptsAsk, Limits}
-use Rattle.canon_func.specs.Runs.{AskTurn, Each, EndsIn, Grows, IsAnswer, IsAsk, IsNoPost, IsNoRequest, IsNoStart, IsOneRun, IsPrefixOfRun, IsReturn, IsTrap, MayStart, OnLastAsk, OnReturn, OnStart, SomeReturn, asks_in}
+use Rattle.canon_host.specs.HostSide.{Giving, HostSide}
+use Rattle.canon_func.specs.Asks.{AreServed, AskStops, AcceptsAsk, Limits, import_words}
+use Rattle.canon_func.specs.Runs.{AskTurn, BeginsInAsk, Each, EndsIn, Grows, IsAnswer, IsNoPost, IsNoReturn, IsNoStart, IsOneRun, IsPrefixOfRun, IsReturn, IsTrap, MayStart, OnAsk, OnReturn, OnStart, SomeReturn, answers_in, asks_in}
 use Rattle.canon_func.specs.Stores.{Callee}
 use Rattle.canon_func.specs.declared.error.Error.{Error}
 use Rattle.canon_func.specs.declared.error.Error.TheVariants as error
@@ -62,6 +65,7 @@ refused_by (Err error.WrongWords) = None
 refused_by (Err (error.UnknownImport n)) = None
 refused_by (Err error.TurnsExhausted) = None
 refused_by (Err (error.ImportFault n f)) = None
+refused_by (Err (error.HostRefused n)) = None
 refused_by (Err (error.Fault f)) = None
 
 -- ---- at the start
@@ -146,30 +150,28 @@ FaultCause callee fuel params before after events fault.OutOfMemory = ⊤
 FaultCause callee fuel params before after events (fault.Resource e) = (refusal_of e ≡ Some e)
     × ((Each IsNoStart events × ¬ EndsIn IsTrap events) ⊎ EndsIn (IsReturn (λ words m. length words ≡ result_words callee.results)) events)
 
--- the ledger refused it, which isn't want of memory
-abbrev pub IsRefusal : Fault → Type 0
-IsRefusal (fault.Resource e) = refusal_of e ≡ Some e
-IsRefusal _ = ⊥
-
--- the guest asked last for an import that the component has, with these words
-abbrev pub EndsInKnownAsk : Callee → (ℕ → List ℕ → Type 0) → List Event → Type 0
-EndsInKnownAsk callee P events = EndsIn (IsAsk (λ index words. IsSome (slice_get callee.imports index) × P index words)) events
-
--- Why an ask wasn't served: it is one more than the call has, it is of no import of the component, or of one that the ledger refused
--- (`HandlesPass` says which step). An import takes one word.
-abbrev pub AskCause : Callee → Limits → List Event → Error → Type 0
-AskCause callee limits events error.TurnsExhausted = EndsIn (IsAsk (λ index words. ⊤)) events × (asks_in events ≡ limits.turns + 1)
-AskCause callee limits events (error.UnknownImport n) = EndsIn (IsAsk (λ index words. (index ≡ n) × (slice_get callee.imports index ≡ None))) events
-AskCause callee limits events error.WrongWords = EndsInKnownAsk callee (λ index words. ¬ (length words ≡ 1)) events
-AskCause callee limits events (error.ImportFault n f) = IsRefusal f × EndsInKnownAsk callee (λ index words. (index ≡ n) × (length words ≡ 1)) events
-AskCause callee limits events _ = ⊥
+-- Why an ask wasn't served, by all events and those after the turns: it is the last event, and one more than the call has, or of no
+-- import of the component, or with another number of words than its import takes; or it is of an import of the component, and nothing
+-- but requests for blocks came after it (`HandlesPass` says which step was refused, and why). Where the guest trapped meanwhile, its
+-- count of traps rose.
+abbrev pub AskCause : Callee → Limits → Moment → Moment → List Event → List Event → Error → Type 0
+AskCause callee limits before after events tail error.TurnsExhausted = BeginsInAsk (λ index words m more. more ≡ []) tail × (asks_in events ≡ limits.turns + 1)
+AskCause callee limits before after events tail (error.UnknownImport n) = BeginsInAsk (λ index words m more. (index ≡ n) × (slice_get callee.imports index ≡ None) × (more ≡ [])) tail
+AskCause callee limits before after events tail error.WrongWords =
+    BeginsInAsk (λ index words m more. (called : Import) × (slice_get callee.imports index ≡ Some called) × ¬ (length words ≡ import_words callee called) × (more ≡ [])) tail
+AskCause callee limits before after events tail (error.ImportFault n f) =
+    BeginsInAsk (λ index words m more. (index ≡ n) × ((called : Import) × (slice_get callee.imports index ≡ Some called) × (length words ≡ import_words callee called))) tail
+    × (f ≡ fault.GuestTrap → Rose before.guest.traps after.guest.traps × EndsIn IsTrap events)
+AskCause callee limits before after events tail (error.HostRefused n) =
+    BeginsInAsk (λ index words m more. (index ≡ n) × (more ≡ []) × ((type options : ℕ) × (slice_get callee.imports index ≡ Some (import.Host type options)))) tail
+AskCause callee limits before after events tail _ = ⊥
 
 -- why a call was refused with this error, which isn't one of those before the guest is entered
-abbrev pub Cause : Callee → Limits → List Val → Moment → Moment → List Event → Error → Type 0
-Cause callee limits params before after events (error.Fault f) = FaultCause callee limits.fuel params before after events f
-Cause callee limits params before after events error.WrongWords =
-    EndsIn (IsReturn (λ words m. ¬ (length words ≡ result_words callee.results))) events ⊎ AskCause callee limits events error.WrongWords
-Cause callee limits params before after events e = AskCause callee limits events e
+abbrev pub Cause : Callee → Limits → List Val → Moment → Moment → List Event → List Event → Error → Type 0
+Cause callee limits params before after events tail (error.Fault f) = FaultCause callee limits.fuel params before after events f
+Cause callee limits params before after events tail error.WrongWords =
+    EndsIn (IsReturn (λ words m. ¬ (length words ≡ result_words callee.results))) events ⊎ AskCause callee limits before after events tail error.WrongWords
+Cause callee limits params before after events tail e = AskCause callee limits before after events tail e
 
 -- how lowering the parameters of a call that answered so ended: a fault of its own ended it, and it was done else
 abbrev pub lowering_ending : Result (Unit {0}) Error → Ending
@@ -214,50 +216,53 @@ pub record Concludes (callee : Callee) (words memory : List ℕ) (results : List
   pub empty : can_leave lifted.handles ≡ true
   pub left : after ≡ leave lifted
 
--- of a call that was refused, after its start: nothing more, unless it returned as many words as its results take
+-- Of a call that was refused, after its start and not in an ask: nothing more before a return, or at one of another number of words than
+-- the results take; at one of as many words, or after it in post-return, the ledger went on.
 abbrev pub StopsLater : Callee → Option ResourceFault → LedgerState → LedgerState → List Event → Type 0
 StopsLater callee why before after events =
-    ((why ≡ None) × (after ≡ before) × Each (OnReturn (λ words m. ¬ (length words ≡ result_words callee.results))) events)
+    ((why ≡ None) × (after ≡ before) × (Each IsNoReturn events ⊎ EndsIn (IsReturn (λ words m. ¬ (length words ≡ result_words callee.results))) events) × OnAsk (λ index words m more. ⊥) events)
     ⊎ ((Each IsNoPost events) × (¬ EndsIn IsTrap events) × SomeReturn (λ words m. (length words ≡ result_words callee.results) × StopsReturned callee words m why before after) events)
     ⊎ ((why ≡ None) × (¬ Each IsNoPost events) × SomeReturn (λ words m. (resources : List Any) × LiftsReturned callee words m resources before after) events)
 
 -- the refusal of the ledger that a call answers, if it is one
 abbrev pub stopped_by : Error → Option ResourceFault
 stopped_by (error.Fault f) = stop_of f
-stopped_by (error.ImportFault n f) = stop_of f
 stopped_by _ = None
 
--- from the start on: each ask that was resumed was served, in order; and then the ledger went on so
-abbrev pub AfterTurns : Callee → List AskTurn → LedgerState → (LedgerState → Type 0) → Type 0
-AfterTurns callee turns before P = (served : LedgerState) × AreServed callee turns before served × P served
+module _ {T : Type 0} (gives : Giving T) (callee : Callee) (fuel : ℕ) where
+  -- from the start on: each ask that was resumed was served, in order; and then the host went on so
+  abbrev pub AfterTurns : List AskTurn → HostSide T → (HostSide T → Type 0) → Type 0
+  AfterTurns turns before P = (served : HostSide T) × AreServed gives callee fuel turns before served × P served
 
--- a call that was refused after its start stopped at an ask that it didn't resume, or otherwise
-abbrev pub StopsStarted : Callee → Error → LedgerState → LedgerState → List Event → Type 0
-StopsStarted callee e before after events =
-    StopsLater callee (stopped_by e) before after events ⊎ EndsIn (IsAsk (λ index words. AskStops callee e index words before after)) events
+  -- a call that was refused after its start stopped at an ask that it didn't resume, or otherwise
+  abbrev pub StopsStarted : Error → List ℕ → List Answer → Option Trap → HostSide T → HostSide T → List Event → Type 0
+  StopsStarted e memory2 late late_trap before after tail =
+      (StopsLater callee (stopped_by e) before.ledger after.ledger tail × (after ≡ record before { ledger = after.ledger }))
+      ⊎ BeginsInAsk (λ index words memory more. AskStops gives callee fuel e index words memory memory2 late late_trap before after) tail
 
--- What became of the ledger, by the call's events. At Ok a scope was opened, the handles of the parameters were lowered in it, in
--- order, and were given these numbers; each ask was served; and from the return on as above. A refused call stopped somewhere on this
--- way, its scope is left open, and a refusal of the ledger is that of the step at which it stopped. Where memory ran out for the
--- scope, nothing was done.
-abbrev pub HandlesPass : Callee → List Val → List AskTurn → LedgerState → LedgerState → List ℕ → Result (Unit {0}) Error → List Val → List Event → Type 0
-HandlesPass callee params turns before after given (Ok x) results events =
-    (lowered : LedgerState) × LeavesTake (enter before) (param_parts callee params) given lowered
-    × AfterTurns callee turns lowered (λ served. Each (OnReturn (λ words m. Concludes callee words m results served after)) events)
-HandlesPass callee params turns before after given (Err e) results events =
-    ((e ≡ error.Fault fault.OutOfMemory) × (events ≡ []) × (after ≡ before))
-    ⊎ (Each IsNoStart events × LeavesStop (stopped_by e) (enter before) (param_parts callee params) after)
-    ⊎ ((lowered : LedgerState) × LeavesTake (enter before) (param_parts callee params) given lowered × AfterTurns callee turns lowered (λ served. StopsStarted callee e served after events))
+  -- What became of the host, by the call's events. At Ok a scope was opened, the handles of the parameters were lowered in it, in
+  -- order, and were given these numbers; each ask was served; and from the return on as above. A refused call stopped somewhere on this
+  -- way, its scope is left open, and a refusal of the ledger is that of the step at which it stopped. Where memory ran out for the
+  -- scope, nothing was done.
+  abbrev pub HandlesPass : List Val → List AskTurn → List ℕ → List Answer → Option Trap → HostSide T → HostSide T → List ℕ → Result (Unit {0}) Error → List Val → List Event → List Event → Type 0
+  HandlesPass params turns memory2 late late_trap before after given (Ok x) results events tail =
+      (lowered : LedgerState) × LeavesTake (enter before.ledger) (param_parts callee params) given lowered
+      × AfterTurns turns (record before { ledger = lowered }) (λ served. Each (OnReturn (λ words m. Concludes callee words m results served.ledger after.ledger)) tail × (after ≡ record served { ledger = after.ledger }))
+  HandlesPass params turns memory2 late late_trap before after given (Err e) results events tail =
+      ((e ≡ error.Fault fault.OutOfMemory) × (events ≡ []) × (after ≡ before))
+      ⊎ (Each IsNoStart events × LeavesStop (stopped_by e) (enter before.ledger) (param_parts callee params) after.ledger × (after ≡ record before { ledger = after.ledger }))
+      ⊎ ((lowered : LedgerState) × LeavesTake (enter before.ledger) (param_parts callee params) given lowered
+      × AfterTurns turns (record before { ledger = lowered }) (λ served. StopsStarted e memory2 late late_trap served after tail))
 
--- the ledger accepts the step of an ask that the guest ends in, and at a return the end of the scope and each handle of the results
-abbrev pub AcceptsLater : Callee → LedgerState → List Event → Type 0
-AcceptsLater callee before events = OnLastAsk (λ index words. AcceptsAsk callee index words before) events
-    × Each (OnReturn (λ words m. (resources : List Any) × (lifted : LedgerState) × LiftsReturned callee words m resources before lifted)) events
+  -- an ask that isn't resumed can be served, and at a return the ledger accepts the end of the scope and each handle of the results
+  abbrev pub AcceptsLater : HostSide T → List Event → Type 0
+  AcceptsLater before tail = OnAsk (λ index words memory more. AcceptsAsk gives callee fuel index words memory before) tail
+      × Each (OnReturn (λ words m. (resources : List Any) × (lifted : LedgerState) × LiftsReturned callee words m resources before.ledger lifted)) tail
 
--- the same of the whole call, after each handle of the parameters and each ask that was resumed
-abbrev pub Accepts : Callee → List Val → List AskTurn → LedgerState → List Event → Type 0
-Accepts callee params turns before events = (given : List ℕ) × (lowered : LedgerState) × LeavesTake (enter before) (param_parts callee params) given lowered
-    × AfterTurns callee turns lowered (λ served. AcceptsLater callee served events)
+  -- the same of the whole call, after each handle of the parameters and each ask that was resumed, however it was served
+  abbrev pub Accepts : List Val → List AskTurn → HostSide T → List Event → Type 0
+  Accepts params turns before tail = (given : List ℕ) × (lowered : LedgerState) × LeavesTake (enter before.ledger) (param_parts callee params) given lowered
+      × ((served : HostSide T) → AreServed gives callee fuel turns (record before { ledger = lowered }) served → AcceptsLater served tail)
 
 -- ---- the whole
 
@@ -272,32 +277,36 @@ pub record Advances (before after : Moment) : Type 0 where
   pub traps_later : before.guest.traps ≤ after.guest.traps
   pub shortages_later : before.guest.shortages ≤ after.guest.shortages
 
--- A call that wasn't refused before the guest was entered, by its callee, what it may use, its parameters, the moments
--- and the ledgers before and after, its answer, the results that it leaves and the events that it adds to a told journal.
-pub record IsCall (Leaves : List ℕ → List ℕ → Type 0) (callee : Callee) (limits : Limits) (params : List Val) (before after : Moment) (ledger left : LedgerState) (answer : Result (Unit {0}) Error) (results : List Val) (events : List Event) : Type 0 where
+-- A call that wasn't refused before the guest was entered, by what functions of the host may give, its callee, what it may use, its
+-- parameters, the moments and the host before and after, its answer, the results that it leaves and the events that it adds to a told
+-- journal.
+pub record IsCall {T : Type 0} (Leaves : List ℕ → List ℕ → Type 0) (gives : Giving T) (callee : Callee) (limits : Limits) (params : List Val) (before after : Moment) (host left : HostSide T) (answer : Result (Unit {0}) Error) (results : List Val) (events : List Event) : Type 0 where
   -- The guest made one run; of a refused call the events are a prefix of one.
   pub one_run : OnOk answer (IsOneRun callee.func callee.post events)
   pub prefix : IsPrefixOfRun callee.func callee.post (length before.bytes) events
   pub advances : Advances before after
   pub grows : Grows (length before.bytes) events (length after.bytes)
-  -- Blocks were asked for before the start alone, as the parameters want them; each answer has its mark.
+  -- Blocks were asked for before the start, as the parameters want them.
   pub answers : List Answer
   pub trap : Option Trap
   pub later : List Event
   pub in_parts : events ≡ events_of answers trap ++ later
-  pub no_more : Each IsNoRequest later
   -- From the start on it asked in these turns, and was served; of all asks one at most, for which it was refused, passes the limit.
+  -- Blocks were asked for from an ask to its resume alone, or after a last ask that wasn't resumed.
   pub turns : List AskTurn
-  pub starts : MayStart callee.func turns later
+  pub late : List Answer
+  pub late_trap : Option Trap
+  pub tail : List Event
+  pub starts : MayStart callee.func turns late late_trap tail later
   pub asks : answer ≢ Err error.TurnsExhausted → asks_in events ≤ limits.turns
-  -- each answer was aligned and its block ended inside memory, but one that the call was refused for
+  -- each answer was aligned and its block ended inside memory, but one that the call was refused for; and each answer has its mark
   pub accepted : Accepted (lowering_ending answer) (length after.bytes) answers
-  pub marks : after.guest.marks ≡ before.guest.marks ++ marks_of answers
+  pub marks : after.guest.marks ≡ before.guest.marks ++ marks_of (answers ++ (answers_in turns ++ late))
   pub requested : (ts : Trees) → HaveTrees callee.params params ts → MetFirst (params_requests false callee.encoding callee.params ts) answers trap later
   pub quiet : AsksByTypes callee.params (lowering_ending answer) answers trap
-  -- Handles went through the ledger; the words of the start have those that the parameters were given.
+  -- Handles went through the ledger, and each ask was served; the words of the start have the handles that the parameters were given.
   pub given : List ℕ
-  pub handles : HandlesPass callee params turns ledger left given answer results events
+  pub handles : HandlesPass gives callee limits.fuel params turns after.bytes late late_trap host left given answer results events tail
   pub start : Each (OnStart (IsStart callee params before.bytes answers given)) events
   -- The results are the only values that the returned words and memory represent, and cost no more than the fuel; that
   -- memory is left, as far as a post-return leaves it.
@@ -305,13 +314,13 @@ pub record IsCall (Leaves : List ℕ → List ℕ → Type 0) (callee : Callee) 
   -- Post-return runs only where the results were lifted.
   pub posted : ¬ Each IsNoPost events → Each (OnReturn (λ words m. (left : ℕ) × (vs : List Val) × AreResults callee.encoding (narrow m) callee.results words limits.fuel left vs)) events
   pub leaves : OnOk answer (Each (OnReturn (λ words m. Left Leaves callee.post m after.bytes)) events)
-  pub cause : IfErr answer (Cause callee limits params before after events)
+  pub cause : IfErr answer (Cause callee limits params before after events tail)
   -- A valid call answers Ok or want of memory: the parameters are of their types, no text among them is too long and no
-  -- list too large, `realloc` kept its law, the guest doesn't trap and doesn't ask too often, what it returns represents
-  -- results that cost no more than the fuel, and the ledger accepts the handles and each ask.
-  pub valid : (ts : Trees) → HaveTrees callee.params params ts → AreSmall callee.encoding callee.params params → AllLawful answers → ¬ EndsIn IsTrap events → asks_in events ≤ limits.turns
+  -- list too large, `realloc` kept its law, the guest doesn't trap and doesn't ask too often, no function of the host refuses, what
+  -- it returns represents results that cost no more than the fuel, the ledger accepts the handles, and each ask can be served.
+  pub valid : (ts : Trees) → HaveTrees callee.params params ts → AreSmall callee.encoding callee.params params → AllLawful (answers ++ late) → ¬ Rose host.refusals left.refusals → ¬ EndsIn IsTrap events → asks_in events ≤ limits.turns
       → Each (OnReturn (λ words m. (us : Trees) × RepResults false callee.encoding (narrow m) words callee.results us × (members_cost callee.results us ≤ limits.fuel))) events
-      → Accepts callee params turns ledger events
+      → Accepts gives callee limits.fuel params turns host tail
       → IsOkUnless answer (error.Fault fault.OutOfMemory)
 
 -- a fact for every answer but want of memory

@@ -85,11 +85,11 @@ pub record IsCutOff (x : GivenIndex) (before after : LedgerState) (trapped : Boo
   pub now_trapped : trapped ≡ true
 
 -- a store with another ledger
-abbrev pub with_ledger : {T G : Type 0} → StoreView T G → LedgerState → StoreView T G
+abbrev pub with_ledger : {T G I : Type 0} → StoreView T G I → LedgerState → StoreView T G I
 with_ledger store l = record store { core = record store.core { ledger = l } }
 
 -- What became of the handle and of the store, by the answer: a refused removal leaves what the ledger's step does.
-abbrev pub DropAnswers : {T G : Type 0} → (G → Seen) → GivenIndex → StoreView T G → StoreView T G → Result (Unit {0}) Error → Type 0
+abbrev pub DropAnswers : {T G I : Type 0} → (G → Seen) → GivenIndex → StoreView T G I → StoreView T G I → Result (Unit {0}) Error → Type 0
 DropAnswers seen x before after (Ok _) = IsDropped x before.core.ledger after.core.ledger before.trapped after.trapped
 DropAnswers seen x before after (Err (error.Fault fault.GuestTrap)) = IsCutOff x before.core.ledger after.core.ledger after.trapped × Rose (seen before.core.guest).traps (seen after.core.guest).traps
 DropAnswers seen x before after (Err (error.Fault fault.OutOfMemory)) = (after ≡ before) ⊎ IsCutOff x before.core.ledger after.core.ledger after.trapped
@@ -98,8 +98,8 @@ DropAnswers seen x before after (Err (error.Fault (fault.Resource e))) =
 DropAnswers seen x before after (Err _) = ⊥
 
 -- A drop of the handle at an index that wasn't refused before a scope was entered.
-pub record IsDrop {T G : Type 0} (seen : G → Seen) (moves : GuestIn G → List Event → GuestIn G → Type 0) (Leaves : List ℕ → List ℕ → Type 0)
-    (x : GivenIndex) (before after : StoreView T G) (answer : Result (Unit {0}) Error) : Type 0 where
+pub record IsDrop {T G I : Type 0} (seen : G → Seen) (moves : GuestIn G → List Event → GuestIn G → Type 0) (Leaves : List ℕ → List ℕ → Type 0)
+    (x : GivenIndex) (before after : StoreView T G I) (answer : Result (Unit {0}) Error) : Type 0 where
   pub outcome : DropAnswers seen x before after answer
   pub destructor : Ran seen moves Leaves (destructor_at before.core.ledger x) before.core after.core answer
   pub same : after.core ≡ record before.core { guest = after.core.guest; memory = after.core.memory; ledger = after.core.ledger }

@@ -1,31 +1,78 @@
 -- Laws of the definitions of a call.
-use Rattle.std.specs.Prelude.{Err, List, None, Ok, Option, Some, [], slice_get, slice_index, ℕ, ◌++◌, ◌∷◌, ◌≡◌, ◌⊎◌}
-use Rattle.std.specs.Option.{option_map_or}
+use Rattle.std.specs.Prelude.{Err, List, Ok, Option, Some, [], map, slice_index, take, ℕ, ◌++◌, ◌∷◌, ◌≡◌, ◌⊎◌}
+use Rattle.canon_model.specs.Flat.{max_params}
+use Rattle.canon_model.specs.Leaves.{values_leaves}
 use Rattle.canon_model.specs.Memory.{low}
 use Rattle.canon_memory.specs.declared.event.Event.{Event}
 use Rattle.canon_ledger.specs.Handles.{top_scope}
-use Rattle.canon_ledger.specs.Ledger.{Enter, ExitScope, Leave, LedgerState, LedgerStep, Partway, Through, do_step, enter, run}
+use Rattle.canon_ledger.specs.Ledger.{Enter, ExitScope, Leave, LedgerState, LedgerStep, Partway, Through, do_step, enter, leave}
+use Rattle.canon_leaves.specs.Parts.{Part, lift_parts, lower_parts}
 use Rattle.canon_leaves.specs.Steps.{leaves_steps}
-use Rattle.canon_context.specs.declared.component.Import.{Import}
+use Rattle.canon_lowering.specs.Lowering.{Answer, Trap}
+use Rattle.canon_lowering.specs.Storing.{narrow}
+use Rattle.canon_context.specs.Host.{HostSteps}
+use Rattle.canon_value.specs.Args.{args_words}
+use Rattle.canon_value.specs.Resources.{all_passes}
 use Rattle.canon_value.specs.declared.val.Val.{Val}
-use Rattle.canon_func.specs.Asks.{import_step}
+use Rattle.canon_host.specs.HostSide.{Giving, HostSide}
+use Rattle.canon_host.specs.declared.asked.Asked.{Asked}
+use Rattle.canon_func.specs.Asks.{builtin_at, builtin_step}
 use Rattle.canon_func.specs.Call.{HandlesPass, param_parts, result_parts}
-use Rattle.canon_func.specs.Runs.{AskTurn, Each, EndsIn, IsAsk, IsNoStart, OnReturn, SomeReturn}
+use Rattle.canon_func.specs.HostAsks.{IsHostAsk, asked_params, asked_results}
+use Rattle.canon_func.specs.Runs.{AskTurn, BeginsInAsk, Each, IsNoStart, OnReturn, SomeReturn}
 use Rattle.canon_func.specs.Stores.{Callee}
+use Rattle.canon_func.specs.declared.asks.Builtin.{Builtin}
 use Rattle.canon_func.specs.declared.error.Error.{Error}
 
--- the steps of the asks that were served
-abbrev pub turn_steps : Callee → AskTurn → Option Import → List LedgerStep
-turn_steps callee t None = []
-turn_steps callee t (Some called) = import_step callee.types called (low (slice_index t.words 0)) ∷ []
+-- ---- the steps of an ask
 
-abbrev pub turns_steps : Callee → List AskTurn → List LedgerStep
-turns_steps callee [] = []
-turns_steps callee (t ∷ turns) = turn_steps callee t (slice_get callee.imports t.index) ++ turns_steps callee turns
+-- what the handles of its parameters do, and those of the results that a function of the host gave
+abbrev pub asked_parts : Callee → Asked → List ℕ → List ℕ → List (List Part)
+asked_parts callee asked words memory = map (lift_parts callee.types) (values_leaves (narrow memory) (take (args_words (asked_params callee asked)) words) max_params (asked_params callee asked))
 
--- up to the return: the scope is opened, the handles of the parameters are lowered, and the asks are served
-abbrev pub first_steps : Callee → List Val → List AskTurn → LedgerState → List LedgerStep
-first_steps callee params turns l = Enter ∷ leaves_steps (enter l) (param_parts callee params) ++ turns_steps callee turns
+abbrev pub given_parts : Callee → Asked → List Val → List (List Part)
+given_parts callee asked results = map (lower_parts callee.types) (all_passes (asked_results callee asked) results)
+
+-- the step of a builtin
+abbrev pub ask_steps : Callee → Builtin → List ℕ → List LedgerStep
+ask_steps callee called words = builtin_step callee.types called (low (slice_index words 0)) ∷ []
+
+-- up to the call of a function of the host: a scope is opened, and the handles of the parameters are lifted
+abbrev pub asked_steps : Callee → Asked → List ℕ → List ℕ → LedgerState → List LedgerStep
+asked_steps callee asked words memory l = Enter ∷ leaves_steps (enter l) (asked_parts callee asked words memory)
+
+-- from then on: the scope ends and is left, and the handles of the results are lowered
+abbrev pub given_steps : Callee → Asked → List Val → LedgerState → List LedgerStep
+given_steps callee asked results l =
+    let exit : LedgerStep = ExitScope (top_scope l.handles) in
+    exit ∷ Leave ∷ leaves_steps (leave (do_step exit l).after) (given_parts callee asked results)
+
+-- A function of the host was asked for, and the ledger went through these steps, each of which it accepted, but for those that the
+-- function took itself, which may be refused.
+pub record HostThrough (callee : Callee) (t : AskTurn) (before after : LedgerState) : Type 0 where
+  pub asked : Asked
+  pub is : IsHostAsk callee t.index t.words asked
+  pub results : List Val
+  pub lifted : LedgerState
+  pub called : LedgerState
+  pub first : Through before (asked_steps callee asked t.words t.memory before) lifted
+  pub steps : HostSteps lifted called
+  pub last : Through called (given_steps callee asked results called) after
+
+-- an ask that was served: the builtin's one step, or those of a function of the host
+abbrev pub AskThrough : Callee → AskTurn → LedgerState → LedgerState → Type 0
+AskThrough callee t before after = ((called : Builtin) × (builtin_at callee t.index ≡ Some called) × Through before (ask_steps callee called t.words) after) ⊎ HostThrough callee t before after
+
+-- each of them, in order
+abbrev pub AsksThrough : Callee → List AskTurn → LedgerState → LedgerState → Type 0
+AsksThrough callee [] before after = after ≡ before
+AsksThrough callee (t ∷ turns) before after = (mid : LedgerState) × AskThrough callee t before mid × AsksThrough callee turns mid after
+
+-- ---- the steps of a call
+
+-- up to the start: the scope is opened, and the handles of the parameters are lowered
+abbrev pub first_steps : Callee → List Val → LedgerState → List LedgerStep
+first_steps callee params l = Enter ∷ leaves_steps (enter l) (param_parts callee params)
 
 -- from the return on: the scope ends, the handles of the results are lifted, and it is left
 abbrev pub last_steps : Callee → List ℕ → List ℕ → LedgerState → List LedgerStep
@@ -33,25 +80,36 @@ last_steps callee words memory l =
     let exit : LedgerStep = ExitScope (top_scope l.handles) in
     exit ∷ leaves_steps (do_step exit l).after (result_parts callee words memory) ++ Leave ∷ []
 
--- The ledger of a call that is Ok went through these steps, one after another, each of which it accepted.
-abbrev pub CallIsThrough : Type 0
-CallIsThrough = (callee : Callee) (params : List Val) (turns : List AskTurn) (before after : LedgerState) (given : List ℕ) (results : List Val) (events : List Event)
-    → HandlesPass callee params turns before after given (Ok tt) results events
-    → Each (OnReturn (λ words memory. Through before (first_steps callee params turns before ++ last_steps callee words memory (run (first_steps callee params turns before) before)) after)) events
+-- the ledger from before a call to its return, or to its last ask
+pub record CallThrough (callee : Callee) (params : List Val) (turns : List AskTurn) (before served : LedgerState) : Type 0 where
+  pub lowered : LedgerState
+  pub first : Through before (first_steps callee params before) lowered
+  pub asks : AsksThrough callee turns lowered served
 
--- the step of an ask that was refused, where the component has its import
-abbrev pub ask_steps : Callee → ℕ → List ℕ → List LedgerStep
-ask_steps callee index words = option_map_or (λ called. import_step callee.types called (low (slice_index words 0)) ∷ []) (slice_get callee.imports index) []
+-- The ledger of a call that is Ok went through these steps, one after another, each of which it accepted.
+abbrev pub CallIsThrough : {T : Type 0} → Giving T → Type 0
+CallIsThrough {T} gives = (callee : Callee) (fuel : ℕ) (params : List Val) (turns : List AskTurn) (memory2 : List ℕ) (late : List Answer) (trap : Option Trap) (before after : HostSide T) (given : List ℕ) (results : List Val) (events tail : List Event)
+    → HandlesPass gives callee fuel params turns memory2 late trap before after given (Ok tt) results events tail
+    → (served : LedgerState) × CallThrough callee params turns before.ledger served × Each (OnReturn (λ words memory. Through served (last_steps callee words memory served) after.ledger)) tail
+
+-- an ask that wasn't resumed: up to some step of a builtin or of a function of the host
+abbrev pub AskPartway : Callee → ℕ → List ℕ → List ℕ → LedgerState → LedgerState → Type 0
+AskPartway callee index words memory served after =
+    (after ≡ served)
+    ⊎ ((called : Builtin) × (builtin_at callee index ≡ Some called) × Partway served (ask_steps callee called words) after)
+    ⊎ ((asked : Asked) × IsHostAsk callee index words asked
+    × (Partway served (asked_steps callee asked words memory served) after
+    ⊎ ((results : List Val) × (lifted called : LedgerState) × Through served (asked_steps callee asked words memory served) lifted × HostSteps lifted called × Partway called (given_steps callee asked results called) after)))
 
 -- from the last turn on, of a call that was refused after its start: nothing, or up to some step of its last ask, or from its return on
 abbrev pub GoesOn : Callee → LedgerState → LedgerState → List Event → Type 0
-GoesOn callee served after events = (after ≡ served)
-    ⊎ EndsIn (IsAsk (λ index words. Partway served (ask_steps callee index words) after)) events
-    ⊎ SomeReturn (λ words memory. Partway served (last_steps callee words memory served) after) events
+GoesOn callee served after tail = (after ≡ served)
+    ⊎ BeginsInAsk (λ index words memory more. AskPartway callee index words memory served after) tail
+    ⊎ SomeReturn (λ words memory. Partway served (last_steps callee words memory served) after) tail
 
 -- The ledger of a call that is refused went through the same steps up to some step, which is one of those that the events tell.
-abbrev pub RefusedIsPartway : Type 0
-RefusedIsPartway = (callee : Callee) (params : List Val) (turns : List AskTurn) (before after : LedgerState) (given : List ℕ) (e : Error) (results : List Val) (events : List Event)
-    → HandlesPass callee params turns before after given (Err e) results events
-    → (Each IsNoStart events × Partway before (Enter ∷ leaves_steps (enter before) (param_parts callee params)) after)
-    ⊎ (Through before (first_steps callee params turns before) (run (first_steps callee params turns before) before) × GoesOn callee (run (first_steps callee params turns before) before) after events)
+abbrev pub RefusedIsPartway : {T : Type 0} → Giving T → Type 0
+RefusedIsPartway {T} gives = (callee : Callee) (fuel : ℕ) (params : List Val) (turns : List AskTurn) (memory2 : List ℕ) (late : List Answer) (trap : Option Trap) (before after : HostSide T) (given : List ℕ) (e : Error) (results : List Val) (events tail : List Event)
+    → HandlesPass gives callee fuel params turns memory2 late trap before after given (Err e) results events tail
+    → (Each IsNoStart events × Partway before.ledger (first_steps callee params before.ledger) after.ledger)
+    ⊎ ((served : LedgerState) × CallThrough callee params turns before.ledger served × GoesOn callee served after.ledger tail)

@@ -4,6 +4,7 @@ use Rattle.canon_model.specs.Requests.{Call}
 use Rattle.canon_memory.specs.declared.event.Event.{Event}
 use Rattle.canon_memory.specs.declared.event.Event.TheVariants as event
 use Rattle.canon_memory.specs.Realloc.{call}
+use Rattle.canon_lowering.specs.Lowering.{Answer, Trap, events_of}
 
 -- ---- properties of events
 
@@ -52,17 +53,15 @@ abbrev pub IsTrap : Event → Type 0
 IsTrap (event.Trap asked len) = ⊤
 IsTrap _ = ⊥
 
--- it asks for an import of such a number, with such words
-abbrev pub IsAsk : (ℕ → List ℕ → Type 0) → Event → Type 0
-IsAsk P (event.Ask index words memory) = P index words
-IsAsk P _ = ⊥
+-- they begin with an ask for an import: of its number, its words, the memory that the guest left, and what came after it
+abbrev pub BeginsInAsk : (ℕ → List ℕ → List ℕ → List Event → Type 0) → List Event → Type 0
+BeginsInAsk P (event.Ask index words memory ∷ more) = P index words memory more
+BeginsInAsk P _ = ⊥
 
--- where the last event is an ask: of its number and its words
-abbrev pub OnLastAsk : (ℕ → List ℕ → Type 0) → List Event → Type 0
-OnLastAsk P [] = ⊤
-OnLastAsk P (event.Ask index words memory ∷ []) = P index words
-OnLastAsk P (e ∷ []) = ⊤
-OnLastAsk P (e ∷ f ∷ events) = OnLastAsk P (f ∷ events)
+-- where they begin with one: of the same
+abbrev pub OnAsk : (ℕ → List ℕ → List ℕ → List Event → Type 0) → List Event → Type 0
+OnAsk P (event.Ask index words memory ∷ more) = P index words memory more
+OnAsk P _ = ⊤
 
 -- how often the guest asked for an import
 abbrev pub asks_in : List Event → ℕ
@@ -73,6 +72,10 @@ asks_in (e ∷ events) = asks_in events
 abbrev pub IsNoStart : Event → Type 0
 IsNoStart (event.Start func words memory) = ⊥
 IsNoStart _ = ⊤
+
+abbrev pub IsNoReturn : Event → Type 0
+IsNoReturn (event.Return words memory) = ⊥
+IsNoReturn _ = ⊤
 
 abbrev pub IsNoResume : Event → Type 0
 IsNoResume (event.Resume words memory) = ⊥
@@ -103,31 +106,40 @@ Grows len (_ ∷ events) last = Grows len events last
 
 -- ---- one run
 
--- an import that was asked for, the blocks that were asked for meanwhile, and how the guest went on
+-- an import that was asked for, how the blocks were answered that the host asked for meanwhile, and how the guest went on
 pub record AskTurn : Type 0 where
   pub index : ℕ
   pub words : List ℕ
   pub memory : List ℕ
-  pub reallocs : List Event
-  pub only_reallocs : Each IsRealloc reallocs
+  pub answers : List Answer
   pub resumed_words : List ℕ
   pub resumed_memory : List ℕ
 
 abbrev pub events_in : List AskTurn → List Event
 events_in [] = []
-events_in (t ∷ turns) = event.Ask t.index t.words t.memory ∷ t.reallocs ++ event.Resume t.resumed_words t.resumed_memory ∷ events_in turns
+events_in (t ∷ turns) = event.Ask t.index t.words t.memory ∷ events_of t.answers None ++ event.Resume t.resumed_words t.resumed_memory ∷ events_in turns
+
+abbrev pub answers_in : List AskTurn → List Answer
+answers_in [] = []
+answers_in (t ∷ turns) = t.answers ++ answers_in turns
+
+-- what came after the turns: where it is one more ask, which isn't resumed, blocks were asked for with these answers, and else none
+abbrev pub EndsAsking : List Answer → Option Trap → List Event → Type 0
+EndsAsking answers trap (event.Ask index words memory ∷ more) = more ≡ events_of answers trap
+EndsAsking answers trap tail = Each IsNoRequest tail × (answers ≡ []) × (trap ≡ None)
 
 -- From the start on: the guest asked so often and was resumed, and of what came after these turns none is resumed.
-pub record Starts (func : ℕ) (turns : List AskTurn) (events : List Event) : Type 0 where
+pub record Starts (func : ℕ) (turns : List AskTurn) (late : List Answer) (late_trap : Option Trap) (tail events : List Event) : Type 0 where
   pub words : List ℕ
   pub memory : List ℕ
-  pub tail : List Event
   pub is : events ≡ event.Start func words memory ∷ events_in turns ++ tail
   pub no_resume : Each IsNoResume tail
+  pub asking : EndsAsking late late_trap tail
 
 -- the same of a guest that may not have been started
-abbrev pub MayStart : ℕ → List AskTurn → List Event → Type 0
-MayStart func turns events = ((events ≡ []) × (turns ≡ [])) ⊎ Starts func turns events
+abbrev pub MayStart : ℕ → List AskTurn → List Answer → Option Trap → List Event → List Event → Type 0
+MayStart func turns late late_trap tail events =
+    ((events ≡ []) × (turns ≡ []) × (late ≡ []) × (late_trap ≡ None) × (tail ≡ [])) ⊎ Starts func turns late late_trap tail events
 
 -- post-return with the words that were returned, where there is one
 abbrev pub posts : Option ℕ → List ℕ → List Event

@@ -1,5 +1,5 @@
 -- The steps of a call.
-use Rattle.std.specs.Prelude.{Err, IfErr, IfOk, IsOkUnless, List, None, Ok, OnOk, Result, Some, Vec, [], false, length, true, ℕ, ⊤, ◌++◌, ◌∷◌, ◌≡◌, ◌≢◌, ◌⊎◌, ◌<◌, ◌≤◌}
+use Rattle.std.specs.Prelude.{Err, IfErr, IfOk, IsOkUnless, IsSome, List, Option, take, None, Ok, OnOk, Result, Some, Vec, [], false, length, true, ℕ, ⊤, ◌++◌, ◌∷◌, ◌≡◌, ◌≢◌, ◌⊎◌, ◌<◌, ◌≤◌}
 use Rattle.std.specs.declared.alloc.Global.{Global}
 use Rattle.canon_model.specs.Cost.{members_cost}
 use Rattle.canon_model.specs.Flat.{RepResults, max_params}
@@ -15,7 +15,7 @@ use Rattle.canon_memory.specs.Guest.{Goes, GuestIn, Moment, Seen}
 use Rattle.canon_memory.specs.Journal.{step_event, trap_event}
 use Rattle.canon_memory.specs.declared.guest.Step.{Step}
 use Rattle.canon_lowering.specs.Attempt.{LowersArgs}
-use Rattle.canon_lowering.specs.Lowering.{Ending, done, events_of}
+use Rattle.canon_lowering.specs.Lowering.{AllLawful, Answer, Ending, Trap, done, events_of, marks_of}
 use Rattle.canon_lowering.specs.Storing.{narrow}
 use Rattle.canon_value.specs.Fails.{AreSmall, BlamesMembers}
 use Rattle.canon_context.specs.Lifter.{Origin}
@@ -36,9 +36,13 @@ use Rattle.canon_context.specs.declared.fault.Fault.{Fault}
 use Rattle.canon_value.specs.Value.{HaveTrees}
 use Rattle.canon_context.specs.declared.fault.Fault.TheVariants as fault
 use Rattle.canon_value.specs.declared.val.Val.{Val}
+use Rattle.canon_host.specs.HostSide.{Giving, HostSide}
+use Rattle.canon_host.specs.Asked.{row_words}
+use Rattle.canon_host.specs.declared.asked.Asked.{Asked}
 use Rattle.canon_func.specs.Asks.{AreServed, AskStops, IsServed, Limits}
+use Rattle.canon_func.specs.HostAsks.{HostStops, IsHostServed, asked_results}
 use Rattle.canon_func.specs.Call.{AcceptsLater, AfterTurns, AskCause, AsksByTypes, Concludes, HasFault, IsCall, IsPastFuel, Left, LiftsReturned, StopsReturned, StopsStarted, param_parts, refused_by, result_words, words_within}
-use Rattle.canon_func.specs.Runs.{AskTurn, Each, EndsIn, Grows, IsNoPost, IsNoRequest, IsOneRun, IsPrefixOfRun, IsReturn, IsTrap, MayStart, OnReturn, OnStart, asks_in, events_in, last_len, posts}
+use Rattle.canon_func.specs.Runs.{AskTurn, Each, EndsIn, Grows, IsNoPost, IsOneRun, IsPrefixOfRun, IsReturn, IsTrap, MayStart, OnReturn, OnStart, answers_in, asks_in, events_in, last_len, posts}
 use Rattle.canon_func.specs.Stores.{Callee}
 use Rattle.canon_func.specs.declared.error.Error.{Error}
 use Rattle.canon_func.specs.declared.error.Error.TheVariants as error
@@ -98,64 +102,123 @@ Resumed words before after (Err _) events = ⊥
 
 -- ---- asks
 
--- an ask of a guest that left this memory and was resumed in it
-abbrev pub ask_turn : ℕ → List ℕ → List ℕ → List ℕ → AskTurn
-ask_turn index words memory resumed = record { index = index; words = words; memory = memory; reallocs = []; only_reallocs = tt; resumed_words = resumed; resumed_memory = memory }
+-- From one moment to another, with these answers of `realloc`: these events were added, which the guest did if its journal is told,
+-- and of which this is so.
+pub record Serving (before after : Moment) (Moves : List Event → Type 0) (IsSo : List Answer → List Event → Type 0) : Type 0 where
+  pub answers : List Answer
+  pub events : List Event
+  pub goes : Goes before after (marks_of answers) events
+  pub moves : IsSome before.guest.journal → Moves events
+  pub so : IsSo answers events
 
--- an ask was served and the guest resumed, which took this step or trapped; or it wasn't, and nothing was done
-abbrev pub Serves : Callee → ℕ → List ℕ → Moment → Moment → LedgerState → LedgerState → Result Step Error → List Event → Type 0
-Serves callee index words before after ledger left (Ok next) events =
-    (resumed : List ℕ) × IsServed callee (ask_turn index words before.bytes resumed) ledger left × Resumed resumed before after (Ok next) events
-Serves callee index words before after ledger left (Err (error.Fault fault.GuestTrap)) events =
-    (resumed : List ℕ) × IsServed callee (ask_turn index words before.bytes resumed) ledger left × Resumed resumed before after (Err (error.Fault fault.GuestTrap)) events
-Serves callee index words before after ledger left (Err error.TurnsExhausted) events = ⊥
-Serves callee index words before after ledger left (Err e) events = AskStops callee e index words ledger left × (events ≡ [])
+-- only the data, the guest, its memory and the ledger may differ
+abbrev pub SameButHost : {T G : Type 0} → Parts T G → Parts T G → Type 0
+SameButHost before after = after ≡ record before { state = after.state; guest = after.guest; memory = after.memory; ledger = after.ledger }
 
--- The guest was started at the moment `before`, asked in these turns and was served; it was last let go in a memory of so many bytes.
-pub record TurnsTaken (callee : Callee) (before : Moment) (ledger served : LedgerState) (turns : List AskTurn) (len : ℕ) : Type 0 where
-  pub serves : AreServed callee turns ledger served
-  pub last : last_len (length before.bytes) (events_in turns) ≡ len
-  pub grows : (events : List Event) (last : ℕ) → Grows len events last → Grows (length before.bytes) (events_in turns ++ events) last
+-- an ask of a guest that left this memory and was resumed in another
+abbrev pub ask_turn : ℕ → List ℕ → List ℕ → List Answer → List ℕ → List ℕ → AskTurn
+ask_turn index words memory answers resumed memory2 = record { index = index; words = words; memory = memory; answers = answers; resumed_words = resumed; resumed_memory = memory2 }
+
+-- a request that trapped found memory at least so long
+abbrev pub TrapsLate : ℕ → Option Trap → Type 0
+TrapsLate len None = ⊤
+TrapsLate len (Some t) = len ≤ t.len
+
+-- where a guest trapped while it was served, its count of traps rose
+abbrev pub RisesAt : Error → Moment → Moment → Type 0
+RisesAt (error.ImportFault n fault.GuestTrap) before after = Rose before.guest.traps after.guest.traps
+RisesAt _ before after = ⊤
+
+module _ {T : Type 0} (gives : Giving T) (callee : Callee) (fuel : ℕ) where
+  -- an ask was served, and the guest resumed in a memory that isn't shorter
+  pub record Resumes (index : ℕ) (words : List ℕ) (before after : Moment) (host left : HostSide T) (answers : List Answer) : Type 0 where
+    pub resumed : List ℕ
+    pub memory : List ℕ
+    pub served : IsServed gives callee fuel (ask_turn index words before.bytes answers resumed memory) host left
+    pub longer : length before.bytes ≤ length memory
+    pub shorter : length memory ≤ length after.bytes
+
+  -- an ask was served and the guest resumed, which took this step or trapped; or it wasn't
+  abbrev pub Serves : ℕ → List ℕ → Moment → Moment → HostSide T → HostSide T → Result Step Error → List Answer → List Event → Type 0
+  Serves index words before after host left (Ok next) answers events =
+      (r : Resumes index words before after host left answers) × (events ≡ events_of answers None ++ event.Resume r.resumed r.memory ∷ step_event next after.bytes ∷ [])
+  Serves index words before after host left (Err (error.Fault fault.GuestTrap)) answers events =
+      (r : Resumes index words before after host left answers) × Rose before.guest.traps after.guest.traps
+      × (events ≡ events_of answers None ++ event.Resume r.resumed r.memory ∷ trap_event (length r.memory) ∷ [])
+  Serves index words before after host left (Err error.TurnsExhausted) answers events = ⊥
+  Serves index words before after host left (Err e) answers events =
+      (trap : Option Trap) × AskStops gives callee fuel e index words before.bytes after.bytes answers trap host left × (events ≡ events_of answers trap) × TrapsLate (length before.bytes) trap × RisesAt e before after
+
+  -- An ask of a function of the host was served, and storage has the words of the results that go in a row; or it wasn't served.
+  abbrev pub HostAsked : Asked → ℕ → List ℕ → Moment → Moment → HostSide T → HostSide T → List ℕ → Result (Unit {0}) Error → List Answer → List Event → Type 0
+  HostAsked asked index words before after host left storage (Ok x) answers events =
+      IsHostServed gives callee fuel (ask_turn index words before.bytes answers (take (row_words (asked_results callee asked)) storage) after.bytes) host left × (events ≡ events_of answers None)
+  HostAsked asked index words before after host left storage (Err e) answers events =
+      (trap : Option Trap) × HostStops gives callee fuel asked index words before.bytes after.bytes answers trap host left e × (events ≡ events_of answers trap) × TrapsLate (length before.bytes) trap × RisesAt e before after
+
+  -- The guest was started at the moment `before`, asked in these turns and was served; it was last let go in a memory of so many bytes.
+  pub record TurnsTaken (before : Moment) (host served : HostSide T) (turns : List AskTurn) (len : ℕ) : Type 0 where
+    pub serves : AreServed gives callee fuel turns host served
+    pub last : last_len (length before.bytes) (events_in turns) ≡ len
+    pub grows : (events : List Event) (last : ℕ) → Grows len events last → Grows (length before.bytes) (events_in turns ++ events) last
 
 -- the events from the start on
 abbrev pub so_far : Callee → List ℕ → Moment → List AskTurn → List Event → List Event
 so_far callee words before turns tail = event.Start callee.func words before.bytes ∷ events_in turns ++ tail
 
--- The guest asked so often and was served, and then took this step.
-pub record Stepping (callee : Callee) (words : List ℕ) (before now : Moment) (ledger served : LedgerState) (Moves : List Event → Type 0) (count : ℕ) (next : Step) : Type 0 where
-  pub turns : List AskTurn
-  pub len : ℕ
-  pub asked : TurnsTaken callee before ledger served turns len
-  pub count_is : length turns ≡ count
-  pub longer : len ≤ length now.bytes
-  pub goes : Goes before now [] (so_far callee words before turns (step_event next now.bytes ∷ []))
-  pub moves : Moves (so_far callee words before turns (step_event next now.bytes ∷ []))
+module _ {T : Type 0} (gives : Giving T) (callee : Callee) (limits : Limits) where
+  -- The guest asked so often and was served, and then took this step.
+  pub record Stepping (words : List ℕ) (before now : Moment) (host served : HostSide T) (Moves : List Event → Type 0) (count : ℕ) (next : Step) : Type 0 where
+    pub turns : List AskTurn
+    pub len : ℕ
+    pub asked : TurnsTaken gives callee limits.fuel before host served turns len
+    pub count_is : length turns ≡ count
+    pub longer : len ≤ length now.bytes
+    pub goes : Goes before now (marks_of (answers_in turns)) (so_far callee words before turns (step_event next now.bytes ∷ []))
+    pub moves : IsSome before.guest.journal → Moves (so_far callee words before turns (step_event next now.bytes ∷ []))
 
--- How the guest was left after so many asks that were served, by the last events.
-abbrev pub Stopped : Callee → ℕ → ℕ → ℕ → Moment → Moment → LedgerState → LedgerState → Result (List ℕ) Error → List Event → Type 0
-Stopped callee most count len before after served left (Ok returned) tail = (tail ≡ event.Return returned after.bytes ∷ []) × (left ≡ served)
-Stopped callee most count len before after served left (Err (error.Fault fault.GuestTrap)) tail = Rose before.guest.traps after.guest.traps × (tail ≡ trap_event len ∷ []) × (left ≡ served)
-Stopped callee most count len before after served left (Err error.TurnsExhausted) tail = (index : ℕ) × (words memory : List ℕ) × (tail ≡ event.Ask index words memory ∷ [])
-    × (len ≤ length memory) × (length memory ≤ length after.bytes) × (count ≡ most) × (left ≡ served)
-Stopped callee most count len before after served left (Err e) tail = (index : ℕ) × (words memory : List ℕ) × (tail ≡ event.Ask index words memory ∷ [])
-    × (len ≤ length memory) × (length memory ≤ length after.bytes) × (count < most) × AskStops callee e index words served left
+  -- The guest was left after so many asks that were served in an ask that wasn't.
+  pub record StopsInAsk (count len : ℕ) (before after : Moment) (served left : HostSide T) (e : Error) (late : List Answer) (trap : Option Trap) (tail : List Event) : Type 0 where
+    pub index : ℕ
+    pub words : List ℕ
+    pub memory : List ℕ
+    pub is : tail ≡ event.Ask index words memory ∷ events_of late trap
+    pub longer : len ≤ length memory
+    pub shorter : length memory ≤ length after.bytes
+    pub stops : AskStops gives callee limits.fuel e index words memory after.bytes late trap served left
+    pub traps_late : TrapsLate (length memory) trap
+    pub rises : RisesAt e before after
 
--- A core function was started with these words, and asked and was served until it returned these words or stopped otherwise.
-pub record RunsUntil (callee : Callee) (most : ℕ) (words : List ℕ) (before after : Moment) (ledger left : LedgerState) (answer : Result (List ℕ) Error) (events : List Event) : Type 0 where
-  pub turns : List AskTurn
-  pub len : ℕ
-  pub served : LedgerState
-  pub tail : List Event
-  pub asked : TurnsTaken callee before ledger served turns len
-  pub few : length turns ≤ most
-  pub longer : len ≤ length after.bytes
-  pub is : events ≡ so_far callee words before turns tail
-  pub stopped : Stopped callee most (length turns) len before after served left answer tail
+  -- nothing was asked for after the last turn, and the host is as it was
+  abbrev pub NoneLate : List Answer → Option Trap → HostSide T → HostSide T → Type 0
+  NoneLate late trap served left = (late ≡ []) × (trap ≡ None) × (left ≡ served)
 
--- or memory ran out for its start
-abbrev pub MayRun : Callee → ℕ → List ℕ → Moment → Moment → LedgerState → LedgerState → Result (List ℕ) Error → List Event → Type 0
-MayRun callee most words before after ledger left answer events =
-    ((answer ≡ Err (error.Fault fault.OutOfMemory)) × (events ≡ []) × (left ≡ ledger)) ⊎ RunsUntil callee most words before after ledger left answer events
+  -- How the guest was left after so many asks that were served, by the last events.
+  abbrev pub Stopped : ℕ → ℕ → Moment → Moment → HostSide T → HostSide T → Result (List ℕ) Error → List Answer → Option Trap → List Event → Type 0
+  Stopped count len before after served left (Ok returned) late trap tail = (tail ≡ event.Return returned after.bytes ∷ []) × NoneLate late trap served left
+  Stopped count len before after served left (Err (error.Fault fault.GuestTrap)) late trap tail = Rose before.guest.traps after.guest.traps × (tail ≡ trap_event len ∷ []) × NoneLate late trap served left
+  Stopped count len before after served left (Err error.TurnsExhausted) late trap tail = (count ≡ limits.turns) × StopsInAsk count len before after served left error.TurnsExhausted late trap tail
+  Stopped count len before after served left (Err e) late trap tail = (count < limits.turns) × StopsInAsk count len before after served left e late trap tail
+
+  -- A core function was started with these words, and asked and was served until it returned these words or stopped otherwise.
+  pub record RunsUntil (words : List ℕ) (before after : Moment) (host left : HostSide T) (answer : Result (List ℕ) Error) (answers : List Answer) (events : List Event) : Type 0 where
+    pub turns : List AskTurn
+    pub late : List Answer
+    pub late_trap : Option Trap
+    pub answers_are : answers ≡ answers_in turns ++ late
+    pub len : ℕ
+    pub served : HostSide T
+    pub tail : List Event
+    pub asked : TurnsTaken gives callee limits.fuel before host served turns len
+    pub few : length turns ≤ limits.turns
+    pub longer : len ≤ length after.bytes
+    pub is : events ≡ so_far callee words before turns tail
+    pub stopped : Stopped (length turns) len before after served left answer late late_trap tail
+
+  -- or memory ran out for its start
+  abbrev pub MayRun : List ℕ → Moment → Moment → HostSide T → HostSide T → Result (List ℕ) Error → List Answer → List Event → Type 0
+  MayRun words before after host left answer answers events =
+      ((answer ≡ Err (error.Fault fault.OutOfMemory)) × (events ≡ []) × (answers ≡ []) × (left ≡ host)) ⊎ RunsUntil words before after host left answer answers events
 
 -- ---- after the return
 
@@ -192,53 +255,58 @@ Concluded Leaves callee fuel words before after ledger left (Err e) events = Lif
 -- ---- from the start on
 
 -- why it wasn't done
-abbrev pub RestCause : Callee → Limits → Moment → Moment → List Event → Error → Type 0
-RestCause callee limits before after events error.WrongWords = EndsIn (IsReturn (λ words m. ¬ (length words ≡ result_words callee.results))) events ⊎ AskCause callee limits events error.WrongWords
-RestCause callee limits before after events (error.Fault fault.GuestTrap) = Rose before.guest.traps after.guest.traps × EndsIn IsTrap events
-RestCause callee limits before after events (error.Fault (fault.PointerMisaligned at)) = EndsIn (IsReturn (HasFault callee misaligned at)) events
-RestCause callee limits before after events (error.Fault (fault.PointerOutOfBounds at)) = EndsIn (IsReturn (HasFault callee out_of_bounds at)) events
-RestCause callee limits before after events (error.Fault (fault.InvalidUtf8 at)) = EndsIn (IsReturn (HasFault callee (badly_spelled in_utf8) at)) events
-RestCause callee limits before after events (error.Fault (fault.InvalidUtf16 at)) = EndsIn (IsReturn (HasFault callee (badly_spelled in_utf16) at)) events
-RestCause callee limits before after events (error.Fault (fault.InvalidChar at)) = EndsIn (IsReturn (HasFault callee no_scalar at)) events
-RestCause callee limits before after events (error.Fault (fault.BadDiscriminant at d)) = EndsIn (IsReturn (HasFault callee (no_case d) at)) events
-RestCause callee limits before after events (error.Fault fault.HostcallFuelExhausted) = EndsIn (IsReturn (IsPastFuel callee limits.fuel)) events
-RestCause callee limits before after events (error.Fault fault.OutOfMemory) = ⊤
-RestCause callee limits before after events (error.Fault (fault.Resource e)) = (refusal_of e ≡ Some e) × EndsIn (IsReturn (λ words m. length words ≡ result_words callee.results)) events
-RestCause callee limits before after events (error.Fault f) = ⊥
-RestCause callee limits before after events e = AskCause callee limits events e
+abbrev pub RestCause : Callee → Limits → Moment → Moment → List Event → List Event → Error → Type 0
+RestCause callee limits before after events tail error.WrongWords =
+    EndsIn (IsReturn (λ words m. ¬ (length words ≡ result_words callee.results))) events ⊎ AskCause callee limits before after events tail error.WrongWords
+RestCause callee limits before after events tail (error.Fault fault.GuestTrap) = Rose before.guest.traps after.guest.traps × EndsIn IsTrap events
+RestCause callee limits before after events tail (error.Fault (fault.PointerMisaligned at)) = EndsIn (IsReturn (HasFault callee misaligned at)) events
+RestCause callee limits before after events tail (error.Fault (fault.PointerOutOfBounds at)) = EndsIn (IsReturn (HasFault callee out_of_bounds at)) events
+RestCause callee limits before after events tail (error.Fault (fault.InvalidUtf8 at)) = EndsIn (IsReturn (HasFault callee (badly_spelled in_utf8) at)) events
+RestCause callee limits before after events tail (error.Fault (fault.InvalidUtf16 at)) = EndsIn (IsReturn (HasFault callee (badly_spelled in_utf16) at)) events
+RestCause callee limits before after events tail (error.Fault (fault.InvalidChar at)) = EndsIn (IsReturn (HasFault callee no_scalar at)) events
+RestCause callee limits before after events tail (error.Fault (fault.BadDiscriminant at d)) = EndsIn (IsReturn (HasFault callee (no_case d) at)) events
+RestCause callee limits before after events tail (error.Fault fault.HostcallFuelExhausted) = EndsIn (IsReturn (IsPastFuel callee limits.fuel)) events
+RestCause callee limits before after events tail (error.Fault fault.OutOfMemory) = ⊤
+RestCause callee limits before after events tail (error.Fault (fault.Resource e)) = (refusal_of e ≡ Some e) × EndsIn (IsReturn (λ words m. length words ≡ result_words callee.results)) events
+RestCause callee limits before after events tail (error.Fault f) = ⊥
+RestCause callee limits before after events tail e = AskCause callee limits before after events tail e
 
--- the ledger from the start on, after these turns
-abbrev pub RestPasses : Callee → LedgerState → LedgerState → Result (Vec Val Global) Error → List Event → Type 0
-RestPasses callee served after (Ok vals) events = Each (OnReturn (λ words m. Concludes callee words m vals.items served after)) events
-RestPasses callee served after (Err e) events = StopsStarted callee e served after events
+module _ {T : Type 0} (gives : Giving T) (callee : Callee) (limits : Limits) where
+  -- the host from the start on, after these turns
+  abbrev pub RestPasses : List ℕ → List Answer → Option Trap → HostSide T → HostSide T → Result (Vec Val Global) Error → List Event → Type 0
+  RestPasses memory2 late trap served left (Ok vals) tail = Each (OnReturn (λ words m. Concludes callee words m vals.items served.ledger left.ledger)) tail × (left ≡ record served { ledger = left.ledger })
+  RestPasses memory2 late trap served left (Err e) tail = StopsStarted gives callee limits.fuel e memory2 late trap served left tail
 
--- A callee was started with these words at the moment `before`, was served in these turns, what it returned was lifted with this fuel,
--- and post-return was told.
-pub record IsRest (Leaves : List ℕ → List ℕ → Type 0) (callee : Callee) (limits : Limits) (words : List ℕ) (before after : Moment) (ledger left : LedgerState) (answer : Result (Vec Val Global) Error) (events : List Event) : Type 0 where
-  pub one_run : OnOk answer (IsOneRun callee.func callee.post events)
-  pub prefix : (len : ℕ) → IsPrefixOfRun callee.func callee.post len events
-  pub turns : List AskTurn
-  pub starts : MayStart callee.func turns events
-  pub asks : answer ≢ Err error.TurnsExhausted → asks_in events ≤ limits.turns
-  pub no_more : Each IsNoRequest events
-  pub grows : Grows (length before.bytes) events (length after.bytes)
-  pub start : Each (OnStart (λ ws m. (ws ≡ words) × (m ≡ before.bytes))) events
-  pub only_results : IfOk answer (λ vals. Each (OnReturn (λ ws m. (left : ℕ) × AreResults callee.encoding (narrow m) callee.results ws limits.fuel left vals.items)) events)
-  pub posted : ¬ Each IsNoPost events → Each (OnReturn (λ ws m. (left : ℕ) × (vs : List Val) × AreResults callee.encoding (narrow m) callee.results ws limits.fuel left vs)) events
-  pub count : IfOk answer (λ vals. length vals.items ≡ member_count callee.results)
-  pub leaves : OnOk answer (Each (OnReturn (λ ws m. Left Leaves callee.post m after.bytes)) events)
-  pub handles : AfterTurns callee turns ledger (λ served. RestPasses callee served left answer events)
-  pub cause : IfErr answer (RestCause callee limits before after events)
-  pub valid : ¬ EndsIn IsTrap events → asks_in events ≤ limits.turns
-      → Each (OnReturn (λ ws m. (us : Trees) × RepResults false callee.encoding (narrow m) ws callee.results us × (members_cost callee.results us ≤ limits.fuel))) events
-      → AfterTurns callee turns ledger (λ served. AcceptsLater callee served events)
-      → IsOkUnless answer (error.Fault fault.OutOfMemory)
+  -- A callee was started with these words at the moment `before`, was served in these turns, what it returned was lifted with this fuel,
+  -- and post-return was told.
+  pub record IsRest (Leaves : List ℕ → List ℕ → Type 0) (words : List ℕ) (before after : Moment) (host left : HostSide T) (answer : Result (Vec Val Global) Error) (answers : List Answer) (events : List Event) : Type 0 where
+    pub one_run : OnOk answer (IsOneRun callee.func callee.post events)
+    pub prefix : (len : ℕ) → IsPrefixOfRun callee.func callee.post len events
+    pub turns : List AskTurn
+    pub late : List Answer
+    pub late_trap : Option Trap
+    pub tail : List Event
+    pub answers_are : answers ≡ answers_in turns ++ late
+    pub starts : MayStart callee.func turns late late_trap tail events
+    pub asks : answer ≢ Err error.TurnsExhausted → asks_in events ≤ limits.turns
+    pub grows : Grows (length before.bytes) events (length after.bytes)
+    pub start : Each (OnStart (λ ws m. (ws ≡ words) × (m ≡ before.bytes))) events
+    pub only_results : IfOk answer (λ vals. Each (OnReturn (λ ws m. (left : ℕ) × AreResults callee.encoding (narrow m) callee.results ws limits.fuel left vals.items)) events)
+    pub posted : ¬ Each IsNoPost events → Each (OnReturn (λ ws m. (left : ℕ) × (vs : List Val) × AreResults callee.encoding (narrow m) callee.results ws limits.fuel left vs)) events
+    pub count : IfOk answer (λ vals. length vals.items ≡ member_count callee.results)
+    pub leaves : OnOk answer (Each (OnReturn (λ ws m. Left Leaves callee.post m after.bytes)) events)
+    pub handles : AfterTurns gives callee limits.fuel turns host (λ served. RestPasses after.bytes late late_trap served left answer tail)
+    pub cause : IfErr answer (RestCause callee limits before after events tail)
+    pub valid : AllLawful late → ¬ Rose host.refusals left.refusals → ¬ EndsIn IsTrap events → asks_in events ≤ limits.turns
+        → Each (OnReturn (λ ws m. (us : Trees) × RepResults false callee.encoding (narrow m) ws callee.results us × (members_cost callee.results us ≤ limits.fuel))) events
+        → ((served : HostSide T) → AreServed gives callee limits.fuel turns host served → AcceptsLater gives callee limits.fuel served tail)
+        → IsOkUnless answer (error.Fault fault.OutOfMemory)
 
--- ---- the whole, before the results are written
+  -- ---- the whole, before the results are written
 
-abbrev pub CoreCall : (List ℕ → List ℕ → Type 0) → Callee → Limits → List Val → Moment → Moment → LedgerState → LedgerState → Result (Vec Val Global) Error → List Event → Type 0
-CoreCall Leaves callee limits params before after ledger left (Ok vals) events = IsCall Leaves callee limits params before after ledger left (Ok tt) vals.items events
-CoreCall Leaves callee limits params before after ledger left (Err e) events = (results : List Val) → IsCall Leaves callee limits params before after ledger left (Err e) results events
+  abbrev pub CoreCall : (List ℕ → List ℕ → Type 0) → List Val → Moment → Moment → HostSide T → HostSide T → Result (Vec Val Global) Error → List Event → Type 0
+  CoreCall Leaves params before after host left (Ok vals) events = IsCall Leaves gives callee limits params before after host left (Ok tt) vals.items events
+  CoreCall Leaves params before after host left (Err e) events = (results : List Val) → IsCall Leaves gives callee limits params before after host left (Err e) results events
 
 -- it isn't a refusal before the guest is entered
 abbrev pub IsLate : Error → Type 0

@@ -12,9 +12,10 @@ use Rattle.canon_context.specs.declared.component.Component.{Component}
 use Rattle.canon_context.specs.declared.component.Export.{Export}
 use Rattle.canon_context.specs.declared.component.Import.{Import}
 
--- what contracts see of a store: its core, how many asks of imports a call may have served, and whether a call trapped it
-pub record StoreView (T G : Type 0) : Type 0 where
+-- what contracts see of a store: its core, its imports, how many asks of imports a call may have served, and whether a call trapped it
+pub record StoreView (T G I : Type 0) : Type 0 where
   pub core : Parts T G
+  pub imports : I
   pub turns : ℕ
   pub trapped : Bool
 
@@ -24,16 +25,17 @@ pub record Named : Type 0 where
   pub export : ℕ
 
 -- the function is one of the store
-pub record IsOwned {T G : Type 0} (store : StoreView T G) (f : Named) : Type 0 where
+pub record IsOwned {T G I : Type 0} (store : StoreView T G I) (f : Named) : Type 0 where
   pub id : f.store ≡ store.core.id
   pub export : f.export < length store.core.component.exports.items
 
--- What is called: a core function, the types of its component in their store and the component's imports, its parameters and
--- results, and its options: how texts are spelled, the core function that runs after the results were lifted, and whether it is async.
+-- What is called: a core function, the types of its component in their store, the component's imports and options, its parameters
+-- and results, and its own options: how texts are spelled, the core function that runs after the results were lifted, and whether it is async.
 pub record Callee : Type 0 where
   pub func : ℕ
   pub types : Instance
   pub imports : List Import
+  pub options : List CanonicalOptions
   pub params : Members
   pub results : Members
   pub encoding : Encoding
@@ -62,6 +64,7 @@ export_callee component e = record {
   func = e.func;
   types = component.types;
   imports = component.imports.items;
+  options = component.options.items;
   params = params_in component.types.types (slice_get component.types.types.funcs e.ty);
   results = results_in component.types.types (slice_get component.types.types.funcs e.ty);
   encoding = encoding_at component e.options;
@@ -70,11 +73,11 @@ export_callee component e = record {
 }
 
 abbrev pub callee_in : Component → Option Export → Callee
-callee_in component None = record { func = 0; types = component.types; imports = component.imports.items; params = no_members; results = no_members; encoding = utf8; post = None; async_ = false }
+callee_in component None = record { func = 0; types = component.types; imports = component.imports.items; options = component.options.items; params = no_members; results = no_members; encoding = utf8; post = None; async_ = false }
 callee_in component (Some e) = export_callee component e
 
 -- the callee that a function is
-abbrev pub callee_of : {T G : Type 0} → StoreView T G → Named → Callee
+abbrev pub callee_of : {T G I : Type 0} → StoreView T G I → Named → Callee
 callee_of store f = callee_in store.core.component (slice_get store.core.component.exports.items f.export)
 
 -- the type of an export, and of a function
@@ -82,5 +85,5 @@ abbrev pub type_in : Component → Option Export → Option TypeFunc
 type_in component None = None
 type_in component (Some e) = slice_get component.types.types.funcs e.ty
 
-abbrev pub type_of : {T G : Type 0} → StoreView T G → Named → Option TypeFunc
+abbrev pub type_of : {T G I : Type 0} → StoreView T G I → Named → Option TypeFunc
 type_of store f = type_in store.core.component (slice_get store.core.component.exports.items f.export)

@@ -32,7 +32,7 @@ fn names_instance(slot: Option<TableSlot>) -> bool
 }
 
 /// Why a handle isn't dropped, before a scope is entered, if it isn't.
-fn refusal<T, G>(index: HostResourceIndex, store: &Store<T, G>) -> Option<Error>
+fn refusal<T, G, I>(index: HostResourceIndex, store: &Store<T, G, I>) -> Option<Error>
     ensures { result ≡ drop_refusal store.now.core.ledger store.now.trapped index }
 {
     let slot = match store.core().slot(index) {
@@ -118,12 +118,16 @@ fn finish<T, G: Guest>(
 /// instance and the store is trapped; both change nothing. A refusal of the removal is answered as it is. `GuestTrap` tells that the
 /// destructor trapped: then the handle is gone, its scope stays open, and the store is trapped. The same is left where the
 /// destructor is out of memory; where there is no memory for the scope, nothing changes.
-pub fn resource_drop<T, G: Guest>(r: ResourceAny, store: &mut Store<T, G>) -> Result<(), Error>
+pub fn resource_drop<T, G: Guest, I>(
+    r: ResourceAny,
+    store: &mut Store<T, G, I>,
+) -> Result<(), Error>
     ensures no_handle { IfNone (host_index r.handle) ((result ≡ Ok tt) × (store.new ≡ store.old)) }
     ensures refused { IfSome (host_index r.handle) (λ x. IfSome (drop_refusal store.old.core.ledger store.old.trapped x) (λ e. (result ≡ Err e) × (store.new ≡ store.old))) }
     ensures drops { IfSome (host_index r.handle) (λ x. IfNone (drop_refusal store.old.core.ledger store.old.trapped x) (IsDrop G.seen G.moves G.leaves x store.old store.new result)) }
     ensures same { SameButHandles store.old.core store.new.core }
     ensures turns { store.new.turns ≡ store.old.turns }
+    ensures imports { store.new.imports ≡ store.old.imports }
 {
     let Some(index) = r.host_index() else {
         return Ok(());

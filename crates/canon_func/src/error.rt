@@ -33,6 +33,9 @@ pub enum Error {
     /// The import of this number, for which the guest asked, was refused for this fault.
     #[error("ImportFault {index} {fault}")]
     ImportFault { index: u32, fault: Fault },
+    /// The function of the import of this number, for which the guest asked, refused.
+    #[error("HostRefused {0}")]
+    HostRefused(u32),
 }
 
 impl From<Fault> for Error {

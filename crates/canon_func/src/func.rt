@@ -1,14 +1,16 @@
 ghost use Rattle.std.specs.Prelude.{◌≡◌, ◌↔◌, Err, Ok, Some, IfSome, IsNone, IsTrue, OnErr, OnOk, length, slice_get, true};
 ghost use Rattle.canon_types.specs.Table.{IsOver};
 ghost use Rattle.canon_context.specs.Component.{IsInside};
-ghost use Rattle.canon_context.specs.Asks.{SameButHandles};
 ghost use Rattle.canon_context.specs.Core.{guest_of, moment_of, types_of};
+ghost use Rattle.canon_host.specs.HostSide.{host_side};
 ghost use Rattle.canon_func.specs.Asks.{allowed};
 ghost use Rattle.canon_func.specs.Call.{Adding, IsCall, OnAnswered, refusal, refused_by};
+ghost use Rattle.canon_func.specs.Steps.{SameButHost};
 ghost use Rattle.canon_func.specs.Stores.{IsOwned, Named, callee_of, type_of};
 
-use crate::steps::{call_core, has_counts, options_of};
+use crate::steps::{has_counts, options_of};
 use crate::{Error, Store};
+use canon_host::Imports;
 use canon_memory::Guest;
 use canon_types::{ExportIndex, StoreId, TypeFunc};
 use canon_value::{Export, Val};
@@ -51,7 +53,7 @@ impl Func {
     }
 
     /// The function's type.
-    pub fn ty<'a, T, G>(&self, store: &'a Store<T, G>) -> &'a TypeFunc
+    pub fn ty<'a, T, G, I>(&self, store: &'a Store<T, G, I>) -> &'a TypeFunc
         requires { IsOwned store.now self.now }
         ensures found { type_of store.now self.now ≡ Some result.now }
         ensures known { IsOver (types_of store.now.core) result.now }
@@ -61,7 +63,7 @@ impl Func {
     }
 
     /// Does nothing, since `call` has told the guest that its words were read.
-    pub fn post_return<T, G>(&self, store: &mut Store<T, G>) -> Result<(), Error>
+    pub fn post_return<T, G, I>(&self, store: &mut Store<T, G, I>) -> Result<(), Error>
         requires { IsOwned store.old self.now }
         ensures answers { result ≡ Ok tt }
         ensures same { store.new ≡ store.old }
@@ -70,7 +72,7 @@ impl Func {
     }
 
     // The export that the function is.
-    fn export_in<T, G>(&self, store: &Store<T, G>) -> Export
+    fn export_in<T, G, I>(&self, store: &Store<T, G, I>) -> Export
         requires { IsOwned store.now self.now }
         ensures found { slice_get store.now.core.component.exports.items self.now.export ≡ Some result }
         ensures inside { IsInside store.now.core.component result }
@@ -79,7 +81,12 @@ impl Func {
     }
 
     // Why a call with so many parameters and results is refused before the guest is entered, if it is.
-    fn refusal<T, G>(&self, store: &Store<T, G>, params: usize, results: usize) -> Option<Error>
+    fn refusal<T, G, I>(
+        &self,
+        store: &Store<T, G, I>,
+        params: usize,
+        results: usize,
+    ) -> Option<Error>
         requires { IsOwned store.now self.now }
         ensures { result ≡ refusal (callee_of store.now self.now) params results store.now.trapped }
     {
@@ -105,18 +112,20 @@ impl Func {
     /// refusal, want of memory included, traps the store and leaves `results` and the scope: the faults of a parameter, of
     /// the guest's `realloc` and of a result; a refusal of a handle; `GuestTrap`; at each ask of the guest `TurnsExhausted`
     /// where it is one more than the store's calls may have served, `UnknownImport` where the component has no such import,
-    /// `WrongWords` where there isn't exactly one word, and `ImportFault` where the ledger refuses its step, in this order;
+    /// `WrongWords` where there are more or fewer words than its import takes, `HostRefused` where its function refuses, and
+    /// `ImportFault` where the ask can't be served otherwise, in this order;
     /// `WrongWords` where it returns another number of words than the results take; `BorrowsRemain` where it
     /// then keeps a borrow handle; `HostcallFuelExhausted` where the results cost more than the store's fuel, which each
     /// call has anew.
-    pub fn call<T, G: Guest>(
+    pub fn call<T, G: Guest, I: Imports<T, G>>(
         &self,
         alloc: Global,
-        store: &mut Store<T, G>,
+        store: &mut Store<T, G, I>,
         params: &[Val],
         results: &mut [Val],
     ) -> Result<(), Error>
         requires owned { IsOwned store.old self.now }
+        requires ready { I.ready store.old.imports }
 
         // Before the guest is entered.
         ensures refused { refused_by result ≡ refusal (callee_of store.old self.now) (length params.now) (length results.old) store.old.trapped }
@@ -125,21 +134,23 @@ impl Func {
         // From then on.
         ensures call { IsNone (refused_by result) → Adding (moment_of G.seen store.old.core) (moment_of G.seen store.new.core)
             (λ events. OnAnswered result (G.moves (guest_of store.old.core) events (guest_of store.new.core)))
-            (λ events. IsCall G.leaves (callee_of store.old self.now) (allowed store.old.core.fuel store.old.turns) params.now (moment_of G.seen store.old.core) (moment_of G.seen store.new.core) store.old.core.ledger store.new.core.ledger result results.new events) }
+            (λ events. IsCall G.leaves (I.gives (I.plan store.old.imports)) (callee_of store.old self.now) (allowed store.old.core.fuel store.old.turns) params.now (moment_of G.seen store.old.core) (moment_of G.seen store.new.core)
+            (host_side store.old.core (I.log store.old.imports) (I.refusals store.old.imports)) (host_side store.new.core (I.log store.new.imports) (I.refusals store.new.imports)) result results.new events) }
         ensures trapped { IsNone (refused_by result) → OnErr result (store.new.trapped ≡ true) }
 
         // What it leaves.
         ensures runs { OnOk result (store.new.trapped ≡ store.old.trapped) }
         ensures left { OnErr result (results.new ≡ results.old) }
-        ensures same { SameButHandles store.old.core store.new.core }
+        ensures same { SameButHost store.old.core store.new.core }
         ensures turns { store.new.turns ≡ store.old.turns }
+        ensures plan { I.plan store.new.imports ≡ I.plan store.old.imports }
+        ensures still_ready { I.ready store.new.imports }
     {
         if let Some(error) = self.refusal(store, params.len(), results.len()) {
             return Err(error);
         }
         let export = self.export_in(store);
-        let turns = store.turns();
-        match call_core(alloc, store.core_mut(), &export, turns, params) {
+        match store.call_core(alloc, &export, params) {
             Ok(mut values) => {
                 results.swap_with_slice(&mut values);
                 Ok(())

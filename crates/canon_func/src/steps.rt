@@ -11,13 +11,15 @@ ghost use Rattle.canon_context.specs.Lifter.{origin_in};
 ghost use Rattle.canon_context.specs.Core.{SameButLedger, guest_of, moment_of, types_of};
 ghost use Rattle.canon_ledger.specs.Ledger.{LedgerState, enter};
 ghost use Rattle.canon_context.specs.Asks.{SameBut, SameButHandles};
+ghost use Rattle.canon_host.specs.HostSide.{host_side};
 ghost use Rattle.canon_func.specs.Asks.{allowed};
 ghost use Rattle.canon_func.specs.Call.{Adding, OnAnswered, words_within};
-ghost use Rattle.canon_func.specs.Steps.{Concluded, CoreCall, Proceeds, IsLate, IsRest, Lifted, LiftsIn, LoweredArgs, LowersFor, Posted};
+ghost use Rattle.canon_func.specs.Steps.{Concluded, CoreCall, Proceeds, IsLate, IsRest, Lifted, LiftsIn, LoweredArgs, LowersFor, Posted, SameButHost, Serving};
 ghost use Rattle.canon_func.specs.Stores.{export_callee, params_in, results_in};
 
 use crate::Error;
 use crate::asks::run_core;
+use canon_host::Imports;
 use canon_memory::{Guest, GuestFault, ValRaw};
 use canon_types::{
     CanonicalOptions, ComponentTypes, MAX_FLAT_PARAMS, MAX_FLAT_RESULTS, TypeTupleIndex,
@@ -54,48 +56,58 @@ pub(crate) fn has_counts(
 
 /// Opens a scope, lowers the parameters, runs the guest, lifts what it returns, tells it that its words were read, and leaves the
 /// scope, which stays open where the call is refused.
-pub(crate) fn call_core<T, G: Guest>(
+pub(crate) fn call_core<T, G: Guest, I: Imports<T, G>>(
     alloc: Global,
     core: &mut Core<T, G>,
+    imports: &mut I,
     export: &Export,
     turns: u64,
     params: &[Val],
 ) -> Result<Vec<Val>, Error>
+    requires ready { I.ready imports.old }
     requires inside { IsInside core.old.component export.now }
     requires params { length params.now ≡ member_count (export_callee core.old.component export.now).params }
     ensures call { Adding (moment_of G.seen core.old) (moment_of G.seen core.new)
         (λ events. OnAnswered result (G.moves (guest_of core.old) events (guest_of core.new)))
-        (λ events. CoreCall G.leaves (export_callee core.old.component export.now) (allowed core.old.fuel turns) params.now (moment_of G.seen core.old) (moment_of G.seen core.new) core.old.ledger core.new.ledger result events) }
+        (λ events. CoreCall (I.gives (I.plan imports.old)) (export_callee core.old.component export.now) (allowed core.old.fuel turns) G.leaves params.now (moment_of G.seen core.old) (moment_of G.seen core.new)
+        (host_side core.old (I.log imports.old) (I.refusals imports.old)) (host_side core.new (I.log imports.new) (I.refusals imports.new)) result events) }
     ensures late { IfErr result IsLate }
     ensures count { IfOk result (λ vals. length vals.items ≡ member_count (export_callee core.old.component export.now).results) }
-    ensures same { SameButHandles core.old core.new }
+    ensures same { SameButHost core.old core.new }
+    ensures plan { I.plan imports.new ≡ I.plan imports.old }
+    ensures still_ready { I.ready imports.new }
 {
     match core.enter() {
-        Ok(_) => call_in_scope(alloc, core, export, turns, params),
+        Ok(_) => call_in_scope(alloc, core, imports, export, turns, params),
         Err(_) => Err(Error::Fault(Fault::OutOfMemory)),
     }
 }
 
 /// The same in the call's scope, which is the top one.
-fn call_in_scope<T, G: Guest>(
+fn call_in_scope<T, G: Guest, I: Imports<T, G>>(
     alloc: Global,
     core: &mut Core<T, G>,
+    imports: &mut I,
     export: &Export,
     turns: u64,
     params: &[Val],
 ) -> Result<Vec<Val>, Error>
+    requires ready { I.ready imports.old }
     requires inside { IsInside core.old.component export.now }
     requires params { length params.now ≡ member_count (export_callee core.old.component export.now).params }
     ensures call { Adding (moment_of G.seen core.old) (moment_of G.seen core.new)
         (λ events. OnAnswered result (G.moves (guest_of core.old) events (guest_of core.new)))
         (λ events. (before : LedgerState) → enter before ≡ core.old.ledger
-        → CoreCall G.leaves (export_callee core.old.component export.now) (allowed core.old.fuel turns) params.now (moment_of G.seen core.old) (moment_of G.seen core.new) before core.new.ledger result events) }
+        → CoreCall (I.gives (I.plan imports.old)) (export_callee core.old.component export.now) (allowed core.old.fuel turns) G.leaves params.now (moment_of G.seen core.old) (moment_of G.seen core.new)
+        (host_side (record core.old { ledger = before }) (I.log imports.old) (I.refusals imports.old)) (host_side core.new (I.log imports.new) (I.refusals imports.new)) result events) }
     ensures late { IfErr result IsLate }
     ensures count { IfOk result (λ vals. length vals.items ≡ member_count (export_callee core.old.component export.now).results) }
-    ensures same { SameButHandles core.old core.new }
+    ensures same { SameButHost core.old core.new }
+    ensures plan { I.plan imports.new ≡ I.plan imports.old }
+    ensures still_ready { I.ready imports.new }
 {
     match lower_params(alloc, core, export, params) {
-        Ok(words) => run(alloc, core, export, turns, &words),
+        Ok(words) => run(alloc, core, imports, export, turns, &words),
         Err(error) => Err(error),
     }
 }
@@ -155,20 +167,25 @@ fn word_count(types: &ComponentTypes, tuple: TypeTupleIndex, most: u8) -> usize
 }
 
 /// Runs the guest with the words of the parameters, and lifts what it returns.
-fn run<T, G: Guest>(
+fn run<T, G: Guest, I: Imports<T, G>>(
     alloc: Global,
     core: &mut Core<T, G>,
+    imports: &mut I,
     export: &Export,
     turns: u64,
     words: &[ValRaw],
 ) -> Result<Vec<Val>, Error>
+    requires ready { I.ready imports.old }
     requires inside { IsInside core.old.component export.now }
-    ensures did { Proceeds (moment_of G.seen core.old) (moment_of G.seen core.new)
+    ensures did { Serving (moment_of G.seen core.old) (moment_of G.seen core.new)
         (λ events. OnAnswered result (G.moves (guest_of core.old) events (guest_of core.new)))
-        (λ events. IsRest G.leaves (export_callee core.old.component export.now) (allowed core.old.fuel turns) words.now (moment_of G.seen core.old) (moment_of G.seen core.new) core.old.ledger core.new.ledger result events) }
-    ensures same { SameButHandles core.old core.new }
+        (λ answers events. IsRest (I.gives (I.plan imports.old)) (export_callee core.old.component export.now) (allowed core.old.fuel turns) G.leaves words.now (moment_of G.seen core.old) (moment_of G.seen core.new)
+        (host_side core.old (I.log imports.old) (I.refusals imports.old)) (host_side core.new (I.log imports.new) (I.refusals imports.new)) result answers events) }
+    ensures same { SameButHost core.old core.new }
+    ensures plan { I.plan imports.new ≡ I.plan imports.old }
+    ensures still_ready { I.ready imports.new }
 {
-    match run_core(core, export, turns, words) {
+    match run_core(alloc, core, imports, export, turns, words) {
         Ok(returned) => conclude(alloc, core, export, returned.as_slice()),
         Err(error) => Err(error),
     }

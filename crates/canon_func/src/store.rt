@@ -1,26 +1,39 @@
-ghost use Rattle.std.specs.Prelude.{◌≡◌, ◌<◌, ◌↔◌, length, false, IsTrue, IfSome, IsSome};
-ghost use Rattle.canon_func.specs.Stores.{IsOwned, StoreView};
+ghost use Rattle.std.specs.Prelude.{◌≡◌, ◌<◌, ◌↔◌, length, false, IfErr, IfOk, IsTrue, IfSome, IsSome};
+ghost use Rattle.canon_model.specs.Shape.{member_count};
+ghost use Rattle.canon_context.specs.Component.{IsInside};
+ghost use Rattle.canon_context.specs.Core.{guest_of, moment_of};
+ghost use Rattle.canon_host.specs.HostSide.{host_side};
+ghost use Rattle.canon_func.specs.Asks.{allowed};
+ghost use Rattle.canon_func.specs.Call.{Adding, OnAnswered};
+ghost use Rattle.canon_func.specs.Steps.{CoreCall, IsLate, SameButHost};
+ghost use Rattle.canon_func.specs.Stores.{IsOwned, StoreView, export_callee};
 
-use crate::Func;
+use crate::steps::call_core;
+use crate::{Error, Func};
+use canon_host::Imports;
+use canon_memory::Guest;
 use canon_types::ExportIndex;
-use canon_value::Core;
+use canon_value::{Core, Export, Val};
+use std::alloc::Global;
 use std::marker::Model;
 
-/// A core, how many asks of imports a call may have served, and whether a call trapped it. Contracts see these.
+/// A core, the functions that its component imports, how many asks of imports a call may have served, and whether a call trapped it.
+/// Contracts see these.
 #[derive(Drop)]
-pub struct Store<T, G> {
+pub struct Store<T, G, I> {
     core: Core<T, G>,
+    imports: I,
     turns: u64,
     trapped: bool,
 }
 
-impl<T, G> Model for Store<T, G> {
-    ghost Value = { StoreView T G };
+impl<T, G, I> Model for Store<T, G, I> {
+    ghost Value = { StoreView T G I };
 
-    ghost view = { λ s. record { core = s.core; turns = s.turns; trapped = s.trapped } };
+    ghost view = { λ s. record { core = s.core; imports = s.imports; turns = s.turns; trapped = s.trapped } };
 }
 
-impl<T, G> Store<T, G> {
+impl<T, G, I> Store<T, G, I> {
     ghost use Rattle.std.specs.Prelude.{◌≡◌, ◌<◌, ◌↔◌, length, false, true, IsTrue, IfSome, IsSome};
     ghost use Rattle.std.specs.Borrow.{Lends, sem};
     ghost use Rattle.canon_func.specs.Stores.{IsOwned};
@@ -29,11 +42,12 @@ impl<T, G> Store<T, G> {
     ghost use Rattle.canon_ledger.specs.Ledger.{set_limit};
 
     /// A store that no call has trapped, whose calls may have so many asks of imports served.
-    pub fn new(core: Core<T, G>, turns: u64) -> Self
-        ensures { result ≡ record { core = core; turns = turns; trapped = false } }
+    pub fn new(core: Core<T, G>, imports: I, turns: u64) -> Self
+        ensures { result ≡ record { core = core; imports = imports; turns = turns; trapped = false } }
     {
         Store {
             core,
+            imports,
             turns,
             trapped: false,
         }
@@ -46,10 +60,16 @@ impl<T, G> Store<T, G> {
     }
 
     pub fn core_mut(&mut self) -> &mut Core<T, G>
-        ensures* writes_back { sem 𝓛 (Lends (the_row T.row G.row) (core_type.the_row T.row G.row) self.entry result (λ c. record self.old { core = c })) }
+        ensures* writes_back { sem 𝓛 (Lends (the_row T.row G.row I.row) (core_type.the_row T.row G.row) self.entry result (λ c. record self.old { core = c })) }
         ensures value { result.now ≡ self.old.core }
     {
         &mut self.core
+    }
+
+    pub fn imports(&self) -> &I
+        ensures { result.now ≡ self.now.imports }
+    {
+        &self.imports
     }
 
     /// The fuel that each call has for lifting its results.
@@ -123,5 +143,38 @@ impl<T, G> Store<T, G> {
     {
         f.store_id() == self.core.id()
             && (f.export().as_u32() as usize) < self.core.component().exports.len()
+    }
+}
+
+impl<T, G: Guest, I: Imports<T, G>> Store<T, G, I> {
+    /// Calls the function of an export, which its imports serve.
+    pub(crate) fn call_core(
+        &mut self,
+        alloc: Global,
+        export: &Export,
+        params: &[Val],
+    ) -> Result<Vec<Val>, Error>
+        requires ready { I.ready self.old.imports }
+        requires inside { IsInside self.old.core.component export.now }
+        requires params { length params.now ≡ member_count (export_callee self.old.core.component export.now).params }
+        ensures call { Adding (moment_of G.seen self.old.core) (moment_of G.seen self.new.core)
+            (λ events. OnAnswered result (G.moves (guest_of self.old.core) events (guest_of self.new.core)))
+            (λ events. CoreCall (I.gives (I.plan self.old.imports)) (export_callee self.old.core.component export.now) (allowed self.old.core.fuel self.old.turns) G.leaves params.now (moment_of G.seen self.old.core) (moment_of G.seen self.new.core)
+            (host_side self.old.core (I.log self.old.imports) (I.refusals self.old.imports)) (host_side self.new.core (I.log self.new.imports) (I.refusals self.new.imports)) result events) }
+        ensures late { IfErr result IsLate }
+        ensures count { IfOk result (λ vals. length vals.items ≡ member_count (export_callee self.old.core.component export.now).results) }
+        ensures same { SameButHost self.old.core self.new.core }
+        ensures rest { self.new ≡ record self.old { core = self.new.core; imports = self.new.imports } }
+        ensures plan { I.plan self.new.imports ≡ I.plan self.old.imports }
+        ensures still_ready { I.ready self.new.imports }
+    {
+        call_core(
+            alloc,
+            &mut self.core,
+            &mut self.imports,
+            export,
+            self.turns,
+            params,
+        )
     }
 }

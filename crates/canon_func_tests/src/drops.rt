@@ -3,6 +3,7 @@
 ghost use Rattle.std.specs.Prelude.{◌≡◌, [], None};
 
 use canon_func::{Error, Store, resource_drop};
+use canon_host::NoImports;
 use canon_ledger::ResourceFault;
 use canon_memory::{Event, Guest, GuestFault, Journaled, Memory, Step, ValRaw};
 use canon_resources::ResourceAny;
@@ -79,7 +80,7 @@ impl Guest for Destroyer {
     }
 }
 
-type DropStore = Store<(), Journaled<Destroyer>>;
+type DropStore = Store<(), Journaled<Destroyer>, NoImports>;
 
 /// A store of one function of this type.
 fn store_of(
@@ -114,7 +115,7 @@ fn store_of(
     let guest = Journaled::new(alloc, Destroyer { fails, traps: 0 });
     let memory = Memory::new(alloc, 65_536)?;
     let core = Core::new(alloc, id, (), guest, memory, component, 8, 1_000_000)?;
-    Ok(Store::new(core, 100))
+    Ok(Store::new(core, NoImports::new(), 100))
 }
 
 /// A store of one function without parameters and results, whose component defines a resource type with the destructor 5.

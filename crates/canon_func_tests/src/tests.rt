@@ -5,6 +5,7 @@ ghost use Rattle.std.specs.Prelude.{◌≡◌, [], None};
 mod handles;
 
 use canon_func::{Error, Store};
+use canon_host::NoImports;
 use canon_ledger::ResourceFault;
 use canon_memory::{Guest, GuestFault, Memory, Step, ValRaw, Words};
 use canon_types::{
@@ -82,13 +83,15 @@ impl Guest for Returner {
     }
 }
 
+type CallStore = Store<(), Returner, NoImports>;
+
 /// A store of one function without parameters, core function 7 with post-return 8, whose guest returns this word.
 fn store_of(
     alloc: Global,
     types: ComponentTypes,
     ty: TypeFuncIndex,
     word: u32,
-) -> Result<Store<(), Returner>, Fail> {
+) -> Result<CallStore, Fail> {
     let id = StoreId::from_u64(1);
     let mut options = Vec::new(alloc);
     options.push(CanonicalOptions {
@@ -120,7 +123,7 @@ fn store_of(
     };
     let memory = Memory::new(alloc, 65_536)?;
     let core = Core::new(alloc, id, (), guest, memory, component, 8, 1_000_000)?;
-    Ok(Store::new(core, 100))
+    Ok(Store::new(core, NoImports::new(), 100))
 }
 
 /// The same, of a function of these parameters and results.
@@ -129,7 +132,7 @@ fn store_with(
     params: &[InterfaceType],
     results: &[InterfaceType],
     word: u32,
-) -> Result<Store<(), Returner>, Fail> {
+) -> Result<CallStore, Fail> {
     let mut builder = TypeBuilder::new(alloc);
     let ty = builder.add_func(params.to_vec(alloc)?, results.to_vec(alloc)?, false)?;
     store_of(alloc, builder.finish(), ty, word)
@@ -138,7 +141,7 @@ fn store_with(
 /// Calls the store's function.
 fn call(
     alloc: Global,
-    store: &mut Store<(), Returner>,
+    store: &mut CallStore,
     params: &[Val],
     results: &mut [Val],
 ) -> Option<Result<(), Error>> {
@@ -211,6 +214,7 @@ fn errors_print_their_names(rt: HostRuntime) -> Result<(), Fail> {
         (Error::UnknownImport(5), "UnknownImport 5"),
         (Error::WrongWords, "WrongWords"),
         (Error::TurnsExhausted, "TurnsExhausted"),
+        (Error::HostRefused(0), "HostRefused 0"),
         (
             Error::ImportFault {
                 index: 2,

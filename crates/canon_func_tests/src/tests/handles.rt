@@ -1,7 +1,7 @@
 //! Calls that take and give handles.
 
-use super::{Returner, call, store_of};
-use canon_func::{Error, Store};
+use super::{CallStore, call, store_of};
+use canon_func::Error;
 use canon_ledger::{HostResourceIndex, ResourceFault};
 use canon_resources::ResourceAny;
 use canon_types::{
@@ -16,11 +16,7 @@ const RESOURCE: u32 = 4;
 
 /// A store of a function from an own handle to an own handle of a resource type of the host, or from a borrow of it to a number. Its
 /// instance defines the type or not. The guest returns 1.
-fn resource_store(
-    alloc: Global,
-    owned: bool,
-    defined_here: bool,
-) -> Result<Store<(), Returner>, Fail> {
+fn resource_store(alloc: Global, owned: bool, defined_here: bool) -> Result<CallStore, Fail> {
     let mut builder = TypeBuilder::new(alloc);
     let resource = builder.add_resource_table(TypeResourceTable {
         instance: RuntimeInstance::from_u32(0),
@@ -44,7 +40,7 @@ fn resource(generation: u32) -> ResourceAny {
 }
 
 /// Puts a resource into the host's table, at its first index.
-fn make(store: &mut Store<(), Returner>) -> Option<HostResourceIndex> {
+fn make(store: &mut CallStore) -> Option<HostResourceIndex> {
     store
         .core_mut()
         .tables()

@@ -17,6 +17,7 @@ returns-in-Err-clause-drops g c =
     (subst (λ k. SameButLedger k mid) first c.in-Err.ensures.same)
     refl
     refl
+    refl
     (subst (λ k. Removes k.ledger x mid.ledger (Err e)) first c.in-Err.ensures.removes))
 
 pub returns-in-Ok-finish-clause-drops : goal.returns-in-Ok-finish-clause-drops

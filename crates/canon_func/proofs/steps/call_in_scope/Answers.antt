@@ -1,11 +1,14 @@
-use Rattle.std.proofs.Common.{ap, subst, ◌++◌, ◌≡◌}
+use Rattle.std.proofs.Common.{List, ap, subst, ◌++◌, ◌≡◌}
 use Rattle.std.specs.Prelude.{IfOk, length}
 use Rattle.canon_model.specs.Shape.{member_count}
+use Rattle.canon_memory.specs.declared.event.Event.{Event}
 use Rattle.canon_context.specs.Core.{guest_of, moment_of}
+use Rattle.canon_host.specs.HostSide.{host_side}
 use Rattle.canon_func.specs.Asks.{allowed}
 use Rattle.canon_func.specs.Call.{OnAnswered}
-use Rattle.canon_func.specs.Steps.{Proceeds, IsRest}
+use Rattle.canon_func.specs.Steps.{IsRest, Serving}
 use Rattle.canon_func.specs.Stores.{export_callee}
+use Rattle.canon_func.proofs.Asking.{side_handles, told_after_lowering}
 use Rattle.canon_func.proofs.Composed.{answered, call_refused, call_started, lowered_is_late, rest_is_late}
 use Rattle.canon_func.proofs.steps.call_in_scope.Goals as goal
 
@@ -13,21 +16,29 @@ pub returns-in-Ok-clause-call : goal.returns-in-Ok-clause-call
 returns-in-Ok-clause-call g c =
     let seen = g.G.Guest.seen in
     let moves = g.G.Guest.moves in
+    let imports = g.I.Imports in
+    let i = c.args.imports.now in
+    let j = c.run.new.imports in
     let before = c.args.core.now in
     let mid = c.lower_params.new.core in
     let after = c.run.new.core in
     let callee = export_callee before.component c.args.export.now in
+    let limits = allowed before.fuel c.args.turns in
+    let gives = imports.gives (imports.plan i) in
     let result = c.run.result in
     let words = c.in-Ok.words in
-    let second : Proceeds (moment_of seen mid) (moment_of seen after) (λ es. OnAnswered result (moves (guest_of mid) es (guest_of after))) (λ es. IsRest g.G.Guest.leaves callee (allowed before.fuel c.args.turns) words.items (moment_of seen mid) (moment_of seen after) mid.ledger after.ledger result es) =
-    subst (λ k. Proceeds (moment_of seen mid) (moment_of seen after) (λ es. OnAnswered result (moves (guest_of mid) es (guest_of after)))
-    (λ es. IsRest g.G.Guest.leaves (export_callee k.component c.args.export.now) (allowed k.fuel c.args.turns) words.items (moment_of seen mid) (moment_of seen after) mid.ledger after.ledger result es))
+    let host = host_side before (imports.log i) (imports.refusals i) in
+    let lowered = host_side mid (imports.log i) (imports.refusals i) in
+    let left = host_side after (imports.log j) (imports.refusals j) in
+    let N : List Event → Type 0 = λ es. OnAnswered result (moves (guest_of mid) es (guest_of after)) in
+    let second : Serving (moment_of seen mid) (moment_of seen after) N (IsRest gives callee limits g.G.Guest.leaves words.items (moment_of seen mid) (moment_of seen after) lowered left result) =
+    subst (λ k. Serving (moment_of seen mid) (moment_of seen after) N (IsRest gives (export_callee k.component c.args.export.now) (allowed k.fuel c.args.turns) g.G.Guest.leaves words.items (moment_of seen mid) (moment_of seen after) lowered left result))
     c.lower_params.ensures.same
-    (subst (λ ws. Proceeds (moment_of seen mid) (moment_of seen after) (λ es. OnAnswered result (moves (guest_of mid) es (guest_of after)))
-    (λ es. IsRest g.G.Guest.leaves (export_callee mid.component c.args.export.now) (allowed mid.fuel c.args.turns) ws (moment_of seen mid) (moment_of seen after) mid.ledger after.ledger result es))
+    (subst (λ ws. Serving (moment_of seen mid) (moment_of seen after) N (IsRest gives (export_callee mid.component c.args.export.now) (allowed mid.fuel c.args.turns) g.G.Guest.leaves ws (moment_of seen mid) (moment_of seen after) lowered left result))
     c.deref.ensures.value c.run.ensures.did) in
-    call_started g.G.Guest.leaves callee (allowed before.fuel c.args.turns) c.args.params.now (moment_of seen before) (moment_of seen mid) (moment_of seen after) before.ledger mid.ledger after.ledger words result
-    (λ es. moves (guest_of before) es (guest_of mid)) (λ es. OnAnswered result (moves (guest_of mid) es (guest_of after))) (λ es. OnAnswered result (moves (guest_of before) es (guest_of after)))
+    call_started gives callee limits g.G.Guest.leaves c.args.params.now (moment_of seen before) (moment_of seen mid) (moment_of seen after) host lowered left (side_handles before mid (imports.log i) (imports.refusals i) c.lower_params.ensures.same) words result
+    (λ es. moves (guest_of before) es (guest_of mid)) N (λ es. OnAnswered result (moves (guest_of before) es (guest_of after)))
+    (told_after_lowering (moment_of seen before) (moment_of seen mid) c.in-Ok.ensures.lowered.events c.in-Ok.ensures.lowered.added)
     (λ xs ys p q. answered result (moves (guest_of mid) ys (guest_of after)) (moves (guest_of before) (xs ++ ys) (guest_of after)) (λ r. g.met.G.Guest.goes_on (guest_of before) (guest_of mid) (guest_of after) xs ys p r) q)
     c.in-Ok.ensures.lowered second
 
@@ -36,7 +47,7 @@ returns-in-Ok-clause-late g c =
     let seen = g.G.Guest.seen in
     let mid = c.lower_params.new.core in
     let after = c.run.new.core in
-    rest_is_late (export_callee mid.component c.args.export.now) (allowed mid.fuel c.args.turns) (moment_of seen mid) (moment_of seen after) c.run.ensures.did.events c.run.result c.run.ensures.did.so.cause
+    rest_is_late (export_callee mid.component c.args.export.now) (allowed mid.fuel c.args.turns) (moment_of seen mid) (moment_of seen after) c.run.ensures.did.events c.run.ensures.did.so.tail c.run.result c.run.ensures.did.so.cause
 
 pub returns-in-Ok-clause-count : goal.returns-in-Ok-clause-count
 returns-in-Ok-clause-count g c =
@@ -46,9 +57,12 @@ returns-in-Ok-clause-count g c =
 pub returns-in-Err-clause-call : goal.returns-in-Err-clause-call
 returns-in-Err-clause-call g c =
     let seen = g.G.Guest.seen in
+    let imports = g.I.Imports in
+    let i = c.args.imports.now in
     let before = c.args.core.now in
     let after = c.lower_params.new.core in
-    call_refused g.G.Guest.leaves (export_callee before.component c.args.export.now) (allowed before.fuel c.args.turns) c.args.params.now (moment_of seen before) (moment_of seen after) before.ledger after.ledger c.in-Err.error _ c.in-Err.ensures.lowered
+    call_refused (imports.gives (imports.plan i)) (export_callee before.component c.args.export.now) (allowed before.fuel c.args.turns) g.G.Guest.leaves c.args.params.now (moment_of seen before) (moment_of seen after)
+    (host_side before (imports.log i) (imports.refusals i)) (host_side after (imports.log i) (imports.refusals i)) (side_handles before after (imports.log i) (imports.refusals i) c.lower_params.ensures.same) c.in-Err.error _ c.in-Err.ensures.lowered
 
 pub returns-in-Err-clause-late : goal.returns-in-Err-clause-late
 returns-in-Err-clause-late g c =

@@ -2,10 +2,10 @@ use Rattle.std.proofs.Common.{Err, subst, sym, ◌∙◌, ◌≡◌}
 use Rattle.std.specs.Prelude.{IfSome}
 use Rattle.canon_context.specs.Core.{guest_of, moment_of}
 use Rattle.canon_func.specs.Asks.{allowed}
-use Rattle.canon_func.specs.Call.{Adding, OnAnswered}
-use Rattle.canon_func.specs.Steps.{CoreCall}
+use Rattle.canon_func.specs.Call.{OnAnswered}
 use Rattle.canon_func.specs.Stores.{export_callee}
 use Rattle.canon_func.proofs.Composed.{call_left}
+use Rattle.canon_host.specs.HostSide.{host_side}
 use Rattle.canon_func.proofs.func.Func.call.Goals as goal
 
 pub returns-in-Err-clause-refused : goal.returns-in-Err-clause-refused
@@ -18,18 +18,11 @@ pub returns-in-Err-clause-call : goal.returns-in-Err-clause-call
 returns-in-Err-clause-call g c = λ none.
     let seen = g.G.Guest.seen in
     let moves = g.G.Guest.moves in
-    let before = c.args.store.now.core in
-    let after = c.call_core.new.core in
-    let callee = export_callee before.component c.export_in-export.result in
+    let imports = g.I.Imports in
+    let store = c.args.store.now in
+    let left = c.call_core.new.self in
     let e = c.in-Err.error in
-    let turns = c.args.store.now.turns in
-    let told : Adding (moment_of seen c.core_mut.result.now) (moment_of seen after) (λ es. OnAnswered {T = Unit {0}} (Err e) (moves (guest_of c.core_mut.result.now) es (guest_of after)))
-    (λ es. CoreCall g.G.Guest.leaves (export_callee c.core_mut.result.now.component c.export_in-export.result) (allowed c.core_mut.result.now.fuel turns) c.args.params.now (moment_of seen c.core_mut.result.now) (moment_of seen after) c.core_mut.result.now.ledger after.ledger (Err e) es) =
-    subst (λ n. Adding (moment_of seen c.core_mut.result.now) (moment_of seen after) (λ es. OnAnswered {T = Unit {0}} (Err e) (moves (guest_of c.core_mut.result.now) es (guest_of after)))
-    (λ es. CoreCall g.G.Guest.leaves (export_callee c.core_mut.result.now.component c.export_in-export.result) (allowed c.core_mut.result.now.fuel n) c.args.params.now (moment_of seen c.core_mut.result.now) (moment_of seen after) c.core_mut.result.now.ledger after.ledger (Err e) es))
-    c.turns-turns.ensures c.in-Err.ensures.call in
-    let made : Adding (moment_of seen before) (moment_of seen after) (λ es. OnAnswered {T = Unit {0}} (Err e) (moves (guest_of before) es (guest_of after))) (λ es. CoreCall g.G.Guest.leaves callee (allowed before.fuel turns) c.args.params.now (moment_of seen before) (moment_of seen after) before.ledger after.ledger (Err e) es) =
-    subst (λ k. Adding (moment_of seen k) (moment_of seen after) (λ es. OnAnswered {T = Unit {0}} (Err e) (moves (guest_of k) es (guest_of after)))
-    (λ es. CoreCall g.G.Guest.leaves (export_callee k.component c.export_in-export.result) (allowed k.fuel turns) c.args.params.now (moment_of seen k) (moment_of seen after) k.ledger after.ledger (Err e) es))
-    c.core_mut.ensures.value told in
-    rw (c.export_in-export.ensures.found, c.trap.ensures) (call_left g.G.Guest.leaves callee (allowed before.fuel turns) c.args.params.now (moment_of seen before) (moment_of seen after) before.ledger after.ledger e c.args.results.now (λ es. OnAnswered {T = Unit {0}} (Err e) (moves (guest_of before) es (guest_of after))) made)
+    rw (c.export_in-export.ensures.found, c.trap.ensures)
+    (call_left (imports.gives (imports.plan store.imports)) (export_callee store.core.component c.export_in-export.result) (allowed store.core.fuel store.turns) g.G.Guest.leaves c.args.params.now (moment_of seen store.core) (moment_of seen left.core)
+    (host_side store.core (imports.log store.imports) (imports.refusals store.imports)) (host_side left.core (imports.log left.imports) (imports.refusals left.imports)) e c.args.results.now
+    (λ es. OnAnswered {T = Unit {0}} (Err e) (moves (guest_of store.core) es (guest_of left.core))) c.in-Err.ensures.call)
