@@ -1,8 +1,10 @@
 pub mod Cases
+pub mod Declared
 pub mod Filled
-pub mod Funcs
 pub mod Held
+pub mod Imported
 pub mod Members
+pub mod Same
 pub mod Sound
 pub mod Views
 pub mod Work

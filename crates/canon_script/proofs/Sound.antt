@@ -1,31 +1,30 @@
 -- A script that is read is sound.
-use Rattle.std.proofs.Common.{◌≡◌, ℕ, ◌<◌, ◌≤◌, ◌+◌, ◌*◌, ◌^◌, List, [], ◌∷◌, length, slice_get, Bool, false, is_some, nat_eq, option_map, sym, true, nat_le, nat_lt, IsTrue, if◌then◌else◌, codes, Option, None, Some, Result, Ok, Err, IfOk, subst, option_and_then}
+use Rattle.std.proofs.Common.{◌≡◌, ℕ, ◌<◌, ◌≤◌, ◌+◌, ◌*◌, ◌^◌, List, [], ◌∷◌, length, Bool, false, is_some, nat_eq, option_map, sym, true, nat_le, nat_lt, IsTrue, if◌then◌else◌, codes, Option, None, Some, Result, Ok, Err, IfOk, subst, option_and_then}
 use Rattle.std.proofs.lemmas.Bool.{and_parts, leb-true, ltb-true}
 use Rattle.std.proofs.lemmas.List.Elements.{All-from_recursion}
-use Rattle.std.proofs.lemmas.Option.{option_and_then_some, same_Some, slice_get_within}
+use Rattle.std.proofs.lemmas.Option.{option_and_then_some, same_Some}
 use Rattle.std.specs.List.{AllByRecursion}
 use Rattle.std.specs.Option.{option_map_or}
 use lib.Pointwise.{pointwise}
 use Rattle.serde_json.specs.Data.{Data, Items, array, boolean, null, number, object, string}
-use Rattle.serde_json.specs.Find.{as_array, as_bool, as_object, as_str, get}
-use Rattle.canon_context.specs.Component.{resource_of}
-use Rattle.canon_context.specs.declared.component.Import.{Import}
-use Rattle.canon_context.specs.declared.component.Import.TheVariants as import
+use Rattle.serde_json.specs.Find.{as_array, as_bool, as_object, get}
 use Rattle.canon_json.specs.Json.{Gives, each, each_of, has_len, u32_of, word_of}
 use Rattle.canon_json.specs.declared.error.ScriptError.{ScriptError}
 use Rattle.canon_json.proofs.Found.{by_map, by_test, each_all}
-use Rattle.canon_types.specs.Table.{HasFunc, HasResource, Table}
-use Rattle.canon_layout.specs.Asked.{Funcs}
+use Rattle.canon_types.specs.Table.{Table}
 use Rattle.canon_script.specs.Actions.{action_of, ordered_of}
 use Rattle.canon_scripted.specs.declared.orders.Ordered.{Ordered}
 use Rattle.canon_scripted.specs.declared.orders.Ordered.TheVariants as order
 use Rattle.canon_scripted.specs.Orders.{AreNarrow, IsNarrow}
-use Rattle.canon_script.specs.Script.{IsWellFormed, ItemStands, Play, ScriptCall, ScriptItem, call_item, call_item_of, call_of_func, call_with, drop_item, drop_item_of, encoding_of, final_memory, fits, fuel_of, handles_of, heap_of, if_fits, import_by, import_of, item_of, known_resource, max_memory, max_work, memory_len_of, new_item, new_item_of, optional_call_members, other_item_of, play_of, play_with, played, played_over, reallocs_of, result_count, settings_of, settings_with, slots_of, times_entered, turns_of}
+use Rattle.canon_script.specs.Script.{IsWellFormed, ItemStands, Play, ScriptCall, ScriptItem, call_item, call_item_of, call_of_func, call_with, drop_item, drop_item_of, encoding_of, final_memory, fits, fuel_of, handles_of, heap_of, if_fits, item_of, max_memory, max_work, memory_len_of, new_item, new_item_of, optional_call_members, other_item_of, play_of, play_with, played, played_over, reallocs_of, settings_of, settings_with, slots_of, times_entered, turns_of}
 use Rattle.canon_script.specs.declared.script.Settings.{Settings}
-use Rattle.canon_script.specs.Types.{funcs_of}
+use Rattle.canon_script.specs.Imports.{result_count}
+use Rattle.canon_script.specs.Numbers.{if_below}
+use Rattle.canon_script.specs.Types.{Declared, declared_of}
 use Rattle.canon_script.specs.Values.{value_of}
 use Rattle.canon_script.specs.declared.script.Script.{Script}
-use Rattle.canon_script.proofs.Funcs.{Told, funcs_told}
+use Rattle.canon_script.proofs.Declared.{AreDeclared, declared_sound}
+use Rattle.canon_script.proofs.Imported.{below}
 
 -- ---- calls
 
@@ -52,57 +51,35 @@ reallocs_narrow : (d : Option Data) (os : List Ordered) → reallocs_of d ≡ So
 reallocs_narrow None os e = subst AreNarrow (same_Some [] os e) tt
 reallocs_narrow (Some d) os e = option_and_then_some (each ordered_of) (as_array d) os e (λ ds s h. are_narrow os (each_all IsNarrow ordered_of ordered_narrow ds os h))
 
-called : (t : Table) (d : Data) (func results : ℕ) (c : ScriptCall) → HasFunc t func → call_of_func d func results ≡ Some c → ItemStands t (call_item c)
-called t d func results c known e =
+called : (count : ℕ) (d : Data) (func results : ℕ) (c : ScriptCall) → func < count → call_of_func d func results ≡ Some c → ItemStands count (call_item c)
+called count d func results c known e =
     option_and_then_some _ (option_and_then (each_of value_of) (get (codes "params") d)) c e (λ params s1 e1.
     option_and_then_some _ (option_and_then (each_of action_of) (get (codes "guest") d)) c e1 (λ guest s2 e2.
     option_and_then_some _ (slots_of results (get (codes "slots") d)) c e2 (λ slots s3 e3.
     option_and_then_some _ (reallocs_of (get (codes "reallocs") d)) c e3 (λ reallocs s4 e4.
     by_map (call_with func params guest slots reallocs) (option_map_or as_bool (get (codes "post_trap") d) (Some false)) c e4 (λ post s5 is.
-    subst (λ (x : ScriptCall). ItemStands t (call_item x)) is (known, reallocs_narrow (get (codes "reallocs") d) reallocs s4))))))
+    subst (λ (x : ScriptCall). ItemStands count (call_item x)) is (known, reallocs_narrow (get (codes "reallocs") d) reallocs s4))))))
 
-call_stands : (t : Table) (d : Data) (c : ScriptCall) → call_item_of t d ≡ Some c → ItemStands t (call_item c)
-call_stands t d c e =
+call_stands : (t : Table) (count : ℕ) (d : Data) (c : ScriptCall) → call_item_of t count d ≡ Some c → ItemStands count (call_item c)
+call_stands t count d c e =
     by_test (has_len (3 + optional_call_members d) (as_object d)) _ c e (λ counted e1.
-    option_and_then_some (λ func. option_and_then (call_of_func d func) (result_count t func)) (option_and_then u32_of (get (codes "call") d)) c e1 (λ func s1 e2.
+    option_and_then_some (λ func. option_and_then (call_of_func d func) (result_count t func)) (option_and_then (if_below count) (option_and_then u32_of (get (codes "call") d))) c e1 (λ func s1 e2.
     option_and_then_some (call_of_func d func) (result_count t func) c e2 (λ results s2 e3.
-    by_map _ (slice_get t.funcs func) results s2 (λ f found is. called t d func results c (slice_get_within t.funcs func f found) e3))))
+    option_and_then_some (if_below count) (option_and_then u32_of (get (codes "call") d)) func s1 (λ n s3 e4. called count d func results c (below count n func e4) e3))))
 
-other_stands : (t : Table) (d : Data) (i : ScriptItem) → other_item_of t d ≡ Some i → ItemStands t i
-other_stands t d i e = by_cases (is_some (get (codes "new") d)) e
+other_stands : (t : Table) (count : ℕ) (d : Data) (i : ScriptItem) → other_item_of t d ≡ Some i → ItemStands count i
+other_stands t count d i e = by_cases (is_some (get (codes "new") d)) e
   where
-    by_cases : (b : Bool) → (if b then option_map new_item (new_item_of t d) else option_map drop_item (drop_item_of d)) ≡ Some i → ItemStands t i
-    by_cases true e = by_map new_item (new_item_of t d) i e (λ n s is. subst (ItemStands t) is tt)
-    by_cases false e = by_map drop_item (drop_item_of d) i e (λ n s is. subst (ItemStands t) is tt)
+    by_cases : (b : Bool) → (if b then option_map new_item (new_item_of t d) else option_map drop_item (drop_item_of d)) ≡ Some i → ItemStands count i
+    by_cases true e = by_map new_item (new_item_of t d) i e (λ n s is. subst (ItemStands count) is tt)
+    by_cases false e = by_map drop_item (drop_item_of d) i e (λ n s is. subst (ItemStands count) is tt)
 
-item_stands : (t : Table) (d : Data) (i : ScriptItem) → item_of t d ≡ Some i → ItemStands t i
-item_stands t d i e = by_cases (is_some (get (codes "call") d)) e
+item_stands : (t : Table) (count : ℕ) (d : Data) (i : ScriptItem) → item_of t count d ≡ Some i → ItemStands count i
+item_stands t count d i e = by_cases (is_some (get (codes "call") d)) e
   where
-    by_cases : (b : Bool) → (if b then option_map call_item (call_item_of t d) else other_item_of t d) ≡ Some i → ItemStands t i
-    by_cases true e = by_map call_item (call_item_of t d) i e (λ c s is. subst (ItemStands t) is (call_stands t d c s))
-    by_cases false e = other_stands t d i e
-
--- ---- imports
-
-import_over : (t : Table) (r : ℕ) (word : List ℕ) (i : Import) → r < length t.resources → import_by r word ≡ Some i → HasResource t (resource_of i)
-import_over t r word i known e = by_word (pointwise nat_eq word (codes "new")) (pointwise nat_eq word (codes "rep")) (pointwise nat_eq word (codes "drop")) e
-  where
-    by_word : (new rep drop : Bool) → (if new then Some (import.ResourceNew r) else (if rep then Some (import.ResourceRep r) else (if drop then Some (import.ResourceDrop r) else None))) ≡ Some i → HasResource t (resource_of i)
-    by_word true rep drop e = subst (λ x. HasResource t (resource_of x)) (same_Some (import.ResourceNew r) i e) known
-    by_word false true drop e = subst (λ x. HasResource t (resource_of x)) (same_Some (import.ResourceRep r) i e) known
-    by_word false false true e = subst (λ x. HasResource t (resource_of x)) (same_Some (import.ResourceDrop r) i e) known
-    by_word false false false e = absurd (cc)
-
-import_known : (t : Table) (n r : ℕ) → known_resource t n ≡ Some r → r < length t.resources
-import_known t n r e = by_test (nat_lt n (length t.resources)) (Some n) r e (λ lt is. subst (λ (k : ℕ). k < length t.resources) (same_Some n r is) (ltb-true n (length t.resources) lt))
-
-import_stands : (t : Table) (d : Data) (i : Import) → import_of t d ≡ Some i → HasResource t (resource_of i)
-import_stands t d i e =
-    by_test (has_len 2 (as_object d)) _ i e (λ two e1.
-    option_and_then_some (λ r. option_and_then (import_by r) (option_and_then as_str (get (codes "builtin") d))) (option_and_then (known_resource t) (option_and_then u32_of (get (codes "resource") d))) i e1 (λ r s1 e2.
-    option_and_then_some (known_resource t) (option_and_then u32_of (get (codes "resource") d)) r s1 (λ n s2 e3.
-    option_and_then_some (import_by r) (option_and_then as_str (get (codes "builtin") d)) i e2 (λ word s3 e4.
-    import_over t r word i (import_known t n r e3) e4))))
+    by_cases : (b : Bool) → (if b then option_map call_item (call_item_of t count d) else other_item_of t d) ≡ Some i → ItemStands count i
+    by_cases true e = by_map call_item (call_item_of t count d) i e (λ c s is. subst (ItemStands count) is (call_stands t count d c s))
+    by_cases false e = other_stands t count d i e
 
 -- ---- all of it
 
@@ -120,34 +97,33 @@ settings_sound d s e =
     by_map (settings_with memory heap fuel handles turns) (encoding_of (get (codes "encoding") d)) s e5 (λ encoding s6 is.
     subst (λ (x : Settings). x.heap ≤ x.memory) is (heap_is memory heap (get (codes "heap") d) s2)))))))
 
-module _ (s : Settings) (inside : s.heap ≤ s.memory) (imports items : Items) where
-  fits_sound : (fs : Funcs) (is : List Import) (found : List ScriptItem) → Told fs → AllByRecursion (λ i. HasResource fs.table (resource_of i)) is → AllByRecursion (ItemStands fs.table) found → IsTrue (fits s.memory found) → IsWellFormed (play_with s fs is found)
-  fits_sound fs is found told known stand fit =
+module _ (s : Settings) (inside : s.heap ≤ s.memory) (items : Items) where
+  fits_sound : (d : Declared) (found : List ScriptItem) → AreDeclared d → AllByRecursion (ItemStands (length d.posts)) found → IsTrue (fits s.memory found) → IsWellFormed (play_with s d found)
+  fits_sound d found are stand fit =
       let last = final_memory s.memory found in
       let fit2 = and_parts (nat_le last max_memory) (nat_le (last * 2 * times_entered found) max_work) fit in
       record {
         heap_inside = inside;
         memory_fits = leb-true last max_memory fit2.0;
         work_fits = leb-true (last * 2 * times_entered found) max_work fit2.1;
-        posts_told = told.posts;
-        funcs_few = told.few;
-        imports_stand = All-from_recursion (λ i. HasResource fs.table (resource_of i)) is known;
-        items_stand = All-from_recursion (ItemStands fs.table) found stand;
+        posts_told = are.told;
+        posts_few = are.few;
+        imports_stand = are.imports;
+        answers_stand = are.answers;
+        items_stand = All-from_recursion (ItemStands (length d.posts)) found stand;
       }
 
-  over_sound : (fs : Funcs) (p : Play) → Told fs → played_over s imports items fs ≡ Some p → IsWellFormed p
-  over_sound fs p told e =
-      option_and_then_some (λ is. option_and_then (if_fits s fs is) (each (item_of fs.table) items)) (each (import_of fs.table) imports) p e (λ is s1 e1.
-      option_and_then_some (if_fits s fs is) (each (item_of fs.table) items) p e1 (λ found s2 e2.
-      by_test (fits s.memory found) (Some (play_with s fs is found)) p e2 (λ fit same.
-      subst IsWellFormed (same_Some (play_with s fs is found) p same)
-      (fits_sound fs is found told (each_all (λ i. HasResource fs.table (resource_of i)) (import_of fs.table) (import_stands fs.table) imports is s1)
-      (each_all (ItemStands fs.table) (item_of fs.table) (item_stands fs.table) items found s2) fit))))
+  over_sound : (d : Declared) (p : Play) → AreDeclared d → played_over s items d ≡ Some p → IsWellFormed p
+  over_sound d p are e =
+      option_and_then_some (if_fits s d) (each (item_of d.table (length d.posts)) items) p e (λ found s1 e1.
+      by_test (fits s.memory found) (Some (play_with s d found)) p e1 (λ fit same.
+      subst IsWellFormed (same_Some (play_with s d found) p same)
+      (fits_sound d found are (each_all (ItemStands (length d.posts)) (item_of d.table (length d.posts)) (item_stands d.table (length d.posts)) items found s1) fit)))
 
-  played_sound : (resources types funcs : Items) (p : Play) → played s resources types funcs imports items ≡ Some p → IsWellFormed p
-  played_sound resources types funcs p e =
-      option_and_then_some (played_over s imports items) (funcs_of resources types funcs) p e (λ fs s1 e1. over_sound fs p (funcs_told resources types funcs fs s1) e1)
+  played_sound : (resources types funcs imports : Items) (p : Play) → played s resources types funcs imports items ≡ Some p → IsWellFormed p
+  played_sound resources types funcs imports p e =
+      option_and_then_some (played_over s items) (declared_of resources types funcs imports) p e (λ d s1 e1. over_sound d p (declared_sound resources types funcs imports d s1) e1)
 
 pub reads_sound : (d : Data) (s : Settings) (resources types funcs imports items : Items) (r : Result Script ScriptError) → Some s ≡ settings_of d → Gives play_of r (played s resources types funcs imports items) → IfOk r (λ x. IsWellFormed (play_of x))
-reads_sound d s resources types funcs imports items (Ok x) e h = played_sound s (settings_sound d s (sym e)) imports items resources types funcs (play_of x) h
+reads_sound d s resources types funcs imports items (Ok x) e h = played_sound s (settings_sound d s (sym e)) items resources types funcs imports (play_of x) h
 reads_sound d s resources types funcs imports items (Err f) e h = tt

@@ -1,4 +1,5 @@
 pub mod Actions
+pub mod Imports
 pub mod Literals
 pub mod Numbers
 pub mod Resources

@@ -1,26 +1,24 @@
 -- The script that a JSON value stands for.
-use Rattle.std.specs.Prelude.{◌≡◌, ℕ, ◌≤◌, ◌+◌, ◌*◌, ◌&&◌, All, List, [], is_some, length, map, sum_by, slice_get, Bool, false, nat_eq, nat_le, if◌then◌else◌, codes, Option, None, Some, option_map, option_and_then}
+use Rattle.std.specs.Prelude.{ℕ, ◌<◌, ◌≤◌, ◌+◌, ◌*◌, ◌&&◌, All, List, [], is_some, length, map, sum_by, slice_get, Bool, false, nat_eq, nat_le, if◌then◌else◌, codes, Option, None, Some, option_map, option_and_then}
 use lib.Pointwise.{pointwise}
 use Rattle.std.specs.Option.{option_map_or}
 use Rattle.serde_json.specs.Data.{Data, Items}
 use Rattle.serde_json.specs.Find.{as_bool, as_object, as_str, get}
-use Rattle.canon_context.specs.Component.{resource_of}
 use Rattle.canon_context.specs.declared.component.Import.{Import}
-use Rattle.canon_context.specs.declared.component.Import.TheVariants as import
 use Rattle.canon_json.specs.Json.{each, each_of, has_len, items_of, there, u32_of, word_of}
 use Rattle.canon_indices.specs.declared.options.StringEncoding.{StringEncoding}
 use Rattle.canon_indices.specs.declared.options.StringEncoding.TheVariants as encoding
-use Rattle.canon_types.specs.Table.{HasFunc, HasResource, Table, types_of}
+use Rattle.canon_types.specs.Table.{Table}
 use Rattle.canon_types.specs.declared.types.ResourceKind.{ResourceKind}
 use Rattle.canon_types.specs.declared.types.ResourceKind.TheVariants as resource
-use Rattle.canon_layout.specs.Asked.{Funcs}
 use Rattle.canon_scripted.specs.declared.actions.Action.{Action}
 use Rattle.canon_scripted.specs.Orders.{AreNarrow}
 use Rattle.canon_scripted.specs.declared.orders.Ordered.{Ordered}
 use Rattle.canon_script.specs.Actions.{action_of, ask_count, growth, ordered_of}
+use Rattle.canon_script.specs.Imports.{HaveAnswers, HostAnswer, ImportStands, answers_view, result_count}
 use Rattle.canon_script.specs.Literals.{Literal, literals_view}
 use Rattle.canon_script.specs.Numbers.{if_below, number_to}
-use Rattle.canon_script.specs.Types.{funcs_of}
+use Rattle.canon_script.specs.Types.{Declared, declared_of}
 use Rattle.canon_script.specs.Values.{value_of}
 use Rattle.canon_script.specs.declared.script.CallItem.{CallItem}
 use Rattle.canon_script.specs.declared.script.DropItem.{DropItem}
@@ -41,10 +39,6 @@ pub record ScriptCall : Type 0 where
   pub slots : ℕ
   pub reallocs : List Ordered
   pub post_trap : Bool
-
--- the number of a function's results, if there is such a function
-abbrev pub result_count : Table → ℕ → Option ℕ
-result_count t func = option_map (λ f. length (types_of t f.results)) (slice_get t.funcs func)
 
 abbrev pub slots_of : ℕ → Option Data → Option ℕ
 slots_of results d = option_map_or (number_to 1000) d (Some results)
@@ -68,11 +62,12 @@ call_of_func d func results =
     (option_and_then (each_of action_of) (get (codes "guest") d)))
     (option_and_then (each_of value_of) (get (codes "params") d))
 
--- an object that calls a function of the table
-abbrev pub call_item_of : Table → Data → Option ScriptCall
-call_item_of t d =
+-- an object that calls one of the first functions of the table, of which there are so many
+abbrev pub call_item_of : Table → ℕ → Data → Option ScriptCall
+call_item_of t count d =
     if has_len (3 + optional_call_members d) (as_object d)
-    then option_and_then (λ func. option_and_then (call_of_func d func) (result_count t func)) (option_and_then u32_of (get (codes "call") d))
+    then option_and_then (λ func. option_and_then (call_of_func d func) (result_count t func))
+    (option_and_then (if_below count) (option_and_then u32_of (get (codes "call") d)))
     else None
 
 -- the number that tells the type of a resource of the host
@@ -118,8 +113,8 @@ abbrev pub other_item_of : Table → Data → Option ScriptItem
 other_item_of t d = if is_some (get (codes "new") d) then option_map new_item (new_item_of t d) else option_map drop_item (drop_item_of d)
 
 -- an item: one member names its kind
-abbrev pub item_of : Table → Data → Option ScriptItem
-item_of t d = if is_some (get (codes "call") d) then option_map call_item (call_item_of t d) else other_item_of t d
+abbrev pub item_of : Table → ℕ → Data → Option ScriptItem
+item_of t count d = if is_some (get (codes "call") d) then option_map call_item (call_item_of t count d) else other_item_of t d
 
 -- what the guest does in an item
 abbrev pub guest_in : ScriptItem → List Action
@@ -132,27 +127,6 @@ abbrev pub starts : ScriptItem → ℕ
 starts (call_item c) = 1
 starts (new_item n) = 0
 starts (drop_item d) = 0
-
--- ---- imports
-
--- a call on the handles of the resource type of this number, by its word
-abbrev pub import_by : ℕ → List ℕ → Option Import
-import_by r word =
-    if pointwise nat_eq word (codes "new") then Some (import.ResourceNew r)
-    else (if pointwise nat_eq word (codes "rep") then Some (import.ResourceRep r)
-    else (if pointwise nat_eq word (codes "drop") then Some (import.ResourceDrop r) else None))
-
--- the number of one of the table's resource types
-abbrev pub known_resource : Table → ℕ → Option ℕ
-known_resource t r = if_below (length t.resources) r
-
--- an object of these two members
-abbrev pub import_of : Table → Data → Option Import
-import_of t d =
-    if has_len 2 (as_object d)
-    then option_and_then (λ r. option_and_then (import_by r) (option_and_then as_str (get (codes "builtin") d)))
-    (option_and_then (known_resource t) (option_and_then u32_of (get (codes "resource") d)))
-    else None
 
 -- ---- limits
 
@@ -190,19 +164,33 @@ pub record Play : Type 0 where
   pub turns : ℕ
   -- how texts are spelled in memory
   pub encoding : StringEncoding
+  -- its functions, and after them those of the host
   pub types : Table
-  -- for each function whether it has a post-return function
+  -- for each of its functions whether it has a post-return function
   pub posts : List Bool
   -- what the guest may ask for, by its number
   pub imports : List Import
+  -- what each of these answers, in order
+  pub answers : List (List HostAnswer)
   pub items : List ScriptItem
 
-abbrev pub play_with : Settings → Funcs → List Import → List ScriptItem → Play
-play_with s funcs imports items =
-    record { memory = s.memory; heap = s.heap; fuel = s.fuel; handles = s.handles; turns = s.turns; encoding = s.encoding; types = funcs.table; posts = funcs.posts; imports = imports; items = items }
+abbrev pub play_with : Settings → Declared → List ScriptItem → Play
+play_with s d items = record {
+  memory = s.memory;
+  heap = s.heap;
+  fuel = s.fuel;
+  handles = s.handles;
+  turns = s.turns;
+  encoding = s.encoding;
+  types = d.table;
+  posts = d.posts;
+  imports = d.imports;
+  answers = d.answers;
+  items = items;
+}
 
-abbrev pub if_fits : Settings → Funcs → List Import → List ScriptItem → Option Play
-if_fits s funcs imports items = if fits s.memory items then Some (play_with s funcs imports items) else None
+abbrev pub if_fits : Settings → Declared → List ScriptItem → Option Play
+if_fits s d items = if fits s.memory items then Some (play_with s d items) else None
 
 abbrev pub memory_len_of : Option Data → Option ℕ
 memory_len_of d = option_map_or (number_to max_memory) d (Some 65536)
@@ -242,13 +230,13 @@ settings_of d = option_and_then (λ memory. option_and_then (λ heap. option_and
     (heap_of memory (get (codes "heap") d)))
     (memory_len_of (get (codes "memory") d))
 
--- imports and items over these functions
-abbrev pub played_over : Settings → Items → Items → Funcs → Option Play
-played_over s imports items fs = option_and_then (λ found. option_and_then (if_fits s fs found) (each (item_of fs.table) items)) (each (import_of fs.table) imports)
+-- items over what was declared
+abbrev pub played_over : Settings → Items → Declared → Option Play
+played_over s items d = option_and_then (if_fits s d) (each (item_of d.table (length d.posts)) items)
 
--- the functions over their resources and types, and the imports and the items over these
+-- what is declared, and the items over it
 abbrev pub played : Settings → Items → Items → Items → Items → Items → Option Play
-played s resources types funcs imports items = option_and_then (played_over s imports items) (funcs_of resources types funcs)
+played s resources types funcs imports items = option_and_then (played_over s items) (declared_of resources types funcs imports)
 
 abbrev pub settings_members : Data → ℕ
 settings_members d = there (get (codes "memory") d) + (there (get (codes "heap") d) + (there (get (codes "fuel") d) + (there (get (codes "handles") d)
@@ -283,20 +271,34 @@ item_view (item.Drop d) = drop_item d
 
 abbrev pub play_of : Script → Play
 play_of s =
-    record { memory = s.memory; heap = s.heap; fuel = s.fuel; handles = s.handles; turns = s.turns; encoding = s.encoding; types = s.types; posts = s.posts.items; imports = s.imports.items; items = map item_view s.items.items }
+    record {
+      memory = s.memory;
+      heap = s.heap;
+      fuel = s.fuel;
+      handles = s.handles;
+      turns = s.turns;
+      encoding = s.encoding;
+      types = s.types;
+      posts = s.posts.items;
+      imports = s.imports.items;
+      answers = answers_view s.answers.items;
+      items = map item_view s.items.items;
+    }
 
--- A call is one of a function, and each ordered answer of `realloc` is below 2 ^ 32.
-abbrev pub ItemStands : Table → ScriptItem → Type 0
-ItemStands t (call_item c) = HasFunc t c.func × AreNarrow c.reallocs
-ItemStands t (new_item n) = Unit {0}
-ItemStands t (drop_item d) = Unit {0}
+-- A call is one of a function, of which there are so many, and each ordered answer of `realloc` is below 2 ^ 32.
+abbrev pub ItemStands : ℕ → ScriptItem → Type 0
+ItemStands count (call_item c) = (c.func < count) × AreNarrow c.reallocs
+ItemStands count (new_item n) = Unit {0}
+ItemStands count (drop_item d) = Unit {0}
 
--- It keeps the limits, its imports are over its resource types, and its items are over its functions. A table has at most 2 ^ 20 entries.
+-- It keeps the limits, its imports are over its table and have their answers, and its items are over its functions. A table has at most
+-- 2 ^ 20 entries.
 pub record IsWellFormed (p : Play) : Type 0 where
   pub heap_inside : p.heap ≤ p.memory
   pub memory_fits : final_memory p.memory p.items ≤ max_memory
   pub work_fits : final_memory p.memory p.items * 2 * times_entered p.items ≤ max_work
-  pub posts_told : length p.posts ≡ length p.types.funcs
-  pub funcs_few : length p.types.funcs ≤ 1048576
-  pub imports_stand : All (λ i. HasResource p.types (resource_of i)) p.imports
-  pub items_stand : All (ItemStands p.types) p.items
+  pub posts_told : length p.posts ≤ length p.types.funcs
+  pub posts_few : length p.posts ≤ 1048576
+  pub imports_stand : All (ImportStands p.types) p.imports
+  pub answers_stand : HaveAnswers p.types p.imports p.answers
+  pub items_stand : All (ItemStands (length p.posts)) p.items

@@ -2,7 +2,9 @@ ghost use Rattle.std.specs.Prelude.{◌≡◌, length, Some, option_map, option_
 ghost use Rattle.std.specs.Option.{option_map_or};
 ghost use Rattle.serde_json.specs.Find.{as_object};
 ghost use Rattle.serde_json.specs.View.{view};
-ghost use Rattle.canon_json.specs.Json.{Gives};
+ghost use Rattle.canon_json.specs.Json.{Gives, u32_of};
+ghost use Rattle.canon_script.specs.Imports.{result_count};
+ghost use Rattle.canon_script.specs.Numbers.{if_below};
 ghost use Rattle.canon_script.specs.Script as spec;
 
 use crate::actions::{Actions, Orders};
@@ -18,10 +20,11 @@ use std::alloc::Global;
 /// The most slots that an item may ask for.
 const MAX_SLOTS: u64 = 1000;
 
-/// Reads items over these types.
+/// Reads items over these types. Their calls are of the first `funcs` functions.
 #[derive(Clone, Copy)]
 pub(crate) struct Items<'a> {
     pub types: &'a ComponentTypes,
+    pub funcs: usize,
 }
 
 impl Reader for Items<'_> {
@@ -31,19 +34,24 @@ impl Reader for Items<'_> {
 
     ghost seen = { spec.item_view };
 
-    ghost reads = { λ r. spec.item_of r.types.now };
+    ghost reads = { λ r. spec.item_of r.types.now r.funcs };
 
     fn read(&self, alloc: Global, v: &Value) -> Result<Item, ScriptError> {
-        item_of(alloc, self.types, v)
+        item_of(alloc, self.types, self.funcs, v)
     }
 }
 
 /// An item, by the member that names its kind.
-fn item_of(alloc: Global, types: &ComponentTypes, v: &Value) -> Result<Item, ScriptError>
-    ensures { Gives spec.item_view result (spec.item_of types.now (view v.now)) }
+fn item_of(
+    alloc: Global,
+    types: &ComponentTypes,
+    funcs: usize,
+    v: &Value,
+) -> Result<Item, ScriptError>
+    ensures { Gives spec.item_view result (spec.item_of types.now funcs (view v.now)) }
 {
     if v.get("call").is_some() {
-        let call = call_item_of(alloc, types, v)?;
+        let call = call_item_of(alloc, types, funcs, v)?;
         return Ok(Item::Call(call));
     }
     match other_item_of(types, v) {
@@ -103,22 +111,36 @@ fn drop_item_of(v: &Value) -> Option<DropItem>
     })
 }
 
-fn call_item_of(alloc: Global, types: &ComponentTypes, v: &Value) -> Result<CallItem, ScriptError>
-    ensures { Gives spec.call_item_view result (spec.call_item_of types.now (view v.now)) }
+fn call_item_of(
+    alloc: Global,
+    types: &ComponentTypes,
+    funcs: usize,
+    v: &Value,
+) -> Result<CallItem, ScriptError>
+    ensures { Gives spec.call_item_view result (spec.call_item_of types.now funcs (view v.now)) }
 {
     if !has_len(v, 3 + optional_call_members(v)) {
         return Err(ScriptError::BadScript);
     }
-    let Some(func) = v.get("call") else {
-        return Err(ScriptError::BadScript);
-    };
-    let Some(func) = u32_of(func) else {
+    let Some(func) = called_func(funcs, v.get("call")) else {
         return Err(ScriptError::BadScript);
     };
     let Some(results) = result_count(types, func) else {
         return Err(ScriptError::BadScript);
     };
     call_of_func(alloc, v, func, results)
+}
+
+/// The number of one of so many functions.
+fn called_func(funcs: usize, v: Option<&Value>) -> Option<u32>
+    ensures { result ≡ option_and_then (if_below funcs) (option_and_then u32_of (option_map (λ x. view x.now) v.entry)) }
+{
+    let func = u32_of(v?)?;
+    if (func as usize) < funcs {
+        Some(func)
+    } else {
+        None
+    }
 }
 
 fn optional_call_members(v: &Value) -> usize
@@ -129,7 +151,7 @@ fn optional_call_members(v: &Value) -> usize
 
 /// The number of a function's results, if there is such a function.
 fn result_count(types: &ComponentTypes, func: u32) -> Option<u64>
-    ensures { result ≡ spec.result_count types.now func }
+    ensures { result ≡ result_count types.now func }
 {
     let func = TypeFuncIndex::from_u32(func);
     if !types.contains_func(func) {

@@ -26,8 +26,10 @@
 //!   function that destroys it, or `null`).
 //! - A function is `{"params": [reference, ..], "results": [reference, ..]}`, and may have `async` and `post`, which are
 //!   false where they are missing. `post` says that it has a post-return function.
-//! - An import is `{"builtin": "new", "resource": resource}`, or so with `"rep"` or `"drop"`, with the number of an entry of
-//!   `resources`: a call on the handles of that resource type, for which the guest asks by the number of the import.
+//! - An import, for which the guest asks by its number, is `{"params": [reference, ..], "results": [reference, ..], "answers":
+//!   [answer, ..]}`, a function of the host that gives these answers in order and then refuses; or `{"builtin": "new", "resource":
+//!   resource}`, or so with `"rep"` or `"drop"`, with the number of an entry of `resources`: a call on the handles of that resource
+//!   type. An answer is an array of as many values as there are results, in which no resource stands, or `"refuse"`.
 //! - An item is a call, a new resource or a drop.
 //! - A call is `{"call": number, "params": [value, ..], "guest": [action, ..]}`, and may have `slots` (how many results
 //!   there is room for, at most 1,000; where it is missing, the number of the function's results), `reallocs` (how
@@ -42,7 +44,8 @@
 //!   `{"string": "text"}`, `{"list": [value, ..]}`, `{"map": [[key, value], ..]}`, `{"record": [[name, value], ..]}`,
 //!   `{"tuple": [value, ..]}`, `{"variant": [name]}` or `{"variant": [name, value]}`, `{"enum": name}`, `{"option": null}`
 //!   or `{"option": value}`, `{"result": ["ok"]}` or `{"result": ["ok", value]}` and so with `"err"`, `{"flags": [name,
-//!   ..]}`, `{"fixed": [value, ..]}`, `{"resource": number}`, a resource by its number in that list. It needn't be of its parameter's type.
+//!   ..]}`, `{"fixed": [value, ..]}`, `{"resource": number}`, a resource by its number in that list. It needn't be of the type
+//!   of its parameter or result.
 //!
 //! Memory with all that the actions add is at most 67,108,864 bytes, and twice that, times the number of calls and `ask`
 //! actions, at most 1,073,741,824. Numbers are those that `serde_json` reads as a `u64`, or as an `i64` where they may be
@@ -62,6 +65,6 @@ mod values;
 
 pub use actions::actions_of_json;
 pub use reading::script_of_json;
-pub use resources::{are_known, resources_in, with_resources};
+pub use resources::{are_known, copies_of, resources_in, with_resources};
 pub use script::{CallItem, DropItem, Item, NewItem, Script};
 pub use values::value_of_json;

@@ -1,16 +1,16 @@
-ghost use Rattle.std.specs.Prelude.{◌≡◌, ◌≤◌, IfOk, option_map};
+ghost use Rattle.std.specs.Prelude.{◌≡◌, ◌≤◌, IfOk, map, option_map};
 ghost use Rattle.serde_json.specs.View.{view, items_view};
 ghost use Rattle.canon_json.specs.Json.{Gives};
-ghost use Rattle.canon_layout.specs.Asked.{funcs_so_far};
 ghost use Rattle.canon_script.specs.Script as spec;
+ghost use Rattle.canon_script.specs.Types.{declared_view};
 
 use crate::imports::Imports;
 use crate::items::Items;
 use crate::limits::{MAX_MEMORY, fits};
-use crate::script::{Script, Settings};
-use crate::types::funcs_of_json;
+use crate::script::{Item, Script, Settings};
+use crate::types::{Declarations, declarations_of_json};
 use canon_json::{ScriptError, each, has_len, items_of, there};
-use canon_types::{ComponentTypes, StringEncoding};
+use canon_types::StringEncoding;
 use serde_json::Value;
 use std::alloc::Global;
 
@@ -168,7 +168,7 @@ fn encoding_named(name: &str) -> Option<StringEncoding>
     }
 }
 
-/// The functions over their resources and types, and the imports and the items.
+/// What is declared, and the items over it.
 fn played(
     alloc: Global,
     settings: Settings,
@@ -180,26 +180,33 @@ fn played(
 ) -> Result<Script, ScriptError>
     ensures { Gives spec.play_of result (spec.played settings (items_view resources.now) (items_view types.now) (items_view funcs.now) (items_view imports.now) (items_view items.now)) }
 {
-    let (types, posts) = funcs_of_json(alloc, resources, types, funcs)?;
-    played_over(alloc, settings, types, posts, imports, items)
+    let declared = declarations_of_json(alloc, resources, types, funcs, imports)?;
+    played_over(alloc, settings, declared, items)
 }
 
-/// The imports and the items over these types and functions.
+/// The items over what was declared.
 fn played_over(
     alloc: Global,
     settings: Settings,
-    types: ComponentTypes,
-    posts: Vec<bool>,
-    imports: &[Value],
+    declared: Declarations,
     items: &[Value],
 ) -> Result<Script, ScriptError>
-    ensures { Gives spec.play_of result (spec.played_over settings (items_view imports.now) (items_view items.now) (funcs_so_far types posts.items)) }
+    ensures { Gives spec.play_of result (spec.played_over settings (items_view items.now) (declared_view declared)) }
 {
-    let imports = each(alloc, &Imports { types: &types }, imports)?;
-    let items = each(alloc, &Items { types: &types }, items)?;
+    let reader = Items {
+        types: &declared.types,
+        funcs: declared.posts.len(),
+    };
+    let items = each(alloc, &reader, items)?;
     if !fits(settings.memory, &items) {
         return Err(ScriptError::BadScript);
     }
+    Ok(script_with(settings, declared, items))
+}
+
+fn script_with(settings: Settings, declared: Declarations, items: Vec<Item>) -> Script
+    ensures { spec.play_of result ≡ spec.play_with settings (declared_view declared) (map spec.item_view items.items) }
+{
     let Settings {
         memory,
         heap,
@@ -208,7 +215,13 @@ fn played_over(
         turns,
         encoding,
     } = settings;
-    Ok(Script {
+    let Declarations {
+        types,
+        posts,
+        imports,
+    } = declared;
+    let Imports { imports, answers } = imports;
+    Script {
         memory,
         heap,
         fuel,
@@ -218,6 +231,7 @@ fn played_over(
         types,
         posts,
         imports,
+        answers,
         items,
-    })
+    }
 }

@@ -163,6 +163,13 @@ pub fn with_resources(
     fill_row(alloc, values, list)
 }
 
+/// Copies of a script's values.
+pub fn copies_of(alloc: Global, values: &[Val]) -> Result<Vec<Val>, OutOfMemory>
+    ensures { IfOk result (λ vs. literals_view vs.items ≡ literals_view values.now) }
+{
+    with_resources(alloc, values, &[])
+}
+
 /// The resource of a number in a list; where there is none, what stood for it.
 fn listed(list: &[ResourceAny], x: &ResourceAny) -> ResourceAny
     ensures { result ≡ listed list.now x.now }

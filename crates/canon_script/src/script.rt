@@ -75,11 +75,14 @@ pub struct Script {
     pub turns: u64,
     /// How texts are spelled in memory.
     pub encoding: StringEncoding,
-    /// The resources, the types and the functions, in the order of the script.
+    /// The resources, the types, the functions and the function types of the host's functions, each in the order of the script.
     pub types: ComponentTypes,
     /// For each function whether it has a post-return function.
     pub posts: Vec<bool>,
-    /// What the guest may ask for, by its number: calls on the handles of the resource types.
+    /// What the guest may ask for, by its number: functions of the host, all under the first options, and calls on the handles of
+    /// the resource types.
     pub imports: Vec<Import>,
+    /// The answers of each import, in order: the results of a function of the host, or none where it refuses.
+    pub answers: Vec<Vec<Option<Vec<Val>>>>,
     pub items: Vec<Item>,
 }

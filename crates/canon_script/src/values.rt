@@ -428,3 +428,20 @@ impl Reader for Values {
         value_of(alloc, v)
     }
 }
+
+/// Reads values in which no resource stands.
+pub(crate) struct PlainValues;
+
+impl Reader for PlainValues {
+    type Item = Val;
+
+    ghost Seen = { Literal };
+
+    ghost seen = { literal_view };
+
+    ghost reads = { λ _. spec.plain_value_of };
+
+    fn read(&self, alloc: Global, v: &Value) -> Result<Val, ScriptError> {
+        value_of_json(alloc, v)
+    }
+}

@@ -1,9 +1,9 @@
 //! Values, actions and scripts, as they are read and as they are refused.
 
-use canon_indices::{StringEncoding, TypeFuncIndex, TypeResourceTableIndex};
+use canon_indices::{OptionsIndex, StringEncoding, TypeFuncIndex, TypeResourceTableIndex};
 use canon_json::{ScriptError, items_of};
 use canon_memory::ValRaw;
-use canon_script::{Item, Script, actions_of_json, script_of_json, value_of_json};
+use canon_script::{Item, Script, actions_of_json, copies_of, script_of_json, value_of_json};
 use canon_scripted::{Action, Ordered};
 use canon_value::Import;
 use serde_json::Value;
@@ -199,6 +199,7 @@ fn what_is_missing_has_its_default(rt: HostRuntime) -> Result<(), Fail> {
             && script.encoding == StringEncoding::Utf8
             && script.posts.is_empty()
             && script.imports.is_empty()
+            && script.answers.is_empty()
             && script.items.is_empty()
     );
     Ok(())
@@ -218,6 +219,49 @@ fn imports_and_turns_are_read(rt: HostRuntime) -> Result<(), Fail> {
     ];
     assert!(rt; script.turns == 1_000_000);
     assert!(rt; script.imports.as_slice() == imports.as_slice());
+    Ok(())
+}
+
+/// A function of the host, of the function type of this number.
+fn host(ty: u32) -> Import {
+    Import::Host {
+        ty: TypeFuncIndex::from_u32(ty),
+        options: OptionsIndex::from_u32(0),
+    }
+}
+
+#[test]
+fn functions_of_the_host_are_read_with_their_answers(rt: HostRuntime) -> Result<(), Fail> {
+    let text =
+        r#"{"types":[{"list":"u8"}],"resources":[{"kind":"guest","id":4}],"funcs":[{"params":[],"results":["u32"],"async":true}],
+"imports":[{"params":[0,"string"],"results":["u32","u8"],"answers":[[{"u32":7},{"u8":1}],"refuse",[{"bool":true},{"string":"a"}]]},
+{"builtin":"drop","resource":0},{"answers":[[]],"params":[],"results":[]}]}"#;
+    let script = script(rt.alloc(), text)?.expect(&rt, "a script");
+    let handle = Import::ResourceDrop(TypeResourceTableIndex::from_u32(0));
+    assert!(rt; script.imports.as_slice() == [host(1), handle, host(2)].as_slice());
+    let answers = &script.answers;
+    let told = format!(in rt.alloc(); "{answers:?}")?;
+    assert!(rt;
+        told.as_str()
+            == r#"[[Some([U32(7), U8(1)]), None, Some([Bool(true), String("a")])], [], [Some([])]]"#
+    );
+    let last = TypeFuncIndex::from_u32(2);
+    assert!(rt; script.types.contains_func(last) && !script.types.func(last).async_);
+    assert!(rt; script.posts.as_slice() == [false].as_slice());
+    Ok(())
+}
+
+#[test]
+fn copies_are_the_same_values(rt: HostRuntime) -> Result<(), Fail> {
+    let text =
+        r#"{"funcs":[{"params":[],"results":[]}],"items":[{"call":0,"params":[{"record":[["a",{"string":"é"}]]},{"list":[{"option":{"u8":1}}]}],"guest":[]}]}"#;
+    let script = script(rt.alloc(), text)?.expect(&rt, "a script");
+    let [Item::Call(call)] = script.items.as_slice() else {
+        return Err(Fail::new("one call"));
+    };
+    let copies = copies_of(rt.alloc(), &call.params)?;
+    let told = format!(in rt.alloc(); "{copies:?}")?;
+    assert!(rt; told.as_str() == r#"[Record([("a", String("é"))]), List([Option(Some(U8(1)))])]"#);
     Ok(())
 }
 
@@ -262,6 +306,14 @@ const NO_SCRIPTS: &str = r#"[
     {"resources":[{"kind":"guest","id":0}],"imports":[{"builtin":"new"}]},
     {"resources":[{"kind":"guest","id":0}],"imports":[{"builtin":"new","resource":0,"func":0}]},
     {"resources":[{"kind":"guest","id":0}],"imports":[{"host":"new","resource":0}]},
+    {"imports":[{"params":[],"results":[]}]},
+    {"imports":[{"params":[],"results":[],"answers":[],"async":false}]},
+    {"imports":[{"params":["text"],"results":[],"answers":[]}]},
+    {"imports":[{"params":[],"results":["u32"],"answers":[[]]}]},
+    {"imports":[{"params":[],"results":["u32"],"answers":["refused"]}]},
+    {"imports":[{"params":[],"results":["u32"],"answers":[[{"u32":-1}]]}]},
+    {"imports":[{"params":[],"results":["u32"],"answers":[[{"resource":0}]]}]},
+    {"imports":[{"params":[],"results":[],"answers":[]}],"items":[{"call":0,"params":[],"guest":[]}]},
     {"types":[{"own":0}]},
     {"types":[{"flags":[]}]},
     {"types":[{"list":0}]},

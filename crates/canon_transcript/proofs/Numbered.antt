@@ -1,7 +1,7 @@
 -- A printing only adds to the page, and takes a number for each resource.
-use Rattle.std.proofs.Common.{◌≡◌, ◌≤◌, ℕ, List, [], ◌∷◌, ◌++◌, None, Ok, Err, Option, Some, String, ap, ap₂, append-nil, append_assoc, drop, flat_map, length, map, refl, string_bytes, subst, sym, ◌∙◌}
+use Rattle.std.proofs.Common.{◌≡◌, ◌≤◌, ℕ, List, [], ◌∷◌, ◌++◌, None, Ok, Err, Option, Result, Some, String, ap, ap₂, append-nil, append_assoc, drop, flat_map, length, map, refl, string_bytes, subst, sym, ◌∙◌}
 use Rattle.std.proofs.Math.ListN.{drop_of_length-le}
-use Rattle.std.specs.Prelude.{codes}
+use Rattle.std.specs.Prelude.{OnOk, codes}
 use Rattle.std.specs.declared.alloc.Global.{Global}
 use Rattle.canon_resources.specs.Held.{Any}
 use Rattle.canon_value.specs.Resources.{all_resources, resources, resources_step}
@@ -12,7 +12,7 @@ use Rattle.canon_value.specs.declared.val.Val.TheShapes.{former-Val-Map-0-at-2, 
 use Rattle.canon_transcript.specs.declared.transcript.Answer.{Answer}
 use Rattle.canon_transcript.specs.declared.transcript.Answer.TheVariants as answer
 use Rattle.canon_transcript.specs.declared.transcript.Record.{Record}
-use Rattle.canon_transcript.specs.Text.{Page, Printing, after, answer_printing, answer_text, between, each_after, end, error_text, events_text, following, given, head_text, joined, labelled, layer_printing, live_text, name_text, next_number, number_after, page, paired, record_printing, record_text, records_text, resource_printing, resource_text, transcript_text, value_printing, values_printing, write}
+use Rattle.canon_transcript.specs.Text.{Page, Printing, acts_text, after, answer_printing, answer_text, between, each_after, end, error_text, following, given, head_text, joined, labelled, layer_printing, live_text, name_text, next_number, number_after, page, paired, record_printing, record_text, records_text, resource_printing, resource_text, transcript_text, value_printing, value_text, values_printing, values_text, write}
 
 -- ---- numbers
 
@@ -168,13 +168,27 @@ abbrev pub records_printing : List Record → Printing
 records_printing [] p = p
 records_printing (r ∷ rs) p = records_printing rs (record_printing r p)
 
+regrouped_value : (t v vs : List ℕ) → (t ++ codes " " ++ v) ++ vs ≡ t ++ (codes " " ++ v ++ vs)
+regrouped_value t v vs = simp append_assoc
+
 regrouped : (t h e a l : List ℕ) → t ++ h ++ e ++ a ++ l ≡ t ++ (h ++ e ++ a ++ l)
 regrouped t h e a l = simp append_assoc
 
+-- values whose resources have no numbers
+pub values_added : (vs : List Val) (text : List ℕ) → (values_printing vs (page text None)).text ≡ text ++ values_text vs
+values_added [] text = sym (append-nil text)
+values_added (v ∷ vs) text =
+    ap (λ p. (values_printing vs p).text) ((adds_value v).on (page (text ++ codes " ") None))
+    ∙ (values_added vs (text ++ codes " " ++ value_text v) ∙ regrouped_value text (value_text v) (values_text vs))
+
+pub unnumbered : {T E : Type 0} (r : Result T E) (old new : List ℕ) (n : Option ℕ) (vs : List Val) → OnOk r (page new n ≡ values_printing vs (page old None)) → OnOk r (new ≡ old ++ values_text vs)
+unnumbered (Ok x) old new n vs h = ap (λ p. p.text) h ∙ values_added vs old
+unnumbered (Err e) old new n vs h = tt
+
 record_adds : (r : Record) (text : List ℕ) (n : ℕ) → record_printing r (page text (Some n)) ≡ page (text ++ record_text n r) (Some (number_after n (given r.answer)))
 record_adds r text n =
-    ap (write (live_text r.live)) ((adds_answer r.answer).on (page (text ++ head_text r.head ++ events_text [] r.events) (Some n)))
-    ∙ ap (λ t. page t (Some (number_after n (given r.answer)))) (regrouped text (head_text r.head) (events_text [] r.events) (answer_text n r.answer) (live_text r.live))
+    ap (write (live_text r.live)) ((adds_answer r.answer).on (page (text ++ head_text r.head ++ acts_text r) (Some n)))
+    ∙ ap (λ t. page t (Some (number_after n (given r.answer)))) (regrouped text (head_text r.head) (acts_text r) (answer_text n r.answer) (live_text r.live))
 
 records_add : (rs : List Record) (text : List ℕ) (n : ℕ) → (records_printing rs (page text (Some n))).text ≡ text ++ records_text n rs
 records_add [] text n = sym (append-nil text)

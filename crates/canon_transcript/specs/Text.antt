@@ -1,5 +1,5 @@
 -- The text of a transcript.
-use Rattle.std.specs.Prelude.{ℕ, ◌+◌, ◌-◌, ◌^◌, ◌==◌, ◌&&◌, ◌||◌, nat_le, not, if◌then◌else◌, Bool, Box, Err, None, Ok, Option, Some, true, false, List, [], ◌∷◌, ◌++◌, codes, drop, flat_map, length, map, min, replicate, string_bytes, take, String}
+use Rattle.std.specs.Prelude.{Vec, ℕ, ◌+◌, ◌-◌, ◌^◌, ◌==◌, ◌&&◌, ◌||◌, nat_le, not, if◌then◌else◌, Bool, Box, Err, None, Ok, Option, Some, true, false, List, [], ◌∷◌, ◌++◌, codes, drop, flat_map, length, map, min, replicate, string_bytes, take, String}
 use Rattle.std.specs.Fmt.{decimal, digits, signed_decimal}
 use Rattle.std.specs.List.{join_with_byte}
 use Rattle.std.specs.Str.{chars}
@@ -193,6 +193,13 @@ row_printing opening values closing = between opening (joined (map value_printin
 abbrev pub values_printing : List Val → Printing
 values_printing values = each_after (codes " ") (map value_printing values)
 
+-- each value after a space, and its resources without numbers
+abbrev pub value_item : Val → List ℕ
+value_item v = codes " " ++ value_text v
+
+abbrev pub values_text : List Val → List ℕ
+values_text values = flat_map value_item values
+
 -- ---- errors
 
 abbrev pub at_text : At → List ℕ
@@ -250,6 +257,7 @@ error_text error.WrongWords = codes "WrongWords"
 error_text (error.UnknownImport index) = codes "UnknownImport " ++ decimal index
 error_text error.TurnsExhausted = codes "TurnsExhausted"
 error_text (error.ImportFault index f) = codes "ImportFault " ++ decimal index ++ codes " " ++ fault_text f
+error_text (error.HostRefused index) = codes "HostRefused " ++ decimal index
 
 -- ---- events
 
@@ -285,10 +293,63 @@ event_text bs (event.Post func words) = codes "post" ++ words_text words
 event_text bs (event.Dtor func rep) = codes "dtor " ++ decimal func ++ codes " " ++ decimal rep ++ end
 event_text bs (event.Trap asked len) = codes "trap" ++ end
 
--- the lines of events, where those before them left these blocks
-abbrev pub events_text : List Block → List Event → List ℕ
-events_text bs [] = []
-events_text bs (e ∷ es) = event_text bs e ++ events_text (blocks_after bs e) es
+-- ---- served asks
+
+-- An ask that a function of the host served: the number of the import, the parameters and the results.
+abbrev pub Served : Type 0
+Served = ℕ × Vec Val Global × Vec Val Global
+
+abbrev pub served_text : Served → List ℕ
+served_text s = codes "served " ++ decimal s.0 ++ values_text s.1.items ++ codes " ->" ++ values_text s.2.items ++ end
+
+-- the import that was asked for last
+abbrev pub asked_after : Option ℕ → Event → Option ℕ
+asked_after asked (event.Realloc old old_size align new_size answer) = asked
+asked_after asked (event.Start func words memory) = asked
+asked_after asked (event.Ask index words memory) = Some index
+asked_after asked (event.Resume words memory) = asked
+asked_after asked (event.Return words memory) = asked
+asked_after asked (event.Post func words) = asked
+asked_after asked (event.Dtor func rep) = asked
+asked_after asked (event.Trap asked_for len) = asked
+
+abbrev pub is_resume : Event → Bool
+is_resume (event.Realloc old old_size align new_size answer) = false
+is_resume (event.Start func words memory) = false
+is_resume (event.Ask index words memory) = false
+is_resume (event.Resume words memory) = true
+is_resume (event.Return words memory) = false
+is_resume (event.Post func words) = false
+is_resume (event.Dtor func rep) = false
+is_resume (event.Trap asked len) = false
+
+-- a served ask is of the import that was asked for
+abbrev pub is_of : Option ℕ → Served → Bool
+is_of None s = false
+is_of (Some index) s = s.0 == index
+
+-- Of the served asks that are left the first is the one that a resume ends, where it is of the import that was asked for last. An ask for a
+-- call on handles is none of them.
+abbrev pub first_text : Option ℕ → List Served → List ℕ
+first_text asked [] = []
+first_text asked (s ∷ served) = if is_of asked s then served_text s else []
+
+abbrev pub others : Option ℕ → List Served → List Served
+others asked [] = []
+others asked (s ∷ served) = if is_of asked s then served else s ∷ served
+
+-- what stands before an event, and the served asks that are left after it
+abbrev pub text_before : Option ℕ → List Served → Event → List ℕ
+text_before asked served e = if is_resume e then first_text asked served else []
+
+abbrev pub left_after : Option ℕ → List Served → Event → List Served
+left_after asked served e = if is_resume e then others asked served else served
+
+-- The lines of events, where those before them left these blocks, the last ask before them was for this import, and these served asks are
+-- left.
+abbrev pub events_text : List Block → Option ℕ → List Served → List Event → List ℕ
+events_text bs asked served [] = []
+events_text bs asked served (e ∷ es) = text_before asked served e ++ event_text bs e ++ events_text (blocks_after bs e) (asked_after asked e) (left_after asked served e) es
 
 -- ---- records
 
@@ -309,12 +370,16 @@ answer_text first a = (answer_printing a (page [] (Some first))).text
 abbrev pub live_text : ℕ → List ℕ
 live_text live = codes "live " ++ decimal live ++ end
 
+-- the lines of what the guest did, with the asks that were served
+abbrev pub acts_text : Record → List ℕ
+acts_text r = events_text [] None r.served.items r.events
+
 abbrev pub record_printing : Record → Printing
-record_printing r = after (head_text r.head) (between (events_text [] r.events) (answer_printing r.answer) (live_text r.live))
+record_printing r = after (head_text r.head) (between (acts_text r) (answer_printing r.answer) (live_text r.live))
 
 -- the text of a record whose first resource has this number
 abbrev pub record_text : ℕ → Record → List ℕ
-record_text first r = head_text r.head ++ events_text [] r.events ++ answer_text first r.answer ++ live_text r.live
+record_text first r = head_text r.head ++ acts_text r ++ answer_text first r.answer ++ live_text r.live
 
 -- the resources that an answer gave, depth first
 abbrev pub given : Answer → List Any

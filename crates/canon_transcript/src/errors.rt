@@ -31,6 +31,7 @@ pub(crate) fn print_error(text: &mut String, error: Error) -> Result<(), AllocEr
             write!(text, "ImportFault {index} ")?;
             print_fault(text, fault)
         }
+        Error::HostRefused(index) => write!(text, "HostRefused {index}"),
     }
 }
 

@@ -1,9 +1,11 @@
-ghost use Rattle.std.specs.Prelude.{[], ◌≡◌, ◌<◌, ◌++◌, IfOk, IfSome, OnOk, drop, length, string_bytes, take};
+ghost use Rattle.std.specs.Prelude.{[], None, ◌≡◌, ◌<◌, ◌++◌, IfOk, IfSome, OnOk, drop, length, string_bytes, take};
 ghost use Rattle.std.specs.List.{slice_get};
 ghost use Rattle.canon_transcript.specs.Blocks.{blocks_left};
 ghost use Rattle.canon_transcript.specs.Text as spec;
 
+use crate::Served;
 use crate::blocks::{Block, blocks_left, follow};
+use crate::values::print_unnumbered;
 use canon_indices::OutOfMemory;
 use canon_memory::{Event, Events, Words};
 use std::alloc::{AllocError, Global};
@@ -21,19 +23,91 @@ pub fn event_text(alloc: Global, e: &Events, k: u64) -> Result<String, OutOfMemo
     Ok(text)
 }
 
+/// Prints the lines of events, and before a resume that of the ask that a function of the host served.
 pub(crate) fn print_events(
     alloc: Global,
     text: &mut String,
     events: &[Event],
+    served: &[Served],
 ) -> Result<(), AllocError>
-    ensures { OnOk result (string_bytes text.new ≡ string_bytes text.old ++ spec.events_text [] events.now) }
+    ensures { OnOk result (string_bytes text.new ≡ string_bytes text.old ++ spec.events_text [] None served.now events.now) }
 {
     let mut blocks = Vec::new(alloc);
+    let mut asked = None;
+    let mut left = served;
     for event in events {
+        left = print_before(text, asked, left, event)?;
         print_event(alloc, text, &blocks, event)?;
         follow(&mut blocks, event)?;
+        asked = asked_after(asked, event);
     }
     Ok(())
+}
+
+/// Prints the served ask that an event ends, if it ends one, and tells those that are left.
+fn print_before<'a>(
+    text: &mut String,
+    asked: Option<u32>,
+    served: &'a [Served],
+    event: &Event,
+) -> Result<&'a [Served], AllocError>
+    ensures printed { OnOk result (string_bytes text.new ≡ string_bytes text.old ++ spec.text_before asked served.now event.now) }
+    ensures rest { IfOk result (λ rest. rest.now ≡ spec.left_after asked served.now event.now) }
+{
+    if !is_resume(event) {
+        return Ok(served);
+    }
+    let Some((first, others)) = served.split_first() else {
+        return Ok(served);
+    };
+    if asked != Some(first.0) {
+        return Ok(served);
+    }
+    print_served(text, first)?;
+    Ok(others)
+}
+
+fn is_resume(event: &Event) -> bool
+    ensures { result ≡ spec.is_resume event.now }
+{
+    match event {
+        Event::Resume { .. } => true,
+        Event::Start { .. }
+        | Event::Ask { .. }
+        | Event::Return { .. }
+        | Event::Realloc { .. }
+        | Event::Post { .. }
+        | Event::Dtor { .. }
+        | Event::Trap { .. } => false,
+    }
+}
+
+/// The import that was asked for last.
+fn asked_after(asked: Option<u32>, event: &Event) -> Option<u32>
+    ensures { result ≡ spec.asked_after asked event.now }
+{
+    match event {
+        Event::Ask { index, .. } => Some(*index),
+        Event::Start { .. }
+        | Event::Resume { .. }
+        | Event::Return { .. }
+        | Event::Realloc { .. }
+        | Event::Post { .. }
+        | Event::Dtor { .. }
+        | Event::Trap { .. } => asked,
+    }
+}
+
+/// Prints an ask that a function of the host served.
+fn print_served(text: &mut String, served: &Served) -> Result<(), AllocError>
+    ensures { OnOk result (string_bytes text.new ≡ string_bytes text.old ++ spec.served_text served.now) }
+{
+    let index = served.0;
+    write!(text, "served {index}")?;
+    print_unnumbered(text, &served.1)?;
+    text.push_str(" ->")?;
+    print_unnumbered(text, &served.2)?;
+    text.push_str("\n")
 }
 
 fn print_event(

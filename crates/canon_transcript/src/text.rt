@@ -48,7 +48,7 @@ fn print_record(
     ensures { OnOk result (spec.page (string_bytes text.new) next.new ≡ spec.record_printing item.now (spec.page (string_bytes text.old) next.old)) }
 {
     print_head(text, item.head)?;
-    print_events(alloc, text, item.events.as_slice())?;
+    print_events(alloc, text, item.events.as_slice(), &item.served)?;
     print_answer(text, next, &item.answer)?;
     let live = item.live;
     writeln!(text, "live {live}")

@@ -25,12 +25,17 @@ pub enum Answer {
     Skipped,
 }
 
+/// An ask that a function of the host served: the number of the import, the parameters and the results.
+pub type Served = (u32, Vec<Val>, Vec<Val>);
+
 /// What an item did.
 #[derive(Debug, Drop)]
 pub struct Record {
     pub head: Head,
     /// What the guest was told and did, in order.
     pub events: Events,
+    /// The asks that functions of the host served, in order.
+    pub served: Vec<Served>,
     pub answer: Answer,
     /// How many handles live after the item.
     pub live: u64,

@@ -30,6 +30,13 @@ pub(crate) fn print_values(
     Ok(())
 }
 
+/// Prints each value after a space. The resources among them have no numbers.
+pub(crate) fn print_unnumbered(text: &mut String, values: &[Val]) -> Result<(), AllocError>
+    ensures { OnOk result (string_bytes text.new ≡ string_bytes text.old ++ spec.values_text values.now) }
+{
+    print_values(text, &mut None, values)
+}
+
 #[cycle(print)]
 fn print_value(text: &mut String, next: &mut Option<u64>, value: &Val) -> Result<(), AllocError>
     ensures { OnOk result (spec.page (string_bytes text.new) next.new ≡ spec.value_printing value.now (spec.page (string_bytes text.old) next.old)) }

@@ -5,7 +5,7 @@ use canon_ledger::{HostResourceIndex, ResourceFault};
 use canon_memory::{Bytes, Event, Events, ValRaw, Words};
 use canon_resources::ResourceAny;
 use canon_transcript::{
-    Answer, Head, Record, Transcript, answer_text, error_text, event_text, head_text,
+    Answer, Head, Record, Served, Transcript, answer_text, error_text, event_text, head_text,
     transcript_text, value_text,
 };
 use canon_types::ResourceType;
@@ -100,6 +100,7 @@ fn an_error_prints_its_name_and_what_it_carries(rt: HostRuntime) -> Result<(), F
             },
             "ImportFault 2 UnknownHandle 1",
         ),
+        (Error::HostRefused(4), "HostRefused 4"),
         (
             Error::Fault(Fault::StringTooLong(2147483648)),
             "StringTooLong 2147483648",
@@ -213,12 +214,14 @@ fn records_follow_one_another(rt: HostRuntime) -> Result<(), Fail> {
     transcript.push(Record {
         head: Head::Call(0),
         events: Events::new(rt.alloc()),
+        served: Vec::new(rt.alloc()),
         answer: Answer::Ok(zeros(rt.alloc())?),
         live: 3,
     })?;
     transcript.push(Record {
         head: Head::Call(1),
         events: Events::new(rt.alloc()),
+        served: Vec::new(rt.alloc()),
         answer: Answer::Err(Error::Fault(Fault::InvalidChar(At::Word(0)))),
         live: 0,
     })?;
@@ -243,9 +246,91 @@ fn record_of(alloc: Global, head: Head, answer: Answer) -> Record {
     Record {
         head,
         events: Events::new(alloc),
+        served: Vec::new(alloc),
         answer,
         live: 3,
     }
+}
+
+/// These lines, one after the other.
+fn joined(alloc: Global, lines: &[&str]) -> Result<String, Fail> {
+    let mut text = String::new(alloc);
+    for line in lines {
+        text.push_str(line)?;
+    }
+    Ok(text)
+}
+
+fn ask(alloc: Global, index: u32) -> Result<Event, Fail> {
+    Ok(Event::Ask {
+        index,
+        words: words(alloc, 5)?,
+        memory: Bytes::new(alloc),
+    })
+}
+
+fn resume(alloc: Global) -> Event {
+    Event::Resume {
+        words: Words::new(alloc),
+        memory: Bytes::new(alloc),
+    }
+}
+
+/// An ask for a function of the host, one for a call on handles, one more for the function, and one that isn't resumed.
+fn asks(alloc: Global) -> Result<Events, Fail> {
+    let mut events = Events::new(alloc);
+    events.push(ask(alloc, 3)?)?;
+    events.push(realloc(0, 0, 2, 8))?;
+    events.push(resume(alloc))?;
+    events.push(ask(alloc, 0)?)?;
+    events.push(resume(alloc))?;
+    events.push(ask(alloc, 3)?)?;
+    events.push(resume(alloc))?;
+    events.push(ask(alloc, 3)?)?;
+    Ok(events)
+}
+
+/// What the function of the host was given and gave.
+fn served(alloc: Global) -> Result<Vec<Served>, Fail> {
+    let mut given = Vec::new(alloc);
+    given.push(nested(alloc)?)?;
+    let mut gave = Vec::new(alloc);
+    gave.push(resource())?;
+    let mut served = Vec::new(alloc);
+    served.push((3, given, gave))?;
+    served.push((3, Vec::new(alloc), zeros(alloc)?))?;
+    Ok(served)
+}
+
+const SERVED_LINES: [&str; 12] = [
+    "call 0\n",
+    "ask 3 5\n",
+    "realloc 0 0 1 2 = 8\n",
+    "served 3 (#,map[#=#],7) -> #\n",
+    "resume\n",
+    "ask 0 5\n",
+    "resume\n",
+    "ask 3 5\n",
+    "served 3 -> 0 0\n",
+    "resume\n",
+    "ask 3 5\n",
+    "error HostRefused 3\nlive 0\n",
+];
+
+#[test]
+fn served_asks_stand_before_their_resumes(rt: HostRuntime) -> Result<(), Fail> {
+    let mut transcript = Transcript::new(rt.alloc());
+    transcript.push(Record {
+        head: Head::Call(0),
+        events: asks(rt.alloc())?,
+        served: served(rt.alloc())?,
+        answer: Answer::Err(Error::HostRefused(3)),
+        live: 0,
+    })?;
+    let printed = transcript_text(rt.alloc(), &transcript)?;
+    let expected = joined(rt.alloc(), &SERVED_LINES)?;
+    assert!(rt; printed.as_str() == expected.as_str());
+    Ok(())
 }
 
 /// A new resource, as an answer.
@@ -301,10 +386,7 @@ const NUMBERED_LINES: [&str; 6] = [
 fn resources_are_numbered_through_a_transcript(rt: HostRuntime) -> Result<(), Fail> {
     let transcript = with_resources(rt.alloc())?;
     let printed = transcript_text(rt.alloc(), &transcript)?;
-    let mut expected = String::new(rt.alloc());
-    for lines in NUMBERED_LINES {
-        expected.push_str(lines)?;
-    }
+    let expected = joined(rt.alloc(), &NUMBERED_LINES)?;
     assert!(rt; printed.as_str() == expected.as_str());
     Ok(())
 }
