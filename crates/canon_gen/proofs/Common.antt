@@ -11,7 +11,7 @@ use Rattle.canon_gen.specs.Made.{common, common_text}
 
 -- its memory, and how many functions it has
 told : Play → ℕ × ℕ
-told p = (p.memory, length p.types.funcs)
+told p = (p.memory, length p.posts)
 
 common_told : option_map told common ≡ Some (16777216, 1)
 unfolding common told serde_json_on_literals cases_align size all_shapes shapes_after
@@ -49,6 +49,6 @@ module _ (p : Play) (e : common ≡ Some p) where
   unfolding told
   common_memory = ap (λ (t : ℕ × ℕ). t.0) (tells common p (16777216, 1) common_told e)
 
-  pub common_funcs : length p.types.funcs ≡ 1
+  pub common_posts : length p.posts ≡ 1
   unfolding told
-  common_funcs = ap (λ (t : ℕ × ℕ). t.1) (tells common p (16777216, 1) common_told e)
+  common_posts = ap (λ (t : ℕ × ℕ). t.1) (tells common p (16777216, 1) common_told e)

@@ -1,5 +1,5 @@
 -- A session of one call leaves one record.
-use Rattle.std.proofs.Common.{◌≡◌, ℕ, List, [], ◌∷◌, None, Option, Some, option_map, refl, subst, sym}
+use Rattle.std.proofs.Common.{◌≡◌, ℕ, List, [], ◌∷◌, None, Option, Some, ap, arith, get_or, length, option_map, refl, subst, sym}
 use Rattle.canon_value.specs.declared.val.Val.{Val}
 use Rattle.canon_script.specs.Literals.{literal_view}
 use Rattle.canon_script.specs.Script.{Play}
@@ -8,6 +8,11 @@ use Rattle.canon_transcript.specs.declared.transcript.Record.{Record}
 use Rattle.canon_gen.specs.Lines.{Generated, gen_text}
 use Rattle.canon_gen.specs.Made.{common, script_made, with_call}
 use Rattle.canon_gen.specs.Records.{list_drawn}
+
+pub only_one : {X : Type 0} (xs : List X) (x : X) → length xs ≡ 1 → x ≡ get_or xs 0 x → xs ≡ x ∷ []
+only_one [] x n e = absurd (omega (arith, n))
+only_one (y ∷ []) x n e = ap (λ z. z ∷ []) (sym e)
+only_one (y ∷ z ∷ xs) x n e = absurd (omega (arith, n))
 
 one_with_call : (n : ℕ) (p : Play) (records : List Record) → Session (with_call n p) records → (r : Record) × (records ≡ r ∷ [])
 one_with_call n p [] h = absurd h

@@ -1,9 +1,9 @@
 -- With its call the common script stays one.
-use Rattle.std.proofs.Common.{◌≡◌, ◌≤◌, ◌*◌, ℕ, List, [], ◌∷◌, Some, arith, subst, sym}
+use Rattle.std.proofs.Common.{◌≡◌, ◌≤◌, ◌*◌, ℕ, List, [], ◌∷◌, Some, arith, length, subst, sym}
 use Rattle.std.proofs.lemmas.List.Elements.{All-cons, All-nil}
 use Rattle.canon_indices.specs.declared.options.StringEncoding.{StringEncoding}
 use Rattle.canon_script.specs.Script.{IsWellFormed, ItemStands, Play, ScriptItem, call_item, final_memory, max_memory, max_work, times_entered}
-use Rattle.canon_gen.proofs.Common.{common_funcs, common_memory}
+use Rattle.canon_gen.proofs.Common.{common_memory, common_posts}
 use Rattle.canon_gen.specs.Made.{call_made, common, encoding_made, with_call}
 
 module _ (n : ℕ) (p : Play) (e : common ≡ Some p) where
@@ -16,9 +16,10 @@ module _ (n : ℕ) (p : Play) (e : common ≡ Some p) where
     memory_fits = subst (λ m. final_memory m items ≤ max_memory) (sym (common_memory p e)) (omega arith);
     work_fits = subst (λ m. final_memory m items * 2 * times_entered items ≤ max_work) (sym (common_memory p e)) (omega arith);
     posts_told = h.posts_told;
-    funcs_few = h.funcs_few;
+    posts_few = h.posts_few;
     imports_stand = h.imports_stand;
-    items_stand = All-cons (ItemStands p.types) (call_item (call_made n)) [] (omega (arith, common_funcs p e), tt) (All-nil (ItemStands p.types));
+    answers_stand = h.answers_stand;
+    items_stand = All-cons (ItemStands (length p.posts)) (call_item (call_made n)) [] (omega (arith, common_posts p e), tt) (All-nil (ItemStands (length p.posts)));
   }
 
   -- as the parts are kept

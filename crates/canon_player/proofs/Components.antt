@@ -1,19 +1,22 @@
 -- The component of a script, from how it was built.
 use Rattle.std.proofs.Common.{◌≡◌, ◌∙◌, ◌+◌, ◌<◌, ◌≤◌, ℕ, Bool, List, [], ◌∷◌, ◌++◌, Some, ap, append-nil, arith, drop, length, refl, subst, suc, sym, zero, ⊎_elim}
-use Rattle.std.specs.Prelude.{All, slice_get, slice_index_or, unwrap_or}
+use Rattle.std.specs.Prelude.{All, IfSome, false, slice_get, slice_index_or, unwrap_or}
 use Rattle.std.proofs.Math.ListN.{drop_of_length-le}
 use Rattle.std.proofs.lemmas.Option.{get_or_from_slice_get, slice_get_cases, slice_get_within}
 use Rattle.canon_indices.specs.declared.options.CanonicalOptions.{CanonicalOptions}
 use Rattle.canon_indices.specs.declared.options.StringEncoding.{StringEncoding}
 use Rattle.canon_types.specs.Instance.{Instance}
-use Rattle.canon_types.specs.Table.{HasResource, Table}
-use Rattle.canon_context.specs.Component.{IsComponent, IsImport, IsInside, resource_of}
+use Rattle.canon_types.specs.Table.{HasFunc, HasResource, Table}
+use Rattle.canon_context.specs.Component.{IsComponent, IsHostImport, IsImport, IsInside}
 use Rattle.canon_context.specs.declared.component.Component.{Component}
 use Rattle.canon_context.specs.declared.component.Export.{Export}
 use Rattle.canon_context.specs.declared.component.Import.{Import}
+use Rattle.canon_context.specs.declared.component.Import.TheVariants as import
+use Rattle.canon_script.specs.Imports.{ImportStands}
 use Rattle.canon_script.specs.Script.{Play}
 use Rattle.canon_player.specs.Session.{played_callee}
-use Rattle.canon_player.specs.Stores.{IsScripted, callee_at, export_for, exports_from, options_for, options_from}
+use Rattle.canon_player.specs.Options.{host_options, options_for, options_from, script_options}
+use Rattle.canon_player.specs.Stores.{IsScripted, callee_at, export_for, exports_from}
 
 -- ---- the lists
 
@@ -40,8 +43,8 @@ module _ (i : ℕ) (posts : List Bool) (past : length posts ≤ i) where
   none_left : drop i posts ≡ []
   none_left = drop_of_length-le posts past
 
-  pub all_options : (t : Table) (encoding : StringEncoding) (os : List CanonicalOptions) → os ++ options_from t encoding i (drop i posts) ≡ options_from t encoding 0 posts → os ≡ options_from t encoding 0 posts
-  all_options t encoding os h = sym (append-nil os) ∙ (ap (λ (ps : List Bool). os ++ options_from t encoding i ps) (sym none_left) ∙ h)
+  pub all_options : (t : Table) (encoding : StringEncoding) (os all : List CanonicalOptions) → os ++ options_from t encoding i (drop i posts) ≡ all → os ≡ all
+  all_options t encoding os all h = sym (append-nil os) ∙ (ap (λ (ps : List Bool). os ++ options_from t encoding i ps) (sym none_left) ∙ h)
 
   pub all_exports : (es : List Export) → es ++ exports_from i (drop i posts) ≡ exports_from 0 posts → es ≡ exports_from 0 posts
   all_exports es h = sym (append-nil es) ∙ (ap (λ (ps : List Bool). es ++ exports_from i ps) (sym none_left) ∙ h)
@@ -59,28 +62,48 @@ module _ (t : Table) (encoding : StringEncoding) (posts : List Bool) (imports : 
   pub export_count : length c.exports.items ≡ length posts
   export_count = ap length h.exports ∙ exports_len 0 posts
 
-  exports_sound : length posts ≡ length t.funcs → All (IsInside c) c.exports.items
+  -- the options of an export are one further than it
+  export_options : (i : ℕ) (p : Bool) → slice_get posts i ≡ Some p → slice_get c.options.items (i + 1) ≡ Some (options_for t encoding i p)
+  export_options i p h2 =
+      let (e, e2) : (i + 1 ≡ suc i) × (0 + i ≡ i) = (omega arith, omega arith) in
+      ap (slice_get c.options.items) e ∙ (ap (λ os. slice_get os (suc i)) h.options ∙ (options_at t encoding 0 posts i p h2 ∙ ap (λ n. Some (options_for t encoding n p)) e2))
+
+  host_sound : (type options : ℕ) → HasFunc t type → IfSome (slice_get t.funcs type) (λ f. f.async_ ≡ false) → options ≡ 0 → IsHostImport c type options
+  host_sound type under known sync first =
+      let types : c.types.types ≡ t = ap (λ (u : Instance). u.types) h.types in
+      let found : slice_get c.options.items under ≡ Some (host_options encoding) = ap (slice_get c.options.items) first ∙ ap (λ os. slice_get os 0) h.options in
+      record {
+        func = subst (λ u. HasFunc u type) (sym types) known;
+        sync = subst (λ (u : Table). IfSome (slice_get u.funcs type) (λ f. f.async_ ≡ false)) (sym types) sync;
+        options = slice_get_within c.options.items under (host_options encoding) found;
+        sync_options = subst (λ o. IfSome o (λ (x : CanonicalOptions). x.async_ ≡ false)) (sym found) refl;
+      }
+
+  import_sound : (i : Import) → ImportStands t i → IsImport c i
+  import_sound (import.Host type options) k = host_sound type options k.0 k.1 k.2
+  import_sound (import.ResourceNew r) k = subst (λ (u : Instance). HasResource u.types r) (sym h.types) k
+  import_sound (import.ResourceRep r) k = subst (λ (u : Instance). HasResource u.types r) (sym h.types) k
+  import_sound (import.ResourceDrop r) k = subst (λ (u : Instance). HasResource u.types r) (sym h.types) k
+
+  exports_sound : length posts ≤ length t.funcs → All (IsInside c) c.exports.items
   exports_sound told k d lt =
       let inside : k < length posts = omega (arith, lt, export_count) in
       let e : slice_index_or c.exports.items k d ≡ export_for k = get_or_from_slice_get c.exports.items k (export_for k) d (export_at k inside) in
-      let count : length c.options.items ≡ length posts = ap length h.options ∙ options_len t encoding 0 posts in
+      let count : length c.options.items ≡ suc (length posts) = ap length h.options ∙ ap suc (options_len t encoding 0 posts) in
       let funcs : length c.types.types.funcs ≡ length t.funcs = ap (λ (u : Instance). length u.types.funcs) h.types in
       subst (IsInside c) (sym e) (record { func = omega (arith, inside, told, funcs); options = omega (arith, inside, count) })
 
-  pub scripted_sound : length posts ≡ length t.funcs → All (λ i. HasResource t (resource_of i)) imports → IsComponent c
-  scripted_sound told known = (
-    exports_sound told,
-    subst (λ is. All (IsImport c) is) (sym h.imports) (subst (λ u. All (λ i. HasResource u (resource_of i)) imports) (sym (ap (λ (u : Instance). u.types) h.types)) known),
-  )
+  pub scripted_sound : length posts ≤ length t.funcs → All (ImportStands t) imports → IsComponent c
+  scripted_sound told known = (exports_sound told, subst (λ is. All (IsImport c) is) (sym h.imports) (λ k d lt. import_sound _ (known k d lt)))
 
 -- an export of the component is the function of the script
-pub scripted_callee : (play : Play) (c : Component) → IsScripted play.types play.encoding play.posts play.imports c → length play.posts ≡ length play.types.funcs
-    → (i : ℕ) → i < length play.types.funcs → callee_at c i ≡ played_callee play i
-scripted_callee play c h told i lt =
-    let inside : i < length play.posts = omega (arith, lt, told) in
-    let e : 0 + i ≡ i = omega arith in
-    let (f, func) = found play.types.funcs i lt in
+pub scripted_callee : (play : Play) (c : Component) → IsScripted play.types play.encoding play.posts play.imports c → length play.posts ≤ length play.types.funcs
+    → (i : ℕ) → i < length play.posts → callee_at c i ≡ played_callee play i
+scripted_callee play c h told i inside =
+    let there : i < length play.types.funcs = omega (arith, inside, told) in
+    let (f, func) = found play.types.funcs i there in
     let (p, post) = found play.posts i inside in
     let export = export_at play.types play.encoding play.posts play.imports c h i inside in
-    let options : slice_get c.options.items i ≡ Some (options_for play.types play.encoding i p) = ap (λ os. slice_get os i) h.options ∙ (options_at play.types play.encoding 0 play.posts i p post ∙ ap (λ n. Some (options_for play.types play.encoding n p)) e) in
-    simp (export, h.types, h.imports, options, func, post)
+    let options : slice_get (script_options play.types play.encoding play.posts) (i + 1) ≡ Some (options_for play.types play.encoding i p) =
+    ap (λ os. slice_get os (i + 1)) (sym h.options) ∙ export_options play.types play.encoding play.posts play.imports c h i p post in
+    simp (export, h.types, h.imports, h.options, options, func, post)

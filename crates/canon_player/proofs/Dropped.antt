@@ -13,6 +13,8 @@ use Rattle.canon_context.specs.declared.fault.Fault.TheVariants as fault
 use Rattle.canon_func.specs.Drop.{DropAnswers, IsDrop, LeavesMemory, destructor_at, destructor_events, drop_refusal}
 use Rattle.canon_func.specs.declared.error.Error.{Error}
 use Rattle.canon_func.specs.declared.error.Error.TheVariants as error
+use Rattle.canon_imports.specs.Imports.{entries_of}
+use Rattle.canon_imports.specs.declared.imports.ScriptedImports.{ScriptedImports}
 use Rattle.canon_transcript.specs.declared.transcript.Answer.{Answer}
 use Rattle.canon_transcript.specs.declared.transcript.Answer.TheVariants as answer
 use Rattle.canon_transcript.specs.declared.transcript.Record.{Record}
@@ -56,7 +58,7 @@ Dropping i before left dropped = IsDrop journaled Moving LeavesSame i before lef
 -- The store is `s` before the guest is loaded, and `left` as the drop leaves it.
 module _ (x : Any) (dtor_trap : Bool) (r : Record) (s left : ScriptStore) (dropped : Result (Unit {0}) Error)
     (empty : s.core.guest.events ≡ []) (events : r.events ≡ left.core.guest.events) (out : outcome r.answer ≡ dropped) (vals : OnOk dropped (answer_values r.answer ≡ []))
-    (short : IsOther dropped) (played : r.answer ≢ answer.Skipped) where
+    (short : IsOther dropped) (played : r.answer ≢ answer.Skipped) (served : r.served.items ≡ []) (kept : left.imports ≡ s.imports) where
   abbrev Drops : GivenIndex → Type 0
   Drops i = Dropping i (readied dtor_trap s) left dropped
 
@@ -79,6 +81,9 @@ module _ (x : Any) (dtor_trap : Bool) (r : Record) (s left : ScriptStore) (dropp
         left = left.core.guest.guest.plan;
         does = subst (λ (xs : List Event). CarriesOut (drop_plan dtor_trap s.core.guest.guest.plan.allocator) (length s.core.memory) xs [] left.core.guest.guest.plan (length left.core.memory)) (sym all)
             (subst (λ (ms : List Mark). CarriesOut (drop_plan dtor_trap s.core.guest.guest.plan.allocator) (length s.core.memory) es ms left.core.guest.guest.plan (length left.core.memory)) none moved.does);
+        served_none = served;
+        log = ap (λ (m : ScriptedImports). entries_of m.lines.items) kept;
+        refusals = ap (λ (m : ScriptedImports). m.refusals) kept;
         allocator = refl;
         marks = h.destructor.goes.marks ∙ append-nil s.core.guest.guest.marks;
         traps = subst (λ (xs : List Event). left.core.guest.guest.traps ≡ traps_after s.core.guest.guest.traps xs) (sym all) moved.traps;
@@ -86,23 +91,23 @@ module _ (x : Any) (dtor_trap : Bool) (r : Record) (s left : ScriptStore) (dropp
 
   dropped_at : (i : GivenIndex) (o : Option Error) → IfSome o (λ e. (dropped ≡ Err e) × (left ≡ readied dtor_trap s)) → IfNone o (Drops i) → DroppedAt i dtor_trap (state_of s) (state_of left) r o
   dropped_at i None refused drops = was_removed i drops
-  dropped_at i (Some e) refused drops = (answers_error r.answer e (out ∙ refused.0), none_kept refused.1, ap state_of refused.1)
+  dropped_at i (Some e) refused drops = (answers_error r.answer e (out ∙ refused.0), (none_kept refused.1, served), ap state_of refused.1)
 
   dropped_by : (o : Option GivenIndex) → IfNone o ((dropped ≡ Ok tt) × (left ≡ readied dtor_trap s)) → IfSome o (λ i. IfSome (drop_refusal s.core.ledger s.trapped i) (λ e. (dropped ≡ Err e) × (left ≡ readied dtor_trap s)))
       → IfSome o (λ i. IfNone (drop_refusal s.core.ledger s.trapped i) (Drops i)) → DroppedBy o dtor_trap (state_of s) (state_of left) r
-  dropped_by None none refused drops = ((played, out ∙ none.0, no_vals r.answer dropped out vals), none_kept none.1, ap state_of none.1)
+  dropped_by None none refused drops = ((played, out ∙ none.0, no_vals r.answer dropped out vals), (none_kept none.1, served), ap state_of none.1)
   dropped_by (Some i) none refused drops = dropped_at i (drop_refusal s.core.ledger s.trapped i) refused drops
 
 -- the store is `before` when the resource is dropped, and `final` once the journal is taken
 module _ (x : Any) (dtor_trap : Bool) (r : Record) (s before left final : ScriptStore) (dropped : Result (Unit {0}) Error) where
   pub drop_is : s.core.guest.events ≡ [] → before ≡ readied dtor_trap s → state_of final ≡ state_of left → r.events ≡ left.core.guest.events → outcome r.answer ≡ dropped → OnOk dropped (answer_values r.answer ≡ [])
-      → IsOther dropped → r.answer ≢ answer.Skipped → IfNone (host_index x.handle) ((dropped ≡ Ok tt) × (left ≡ before))
+      → IsOther dropped → r.answer ≢ answer.Skipped → r.served.items ≡ [] → left.imports ≡ before.imports → IfNone (host_index x.handle) ((dropped ≡ Ok tt) × (left ≡ before))
       → IfSome (host_index x.handle) (λ i. IfSome (drop_refusal before.core.ledger before.trapped i) (λ e. (dropped ≡ Err e) × (left ≡ before)))
       → IfSome (host_index x.handle) (λ i. IfNone (drop_refusal before.core.ledger before.trapped i) (Dropping i before left dropped))
       → WasDropped (Some x) dtor_trap (state_of s) (state_of final) r
-  drop_is empty is end events out vals short played none refused drops =
+  drop_is empty is end events out vals short played served kept none refused drops =
       subst (λ (k : State). DroppedBy (host_index x.handle) dtor_trap (state_of s) k r) (sym end)
-      (dropped_by x dtor_trap r s left dropped empty events out vals short played (host_index x.handle)
+      (dropped_by x dtor_trap r s left dropped empty events out vals short played served (kept ∙ ap (λ (k : ScriptStore). k.imports) is) (host_index x.handle)
       (subst (λ (k : ScriptStore). IfNone (host_index x.handle) ((dropped ≡ Ok tt) × (left ≡ k))) is none)
       (subst (λ (k : ScriptStore). IfSome (host_index x.handle) (λ i. IfSome (drop_refusal k.core.ledger k.trapped i) (λ e. (dropped ≡ Err e) × (left ≡ k)))) is refused)
       (subst (λ (k : ScriptStore). IfSome (host_index x.handle) (λ i. IfNone (drop_refusal k.core.ledger k.trapped i) (Dropping i k left dropped))) is drops))

@@ -1,4 +1,5 @@
 pub mod Components
 pub mod Dropped
+pub mod Logged
 pub mod Played
 pub mod Playing

@@ -1,3 +1,4 @@
+pub mod Options
 pub mod Session
 pub mod Steps
 pub mod Stores

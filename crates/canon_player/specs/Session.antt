@@ -1,5 +1,5 @@
 -- What a script, played, leaves: one record for each item, in order, and the store between them.
-use Rattle.std.specs.Prelude.{Bool, Err, List, None, Ok, Option, Result, Some, [], false, if◌then◌else◌, is_err, length, map, nat_lt, not, replicate, slice_get, true, ℕ, ⊤, ◌++◌, ◌∷◌, ◌≡◌, ◌≢◌, ◌||◌}
+use Rattle.std.specs.Prelude.{Bool, Err, List, None, Ok, Option, Result, Some, [], false, is_err, length, map, nat_lt, not, replicate, slice_get, true, ℕ, ⊤, ◌++◌, ◌∷◌, ◌≡◌, ◌≢◌, ◌||◌}
 use Rattle.canon_model.specs.Shape.{no_members}
 use Rattle.canon_indices.specs.Options.{encoding_of}
 use Rattle.canon_types.specs.Instance.{Instance}
@@ -20,38 +20,49 @@ use Rattle.canon_context.specs.declared.fault.Fault.TheVariants as fault
 use Rattle.canon_value.specs.Resources.{all_resources}
 use Rattle.canon_value.specs.declared.val.Val.{Val}
 use Rattle.canon_value.specs.declared.val.Val.TheVariants as val
+use Rattle.canon_host.specs.HostSide.{Entry, HostSide}
 use Rattle.canon_func.specs.Asks.{Limits, allowed}
 use Rattle.canon_func.specs.Call.{IsCall, refusal}
 use Rattle.canon_func.specs.Drop.{IsCutOff, IsDropped, destructor_at, destructor_events, drop_refusal}
 use Rattle.canon_func.specs.Stores.{Callee}
 use Rattle.canon_func.specs.declared.error.Error.{Error}
 use Rattle.canon_func.specs.declared.error.Error.TheVariants as error
-use Rattle.canon_script.specs.Literals.{all_known, held_among, listed, literals_view, replaced}
+use Rattle.canon_script.specs.Imports.{HostAnswer}
+use Rattle.canon_script.specs.Literals.{Literal, all_known, held_among, listed, literals_view, replaced}
 use Rattle.canon_script.specs.Script.{Play, ScriptCall, ScriptItem, call_item, drop_item, new_item}
 use Rattle.canon_script.specs.declared.script.NewItem.{NewItem}
+use Rattle.canon_imports.specs.Imports.{GivesAnswers}
+use Rattle.canon_transcript.specs.Text.{Served}
 use Rattle.canon_transcript.specs.declared.transcript.Answer.{Answer}
 use Rattle.canon_transcript.specs.declared.transcript.Answer.TheVariants as answer
 use Rattle.canon_transcript.specs.declared.transcript.Head.{Head}
 use Rattle.canon_transcript.specs.declared.transcript.Head.TheVariants as head
 use Rattle.canon_transcript.specs.declared.transcript.Record.{Record}
+use Rattle.canon_player.specs.Options.{post_of, script_options}
 
 -- ---- the functions of a script
-
--- the core function that runs after a call of function i, where there is one: it has the same number
-abbrev pub post_of : ℕ → Option Bool → Option ℕ
-post_of i None = None
-post_of i (Some has_post) = if has_post then Some i else None
 
 -- its types, in the store of this number
 abbrev pub script_types : Play → Instance
 script_types play = record { types = play.types; store = 0 }
 
 abbrev pub callee_with : Play → ℕ → Option TypeFunc → Callee
-callee_with play i None = record { func = i; types = script_types play; imports = play.imports; params = no_members; results = no_members; encoding = encoding_of play.encoding; post = None; async_ = false }
+callee_with play i None = record {
+  func = i;
+  types = script_types play;
+  imports = play.imports;
+  options = script_options play.types play.encoding play.posts;
+  params = no_members;
+  results = no_members;
+  encoding = encoding_of play.encoding;
+  post = None;
+  async_ = false;
+}
 callee_with play i (Some f) = record {
   func = i;
   types = script_types play;
   imports = play.imports;
+  options = script_options play.types play.encoding play.posts;
   params = param_members play.types f;
   results = result_members play.types f;
   encoding = encoding_of play.encoding;
@@ -65,24 +76,28 @@ played_callee play i = callee_with play i (slice_get play.types.funcs i)
 
 -- ---- the store between two items
 
--- Whether it is trapped, its memory, the ledger of its handles, and of its guest the allocator, a mark for each answer of `realloc`
--- so far, and how often it trapped and answered want of memory. Want of memory alone is caused by the last count, and leaves no
--- record.
+-- Whether it is trapped, its memory, the ledger of its handles, the asks that functions of the host served so far and how many they
+-- refused for no fault, and of its guest the allocator, a mark for each answer of `realloc` so far, and how often it trapped and answered
+-- want of memory. Want of memory alone is caused by the last count, and leaves no record.
 pub record State : Type 0 where
   pub trapped : Bool
   pub memory : List ℕ
   pub ledger : LedgerState
+  pub log : List Entry
+  pub refusals : ℕ
   pub allocator : Allocator
   pub marks : List Mark
   pub traps : ℕ
   pub shortages : ℕ
 
--- at first memory is zeros, no handle lives, of which there may be `handles`, and the allocator begins at `heap`
+-- at first memory is zeros, no handle lives, of which there may be `handles`, no ask was served, and the allocator begins at `heap`
 abbrev pub at_first : Play → State
 at_first play = record {
   trapped = false;
   memory = replicate play.memory 0;
   ledger = new_ledger 256 play.handles 0;
+  log = [];
+  refusals = 0;
   allocator = record { top = play.heap; live = [] };
   marks = [];
   traps = 0;
@@ -92,6 +107,10 @@ at_first play = record {
 -- as a call sees it that has added these events
 abbrev pub moment_of : State → List Event → Moment
 moment_of s events = moment (record { journal = Some events; marks = s.marks; live = s.allocator.live; traps = s.traps; shortages = s.shortages }) s.memory
+
+-- what it has beside its guest: its functions of the host share no data
+abbrev pub host_of : State → HostSide (Unit {0})
+host_of s = record { state = tt; ledger = s.ledger; log = Some s.log; refusals = s.refusals }
 
 -- what the guest is to do in a call, and in a drop
 abbrev pub plan_of : ScriptCall → Allocator → Plan
@@ -113,13 +132,32 @@ answer_values (answer.Ok results) = results.items
 answer_values (answer.Err e) = []
 answer_values answer.Skipped = []
 
+-- the guest did nothing, and no function of the host served an ask
+abbrev pub IsSilent : Record → Type 0
+IsSilent r = (r.events ≡ []) × (r.served.items ≡ [])
+
 -- nothing was done and nothing changed, and this was answered
 abbrev pub Idle : State → State → Record → Answer → Type 0
-Idle before after r a = (r.answer ≡ a) × (r.events ≡ []) × (after ≡ before)
+Idle before after r a = (r.answer ≡ a) × IsSilent r × (after ≡ before)
 
 -- it answered Ok with these values
 abbrev pub AnswersOk : Answer → List Val → Type 0
 AnswersOk a vs = (a ≢ answer.Skipped) × (outcome a ≡ Ok tt) × (answer_values a ≡ vs)
+
+-- ---- served asks
+
+-- an ask that was served, apart from how its values are kept: of the log, and of a record
+abbrev pub entry_view : Entry → ℕ × List Literal × List Literal
+entry_view e = (e.index, literals_view e.params, literals_view e.results)
+
+abbrev pub served_view : Served → ℕ × List Literal × List Literal
+served_view s = (s.0, literals_view s.1.items, literals_view s.2.items)
+
+-- the log grew by some asks, and the record tells these, in order
+pub record Logs (before after : List Entry) (served : List Served) : Type 0 where
+  pub entries : List Entry
+  pub grown : after ≡ before ++ entries
+  pub told : map served_view served ≡ map entry_view entries
 
 -- ---- a call
 
@@ -130,11 +168,13 @@ LeavesSame memory after = after ≡ memory
 -- The guest was entered, and acted by its plan in its memory, from the length before to the length after; its traps are counted;
 -- the asks and the results were within these limits; the store is trapped where the call was refused. After an answer that is Ok, memory is
 -- that of the return; after a refusal nothing reads its bytes, since every later call is refused. The memory that the run has
--- sufficed. The parameters are those of the script, with the resources of the list in the place of their numbers.
-pub record WasCalled (callee : Callee) (limits : Limits) (call : ScriptCall) (list : List Any) (before after : State) (r : Record) : Type 0 where
+-- sufficed. The parameters are those of the script, with the resources of the list in the place of their numbers. Functions of the host
+-- give these answers, by the asks that they served so far, and the record tells those that they served in this call.
+pub record WasCalled (callee : Callee) (limits : Limits) (answers : List (List HostAnswer)) (call : ScriptCall) (list : List Any) (before after : State) (r : Record) : Type 0 where
   pub params : List Val
   pub params_are : literals_view params ≡ map (replaced (listed list)) call.params
-  pub called : IsCall LeavesSame callee limits params (moment_of before []) (moment_of after r.events) before.ledger after.ledger (outcome r.answer) (answer_values r.answer) r.events
+  pub called : IsCall LeavesSame (GivesAnswers answers) callee limits params (moment_of before []) (moment_of after r.events) (host_of before) (host_of after) (outcome r.answer) (answer_values r.answer) r.events
+  pub served : Logs before.log after.log r.served.items
   pub left : Plan
   pub new_marks : List Mark
   pub does : CarriesOut (plan_of call before.allocator) (length before.memory) r.events new_marks left (length after.memory)
@@ -146,9 +186,9 @@ pub record WasCalled (callee : Callee) (limits : Limits) (call : ScriptCall) (li
   pub played : r.answer ≢ answer.Skipped
 
 -- It was refused before the guest was entered, which leaves everything as it was; else it was called.
-abbrev pub Called : Callee → Limits → ScriptCall → List Any → State → State → Record → Option Error → Type 0
-Called callee limits call list before after r (Some e) = Idle before after r (answer.Err e)
-Called callee limits call list before after r None = WasCalled callee limits call list before after r
+abbrev pub Called : Callee → Limits → List (List HostAnswer) → ScriptCall → List Any → State → State → Record → Option Error → Type 0
+Called callee limits answers call list before after r (Some e) = Idle before after r (answer.Err e)
+Called callee limits answers call list before after r None = WasCalled callee limits answers call list before after r
 
 -- ---- a new resource
 
@@ -164,12 +204,12 @@ Inserted ty (Err e) a = a ≡ answer.Err (error.Fault (fault.Resource e))
 -- An own handle was put into the host's table; or the ledger refused it.
 pub record WasInserted (n : NewItem) (step : Done GivenIndex) (before after : State) (r : Record) : Type 0 where
   pub answered : Inserted n.ty step.answer r.answer
-  pub events : r.events ≡ []
+  pub silent : IsSilent r
   pub leaves : after ≡ record before { ledger = step.after }
 
 -- a borrow has no handle
 abbrev pub WasMade : Bool → NewItem → State → State → Record → Type 0
-WasMade true n before after r = AnswersOk r.answer (dynamic (Synthetic n.rep) n.ty ∷ []) × (r.events ≡ []) × (after ≡ before)
+WasMade true n before after r = AnswersOk r.answer (dynamic (Synthetic n.rep) n.ty ∷ []) × IsSilent r × (after ≡ before)
 WasMade false n before after r = WasInserted n (given before.ledger (host_resource_lower_own before.ledger n.rep None None)) before after r
 
 -- ---- a drop
@@ -190,6 +230,9 @@ pub record WasRemoved (x : GivenIndex) (dtor_trap : Bool) (before after : State)
   pub ran : r.events ≡ destructor_events (destructor_at before.ledger x) before.memory (outcome r.answer)
   pub left : Plan
   pub does : CarriesOut (drop_plan dtor_trap before.allocator) (length before.memory) r.events [] left (length after.memory)
+  pub served_none : r.served.items ≡ []
+  pub log : after.log ≡ before.log
+  pub refusals : after.refusals ≡ before.refusals
   pub allocator : after.allocator ≡ left.allocator
   pub marks : after.marks ≡ before.marks
   pub traps : after.traps ≡ traps_after before.traps r.events
@@ -201,7 +244,7 @@ DroppedAt x dtor_trap before after r None = WasRemoved x dtor_trap before after 
 
 -- a borrow that the host made has no handle, and nothing is done
 abbrev pub DroppedBy : Option GivenIndex → Bool → State → State → Record → Type 0
-DroppedBy None dtor_trap before after r = AnswersOk r.answer [] × (r.events ≡ []) × (after ≡ before)
+DroppedBy None dtor_trap before after r = AnswersOk r.answer [] × IsSilent r × (after ≡ before)
 DroppedBy (Some x) dtor_trap before after r = DroppedAt x dtor_trap before after r (drop_refusal before.ledger before.trapped x)
 
 -- of a resource of the list
@@ -222,33 +265,34 @@ skips (call_item c) list before = not (all_known (length list) (held_among c.par
 skips (new_item n) list before = before.trapped
 skips (drop_item d) list before = before.trapped || not (nat_lt d.resource (length list))
 
-abbrev pub WasPlayed : (ℕ → Callee) → Limits → ScriptItem → List Any → State → State → Record → Type 0
-WasPlayed callees limits (call_item c) list before after r =
-    Called (callees c.func) limits c list before after r (refusal (callees c.func) (length c.params) c.slots before.trapped)
-WasPlayed callees limits (new_item n) list before after r = WasMade n.borrow n before after r
-WasPlayed callees limits (drop_item d) list before after r = WasDropped (slice_get list d.resource) d.dtor_trap before after r
+abbrev pub WasPlayed : (ℕ → Callee) → Limits → List (List HostAnswer) → ScriptItem → List Any → State → State → Record → Type 0
+WasPlayed callees limits answers (call_item c) list before after r =
+    Called (callees c.func) limits answers c list before after r (refusal (callees c.func) (length c.params) c.slots before.trapped)
+WasPlayed callees limits answers (new_item n) list before after r = WasMade n.borrow n before after r
+WasPlayed callees limits answers (drop_item d) list before after r = WasDropped (slice_get list d.resource) d.dtor_trap before after r
 
-abbrev pub Happened : Bool → (ℕ → Callee) → Limits → ScriptItem → List Any → State → State → Record → Type 0
-Happened true callees limits i list before after r = Idle before after r answer.Skipped
-Happened false callees limits i list before after r = WasPlayed callees limits i list before after r
+abbrev pub Happened : Bool → (ℕ → Callee) → Limits → List (List HostAnswer) → ScriptItem → List Any → State → State → Record → Type 0
+Happened true callees limits answers i list before after r = Idle before after r answer.Skipped
+Happened false callees limits answers i list before after r = WasPlayed callees limits answers i list before after r
 
 -- The record of an item, with the list of resources before it and the store before and after it: with how many handles live after it.
-pub record IsPlayed (callees : ℕ → Callee) (limits : Limits) (i : ScriptItem) (list : List Any) (before after : State) (r : Record) : Type 0 where
+pub record IsPlayed (callees : ℕ → Callee) (limits : Limits) (answers : List (List HostAnswer)) (i : ScriptItem) (list : List Any) (before after : State) (r : Record) : Type 0 where
   pub head : r.head ≡ head_of i
-  pub happened : Happened (skips i list before) callees limits i list before after r
+  pub happened : Happened (skips i list before) callees limits answers i list before after r
   pub live : r.live ≡ after.ledger.handles.counter.live
 
 -- ---- all items
 
--- One record for each item, in order, from one state of the store on; each call of one of these callees has these limits anew. The list
--- of resources grows by those of each answer, depth first.
-abbrev pub Plays : (ℕ → Callee) → Limits → List ScriptItem → List Any → State → List Record → Type 0
-Plays callees limits [] list before [] = ⊤
-Plays callees limits (i ∷ is) list before (r ∷ records) =
-    (after : State) × IsPlayed callees limits i list before after r × Plays callees limits is (list ++ all_resources (answer_values r.answer)) after records
-Plays callees limits [] list before (r ∷ records) = ⊥
-Plays callees limits (i ∷ is) list before [] = ⊥
+-- One record for each item, in order, from one state of the store on; each call of one of these callees has these limits anew, and the
+-- functions of the host give these answers in all of them. The list of resources grows by those of each answer, depth first; one
+-- among the values of a served ask isn't added.
+abbrev pub Plays : (ℕ → Callee) → Limits → List (List HostAnswer) → List ScriptItem → List Any → State → List Record → Type 0
+Plays callees limits answers [] list before [] = ⊤
+Plays callees limits answers (i ∷ is) list before (r ∷ records) =
+    (after : State) × IsPlayed callees limits answers i list before after r × Plays callees limits answers is (list ++ all_resources (answer_values r.answer)) after records
+Plays callees limits answers [] list before (r ∷ records) = ⊥
+Plays callees limits answers (i ∷ is) list before [] = ⊥
 
 -- what a script's session leaves in the transcript
 abbrev pub Session : Play → List Record → Type 0
-Session play records = Plays (played_callee play) (allowed play.fuel play.turns) play.items [] (at_first play) records
+Session play records = Plays (played_callee play) (allowed play.fuel play.turns) play.answers play.items [] (at_first play) records

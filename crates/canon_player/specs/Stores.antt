@@ -1,10 +1,8 @@
 -- The store of a script, and how it is kept.
-use Rattle.std.specs.Prelude.{Bool, List, None, Option, Some, [], length, replicate, slice_get, false, ℕ, ◌+◌, ◌<◌, ◌∷◌, ◌≡◌}
+use Rattle.std.specs.Prelude.{Bool, List, [], length, replicate, slice_get, false, ℕ, ◌+◌, ◌<◌, ◌∷◌, ◌≡◌}
 use Rattle.canon_memory.specs.Guest.{Recorded}
-use Rattle.canon_indices.specs.declared.options.CanonicalOptions.{CanonicalOptions}
 use Rattle.canon_indices.specs.declared.options.StringEncoding.{StringEncoding}
 use Rattle.canon_types.specs.Table.{Table}
-use Rattle.canon_types.specs.declared.types.TypeFunc.{TypeFunc}
 use Rattle.canon_scripted.specs.Orders.{AreNarrow}
 use Rattle.canon_scripted.specs.Scripted.{Doing, Plan}
 use Rattle.canon_context.specs.declared.component.Component.{Component}
@@ -13,36 +11,29 @@ use Rattle.canon_context.specs.declared.component.Import.{Import}
 use Rattle.canon_func.specs.Asks.{Limits, allowed}
 use Rattle.canon_func.specs.Stores.{Callee, StoreView, callee_in}
 use Rattle.canon_ledger.specs.Ledger.{new_ledger}
+use Rattle.canon_script.specs.Imports.{HostAnswer, answers_view}
 use Rattle.canon_script.specs.Script.{ScriptCall, ScriptItem, call_item, drop_item, new_item}
-use Rattle.canon_player.specs.Session.{State, post_of}
+use Rattle.canon_imports.specs.Imports.{entries_of}
+use Rattle.canon_imports.specs.declared.imports.ScriptedImports.{ScriptedImports}
+use Rattle.canon_player.specs.Options.{script_options}
+use Rattle.canon_player.specs.Session.{State}
 
 -- ---- its component
 
--- whether a function is async
-abbrev pub is_async : Option TypeFunc → Bool
-is_async None = false
-is_async (Some f) = f.async_
-
--- the options and the export of function i, which has a post-return function or not
-abbrev pub options_for : Table → StringEncoding → ℕ → Bool → CanonicalOptions
-options_for t encoding i has_post = record { instance = 0; string_encoding = encoding; async_ = is_async (slice_get t.funcs i); post_return = post_of i (Some has_post) }
-
+-- the export of function i, whose options are one further
 abbrev pub export_for : ℕ → Export
-export_for i = record { ty = i; func = i; options = i }
+export_for i = record { ty = i; func = i; options = i + 1 }
 
 -- of the functions from number i on
-abbrev pub options_from : Table → StringEncoding → ℕ → List Bool → List CanonicalOptions
-options_from t encoding i [] = []
-options_from t encoding i (has_post ∷ posts) = options_for t encoding i has_post ∷ options_from t encoding (i + 1) posts
-
 abbrev pub exports_from : ℕ → List Bool → List Export
 exports_from i [] = []
 exports_from i (has_post ∷ posts) = export_for i ∷ exports_from (i + 1) posts
 
--- one export for each function of the table, each with its own options, and the imports
+-- One export for each of the first functions of the table, and the imports. The first options are those of the functions of the host, and
+-- after them stand those of each export.
 pub record IsScripted (t : Table) (encoding : StringEncoding) (posts : List Bool) (given : List Import) (component : Component) : Type 0 where
   pub types : component.types ≡ record { types = t; store = 0 }
-  pub options : component.options.items ≡ options_from t encoding 0 posts
+  pub options : component.options.items ≡ script_options t encoding posts
   pub exports : component.exports.items ≡ exports_from 0 posts
   pub imports : component.imports.items ≡ given
 
@@ -63,11 +54,11 @@ IsPlayable component (drop_item d) = Unit {0}
 -- ---- its state
 
 abbrev pub ScriptStore : Type 0
-ScriptStore = StoreView (Unit {0}) (Recorded Doing)
+ScriptStore = StoreView (Unit {0}) (Recorded Doing) ScriptedImports
 
--- nothing was done
-abbrev pub fresh_store : ℕ → ℕ → ℕ → ℕ → ℕ → Component → ScriptStore
-fresh_store memory heap fuel turns handles component = record {
+-- nothing was done, with these functions of the host
+abbrev pub fresh_store : ℕ → ℕ → ℕ → ℕ → ℕ → Component → ScriptedImports → ScriptStore
+fresh_store memory heap fuel turns handles component imports = record {
   core = record {
     id = 0;
     state = tt;
@@ -86,6 +77,7 @@ fresh_store memory heap fuel turns handles component = record {
     ledger = new_ledger 256 handles 0;
     fuel = fuel;
   };
+  imports = imports;
   turns = turns;
   trapped = false;
 }
@@ -94,11 +86,17 @@ fresh_store memory heap fuel turns handles component = record {
 abbrev pub limits_of : ScriptStore → Limits
 limits_of s = allowed s.core.fuel s.turns
 
+-- what its functions of the host answer
+abbrev pub answers_of : ScriptStore → List (List HostAnswer)
+answers_of s = answers_view s.imports.answers.items
+
 abbrev pub state_of : ScriptStore → State
 state_of s = record {
   trapped = s.trapped;
   memory = s.core.memory;
   ledger = s.core.ledger;
+  log = entries_of s.imports.lines.items;
+  refusals = s.imports.refusals;
   allocator = s.core.guest.guest.plan.allocator;
   marks = s.core.guest.guest.marks;
   traps = s.core.guest.guest.traps;

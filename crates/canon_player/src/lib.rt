@@ -3,5 +3,6 @@
 
 mod component;
 mod player;
+mod served;
 
 pub use player::play;

@@ -1,12 +1,14 @@
 ghost use Rattle.std.specs.Prelude.{◌≡◌, ◌≢◌, ◌++◌, [], All, Err, IfOk, OnErr, OnOk, Some, length, map};
 ghost use Rattle.canon_value.specs.Resources.{all_resources};
 ghost use Rattle.canon_script.specs.Script.{IsWellFormed, call_item, call_item_view, drop_item, item_view, new_item, play_of};
-ghost use Rattle.canon_player.specs.Session.{IsPlayed, Plays, Session, WasDropped, answer_values, outcome};
-ghost use Rattle.canon_player.specs.Steps.{MadeAnswer, MakesCall, MakesResource};
-ghost use Rattle.canon_player.specs.Stores.{IsCallable, IsPlayable, callee_at, limits_of, state_of};
+ghost use Rattle.canon_player.specs.Session.{Session, WasDropped, answer_values, outcome};
+ghost use Rattle.canon_player.specs.Steps.{MadeAnswer, MakesCall, MakesResource, PlaysItem, PlaysItems};
+ghost use Rattle.canon_player.specs.Stores.{IsCallable, IsPlayable, answers_of, limits_of, state_of};
 
 use crate::component::{ScriptStore, component_of, store_of};
+use crate::served::served_after;
 use canon_func::{Error, resource_drop};
+use canon_imports::ScriptedImports;
 use canon_ledger::ResourceFault;
 use canon_memory::Events;
 use canon_resources::{ResourceAny, ResourceType};
@@ -35,10 +37,14 @@ pub fn play(alloc: Global, script: Script, transcript: &mut Transcript) -> Resul
         types,
         posts,
         imports,
+        answers,
         items,
     } = script;
     let component = component_of(alloc, types, encoding, &posts, imports)?;
-    let store = store_of(alloc, component, memory, heap, fuel, turns, handles)?;
+    let imports = ScriptedImports::new(alloc, answers);
+    let store = store_of(
+        alloc, component, imports, memory, heap, fuel, turns, handles,
+    )?;
     *transcript = play_items(alloc, store, items)?;
     Ok(())
 }
@@ -51,7 +57,7 @@ fn play_items(
 ) -> Result<Transcript, OutOfMemory>
     requires fresh { store.core.guest.events ≡ [] }
     requires playable { All (IsPlayable store.core.component) (map item_view items.items) }
-    ensures { IfOk result (λ records. Plays (callee_at store.core.component) (limits_of store) (map item_view items.items) [] (state_of store) records) }
+    ensures { IfOk result (λ records. PlaysItems store (map item_view items.items) records) }
 {
     let mut store = store;
     let mut records = Transcript::new(alloc);
@@ -92,10 +98,11 @@ fn play_item(
 ) -> Result<Record, OutOfMemory>
     requires fresh { store.old.core.guest.events ≡ [] }
     requires playable { IsPlayable store.old.core.component (item_view item) }
-    ensures played { IfOk result (IsPlayed (callee_at store.old.core.component) (limits_of store.old) (item_view item) list.now (state_of store.old) (state_of store.new)) }
+    ensures played { IfOk result (PlaysItem store.old (item_view item) list.now store.new) }
     ensures fresh { store.new.core.guest.events ≡ [] }
     ensures same { store.new.core.component ≡ store.old.core.component }
     ensures limits { limits_of store.new ≡ limits_of store.old }
+    ensures answers { answers_of store.new ≡ answers_of store.old }
 {
     match item {
         Item::Call(call) => play_call(alloc, store, list, call),
@@ -109,11 +116,13 @@ fn idle_record(alloc: Global, store: &ScriptStore, head: Head, answer: Answer) -
     ensures head { result.head ≡ head }
     ensures answer { result.answer ≡ answer }
     ensures events { result.events ≡ [] }
+    ensures served { result.served.items ≡ [] }
     ensures live { result.live ≡ store.now.core.ledger.handles.counter.live }
 {
     Record {
         head,
         events: Events::new(alloc),
+        served: Vec::new(alloc),
         answer,
         live: store.live_handles(),
     }
@@ -128,10 +137,11 @@ fn play_call(
 ) -> Result<Record, OutOfMemory>
     requires fresh { store.old.core.guest.events ≡ [] }
     requires playable { IsCallable store.old.core.component (call_item_view call) }
-    ensures played { IfOk result (IsPlayed (callee_at store.old.core.component) (limits_of store.old) (call_item (call_item_view call)) list.now (state_of store.old) (state_of store.new)) }
+    ensures played { IfOk result (PlaysItem store.old (call_item (call_item_view call)) list.now store.new) }
     ensures fresh { store.new.core.guest.events ≡ [] }
     ensures same { store.new.core.component ≡ store.old.core.component }
     ensures limits { limits_of store.new ≡ limits_of store.old }
+    ensures answers { answers_of store.new ≡ answers_of store.old }
 {
     if !are_known(alloc, &call.params, list.len())? {
         let head = Head::Call(call.func);
@@ -149,10 +159,11 @@ fn make_call(
 ) -> Result<Record, OutOfMemory>
     requires fresh { store.old.core.guest.events ≡ [] }
     requires playable { IsCallable store.old.core.component (call_item_view call) }
-    ensures called { IfOk result (MakesCall (callee_at store.old.core.component call.func) (limits_of store.old) (call_item_view call) list.now (state_of store.old) (state_of store.new)) }
+    ensures called { IfOk result (MakesCall store.old (call_item_view call) list.now store.new) }
     ensures fresh { store.new.core.guest.events ≡ [] }
     ensures same { store.new.core.component ≡ store.old.core.component }
     ensures limits { limits_of store.new ≡ limits_of store.old }
+    ensures answers { answers_of store.new ≡ answers_of store.old }
 {
     let CallItem {
         func,
@@ -164,16 +175,19 @@ fn make_call(
     } = call;
     let params = with_resources(alloc, &params, list)?;
     let mut results = slots_of(alloc, slots)?;
+    let asked = store.imports().lines().len();
     let scripted = store.core_mut().guest_mut().guest_mut();
     scripted.load(guest, reallocs, post_trap, false);
     let f = store.func(ExportIndex::from_u32(func)).unwrap();
     let called = f.call(alloc, store, &params, &mut results);
     let live = store.live_handles();
     let events = store.core_mut().guest_mut().take_journal();
+    let served = served_after(alloc, store.imports().lines(), asked)?;
     let answer = answer_of(called, results)?;
     Ok(Record {
         head: Head::Call(func),
         events,
+        served,
         answer,
         live,
     })
@@ -187,10 +201,11 @@ fn play_new(
     item: NewItem,
 ) -> Result<Record, OutOfMemory>
     requires fresh { store.old.core.guest.events ≡ [] }
-    ensures played { IfOk result (IsPlayed (callee_at store.old.core.component) (limits_of store.old) (new_item item) list.now (state_of store.old) (state_of store.new)) }
+    ensures played { IfOk result (PlaysItem store.old (new_item item) list.now store.new) }
     ensures fresh { store.new.core.guest.events ≡ [] }
     ensures same { store.new.core.component ≡ store.old.core.component }
     ensures limits { limits_of store.new ≡ limits_of store.old }
+    ensures answers { answers_of store.new ≡ answers_of store.old }
 {
     if store.is_trapped() {
         return Ok(idle_record(alloc, store, Head::New, Answer::Skipped));
@@ -243,10 +258,11 @@ fn play_drop(
     item: DropItem,
 ) -> Result<Record, OutOfMemory>
     requires fresh { store.old.core.guest.events ≡ [] }
-    ensures played { IfOk result (IsPlayed (callee_at store.old.core.component) (limits_of store.old) (drop_item item) list.now (state_of store.old) (state_of store.new)) }
+    ensures played { IfOk result (PlaysItem store.old (drop_item item) list.now store.new) }
     ensures fresh { store.new.core.guest.events ≡ [] }
     ensures same { store.new.core.component ≡ store.old.core.component }
     ensures limits { limits_of store.new ≡ limits_of store.old }
+    ensures answers { answers_of store.new ≡ answers_of store.old }
 {
     let head = Head::Drop(item.resource);
     if store.is_trapped() {
@@ -272,6 +288,7 @@ fn make_drop(
     ensures fresh { store.new.core.guest.events ≡ [] }
     ensures same { store.new.core.component ≡ store.old.core.component }
     ensures limits { limits_of store.new ≡ limits_of store.old }
+    ensures answers { answers_of store.new ≡ answers_of store.old }
 {
     let scripted = store.core_mut().guest_mut().guest_mut();
     scripted.load(Vec::new(alloc), Vec::new(alloc), false, item.dtor_trap);
@@ -282,6 +299,7 @@ fn make_drop(
     Ok(Record {
         head: Head::Drop(item.resource),
         events,
+        served: Vec::new(alloc),
         answer,
         live,
     })

@@ -1,9 +1,12 @@
-use Rattle.std.proofs.Common.{refl, ap, rules, ◌∙◌, length, map}
+use Rattle.std.proofs.Common.{List, ap, drop, length, map, refl, rules, ◌∙◌}
 use Rattle.canon_func.specs.Call.{refusal}
 use Rattle.canon_func.specs.Stores.{callee_of}
 use Rattle.canon_script.specs.Literals.{listed, literals_view, replaced}
 use Rattle.canon_script.specs.Script.{call_item_view}
-use Rattle.canon_player.specs.Session.{plan_of}
+use Rattle.canon_imports.specs.Imports.{entries_of}
+use Rattle.canon_imports.specs.declared.imports.Line.{Line}
+use Rattle.canon_imports.specs.declared.imports.ScriptedImports.{ScriptedImports}
+use Rattle.canon_player.specs.Session.{entry_view, plan_of}
 use Rattle.canon_player.specs.Stores.{ScriptStore}
 use Rattle.canon_player.proofs.Played.{loaded_is, record_is, taken_is}
 use Rattle.canon_player.proofs.player.make_call.Goals as goal
@@ -12,10 +15,10 @@ pub returns-clause-called : goal.returns-clause-called
 returns-clause-called c =
     let call = call_item_view c.args.call in
     let s : ScriptStore = c.args.store.now in
-    let before : ScriptStore = record { core = record c.core_mut.result.now { guest = record c.guest_mut.result.now { guest = c.load.new.self } }; turns = s.turns; trapped = s.trapped } in
+    let before : ScriptStore = record { core = record c.core_mut.result.now { guest = record c.guest_mut.result.now { guest = c.load.new.self } }; imports = s.imports; turns = s.turns; trapped = s.trapped } in
     let left : ScriptStore = c.call-called.new.store in
-    let final : ScriptStore = record { core = record c.core_mut-2.result.now { guest = c.take_journal-events.new.self }; turns = left.turns; trapped = left.trapped } in
-    record_is call c.args.list.now _ s before left final c.unwrap-f.result c.deref-2.result.now c.call-called.new.results c.in_ok-results.results c.call-called.result c.requires.fresh
+    let final : ScriptStore = record { core = record c.core_mut-2.result.now { guest = c.take_journal-events.new.self }; imports = left.imports; turns = left.turns; trapped = left.trapped } in
+    record_is call c.args.list.now _ s before left final c.unwrap-f.result c.deref-2.result.now c.call-called.new.results c.in_ok-results.results c.call-called.result (length c.lines-asked.result.now) c.requires.fresh
     (loaded_is (plan_of call) s c.core_mut.result.now c.guest_mut.result.now c.guest_mut-scripted.result.now c.load.new.self c.core_mut.ensures.value c.guest_mut.ensures.value c.guest_mut-scripted.ensures.value c.load.ensures)
     (search rules)
     (taken_is left c.core_mut-2.result.now c.guest_mut-2.result.now c.take_journal-events.new.self c.core_mut-2.ensures.value c.guest_mut-2.ensures.value c.take_journal-events.ensures.left)
@@ -24,3 +27,5 @@ returns-clause-called c =
     c.call-called.ensures.unchanged c.call-called.ensures.call c.call-called.ensures.runs c.call-called.ensures.trapped refl c.live_handles-live.ensures
     (c.take_journal-events.ensures.taken ∙ (ap (λ j. j.events) c.guest_mut-2.ensures.value ∙ ap (λ k. k.guest.events) c.core_mut-2.ensures.value))
     c.in_ok-answer.ensures.outcome (c.call-called.auto.results ∙ c.deref_mut.ensures.len) c.in_ok-answer.ensures.values c.in_ok-answer.ensures.memory_left c.in_ok-answer.ensures.played
+    (ap (λ (ls : List Line). length ls) (c.lines-asked.ensures ∙ ap (λ (m : ScriptedImports). m.lines.items) c.imports.ensures))
+    (c.in_ok-served.ensures ∙ ap (λ (ls : List Line). map entry_view (drop (length c.lines-asked.result.now) (entries_of ls))) (c.lines.ensures ∙ ap (λ (m : ScriptedImports). m.lines.items) c.imports-2.ensures))

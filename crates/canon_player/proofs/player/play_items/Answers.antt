@@ -2,8 +2,7 @@ use Rattle.std.proofs.Common.{subst, sym, ◌∙◌}
 use Rattle.std.proofs.lemmas.List.{nil_from_length}
 use Rattle.std.specs.Vec.Iter.{into_iter_items}
 use Rattle.canon_script.specs.Script.{item_view}
-use Rattle.canon_player.specs.Session.{IsPlayed}
-use Rattle.canon_player.specs.Stores.{callee_at, limits_of, state_of}
+use Rattle.canon_player.specs.Steps.{PlaysItem}
 use Rattle.canon_player.proofs.Playing.{playing_playable, playing_first, playing_last, playing_next}
 use Rattle.canon_player.proofs.player.play_items.Goals as goal
 
@@ -21,8 +20,8 @@ loop-item-preserved c = record {
   next = tt;
   ends = tt;
   playing = playing_next c.args.store c.args.items.items c.loop-item.store (into_iter_items c.loop-item.item-iterator) (into_iter_items c.next.new.self) c.in-Some.item c.loop-item.list.items c.loop-item.records c.in-Some.ensures.steps.0 c.loop-item.invariant.playing
-      c.play_item.new.store c.in_ok-record.record c.add_resources.new.list.items c.push.new.self c.play_item.ensures.fresh c.play_item.ensures.same c.play_item.ensures.limits
-      (subst (λ list. IsPlayed (callee_at c.loop-item.store.core.component) (limits_of c.loop-item.store) (item_view c.in-Some.item) list (state_of c.loop-item.store) (state_of c.play_item.new.store) c.in_ok-record.record) c.deref.ensures.value c.in_ok-record.ensures.played)
+      c.play_item.new.store c.in_ok-record.record c.add_resources.new.list.items c.push.new.self c.play_item.ensures.fresh c.play_item.ensures.same c.play_item.ensures.limits c.play_item.ensures.answers
+      (subst (λ list. PlaysItem c.loop-item.store (item_view c.in-Some.item) list c.play_item.new.store c.in_ok-record.record) c.deref.ensures.value c.in_ok-record.ensures.played)
       c.in_ok-add_resources.ensures c.in_ok-push.ensures.ok;
 }
 

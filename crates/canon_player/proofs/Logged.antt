@@ -1,0 +1,101 @@
+-- The log of asks that functions of the host served: it grows in a call, and its record tells by what.
+use Rattle.std.proofs.Common.{Err, List, Ok, Option, Result, Some, [], ap, append-nil, append_assoc, arith, drop, inl, inr, length, map, sym, ℕ, ◌++◌, ◌∙◌, ◌∷◌, ◌≡◌, ◌≤◌}
+use Rattle.std.proofs.lemmas.List.{drop_all, drop_at, length-map, nil_from_length}
+use Rattle.std.specs.Prelude.{unwrap_or}
+use Rattle.canon_context.specs.declared.fault.Fault.TheVariants as fault
+use Rattle.canon_host.specs.HostSide.{Entry, Giving, HostSide, entry}
+use Rattle.canon_host.specs.Imports.{logged}
+use Rattle.canon_imports.specs.Imports.{entries_of, line_entry}
+use Rattle.canon_imports.specs.declared.imports.Line.{Line}
+use Rattle.canon_lowering.specs.Lowering.{Answer, Trap}
+use Rattle.canon_memory.specs.declared.event.Event.{Event}
+use Rattle.canon_memory.specs.declared.event.Event.TheVariants as event
+use Rattle.canon_func.specs.Asks.{AreServed, AskStops, IsServed}
+use Rattle.canon_func.specs.Call.{HandlesPass, StopsStarted}
+use Rattle.canon_func.specs.Runs.{AskTurn, BeginsInAsk}
+use Rattle.canon_func.specs.Stores.{Callee}
+use Rattle.canon_func.specs.declared.error.Error.{Error}
+use Rattle.canon_func.specs.declared.error.Error.TheVariants as error
+use Rattle.canon_value.specs.declared.val.Val.{Val}
+use Rattle.canon_transcript.specs.Text.{Served}
+use Rattle.canon_player.specs.Session.{Logs, entry_view, served_view}
+
+-- ---- one call
+
+-- the log is this one with some asks more
+abbrev Longer : List Entry → Option (List Entry) → Type 0
+Longer log log2 = (more : List Entry) × (log2 ≡ Some (log ++ more))
+
+same : (log : List Entry) (log1 log2 : Option (List Entry)) → log1 ≡ Some log → log2 ≡ log1 → Longer log log2
+same log log1 log2 is e = ([], e ∙ (is ∙ ap Some (sym (append-nil log))))
+
+one_more : (log : List Entry) (log1 log2 : Option (List Entry)) (x : Entry) → log1 ≡ Some log → log2 ≡ logged log1 x → Longer log log2
+one_more log log1 log2 x is e = (x ∷ [], e ∙ ap (λ o. logged o x) is)
+
+module _ {T : Type 0} (gives : Giving T) (callee : Callee) (fuel : ℕ) where
+  one : (t : AskTurn) (before after : HostSide T) (log : List Entry) → before.log ≡ Some log → IsServed gives callee fuel t before after → Longer log after.log
+  one t before after log is (inl h) = same log before.log after.log is (ap (λ (s : HostSide T). s.log) h.kept)
+  one t before after log is (inr h) = one_more log before.log after.log (entry t.index h.params.items h.results) is h.told
+
+  turns_logged : (turns : List AskTurn) (before after : HostSide T) (log : List Entry) → before.log ≡ Some log → AreServed gives callee fuel turns before after → Longer log after.log
+  turns_logged [] before after log is h = same log before.log after.log is (ap (λ (s : HostSide T). s.log) h)
+  turns_logged (t ∷ turns) before after log is (mid, first, rest) =
+      let (more, grown) = one t before mid log is first in
+      let (others, all) = turns_logged turns mid after (log ++ more) grown rest in
+      (more ++ others, all ∙ ap Some (append_assoc log more others))
+
+  stopped : (e : Error) (index : ℕ) (words memory memory2 : List ℕ) (answers : List Answer) (trap : Option Trap) (before after : HostSide T) (log : List Entry) → before.log ≡ Some log
+      → AskStops gives callee fuel e index words memory memory2 answers trap before after → Longer log after.log
+  stopped error.TurnsExhausted index words memory memory2 answers trap before after log is h = same log before.log after.log is (ap (λ (s : HostSide T). s.log) h.0)
+  stopped (error.UnknownImport n) index words memory memory2 answers trap before after log is h = same log before.log after.log is (ap (λ (s : HostSide T). s.log) h.2)
+  stopped error.WrongWords index words memory memory2 answers trap before after log is h = same log before.log after.log is (ap (λ (s : HostSide T). s.log) h.3)
+  stopped (error.ImportFault n f) index words memory memory2 answers trap before after log is (number, inl (h, none)) = same log before.log after.log is (ap (λ (s : HostSide T). s.log) h.kept)
+  stopped (error.ImportFault n f) index words memory memory2 answers trap before after log is (number, inr (asked, h)) = same log before.log after.log is h.told
+  stopped (error.HostRefused n) index words memory memory2 answers trap before after log is (number, (asked, h)) = same log before.log after.log is h.told
+  stopped (error.Fault fault.OutOfMemory) index words memory memory2 answers trap before after log is (inl (h, none, untrapped)) = same log before.log after.log is (ap (λ (s : HostSide T). s.log) h.kept)
+  stopped (error.Fault fault.OutOfMemory) index words memory memory2 answers trap before after log is (inr (inl (asked, h))) = same log before.log after.log is h.told
+  stopped (error.Fault fault.OutOfMemory) index words memory memory2 answers trap before after log is (inr (inr (resumed, memory3, untrapped, shorter, h))) =
+      one_more log before.log after.log (entry index h.params.items h.results) is h.told
+  stopped e index words memory memory2 answers trap before after log is h = absurd h
+
+  stopped_asking : (e : Error) (memory2 : List ℕ) (late : List Answer) (trap : Option Trap) (before after : HostSide T) (log : List Entry) (tail : List Event) → before.log ≡ Some log
+      → BeginsInAsk (λ index words memory more. AskStops gives callee fuel e index words memory memory2 late trap before after) tail → Longer log after.log
+  stopped_asking e memory2 late trap before after log (event.Ask index words memory ∷ more) is h = stopped e index words memory memory2 late trap before after log is h
+  stopped_asking e memory2 late trap before after log tail is h = absurd h
+
+  stopped_later : (e : Error) (memory2 : List ℕ) (late : List Answer) (trap : Option Trap) (before after : HostSide T) (log : List Entry) (tail : List Event) → before.log ≡ Some log
+      → StopsStarted gives callee fuel e memory2 late trap before after tail → Longer log after.log
+  stopped_later e memory2 late trap before after log tail is (inl (stops, kept)) = same log before.log after.log is (ap (λ (s : HostSide T). s.log) kept)
+  stopped_later e memory2 late trap before after log tail is (inr h) = stopped_asking e memory2 late trap before after log tail is h
+
+  pub call_logged : (params : List Val) (turns : List AskTurn) (memory2 : List ℕ) (late : List Answer) (trap : Option Trap) (before after : HostSide T) (given : List ℕ) (answer : Result (Unit {0}) Error) (results : List Val) (events tail : List Event)
+      (log : List Entry) → before.log ≡ Some log → HandlesPass gives callee fuel params turns memory2 late trap before after given answer results events tail → Longer log after.log
+  call_logged params turns memory2 late trap before after given (Ok x) results events tail log is (lowered, takes, (served, are, (each, kept))) =
+      let (more, grown) = turns_logged turns (record before { ledger = lowered }) served log is are in
+      (more, ap (λ (s : HostSide T). s.log) kept ∙ grown)
+  call_logged params turns memory2 late trap before after given (Err e) results events tail log is (inl (short, none, kept)) = same log before.log after.log is (ap (λ (s : HostSide T). s.log) kept)
+  call_logged params turns memory2 late trap before after given (Err e) results events tail log is (inr (inl (no_start, stops, kept))) = same log before.log after.log is (ap (λ (s : HostSide T). s.log) kept)
+  call_logged params turns memory2 late trap before after given (Err e) results events tail log is (inr (inr (lowered, takes, (served, are, stops)))) =
+      let (more, grown) = turns_logged turns (record before { ledger = lowered }) served log is are in
+      let (others, all) = stopped_later e memory2 late trap served after (log ++ more) tail grown stops in
+      (more ++ others, all ∙ ap Some (append_assoc log more others))
+
+-- ---- its record
+
+-- what the log grew by is what stands after as many lines as there were
+pub served_logs : (lines lines2 : List Line) (served : List Served) (count : ℕ) → Longer (entries_of lines) (Some (entries_of lines2)) → count ≡ length lines → map served_view served ≡ map entry_view (drop count (entries_of lines2))
+    → Logs (entries_of lines) (entries_of lines2) served
+served_logs lines lines2 served count (more, grown) many told =
+    let all : entries_of lines2 ≡ entries_of lines ++ more = ap (λ o. unwrap_or o []) grown in
+    let known : length (entries_of lines) ≡ count = length-map lines line_entry ∙ sym many in
+    record {
+      entries = more;
+      grown = all;
+      told = told ∙ ap (λ (es : List Entry). map entry_view es) (ap (λ (es : List Entry). drop count es) all ∙ drop_at (entries_of lines) more count known);
+    }
+
+-- where no line was added the record tells none
+pub none_served : (lines : List Line) (served : List Served) (count : ℕ) → count ≡ length lines → map served_view served ≡ map entry_view (drop count (entries_of lines)) → served ≡ []
+none_served lines served count many told =
+    let past : length (entries_of lines) ≤ count = omega (arith, length-map lines line_entry, many) in
+    nil_from_length served (sym (length-map served served_view) ∙ ap length (told ∙ ap (λ (es : List Entry). map entry_view es) (drop_all count (entries_of lines) past)))
