@@ -1,0 +1,69 @@
+//! The imports of a component that has one: any function of the host.
+
+use canon_host::{DynamicHostFn, HostCx, HostError, HostFunc, HostStop, HostView, Imports};
+use canon_memory::{Guest, ValRaw};
+use canon_types::TypeFunc;
+use canon_value::Val;
+use std::alloc::Global;
+
+/// The imports of a component that has one. Contracts don't see which asks were served, nor what was answered.
+#[derive(Drop)]
+pub struct OneImport<F> {
+    pub func: HostFunc<DynamicHostFn<F>>,
+    pub refusals: u64,
+}
+
+impl<
+    T,
+    G: Guest,
+    F: Fn(&mut HostView<'_, '_, T>, &TypeFunc, &[Val], &mut [Val]) -> Result<(), HostStop>,
+> Imports<T, G> for OneImport<F> {
+    ghost use Rattle.std.specs.Prelude.{◌≡◌, ◌≤◌, IfSome, None, slice_get};
+    ghost use Rattle.canon_types.specs.Table.{HasFunc};
+    ghost use Rattle.canon_context.specs.Component.{HasOptions};
+    ghost use Rattle.canon_context.specs.Core.{types_of};
+    ghost use Rattle.canon_context.specs.Host.{Keeps};
+    ghost use Rattle.canon_host.specs.Asked.{HasRoomFor};
+    ghost use Rattle.canon_host.specs.Imports.{ServesImport};
+    ghost use Rattle.canon_example.specs.Imported.{AnyAnswer};
+
+    type Plan = ();
+
+    // The function keeps what it must.
+    ghost ready = { λ s. Keeps F.Fn s.func };
+
+    ghost plan = { λ s. tt {0} };
+
+    ghost log = { λ s. None };
+
+    ghost refusals = { λ s. s.refusals };
+
+    ghost gives = { λ plan. AnyAnswer };
+
+    fn serve(
+        &mut self,
+        alloc: Global,
+        n: u32,
+        cx: HostCx<'_, T, G>,
+        storage: &mut [ValRaw],
+    ) -> Result<(), HostError>
+        requires ready { Keeps F.Fn self.old.func }
+        requires func { HasFunc (types_of cx.core.now) cx.ty }
+        requires options { HasOptions cx.core.now.component cx.options }
+        requires room { HasRoomFor (types_of cx.core.now) cx.ty storage.old }
+        ensures still_ready { Keeps F.Fn self.new.func }
+        ensures plan { tt {0} ≡ tt {0} }
+        ensures refusals { self.old.refusals ≤ self.new.refusals }
+        ensures serves { IfSome (slice_get (types_of cx.entry.core.now).funcs cx.entry.ty) (λ t. ServesImport AnyAnswer None n G.seen G.moves (record { ty = cx.entry.ty; func = t; options = cx.entry.options }) None self.old.refusals self.new.refusals cx.entry.core.now storage.old result cx.exit.0.now storage.new) }
+        ensures same { cx.exit.0.now ≡ record cx.entry.core.now { state = cx.exit.0.now.state; guest = cx.exit.0.now.guest; memory = cx.exit.0.now.memory; ledger = cx.exit.0.now.ledger } }
+    {
+        match self.func.entrypoint(alloc, cx, storage) {
+            Ok(_values) => Ok(()),
+            Err(HostError::Refused) => {
+                self.refusals = self.refusals.saturating_add(1);
+                Err(HostError::Refused)
+            }
+            Err(HostError::Fault(fault)) => Err(HostError::Fault(fault)),
+        }
+    }
+}

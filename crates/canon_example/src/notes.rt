@@ -1,0 +1,228 @@
+//! The guest: a plug-in that keeps notes. It stands for the code that an embedder's engine runs in the guest's memory.
+
+ghost use Rattle.std.specs.Prelude.{◌≡◌, ◌≤◌, ◌<◌, ◌+◌, ◌^◌, [], IfSome, None, false, length, replicate};
+ghost use Rattle.canon_memory.specs.Counts.{Rose};
+
+use canon_memory::{Guest, GuestFault, Memory, Step, ValRaw, Words};
+use std::alloc::Global;
+
+/// The core function that adds a note.
+pub const ADD: u32 = 0;
+
+/// The core function that points past the end of memory.
+pub const BROKEN: u32 = 1;
+
+/// The number of the import that tells the time.
+const CLOCK: u32 = 0;
+
+/// The size of a note in memory: the title's pointer and length, the words and the time.
+const NOTE_SIZE: u64 = 16;
+
+/// The alignment of a note in memory.
+const NOTE_ALIGN: u32 = 4;
+
+/// A note that waits for its time.
+#[derive(Drop)]
+struct Draft {
+    title: u32,
+    title_len: u32,
+    words: u32,
+}
+
+/// The guest. Its allocator goes up through memory and takes nothing back. It counts its answers and its faults, and tells no more.
+#[derive(Drop)]
+pub struct Notes {
+    alloc: Global,
+    draft: Option<Draft>,
+    top: u64,
+    blocks: u64,
+    traps: u64,
+    shortages: u64,
+}
+
+impl Notes {
+    pub fn new(alloc: Global) -> Self {
+        Notes {
+            alloc,
+            draft: None,
+            top: 8,
+            blocks: 0,
+            traps: 0,
+            shortages: 0,
+        }
+    }
+
+    /// Counts a fault.
+    fn count(&mut self, fault: GuestFault) -> GuestFault
+        ensures same { result ≡ fault }
+        ensures blocks { self.new.blocks ≡ self.old.blocks }
+        ensures traps { self.old.traps ≤ self.new.traps }
+        ensures shortages { self.old.shortages ≤ self.new.shortages }
+        ensures trap { fault ≡ GuestFault.Trap → Rose self.old.traps self.new.traps }
+        ensures shortage { fault ≡ GuestFault.OutOfMemory → Rose self.old.shortages self.new.shortages }
+    {
+        match fault {
+            GuestFault::Trap => self.traps = self.traps.saturating_add(1),
+            GuestFault::OutOfMemory => self.shortages = self.shortages.saturating_add(1),
+        }
+        fault
+    }
+
+    /// The address of a block, where memory has room for it before its last byte.
+    fn place(&mut self, len: u64, align: u32, size: u64) -> Option<u64>
+        requires aligned { 0 < align }
+        requires few { len ≤ 2 ^ 32 }
+        ensures inside { IfSome result (λ at. at + size < len) }
+        ensures same { self.new ≡ record self.old { top = self.new.top } }
+    {
+        let at = self.top.checked_next_multiple_of(u64::from(align))?;
+        let end = at.checked_add(size)?;
+        if end >= len {
+            return None;
+        }
+        self.top = end;
+        Some(at)
+    }
+
+    /// Reads the text that was passed by its pointer and its length, and asks for the time.
+    fn begin(&mut self, memory: &Memory, words: &[ValRaw]) -> Result<Step, GuestFault>
+        ensures same { self.new ≡ record self.old { draft = self.new.draft } }
+    {
+        let [pointer, len] = words else {
+            return Err(GuestFault::Trap);
+        };
+        let (title, len) = (pointer.get_u32(), len.get_u32());
+        let start = title as usize;
+        let Some(text) = memory.as_slice().get(start..start + len as usize) else {
+            return Err(GuestFault::Trap);
+        };
+        // The title is the first line.
+        let line = text.iter().position(|byte| *byte == b'\n');
+        self.draft = Some(Draft {
+            title,
+            title_len: line.map_or(len, |end| end as u32),
+            words: count_words(text),
+        });
+        Ok(Step::Import {
+            index: CLOCK,
+            words: Words::new(self.alloc),
+        })
+    }
+
+    /// Writes the note with its time, and returns its address.
+    fn finish(&mut self, memory: &mut Memory, words: &[ValRaw]) -> Result<Step, GuestFault>
+        ensures length { length memory.new ≡ length memory.old }
+        ensures same { self.new ≡ record self.old { draft = self.new.draft; top = self.new.top } }
+    {
+        let (Some(draft), [time]) = (self.draft.take(), words) else {
+            return Err(GuestFault::Trap);
+        };
+        let Some(at) = self.place(memory.len(), NOTE_ALIGN, NOTE_SIZE) else {
+            return Err(GuestFault::Trap);
+        };
+        put_u32(memory, at, draft.title);
+        put_u32(memory, at + 4, draft.title_len);
+        put_u32(memory, at + 8, draft.words);
+        put_u32(memory, at + 12, time.get_u32());
+        return_word(self.alloc, at as u32)
+    }
+}
+
+impl Guest for Notes {
+    ghost seen = { λ g. record { journal = None; marks = replicate g.blocks (record { lawful = false; tidy = false }); live = []; traps = g.traps; shortages = g.shortages } };
+
+    ghost moves = { λ _ _ _. Unit {0} };
+
+    ghost leaves = { λ before after. after ≡ before };
+
+    ghost stays = { λ _. record {} };
+
+    ghost goes_on = { λ _ _ _ _ _ _ _. record {} };
+
+    fn start(
+        &mut self,
+        memory: &mut Memory,
+        func: u32,
+        words: &[ValRaw],
+    ) -> Result<Step, GuestFault> {
+        let step = if func == BROKEN {
+            return_word(self.alloc, 0xffff_fff0)
+        } else {
+            self.begin(memory, words)
+        };
+        match step {
+            Ok(step) => Ok(step),
+            Err(fault) => Err(self.count(fault)),
+        }
+    }
+
+    fn resume(&mut self, memory: &mut Memory, words: &[ValRaw]) -> Result<Step, GuestFault> {
+        match self.finish(memory, words) {
+            Ok(step) => Ok(step),
+            Err(fault) => Err(self.count(fault)),
+        }
+    }
+
+    fn realloc(
+        &mut self,
+        memory: &mut Memory,
+        _old: u64,
+        old_size: u64,
+        align: u32,
+        new_size: u64,
+    ) -> Result<u64, GuestFault> {
+        // It grows no block.
+        if old_size > 0 || self.blocks == u64::MAX {
+            return Err(self.count(GuestFault::Trap));
+        }
+        let Some(at) = self.place(memory.len(), align, new_size) else {
+            return Err(self.count(GuestFault::Trap));
+        };
+        self.blocks += 1;
+        Ok(at)
+    }
+
+    fn post_return(
+        &mut self,
+        _memory: &mut Memory,
+        _func: u32,
+        _words: &[ValRaw],
+    ) -> Result<(), GuestFault> {
+        Ok(())
+    }
+
+    fn dtor(&mut self, _memory: &mut Memory, _func: u32, _rep: u32) -> Result<(), GuestFault> {
+        Ok(())
+    }
+}
+
+/// How many words a text has.
+fn count_words(text: &[u8]) -> u32 {
+    let mut count: u32 = 0;
+    let mut in_word = false;
+    for byte in text {
+        let is_letter = !byte.is_ascii_whitespace();
+        if is_letter && !in_word {
+            count = count.saturating_add(1);
+        }
+        in_word = is_letter;
+    }
+    count
+}
+
+/// Writes a number at an address.
+fn put_u32(memory: &mut Memory, at: u64, number: u32)
+    requires { at + 4 ≤ length memory.old }
+    ensures { length memory.new ≡ length memory.old }
+{
+    let at = at as usize;
+    memory.as_slice_mut()[at..at + 4].copy_from_slice(&number.to_le_bytes());
+}
+
+/// Returns one word.
+fn return_word(alloc: Global, word: u32) -> Result<Step, GuestFault> {
+    match Words::from_slice(alloc, &[ValRaw::u32(word)]) {
+        Ok(words) => Ok(Step::Return(words)),
+        Err(_) => Err(GuestFault::OutOfMemory),
+    }
+}
