@@ -4,6 +4,7 @@ ghost use Rattle.std.specs.Prelude.{◌≡◌, [], None};
 
 mod functions;
 mod imports;
+mod views;
 
 use canon_host::{HostCx, HostError, HostFn, HostFunc, Imports, storage_for};
 use canon_memory::{Guest, GuestFault, Memory, Step, ValRaw};
