@@ -73,60 +73,30 @@ fn what_is_no_input_has_its_status(rt: HostRuntime) -> Result<(), Fail> {
         ("run", r#"{"memory":16}"#, 8),
         ("layout", r#"{"types":["#, 7),
         ("layout", r#"{"types":[{"tuple":[]}]}"#, 8),
-        (
-            "text",
-            r#"{"text":[{"fn":"utf8_to_utf32","src":"","room":0}]}"#,
-            8,
-        ),
-        (
-            "text",
-            r#"{"text":[{"fn":"utf8_to_utf8","src":"6","room":1}]}"#,
-            8,
-        ),
-        (
-            "text",
-            r#"{"text":[{"fn":"utf8_to_utf8","src":"C3A9","room":2}]}"#,
-            8,
-        ),
-        (
-            "text",
-            r#"{"text":[{"fn":"utf16_to_utf8","src":"610000","room":3}]}"#,
-            8,
-        ),
-        (
-            "text",
-            r#"{"text":[{"fn":"utf16_to_utf8","src":"","room":1048577}]}"#,
-            8,
-        ),
-        (
-            "text",
-            r#"{"text":[{"fn":"utf8_to_utf16","src":"","room":1}]}"#,
-            8,
-        ),
-        (
-            "text",
-            r#"{"text":[{"fn":"latin1_to_utf8","src":"","room":1,"dst":"6162"}]}"#,
-            8,
-        ),
-        (
-            "text",
-            r#"{"text":[{"fn":"utf8_to_latin1","src":"6162","room":1}]}"#,
-            8,
-        ),
-        (
-            "text",
-            r#"{"text":[{"fn":"utf8_to_utf8","src":"","room":0,"limit":1}]}"#,
-            8,
-        ),
-        (
-            "text",
-            r#"{"text":[{"fn":"utf8_to_utf8","src":"","room":0}],"more":1}"#,
-            8,
-        ),
         ("text", r#"{"text":{}}"#, 8),
     ] {
         let (status, text, _) = ended(rt.alloc(), &[command], input, 0, 1000, 0)?;
         assert!(rt; status.0 == want && text.is_empty(), "{input}");
+    }
+    Ok(())
+}
+
+#[test]
+fn what_is_no_conversion_has_its_status(rt: HostRuntime) -> Result<(), Fail> {
+    for input in [
+        r#"{"text":[{"fn":"utf8_to_utf32","src":"","room":0}]}"#,
+        r#"{"text":[{"fn":"utf8_to_utf8","src":"6","room":1}]}"#,
+        r#"{"text":[{"fn":"utf8_to_utf8","src":"C3A9","room":2}]}"#,
+        r#"{"text":[{"fn":"utf16_to_utf8","src":"610000","room":3}]}"#,
+        r#"{"text":[{"fn":"utf16_to_utf8","src":"","room":1048577}]}"#,
+        r#"{"text":[{"fn":"utf8_to_utf16","src":"","room":1}]}"#,
+        r#"{"text":[{"fn":"latin1_to_utf8","src":"","room":1,"dst":"6162"}]}"#,
+        r#"{"text":[{"fn":"utf8_to_latin1","src":"6162","room":1}]}"#,
+        r#"{"text":[{"fn":"utf8_to_utf8","src":"","room":0,"limit":1}]}"#,
+        r#"{"text":[{"fn":"utf8_to_utf8","src":"","room":0}],"more":1}"#,
+    ] {
+        let (status, text, _) = ended(rt.alloc(), &["text"], input, 0, 1000, 0)?;
+        assert!(rt; status.0 == 8 && text.is_empty(), "{input}");
     }
     Ok(())
 }
