@@ -19,7 +19,8 @@ use Rattle.canon_lowering.proofs.AimedAt.{handle_numbers_append, reads_more, rea
 use Rattle.canon_lowering.proofs.Attempts.{IsFramed, Joins, Keeps, attempt_as, attempt_none, attempt_other, attempt_stop, attempt_then, keeps_same, FirstAnd}
 use Rattle.canon_lowering.proofs.Copying.{copies_ask, copies_flat_home, copies_in_words, copies_leaves}
 use Rattle.canon_lowering.proofs.Lowerings.{NotDone}
-use Rattle.canon_lowering.proofs.WordsKept.{Fits, flat_homes_kept, flat_homes_moved, members_flat_homes_kept}
+use Rattle.canon_model.specs.Fits.{Fits}
+use Rattle.canon_lowering.proofs.WordsKept.{flat_homes_kept, flat_homes_moved, members_flat_homes_kept}
 
 -- ---- what is read stays
 

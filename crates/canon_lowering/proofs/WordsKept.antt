@@ -3,6 +3,7 @@ use Rattle.std.proofs.Common.{Bool, List, [], ap, arith, false, length, refl, su
 use Rattle.std.specs.Prelude.{IsFalse, slice_index, ⊤}
 use Rattle.std.proofs.Math.Nat.{mod-eq_of_lt}
 use Rattle.canon_model.proofs.Along.{below_same, low_number_same, some_words}
+use Rattle.canon_model.specs.Fits.{AllTrees, CaseFits, Fits, MembersFit}
 use Rattle.canon_model.specs.Flat.{AreBelow, CaseFlat, Flat, MembersFlat, RepFlatIn, SameWords}
 use Rattle.canon_model.specs.Homes.{CaseFlatHome, EachHome, FlatHomes, Homes, IsHandleWord, IsScalarWord, IsTextHome, IsTextLength, MembersFlatHome, PointsTo}
 use Rattle.canon_model.specs.Layout.{cases_flat, flag_words, flat, members_flat, size}
@@ -14,36 +15,6 @@ use Rattle.canon_model.specs.Tree.{EachAt, Tree, Trees, bits, case_number, no_tr
 use Rattle.canon_lowering.proofs.Kept.{each_home_along, first_tree, other_trees}
 use Rattle.canon_lowering.proofs.Attempts.{Keeps}
 use Rattle.canon_lowering.proofs.AimedAt.{value_homes_kept}
-
--- ---- A tree's lists of fixed length are as long as its type says, as far as its words go.
-
-abbrev pub AllTrees : (Tree → Type 0) → Trees → Type 0
-AllTrees P no_trees = ⊤
-AllTrees P (tree t ts) = P t × AllTrees P ts
-
-abbrev mutual
-  pub Fits : Shape → Tree → Type 0
-  Fits (scalar k) t = ⊤
-  Fits string t = ⊤
-  Fits (own r) t = ⊤
-  Fits (borrow r) t = ⊤
-  Fits (list k s) t = ⊤
-  Fits (fixed n s) t = (tree_count (trees_of t) ≡ n) × AllTrees (λ u. Fits s u) (trees_of t)
-  Fits (product k ms) t = MembersFit ms (trees_of t)
-  Fits (variant k cs) t = CaseFits cs (case_number t) (payload_of t)
-  Fits (flags names) t = ⊤
-
-  pub MembersFit : Members → Trees → Type 0
-  MembersFit no_members ts = ⊤
-  MembersFit (member name s ms) no_trees = ⊤
-  MembersFit (member name s ms) (tree t ts) = Fits s t × MembersFit ms ts
-
-  pub CaseFits : Cases → ℕ → Tree → Type 0
-  CaseFits no_cases i u = ⊤
-  CaseFits (bare name cs) zero u = ⊤
-  CaseFits (bare name cs) (suc i) u = CaseFits cs i u
-  CaseFits (payload name s cs) zero u = Fits s u
-  CaseFits (payload name s cs) (suc i) u = CaseFits cs i u
 
 -- two words of 32 bits
 pub pair_below : (p n : ℕ) → p < 2 ^ 32 → n < 2 ^ 32 → AreBelow (2 ^ 32) (p ∷ n ∷ []) 0 2

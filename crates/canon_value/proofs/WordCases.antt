@@ -6,7 +6,8 @@ use Rattle.std.proofs.lemmas.List.{get_or_past, get_or-set_other, get_or-set_sam
 use Rattle.canon_lowering.proofs.AimedCases.{variant_words}
 use Rattle.canon_lowering.proofs.AimedWords.{members_flat_kept}
 use Rattle.canon_lowering.proofs.Attempts.{attempt_as, attempt_other, keeps_same}
-use Rattle.canon_lowering.proofs.WordsKept.{MembersFit, members_homes_moved}
+use Rattle.canon_model.specs.Fits.{MembersFit}
+use Rattle.canon_lowering.proofs.WordsKept.{members_homes_moved}
 use Rattle.canon_lowering.specs.Attempt.{LowersMembers, LowersValue, members_words, value_words}
 use Rattle.canon_lowering.specs.Copies.{case_members}
 use Rattle.canon_lowering.specs.Lowering.{Ending, done}
