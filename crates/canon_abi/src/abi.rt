@@ -1,3 +1,5 @@
+//! How types lie in memory and in flat words: size, alignment, word count, and where fields and payloads begin.
+
 ghost use Rattle.std.specs.Prelude.{◌^◌, ◌<◌, ◌≤◌, IsTrue, unwrap_or};
 ghost use Rattle.canon_abi.specs.Alignment.{is_alignment};
 

@@ -1,3 +1,5 @@
+//! The sizes of discriminants and of flags, in bytes.
+
 ghost use Rattle.std.specs.Prelude.{◌≡◌, ◌≤◌, ◌<◌, ◌^◌, ◌↔◌, Some, None, IfSome};
 ghost use Rattle.canon_model.specs.Layout.{tag_size, flags_size};
 ghost use Rattle.canon_abi.specs.Sizes.{tag_bytes, flag_bytes};

@@ -1,3 +1,5 @@
+//! The commands that read a JSON value: `run`, `text` and `layout`.
+
 ghost use Rattle.std.specs.Prelude.{◌≡◌};
 ghost use Rattle.canon_cli.specs.Program.{command_named, command_of};
 

@@ -1,3 +1,5 @@
+//! The command `text`: does each text conversion that a JSON value asks for, and prints a line for it.
+
 ghost use Rattle.std.specs.Prelude.{◌≡◌, ◌≤◌, ◌<◌, ◌^◌, ◌+◌, ◌*◌, ◌/◌, ◌%◌, ◌++◌, None, Some, false, IfErr, length, map, flat_map, take, List, ℕ, Ok, Err, IfOk, OnOk, MatchResult, string_bytes, vec_len};
 ghost use Rattle.hex.specs.Hex.{encode_lower};
 ghost use Rattle.serde_json.specs.View.{view};

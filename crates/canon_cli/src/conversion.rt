@@ -1,3 +1,5 @@
+//! A text conversion that the command `text` does: its function, its input, and the condition of the call.
+
 ghost use Rattle.std.specs.Prelude.{◌≡◌, ◌≤◌, ◌+◌, true, vec_len, nat_eq, nat_le};
 ghost use lib.Pointwise.{pointwise};
 ghost use Rattle.canon_cli.specs.TextCalls as spec;

@@ -1,3 +1,5 @@
+//! Reads the text conversions of the command `text` from a JSON value.
+
 ghost use Rattle.std.specs.Prelude.{◌≡◌, ◌≤◌, ◌++◌, [], map, false, codes, Some, option_map};
 ghost use Rattle.std.specs.Option.{option_map_or};
 ghost use Rattle.serde_json.specs.Find.{as_bool, get};

@@ -1,3 +1,5 @@
+//! Reads the number N from the words `gen N` of the command line.
+
 ghost use Rattle.std.specs.Prelude.{◌≡◌};
 ghost use Rattle.std.specs.Str.{all_ascii_digits};
 ghost use Rattle.canon_cli.specs.Gen as spec;

@@ -1,3 +1,5 @@
+//! The whole program `canon`: reads the command and its input, does it, and writes the output.
+
 ghost use Rattle.std.specs.Prelude.{◌≡◌, ◌⊎◌, ◌≤◌, ◌<◌, ◌^◌, ◌↔◌, [], length, List, ℕ, None, Some, IfSome, IfOk, IfErr, OnOk, OnErr, Err, IsUtf8, string_bytes};
 ghost use Rattle.std.specs.Io.KnownBytes.{Appends, Consumes, IsAtEnd};
 ghost use Rattle.serde_json.specs.Read.{read};

@@ -1,3 +1,5 @@
+//! Where output goes: the trait `Sink`, with a sink in memory and one over a writer of std.
+
 ghost use Rattle.std.specs.Prelude.{◌≡◌, [], ◌+◌, ◌-◌, ◌^◌, ◌≤◌, ◌<◌, min, length, Some, None, Option, List, ℕ, Contains, IfOk, IsErr};
 ghost use Rattle.std.specs.Io.{WritesAtMost};
 ghost use Rattle.std.specs.Io.KnownBytes.{WriteAppends};

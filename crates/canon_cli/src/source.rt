@@ -1,3 +1,5 @@
+//! Where input comes from: the trait `Source`, with a source in memory and one over a reader of std.
+
 ghost use Rattle.std.specs.Prelude.{◌≡◌, ◌+◌, ◌-◌, ◌^◌, ◌≤◌, ◌<◌, min, drop, take, length, Some, None, Option, List, ℕ, Contains, IfOk, IsErr, ◌↔◌};
 ghost use Rattle.std.specs.Io.{ReadsAtMost};
 ghost use Rattle.std.specs.Io.KnownBytes.{ReadConsumes};

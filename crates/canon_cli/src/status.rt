@@ -1,3 +1,5 @@
+//! The exit status of the program.
+
 /// How a run of the program ended: a number of those below.
 #[derive(Clone, Copy, Debug, PartialEq, Eq)]
 pub struct Status(pub u8);

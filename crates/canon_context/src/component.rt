@@ -1,3 +1,5 @@
+//! A component: its types, canonical options, exports and imports.
+
 ghost use Rattle.std.specs.Prelude.{◌≡◌, ◌↔◌, All, IsTrue};
 ghost use Rattle.canon_context.specs.Component.{IsComponent, IsHostImport, IsImport, IsInside};
 

@@ -1,3 +1,5 @@
+//! The contexts that values are lowered and lifted in: `LowerContext`, `LiftContext`, and the source of a lift.
+
 ghost use Rattle.std.specs.Prelude.{◌≡◌, ◌<◌, ◌≤◌, ◌+◌, ◌*◌, ◌^◌, IfSome, Some, drop, length, slice_get, take};
 ghost use Rattle.canon_lowering.specs.Lowering.{Reallocated};
 ghost use Rattle.canon_memory.specs.Guest.{OnAnswer};

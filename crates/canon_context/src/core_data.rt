@@ -1,3 +1,5 @@
+//! What a store has of its component: the host's data, the guest and its memory, the ledger, and the fuel.
+
 ghost use Rattle.std.specs.Prelude.{◌≡◌, ◌≤◌, ◌<◌, ◌^◌, [], IfOk, OnOk, length};
 ghost use Rattle.canon_lowering.specs.Lowering.{Reallocated};
 ghost use Rattle.canon_memory.specs.Guest.{Goes, HasCause, OnAnswer};
@@ -133,7 +135,7 @@ impl<T, G> Core<T, G> {
         ensures memory { result.now ≡ self.now.memory }
         ensures small { length self.now.memory ≤ 2 ^ 32 }
     {
-        let _len = self.memory.len();
+        let _len = self.memory.len(); // memory has at most 2^32 bytes
         &self.memory
     }
 
@@ -142,7 +144,7 @@ impl<T, G> Core<T, G> {
         ensures value { result.now ≡ self.old.memory }
         ensures small { length self.old.memory ≤ 2 ^ 32 }
     {
-        let _len = self.memory.len();
+        let _len = self.memory.len(); // memory has at most 2^32 bytes
         self.memory.as_slice_mut()
     }
 }

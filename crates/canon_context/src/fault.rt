@@ -1,3 +1,5 @@
+//! Why a value isn't lowered or lifted, and where.
+
 ghost use Rattle.std.specs.Prelude.{◌≡◌};
 ghost use Rattle.canon_context.specs.declared.fault.Fault.TheVariants as fault;
 ghost use Rattle.canon_context.specs.Faults.{fault_of, faulted, resource_fault};

@@ -1,3 +1,5 @@
+//! Why a call isn't answered: the errors of `Func::call`.
+
 ghost use Rattle.std.specs.Prelude.{◌≡◌};
 ghost use Rattle.canon_context.specs.declared.fault.Fault.TheVariants as fault;
 ghost use Rattle.canon_func.specs.declared.error.Error.TheVariants as error;

@@ -1,3 +1,5 @@
+//! A function that a component exports, and how it is called: `Func`.
+
 ghost use Rattle.std.specs.Prelude.{◌≡◌, ◌↔◌, Err, Ok, Some, IfSome, IsNone, IsTrue, OnErr, OnOk, length, slice_get, true};
 ghost use Rattle.canon_types.specs.Table.{IsOver};
 ghost use Rattle.canon_context.specs.Component.{IsInside};

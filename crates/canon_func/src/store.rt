@@ -1,3 +1,5 @@
+//! The store: a core with its imports, its limits, and whether a call has trapped it.
+
 ghost use Rattle.std.specs.Prelude.{◌≡◌, ◌<◌, ◌↔◌, length, false, IfErr, IfOk, IsTrue, IfSome, IsSome};
 ghost use Rattle.canon_model.specs.Shape.{member_count};
 ghost use Rattle.canon_context.specs.Component.{IsInside};

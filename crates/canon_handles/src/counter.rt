@@ -1,3 +1,5 @@
+//! The count of the live handles of a store, and its limit.
+
 ghost use Rattle.std.specs.Prelude.{◌≡◌};
 
 use std::marker::Model;
@@ -61,7 +63,7 @@ impl HandleCounter {
         ensures more { self.new ≡ one_more self.old }
         ensures small { self.new.live < 2 ^ 64 }
     {
-        let _limit = self.limit;
+        let _limit = self.limit; // the limit is below 2^64, and `live` is below the limit
         self.live += 1;
     }
 

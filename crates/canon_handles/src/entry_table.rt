@@ -100,7 +100,7 @@ impl<E: Copy> EntryTable<E> {
     pub(crate) fn entry(&self, index: u32) -> Option<E>
         ensures { result ≡ entry_at self.now.table index }
     {
-        let _greatest = self.greatest;
+        let _greatest = self.greatest; // reading a field gives the table's invariant
         self.cells.get(&index).copied().flatten()
     }
 

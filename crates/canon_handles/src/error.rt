@@ -1,3 +1,5 @@
+//! The errors of the handle tables.
+
 /// Why a call of a handle table is refused.
 #[derive(Clone, Copy, Debug, PartialEq, Eq)]
 pub enum HandleError {

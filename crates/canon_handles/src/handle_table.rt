@@ -125,7 +125,7 @@ impl HandleTable {
         ensures count { KeepsCount self.old.table self.new.table counter.old counter.new }
     {
         let index = self.table.insert(counter, entry)?;
-        let _live = counter.live();
+        let _live = counter.live(); // the counter is below 2^64, and `held` isn't above it
         self.held += 1;
         Ok(index)
     }

@@ -1,3 +1,5 @@
+//! What a guest asks for when it calls a host function, and how many words the call takes.
+
 ghost use Rattle.std.specs.Prelude.{◌≡◌, ◌≤◌, ◌<◌, IfOk, IfSome, Some, length, slice_get, take};
 ghost use Rattle.std.specs.Option.{SomeIff};
 ghost use Rattle.canon_model.specs.Flat.{max_results};

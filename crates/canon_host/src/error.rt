@@ -1,3 +1,5 @@
+//! The errors of host functions.
+
 use canon_value::Fault;
 
 /// Why an ask isn't answered: a fault, or the function refused.

@@ -1,3 +1,5 @@
+//! The errors of writing and reading images.
+
 use canon_value::Fault;
 use thiserror::Error;
 

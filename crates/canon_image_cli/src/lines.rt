@@ -1,3 +1,5 @@
+//! The line that the program `canon_image` prints: an image in hex, a value, or an error.
+
 ghost use Rattle.std.specs.Prelude.{◌≡◌, ◌++◌, codes, None, Some, IfErr, IfOk, List, ℕ, Result, Vec, string_bytes};
 ghost use Rattle.std.specs.declared.alloc.Global.{Global};
 ghost use Rattle.hex.specs.Hex.{encode_lower};

@@ -1,3 +1,5 @@
+//! The whole program `canon_image`: reads a JSON value, and writes the line that answers it.
+
 ghost use Rattle.std.specs.Prelude.{◌≡◌, ◌⊎◌, ◌↔◌, ◌≤◌, ◌<◌, ◌^◌, [], List, ℕ, None, IfErr, IfOk, Err, length, string_bytes};
 ghost use Rattle.std.specs.Io.KnownBytes.{Appends};
 ghost use Rattle.canon_memory.specs.Counts.{Rose};

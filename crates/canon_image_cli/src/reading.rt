@@ -1,3 +1,5 @@
+//! Reads from a JSON value what the program `canon_image` is asked.
+
 ghost use Rattle.std.specs.Prelude.{◌≡◌, option_map};
 ghost use Rattle.serde_json.specs.View.{view};
 ghost use Rattle.canon_json.specs.Json.{Gives};

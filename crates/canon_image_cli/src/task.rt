@@ -1,3 +1,5 @@
+//! What the program `canon_image` is asked: a type, and a value or the bytes of an image.
+
 ghost use Rattle.canon_types.specs.Table.{Knows};
 
 use canon_types::{ComponentTypes, InterfaceType};

@@ -1,3 +1,5 @@
+//! The error of running out of memory.
+
 use std::alloc::{AllocError, AllocFailed};
 
 /// Want of memory, as a whole error.

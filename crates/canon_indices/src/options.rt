@@ -1,3 +1,5 @@
+//! The canonical options of a function, and the encodings of strings.
+
 use crate::RuntimeInstance;
 
 /// How texts are spelled in a component's memory (CanonicalABI.md, `string-encoding`).

@@ -1,3 +1,5 @@
+//! Reads bytes that a JSON value writes in hex.
+
 ghost use Rattle.hex.specs.Hex.{decode_of, encode_lower};
 ghost use Rattle.serde_json.specs.View.{view};
 ghost use Rattle.canon_json.specs.Hex.{bytes_of, hex_bytes};

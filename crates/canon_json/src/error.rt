@@ -1,3 +1,5 @@
+//! Why a JSON value isn't read.
+
 ghost use Rattle.std.specs.Prelude.{◌≡◌};
 ghost use Rattle.canon_json.specs.declared.error.ScriptError.TheVariants as script;
 

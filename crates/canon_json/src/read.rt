@@ -1,3 +1,5 @@
+//! Reads parts of JSON values: members, items, numbers, and each item of an array.
+
 ghost use Rattle.std.specs.Prelude.{◌≡◌, ◌≤◌, map, Option, Some, option_map, option_and_then};
 ghost use Rattle.std.specs.Option.{option_map_or};
 ghost use Rattle.serde_json.specs.Data.{Data};

@@ -1,3 +1,5 @@
+//! Reads the types of a script, and adds them to a table of types.
+
 ghost use Rattle.std.specs.Prelude.{◌≡◌, ◌≢◌, List, Option, Some, Err, Ok, IfOk, option_and_then};
 ghost use Rattle.serde_json.specs.View.{view, items_view};
 ghost use Rattle.canon_json.specs.Json.{Gives};

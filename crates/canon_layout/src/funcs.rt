@@ -1,3 +1,5 @@
+//! Reads the function types of a script, and adds them to a table of types.
+
 ghost use Rattle.std.specs.Prelude.{◌≡◌, []};
 ghost use Rattle.serde_json.specs.View.{view, items_view};
 ghost use Rattle.canon_json.specs.Json.{Gives, onward};

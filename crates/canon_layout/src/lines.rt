@@ -1,3 +1,5 @@
+//! The lines that the command `layout` prints for types and functions.
+
 ghost use Rattle.std.specs.Prelude.{◌≡◌, ◌≤◌, ◌<◌, ◌^◌, ◌++◌, All, Some, IfSome, OnOk, false, codes, length, option_map, slice_get, string_bytes};
 ghost use Rattle.serde_json.specs.View.{view};
 ghost use Rattle.canon_abi.specs.Abi.{HasInfo};
@@ -100,18 +102,19 @@ fn print_parts(
         InterfaceType::Option(i) => print_cases(text, &table.option(*i).info),
         InterfaceType::Result(i) => print_cases(text, &table.result(*i).info),
         InterfaceType::List(i) => {
-            let _list = table.list(*i);
+            let _list = table.list(*i); // the type at this index is a list
             Ok(())
         }
         InterfaceType::Map(i) => {
-            let _map = table.map(*i);
+            let _map = table.map(*i); // the type at this index is a map
             Ok(())
         }
         InterfaceType::Flags(i) => {
-            let _flags = table.flags(*i);
+            let _flags = table.flags(*i); // the type at this index is flags
             Ok(())
         }
         InterfaceType::FixedLengthList(i) => {
+            // the type at this index is a fixed-length list
             let _list = table.fixed_length_list(*i);
             Ok(())
         }

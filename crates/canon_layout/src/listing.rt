@@ -1,3 +1,5 @@
+//! Builds a table of types from a script's resources, types and functions.
+
 ghost use Rattle.std.specs.Prelude.{◌≡◌, All, IfOk};
 ghost use Rattle.serde_json.specs.View.{view, items_view};
 ghost use Rattle.canon_json.specs.Json.{Gives};

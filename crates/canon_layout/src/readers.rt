@@ -1,3 +1,5 @@
+//! Reads the parts of type definitions from JSON: types, names, fields and cases.
+
 ghost use Rattle.std.specs.Prelude.{◌≡◌, ℕ, List, Option, Some, IfErr, string_bytes};
 ghost use Rattle.serde_json.specs.Find.{as_str};
 ghost use Rattle.serde_json.specs.View.{view};

@@ -1,3 +1,5 @@
+//! Reads the resource types of a script, and adds them to a table of types.
+
 ghost use Rattle.std.specs.Prelude.{◌≡◌, None, Some, option_map};
 ghost use Rattle.std.specs.Option.{option_map_or};
 ghost use Rattle.serde_json.specs.View.{view, items_view};

@@ -1,3 +1,5 @@
+//! The names of types in a script, and the kinds of type definitions.
+
 ghost use Rattle.std.specs.Prelude.{◌≡◌};
 ghost use Rattle.canon_layout.specs.Entries.{kind_named, plain_named};
 ghost use Rattle.canon_layout.specs.Words as spec;

@@ -60,7 +60,7 @@ pub fn table_for(ledger: &Ledger, types: &InstanceType, ty: TypeResourceTableInd
     ensures number { result ≡ parts.table_for types.now ty }
     ensures within { result < length ledger.now.handles.tables }
 {
-    let _instances = ledger.instances();
+    let _instances = ledger.instances(); // the ledger has 257 tables
     types.types().resource_table(ty).instance.as_u32() + 1
 }
 

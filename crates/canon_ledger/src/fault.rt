@@ -1,3 +1,5 @@
+//! Why a call on resources is refused.
+
 use thiserror::Error;
 
 /// Why a call on resources is refused. The numbers are table indexes. `Display` writes its name, and

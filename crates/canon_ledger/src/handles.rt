@@ -116,7 +116,7 @@ impl StoreHandles {
         ensures { Takes (handles.lower_borrow_in (Some number) (handles_of self.old.tables.items self.old.counter self.old.scopes.items) table resource) result (handles_of self.old.tables.items self.old.counter self.old.scopes.items) (handles_of self.new.tables.items self.new.counter self.new.scopes.items) }
     {
         let index = self.insert_entry(table, resource, number)?;
-        let _live = self.counter.live();
+        let _live = self.counter.live(); // the counter is below 2^64
         self.scopes[number as usize].add_borrow();
         Ok(index)
     }

@@ -45,7 +45,7 @@ impl<'a> ResourceTables<'a> {
         ensures number { result ≡ type_table (first_type self.now.types.list.now) ty }
         ensures within { result < length self.now.ledger.now.handles.tables }
     {
-        let _instances = self.ledger.instances();
+        let _instances = self.ledger.instances(); // the ledger has 257 tables
         let Some(types) = self.types.get() else {
             unreachable!()
         };

@@ -44,11 +44,11 @@ pub fn has_no_handle(types: &ComponentTypes, ty: &InterfaceType) -> bool
             payloads_have_no_handle(types, &[result.ok, result.err])
         }
         InterfaceType::Enum(i) => {
-            let _names = types.enum_(*i);
+            let _names = types.enum_(*i); // the type at this index is an enum
             true
         }
         InterfaceType::Flags(i) => {
-            let _names = types.flags(*i);
+            let _names = types.flags(*i); // the type at this index is flags
             true
         }
         InterfaceType::Own(_) | InterfaceType::Borrow(_) => false,

@@ -179,7 +179,7 @@ fn fields_plan(types: &ComponentTypes, i: TypeRecordIndex) -> Plan
     requires known { Knows types.now (InterfaceType.Record i) }
     ensures { Plans types.now (InterfaceType.Record i) result }
 {
-    let _record = types.record(i);
+    let _record = types.record(i); // the type at this index is a record
     Plan::Members(Slots::Fields(i))
 }
 
@@ -187,7 +187,7 @@ fn places_plan(types: &ComponentTypes, i: TypeTupleIndex) -> Plan
     requires known { Knows types.now (InterfaceType.Tuple i) }
     ensures { Plans types.now (InterfaceType.Tuple i) result }
 {
-    let _tuple = types.tuple(i);
+    let _tuple = types.tuple(i); // the type at this index is a tuple
     Plan::Members(Slots::Places(i))
 }
 
@@ -210,6 +210,6 @@ fn map_plan(types: &ComponentTypes, i: TypeMapIndex) -> Plan
     requires known { Knows types.now (InterfaceType.Map i) }
     ensures { Plans types.now (InterfaceType.Map i) result }
 {
-    let _map = types.map(i);
+    let _map = types.map(i); // the type at this index is a map
     Plan::List(Element::Pair(i))
 }

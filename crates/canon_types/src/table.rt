@@ -145,7 +145,7 @@ impl ComponentTypes {
         requires { Knows self.now (InterfaceType.List i) }
         ensures { HasLayout result.now (shape_of self.now (InterfaceType.List i)) }
     {
-        let _list = self.list(i);
+        let _list = self.list(i); // the type at this index is a list
         &self.plain.pointer_pair
     }
 
@@ -153,7 +153,7 @@ impl ComponentTypes {
         requires { Knows self.now (InterfaceType.Map i) }
         ensures { HasLayout result.now (shape_of self.now (InterfaceType.Map i)) }
     {
-        let _map = self.map(i);
+        let _map = self.map(i); // the type at this index is a map
         &self.plain.pointer_pair
     }
 
@@ -278,7 +278,7 @@ impl ComponentTypes {
     pub fn laws(&self)
         ensures { IsValidTable self.now }
     {
-        let _count = self.funcs.len();
+        let _count = self.funcs.len(); // reading a field gives the table's invariant
     }
 
     /// Whether the table has this resource table.

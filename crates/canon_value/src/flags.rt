@@ -232,7 +232,7 @@ pub(crate) fn load_flags(
     ensures handles { (l : LedgerState) → LiftsHandles resources source.now.instance.now l l (reach_leaves (narrow source.now.memory.now) (shape_of source.now.types.now (InterfaceType.Flags i)) at) result }
     ensures falls { fuel.new ≤ fuel.old }
 {
-    let _flags = source.types.flags(i);
+    let _flags = source.types.flags(i); // the type at this index is flags
     let marks = Marks::Bytes(source.memory, at);
     flags_of(alloc, source.types, fuel, i, &marks)
 }

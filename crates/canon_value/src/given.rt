@@ -138,7 +138,7 @@ fn store_results<T, G: Guest>(
     ensures same_reference { cx.new.core.ghost_name ≡ cx.old.core.ghost_name }
     ensures same_options { cx.new.options ≡ cx.old.options }
 {
-    let _memory = cx.core.memory();
+    let _memory = cx.core.memory(); // memory has at most 2^32 bytes
     let members = Members::Places(ty, results);
     match store_parts(cx, &members, at, 0, 0) {
         Ok(_) => Ok(()),

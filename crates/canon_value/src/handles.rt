@@ -68,8 +68,8 @@ fn taken(
     requires known { HasResource types.now.types handle.resource }
     ensures lifts { LeafLifts types.now ledger.old ledger.new (leaf handle.owned handle.resource index) result }
 {
-    let _table = types.types().resource_table(handle.resource);
-    let _instances = ledger.instances();
+    let _table = types.types().resource_table(handle.resource); // its instance is below 256
+    let _instances = ledger.instances(); // the ledger has 257 tables
     if handle.owned {
         lift_own(ledger, types, index, handle.resource)
     } else {

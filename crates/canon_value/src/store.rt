@@ -62,7 +62,7 @@ impl Val {
         ensures same_reference { cx.new.core.ghost_name ≡ cx.old.core.ghost_name }
         ensures same_options { cx.new.options ≡ cx.old.options }
     {
-        let _memory = cx.core.memory();
+        let _memory = cx.core.memory(); // memory has at most 2^32 bytes
         match store_value(cx, self, ty, offset, 0) {
             Ok(_) => Ok(()),
             Err(fault) => Err(told(fault)),

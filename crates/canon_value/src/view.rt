@@ -114,7 +114,7 @@ fn flags_view<'a>(
     requires known { Knows types.now (InterfaceType.Flags i) }
     ensures { Viewed types.now (InterfaceType.Flags i) value.now place result }
 {
-    let _flags = types.flags(i);
+    let _flags = types.flags(i); // the type at this index is flags
     match value {
         Val::Flags(names) => Ok(View::Flags(names)),
         _ => Err(Fault::TypeMismatch(place)),
@@ -146,7 +146,7 @@ fn map_view<'a>(
     requires known { Knows types.now (InterfaceType.Map i) }
     ensures { Viewed types.now (InterfaceType.Map i) value.now place result }
 {
-    let _map = types.map(i);
+    let _map = types.map(i); // the type at this index is a map
     match value {
         Val::Map(pairs) => Ok(View::List(Elements::Pairs(i, pairs))),
         _ => Err(Fault::TypeMismatch(place)),

@@ -60,8 +60,8 @@ impl<T, G> Core<T, G> {
         requires { HasResource (types_of self.now) ty }
         ensures { HasType (Some (types_of self.now)) ty self.now.ledger }
     {
-        let _table = self.component.types.types().resource_table(ty);
-        let _instances = self.ledger.instances();
+        let _table = self.component.types.types().resource_table(ty); // its instance is below 256
+        let _instances = self.ledger.instances(); // the ledger has 257 tables
     }
 
     /// Lowers an own handle of the host, as `canon_leaves::lower_own`.
