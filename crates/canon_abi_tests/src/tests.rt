@@ -4,6 +4,7 @@ use canon_abi::{CanonicalAbiInfo, DiscriminantSize, FlagsSize};
 
 #[test]
 fn discriminants_have_1_2_or_4_bytes(rt: HostRuntime) {
+    // By CanonicalABI.md's discriminant_type: one byte up to 2^8 cases, two up to 2^16, else four.
     for (count, bytes) in [(1, 1), (256, 1), (257, 2), (65_536, 2), (65_537, 4)] {
         let size = DiscriminantSize::from_count(count);
         assert!(rt; size.map(|size| size.byte_size()) == Some(bytes));
@@ -13,6 +14,7 @@ fn discriminants_have_1_2_or_4_bytes(rt: HostRuntime) {
 
 #[test]
 fn flags_take_1_2_or_4_bytes_a_word(rt: HostRuntime) {
+    // By wasmtime's FlagsSize: one byte, two, or words of 32 flags, of which there are at most 255.
     for (count, size) in [
         (0, Some(FlagsSize::Size0)),
         (8, Some(FlagsSize::Size1)),
@@ -32,6 +34,7 @@ fn flags_take_1_2_or_4_bytes_a_word(rt: HostRuntime) {
 
 #[test]
 fn a_record_places_each_field_at_its_alignment(rt: HostRuntime) {
+    // By CanonicalABI.md's elem_size_record: the fields stand at 0, 4 and 8 and end at 10, which is rounded up to 12.
     let fields = [
         CanonicalAbiInfo::SCALAR1,
         CanonicalAbiInfo::SCALAR4,

@@ -49,6 +49,7 @@ fn named(rt: &impl Abort, alloc: Global, name: &str, value: Val) -> (String, Val
     (String::from_str(alloc, name).expect(rt, "memory"), value)
 }
 
+// The text's length in 8 bytes, low byte first, the text in UTF-8, and the number in 4 bytes, low byte first.
 /// The bytes of a record of U+00E9 and 7.
 const IMAGE: [u8; 14] = [2, 0, 0, 0, 0, 0, 0, 0, 0xc3, 0xa9, 7, 0, 0, 0];
 

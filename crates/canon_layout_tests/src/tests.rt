@@ -15,6 +15,7 @@ fn printed(alloc: Global, input: &str) -> Result<Result<String, ScriptError>, Fa
 
 #[test]
 fn each_type_and_function_prints_its_line(rt: HostRuntime) -> Result<(), Fail> {
+    // Numbers by CanonicalABI.md's alignment, elem_size and flatten_type; at most 16 words of parameters and 1 of results.
     let rows = [
         (
             r#"{"types":[{"record":[["a","u8"],["b","u64"],["c","u16"]]},{"variant":[["x"],["y","u64"]]},{"flags":["a","b","c","d","e","f","g","h","i"]}],"funcs":[{"params":[0],"results":[1]}]}"#,

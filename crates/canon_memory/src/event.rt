@@ -1,3 +1,5 @@
+//! The events of a guest's journal, and the list of them.
+
 ghost use Rattle.std.specs.Prelude.{◌≡◌, ◌<◌, ◌≤◌, ◌-◌, ℕ, List, [], ◌∷◌, ◌++◌, length, take, OnOk, OnErr, IfErr};
 ghost use Rattle.canon_memory.specs.declared.event.Event.{Event};
 

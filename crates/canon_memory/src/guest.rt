@@ -1,3 +1,5 @@
+//! The trait of a component's code: it starts, resumes, reallocates, and runs post-return and destructors.
+
 ghost use Rattle.std.specs.Prelude.{ℕ, ◌<◌, ◌^◌, ◌++◌, List, [], IfOk, OnOk};
 ghost use Rattle.canon_memory.specs.declared.event.Event.{Event};
 ghost use Rattle.canon_memory.specs.Guest.{Goes, GuestIn, HasCause, OnAnswer, Reallocates, Seen, guest_in, moment};

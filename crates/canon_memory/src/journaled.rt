@@ -1,3 +1,5 @@
+//! A guest together with the journal of what it was asked and did.
+
 ghost use Rattle.std.specs.Prelude.{◌≡◌, ◌+◌, List, ◌∷◌, [], ◌++◌, length, Some, IfOk, OnOk, OnErr};
 ghost use Rattle.canon_memory.specs.declared.event.Event.TheVariants as event;
 ghost use Rattle.canon_memory.specs.Guest.{Recorded, of_guest};

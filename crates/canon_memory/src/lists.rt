@@ -1,3 +1,5 @@
+//! Lists of core words and lists of bytes.
+
 ghost use Rattle.std.specs.Prelude.{◌≡◌, ℕ, List, [], ◌∷◌, ◌++◌, length, IfOk, IfErr, OnOk, OnErr};
 
 use crate::{MemoryError, ValRaw};

@@ -1,3 +1,5 @@
+//! A guest's linear memory, of at most 2^32 bytes.
+
 ghost use Rattle.std.specs.Prelude.{◌≡◌, ◌^◌, ◌≤◌, ◌<◌, ℕ, List, length, replicate, IfOk, Err, ◌↔◌};
 
 use crate::MemoryError;

@@ -1,3 +1,5 @@
+//! A core word, by the name of wasmtime's ValRaw, made from and read as the core types.
+
 ghost use Rattle.std.specs.Prelude.{◌≡◌, ◌^◌, ◌%◌, ℕ};
 ghost use Rattle.std.specs.Int.{cast_signed, cast_unsigned, w32, w64};
 ghost use Rattle.canon_model.specs.Memory.{low};

@@ -103,6 +103,7 @@ fn writer_of(alloc: Global, answer: Words) -> Writer {
 
 #[test]
 fn a_word_of_32_bits_stands_in_the_low_half(rt: HostRuntime) {
+    // In two's complement -1 is 2^32 - 1. A float is given as its bits.
     let whole = [
         ValRaw::i32(-1).get_u64(),
         ValRaw::u32(7).get_u64(),

@@ -1,3 +1,5 @@
+//! Whether a type reaches no handle.
+
 ghost use Rattle.std.specs.Prelude.{◌≡◌, All, filter_map};
 ghost use Rattle.canon_types.specs.Keeps.{field_members, fields_type};
 ghost use Rattle.canon_types.specs.Table.{Knows, members_of, parts, shape_of};

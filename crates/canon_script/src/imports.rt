@@ -1,3 +1,5 @@
+//! Reads the imports of a script from JSON, with the answers of the host's functions.
+
 ghost use Rattle.std.specs.Prelude.{◌≡◌, ◌++◌, ◌∷◌, [], List, IfErr, OnOk, false, length, map, option_and_then, ℕ};
 ghost use Rattle.serde_json.specs.Find.{as_array};
 ghost use Rattle.serde_json.specs.View.{items_view, view};

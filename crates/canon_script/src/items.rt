@@ -1,3 +1,5 @@
+//! Reads the items of a script from JSON: calls, new resources and drops.
+
 ghost use Rattle.std.specs.Prelude.{◌≡◌, length, Some, option_map, option_and_then};
 ghost use Rattle.std.specs.Option.{option_map_or};
 ghost use Rattle.serde_json.specs.Find.{as_object};

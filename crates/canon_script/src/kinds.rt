@@ -1,3 +1,5 @@
+//! The kinds of values, and the names that a script gives them.
+
 ghost use Rattle.std.specs.Prelude.{◌≡◌};
 ghost use Rattle.canon_script.specs.Values as spec;
 

@@ -1,3 +1,5 @@
+//! The limits of memory and work that a script has to keep.
+
 ghost use Rattle.std.specs.Prelude.{◌≡◌, ◌≤◌, ◌<◌, ◌+◌, map, length, sum_by, MatchOption};
 ghost use Rattle.canon_script.specs.Actions as acted;
 ghost use Rattle.canon_script.specs.Script as spec;

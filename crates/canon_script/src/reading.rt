@@ -1,3 +1,5 @@
+//! Reads a whole script and its settings from JSON.
+
 ghost use Rattle.std.specs.Prelude.{◌≡◌, ◌≤◌, IfOk, map, option_map};
 ghost use Rattle.serde_json.specs.View.{view, items_view};
 ghost use Rattle.canon_json.specs.Json.{Gives};

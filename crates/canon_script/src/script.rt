@@ -1,3 +1,5 @@
+//! A script and its items, once they are read.
+
 use canon_scripted::{Action, Ordered};
 use canon_types::{ComponentTypes, StringEncoding};
 use canon_value::{Import, Val};

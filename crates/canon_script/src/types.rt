@@ -1,3 +1,5 @@
+//! Reads what a script declares from JSON: resources, types, functions and imports.
+
 ghost use Rattle.serde_json.specs.View.{items_view};
 ghost use Rattle.canon_json.specs.Json.{Gives};
 ghost use Rattle.canon_script.specs.Types as spec;

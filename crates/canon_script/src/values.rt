@@ -1,3 +1,5 @@
+//! Reads values from JSON.
+
 ghost use Rattle.std.specs.Prelude.{◌≡◌, ◌^◌, ◌++◌, [], ◌∷◌, ℤ, Some, map, option_map, option_and_then, OnOk, IfErr, string_bytes};
 ghost use Rattle.std.specs.Str.{chars};
 ghost use Rattle.serde_json.specs.Find.{as_array, as_str};

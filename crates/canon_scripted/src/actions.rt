@@ -1,3 +1,5 @@
+//! The actions of a scripted guest, and how they are carried out in its memory.
+
 ghost use Rattle.std.specs.Prelude.{◌≡◌, ◌≤◌, ◌<◌, ◌+◌, List, ◌∷◌, length, OnOk, OnErr, IfErr};
 ghost use Rattle.std.specs.Vec.Iter.{into_iter_items};
 ghost use Rattle.canon_memory.specs.Guest.{OnAnswer};

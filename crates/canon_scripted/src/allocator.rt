@@ -1,3 +1,5 @@
+//! The allocator of a scripted guest, which goes up from an address and answers `realloc` by five rules.
+
 ghost use Rattle.std.specs.Prelude.{◌≡◌, ◌+◌, ◌<◌, ◌≤◌, ◌^◌, ◌++◌, List, drop, length, take};
 ghost use Rattle.std.specs.Vec.{vec_len, vec_capacity};
 ghost use Rattle.canon_model.specs.Memory.{Block};

@@ -1,3 +1,5 @@
+//! A guest that carries out the actions of a script.
+
 ghost use Rattle.std.specs.Prelude.{◌≡◌, ◌≤◌, ◌<◌, ◌+◌, ◌++◌, ◌^◌, ◌∷◌, [], Bool, None, false, length, IfOk, OnErr};
 ghost use Rattle.std.specs.Vec.{vec_len, vec_capacity};
 ghost use Rattle.canon_memory.specs.Realloc.{call};

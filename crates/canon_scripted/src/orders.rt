@@ -1,3 +1,5 @@
+//! What a script orders of the next calls of `realloc`.
+
 ghost use Rattle.std.specs.Prelude.{List};
 
 use std::alloc::Global;

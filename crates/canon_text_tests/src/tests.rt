@@ -79,6 +79,7 @@ fn a_compact_text_is_latin1_where_it_can_be(rt: HostRuntime) {
     let mut dst = [0; 4];
     assert!(rt; utf16_to_compact_probably_utf16(&[0x61, 0xE9], &mut dst) == Ok(2));
     assert!(rt; dst == [0x61, 0xE9, 0xE9, 0]);
+    // The length 2 with UTF16_TAG of CanonicalABI.md, which is 2^31.
     let tagged = utf16_to_compact_probably_utf16(&[0x61, 0x4E2D], &mut dst);
     assert!(rt; tagged == Ok(2_147_483_650));
     assert!(rt; dst == [0x61, 0, 0x2D, 0x4E]);
@@ -261,6 +262,7 @@ fn plain_units(u: u16, v: u16) -> Result<(u32, Option<u32>), u64> {
 
 #[test]
 fn units_around_the_surrogates_are_read_as_a_plain_decoder_reads_them(rt: HostRuntime) {
+    // The borders of UTF-8's lengths and of the surrogates, and their neighbours.
     let edges: [u16; 16] = [
         0, 0x7F, 0x80, 0x7FF, 0x800, 0xD7FE, 0xD7FF, 0xD800, 0xD801, 0xDBFF, 0xDC00, 0xDC01,
         0xDFFF, 0xE000, 0xE001, 0xFFFF,
@@ -306,6 +308,7 @@ fn plain_len(c: u32) -> u64
 #[test]
 fn overlong_forms_and_surrogates_are_no_utf8(rt: HostRuntime) {
     let mut units = [0; 4];
+    // By RFC 3629's table: E0 is followed by A0 to BF, ED by 80 to 9F, F0 by 90 to BF, F4 by 80 to 8F.
     let zero = Err(TextError::InvalidUtf8(0));
     assert!(rt; utf8_to_utf16(&[0xE0, 0x9F, 0xBF], &mut units) == zero);
     assert!(rt; utf8_to_utf16(&[0xED, 0xA0, 0x80], &mut units) == zero);

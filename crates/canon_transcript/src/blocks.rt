@@ -1,3 +1,5 @@
+//! The blocks that the events of `realloc` leave, and their bytes.
+
 ghost use Rattle.std.specs.Prelude.{◌≡◌, ◌++◌, IfOk, OnOk, string_bytes};
 ghost use Rattle.std.specs.List.{position};
 ghost use Rattle.canon_transcript.specs.Blocks as spec;

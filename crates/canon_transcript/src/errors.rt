@@ -1,3 +1,5 @@
+//! The texts of errors.
+
 ghost use Rattle.std.specs.Prelude.{◌≡◌, ◌++◌, IfOk, OnOk, string_bytes};
 ghost use Rattle.canon_transcript.specs.Text as spec;
 

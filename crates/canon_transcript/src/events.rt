@@ -1,3 +1,5 @@
+//! The lines of events, and of the asks that functions of the host served.
+
 ghost use Rattle.std.specs.Prelude.{[], None, ◌≡◌, ◌<◌, ◌++◌, IfOk, IfSome, OnOk, drop, length, string_bytes, take};
 ghost use Rattle.std.specs.List.{slice_get};
 ghost use Rattle.canon_transcript.specs.Blocks.{blocks_left};

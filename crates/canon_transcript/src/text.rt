@@ -1,3 +1,5 @@
+//! The text of a transcript, of a record's first line and of its answer.
+
 ghost use Rattle.std.specs.Prelude.{◌≡◌, ◌++◌, IfOk, OnOk, string_bytes};
 ghost use Rattle.canon_transcript.specs.Text as spec;
 

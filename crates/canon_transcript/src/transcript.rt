@@ -1,3 +1,5 @@
+//! What a played script leaves: a record for each of its items.
+
 ghost use Rattle.std.specs.Prelude.{◌≡◌, List, [], ◌∷◌, ◌++◌, OnOk, OnErr};
 ghost use Rattle.canon_transcript.specs.declared.transcript.Record.{Record};
 

@@ -1,3 +1,5 @@
+//! The texts of values.
+
 ghost use Rattle.std.specs.Prelude.{[], if◌then◌else◌, ◌≡◌, ◌++◌, IfOk, OnOk, codes, string_bytes};
 ghost use Rattle.canon_transcript.specs.Text as spec;
 

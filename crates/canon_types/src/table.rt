@@ -1,3 +1,5 @@
+//! The table of a component's types, and how they are looked up.
+
 ghost use Rattle.std.specs.Prelude.{◌≡◌, ◌≢◌, ◌<◌, ◌≤◌, ◌^◌, false, true, map, None, Some, nat_lt, slice_get, MatchOption, length, All, IfOk, IfErr, OnErr, IsTrue, ◌↔◌};
 ghost use Rattle.std.specs.Result.{result_err};
 ghost use Rattle.std.specs.List.{list_all, list_any};

@@ -1,3 +1,5 @@
+//! The types of values, and the definitions of those that have parts or names.
+
 ghost use Rattle.std.specs.Prelude.{◌≡◌};
 ghost use Rattle.canon_types.specs.Table.{place, plain_shape};
 ghost use Rattle.canon_types.specs.Depth.{has_borrow};

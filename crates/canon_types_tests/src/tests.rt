@@ -1,3 +1,5 @@
+//! Types that are added to a table, and types that are refused.
+
 mod look_ups;
 
 use canon_types::{
@@ -22,6 +24,7 @@ fn name(alloc: Global, text: &str) -> Result<String, Fail> {
 #[test]
 fn discriminants_of_enums_have_1_2_or_4_bytes(rt: HostRuntime) -> Result<(), Fail> {
     let alloc = rt.alloc();
+    // By CanonicalABI.md's discriminant_type: one byte up to 2^8 cases, two up to 2^16, else four.
     for (count, size) in [(256, 1), (257, 2), (65_536, 2), (65_537, 4)] {
         let mut builder = TypeBuilder::new(alloc);
         let ty = builder.add_enum(names(alloc, count)?)?;

@@ -1,3 +1,5 @@
+//! Stores values in a guest's memory.
+
 ghost use Rattle.std.specs.Prelude.{◌≡◌, ◌≤◌, ◌<◌, ◌+◌, ◌*◌, ◌%◌, ◌^◌, false, IfErr, Ok, OnOk, length};
 ghost use Rattle.canon_lowering.specs.Steps.{Writes};
 ghost use Rattle.canon_lowering.specs.Attempt.{StoresValue};

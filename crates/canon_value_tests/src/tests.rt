@@ -104,6 +104,7 @@ fn a_text_is_stored_and_loaded(rt: HostRuntime) {
     assert!(rt; text.store(&mut cx, InterfaceType::String, 8).is_ok());
     let mut cx = LiftContext::new(&mut core, OptionsIndex::from_u32(0));
     assert!(rt;
+        // `FRONT`; at 8, by CanonicalABI.md's store_string, the address 16 and the length 2; at 16, U+00E9 in UTF-8.
         cx.memory().starts_with(&[
             1, 2, 3, 4, 0xff, b'a', 0, 0, 16, 0, 0, 0, 2, 0, 0, 0, 0xc3, 0xa9
         ])
@@ -262,6 +263,7 @@ fn lifted(
 fn a_fault_in_words_is_told_at_its_word(rt: HostRuntime) {
     let alloc = rt.alloc();
     let value = r#"Ok(Tuple([Bool(true), List([U16(513), U16(1027)]), String("a"), Char('é')]))"#;
+    // The words point into `FRONT` and the zeros after it, 64 bytes in all: 513 is 1 + 2 * 256, and 1027 is 3 + 4 * 256.
     for (words, want) in [
         ([0, 2, 5, 1, 233], value),
         ([1, 2, 5, 1, 233], "Err(PointerMisaligned(Word(2)))"),
@@ -404,6 +406,7 @@ fn a_component_is_sound_where_its_imports_are_of_its_resources(rt: HostRuntime) 
 fn values_are_equal_by_their_parts(rt: HostRuntime) {
     let alloc = rt.alloc();
     let nan = Val::Float32(0x7fc0_0000);
+    // As of wasmtime's Val: NaNs are equal, whatever their bits, and the two zeros differ. 0x7f80_0000 is infinity.
     let equal = [
         nan == Val::Float32(0xffc0_0001),
         nan == Val::Float32(0x7f80_0000),

@@ -1,3 +1,5 @@
+//! How definitions, functions and resource tables are tested, measured and added to a table.
+
 ghost use Rattle.std.specs.Prelude.{◌≡◌, ◌≢◌, ◌+◌, ◌^◌, ◌&&◌, ◌||◌, ◌≤◌, ◌<◌, ◌++◌, ◌∷◌, [], All, true, false, filter_map, length, map, option_to_list, Some, None, IfOk, OnOk, IfErr, OnErr, string_bytes};
 ghost use Rattle.std.specs.List.{list_all, list_any};
 ghost use Rattle.std.specs.Result.{result_err};

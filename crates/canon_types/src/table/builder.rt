@@ -1,3 +1,5 @@
+//! The builder of a table of types.
+
 ghost use Rattle.std.specs.Prelude.{◌≡◌, ◌≢◌, Err, IfErr, IfOk, Ok, OnErr, Some, if◌then◌else◌, length, nat_lt};
 ghost use Rattle.canon_types.specs.Keeps.{cases_type, fields_type, names_of};
 ghost use Rattle.canon_types.specs.Refusal.{Adds, AddsFunc, AddsResource, empty_table, func_refusal, refusal, resource_refusal};

@@ -1,3 +1,5 @@
+//! Tests the number of names, and that none is repeated.
+
 ghost use Rattle.std.specs.Prelude.{◌≡◌, ◌≢◌, ◌≤◌, ◌<◌, false, true, length, map, string_bytes, IfOk, IfErr, OnOk};
 ghost use Rattle.canon_types.specs.Refusal.{has_repeats};
 
