@@ -1,5 +1,5 @@
 -- A tree fits a shape as far as lowering to words asks: its lists of fixed length are as long as their type says.
-use Rattle.std.specs.Prelude.{suc, zero, ⊤, ℕ, ◌×◌, ◌≡◌}
+use Rattle.std.specs.Prelude.{suc, zero, ⊤, ℕ, ◌≡◌}
 use Rattle.canon_model.specs.Shape.{Cases, Members, Shape, bare, borrow, fixed, flags, list, member, no_cases, no_members, own, payload, product, scalar, string, variant}
 use Rattle.canon_model.specs.Tree.{Tree, Trees, case_number, no_trees, payload_of, tree, tree_count, trees_of}
 
