@@ -1,0 +1,8 @@
+use Rattle.std.proofs.Common.{[], ◌∷◌}
+use Rattle.canon_typed.proofs.TooLarge.{member_too_large, no_abi}
+use Rattle.canon_typed.specs.Types.{IsTupleOf}
+use Rattle.canon_typed.proofs.tuples.Tuple1ComponentType.abi.Goals as goal
+
+pub returns-in_err-first : goal.returns-in_err-first
+returns-in_err-first g c i type f = no_abi (IsTupleOf (g.A.ComponentType.fits ∷ [])) c.from_residual.result c.from_residual.ensures
+    (member_too_large [] [] g.A.ComponentType.fits c.in_err-first.ensures) i type f

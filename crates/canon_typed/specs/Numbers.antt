@@ -1,0 +1,24 @@
+-- What numbers a Rust type tells of its component type.
+use Rattle.std.specs.Prelude.{MatchOption, None, Option, Some, false, ⊤, ◌<◌, ◌^◌, ◌≡◌, ◌≤◌, ℕ}
+use Rattle.canon_abi.specs.Abi.{HasInfo, HasLayout}
+use Rattle.canon_abi.specs.Numbers.{flat_within}
+use Rattle.canon_abi.specs.declared.abi.CanonicalAbiInfo.{CanonicalAbiInfo}
+use Rattle.canon_abi.specs.declared.abi.VariantInfo.{VariantInfo}
+use Rattle.canon_model.specs.Layout.{flat, size}
+use Rattle.canon_model.specs.Shape.{Shape}
+use Rattle.canon_types.specs.Depth.{variant_cases}
+
+-- the number of words up to 16, of a type whose size is told
+abbrev pub TellsFlat : Option ℕ → Shape → Type 0
+TellsFlat told s = size false s < 2 ^ 32 → told ≡ flat_within (flat s)
+
+-- the discriminant and the payload's place, unless the size passes 2^32 - 1
+abbrev pub TellsInfo : Option VariantInfo → Shape → Type 0
+TellsInfo told s = MatchOption told (2 ^ 32 ≤ size false s) (λ info. HasInfo info (variant_cases s))
+
+-- the numbers of a case's payload, if it has one, unless the payload's size passes 2^32 - 1
+abbrev pub TellsPayload : Option (Option CanonicalAbiInfo) → Option Shape → Type 0
+TellsPayload None (Some s) = 2 ^ 32 ≤ size false s
+TellsPayload (Some None) None = ⊤
+TellsPayload (Some (Some abi)) (Some s) = HasLayout abi s
+TellsPayload _ _ = ⊥
