@@ -1,5 +1,5 @@
 -- The names of the flags that are set, and their text, one name more.
-use Rattle.std.proofs.Common.{◌≡◌, ◌≤◌, ◌<◌, ◌+◌, ◌++◌, ◌∙◌, Bool, List, String, [], ◌∷◌, ap, append_assoc, arith, cond, false, filter, get_or, append-nil, length, map, refl, string_bytes, subst, suc, sym, take, true, zero, ℕ, if◌then◌else◌}
+use Rattle.std.proofs.Common.{◌≡◌, ◌<◌, ◌+◌, ◌++◌, ◌∙◌, Bool, List, String, [], ◌∷◌, ap, append_assoc, arith, cond, false, filter, get_or, append-nil, length, map, refl, string_bytes, subst, sym, take, true, ℕ}
 use Rattle.std.specs.List.{enumerate_from, join_with_byte}
 use Rattle.std.proofs.lemmas.List.Elements.{filter-append}
 use Rattle.std.proofs.lemmas.List.{length-map, length-take-le, map-append, take_more}

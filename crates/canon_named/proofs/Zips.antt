@@ -1,7 +1,7 @@
 -- Two lists in step, one place more, and a place that is found.
-use Rattle.std.proofs.Common.{◌≡◌, ◌<◌, ◌+◌, ◌++◌, ◌∙◌, List, [], ◌∷◌, Err, Ok, OnErr, Result, ap, arith, get_or, inl, inr, length, map, refl, subst, suc, sym, take, zero, ℕ}
+use Rattle.std.proofs.Common.{◌≡◌, ◌<◌, ◌+◌, ◌++◌, List, [], ◌∷◌, Err, Ok, OnErr, OnOk, Result, arith, get_or, inl, inr, length, subst, suc, sym, take, zero, ℕ}
 use Rattle.std.specs.List.{AllZip}
-use Rattle.std.proofs.lemmas.List.{get_or-map, take_more}
+use Rattle.std.proofs.lemmas.List.{take_more}
 use Rattle.canon_named.specs.Named.{AnyZip}
 
 module _ {A B : Type 0} (R : A → B → Type 0) where
@@ -31,3 +31,12 @@ module _ {A B : Type 0} (R : A → B → Type 0) where
 pub on_err : {V E P : Type 0} (r : Result V E) → P → OnErr r P
 on_err (Ok v) p = tt
 on_err (Err e) p = p
+
+-- what follows on a value, and on an error
+pub on_ok_then : {V E P Q : Type 0} (r : Result V E) → (P → Q) → OnOk r P → OnOk r Q
+on_ok_then (Ok v) f p = f p
+on_ok_then (Err e) f p = tt
+
+pub on_err_then : {V E P Q : Type 0} (r : Result V E) → (P → Q) → OnErr r P → OnErr r Q
+on_err_then (Ok v) f p = tt
+on_err_then (Err e) f p = f p

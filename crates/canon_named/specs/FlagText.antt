@@ -1,5 +1,5 @@
 -- The text of flags: the names of those that are set, between bars and in parentheses.
-use Rattle.std.specs.Prelude.{◌≡◌, ◌/◌, ◌%◌, ◌==◌, ◌++◌, Bool, List, [], ◌∷◌, filter, map, slice_index, ℕ}
+use Rattle.std.specs.Prelude.{◌/◌, ◌%◌, ◌==◌, ◌++◌, Bool, List, [], ◌∷◌, filter, map, slice_index, ℕ}
 use Rattle.std.specs.Int.{bit_at}
 use Rattle.std.specs.List.{enumerate_from, join_with_byte}
 use Rattle.canon_model.specs.Shape.{Name}

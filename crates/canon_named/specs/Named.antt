@@ -1,5 +1,5 @@
 -- Types of these names: records and variants whose parts have types that pass a test, enums and flags.
-use Rattle.std.specs.Prelude.{◌≡◌, ◌⊎◌, ⊤, Err, List, Ok, Option, None, Result, Some, [], ◌∷◌, length}
+use Rattle.std.specs.Prelude.{◌≡◌, ◌⊎◌, ⊤, Err, List, Ok, Option, None, Result, Some, ◌∷◌, length}
 use Rattle.std.specs.Borrow.{Bor}
 use Rattle.std.specs.List.{zip}
 use Rattle.canon_model.specs.Shape.{Name}

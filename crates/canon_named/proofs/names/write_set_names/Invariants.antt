@@ -1,4 +1,4 @@
-use Rattle.std.proofs.Common.{◌≡◌, List, map, string_bytes, take, ℕ}
+use Rattle.std.proofs.Common.{◌≡◌, map, string_bytes, take}
 use denote.Text.{Utf8}
 use denote.Shadow.{shadow}
 use Rattle.std.specs.Fmt.{HasWritten, IsPlainFormatter}
