@@ -41,9 +41,10 @@ module _ {A B C : Type 0} (f : A → B) (g : A → C) (xs : List A) where
 
   -- the names and the parts of zipped ones
   zipped_apart : (bs : List B) (cs : List C) → length bs ≡ length cs → map (λ x. (f x, g x)) xs ≡ zip bs cs → (map f xs ≡ bs) × (map g xs ≡ cs)
-  zipped_apart bs cs l e =
-      (sym (map-map (λ (p : B × C). p.0) (λ x. (f x, g x)) xs) ∙ ap (map (λ (p : B × C). p.0)) e ∙ firsts-zip bs cs l,
-       sym (map-map (λ (p : B × C). p.1) (λ x. (f x, g x)) xs) ∙ ap (map (λ (p : B × C). p.1)) e ∙ seconds-zip bs cs l)
+  zipped_apart bs cs l e = (
+    sym (map-map (λ (p : B × C). p.0) (λ x. (f x, g x)) xs) ∙ ap (map (λ (p : B × C). p.0)) e ∙ firsts-zip bs cs l,
+    sym (map-map (λ (p : B × C). p.1) (λ x. (f x, g x)) xs) ∙ ap (map (λ (p : B × C). p.1)) e ∙ seconds-zip bs cs l,
+  )
 
 -- ---- elements of lists that were made by maps
 
@@ -65,9 +66,10 @@ record_fields _ = []
 
 module _ (t : Table) (i : ℕ) (fields : List RecordField) (defined : IsDefined t (ty.Record i) (fields_type fields)) where
   pub record_has : (names : List Name) → field_names fields ≡ names → HasFields names t (ty.Record i) (field_types fields)
-  record_has names e = subst (λ (ns : List Name). HasFields ns t (ty.Record i) (field_types fields)) e
-      (subst (λ (fs : List (Name × InterfaceType)). IsDefined t (ty.Record i) (RecordType fs)) (sym (zip-maps (λ (f : RecordField). string_bytes f.name) (λ (f : RecordField). f.ty) fields)) defined,
-       maps_long (λ (f : RecordField). string_bytes f.name) (λ (f : RecordField). f.ty) fields)
+  record_has names e = subst (λ (ns : List Name). HasFields ns t (ty.Record i) (field_types fields)) e (
+    subst (λ (fs : List (Name × InterfaceType)). IsDefined t (ty.Record i) (RecordType fs)) (sym (zip-maps (λ (f : RecordField). string_bytes f.name) (λ (f : RecordField). f.ty) fields)) defined,
+    maps_long (λ (f : RecordField). string_bytes f.name) (λ (f : RecordField). f.ty) fields,
+  )
 
   pub record_is : (names : List Name) (types : List InterfaceType) → HasFields names t (ty.Record i) types → (field_names fields ≡ names) × (field_types fields ≡ types)
   unfolding record_fields
@@ -104,16 +106,17 @@ module _ (t : Table) where
 
 module _ (t : Table) (i : ℕ) (cases : List (String Global × Option InterfaceType)) (defined : IsDefined t (ty.Variant i) (cases_type cases)) where
   pub variant_has : (names : List Name) → names_of (map (λ c. c.0) cases) ≡ names → HasCases names t (ty.Variant i) (map (λ c. c.1) cases)
-  variant_has names e = subst (λ (ns : List Name). HasCases ns t (ty.Variant i) (map (λ c. c.1) cases)) (sym (map-map (λ (n : String Global). string_bytes n) (λ (c : String Global × Option InterfaceType). c.0) cases) ∙ e)
-      (subst (λ (cs : List (Name × Option InterfaceType)). IsDefined t (ty.Variant i) (VariantType cs)) (sym (zip-maps (λ (c : String Global × Option InterfaceType). string_bytes c.0) (λ (c : String Global × Option InterfaceType). c.1) cases)) defined,
-       maps_long (λ (c : String Global × Option InterfaceType). string_bytes c.0) (λ (c : String Global × Option InterfaceType). c.1) cases)
+  variant_has names e = subst (λ (ns : List Name). HasCases ns t (ty.Variant i) (map (λ c. c.1) cases)) (sym (map-map (λ (n : String Global). string_bytes n) (λ (c : String Global × Option InterfaceType). c.0) cases) ∙ e) (
+    subst (λ (cs : List (Name × Option InterfaceType)). IsDefined t (ty.Variant i) (VariantType cs)) (sym (zip-maps (λ (c : String Global × Option InterfaceType). string_bytes c.0) (λ (c : String Global × Option InterfaceType). c.1) cases)) defined,
+    maps_long (λ (c : String Global × Option InterfaceType). string_bytes c.0) (λ (c : String Global × Option InterfaceType). c.1) cases,
+  )
 
   pub variant_is : (names : List Name) (payloads : List (Option InterfaceType)) → HasCases names t (ty.Variant i) payloads
-    → (names_of (map (λ c. c.0) cases) ≡ names) × (map (λ c. c.1) cases ≡ payloads)
+      → (names_of (map (λ c. c.0) cases) ≡ names) × (map (λ c. c.1) cases ≡ payloads)
   unfolding variant_cases
   variant_is names payloads h =
       let apart = zipped_apart (λ (c : String Global × Option InterfaceType). string_bytes c.0) (λ (c : String Global × Option InterfaceType). c.1) cases names payloads h.1
-            (ap variant_cases (same_definition t (ty.Variant i) _ _ defined h.0)) in
+      (ap variant_cases (same_definition t (ty.Variant i) _ _ defined h.0)) in
       (map-map (λ (n : String Global). string_bytes n) (λ (c : String Global × Option InterfaceType). c.0) cases ∙ apart.0, apart.1)
 
   pub payloads_known : All (KnowsPayload t) (map (λ c. c.1) cases)

@@ -3,9 +3,9 @@ use Rattle.std.proofs.Common.{◌≡◌, ◌<◌, ◌+◌, ◌++◌, ◌∙◌, 
 use Rattle.std.specs.List.{enumerate_from, join_with_byte}
 use Rattle.std.proofs.lemmas.List.Elements.{filter-append}
 use Rattle.std.proofs.lemmas.List.{length-map, length-take-le, map-append, take_more}
-use Rattle.std.specs.Fmt.{HasWritten}
+use Rattle.std.specs.Fmt.{HasWritten, HasWrittenStyled, IsDefaultSpec, IsPlainFormatter}
 use Rattle.std.specs.declared.fmt.Formatter.{Formatter}
-use Rattle.std.proofs.lemmas.Grind.{put_three}
+use Rattle.std.proofs.Output.{has_written_styled_append, has_written_styled_of_eq}
 use Rattle.std.specs.declared.alloc.Global.{Global}
 use Rattle.canon_model.specs.Shape.{Name}
 use Rattle.canon_named.specs.FlagText.{is_set, set_names}
@@ -67,21 +67,36 @@ set_step words names k x l e is = chosen_more true words names k x l e ∙ ap (�
 pub unset_step : (words : List ℕ) (names : List (String Global)) (k : ℕ) (x : String Global) → k < length names → is_set words k ≡ false → set_names words (named_before names (k + 1)) ≡ set_names words (named_before names k)
 unset_step words names k x l e = chosen_more false words names k x l e ∙ append-nil _
 
--- the text so far, the bar and one name more
-pub name_written : {W : Type 0} (took : W → List ℕ → W → Type 0) (f g h i j : Formatter W) (xs all : List Name) (x : Name) (bar text : List ℕ) →
-  bar ≡ bar_after xs → all ≡ xs ++ x ∷ [] → text ≡ x → j ≡ i
-  → HasWritten took f (join_with_byte 124 xs) g → HasWritten took g bar h → HasWritten took h text i → HasWritten took f (join_with_byte 124 all) j
-name_written took f g h i j xs all x bar text is more named after a b c =
-    subst (λ k. HasWritten took f (join_with_byte 124 all) k) (sym after)
-      (put_three took f g h i (join_with_byte 124 xs) bar text (join_with_byte 124 all) a b c
-        (ap (λ (y : List ℕ). join_with_byte 124 xs ++ (y ++ text)) is
-          ∙ ap (λ (y : List ℕ). join_with_byte 124 xs ++ (bar_after xs ++ y)) named
-          ∙ sym (joined_more xs x)
-          ∙ ap (join_with_byte 124) (sym more)))
+module _ {W : Type 0} (took : W → List ℕ → W → Type 0) where
+  -- the text so far, the bar and one name more
+  pub name_written : (f g h i j : Formatter W) (xs all : List Name) (x : Name) (bar text : List ℕ) →
+      bar ≡ bar_after xs → all ≡ xs ++ x ∷ [] → text ≡ x → j ≡ i
+      → HasWrittenStyled took f (join_with_byte 124 xs) g → HasWrittenStyled took g bar h → HasWrittenStyled took h text i → HasWrittenStyled took f (join_with_byte 124 all) j
+  name_written f g h i j xs all x bar text is more named after a b c =
+      subst (λ k. HasWrittenStyled took f (join_with_byte 124 all) k) (sym after)
+      (has_written_styled_of_eq took f (join_with_byte 124 xs ++ (bar ++ text)) (join_with_byte 124 all) i
+      (ap (λ (y : List ℕ). join_with_byte 124 xs ++ (y ++ text)) is
+      ∙ ap (λ (y : List ℕ). join_with_byte 124 xs ++ (bar_after xs ++ y)) named
+      ∙ sym (joined_more xs x)
+      ∙ ap (join_with_byte 124) (sym more))
+      (has_written_styled_append took f (join_with_byte 124 xs) g (bar ++ text) i a (has_written_styled_append took g bar h text i b c)))
 
--- the text so far alone
-pub none_written : {W : Type 0} (took : W → List ℕ → W → Type 0) (f g j : Formatter W) (xs all : List Name) → all ≡ xs → j ≡ g
-  → HasWritten took f (join_with_byte 124 xs) g → HasWritten took f (join_with_byte 124 all) j
-none_written took f g j xs all same after a =
-    subst (λ k. HasWritten took f (join_with_byte 124 all) k) (sym after)
-      (subst (λ names. HasWritten took f (join_with_byte 124 names) g) (sym same) a)
+  -- the text so far alone
+  pub none_written : (f g j : Formatter W) (xs all : List Name) → all ≡ xs → j ≡ g
+      → HasWrittenStyled took f (join_with_byte 124 xs) g → HasWrittenStyled took f (join_with_byte 124 all) j
+  none_written f g j xs all same after a =
+      subst (λ k. HasWrittenStyled took f (join_with_byte 124 all) k) (sym after)
+      (subst (λ names. HasWrittenStyled took f (join_with_byte 124 names) g) (sym same) a)
+
+  -- the text between its parentheses
+  pub text_written : (f g h i : Formatter W) (text : List ℕ) → HasWrittenStyled took f (40 ∷ []) g → HasWrittenStyled took g text h → HasWrittenStyled took h (41 ∷ []) i
+      → HasWrittenStyled took f (40 ∷ (text ++ 41 ∷ [])) i
+  text_written f g h i text a b c =
+      has_written_styled_append took f (40 ∷ []) g (text ++ 41 ∷ []) i a (has_written_styled_append took g text h (41 ∷ []) i b c)
+
+  -- of a plain formatter
+  pub plain_written : (f g : Formatter W) (text : List ℕ) → IsPlainFormatter f → HasWrittenStyled took f text g → HasWritten took f text g
+  plain_written f g text plain a = record {
+    wrote = a.wrote;
+    plain = record { bare = subst IsDefaultSpec (sym a.spec) plain.bare; flush = a.flush };
+  }

@@ -13,12 +13,12 @@ module _ {A B : Type 0} (R : A → B → Type 0) where
 
   -- as far as one place more
   pub all_more : (xs : List A) (ys : List B) (k : ℕ) (d x : A) (e y : B) → k < length xs → k < length ys → get_or xs k d ≡ x → get_or ys k e ≡ y
-    → AllZip R (take k xs) (take k ys) → R x y → AllZip R (take (k + 1) xs) (take (k + 1) ys)
+      → AllZip R (take k xs) (take k ys) → R x y → AllZip R (take (k + 1) xs) (take (k + 1) ys)
   all_more xs ys k d x e y l m is same a h =
       subst (λ (us : List A). AllZip R us (take (k + 1) ys)) (sym (take_more xs k d l))
-        (subst (λ (vs : List B). AllZip R (take k xs ++ get_or xs k d ∷ []) vs) (sym (take_more ys k e m))
-          (all_push (take k xs) (take k ys) (get_or xs k d) (get_or ys k e) a
-            (subst (λ (u : A). R u (get_or ys k e)) (sym is) (subst (λ (v : B). R x v) (sym same) h))))
+      (subst (λ (vs : List B). AllZip R (take k xs ++ get_or xs k d ∷ []) vs) (sym (take_more ys k e m))
+      (all_push (take k xs) (take k ys) (get_or xs k d) (get_or ys k e) a
+      (subst (λ (u : A). R u (get_or ys k e)) (sym is) (subst (λ (v : B). R x v) (sym same) h))))
 
   -- at this place
   pub any_at : (xs : List A) (ys : List B) (k : ℕ) (d x : A) (e y : B) → k < length xs → k < length ys → get_or xs k d ≡ x → get_or ys k e ≡ y → R x y → AnyZip R xs ys

@@ -1,8 +1,9 @@
 -- Types of these names: records and variants whose parts have types that pass a test, enums and flags.
 use Rattle.std.specs.Prelude.{◌≡◌, ◌⊎◌, ⊤, Err, List, Ok, Option, None, Result, Some, ◌∷◌, length}
 use Rattle.std.specs.Borrow.{Bor}
-use Rattle.std.specs.List.{zip}
+use Rattle.std.specs.List.{AllZip, zip}
 use Rattle.canon_model.specs.Shape.{Name}
+use Rattle.canon_types.specs.Instance.{Instance}
 use Rattle.canon_types.specs.Table.{EnumType, FlagsType, IsDefined, RecordType, Table, VariantType}
 use Rattle.canon_types.specs.declared.types.InterfaceType.{InterfaceType}
 use Rattle.canon_types.specs.declared.types.InterfaceType.TheVariants as ty
@@ -41,27 +42,51 @@ passed = Ok tt
 abbrev pub failed : Answer
 failed = Err (record {})
 
--- a call of the test at a reference to the type, and one to the types of its component, may answer so
-pub record Answers {F T : Type 0} (May : F → Bor InterfaceType → Bor T → Answer → Type 0) (types : T) (r : Answer) (test : F) (type : InterfaceType) : Type 0 where
+-- R holds of the elements at some place
+abbrev pub AnyZip : {A B : Type 0} → (A → B → Type 0) → List A → List B → Type 0
+AnyZip R (x ∷ xs) (y ∷ ys) = R x y ⊎ AnyZip R xs ys
+AnyZip R _ _ = ⊥
+
+-- what calls of a test may answer, at references to a type and to the types of a component
+abbrev pub Calls : Type 0 → Type 1
+Calls F = F → Bor InterfaceType → Bor Instance → Answer → Type 0
+
+-- a call of the test at this type may answer so
+pub record Answers {F : Type 0} (May : Calls F) (types : Instance) (r : Answer) (test : F) (type : InterfaceType) : Type 0 where
   pub shown : Bor InterfaceType
   pub shows : shown.now ≡ type
-  pub beside : Bor T
+  pub beside : Bor Instance
   pub holds : beside.now ≡ types
   pub says : May test shown beside r
 
+-- ---- records
+
+-- a record with these names, whose fields' types passed their tests
+abbrev pub PassesRecord : {F : Type 0} → Calls F → Instance → List Name → List F → InterfaceType → Type 0
+PassesRecord May types names tests type = (fields : List InterfaceType) × HasFields names types.types type fields × AllZip (Answers May types passed) tests fields
+
+-- none with these names, or the type of some field failed its test
+abbrev pub FailsRecord : {F : Type 0} → Calls F → Instance → List Name → List F → InterfaceType → Type 0
+FailsRecord May types names tests type = (fields : List InterfaceType) → HasFields names types.types type fields → AnyZip (Answers May types failed) tests fields
+
+-- ---- variants
+
 -- a payload passes where its test does, and no payload where there is no test
-abbrev pub PassesPayload : {F T : Type 0} → (F → Bor InterfaceType → Bor T → Answer → Type 0) → T → Option F → Option InterfaceType → Type 0
+abbrev pub PassesPayload : {F : Type 0} → Calls F → Instance → Option F → Option InterfaceType → Type 0
 PassesPayload May types None None = ⊤
 PassesPayload May types (Some test) (Some type) = Answers May types passed test type
 PassesPayload May types _ _ = ⊥
 
 -- it fails where its test does, or where there is one of the two alone
-abbrev pub FailsPayload : {F T : Type 0} → (F → Bor InterfaceType → Bor T → Answer → Type 0) → T → Option F → Option InterfaceType → Type 0
+abbrev pub FailsPayload : {F : Type 0} → Calls F → Instance → Option F → Option InterfaceType → Type 0
 FailsPayload May types None None = ⊥
 FailsPayload May types (Some test) (Some type) = Answers May types failed test type
 FailsPayload May types _ _ = ⊤
 
--- R holds of the elements at some place
-abbrev pub AnyZip : {A B : Type 0} → (A → B → Type 0) → List A → List B → Type 0
-AnyZip R (x ∷ xs) (y ∷ ys) = R x y ⊎ AnyZip R xs ys
-AnyZip R _ _ = ⊥
+-- a variant with these names, whose payloads passed their tests
+abbrev pub PassesVariant : {F : Type 0} → Calls F → Instance → List Name → List (Option F) → InterfaceType → Type 0
+PassesVariant May types names tests type = (payloads : List (Option InterfaceType)) × HasCases names types.types type payloads × AllZip (PassesPayload May types) tests payloads
+
+-- none with these names, or some payload failed
+abbrev pub FailsVariant : {F : Type 0} → Calls F → Instance → List Name → List (Option F) → InterfaceType → Type 0
+FailsVariant May types names tests type = (payloads : List (Option InterfaceType)) → HasCases names types.types type payloads → AnyZip (FailsPayload May types) tests payloads

@@ -1,11 +1,10 @@
 //! Whether a type is a record, a variant, an enum or flags of these names, with parts whose types pass their tests.
 
-ghost use Rattle.std.specs.Prelude.{◌≡◌, All, IfSome, List, OnErr, OnOk, Option, length, map};
+ghost use Rattle.std.specs.Prelude.{◌≡◌, All, IfSome, OnErr, OnOk, length, map};
 ghost use Rattle.std.specs.List.{AllZip};
 ghost use Rattle.canon_types.specs.Keeps.{names_of};
 ghost use Rattle.canon_types.specs.Table.{Knows, KnowsPayload};
-ghost use Rattle.canon_types.specs.declared.types.InterfaceType.{InterfaceType};
-ghost use Rattle.canon_named.specs.Named.{Answers, AnyZip, FailsPayload, HasCases, HasFields, IsEnumOf, IsFlagsOf, PassesPayload, failed, passed};
+ghost use Rattle.canon_named.specs.Named.{Answers, AnyZip, FailsPayload, FailsRecord, FailsVariant, IsEnumOf, IsFlagsOf, PassesPayload, PassesRecord, PassesVariant, failed, passed};
 
 use crate::TypecheckFailed;
 use crate::names::{are_field_names, are_same_names};
@@ -22,8 +21,8 @@ pub fn typecheck_record(
     requires count { length names.now ≡ length parts.now }
     requires known { Knows types.now.types ty.now }
     requires callable { All (λ test. (a b : _) → Knows b.now.types a.now → pre test a b) parts.now }
-    ensures ok { OnOk result ((fields : List InterfaceType) × HasFields (names_of names.now) types.now.types ty.now fields × AllZip (Answers post types.now passed) parts.now fields) }
-    ensures err { OnErr result ((fields : List InterfaceType) → HasFields (names_of names.now) types.now.types ty.now fields → AnyZip (Answers post types.now failed) parts.now fields) }
+    ensures ok { OnOk result (PassesRecord post types.now (names_of names.now) parts.now ty.now) }
+    ensures err { OnErr result (FailsRecord post types.now (names_of names.now) parts.now ty.now) }
 {
     let InterfaceType::Record(i) = ty else {
         return Err(TypecheckFailed);
@@ -64,8 +63,8 @@ pub fn typecheck_variant(
     requires count { length names.now ≡ length parts.now }
     requires known { Knows types.now.types ty.now }
     requires callable { All (λ part. IfSome part (λ test. (a b : _) → Knows b.now.types a.now → pre test a b)) parts.now }
-    ensures ok { OnOk result ((payloads : List (Option InterfaceType)) × HasCases (names_of names.now) types.now.types ty.now payloads × AllZip (PassesPayload post types.now) parts.now payloads) }
-    ensures err { OnErr result ((payloads : List (Option InterfaceType)) → HasCases (names_of names.now) types.now.types ty.now payloads → AnyZip (FailsPayload post types.now) parts.now payloads) }
+    ensures ok { OnOk result (PassesVariant post types.now (names_of names.now) parts.now ty.now) }
+    ensures err { OnErr result (FailsVariant post types.now (names_of names.now) parts.now ty.now) }
 {
     let InterfaceType::Variant(i) = ty else {
         return Err(TypecheckFailed);

@@ -1,7 +1,7 @@
 //! Names in a row, and the text of those that are set.
 
 ghost use Rattle.std.specs.Prelude.{◌≡◌, ◌≤◌, ◌<◌, ◌+◌, ◌*◌, ◌/◌, ◌%◌, ◌==◌, ◌↔◌, IsTrue, length, map, slice_index, string_bytes};
-ghost use Rattle.std.specs.Fmt.{WritesOnOk};
+ghost use Rattle.std.specs.Fmt.{WritesOnOk, WritesStyledOnOk};
 ghost use Rattle.std.specs.List.{join_with_byte};
 ghost use Rattle.canon_types.specs.Keeps.{names_of};
 ghost use Rattle.canon_named.specs.FlagText.{flags_text, is_set, set_names};
@@ -38,7 +38,8 @@ pub fn format_flags<W: fmt::Write>(
     f: &mut fmt::Formatter<W>,
 ) -> fmt::Result
     requires words { length names.now ≤ 32 * length bits.now }
-    ensures { WritesOnOk W.write_str_gives f.old result (flags_text bits.now (names_of names.now)) f.new }
+    ensures writes { WritesOnOk W.write_str_gives f.old result (flags_text bits.now (names_of names.now)) f.new }
+    ensures styled { WritesStyledOnOk W.write_str_gives f.old result (flags_text bits.now (names_of names.now)) f.new }
 {
     f.write_str("(")?;
     write_set_names(bits, names, f)?;
@@ -51,7 +52,7 @@ fn write_set_names<W: fmt::Write>(
     f: &mut fmt::Formatter<W>,
 ) -> fmt::Result
     requires words { length names.now ≤ 32 * length bits.now }
-    ensures { WritesOnOk W.write_str_gives f.old result (join_with_byte 124 (set_names bits.now (names_of names.now))) f.new }
+    ensures { WritesStyledOnOk W.write_str_gives f.old result (join_with_byte 124 (set_names bits.now (names_of names.now))) f.new }
 {
     let mut separator = "";
     for (k, name) in names.iter().enumerate() {

@@ -12,9 +12,9 @@ returns-in_err-part-clause-err g c =
     let l : k < length fields = omega (arith, c.requires.count, c.loop-k-test.true) in
     let m : k < length (map (λ f. f.ty) fields) = omega (arith, l, length-map fields (λ f. f.ty)) in
     on_err c.from_residual.result
-      (any_at (Answers _ c.args.types.now failed) c.args.parts.now (map (λ f. f.ty) fields) k _ c.index-parts-k.result field.ty _ c.loop-k-test.true m
-        (sym c.index-parts-k.is) (get_or-map (λ f. f.ty) fields k field field.ty l)
-        (record { shown = _; shows = refl; beside = c.args.types; holds = refl; says = c.in_err-part.ensures.0 }))
+    (any_at (Answers _ c.args.types.now failed) c.args.parts.now (map (λ f. f.ty) fields) k _ c.index-parts-k.result field.ty _ c.loop-k-test.true m
+    (sym c.index-parts-k.is) (get_or-map (λ f. f.ty) fields k field field.ty l)
+    (record { shown = _; shows = refl; beside = c.args.types; holds = refl; says = c.in_err-part.ensures.0 }))
 
 pub loop-k-preserved : goal.loop-k-preserved
 loop-k-preserved g c =
@@ -24,6 +24,6 @@ loop-k-preserved g c =
     let l : k < length fields = omega (arith, c.requires.count, c.loop-k-test.true) in
     let m : k < length (map (λ f. f.ty) fields) = omega (arith, l, length-map fields (λ f. f.ty)) in
     all_more (Answers _ c.args.types.now passed) c.args.parts.now (map (λ f. f.ty) fields) k _ c.index-parts-k.result field.ty _ c.loop-k-test.true m
-      (sym c.index-parts-k.is) (get_or-map (λ f. f.ty) fields k field field.ty l)
-      c.loop-k.invariant
-      (record { shown = _; shows = refl; beside = c.args.types; holds = refl; says = c.in_ok-part.ensures.0 })
+    (sym c.index-parts-k.is) (get_or-map (λ f. f.ty) fields k field field.ty l)
+    c.loop-k.invariant
+    (record { shown = _; shows = refl; beside = c.args.types; holds = refl; says = c.in_ok-part.ensures.0 })

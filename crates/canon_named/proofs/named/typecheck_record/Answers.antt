@@ -26,6 +26,6 @@ returns-clause-ok g c =
 pub returns-clause-err : goal.returns-clause-err
 returns-clause-err g c =
     on_err_then c.pass_fields.result
-      (λ any types h. subst (AnyZip (Answers _ c.args.types.now failed) c.args.parts.now)
-        (ap (map (λ f. f.ty)) c.as_slice-fields.ensures.value ∙ (fields_told _ _ _ _ c.types.ensures _ c.in-Record.is c.record.ensures.entry _ types h).1) any)
-      c.pass_fields.ensures.err
+    (λ any types h. subst (AnyZip (Answers _ c.args.types.now failed) c.args.parts.now)
+    (ap (map (λ f. f.ty)) c.as_slice-fields.ensures.value ∙ (fields_told _ _ _ _ c.types.ensures _ c.in-Record.is c.record.ensures.entry _ types h).1) any)
+    c.pass_fields.ensures.err

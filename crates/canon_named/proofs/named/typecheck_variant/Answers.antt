@@ -31,6 +31,6 @@ pub returns-clause-err : goal.returns-clause-err
 returns-clause-err g c =
     let values = c.as_slice-2.ensures ∙ c.values.ensures.rest ∙ ap values_of c.as_slice-cases.ensures.entries in
     on_err_then c.pass_payloads.result
-      (λ any payloads h. subst (AnyZip (FailsPayload _ c.args.types.now) c.args.parts.now)
-        (values ∙ (cases_told _ _ _ _ c.types.ensures _ c.in-Variant.is c.variant.ensures.entry _ payloads h).1) any)
-      c.pass_payloads.ensures.err
+    (λ any payloads h. subst (AnyZip (FailsPayload _ c.args.types.now) c.args.parts.now)
+    (values ∙ (cases_told _ _ _ _ c.types.ensures _ c.in-Variant.is c.variant.ensures.entry _ payloads h).1) any)
+    c.pass_payloads.ensures.err
