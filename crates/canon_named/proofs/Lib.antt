@@ -1,0 +1,4 @@
+pub mod Definitions
+pub mod SetNames
+pub mod Texts
+pub mod Zips

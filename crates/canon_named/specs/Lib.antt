@@ -1,0 +1,3 @@
+pub mod Desc
+pub mod FlagText
+pub mod Named

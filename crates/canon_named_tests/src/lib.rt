@@ -1,0 +1,5 @@
+//! Tests of types by name.
+#![tactic(auto)]
+
+#[cfg(test)]
+mod tests;
