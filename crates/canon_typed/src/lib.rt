@@ -4,7 +4,6 @@
 
 mod component_type;
 mod compounds;
-mod error;
 mod fixed_list;
 mod maps;
 mod references;
@@ -13,7 +12,10 @@ mod scalars;
 mod texts;
 mod tuples;
 
+pub use canon_named::{
+    TypecheckFailed, desc, format_flags, typecheck_enum, typecheck_flags, typecheck_record,
+    typecheck_variant,
+};
 pub use component_type::{ComponentNamedList, ComponentType, ComponentVariant};
-pub use error::TypecheckFailed;
 pub use fixed_list::FixedList;
 pub use scalars::{Float32Bits, Float64Bits};
