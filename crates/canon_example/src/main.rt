@@ -115,7 +115,7 @@ fn add_note<I: Imports<Clock, Notes>>(
     ensures { I.ready store.new.imports }
 {
     let text = String::from_str(alloc, text)?;
-    call(rt, alloc, store, export, Val::String(text))
+    call(rt, alloc, store, export, &[Val::String(text)])
 }
 
 /// Makes a resource of the host, lends it to the guest for one call, and drops it.
@@ -129,7 +129,7 @@ fn lend_notebook<I: Imports<Clock, Notes>>(
 {
     let notebook: Resource<Notebook> = Resource::new_own(NOTEBOOK);
     let notebook = notebook.try_into_resource_any(&mut store.core_mut().tables())?;
-    call(rt, alloc, store, COUNT, Val::Resource(notebook))?;
+    call(rt, alloc, store, COUNT, &[Val::Resource(notebook)])?;
     resource_drop(notebook, store)?;
     println!(rt; "handles: {}", store.live_handles())?;
     Ok(())
@@ -143,18 +143,18 @@ fn make_a_mistake<I: Imports<Clock, Notes> + Drop>(
 ) -> Result<(), Failure>
     requires { I.ready store.imports }
 {
-    call(rt, alloc, &mut store, ADD, Val::U32(5))?;
+    call(rt, alloc, &mut store, ADD, &[Val::U32(5)])?;
     println!(rt; "closed: {}", store.is_trapped())?;
     Ok(())
 }
 
-/// Calls an export with one parameter, and prints what it answers, or why there is no answer.
+/// Calls an export, and prints what it answers, or why there is no answer.
 fn call<I: Imports<Clock, Notes>>(
     rt: &impl Print,
     alloc: Global,
     store: &mut Store<Clock, Notes, I>,
     export: u32,
-    param: Val,
+    params: &[Val],
 ) -> Result<(), Failure>
     requires { I.ready store.old.imports }
     ensures { I.ready store.new.imports }
@@ -163,7 +163,7 @@ fn call<I: Imports<Clock, Notes>>(
         return Err(Failure::NoExport);
     };
     let mut results = [Val::Bool(false)];
-    match func.call(alloc, store, &[param], &mut results) {
+    match func.call(alloc, store, params, &mut results) {
         Ok(()) => print_answer(rt, &results)?,
         Err(Error::Fault(Fault::TypeMismatch(place))) => {
             println!(rt; "refused: the value at place {place} is not of its type")?;
