@@ -44,34 +44,17 @@ enum Asked {
     Ending,
 }
 
-/// The guest. Its allocator goes up through memory and takes nothing back. Contracts see how many blocks it gave and how often it failed,
-/// and no more.
+/// What contracts see of the guest: how many blocks it gave, how often it trapped, and how often it was out of memory.
 #[derive(Drop)]
-pub struct Notes {
-    alloc: Global,
-    asked: Option<Asked>,
-    notes: u32,
-    top: u64,
+struct Counts {
     blocks: u64,
     traps: u64,
     shortages: u64,
 }
 
-impl Notes {
-    pub fn new(alloc: Global) -> Self {
-        Notes {
-            alloc,
-            asked: None,
-            notes: 0,
-            top: 8,
-            blocks: 0,
-            traps: 0,
-            shortages: 0,
-        }
-    }
-
+impl Counts {
     /// Counts a fault.
-    fn count(&mut self, fault: GuestFault) -> GuestFault
+    fn add(&mut self, fault: GuestFault) -> GuestFault
         ensures same { result ≡ fault }
         ensures blocks { self.new.blocks ≡ self.old.blocks }
         ensures traps { self.old.traps ≤ self.new.traps }
@@ -85,13 +68,39 @@ impl Notes {
         }
         fault
     }
+}
+
+/// The guest. Its allocator goes up through memory and takes nothing back.
+#[derive(Drop)]
+pub struct Notes {
+    alloc: Global,
+    asked: Option<Asked>,
+    notes: u32,
+    top: u64,
+    counts: Counts,
+}
+
+impl Notes {
+    pub fn new(alloc: Global) -> Self {
+        Notes {
+            alloc,
+            asked: None,
+            notes: 0,
+            top: 8,
+            counts: Counts {
+                blocks: 0,
+                traps: 0,
+                shortages: 0,
+            },
+        }
+    }
 
     /// The address of a block, where memory has room for it before its last byte.
     fn place(&mut self, len: u64, align: u32, size: u64) -> Option<u64>
         requires aligned { 0 < align }
         requires few { len ≤ 2 ^ 32 }
         ensures inside { IfSome result (λ at. at + size < len) }
-        ensures same { self.new ≡ record self.old { top = self.new.top } }
+        ensures counts { self.new.counts ≡ self.old.counts }
     {
         let at = self.top.checked_next_multiple_of(u64::from(align))?;
         let end = at.checked_add(size)?;
@@ -104,7 +113,7 @@ impl Notes {
 
     /// Reads the text that was passed by its pointer and its length, and asks for the time.
     fn begin(&mut self, memory: &Memory, words: &[ValRaw]) -> Result<Step, GuestFault>
-        ensures same { self.new ≡ record self.old { asked = self.new.asked } }
+        ensures counts { self.new.counts ≡ self.old.counts }
     {
         let [pointer, len] = words else {
             return Err(GuestFault::Trap);
@@ -129,7 +138,7 @@ impl Notes {
 
     /// Gives up the handle of a notebook, as each guest must that was lent one.
     fn give_up(&mut self, words: &[ValRaw]) -> Result<Step, GuestFault>
-        ensures same { self.new ≡ record self.old { asked = self.new.asked } }
+        ensures counts { self.new.counts ≡ self.old.counts }
     {
         match Words::from_slice(self.alloc, words) {
             Ok(words) => {
@@ -148,7 +157,7 @@ impl Notes {
         words: &[ValRaw],
     ) -> Result<Step, GuestFault>
         ensures length { length memory.new ≡ length memory.old }
-        ensures same { self.new ≡ record self.old { notes = self.new.notes; top = self.new.top } }
+        ensures counts { self.new.counts ≡ self.old.counts }
     {
         let [time] = words else {
             return Err(GuestFault::Trap);
@@ -167,7 +176,7 @@ impl Notes {
     /// Goes on with what the host answered.
     fn go_on(&mut self, memory: &mut Memory, words: &[ValRaw]) -> Result<Step, GuestFault>
         ensures length { length memory.new ≡ length memory.old }
-        ensures same { self.new ≡ record self.old { asked = self.new.asked; notes = self.new.notes; top = self.new.top } }
+        ensures counts { self.new.counts ≡ self.old.counts }
     {
         match self.asked.take() {
             Some(Asked::Time(draft)) => self.finish(memory, &draft, words),
@@ -178,7 +187,7 @@ impl Notes {
 }
 
 impl Guest for Notes {
-    ghost seen = { λ g. record { journal = None; marks = replicate g.blocks (record { lawful = false; tidy = false }); live = []; traps = g.traps; shortages = g.shortages } };
+    ghost seen = { λ g. record { journal = None; marks = replicate g.counts.blocks (record { lawful = false; tidy = false }); live = []; traps = g.counts.traps; shortages = g.counts.shortages } };
 
     ghost moves = { λ _ _ _. Unit {0} };
 
@@ -203,14 +212,14 @@ impl Guest for Notes {
         };
         match step {
             Ok(step) => Ok(step),
-            Err(fault) => Err(self.count(fault)),
+            Err(fault) => Err(self.counts.add(fault)),
         }
     }
 
     fn resume(&mut self, memory: &mut Memory, words: &[ValRaw]) -> Result<Step, GuestFault> {
         match self.go_on(memory, words) {
             Ok(step) => Ok(step),
-            Err(fault) => Err(self.count(fault)),
+            Err(fault) => Err(self.counts.add(fault)),
         }
     }
 
@@ -223,13 +232,13 @@ impl Guest for Notes {
         new_size: u64,
     ) -> Result<u64, GuestFault> {
         // It grows no block.
-        if old_size > 0 || self.blocks == u64::MAX {
-            return Err(self.count(GuestFault::Trap));
+        if old_size > 0 || self.counts.blocks == u64::MAX {
+            return Err(self.counts.add(GuestFault::Trap));
         }
         let Some(at) = self.place(memory.len(), align, new_size) else {
-            return Err(self.count(GuestFault::Trap));
+            return Err(self.counts.add(GuestFault::Trap));
         };
-        self.blocks += 1;
+        self.counts.blocks += 1;
         Ok(at)
     }
 
