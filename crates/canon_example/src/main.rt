@@ -135,7 +135,7 @@ fn lend_notebook<I: Imports<Clock, Notes>>(
     Ok(())
 }
 
-/// Calls the function that takes a text with a number. The guest isn't started, but the call had begun, so the store is closed.
+/// Calls the function that takes a text with a number. The guest isn't started, but the call had begun, so the store is trapped.
 fn make_a_mistake<I: Imports<Clock, Notes> + Drop>(
     rt: &impl Print,
     alloc: Global,
@@ -144,7 +144,7 @@ fn make_a_mistake<I: Imports<Clock, Notes> + Drop>(
     requires { I.ready store.imports }
 {
     call(rt, alloc, &mut store, ADD, &[Val::U32(5)])?;
-    println!(rt; "closed: {}", store.is_trapped())?;
+    println!(rt; "trapped: {}", store.is_trapped())?;
     Ok(())
 }
 
