@@ -1,6 +1,5 @@
 -- A block that is given behind all others keeps the law of `realloc`.
-use Rattle.std.proofs.Common.{List, Some, arith, subst, ℕ, ◌<◌, ◌≡◌, ◌∙◌}
-use Rattle.std.proofs.Common.{length}
+use Rattle.std.proofs.Common.{List, Some, arith, length, subst, ℕ, ◌<◌, ◌≡◌, ◌∙◌}
 use Rattle.canon_model.specs.Requests.{Call}
 use Rattle.canon_memory.specs.Realloc.{ReallocLaw}
 use Rattle.canon_scripted.specs.Allocator.{Allocator, InRow, new_placed}

@@ -1,4 +1,4 @@
-use Rattle.std.proofs.Common.{ap, arith, refl, replicate, true, ◌+◌, ◌∙◌}
+use Rattle.std.proofs.Common.{arith, refl, true}
 use Rattle.std.proofs.lemmas.Grind.{replicate_next}
 use Rattle.canon_memory.specs.Guest.{Mark}
 use Rattle.canon_memory.specs.Realloc.{call}
@@ -17,8 +17,8 @@ returns-in-Ok-clause-does c =
           marks = replicate_next c.args.self.now.answers told;
           events = refl;
         };
-        lawful = λ _. given_is_lawful c.args.memory.now c.args.self.now.blocks c.give.new.self-blocks (call c.args.old c.args.old_size c.args.align c.args.new_size) c.in-Ok.at
-            c.give.ensures.row c.requires.aligned (omega (arith, c.if-old_size.false)) c.in-Ok.ensures.gives;
+        lawful = λ _. given_is_lawful c.args.memory.now c.args.self.now.blocks c.give.new.self (call c.args._old c.args.old_size c.args.align c.args.new_size) c.in-Ok.at
+            c.give.ensures.row c.requires.aligned (omega (arith, c.if-old_size-gt0.false)) (rw c.len.ensures.count at c.in-Ok.ensures.gives);
         tidy = λ _ _ _ _. refl;
       },
     )
