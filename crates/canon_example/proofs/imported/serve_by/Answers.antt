@@ -22,8 +22,8 @@ returns-in-Err-Refused-clause-serves g c =
     let core = c.args.cx.core.now in
     let o = slice_get (types_of core).funcs c.args.cx.ty in
     let done = found_import g.F.Fn func AnyAnswer None c.args.n g.G.Guest.seen g.G.Guest.moves tt c.args.cx.ty c.args.cx.options core c.entrypoint.new.cx.0 c.args.storage.now c.entrypoint.new.storage (Err c.in-Err-Refused.field-0) o c.in-Err-Refused.ensures.serves in
-    refuses AnyAnswer None None c.args.n g.G.Guest.seen g.G.Guest.moves c.args.cx.ty c.args.cx.options refusals c.saturating_add-refusals.result core c.entrypoint.new.cx.0 c.args.storage.now c.entrypoint.new.storage o
-    (rw c.in-Err-Refused.field-0-is at done) refl (omega (arith, c.saturating_add-refusals.ensures))
+    refuses AnyAnswer None None c.args.n g.G.Guest.seen g.G.Guest.moves c.args.cx.ty c.args.cx.options refusals c.saturating_add.result core c.entrypoint.new.cx.0 c.args.storage.now c.entrypoint.new.storage o
+    (rw c.in-Err-Refused.field-0-is at done) refl (omega (arith, c.saturating_add.ensures))
 
 pub returns-in-Err-Fault-clause-serves : goal.returns-in-Err-Fault-clause-serves
 returns-in-Err-Fault-clause-serves g c =
