@@ -2,8 +2,9 @@
 
 use crate::{Failure, notes};
 use canon_types::{
-    CanonicalOptions, ComponentTypes, InstanceType, InterfaceType, OptionsIndex, RecordField,
-    RuntimeInstance, StoreId, StringEncoding, TypeBuilder, TypeFuncIndex,
+    CanonicalOptions, ComponentTypes, HostType, InstanceType, InterfaceType, OptionsIndex,
+    RecordField, ResourceKind, RuntimeInstance, StoreId, StringEncoding, TypeBuilder,
+    TypeFuncIndex, TypeResourceTable, TypeResourceTableIndex,
 };
 use canon_value::{Component, Export, Import};
 use std::alloc::Global;
@@ -11,30 +12,56 @@ use std::alloc::Global;
 /// The export that adds a note.
 pub const ADD: u32 = 0;
 
-/// The export whose core function lies of where the note is.
-pub const BROKEN: u32 = 1;
+/// The export that counts the notes.
+pub const COUNT: u32 = 1;
 
-/// The types of the component's functions.
-struct FuncTypes {
+/// The export whose core function lies about where the note is.
+pub const BROKEN: u32 = 2;
+
+/// A notebook of the host. The guest gets handles of it, and never sees what it is.
+pub struct Notebook;
+
+impl HostType for Notebook {
+    ghost ID = { 1 };
+
+    const ID: u32 = 1;
+}
+
+/// The types of the component: all of them, and those that its functions name.
+struct Types {
     table: ComponentTypes,
+    notebook: TypeResourceTableIndex,
     clock: TypeFuncIndex,
     add: TypeFuncIndex,
+    count: TypeFuncIndex,
 }
 
 /// Builds the table of types.
-fn build_types(alloc: Global) -> Result<FuncTypes, Failure> {
+fn build_types(alloc: Global) -> Result<Types, Failure> {
     let mut builder = TypeBuilder::new(alloc);
     let note = builder.add_record(vec![in alloc;
         field(alloc, "title", InterfaceType::String)?,
         field(alloc, "words", InterfaceType::U32)?,
         field(alloc, "time", InterfaceType::U32)?,
     ]?)?;
-    let time = vec![in alloc; InterfaceType::U32]?;
-    let clock = builder.add_func(Vec::new(alloc), time, false)?;
+    let notebook = builder.add_resource_table(TypeResourceTable {
+        instance: RuntimeInstance::from_u32(0),
+        kind: ResourceKind::Host(Notebook::ID),
+        defined_here: false,
+    })?;
+    let number = [InterfaceType::U32];
     let text = vec![in alloc; InterfaceType::String]?;
     let add = builder.add_func(text, vec![in alloc; note]?, false)?;
-    let table = builder.finish();
-    Ok(FuncTypes { table, clock, add })
+    let book = vec![in alloc; InterfaceType::Borrow(notebook)]?;
+    let count = builder.add_func(book, number.to_vec(alloc)?, false)?;
+    let clock = builder.add_func(Vec::new(alloc), number.to_vec(alloc)?, false)?;
+    Ok(Types {
+        table: builder.finish(),
+        notebook,
+        clock,
+        add,
+        count,
+    })
 }
 
 /// A field of a record.
@@ -47,12 +74,20 @@ fn field(alloc: Global, name: &str, ty: InterfaceType) -> Result<RecordField, Fa
 ///
 /// ```wit
 /// record note { title: string, words: u32, time: u32 }
+/// resource notebook;
 /// import clock: func() -> u32;
 /// export add: func(text: string) -> note;
+/// export count: func(book: borrow<notebook>) -> u32;
 /// export broken: func(text: string) -> note;
 /// ```
 pub fn component_of(alloc: Global, id: StoreId) -> Result<Component, Failure> {
-    let FuncTypes { table, clock, add } = build_types(alloc)?;
+    let Types {
+        table,
+        notebook,
+        clock,
+        add,
+        count,
+    } = build_types(alloc)?;
     let plain = CanonicalOptions {
         instance: RuntimeInstance::from_u32(0),
         string_encoding: StringEncoding::Utf8,
@@ -60,16 +95,18 @@ pub fn component_of(alloc: Global, id: StoreId) -> Result<Component, Failure> {
         post_return: None,
     };
     let options = OptionsIndex::from_u32(0);
-    let export = |func| Export {
-        ty: add,
-        func,
-        options,
-    };
+    let export = |ty, func| Export { ty, func, options };
+    // What the guest's code may ask for: a function of the host, and the end of a handle.
     let clock = Import::Host { ty: clock, options };
+    let drop = Import::ResourceDrop(notebook);
     Ok(Component {
         types: InstanceType::new(table, id),
         options: vec![in alloc; plain]?,
-        exports: vec![in alloc; export(notes::ADD), export(notes::BROKEN)]?,
-        imports: vec![in alloc; clock]?,
+        exports: vec![in alloc;
+            export(add, notes::ADD),
+            export(count, notes::COUNT),
+            export(add, notes::BROKEN),
+        ]?,
+        imports: vec![in alloc; clock, drop]?,
     })
 }

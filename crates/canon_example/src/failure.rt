@@ -1,6 +1,8 @@
 //! Why the program ends early.
 
+use canon_func::Error;
 use canon_memory::MemoryError;
+use canon_resources::ResourceFault;
 use canon_types::{OutOfMemory, TypeError};
 use std::alloc::{AllocError, AllocFailed};
 use std::io;
@@ -12,14 +14,18 @@ pub enum Failure {
     Type(#[from] TypeError),
     #[error("the guest has no memory: {0:?}")]
     Memory(#[from] MemoryError),
+    #[error("no handle of the host: {0}")]
+    NoHandle(#[from] ResourceFault),
+    #[error("the host can't drop its notebook: {0}")]
+    NoDrop(#[from] Error),
     #[error("nothing can be printed: {0}")]
     Print(#[from] io::Error),
     #[error("an index of the component is outside its table")]
     BadComponent,
     #[error("the component has no such export")]
     NoExport,
-    #[error("the result is no note")]
-    NoNote,
+    #[error("the result is no note and no number")]
+    NoAnswer,
     #[error("out of memory")]
     OutOfMemory,
 }

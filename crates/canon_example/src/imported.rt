@@ -1,4 +1,13 @@
-//! The imports of a component that has one: any function of the host.
+//! What serves the imports of a component.
+
+ghost use Rattle.std.specs.Prelude.{◌≡◌, ◌≤◌, IfSome, None, slice_get};
+ghost use Rattle.canon_types.specs.Table.{HasFunc};
+ghost use Rattle.canon_context.specs.Component.{HasOptions};
+ghost use Rattle.canon_context.specs.Core.{types_of};
+ghost use Rattle.canon_context.specs.Host.{Keeps};
+ghost use Rattle.canon_host.specs.Asked.{HasRoomFor};
+ghost use Rattle.canon_host.specs.Imports.{ServesImport};
+ghost use Rattle.canon_example.specs.Imported.{AnyAnswer};
 
 use canon_host::{DynamicHostFn, HostCx, HostError, HostFunc, HostStop, HostView, Imports};
 use canon_memory::{Guest, ValRaw};
@@ -6,7 +15,7 @@ use canon_types::TypeFunc;
 use canon_value::Val;
 use std::alloc::Global;
 
-/// The imports of a component that has one. Contracts don't see which asks were served, nor what was answered.
+/// The imports of a component that has one function of the host. Contracts don't see which asks were served, nor what was answered.
 #[derive(Drop)]
 pub struct OneImport<F> {
     pub func: HostFunc<DynamicHostFn<F>>,
@@ -57,13 +66,38 @@ impl<
         ensures serves { IfSome (slice_get (types_of cx.entry.core.now).funcs cx.entry.ty) (λ t. ServesImport AnyAnswer None n G.seen G.moves (record { ty = cx.entry.ty; func = t; options = cx.entry.options }) None self.old.refusals self.new.refusals cx.entry.core.now storage.old result cx.exit.0.now storage.new) }
         ensures same { cx.exit.0.now ≡ record cx.entry.core.now { state = cx.exit.0.now.state; guest = cx.exit.0.now.guest; memory = cx.exit.0.now.memory; ledger = cx.exit.0.now.ledger } }
     {
-        match self.func.entrypoint(alloc, cx, storage) {
-            Ok(_values) => Ok(()),
-            Err(HostError::Refused) => {
-                self.refusals = self.refusals.saturating_add(1);
-                Err(HostError::Refused)
-            }
-            Err(HostError::Fault(fault)) => Err(HostError::Fault(fault)),
+        // A component with several functions has a field for each, and `n` says which is asked for.
+        serve_by(&self.func, &mut self.refusals, alloc, n, cx, storage)
+    }
+}
+
+/// Serves one ask by a function, and counts a refusal.
+fn serve_by<
+    T,
+    G: Guest,
+    F: Fn(&mut HostView<'_, '_, T>, &TypeFunc, &[Val], &mut [Val]) -> Result<(), HostStop>,
+>(
+    func: &HostFunc<DynamicHostFn<F>>,
+    refusals: &mut u64,
+    alloc: Global,
+    n: u32,
+    cx: HostCx<'_, T, G>,
+    storage: &mut [ValRaw],
+) -> Result<(), HostError>
+    requires ready { Keeps F.Fn func.now }
+    requires func { HasFunc (types_of cx.core.now) cx.ty }
+    requires options { HasOptions cx.core.now.component cx.options }
+    requires room { HasRoomFor (types_of cx.core.now) cx.ty storage.old }
+    ensures refusals { refusals.old ≤ refusals.new }
+    ensures serves { IfSome (slice_get (types_of cx.entry.core.now).funcs cx.entry.ty) (λ t. ServesImport AnyAnswer None n G.seen G.moves (record { ty = cx.entry.ty; func = t; options = cx.entry.options }) None refusals.old refusals.new cx.entry.core.now storage.old result cx.exit.0.now storage.new) }
+    ensures same { cx.exit.0.now ≡ record cx.entry.core.now { state = cx.exit.0.now.state; guest = cx.exit.0.now.guest; memory = cx.exit.0.now.memory; ledger = cx.exit.0.now.ledger } }
+{
+    match func.entrypoint(alloc, cx, storage) {
+        Ok(_values) => Ok(()),
+        Err(HostError::Refused) => {
+            *refusals = refusals.saturating_add(1);
+            Err(HostError::Refused)
         }
+        Err(HostError::Fault(fault)) => Err(HostError::Fault(fault)),
     }
 }

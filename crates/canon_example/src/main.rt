@@ -1,20 +1,21 @@
-//! An embedding, whole: a component with two exports and an import, a guest, a function of the host that the guest asks, two calls, and what
-//! comes of a guest that lies.
+//! An embedding, whole: a component, a guest, a function of the host that the guest asks for, a resource of the host that is lent to the guest,
+//! calls, and what comes of a guest that lies and of a host that errs.
 #![tactic(auto)]
 
-ghost use Rattle.std.specs.Prelude.{◌≡◌};
+ghost use Rattle.std.specs.Prelude.{◌≡◌, IfOk};
 
 mod component;
 mod failure;
 mod imported;
 mod notes;
 
-use canon_func::Store;
-use canon_host::{HostFunc, HostStop, HostView, Imports};
+use canon_func::{Error, Store, resource_drop};
+use canon_host::{HostFunc, HostStop, HostView, Imports, NoImports};
 use canon_memory::Memory;
+use canon_resources::Resource;
 use canon_types::{ExportIndex, StoreId, TypeFunc};
-use canon_value::{Core, Val};
-use component::{ADD, BROKEN, component_of};
+use canon_value::{Core, Fault, Val};
+use component::{ADD, BROKEN, COUNT, Notebook, component_of};
 use failure::Failure;
 use imported::OneImport;
 use notes::Notes;
@@ -32,6 +33,9 @@ const FUEL: u64 = 1_000_000;
 /// How many asks each call may have served.
 const TURNS: u64 = 100;
 
+/// The number by which the host knows its notebook.
+const NOTEBOOK: u32 = 7;
+
 /// The data of the store: a clock, which goes on by one at each look.
 #[derive(Drop)]
 struct Clock {
@@ -39,6 +43,7 @@ struct Clock {
 }
 
 fn main(rt: HostRuntime) -> Result<(), Failure> {
+    let alloc = rt.alloc();
     // A function of the host is a closure. It reaches the data of the store and the tables of the host's resources, and leaves both in their
     // places.
     let clock = HostFunc::func_new(
@@ -60,16 +65,16 @@ fn main(rt: HostRuntime) -> Result<(), Failure> {
         func: clock,
         refusals: 0,
     };
-    take_notes(&rt, rt.alloc(), imports)
+    take_notes(&rt, alloc, store_of(alloc, imports)?)?;
+    make_a_mistake(&rt, alloc, store_of(alloc, NoImports::new())?)
 }
 
-/// Makes a store of these imports, and calls what its component exports.
-fn take_notes<I: Imports<Clock, Notes> + Drop>(
-    rt: &impl Print,
+/// A store: the component, its guest with its memory, the data of the host, and what serves the imports.
+fn store_of<I: Imports<Clock, Notes> + Drop>(
     alloc: Global,
     imports: I,
-) -> Result<(), Failure>
-    requires { I.ready imports }
+) -> Result<Store<Clock, Notes, I>, Failure>
+    ensures { IfOk result (λ store. store.imports ≡ imports) }
 {
     let id = StoreId::from_u64(1);
     let component = component_of(alloc, id)?;
@@ -79,17 +84,27 @@ fn take_notes<I: Imports<Clock, Notes> + Drop>(
     let (clock, guest) = (Clock { now: 0 }, Notes::new(alloc));
     let memory = Memory::new(alloc, MEMORY)?;
     let core = Core::new(alloc, id, clock, guest, memory, component, HANDLES, FUEL)?;
-    let mut store = Store::new(core, imports, TURNS);
-
-    call(rt, alloc, &mut store, ADD, "Shopping\nmilk, bread and tea")?;
-    call(rt, alloc, &mut store, ADD, "Call Anna")?;
-    // The guest answers with a pointer past the end of its memory: the call is refused, and no call enters the guest after it.
-    call(rt, alloc, &mut store, BROKEN, "Call Anna")?;
-    call(rt, alloc, &mut store, ADD, "Call Anna")
+    Ok(Store::new(core, imports, TURNS))
 }
 
-/// Calls an export with a text, and prints the note that it answers, or why there is none.
-fn call<I: Imports<Clock, Notes>>(
+/// Calls what the component exports. The last call is refused, since a guest that lied is called no more.
+fn take_notes<I: Imports<Clock, Notes> + Drop>(
+    rt: &impl Print,
+    alloc: Global,
+    mut store: Store<Clock, Notes, I>,
+) -> Result<(), Failure>
+    requires { I.ready store.imports }
+{
+    add_note(rt, alloc, &mut store, ADD, "Shopping\nmilk, bread and tea")?;
+    add_note(rt, alloc, &mut store, ADD, "Call Anna")?;
+    lend_notebook(rt, alloc, &mut store)?;
+    // The guest answers with a pointer past the end of its memory.
+    add_note(rt, alloc, &mut store, BROKEN, "Call Anna")?;
+    add_note(rt, alloc, &mut store, ADD, "Call Anna")
+}
+
+/// Calls an export with a text.
+fn add_note<I: Imports<Clock, Notes>>(
     rt: &impl Print,
     alloc: Global,
     store: &mut Store<Clock, Notes, I>,
@@ -99,22 +114,73 @@ fn call<I: Imports<Clock, Notes>>(
     requires { I.ready store.old.imports }
     ensures { I.ready store.new.imports }
 {
+    let text = String::from_str(alloc, text)?;
+    call(rt, alloc, store, export, &[Val::String(text)])
+}
+
+/// Makes a resource of the host, lends it to the guest for one call, and drops it.
+fn lend_notebook<I: Imports<Clock, Notes>>(
+    rt: &impl Print,
+    alloc: Global,
+    store: &mut Store<Clock, Notes, I>,
+) -> Result<(), Failure>
+    requires { I.ready store.old.imports }
+    ensures { I.ready store.new.imports }
+{
+    let notebook: Resource<Notebook> = Resource::new_own(NOTEBOOK);
+    let notebook = notebook.try_into_resource_any(&mut store.core_mut().tables())?;
+    call(rt, alloc, store, COUNT, &[Val::Resource(notebook)])?;
+    resource_drop(notebook, store)?;
+    println!(rt; "handles: {}", store.live_handles())?;
+    Ok(())
+}
+
+/// Calls the function that takes a text with a number. The guest isn't started, but the call had begun, so the store is trapped.
+fn make_a_mistake<I: Imports<Clock, Notes> + Drop>(
+    rt: &impl Print,
+    alloc: Global,
+    mut store: Store<Clock, Notes, I>,
+) -> Result<(), Failure>
+    requires { I.ready store.imports }
+{
+    call(rt, alloc, &mut store, ADD, &[Val::U32(5)])?;
+    println!(rt; "trapped: {}", store.is_trapped())?;
+    Ok(())
+}
+
+/// Calls an export, and prints what it answers, or why there is no answer.
+fn call<I: Imports<Clock, Notes>>(
+    rt: &impl Print,
+    alloc: Global,
+    store: &mut Store<Clock, Notes, I>,
+    export: u32,
+    params: &[Val],
+) -> Result<(), Failure>
+    requires { I.ready store.old.imports }
+    ensures { I.ready store.new.imports }
+{
     let Some(func) = store.func(ExportIndex::from_u32(export)) else {
         return Err(Failure::NoExport);
     };
-    let params = [Val::String(String::from_str(alloc, text)?)];
     let mut results = [Val::Bool(false)];
-    if let Err(error) = func.call(alloc, store, &params, &mut results) {
-        println!(rt; "refused: {error}")?;
-        return Ok(());
+    match func.call(alloc, store, params, &mut results) {
+        Ok(()) => print_answer(rt, &results)?,
+        Err(Error::Fault(Fault::TypeMismatch(place))) => {
+            println!(rt; "refused: the value at place {place} is not of its type")?;
+        }
+        Err(error) => println!(rt; "refused: {error}")?,
     }
-    print_note(rt, &results)
+    Ok(())
 }
 
-/// Prints a note, which is a record of its title, its words and its time.
-fn print_note(rt: &impl Print, results: &[Val]) -> Result<(), Failure> {
+/// Prints a number of notes, or a note, which is a record of its title, its words and its time.
+fn print_answer(rt: &impl Print, results: &[Val]) -> Result<(), Failure> {
+    if let [Val::U32(count)] = results {
+        println!(rt; "notes: {count}")?;
+        return Ok(());
+    }
     let [Val::Record(fields)] = results else {
-        return Err(Failure::NoNote);
+        return Err(Failure::NoAnswer);
     };
     let [
         (_, Val::String(title)),
@@ -122,7 +188,7 @@ fn print_note(rt: &impl Print, results: &[Val]) -> Result<(), Failure> {
         (_, Val::U32(time)),
     ] = fields.as_slice()
     else {
-        return Err(Failure::NoNote);
+        return Err(Failure::NoAnswer);
     };
     println!(rt; "{title}: {words} words, at {time}")?;
     Ok(())

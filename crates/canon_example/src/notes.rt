@@ -9,11 +9,17 @@ use std::alloc::Global;
 /// The core function that adds a note.
 pub const ADD: u32 = 0;
 
+/// The core function that counts the notes.
+pub const COUNT: u32 = 1;
+
 /// The core function that points past the end of memory.
-pub const BROKEN: u32 = 1;
+pub const BROKEN: u32 = 2;
 
 /// The number of the import that tells the time.
 const CLOCK: u32 = 0;
+
+/// The number of the import that ends a handle of a notebook.
+const DROP: u32 = 1;
 
 /// The size of a note in memory: the title's pointer and length, the words and the time.
 const NOTE_SIZE: u64 = 16;
@@ -21,7 +27,7 @@ const NOTE_SIZE: u64 = 16;
 /// The alignment of a note in memory.
 const NOTE_ALIGN: u32 = 4;
 
-/// A note that waits for its time.
+/// A note that has no time yet.
 #[derive(Drop)]
 struct Draft {
     title: u32,
@@ -29,31 +35,26 @@ struct Draft {
     words: u32,
 }
 
-/// The guest. Its allocator goes up through memory and takes nothing back. It counts its answers and its faults, and tells no more.
+/// What the guest has asked its host for.
 #[derive(Drop)]
-pub struct Notes {
-    alloc: Global,
-    draft: Option<Draft>,
-    top: u64,
+enum Asked {
+    /// The time of this note.
+    Time(Draft),
+    /// The end of a handle.
+    Ending,
+}
+
+/// What contracts see of the guest: how many blocks it gave, how often it trapped, and how often it was out of memory.
+#[derive(Drop)]
+struct Counts {
     blocks: u64,
     traps: u64,
     shortages: u64,
 }
 
-impl Notes {
-    pub fn new(alloc: Global) -> Self {
-        Notes {
-            alloc,
-            draft: None,
-            top: 8,
-            blocks: 0,
-            traps: 0,
-            shortages: 0,
-        }
-    }
-
+impl Counts {
     /// Counts a fault.
-    fn count(&mut self, fault: GuestFault) -> GuestFault
+    fn add(&mut self, fault: GuestFault) -> GuestFault
         ensures same { result ≡ fault }
         ensures blocks { self.new.blocks ≡ self.old.blocks }
         ensures traps { self.old.traps ≤ self.new.traps }
@@ -67,13 +68,39 @@ impl Notes {
         }
         fault
     }
+}
+
+/// The guest. Its allocator goes up through memory and takes nothing back.
+#[derive(Drop)]
+pub struct Notes {
+    alloc: Global,
+    asked: Option<Asked>,
+    notes: u32,
+    top: u64,
+    counts: Counts,
+}
+
+impl Notes {
+    pub fn new(alloc: Global) -> Self {
+        Notes {
+            alloc,
+            asked: None,
+            notes: 0,
+            top: 8,
+            counts: Counts {
+                blocks: 0,
+                traps: 0,
+                shortages: 0,
+            },
+        }
+    }
 
     /// The address of a block, where memory has room for it before its last byte.
     fn place(&mut self, len: u64, align: u32, size: u64) -> Option<u64>
         requires aligned { 0 < align }
         requires few { len ≤ 2 ^ 32 }
         ensures inside { IfSome result (λ at. at + size < len) }
-        ensures same { self.new ≡ record self.old { top = self.new.top } }
+        ensures counts { self.new.counts ≡ self.old.counts }
     {
         let at = self.top.checked_next_multiple_of(u64::from(align))?;
         let end = at.checked_add(size)?;
@@ -86,7 +113,7 @@ impl Notes {
 
     /// Reads the text that was passed by its pointer and its length, and asks for the time.
     fn begin(&mut self, memory: &Memory, words: &[ValRaw]) -> Result<Step, GuestFault>
-        ensures same { self.new ≡ record self.old { draft = self.new.draft } }
+        ensures counts { self.new.counts ≡ self.old.counts }
     {
         let [pointer, len] = words else {
             return Err(GuestFault::Trap);
@@ -98,23 +125,41 @@ impl Notes {
         };
         // The title is the first line.
         let line = text.iter().position(|byte| *byte == b'\n');
-        self.draft = Some(Draft {
+        self.asked = Some(Asked::Time(Draft {
             title,
             title_len: line.map_or(len, |end| end as u32),
             words: count_words(text),
-        });
+        }));
         Ok(Step::Import {
             index: CLOCK,
             words: Words::new(self.alloc),
         })
     }
 
-    /// Writes the note with its time, and returns its address.
-    fn finish(&mut self, memory: &mut Memory, words: &[ValRaw]) -> Result<Step, GuestFault>
-        ensures length { length memory.new ≡ length memory.old }
-        ensures same { self.new ≡ record self.old { draft = self.new.draft; top = self.new.top } }
+    /// Gives up the handle of a notebook, as each guest must that was lent one.
+    fn give_up(&mut self, words: &[ValRaw]) -> Result<Step, GuestFault>
+        ensures counts { self.new.counts ≡ self.old.counts }
     {
-        let (Some(draft), [time]) = (self.draft.take(), words) else {
+        match Words::from_slice(self.alloc, words) {
+            Ok(words) => {
+                self.asked = Some(Asked::Ending);
+                Ok(Step::Import { index: DROP, words })
+            }
+            Err(_) => Err(GuestFault::OutOfMemory),
+        }
+    }
+
+    /// Writes the note with its time, and returns its address.
+    fn finish(
+        &mut self,
+        memory: &mut Memory,
+        draft: &Draft,
+        words: &[ValRaw],
+    ) -> Result<Step, GuestFault>
+        ensures length { length memory.new ≡ length memory.old }
+        ensures counts { self.new.counts ≡ self.old.counts }
+    {
+        let [time] = words else {
             return Err(GuestFault::Trap);
         };
         let Some(at) = self.place(memory.len(), NOTE_ALIGN, NOTE_SIZE) else {
@@ -124,12 +169,25 @@ impl Notes {
         put_u32(memory, at + 4, draft.title_len);
         put_u32(memory, at + 8, draft.words);
         put_u32(memory, at + 12, time.get_u32());
+        self.notes = self.notes.saturating_add(1);
         return_word(self.alloc, at as u32)
+    }
+
+    /// Goes on with what the host answered.
+    fn go_on(&mut self, memory: &mut Memory, words: &[ValRaw]) -> Result<Step, GuestFault>
+        ensures length { length memory.new ≡ length memory.old }
+        ensures counts { self.new.counts ≡ self.old.counts }
+    {
+        match self.asked.take() {
+            Some(Asked::Time(draft)) => self.finish(memory, &draft, words),
+            Some(Asked::Ending) => return_word(self.alloc, self.notes),
+            None => Err(GuestFault::Trap),
+        }
     }
 }
 
 impl Guest for Notes {
-    ghost seen = { λ g. record { journal = None; marks = replicate g.blocks (record { lawful = false; tidy = false }); live = []; traps = g.traps; shortages = g.shortages } };
+    ghost seen = { λ g. record { journal = None; marks = replicate g.counts.blocks (record { lawful = false; tidy = false }); live = []; traps = g.counts.traps; shortages = g.counts.shortages } };
 
     ghost moves = { λ _ _ _. Unit {0} };
 
@@ -145,21 +203,23 @@ impl Guest for Notes {
         func: u32,
         words: &[ValRaw],
     ) -> Result<Step, GuestFault> {
-        let step = if func == BROKEN {
-            return_word(self.alloc, 0xffff_fff0)
-        } else {
+        let step = if func == ADD {
             self.begin(memory, words)
+        } else if func == COUNT {
+            self.give_up(words)
+        } else {
+            return_word(self.alloc, 0xffff_fff0)
         };
         match step {
             Ok(step) => Ok(step),
-            Err(fault) => Err(self.count(fault)),
+            Err(fault) => Err(self.counts.add(fault)),
         }
     }
 
     fn resume(&mut self, memory: &mut Memory, words: &[ValRaw]) -> Result<Step, GuestFault> {
-        match self.finish(memory, words) {
+        match self.go_on(memory, words) {
             Ok(step) => Ok(step),
-            Err(fault) => Err(self.count(fault)),
+            Err(fault) => Err(self.counts.add(fault)),
         }
     }
 
@@ -172,13 +232,13 @@ impl Guest for Notes {
         new_size: u64,
     ) -> Result<u64, GuestFault> {
         // It grows no block.
-        if old_size > 0 || self.blocks == u64::MAX {
-            return Err(self.count(GuestFault::Trap));
+        if old_size > 0 || self.counts.blocks == u64::MAX {
+            return Err(self.counts.add(GuestFault::Trap));
         }
         let Some(at) = self.place(memory.len(), align, new_size) else {
-            return Err(self.count(GuestFault::Trap));
+            return Err(self.counts.add(GuestFault::Trap));
         };
-        self.blocks += 1;
+        self.counts.blocks += 1;
         Ok(at)
     }
 

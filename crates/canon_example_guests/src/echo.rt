@@ -1,0 +1,81 @@
+//! The smallest guest. Of what it does nothing is told.
+
+ghost use Rattle.std.specs.Prelude.{◌≡◌, [], None};
+
+use canon_memory::{Guest, GuestFault, Memory, Step, ValRaw, Words};
+use std::alloc::Global;
+
+/// A guest that returns the words that it is started with. It has no import, and no block to give.
+#[derive(Drop)]
+pub struct Echo {
+    alloc: Global,
+    traps: u64,
+    shortages: u64,
+}
+
+impl Echo {
+    pub fn new(alloc: Global) -> Self {
+        Echo {
+            alloc,
+            traps: 0,
+            shortages: 0,
+        }
+    }
+}
+
+impl Guest for Echo {
+    ghost seen = { λ g. record { journal = None; marks = []; live = []; traps = g.traps; shortages = g.shortages } };
+
+    ghost moves = { λ _ _ _. Unit {0} };
+
+    ghost leaves = { λ before after. after ≡ before };
+
+    ghost stays = { λ _. record {} };
+
+    ghost goes_on = { λ _ _ _ _ _ _ _. record {} };
+
+    fn start(
+        &mut self,
+        _memory: &mut Memory,
+        _func: u32,
+        words: &[ValRaw],
+    ) -> Result<Step, GuestFault> {
+        match Words::from_slice(self.alloc, words) {
+            Ok(words) => Ok(Step::Return(words)),
+            Err(_) => {
+                self.shortages = self.shortages.saturating_add(1);
+                Err(GuestFault::OutOfMemory)
+            }
+        }
+    }
+
+    fn resume(&mut self, _memory: &mut Memory, _words: &[ValRaw]) -> Result<Step, GuestFault> {
+        self.traps = self.traps.saturating_add(1);
+        Err(GuestFault::Trap)
+    }
+
+    fn realloc(
+        &mut self,
+        _memory: &mut Memory,
+        _old: u64,
+        _old_size: u64,
+        _align: u32,
+        _new_size: u64,
+    ) -> Result<u64, GuestFault> {
+        self.traps = self.traps.saturating_add(1);
+        Err(GuestFault::Trap)
+    }
+
+    fn post_return(
+        &mut self,
+        _memory: &mut Memory,
+        _func: u32,
+        _words: &[ValRaw],
+    ) -> Result<(), GuestFault> {
+        Ok(())
+    }
+
+    fn dtor(&mut self, _memory: &mut Memory, _func: u32, _rep: u32) -> Result<(), GuestFault> {
+        Ok(())
+    }
+}

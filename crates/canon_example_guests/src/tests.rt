@@ -1,0 +1,53 @@
+//! Each guest once.
+
+use crate::{Arena, Echo};
+use canon_memory::{Event, Guest, GuestFault, Journaled, Memory, Step, ValRaw};
+use std::test::Fail;
+
+#[test]
+fn an_echo_returns_its_words(rt: HostRuntime) -> Result<(), Fail> {
+    let alloc = rt.alloc();
+    let mut memory = Memory::new(alloc, 65_536)?;
+    let mut guest = Echo::new(alloc);
+    let step = guest.start(&mut memory, 0, &[ValRaw::u32(7)])?;
+    let Step::Return(words) = &step else {
+        return Err(Fail::from("no return"));
+    };
+    assert!(rt; words.as_slice() == [ValRaw::u32(7)].as_slice());
+    let fault = guest.realloc(&mut memory, 0, 0, 1, 5).err();
+    assert!(rt; fault == Some(GuestFault::Trap));
+    Ok(())
+}
+
+#[test]
+fn a_journal_tells_what_an_echo_did(rt: HostRuntime) -> Result<(), Fail> {
+    let alloc = rt.alloc();
+    let mut memory = Memory::new(alloc, 65_536)?;
+    let mut guest = Journaled::new(alloc, Echo::new(alloc));
+    let _step = guest.start(&mut memory, 0, &[ValRaw::u32(7)])?;
+    let events = guest.take_journal();
+    assert!(rt;
+        matches!(
+            events.as_slice(),
+            [Event::Start { .. }, Event::Return { .. }]
+        )
+    );
+    Ok(())
+}
+
+#[test]
+fn an_arena_gives_each_block_behind_the_others(rt: HostRuntime) -> Result<(), Fail> {
+    let alloc = rt.alloc();
+    let mut memory = Memory::new(alloc, 65_536)?;
+    let mut guest = Arena::new(alloc, 1);
+    assert!(rt; guest.realloc(&mut memory, 0, 0, 1, 5)? == 1);
+    assert!(rt; guest.realloc(&mut memory, 0, 0, 4, 8)? == 8);
+    let fault = guest.realloc(&mut memory, 0, 0, 4, 65_521).err();
+    assert!(rt; fault == Some(GuestFault::Trap));
+    let step = guest.start(&mut memory, 0, &[ValRaw::u32(1), ValRaw::u32(5)])?;
+    let Step::Return(words) = &step else {
+        return Err(Fail::from("no return"));
+    };
+    assert!(rt; words.as_slice() == [ValRaw::u32(5)].as_slice());
+    Ok(())
+}
