@@ -33,6 +33,6 @@ gen_of (word ∷ []) = None
 gen_of (word ∷ count ∷ []) = if pointwise nat_eq (string_bytes word) (codes "gen") then count_of (string_bytes count) else None
 gen_of (word ∷ count ∷ other ∷ words) = None
 
--- all written (0), a failed write (4) or want of memory (5)
+-- all written (0), a failed write (4) or out of memory (5)
 abbrev pub IsGenStatus : Status → Type 0
 IsGenStatus s = (s.0 ≡ 0) ⊎ ((s.0 ≡ 4) ⊎ (s.0 ≡ 5))

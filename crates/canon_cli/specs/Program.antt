@@ -110,11 +110,11 @@ pub record ReadsTooMuch (left left' : Option (List ℕ)) : Type 0 where
 abbrev pub IsRefusal : Status → Type 0
 IsRefusal s = (s.0 ≡ 2) ⊎ ((s.0 ≡ 3) ⊎ ((s.0 ≡ 6) ⊎ ((s.0 ≡ 7) ⊎ (s.0 ≡ 8))))
 
--- one of these, all written (0), a failed write (4) or want of memory (5)
+-- one of these, all written (0), a failed write (4) or out of memory (5)
 abbrev pub IsStatus : Status → Type 0
 IsStatus s = IsRefusal s ⊎ ((s.0 ≡ 0) ⊎ ((s.0 ≡ 4) ⊎ (s.0 ≡ 5)))
 
--- The status of an input that was there to be read, where no read failed: each is answered, or want of memory.
+-- The status of an input that was there to be read, where no read failed: each is answered, or memory ran out.
 pub record AnswersInput {T : Type 0} (asks : Data → Option T) (input : List ℕ) (s : Status) : Type 0 where
   pub too_long : max_input < length input → (s.0 ≡ 6) ⊎ (s.0 ≡ 5)
   pub not_json : length input ≤ max_input → IsNoJson input → (s.0 ≡ 7) ⊎ (s.0 ≡ 5)
@@ -129,7 +129,7 @@ pub record IsTask {T : Type 0} (asks : Data → Option T) (input : List ℕ) : T
   pub task : T
   pub is : asks tree ≡ Some task
 
--- a fact of the bytes that a source tells
+-- a fact of the bytes of a source
 abbrev pub OnTold : Option (List ℕ) → (List ℕ → Type 0) → Type 0
 OnTold None P = Unit {0}
 OnTold (Some bytes) P = P bytes

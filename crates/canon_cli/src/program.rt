@@ -31,7 +31,7 @@ const MAX_INPUT: usize = 1 << 24;
 /// Does what the words of the command line say. The words are those after the program's name; `run` plays the script
 /// that the source holds, and writes its transcript to the sink; `text` plays the conversions that it holds, and
 /// `layout` builds the types, and each writes their lines. `gen N` reads nothing: it plays the script that N makes, and
-/// writes what is told of it.
+/// writes what is printed of it.
 pub fn run<S: Source, K: Sink>(
     alloc: Global,
     words: &[String],
@@ -68,7 +68,7 @@ pub fn run<S: Source, K: Sink>(
     ensures not_json { result ≡ Status.NOT_JSON → ReadsNoJson (S.left source.old) (S.left source.new) }
     ensures bad_script { result ≡ Status.BAD_SCRIPT → IfSome (command_of words.now) (λ asked. ReadsNoTask (task_of asked) (S.left source.old) (S.left source.new)) }
 
-    // A command whose reads don't fail answers an input by what it is, or by want of memory; it takes no more of it
+    // A command whose reads don't fail answers an input for what it is, or runs out of memory; it takes no more of it
     // than an input may have, or answers so.
     ensures answers { IfSome (command_of words.now) (λ asked. ¬ Rose (S.faults source.old) (S.faults source.new)
         → OnTold (S.left source.old) (λ input. AnswersInput (task_of asked) input result)) }
@@ -98,7 +98,7 @@ pub fn run<S: Source, K: Sink>(
     }
 }
 
-/// Plays the script that a number makes, and writes what is told of it.
+/// Plays the script that a number makes, and writes what is printed of it.
 fn generate<K: Sink>(alloc: Global, n: u32, sink: &mut K, transcript: &mut Transcript) -> Status
     requires { transcript.old ≡ [] }
     ensures done { result ≡ Status.DONE → (text : List ℕ) × Generated n transcript.new text × Appends (K.taken sink.old) (K.taken sink.new) text }

@@ -1,4 +1,4 @@
--- How the faults of lifting are told and handed on.
+-- How the faults of lifting are reported and handed on.
 use Rattle.std.proofs.Common.{◌≡◌, Err, IfErr, IfOk, Ok, Result, inl, inr, refl, subst, sym, ℕ}
 use Rattle.std.specs.Result.{IsErr, IsErrAnd}
 use Rattle.canon_model.specs.Memory.{Memory}
@@ -79,7 +79,7 @@ place_one (at.Word k) (at.Address b) e = cc
 place_one (at.Address a) (at.Word j) e = cc
 place_one (at.Address a) (at.Address b) e = cc
 
--- The pointer stands at y, and `at` tells this.
+-- The pointer stands at y, and `at` says this.
 module _ (at : Place) (y : reach.At) (is : IsPlace at y) where
   same_place : (kind k : Kind) (x : Place) → IsFault kind (place_of at) k (place_of x) → IsPlace x y × IsFault kind y k y
   same_place kind k x f = (subst (λ z. IsPlace z y) (sym (place_one x at f.at_is)) is, record { kind_is = f.kind_is; at_is = refl })

@@ -14,7 +14,7 @@ abbrev pub fault_of : GuestFault → Fault
 fault_of guest.Trap = fault.GuestTrap
 fault_of guest.OutOfMemory = fault.OutOfMemory
 
--- want of memory is told as such, and any other refusal as it is
+-- out of memory is reported as such, and any other refusal as it is
 abbrev pub resource_fault : ResourceFault → Fault
 resource_fault resource.OutOfMemory = fault.OutOfMemory
 resource_fault e = fault.Resource e
@@ -23,7 +23,7 @@ abbrev pub faulted : {A : Type 0} → Result A ResourceFault → Result A Fault
 faulted (Ok a) = Ok a
 faulted (Err e) = Err (resource_fault e)
 
--- a step of the ledger, its refusal told as a fault
+-- a step of the ledger, its refusal reported as a fault
 pub record Stepped {A : Type 0} (d : Done A) (result : Result A Fault) (l l2 : LedgerState) : Type 0 where
   pub told : Result A ResourceFault
   pub result_is : result ≡ faulted told

@@ -6,7 +6,7 @@ use Rattle.canon_memory.specs.declared.error.GuestFault.TheVariants as guest
 use Rattle.canon_context.specs.declared.fault.Fault.{Fault}
 use Rattle.canon_context.specs.declared.fault.Fault.TheVariants as fault
 
--- how a lowering ended with this fault; one of lifting is told apart by `Blames`
+-- how a lowering ended with this fault; one of lifting is kept apart by `Blames`
 abbrev pub fault_ending : Fault → Ending
 fault_ending (fault.ReallocMisaligned a) = misaligned a
 fault_ending (fault.ReallocOutOfBounds a) = out_of_bounds a

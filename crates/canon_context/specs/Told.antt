@@ -1,4 +1,4 @@
--- How the faults of lifting are told.
+-- How the faults of lifting are reported.
 use Rattle.std.specs.Prelude.{Some, ◌≡◌, ◌≤◌, ◌-◌, ◌^◌, ◌⊎◌}
 use Rattle.canon_leaves.specs.Parts.{refusal_of}
 use Rattle.canon_model.specs.Reach as reach
@@ -21,7 +21,7 @@ IsPlace (at.Word k) (reach.address b) = ⊥
 IsPlace (at.Address a) (reach.word i) = ⊥
 IsPlace (at.Address a) (reach.address b) = a ≡ b
 
--- F has one of this kind at the place that is told
+-- F has one of this kind at the reported place
 abbrev pub Exactly : (Kind → reach.At → Type 0) → Kind → At → Type 0
 Exactly F k x = F k (place_of x)
 
@@ -29,7 +29,7 @@ abbrev pub ToldAt : (Kind → reach.At → Type 0) → Kind → At → Type 0
 ToldAt F k x = (y : reach.At) × IsPlace x y × F k y
 
 -- The fault is one of lifting, and F has one of its kind at its place; or the fuel was too low (`Low`). Why the ledger refused a handle
--- is told by its steps, but it is never want of memory, which alone is free.
+-- follows from its steps, but it is never out of memory, which alone is free.
 abbrev pub LiftBlames : (Kind → At → Type 0) → Type 0 → Fault → Type 0
 LiftBlames F Low (fault.PointerMisaligned x) = F misaligned x
 LiftBlames F Low (fault.PointerOutOfBounds x) = F out_of_bounds x

@@ -106,7 +106,7 @@ impl<'a, T, G: Guest> LowerContext<'a, T, G> {
         self.core.as_slice_mut()
     }
 
-    /// The `N` bytes at an address. What becomes of memory once they are written is told of `as_slice_mut` alone.
+    /// The `N` bytes at an address. What becomes of memory once they are written only `as_slice_mut` says.
     pub fn get<const N: usize>(&mut self, offset: u64) -> &mut [u8; N]
         requires { offset + N ≤ length self.old.core.now.memory }
         ensures bytes { result.now ≡ take N (drop offset self.old.core.now.memory) }

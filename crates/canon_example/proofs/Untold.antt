@@ -1,4 +1,4 @@
--- An ask that was served, where no log is told.
+-- An ask that was served, where no log is exposed.
 use Rattle.std.proofs.Common.{List, None, Ok, Option, Some, Vec, refl, ℕ}
 use Rattle.std.specs.Prelude.{IfSome}
 use Rattle.std.specs.declared.alloc.Global.{Global}

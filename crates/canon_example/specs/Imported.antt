@@ -1,4 +1,4 @@
--- Imports of which nothing is told.
+-- Imports that expose nothing.
 use Rattle.canon_host.specs.HostSide.{Giving}
 
 -- whatever a function answers

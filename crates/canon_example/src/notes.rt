@@ -15,7 +15,7 @@ pub const COUNT: u32 = 1;
 /// The core function that points past the end of memory.
 pub const BROKEN: u32 = 2;
 
-/// The number of the import that tells the time.
+/// The number of the import that gives the time.
 const CLOCK: u32 = 0;
 
 /// The number of the import that ends a handle of a notebook.

@@ -258,6 +258,6 @@ pub row_counted : {T G : Type 0} (a m : Parts T G) (asked : Asked) (export : Exp
 row_counted a m asked export types component count same is types_are counted =
     counted ∙ ap (λ t. row_words (tuple_members t asked.func.results)) (types_are ∙ (ap (λ (k : Component). k.types.types) is ∙ ap (λ (k : Parts _ _). k.component.types.types) same))
 
--- a journal that was told is told once the parameters were lowered
+-- a journal that was exposed is exposed once the parameters were lowered
 pub told_after_lowering : (a b : Moment) (events : List Event) → Adds a.guest.journal b.guest.journal events → IsSome a.guest.journal → IsSome b.guest.journal
 told_after_lowering a b events added told = told_after a.guest.journal b.guest.journal events added told

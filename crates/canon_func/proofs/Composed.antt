@@ -32,7 +32,7 @@ use Rattle.canon_func.proofs.Handled.{lifted_stops}
 use Rattle.canon_func.proofs.Turns.{err_same, not_ok}
 use Rattle.canon_func.proofs.Rests.{rest_of_none, rest_of_tail, returned_rest, stopped_rest, words_of_results}
 
--- what follows from a fact for every answer but want of memory
+-- what follows from a fact for every answer except out of memory
 pub answered : {T : Type 0} (r : Result T Error) (P Q : Type 0) → (P → Q) → OnAnswered r P → OnAnswered r Q
 answered (Ok x) P Q f h = f h
 answered (Err (error.Fault fault.OutOfMemory)) P Q f h = tt
@@ -113,7 +113,7 @@ module _ (Leaves : List ℕ → List ℕ → Type 0) (callee : Callee) (fuel : �
     so = refused_so (moment s bytes) e h;
   }
 
-  -- the words were lifted, post-return was told, and the scope was left
+  -- the words were lifted, post-return was run, and the scope was left
   pub conclude_done : (a b : Moment) (m : LedgerState) (vals : Vec Val Global) (P : List Event → Type 0) → Lifted callee fuel words a.bytes l m (Ok vals) → l2 ≡ leave m
       → Proceeds a b (λ es. OnAnswered {T = Unit {0}} (Ok tt) (P es)) (Posted Leaves callee words a b (Ok tt)) → Proceeds a b (λ es. OnAnswered {T = Vec Val Global} (Ok vals) (P es)) (Concluded Leaves callee fuel words a b l l2 (Ok vals))
   conclude_done a b m vals P lifted left h = record { events = h.events; goes = h.goes; moves = h.moves; so = ((m, lifted, left), h.so) }
@@ -122,7 +122,7 @@ module _ (Leaves : List ℕ → List ℕ → Type 0) (callee : Callee) (fuel : �
   counted : (bytes : List ℕ) (vals : Vec Val Global) → Lifted callee fuel words bytes l l2 (Ok vals) → length words ≡ result_words callee.results
   counted bytes vals h = words_of_results callee.encoding (narrow bytes) words callee.results h.1.its_trees h.1.represented
 
-  -- the words were lifted, and post-return wasn't told, or trapped
+  -- the words were lifted, and post-return wasn't run, or trapped
   concluded_by : (a b : Moment) (vals : Vec Val Global) (e : Error) (es : List Event) → Lifted callee fuel words a.bytes l l2 (Ok vals) → Posted Leaves callee words a b (Err e) es
       → Concluded Leaves callee fuel words a b l l2 (Err e) es
   concluded_by a b vals (error.Fault fault.GuestTrap) es lifted h = ((vals, lifted), h)

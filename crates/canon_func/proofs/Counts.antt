@@ -56,7 +56,7 @@ module _ (callee : Callee) (params results : ℕ) (trapped : Bool) where
   pub by_none : (b : Bool) → b ≡ Counts → b ≡ true → callee.async_ ≡ false → trapped ≡ false → None ≡ refusal callee params results trapped
   by_none b e h async t = rw (sym e ∙ h, async, t)
 
--- as told by the table
+-- as counted by the table
 pub counts_of : (component : Component) (e : Export) (t : Table) (params results : ℕ) (trapped b : Bool) → t ≡ component.types.types
     → b ≡ (params == member_count (params_in t (slice_get t.funcs e.ty))) && (results == member_count (results_in t (slice_get t.funcs e.ty))) → b ≡ Counts (export_callee component e) params results trapped
 counts_of component e t params results trapped b same h =

@@ -38,7 +38,7 @@ on_answered (Ok x) P p = p
 on_answered (Err (error.Fault fault.OutOfMemory)) P p = tt
 on_answered (Err e) P p = p
 
--- want of memory has no events
+-- out of memory has no events
 no_events : (destructor : Option Destructor) (memory : List ℕ) → destructor_events destructor memory (Err (error.Fault fault.OutOfMemory)) ≡ []
 no_events None memory = refl
 no_events (Some d) memory = refl

@@ -68,7 +68,7 @@ module _ (enc : Encoding) (ms : Members) (vs : List Val) (ts : Trees) (have : Ha
   unfit how j is fails = failure_excludes how ms vs j ts is fails have
 
   module _ (some : Bool) (ps : List Passed) (a b : Moment) (answers : List Answer) (trap : Option Trap) (lawful : AllLawful answers) (none : trap ≡ None) (l n m : LedgerState) (parts : List (List Part)) (hs : List ℕ) (takes : LeavesTake l parts hs m) where
-    -- for whatever fault but want of memory
+    -- for whatever fault except out of memory
     pub lowering_excluded : (f : Fault) (ending : Ending) → EndsAs {T = Unit {0}} some ps (Err f) ending → CauseOf a b answers trap ending → BlamesMembers enc ms vs f → told_fault f ≡ f → LeavesStop (stop_of f) l parts n → f ≡ fault.OutOfMemory
     lowering_excluded fault.OutOfMemory ending ends cause blames told stops = refl
     lowering_excluded (fault.TypeMismatch k) ending ends cause blames told stops = absurd (unfit mismatch blames.0 tt blames.2)

@@ -105,7 +105,7 @@ module _ (callee : Callee) (asked : Asked) (at : ℕ) (a b : Moment) (results : 
       })
       (cases_lt max_results (members_flat (asked_results callee asked)))
 
--- ---- what a refused lowering tells
+-- ---- what a refused lowering says
 
 trap_same : (t u : Trap) → Some t ≡ Some u → t ≡ u
 trap_same t u e = cc

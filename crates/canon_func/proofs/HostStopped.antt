@@ -41,7 +41,7 @@ trap_no_stop n index stop.OutOfMemory e = cc
 pub no_trap_lifted : (callee : Callee) (fuel : ℕ) (asked : Asked) (words memory : List ℕ) (l n : LedgerState) (f : Fault) → AskLifts callee fuel asked words memory l (Err f) n → ¬ (f ≡ fault.GuestTrap)
 no_trap_lifted callee fuel asked words memory l n f h is = (subst (λ g. AskLifts callee fuel asked words memory l (Err g) n) is h).1.err
 
--- it is told with the number of its import, but for want of memory
+-- it is reported with the number of its import, except out of memory
 abbrev pub IsTold : ℕ → Error → Type 0
 IsTold index (error.ImportFault k f) = k ≡ index
 IsTold index (error.HostRefused k) = k ≡ index

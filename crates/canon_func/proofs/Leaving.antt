@@ -144,6 +144,6 @@ exit_refusal : (l : LedgerState) (o : Option ℕ) (e : ResourceFault) → (plain
 exit_refusal l None e h = rw (sym (err_is _ _ h)) refl
 exit_refusal l (Some k) e h = refusal_not (not ((scope_at l.handles k).borrow_count == 0)) _ l _ e refl h
 
--- it is never want of memory
+-- it is never out of memory
 pub exit_refuses : (l : LedgerState) (e : ResourceFault) → (scope_exit l).answer ≡ Err e → refusal_of e ≡ Some e
 exit_refuses l e h = exit_refusal l (opened l.handles (top_scope l.handles)) e h

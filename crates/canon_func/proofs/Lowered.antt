@@ -31,7 +31,7 @@ use Rattle.canon_func.specs.Call.{Adding, AsksByTypes, AsksNothing, OnAnswered, 
 use Rattle.canon_func.specs.Steps.{LowersFor}
 use Rattle.canon_func.specs.declared.error.Error.TheVariants as error
 
--- a fact of the new events of a told journal
+-- a fact of the new events of an exposed journal
 pub told : (before after : Option (List Event)) (events : List Event) (P : List Event → Type 0) → Adds before after events
     → ((l es : List Event) → before ≡ Some l → after ≡ Some (l ++ es) → P es) → IsSome before → P events
 told None after events P added so there = absurd (false≢true there)
@@ -67,7 +67,7 @@ ends_any T U some ps fault.OutOfMemory ending (inl is) = inl is
 ends_any T U some ps fault.OutOfMemory ending (inr both) = inr ((refl, both.0.1), both.1)
 ends_any T U some ps f ending is = is
 
--- what a refused lowering tells of the guest's moves
+-- what a refused lowering says of the guest's moves
 pub refused_moves : {G : Type 0} (V : Type 0) (seen : G → Seen) (moves : GuestIn G → List Event → GuestIn G → Type 0) (g h : GuestIn G) (f : Fault) → Moves seen moves g h (fault_ending f)
     → (l es : List Event) → (seen g.guest).journal ≡ Some l → (seen h.guest).journal ≡ Some (l ++ es) → OnAnswered {T = V} (Err (error.Fault f)) (moves g es h)
 refused_moves V seen moves g h fault.OutOfMemory m l es p q = tt

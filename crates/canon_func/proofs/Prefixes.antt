@@ -103,7 +103,7 @@ grows_from a b last (event.Realloc o s al n p ∷ es) h g = grows_from a b last 
 grows_from a b last (event.Post f ws ∷ es) h g = grows_from a b last es h g
 grows_from a b last (event.Dtor f r ∷ es) h g = grows_from a b last es h g
 
--- answers tell no memory
+-- answers say nothing of memory
 pub grows_answers : (a last : ℕ) (xs : List Answer) (es : List Event) → Grows a es last → Grows a (events_of xs None ++ es) last
 grows_answers a last [] es g = g
 grows_answers a last (x ∷ xs) es g = grows_answers a last xs es g

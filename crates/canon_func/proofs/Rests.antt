@@ -443,7 +443,7 @@ module _ {T : Type 0} (gives : Giving T) (callee : Callee) (limits : Limits) (Le
   abbrev Accepted : Type 0
   Accepted = (resources : List Any) × (lifted : LedgerState) × LiftsReturned callee returned memory resources host.ledger lifted
 
-  -- and then nothing was told to it
+  -- and then it was called for nothing more
   returned_made : (e : Error) → StopsLater callee (stopped_by e) host.ledger left.ledger (event.Return returned memory ∷ [])
       → ((xs : List Event) → asks_in xs ≡ count → RestCause callee limits before after (xs ++ event.Return returned memory ∷ []) (event.Return returned memory ∷ []) e)
       → ((us : Trees) → RepResults false callee.encoding (narrow memory) returned callee.results us → members_cost callee.results us ≤ limits.fuel → Accepted → e ≡ error.Fault fault.OutOfMemory)

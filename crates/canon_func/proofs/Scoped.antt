@@ -21,7 +21,7 @@ use Rattle.canon_ledger.specs.Ledger.{is_stale, last_generation, leave, leaving,
 
 -- ---- one empty scope more
 
--- a borrow handle fewer is told to the same scope, and the empty one on top has none to give
+-- a borrow handle fewer is counted in the same scope, and the empty one on top has none to give
 last_stays : (scopes : List OpenScope) (k : ℕ)
     → slice_set (scopes ++ no_scope ∷ []) k (one_borrow_less (slice_index_or (scopes ++ no_scope ∷ []) k no_scope)) ≡ slice_set scopes k (one_borrow_less (slice_index_or scopes k no_scope)) ++ no_scope ∷ []
 last_stays [] zero = refl
@@ -68,7 +68,7 @@ module _ (l : LedgerState) (x : GivenIndex) where
   pub drop_in_scope : host_resource_drop (enter l) x ≡ done_in_scope (host_resource_drop l x)
   drop_in_scope = unless_stale_in_scope (is_stale l.host x)
 
--- what a drop answered and left, told without the scope
+-- what a drop answered and left, without the scope
 pub dropped_entered : (l m n : LedgerState) (x : GivenIndex) (r : Result (Option (ℕ × TableSlot)) ResourceFault) → m ≡ enter l → DidSurely (host_resource_drop m x) r n
     → ((host_resource_drop l x).answer ≡ r) × (n ≡ enter (host_resource_drop l x).after)
 dropped_entered l m n x r entered did =

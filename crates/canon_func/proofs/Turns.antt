@@ -92,9 +92,9 @@ len_then n (e ∷ xs) ys = len_then n xs ys
 pub same_le : (n : ℕ) → n ≤ n
 same_le n = omega arith
 
--- ---- what is told
+-- ---- what is exposed
 
--- a journal that was told is told afterwards
+-- a journal that was exposed is exposed afterwards
 pub told_after : (o p : Option (List Event)) (es : List Event) → Adds o p es → IsSome o → IsSome p
 told_after None p es adds told = cc
 told_after (Some xs) p es adds told = rw adds refl

@@ -90,7 +90,7 @@ module _ {T : Type 0} where
     pub no_request : t.answers ≡ []
     pub kept : after ≡ record before { ledger = after.ledger }
 
-  -- The step was refused; want of memory is told apart, and then it may have been taken.
+  -- The step was refused; out of memory is kept apart, and then it may have been taken.
   pub record BuiltinStops (callee : Callee) (index : ℕ) (words : List ℕ) (before after : HostSide T) (e : Error) : Type 0 where
     pub called : Builtin
     pub is : IsAskOf callee index words called

@@ -123,7 +123,7 @@ abbrev pub IsPastFuel : Callee → ℕ → List ℕ → List ℕ → Type 0
 IsPastFuel callee fuel words memory = (length words ≡ result_words callee.results) × (fuel < values_reach callee.encoding (narrow memory) words max_results callee.results)
 
 -- Why a call was refused with this fault. Of a refusal of the ledger this says when it came: before the start, or at the end of the
--- call's scope or in lifting; why it was refused is told by the ledger (`HandlesPass`), and it is never want of memory.
+-- call's scope or in lifting; why it was refused follows from the ledger (`HandlesPass`), and it is never out of memory.
 abbrev pub FaultCause : Callee → ℕ → List Val → Moment → Moment → List Event → Fault → Type 0
 FaultCause callee fuel params before after events (fault.TypeMismatch k) = Each IsNoStart events × ¬ EndsIn IsTrap events × BlamesMembers callee.encoding callee.params params (fault.TypeMismatch k)
 FaultCause callee fuel params before after events (fault.FieldName k) = Each IsNoStart events × ¬ EndsIn IsTrap events × BlamesMembers callee.encoding callee.params params (fault.FieldName k)
@@ -278,7 +278,7 @@ pub record Advances (before after : Moment) : Type 0 where
   pub shortages_later : before.guest.shortages ≤ after.guest.shortages
 
 -- A call that wasn't refused before the guest was entered, by what functions of the host may give, its callee, what it may use, its
--- parameters, the moments and the host before and after, its answer, the results that it leaves and the events that it adds to a told
+-- parameters, the moments and the host before and after, its answer, the results that it leaves and the events that it adds to an exposed
 -- journal.
 pub record IsCall {T : Type 0} (Leaves : List ℕ → List ℕ → Type 0) (gives : Giving T) (callee : Callee) (limits : Limits) (params : List Val) (before after : Moment) (host left : HostSide T) (answer : Result (Unit {0}) Error) (results : List Val) (events : List Event) : Type 0 where
   -- The guest made one run; of a refused call the events are a prefix of one.
@@ -315,7 +315,7 @@ pub record IsCall {T : Type 0} (Leaves : List ℕ → List ℕ → Type 0) (give
   pub posted : ¬ Each IsNoPost events → Each (OnReturn (λ words m. (left : ℕ) × (vs : List Val) × AreResults callee.encoding (narrow m) callee.results words limits.fuel left vs)) events
   pub leaves : OnOk answer (Each (OnReturn (λ words m. Left Leaves callee.post m after.bytes)) events)
   pub cause : IfErr answer (Cause callee limits params before after events tail)
-  -- A valid call answers Ok or want of memory: the parameters are of their types, no text among them is too long and no
+  -- A valid call answers Ok or out of memory: the parameters are of their types, no text among them is too long and no
   -- list too large, `realloc` kept its law, the guest doesn't trap and doesn't ask too often, no function of the host refuses, what
   -- it returns represents results that cost no more than the fuel, the ledger accepts the handles, and each ask can be served.
   pub valid : (ts : Trees) → HaveTrees callee.params params ts → AreSmall callee.encoding callee.params params → AllLawful (answers ++ late) → ¬ Rose host.refusals left.refusals → ¬ EndsIn IsTrap events → asks_in events ≤ limits.turns
@@ -323,13 +323,13 @@ pub record IsCall {T : Type 0} (Leaves : List ℕ → List ℕ → Type 0) (give
       → Accepts gives callee limits.fuel params turns host tail
       → IsOkUnless answer (error.Fault fault.OutOfMemory)
 
--- a fact for every answer but want of memory
+-- a fact for every answer except out of memory
 abbrev pub OnAnswered : {T : Type 0} → Result T Error → Type 0 → Type 0
 OnAnswered (Ok x) P = P
 OnAnswered (Err (error.Fault fault.OutOfMemory)) P = ⊤
 OnAnswered (Err _) P = P
 
--- From one moment to another the guest's journal, where it is told, got these events, of which this is so; then the guest
+-- From one moment to another the guest's journal, where it is exposed, got these events, of which this is so; then the guest
 -- moved by them.
 pub record Adding (before after : Moment) (Moves IsSo : List Event → Type 0) : Type 0 where
   pub events : List Event

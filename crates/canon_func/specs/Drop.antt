@@ -49,7 +49,7 @@ destructor_by (Err e) = None
 abbrev pub destructor_at : LedgerState → GivenIndex → Option Destructor
 destructor_at l x = destructor_by (host_resource_drop l x).answer
 
--- What it adds to a told journal, by the answer: its run, with the trap after it where it trapped; nothing where memory was short.
+-- What it adds to an exposed journal, by the answer: its run, with the trap after it where it trapped; nothing where memory was short.
 abbrev pub destructor_events : Option Destructor → List ℕ → Result (Unit {0}) Error → List Event
 destructor_events None memory answer = []
 destructor_events (Some d) memory (Ok _) = event.Dtor d.func d.rep ∷ []

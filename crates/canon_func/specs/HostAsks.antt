@@ -103,7 +103,7 @@ NothingAsked memory memory2 answers trap = (answers ≡ []) × (trap ≡ None) �
 abbrev pub resumed_with : Callee → Asked → List ℕ → List ℕ
 resumed_with callee asked words = if nat_le (members_flat (asked_results callee asked)) max_results then words else []
 
--- what is told of a fault of an ask, and of a function that gave no results
+-- what is answered to a fault of an ask, and to a function that gave no results
 abbrev pub asked_error : ℕ → Fault → Error
 asked_error index fault.OutOfMemory = error.Fault fault.OutOfMemory
 asked_error index (fault.Resource resource.OutOfMemory) = error.Fault fault.OutOfMemory
@@ -123,7 +123,7 @@ Counted (error.HostRefused n) before after = Rose before after
 Counted _ before after = after ≡ before
 
 module _ {T : Type 0} (gives : Giving T) (callee : Callee) (fuel : ℕ) where
-  -- if the asks that were served are told, the function may answer so, leaving this data, and left the ledger as it was
+  -- if the asks that were served are exposed, the function may answer so, leaving this data, and left the ledger as it was
   abbrev pub Gives : HostSide T → ℕ → LedgerState → List Val → Result (List Val) HostStop → T → LedgerState → Type 0
   Gives before index lifted params answer state called = IfSome before.log (λ log. (called ≡ lifted) × gives log index before.state params answer state)
 
@@ -178,7 +178,7 @@ module _ {T : Type 0} (gives : Giving T) (callee : Callee) (fuel : ℕ) where
         ⊎ ((f : Fault) × (e ≡ asked_error index f) × AskLifts callee fuel asked words memory (enter before.ledger) (Err f) after.ledger × (after.state ≡ before.state) × NothingAsked memory memory2 answers trap)
         ⊎ ((params : Vec Val Global) × (lifted : LedgerState) × AskLifts callee fuel asked words memory (enter before.ledger) (Ok params) lifted × StopsCalled params lifted)
 
-    -- the asks that are told stay
+    -- the asks that are exposed stay
     pub record HostStops : Type 0 where
       pub is : IsHostAsk callee index words asked
       pub stops : StopsAt

@@ -107,7 +107,7 @@ GoesOn callee served after tail = (after ≡ served)
     ⊎ BeginsInAsk (λ index words memory more. AskPartway callee index words memory served after) tail
     ⊎ SomeReturn (λ words memory. Partway served (last_steps callee words memory served) after) tail
 
--- The ledger of a call that is refused went through the same steps up to some step, which is one of those that the events tell.
+-- The ledger of a call that is refused went through the same steps up to some step, which is one of those that the events determine.
 abbrev pub RefusedIsPartway : {T : Type 0} → Giving T → Type 0
 RefusedIsPartway {T} gives = (callee : Callee) (fuel : ℕ) (params : List Val) (turns : List AskTurn) (memory2 : List ℕ) (late : List Answer) (trap : Option Trap) (before after : HostSide T) (given : List ℕ) (e : Error) (results : List Val) (events tail : List Event)
     → HandlesPass gives callee fuel params turns memory2 late trap before after given (Err e) results events tail

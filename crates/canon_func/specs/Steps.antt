@@ -102,7 +102,7 @@ Resumed words before after (Err _) events = ⊥
 
 -- ---- asks
 
--- From one moment to another, with these answers of `realloc`: these events were added, which the guest did if its journal is told,
+-- From one moment to another, with these answers of `realloc`: these events were added, which the guest did if its journal is exposed,
 -- and of which this is so.
 pub record Serving (before after : Moment) (Moves : List Event → Type 0) (IsSo : List Answer → List Event → Type 0) : Type 0 where
   pub answers : List Answer
@@ -236,7 +236,7 @@ Lifted callee fuel words memory before after (Err (error.Fault f)) = (length wor
     × LiftBlames (λ kind at. HasFault callee kind at words memory) (IsPastFuel callee fuel words memory) f × StopsReturned callee words memory (stop_of f) before after
 Lifted callee fuel words memory before after (Err _) = ⊥
 
--- post-return was told these words, where the callee has one
+-- post-return was given these words, where the callee has one
 abbrev pub Posted : (List ℕ → List ℕ → Type 0) → Callee → List ℕ → Moment → Moment → Result (Unit {0}) Error → List Event → Type 0
 Posted Leaves callee words before after (Ok x) events = (events ≡ posts callee.post words) × Left Leaves callee.post before.bytes after.bytes
 Posted Leaves callee words before after (Err (error.Fault fault.GuestTrap)) events = Rose before.guest.traps after.guest.traps
@@ -278,7 +278,7 @@ module _ {T : Type 0} (gives : Giving T) (callee : Callee) (limits : Limits) whe
   RestPasses memory2 late trap served left (Err e) tail = StopsStarted gives callee limits.fuel e memory2 late trap served left tail
 
   -- A callee was started with these words at the moment `before`, was served in these turns, what it returned was lifted with this fuel,
-  -- and post-return was told.
+  -- and post-return was run.
   pub record IsRest (Leaves : List ℕ → List ℕ → Type 0) (words : List ℕ) (before after : Moment) (host left : HostSide T) (answer : Result (Vec Val Global) Error) (answers : List Answer) (events : List Event) : Type 0 where
     pub one_run : OnOk answer (IsOneRun callee.func callee.post events)
     pub prefix : (len : ℕ) → IsPrefixOfRun callee.func callee.post len events

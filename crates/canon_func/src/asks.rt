@@ -269,7 +269,7 @@ fn ask_host<T, G: Guest, I: Imports<T, G>>(
     }
 }
 
-/// What is told of an ask that the imports refused.
+/// What is answered to an ask that the imports refused.
 fn host_error(index: u32, error: HostError) -> Error
     ensures { result ≡ host_error index error }
 {
@@ -279,7 +279,7 @@ fn host_error(index: u32, error: HostError) -> Error
     }
 }
 
-/// What is told of a fault of an ask. Want of memory is no fault of the import.
+/// What is answered to a fault of an ask. Out of memory is no fault of the import.
 fn asked_error(index: u32, fault: Fault) -> Error
     ensures { result ≡ asked_error index fault }
 {

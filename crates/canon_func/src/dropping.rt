@@ -115,7 +115,7 @@ fn finish<T, G: Guest>(
 /// destructor of an own handle, both in a scope of their own. A borrow that the host made itself has no handle, and nothing is done.
 ///
 /// Answers `HostDeallocated` where the handle's index is stale, and then `CannotEnterComponent` where its slot names an
-/// instance and the store is trapped; both change nothing. A refusal of the removal is answered as it is. `GuestTrap` tells that the
+/// instance and the store is trapped; both change nothing. A refusal of the removal is answered as it is. `GuestTrap` says that the
 /// destructor trapped: then the handle is gone, its scope stays open, and the store is trapped. The same is left where the
 /// destructor is out of memory; where there is no memory for the scope, nothing changes.
 pub fn resource_drop<T, G: Guest, I>(

@@ -64,7 +64,7 @@ impl Func {
         store.core().component().types.types().func(export.ty)
     }
 
-    /// Does nothing, since `call` has told the guest that its words were read.
+    /// Does nothing, since `call` has already run post-return.
     pub fn post_return<T, G, I>(&self, store: &mut Store<T, G, I>) -> Result<(), Error>
         requires { IsOwned store.old self.now }
         ensures answers { result ≡ Ok tt }
@@ -107,11 +107,11 @@ impl Func {
     }
 
     /// Calls the function, as CanonicalABI.md's "canon_lift": opens a scope, lowers the parameters, starts the guest, serves
-    /// what it asks for until it returns, ends the scope, lifts what the guest returned, tells it that its words were read, and leaves the scope. `results` are
+    /// what it asks for until it returns, ends the scope, lifts what the guest returned, runs post-return, and leaves the scope. `results` are
     /// written together, last. What is lent to the call is given back when its scope ends.
     ///
     /// Answers `WrongCount`, `AsyncLifted` and `CannotEnterComponent`, in this order, before anything is done. Any later
-    /// refusal, want of memory included, traps the store and leaves `results` and the scope: the faults of a parameter, of
+    /// refusal, out of memory included, traps the store and leaves `results` and the scope: the faults of a parameter, of
     /// the guest's `realloc` and of a result; a refusal of a handle; `GuestTrap`; at each ask of the guest `TurnsExhausted`
     /// where it is one more than the store's calls may have served, `UnknownImport` where the component has no such import,
     /// `WrongWords` where there are more or fewer words than its import takes, `HostRefused` where its function refuses, and

@@ -54,7 +54,7 @@ pub(crate) fn has_counts(
         && results == types.tuple(func.results).types.len()
 }
 
-/// Opens a scope, lowers the parameters, runs the guest, lifts what it returns, tells it that its words were read, and leaves the
+/// Opens a scope, lowers the parameters, runs the guest, lifts what it returns, runs post-return, and leaves the
 /// scope, which stays open where the call is refused.
 pub(crate) fn call_core<T, G: Guest, I: Imports<T, G>>(
     alloc: Global,
@@ -191,7 +191,7 @@ fn run<T, G: Guest, I: Imports<T, G>>(
     }
 }
 
-/// Ends the scope, lifts the results from the words that the guest returned, tells it that they were read, and leaves the scope.
+/// Ends the scope, lifts the results from the words that the guest returned, runs post-return, and leaves the scope.
 fn conclude<T, G: Guest>(
     alloc: Global,
     core: &mut Core<T, G>,

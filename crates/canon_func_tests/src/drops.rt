@@ -1,4 +1,4 @@
-//! Drops of resources that a component defines, by a store whose guest tells its journal.
+//! Drops of resources that a component defines, by a store whose guest exposes its journal.
 
 ghost use Rattle.std.specs.Prelude.{◌≡◌, [], None};
 
@@ -16,7 +16,7 @@ use canon_value::{Component, Core, Export, Fault, LowerContext};
 use std::alloc::Global;
 use std::test::Fail;
 
-/// A guest that traps at all that it is asked, but at a destructor only where it is told to.
+/// A guest that traps at all that it is asked, but at a destructor only where it is exposed to.
 #[derive(Drop)]
 struct Destroyer {
     fails: bool,

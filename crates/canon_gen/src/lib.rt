@@ -1,4 +1,4 @@
-//! The command `gen`: a script that a number makes, played, and what is told of it.
+//! The command `gen`: a script that a number makes, played, and what is printed of it.
 //!
 //! The number n gives a list of n records, `{id: u32, name: string, tags: list<string>, on: option<bool>}`, whose parts are
 //! drawn one after another, and the encoding of texts. The script has one function from such a list to such a list, and

@@ -1,4 +1,4 @@
-//! What is told of the script that a number makes.
+//! What is printed of the script that a number makes.
 
 ghost use Rattle.std.specs.Prelude.{◌≡◌, ◌≤◌, ◌⊎◌, ℕ, List, [], ◌∷◌, ◌++◌, IfOk, OnErr, OnOk, length, string_bytes, take};
 ghost use Rattle.canon_script.specs.Literals.{literal_view};

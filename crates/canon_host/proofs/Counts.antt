@@ -63,7 +63,7 @@ near_row ms near = cond-true (nat_le (members_flat ms) max_results) _ _ (le-leb 
 pub far_row : (ms : Members) → max_results < members_flat ms → row_words ms ≡ 0
 far_row ms far = cond-false (nat_le (members_flat ms) max_results) _ _ (lt-leb (members_flat ms) max_results far)
 
--- as told
+-- as counted
 pub no_pointer : (x : ℕ) (ms : Members) → SomeIff (Some x) (members_flat ms ≤ max_results) (members_flat ms) → 0 ≡ pointer_words ms
 no_pointer x ms h = sym (near_pointer ms h.0)
 

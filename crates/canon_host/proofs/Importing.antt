@@ -63,7 +63,7 @@ module _ {F T G : Type 0} (g : Closure F (HostView T) Val (Result (Unit {0}) Hos
   found_import ty options before after words words2 r (Some t) h = served_import (asked_by ty t options) before after words words2 r h
   found_import ty options before after words words2 r None h = tt
 
--- ---- the entry of values that are told in a row
+-- ---- the entry of values in a row
 
 module _ {T G : Type 0} (gives : Giving T) (log : Option (List Entry)) (n : ℕ) (seen : G → Seen) (moves : GuestIn G → List Event → GuestIn G → Type 0) (asked : Asked) where
   -- as many of them as the type has parameters are the parameters, and the others the results
@@ -78,7 +78,7 @@ module _ {T G : Type 0} (gives : Giving T) (log : Option (List Entry)) (n : ℕ)
 -- ---- one ask, by what was done
 
 module _ {T G : Type 0} (gives : Giving T) (log log2 : Option (List Entry)) (n : ℕ) (seen : G → Seen) (moves : GuestIn G → List Event → GuestIn G → Type 0) (ty options r r2 : ℕ) (before after : Parts T G) (words words2 : List ℕ) where
-  -- what was done, as told of its values in a row
+  -- what was done, by its values in a row
   abbrev pub Done : Result (Vec Val Global) HostError → TypeFunc → Type 0
   Done result t = InRow (λ told. ServesWith gives log n seen moves (asked_by ty t options) before words told after words2) result
 
@@ -99,7 +99,7 @@ module _ {T G : Type 0} (gives : Giving T) (log log2 : Option (List Entry)) (n :
   faults (Some t) e done same count = (same, count, done)
   faults None e done same count = tt
 
-  -- nothing was done for want of memory
+  -- nothing was done since memory ran out
   pub wants : (o : Option TypeFunc) → after ≡ before → log2 ≡ log → r2 ≡ r → IfSome o (Answered (Err (error.Fault fault.OutOfMemory)))
   wants (Some t) same none count = (none, count, inl (refl, same))
   wants None same none count = tt

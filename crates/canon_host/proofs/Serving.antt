@@ -66,7 +66,7 @@ module _ {F T G : Type 0} (g : Closure F (HostView T) Val (Result (Unit {0}) Hos
 
 -- ---- results that are lowered
 
--- of results in a row so many words are told, and of others none
+-- of results in a row there are so many words, and of others none
 lowered_first : (a c : Moment) (enc : Encoding) (ms : Members) (Have : Trees → Type 0) (at : ℕ) (ws rest hs : List ℕ) (e : Ending) → (members_flat ms ≤ max_results → length ws ≡ members_flat ms)
     → LowersResults a c enc ms Have at ws hs e → LowersResults a c enc ms Have at (take (members_flat ms) (ws ++ rest)) hs e
 lowered_first a c enc ms Have at ws rest hs e count h = record {

@@ -24,7 +24,7 @@ outcome (Err why) results = Err why
 abbrev pub Giving : Type 0 → Type 1
 Giving T = List Entry → ℕ → T → List Val → Result (List Val) HostStop → T → Type 0
 
--- The data of a store, the ledger of its handles, and what its imports tell: the asks that they served, if they tell them, and how often
+-- The data of a store, the ledger of its handles, and what its imports expose: the asks that they served, if they expose them, and how often
 -- they refused one for no fault.
 pub record HostSide (T : Type 0) : Type 0 where
   pub state : T

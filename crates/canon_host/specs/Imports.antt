@@ -22,13 +22,13 @@ use Rattle.canon_host.specs.declared.error.HostError.TheVariants as error
 abbrev pub entry_of : ℕ → AskValues → Entry
 entry_of n told = entry n told.params told.results
 
--- the log with one entry more, where it is told
+-- the log with one entry more, where it is exposed
 abbrev pub logged : Option (List Entry) → Entry → Option (List Entry)
 logged log last = option_map (λ entries. entries ++ last ∷ []) log
 
 -- ---- the call
 
--- The function of an import was called. Of the core it changed the data, and the ledger by the host's steps. Where the log is told, it left
+-- The function of an import was called. Of the core it changed the data, and the ledger by the host's steps. Where the log is exposed, it left
 -- the ledger as it was, and may answer so.
 pub record CallsImport {T G : Type 0} (gives : Giving T) (log : Option (List Entry)) (n : ℕ) (before : Parts T G) (params : List Val) (result : Result (Unit {0}) HostStop) (after : Parts T G) (results : List Val) : Type 0 where
   pub steps : HostSteps before.ledger after.ledger

@@ -110,7 +110,7 @@ pub record AskValues : Type 0 where
 abbrev pub values_of : List Val → List Val → AskValues
 values_of params results = record { params = params; results = results }
 
--- they are told in a row
+-- they stand in a row
 abbrev pub InRow : (Result AskValues HostError → Type 0) → Result (Vec Val Global) HostError → Type 0
 InRow Is (Ok values) = (told : AskValues) × (values.items ≡ told.params ++ told.results) × Is (Ok told)
 InRow Is (Err e) = Is (Err e)
@@ -138,7 +138,7 @@ module _ {T G : Type 0} (C : Calling T G) (seen : G → Seen) (moves : GuestIn G
   Serves before words (Err e) after words2 = ((e ≡ error.Fault fault.OutOfMemory) × (after ≡ before)) ⊎ ServesEntered (record before { ledger = enter before.ledger }) words (Err e) after words2
   Serves before words result after words2 = ServesEntered (record before { ledger = enter before.ledger }) words result after words2
 
--- a function over values does so, and tells the values of the ask in a row
+-- a function over values does so, and gives the values of the ask in a row
 abbrev pub ServesInRow : {F T G : Type 0} → Closure F (HostView T) Val (Result (Unit {0}) HostStop) → F → (G → Seen) → (GuestIn G → List Event → GuestIn G → Type 0) → Asked
     → Parts T G → List ℕ → Result (Vec Val Global) HostError → Parts T G → List ℕ → Type 0
 ServesInRow g f seen moves asked before words result after words2 = InRow (λ told. Serves (CallsBlank g f asked) seen moves asked before words told after words2) result

@@ -8,7 +8,3 @@ pub enum HostError {
     Fault(Fault),
     Refused,
 }
-
-/// The type of a function isn't the function's.
-#[derive(Clone, Copy, Debug, PartialEq, Eq)]
-pub struct TypecheckFailed;

@@ -20,7 +20,7 @@ use std::marker::Model;
 
 /// A function in one of its forms, over data of the type `T` and a guest of the type `G`.
 pub trait HostFn<T, G: Guest> {
-    /// What is told of an ask that was served.
+    /// What the log keeps of an ask that was served.
     type Log;
 
     /// It may be called, and keeps what it must.

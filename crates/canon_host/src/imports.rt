@@ -22,7 +22,7 @@ pub trait Imports<T, G: Guest> {
 
     ghost plan: { Self → Self.Plan };
 
-    /// The asks that were served, where they are told.
+    /// The asks that were served, where they are logged.
     ghost log: { Self → Option (List Entry) };
 
     /// How many asks were refused for no fault.

@@ -1,4 +1,4 @@
--- The places of values in a row are counted one after another, and a fault is told at its place.
+-- The places of values in a row are counted one after another, and a fault is reported at its place.
 use Rattle.std.proofs.Common.{Err, List, Ok, Result, ap, ap₂, arith, inl, inr, length, refl, subst, sym, ℕ, ◌+◌, ◌<◌, ◌^◌, ◌∙◌, ◌∷◌, ◌≡◌}
 use Rattle.canon_lowering.specs.Copies.{case_members, copies}
 use Rattle.canon_model.specs.Shape.{Cases, Members, Name, ProductKind, Shape, VariantKind, fixed, member, member_count, product, variant}

@@ -32,7 +32,7 @@ one_tree : (s : Shape) (v : Val) (t u : Tree) → HasTree s v t → HasTree s v 
 one_tree s v t u h g =
     only_one t u (trees_one (member [] s no_members) (v ∷ []) (tree t no_trees) (tree u no_trees) (v, [], t, no_trees, refl, refl, h, (refl, refl)) (v, [], u, no_trees, refl, refl, g, (refl, refl)))
 
--- a fault that is told stands at a value
+-- a reported fault stands at a value
 failing : (s : Shape) (v : Val) (e : Fault) → IsTypeFault e → BlamesValue utf8 s v e → (how : Failure) × (j : ℕ) × IsTypeFailure how × FailsAt how s v j
 failing s v (fault.TypeMismatch k) h (j, e, f) = (mismatch, j, tt, f)
 failing s v (fault.FieldName k) h (j, e, f) = (field_name, j, tt, f)

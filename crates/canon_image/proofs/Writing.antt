@@ -94,7 +94,7 @@ module _ (a : List ℕ) (place : ℕ) (ms : Members) (names : List Name) (vs : L
     abbrev s : Shape
     s = shape_of t m.ty
 
-    -- the rest with its first member told
+    -- the rest with its first member
     told : (z : List ℕ) (r : Result ℕ Fault) → PartsWriteTo now z place (member is.name s (members_from (i + 1) ms)) (is.named ∷ drop (i + 1) names) (m.value.now ∷ drop (i + 1) vs) next r
         → PartsWriteTo now z place (members_from i ms) (drop i names) (drop i vs) next r
     told z r g =
@@ -297,7 +297,7 @@ items_told a b c place n first s xs ys r ey en few eb ef h =
 pub parts_told : (a b : List ℕ) (place first : ℕ) (ms : Members) (names : List Name) (vs : List Val) (r : Result ℕ Fault) → first ≡ cap (place + 1) → PartsWriteTo a b place ms names vs first r → PartsWriteTo a b place ms names vs (cap (place + 1)) r
 parts_told a b place first ms names vs r ef h = subst (λ (f : ℕ). PartsWriteTo a b place ms names vs f r) ef h
 
--- a fault of a view, as it is told
+-- a fault of a view, as it is reported
 pub refused : (a : List ℕ) (s : Shape) (v : Val) (place : ℕ) (e f : Fault) → ((enc : Encoding) → Blames enc (λ how k. FailsAt how s v k) place e) → IsTold f → (f ≡ e) ⊎ (f ≡ fault.OutOfMemory) → WritesTo a a s v place (Err f)
 refused a s v place e f h told (inl same) = record { written = tt; counted = subst (Blames utf8 (λ how k. FailsAt how s v k) place) (sym same) (h utf8); told = told }
 refused a s v place e f h told (inr same) = short a a s v place f same

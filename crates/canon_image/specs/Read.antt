@@ -21,7 +21,7 @@ IsRead s bs (Err (error.Trailing p)) = HasNoHandle s × IsFollowed s bs p
 IsRead s bs (Err error.OutOfMemory) = ⊤
 IsRead s bs (Err (error.NotOfType e)) = ⊥
 
--- Two answers to one question are the same, but that one of them may be want of memory; of two values this says only that both are.
+-- Two answers to one question are the same, but that one of them may be out of memory; of two values this says only that both are.
 abbrev pub IsSameReading : Result Val ImageError → Result Val ImageError → Type 0
 IsSameReading (Err error.OutOfMemory) q = ⊤
 IsSameReading r (Err error.OutOfMemory) = ⊤
@@ -35,7 +35,7 @@ IsOnlyReading s bs result = (other : Result Val ImageError) → IsRead s bs othe
 
 -- ---- one after another
 
--- reading from place `from` on stopped at the place that is told, or memory was short
+-- reading from place `from` on stopped at the reported place, or memory was short
 abbrev pub StopsFrom : (ℕ → Stop → Type 0) → ℕ → ImageError → Type 0
 StopsFrom F from (error.Truncated p) = (j : ℕ) × (p ≡ from + j) × F j truncated
 StopsFrom F from (error.Malformed p) = (j : ℕ) × (p ≡ from + j) × F j malformed

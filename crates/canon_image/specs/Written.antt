@@ -1,4 +1,4 @@
--- What writing an image adds to some bytes, or whose fault it tells.
+-- What writing an image adds to some bytes, or whose fault it reports.
 use Rattle.std.specs.Prelude.{Err, IfErr, IfOk, List, Ok, Result, Vec, false, length, map, slice_index, ⊤, ◌+◌, ◌++◌, ◌<◌, ◌≡◌, ◌⊎◌, ℕ}
 use Rattle.std.specs.declared.alloc.Global.{Global}
 use Rattle.canon_lowering.specs.Steps.{Writes}
@@ -20,7 +20,7 @@ use Rattle.canon_value.specs.declared.val.Val.{Val}
 use Rattle.canon_image.specs.declared.error.ImageError.{ImageError}
 use Rattle.canon_image.specs.declared.error.ImageError.TheVariants as error
 
--- the fault tells that a value isn't of its type
+-- the fault says that a value isn't of its type
 abbrev pub IsTypeFault : Fault → Type 0
 IsTypeFault (fault.TypeMismatch k) = ⊤
 IsTypeFault (fault.FieldName k) = ⊤
@@ -31,7 +31,7 @@ IsTypeFault (fault.PayloadExpected k) = ⊤
 IsTypeFault (fault.PayloadNotExpected k) = ⊤
 IsTypeFault _ = ⊥
 
--- it does, or it is want of memory
+-- it does, or it is out of memory
 abbrev pub IsTold : Fault → Type 0
 IsTold fault.OutOfMemory = ⊤
 IsTold e = IsTypeFault e
@@ -44,8 +44,8 @@ IsImaged s v (Err (error.NotOfType e)) = HasNoHandle s × IsTypeFault e × Blame
 IsImaged s v (Err error.OutOfMemory) = ⊤
 IsImaged s v (Err _) = ⊥
 
--- Two answers to one question are the same, but that one of them may be want of memory, and that of several values that aren't of their
--- types any may be told.
+-- Two answers to one question are the same, but that one of them may be out of memory, and that of several values that aren't of their
+-- types any may be reported.
 abbrev pub IsSameImage : Result (Vec ℕ Global) ImageError → Result (Vec ℕ Global) ImageError → Type 0
 IsSameImage (Err error.OutOfMemory) q = ⊤
 IsSameImage r (Err error.OutOfMemory) = ⊤
@@ -68,7 +68,7 @@ abbrev pub MarksTo : List ℕ → List ℕ → ℕ → List Name → List Name �
 MarksTo old new at names set place (Ok next) = AreMarkedAt old new at names set × (next ≡ cap (place + 1))
 MarksTo old new at names set place (Err e) = (e ≡ fault.UnknownFlag place) × SomeUnknown names set
 
--- n places were counted from `from` on, or the fault is told at its place
+-- n places were counted from `from` on, or the fault is reported at its place
 abbrev pub CountsPlaces : (Failure → ℕ → Type 0) → ℕ → ℕ → Result ℕ Fault → Type 0
 CountsPlaces F from n (Ok next) = next ≡ cap (from + n)
 CountsPlaces F from n (Err e) = Blames utf8 F from e

@@ -15,10 +15,11 @@ ghost use Rattle.canon_value.specs.Flags.{flag_names};
 ghost use Rattle.canon_image.specs.Read.{IsOnlyReading, IsRead, NumberReadTo, PairsReadTo, PartsReadTo, ReadsTo};
 
 use crate::ImageError;
+use canon_bytes::load_tag;
 use canon_plan::{Element, Plan, Slots, case_of, has_no_handle, plan_of, slot_count, slot_of};
 use canon_types::{ComponentTypes, InterfaceType, TypeFlagsIndex, TypeMapIndex, VariantInfo};
 use canon_value::Val;
-use canon_value::parts::{Marks, flags_of, load_scalar, load_tag, rebuild, rebuild_case};
+use canon_value::parts::{Marks, flags_of, load_scalar, rebuild, rebuild_case};
 use std::alloc::Global;
 
 /// The value whose image these bytes are. Answers `Resource` where the type reaches a handle, `Truncated` or `Malformed` at the

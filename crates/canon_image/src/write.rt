@@ -321,7 +321,7 @@ fn mark_names(
     Ok(place.saturating_add(1))
 }
 
-/// The fault of a value that isn't of its type. A view tells no other.
+/// The fault of a value that isn't of its type. A view reports no other.
 fn told(fault: Fault) -> Fault
     ensures told { IsTold result }
     ensures same { (result ≡ fault) ⊎ (result ≡ Fault.OutOfMemory) }

@@ -1,4 +1,4 @@
--- The line that tells an image, a value or why there is none.
+-- The line that shows an image, a value or why there is none.
 use Rattle.std.specs.Prelude.{ℕ, List, ◌++◌, codes, Option, None, Some, Result, Ok, Err, Vec, ◌≡◌, option_map}
 use Rattle.std.specs.Fmt.{decimal}
 use Rattle.std.specs.declared.alloc.Global.{Global}
@@ -14,7 +14,7 @@ use Rattle.canon_script.specs.Literals.{literal_view}
 use Rattle.canon_transcript.specs.Text.{fault_text, value_text}
 use Rattle.canon_image_cli.specs.Task.{Question, Told, a_value, some_bytes}
 
--- the name of an error and its place, or the text of a fault; want of memory has none
+-- the name of an error and its place, or the text of a fault; out of memory has none
 abbrev pub image_error_text : ImageError → Option (List ℕ)
 image_error_text error.Resource = Some (codes "Resource")
 image_error_text (error.NotOfType f) = Some (fault_text f)
@@ -36,7 +36,7 @@ abbrev pub read_line : Result Val ImageError → Option (List ℕ)
 read_line (Ok v) = Some (codes "ok " ++ value_text v ++ codes "\n")
 read_line (Err e) = error_line e
 
--- Of a value that is spelled so the line tells its image, or why it has none; of bytes it tells their value, or how they are no image.
+-- Of a value that is spelled so the line shows its image, or why it has none; of bytes it shows their value, or how they are no image.
 abbrev pub IsLineOf : Shape → Told → List ℕ → Type 0
 IsLineOf s (a_value x) line = (v : Val) × (answer : Result (Vec ℕ Global) ImageError)
     × (literal_view v ≡ x) × IsImaged s v answer × (written_line answer ≡ Some line)

@@ -19,7 +19,7 @@ pub data Told : Type 0 where
   a_value : Literal → Told
   some_bytes : List ℕ → Told
 
--- a type of this table, and what is told of it
+-- a type of this table, and what is printed of it
 pub record Question : Type 0 where
   pub table : Table
   pub type : InterfaceType

@@ -1,5 +1,5 @@
 //! What the program `canon_image` does: a JSON value asks for the image of a value, or for the value of an image, and a
-//! line tells it.
+//! line shows it.
 #![tactic(auto)]
 
 mod lines;

@@ -33,7 +33,7 @@ pub fn image_line(alloc: Global, v: &Value) -> Result<String, ScriptError>
     told_line(alloc, &task)
 }
 
-/// The line that tells what is asked. Answers OutOfMemory alone.
+/// The line that shows what is asked. Answers OutOfMemory alone.
 fn told_line(alloc: Global, task: &ImageTask) -> Result<String, ScriptError>
     ensures line { IfOk result (λ text. spec.IsImageLine (task_view task.now) (string_bytes text)) }
     ensures memory { IfErr result (λ e. e ≡ refused.OutOfMemory) }
@@ -44,7 +44,7 @@ fn told_line(alloc: Global, task: &ImageTask) -> Result<String, ScriptError>
     }
 }
 
-/// The line that tells the image of a value, or why there is none. Answers OutOfMemory alone.
+/// The line that shows the image of a value, or why there is none. Answers OutOfMemory alone.
 fn written_line(
     alloc: Global,
     types: &ComponentTypes,
@@ -62,7 +62,7 @@ fn written_line(
     }
 }
 
-/// The line that tells the value of an image, or how the bytes are none. Answers OutOfMemory alone.
+/// The line that shows the value of an image, or how the bytes are none. Answers OutOfMemory alone.
 fn read_line(
     alloc: Global,
     types: &ComponentTypes,
@@ -109,7 +109,7 @@ fn value_line(alloc: Global, value: &Val) -> Result<String, ScriptError>
     Ok(text)
 }
 
-/// `error`, and the name of this one with its place, or the text of its fault. Of want of memory there is none.
+/// `error`, and the name of this one with its place, or the text of its fault. For out of memory there is none.
 fn error_line(alloc: Global, error: ImageError) -> Result<String, ScriptError>
     ensures line { IfOk result (λ text. spec.error_line error ≡ Some (string_bytes text)) }
     ensures memory { IfErr result (λ e. e ≡ refused.OutOfMemory) }

@@ -12,7 +12,7 @@ use crate::lines::image_line;
 use canon_cli::{ScriptError, Sink, Source, Status, read_json, write_all};
 use std::alloc::Global;
 
-/// Reads what a source asks, and writes the line that tells it to the sink: the image of a value, or the value of an image.
+/// Reads what a source asks, and writes the line that shows it to the sink: the image of a value, or the value of an image.
 /// There are no words.
 pub fn image_run<S: Source, K: Sink>(
     alloc: Global,
@@ -24,7 +24,7 @@ pub fn image_run<S: Source, K: Sink>(
     ensures usage { (result ≡ Status.USAGE) ↔ ¬ (words.now ≡ []) }
     ensures unread { result ≡ Status.USAGE → source.new ≡ source.old }
 
-    // At 0 the source was read to its end, what was read asks for an image or a value, and the sink took the line that tells
+    // At 0 the source was read to its end, what was read asks for an image or a value, and the sink took the line that shows
     // it; at 4 a prefix of it.
     ensures done { result ≡ Status.DONE → (line : List ℕ)
         × IsAnswered (S.left source.old) (S.left source.new) line × Appends (K.taken sink.old) (K.taken sink.new) line }
@@ -43,7 +43,7 @@ pub fn image_run<S: Source, K: Sink>(
     ensures not_json { result ≡ Status.NOT_JSON → ReadsNoJson (S.left source.old) (S.left source.new) }
     ensures bad_script { result ≡ Status.BAD_SCRIPT → ReadsNoTask image_task_of (S.left source.old) (S.left source.new) }
 
-    // Where no read fails an input is answered by what it is, or by want of memory; no more of it is taken than an input may
+    // Where no read fails an input is answered for what it is, or memory runs out; no more of it is taken than an input may
     // have, or the answer says so.
     ensures answers { words.now ≡ [] → ¬ Rose (S.faults source.old) (S.faults source.new)
         → OnTold (S.left source.old) (λ input. AnswersInput image_task_of input result) }
@@ -60,7 +60,7 @@ pub fn image_run<S: Source, K: Sink>(
     answer_input(alloc, source, sink)
 }
 
-/// Reads what a source asks, and writes the line that tells it.
+/// Reads what a source asks, and writes the line that shows it.
 fn answer_input<S: Source, K: Sink>(alloc: Global, source: &mut S, sink: &mut K) -> Status
     ensures done { result ≡ Status.DONE → (line : List ℕ)
         × IsAnswered (S.left source.old) (S.left source.new) line × Appends (K.taken sink.old) (K.taken sink.new) line }
@@ -89,7 +89,7 @@ fn answer_input<S: Source, K: Sink>(alloc: Global, source: &mut S, sink: &mut K)
     }
 }
 
-/// Reads what a source asks, and gives the line that tells it.
+/// Reads what a source asks, and gives the line that shows it.
 fn line_of_input<S: Source>(alloc: Global, source: &mut S) -> Result<String, Status>
     ensures done { IfOk result (λ line. IsAnswered (S.left source.old) (S.left source.new) (string_bytes line)) }
     ensures taken { result ≡ Err Status.READ_FAULT → TakesAtMost max_input (S.left source.old) (S.left source.new) }

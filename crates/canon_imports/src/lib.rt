@@ -1,4 +1,4 @@
-//! The imports of a script: functions of the host that give its answers in order, and tell the asks that they served.
+//! The imports of a script: functions of the host that give its answers in order, and expose the asks that they served.
 #![tactic(auto)]
 
 mod imports;

@@ -72,7 +72,7 @@ types_begun t ds l none e = onward_keeps Begun add_entry keeps_types (so_far t [
 
 -- ---- functions
 
--- types that are known, and few functions, each told whether it has a post-return function
+-- types that are known, and few functions, each with whether it has a post-return function
 pub record Stands (types : List InterfaceType) (fs : Funcs) : Type 0 where
   pub known : All (Knows fs.table) types
   pub few : length fs.table.funcs ≤ 1048576

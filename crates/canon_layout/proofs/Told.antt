@@ -1,4 +1,4 @@
--- A number of words as it is told, and as it is printed.
+-- A number of words as it is counted, and as it is printed.
 use Rattle.std.proofs.Common.{◌≡◌, ℕ, Bool, true, false, nat_le, if◌then◌else◌, None, Some, refl}
 use Rattle.std.specs.Prelude.{codes}
 use Rattle.std.specs.Fmt.{decimal}

@@ -87,7 +87,7 @@ entry_by_member before d = option_and_then (λ m. option_and_then (λ k. entry_b
 -- ---- functions
 
 -- the types of a function's parameters and results, whether it is async, and whether it has a post-return function, which
--- its type doesn't tell
+-- its type doesn't say
 pub record FuncParts : Type 0 where
   pub params : List InterfaceType
   pub results : List InterfaceType

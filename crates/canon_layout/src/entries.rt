@@ -210,7 +210,7 @@ fn add_borrow(
     accepted(builder.add_borrow(TypeResourceTableIndex::from_u32(resource)))
 }
 
-/// A builder's answer, where every refusal is the script's fault but want of memory.
+/// A builder's answer, where every refusal is the script's fault except out of memory.
 pub(crate) fn accepted<T>(answer: Result<T, TypeError>) -> Result<T, ScriptError>
     ensures ok { IfOk result (λ x. answer ≡ Ok x) }
     ensures bad_script { result ≡ Err refused.BadScript → (e : TypeError) × (answer ≡ Err e) × (e ≢ TypeError.OutOfMemory) }

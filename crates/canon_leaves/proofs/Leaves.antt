@@ -22,7 +22,7 @@ same_ok r a b e f = cc
 takes_along : (last k : ℕ) (l n : LedgerState) (ps : List Part) (ys : List ℕ) → last ≡ k → Takes k l ps ys n → Takes last l ps ys n
 takes_along last k l n ps ys e h = subst (λ x. Takes x l ps ys n) (sym e) h
 
--- what is told and left is one
+-- what is answered and left is one
 pub takes_same : (last : ℕ) (l m n : LedgerState) (ps : List Part) (xs ys : List ℕ) → Takes last l ps xs m → Takes last l ps ys n → (xs ≡ ys) × (m ≡ n)
 takes_same last l m n [] xs ys h k = (h.0 ∙ sym k.0, h.1 ∙ sym k.1)
 takes_same last l m n (p ∷ ps) xs ys (a, as2, is, ok, more) (b, bs, is2, ok2, more2) =

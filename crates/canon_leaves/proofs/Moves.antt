@@ -29,7 +29,7 @@ moves_one l n p (Err e) d = λ last. stopped last p [] l n e (d last)
 pub moves_not : (l n : LedgerState) (p : Part) (ps : List Part) (e : ResourceFault) → Does p l n (Err e) → LeafMoves l n (p ∷ ps) (Err e)
 moves_not l n p ps e d last = stopped last p ps l n e (d last)
 
--- the second on what the first told
+-- the second on what the first answered
 module _ (l m n : LedgerState) (p q : Part) (a : ℕ) (first : Does p l m (Ok a)) where
   after_first : (last : ℕ) → m ≡ (do_part last p l).after
   after_first last = (first last).1

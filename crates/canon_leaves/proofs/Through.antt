@@ -4,7 +4,7 @@ use Rattle.canon_ledger.specs.declared.fault.ResourceFault.{ResourceFault}
 use Rattle.canon_ledger.specs.Ledger.{Done, LedgerState, LedgerStep, Partway, Through, do_step}
 use Rattle.canon_ledger.proofs.LedgerLemmas.{compose, compose_parts}
 use Rattle.canon_leaves.specs.Laws.{LeavesAreSteps, StopsArePartway}
-use Rattle.canon_leaves.specs.Parts.{LeafTakes, LeavesStop, LeavesTake, Part, Stops, Takes, borrow_in, do_part, host_borrow, host_own, lend, lend_host, own_in, refuse, take, take_host, tell}
+use Rattle.canon_leaves.specs.Parts.{LeafTakes, LeavesStop, LeavesTake, Part, Stops, Takes, borrow_in, do_part, host_borrow, host_own, lend, lend_host, lend_inserted, own_in, refuse, take, take_host, tell}
 use Rattle.canon_leaves.specs.Steps.{after_parts, if_told, leaves_steps, step_of, steps_of}
 
 -- ---- one part
@@ -16,6 +16,7 @@ IsStep last p l = ((s : LedgerStep) × (step_of last p l ≡ s ∷ []) × (do_pa
 is_step : (last : ℕ) (p : Part) (l : LedgerState) → IsStep last p l
 is_step last (take_host x) l = inl (_, refl, refl)
 is_step last (lend_host x) l = inl (_, refl, refl)
+is_step last lend_inserted l = inl (_, refl, refl)
 is_step last (take p ty i) l = inl (_, refl, refl)
 is_step last (lend p ty i) l = inl (_, refl, refl)
 is_step last (own_in p ty) l = inl (_, refl, refl)

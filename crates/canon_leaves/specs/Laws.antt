@@ -20,7 +20,7 @@ StopsCompose = (why : Option ResourceFault) (l m n : LedgerState) (xs ys : List 
 abbrev pub StopsStay : Type 0
 StopsStay = (why : Option ResourceFault) (l n : LedgerState) (xs ys : List (List Part)) → LeavesStop why l xs n → LeavesStop why l (xs ++ ys) n
 
--- what was told and what was left is told by the ledger
+-- what was answered and what was left is determined by the ledger
 abbrev pub LeavesAreDetermined : Type 0
 LeavesAreDetermined = (l m n : LedgerState) (xs : List (List Part)) (hs ks : List ℕ) → LeavesTake l xs hs m → LeavesTake l xs ks n → (hs ≡ ks) × (m ≡ n)
 

@@ -22,19 +22,21 @@ use Rattle.canon_types.specs.declared.types.ResourceKind.{ResourceKind}
 use Rattle.canon_types.specs.declared.types.ResourceKind.TheVariants as kind
 use Rattle.canon_types.specs.declared.types.TypeResourceTable.{TypeResourceTable}
 
--- A part of what a handle does on its way, and what it tells: one step of the ledger; one on the representation that was just
--- told; a refusal before any step; or a number that is told without a step. The current scope is the top open one.
+-- A part of what a handle does on its way, and what it answers: one step of the ledger; one on the representation that was just
+-- answered; a refusal before any step; or a number that is answered without a step. The current scope is the top open one.
 pub data Part : Type 0 where
   -- an own handle of the host is taken out, or a handle of the host is lent
   take_host : GivenIndex → Part
   lend_host : GivenIndex → Part
+  -- the host lends what was just put into its table
+  lend_inserted : Part
   -- the same of a component's table: the table, the resource type, and the index
   take : ℕ → ℕ → ℕ → Part
   lend : ℕ → ℕ → ℕ → Part
-  -- what was told is put into a component's table, as an own or a borrow handle: the table, and the resource type
+  -- what was answered is put into a component's table, as an own or a borrow handle: the table, and the resource type
   own_in : ℕ → ℕ → Part
   borrow_in : ℕ → ℕ → Part
-  -- what was told is put into the host's, as an own handle with its destructor and its instance, or as a borrow handle
+  -- what was answered is put into the host's, as an own handle with its destructor and its instance, or as a borrow handle
   host_own : Option ℕ → Option ℕ → Part
   host_borrow : Part
   refuse : ResourceFault → Part
@@ -44,6 +46,7 @@ pub data Part : Type 0 where
 abbrev pub do_part : ℕ → Part → LedgerState → Done ℕ
 do_part last (take_host x) l = do_step (HostLiftOwn x) l
 do_part last (lend_host x) l = do_step (HostLiftBorrow (top_scope l.handles) x) l
+do_part last lend_inserted l = do_step (HostLiftBorrow (top_scope l.handles) (record { index = last; generation = l.host.generation })) l
 do_part last (take p ty i) l = do_step (LiftOwn p (ComponentIndex ty i)) l
 do_part last (lend p ty i) l = do_step (LiftBorrow (top_scope l.handles) p (ComponentIndex ty i)) l
 do_part last (own_in p ty) l = do_step (New p (Component ty last)) l
@@ -60,7 +63,7 @@ abbrev pub Takes : ℕ → LedgerState → List Part → List ℕ → LedgerStat
 Takes last l [] answers l2 = (answers ≡ []) × (l2 ≡ l)
 Takes last l (p ∷ ps) answers l2 = (a : ℕ) × (rest : List ℕ) × (answers ≡ a ∷ rest) × ((do_part last p l).answer ≡ Ok a) × Takes a (do_part last p l).after ps rest l2
 
--- a refusal, but for want of memory, which stops where it comes
+-- a refusal, except out of memory, which stops where it comes
 abbrev pub refusal_of : ResourceFault → Option ResourceFault
 refusal_of fault.OutOfMemory = None
 refusal_of e = Some e
@@ -79,7 +82,7 @@ abbrev pub last_of : ℕ → List ℕ → ℕ
 last_of n [] = n
 last_of n (a ∷ answers) = last_of a answers
 
--- Handles, one after another, each with its parts. What is told of a handle is the last answer of its parts.
+-- Handles, one after another, each with its parts. What a handle is answered is the last answer of its parts.
 
 -- the parts of one read no answer from before it
 pub record LeafTakes (l : LedgerState) (parts : List Part) (h : ℕ) (l2 : LedgerState) : Type 0 where
@@ -97,7 +100,7 @@ LeavesStop why l (leaf ∷ leaves) l2 =
     ((last : ℕ) → Stops why last l leaf l2)
     ⊎ ((h : ℕ) × (mid : LedgerState) × LeafTakes l leaf h mid × LeavesStop why mid leaves l2)
 
--- One was lowered or lifted, and this is told of it, or it was refused; want of memory stopped it.
+-- One was lowered or lifted, and this was answered, or it was refused; or memory ran out.
 abbrev pub LeafMoves : LedgerState → LedgerState → List Part → Result ℕ ResourceFault → Type 0
 LeafMoves l l2 parts (Ok h) = LeafTakes l parts h l2
 LeafMoves l l2 parts (Err e) = (last : ℕ) → Stops (refusal_of e) last l parts l2
@@ -139,7 +142,7 @@ own_parts p ty (handle.Own x) = take_host x ∷ own_in p ty ∷ []
 own_parts p ty (handle.Borrow x) = take_host x ∷ own_in p ty ∷ []
 own_parts p ty (handle.Synthetic rep) = refuse fault.BorrowAsOwn ∷ []
 
--- the host lends it; of a borrow that it made it tells the representation
+-- the host lends it; of a borrow that it made it gives the representation
 abbrev pub lent_part : ResourceAnyHandle → Part
 lent_part (handle.Own x) = lend_host x
 lent_part (handle.Borrow x) = lend_host x

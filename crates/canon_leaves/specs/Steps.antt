@@ -5,12 +5,13 @@ use Rattle.canon_handles.specs.declared.handle.TypedResourceIndex.TheVariants.{C
 use Rattle.canon_ledger.specs.declared.fault.ResourceFault.{ResourceFault}
 use Rattle.canon_ledger.specs.Handles.{top_scope}
 use Rattle.canon_ledger.specs.Ledger.{HostLiftBorrow, HostLiftOwn, HostLowerBorrow, HostLowerOwn, LedgerState, LedgerStep, LiftBorrow, LiftOwn, LowerBorrow, New}
-use Rattle.canon_leaves.specs.Parts.{Part, borrow_in, do_part, host_borrow, host_own, lend, lend_host, own_in, refuse, take, take_host, tell}
+use Rattle.canon_leaves.specs.Parts.{Part, borrow_in, do_part, host_borrow, host_own, lend, lend_host, lend_inserted, own_in, refuse, take, take_host, tell}
 
 -- the step that a part is, where it is one
 abbrev pub step_of : ℕ → Part → LedgerState → List LedgerStep
 step_of last (take_host x) l = HostLiftOwn x ∷ []
 step_of last (lend_host x) l = HostLiftBorrow (top_scope l.handles) x ∷ []
+step_of last lend_inserted l = HostLiftBorrow (top_scope l.handles) (record { index = last; generation = l.host.generation }) ∷ []
 step_of last (take p ty i) l = LiftOwn p (ComponentIndex ty i) ∷ []
 step_of last (lend p ty i) l = LiftBorrow (top_scope l.handles) p (ComponentIndex ty i) ∷ []
 step_of last (own_in p ty) l = New p (Component ty last) ∷ []
@@ -20,12 +21,12 @@ step_of last host_borrow l = HostLowerBorrow (top_scope l.handles) last ∷ []
 step_of last (refuse e) l = []
 step_of last (tell n) l = []
 
--- of what follows a part, by what that told
+-- of what follows a part, by what that answered
 abbrev pub if_told : {A : Type 0} → Result ℕ ResourceFault → (ℕ → A) → A → A
 if_told (Ok a) f x = f a
 if_told (Err e) f x = x
 
--- those of parts, each on what the one before told, up to a refusal
+-- those of parts, each on what the one before answered, up to a refusal
 abbrev pub steps_of : ℕ → LedgerState → List Part → List LedgerStep
 steps_of last l [] = []
 steps_of last l (p ∷ ps) = step_of last p l ++ if_told (do_part last p l).answer (λ a. steps_of a (do_part last p l).after ps) []

@@ -9,7 +9,7 @@ pub fn leaves_compose()
     ensures first_part { StopsStay }
 {}
 
-/// The ledger and the parts tell what is answered and left.
+/// The ledger and the parts determine what is answered and left.
 pub fn leaves_are_determined()
     ensures { LeavesAreDetermined }
 {}

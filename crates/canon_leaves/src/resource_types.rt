@@ -1,4 +1,4 @@
-//! What the types tell of a handle's resource type.
+//! What the types say of a handle's resource type.
 
 ghost use Rattle.std.specs.Prelude.{◌≡◌, ◌<◌, Some, length};
 ghost use Rattle.canon_ledger.specs.Places.{HasType};

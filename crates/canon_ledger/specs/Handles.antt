@@ -166,7 +166,7 @@ lifted_own (Borrow scope, h) = Err fault.BorrowAsOwn
 abbrev pub resource_lift_own : Handles → ℕ → TypedResourceIndex → StepAnswer ℕ
 resource_lift_own h p idx = and_then (removing_resource h p idx) lifted_own
 
--- an own handle is lent once more, and what a borrow handle names is told
+-- an own handle is lent once more, and what a borrow handle names is answered
 abbrev pub lending : Handles → ℕ → TypedResourceIndex → StepAnswer (ℕ × Bool)
 lending h p idx = on_table h p (raw_index idx) (λ t c. table.resource_lend t c idx)
 

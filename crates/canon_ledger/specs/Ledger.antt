@@ -1,4 +1,4 @@
--- The ledger: the handles of a store, and the generations by which the host's indexes are told apart.
+-- The ledger: the handles of a store, and the generations by which the host's indexes are kept apart.
 use Rattle.std.specs.Prelude.{◌≡◌, ℕ, zero, suc, ◌+◌, ◌*◌, ◌==◌, nat_le, Bool, true, false, not, List, [], ◌∷◌, length, ◌⊎◌, Option, Some, None, Result, Ok, Err, slice_index_or, replicate, is_some, IfSome, ◌<◌, ◌≤◌}
 use Rattle.canon_ledger.specs.declared.host.TableSlot.{TableSlot}
 use Rattle.canon_handles.specs.declared.handle.TypedResource.{TypedResource}
@@ -134,12 +134,12 @@ host_resource_drop l x = unless_stale l (is_stale l.host x) (with_slot_answered 
 abbrev pub mapped : {A B : Type 0} → (A → B) → Done A → Done B
 mapped f d = record { answer = and_then d.answer (λ a. Ok (f a)); after = d.after }
 
--- where the handle's representation was told, the handle is removed
+-- where the handle's representation was answered, the handle is removed
 abbrev pub removed_once_told : Result ℕ ResourceFault → LedgerState → GivenIndex → Done ℕ
 removed_once_told (Ok rep) l x = mapped (λ _. rep) (host_resource_drop l x)
 removed_once_told (Err e) l x = refused e l
 
--- a handle is removed, and its representation is told first, which changes nothing
+-- a handle is removed, and its representation is answered first, which changes nothing
 abbrev pub host_resource_remove : LedgerState → GivenIndex → Done ℕ
 host_resource_remove l x = unless_stale l (is_stale l.host x) (removed_once_told (resource_rep l host_table (HostIndex x.index)) l x)
 

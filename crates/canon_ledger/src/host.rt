@@ -20,7 +20,7 @@ pub struct TableSlot {
 }
 
 /// The slots of the host's table, and the current generation. Each removal from the table raises
-/// it, so that an index that is given again is told apart from the one before.
+/// it, so that an index that is given again is kept apart from the one before.
 #[derive(Debug, Drop)]
 pub struct HostResourceData {
     slots: Vec<TableSlot>,

@@ -43,8 +43,8 @@ fn with_its_slot(slot: Option<TableSlot>, rep: Option<u32>) -> Option<(u32, Tabl
 }
 
 /// The resource tables as the host reaches them. The host names its handles by an index with a
-/// generation, so that an index that was given again is told apart from the one before. Who lends
-/// them on in a struct of its own writes them out, since only then it is told what was left of the
+/// generation, so that an index that was given again is kept apart from the one before. Who lends
+/// them on in a struct of its own writes them out, since only then it is known what was left of the
 /// ledger; a function of the host that is lent them must take the host's steps alone.
 #[derive(Drop)]
 pub struct HostResourceTables<'a> {
@@ -148,7 +148,7 @@ impl<'a> HostResourceTables<'a> {
     }
 
     /// Removes a handle of the host and answers its representation, an own handle's or a borrow
-    /// handle's. That it can be told is tested first, which changes nothing, the generation included.
+    /// handle's. That it can be read is tested first, which changes nothing, the generation included.
     pub fn host_resource_remove(&mut self, idx: HostResourceIndex) -> Result<u32, ResourceFault>
         requires scope_open { IsOpen (scope_in self.old) (ledger_in self.old) }
         ensures same_reference { reference_in self.new ≡ reference_in self.old }

@@ -6,7 +6,7 @@ ghost use Rattle.canon_ledger.specs.Places.{first_type};
 use canon_types::ComponentTypes;
 
 /// The types of the component that a call is of, or none outside any. They stand in a slice of at
-/// most one table, since a struct with a `&mut` beside an `Option` of a reference doesn't tell its
+/// most one table, since a struct with a `&mut` beside an `Option` of a reference doesn't show its
 /// lender what it left.
 #[derive(Clone, Copy)]
 pub struct KnownTypes<'a> {

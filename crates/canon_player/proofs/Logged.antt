@@ -1,4 +1,4 @@
--- The log of asks that functions of the host served: it grows in a call, and its record tells by what.
+-- The log of asks that functions of the host served: it grows in a call, and its record says by what.
 use Rattle.std.proofs.Common.{Err, List, Ok, Option, Result, Some, [], ap, append-nil, append_assoc, arith, drop, inl, inr, length, map, sym, ℕ, ◌++◌, ◌∙◌, ◌∷◌, ◌≡◌, ◌≤◌}
 use Rattle.std.proofs.lemmas.List.{drop_all, drop_at, length-map, nil_from_length}
 use Rattle.std.specs.Prelude.{unwrap_or}
@@ -94,7 +94,7 @@ served_logs lines lines2 served count (more, grown) many told =
       told = told ∙ ap (λ (es : List Entry). map entry_view es) (ap (λ (es : List Entry). drop count es) all ∙ drop_at (entries_of lines) more count known);
     }
 
--- where no line was added the record tells none
+-- where no line was added the record has none
 pub none_served : (lines : List Line) (served : List Served) (count : ℕ) → count ≡ length lines → map served_view served ≡ map entry_view (drop count (entries_of lines)) → served ≡ []
 none_served lines served count many told =
     let past : length (entries_of lines) ≤ count = omega (arith, length-map lines line_entry, many) in

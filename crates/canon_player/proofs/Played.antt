@@ -57,7 +57,7 @@ answers_error (answer.Err x) e h = ap (λ o. answer.Err (error_in o x)) h
 
 -- ---- a call
 
--- it isn't want of memory
+-- it isn't out of memory
 abbrev pub IsOther : Result (Unit {0}) Error → Type 0
 IsOther called = called ≢ Err (error.Fault fault.OutOfMemory)
 
@@ -126,7 +126,7 @@ module _ (callee : Callee) (call : ScriptCall) (list : List Any) (r : Record) (s
   abbrev pub loaded : ScriptStore
   loaded = with_plan s (plan_of call s.core.guest.guest.plan.allocator)
 
-  -- the call, by the events before it, those that are told after it, its answer and results, and the events that it added
+  -- the call, by the events before it, those that are printed after it, its answer and results, and the events that it added
   abbrev Tells : List Event → List Event → Result (Unit {0}) Error → List Val → List Event → Type 0
   Tells earlier later answer vs added = IsCall LeavesSame (GivesAnswers (answers_of s)) callee (limits_of s) params (session.moment_of (state_of s) earlier) (session.moment_of (state_of left) later)
       (host_of (state_of s)) (host_of (state_of left)) answer vs added

@@ -78,7 +78,7 @@ played_callee play i = callee_with play i (slice_get play.types.funcs i)
 
 -- Whether it is trapped, its memory, the ledger of its handles, the asks that functions of the host served so far and how many they
 -- refused for no fault, and of its guest the allocator, a mark for each answer of `realloc` so far, and how often it trapped and answered
--- want of memory. Want of memory alone is caused by the last count, and leaves no record.
+-- out of memory. Out of memory alone is caused by the last count, and leaves no record.
 pub record State : Type 0 where
   pub trapped : Bool
   pub memory : List ℕ
@@ -153,7 +153,7 @@ entry_view e = (e.index, literals_view e.params, literals_view e.results)
 abbrev pub served_view : Served → ℕ × List Literal × List Literal
 served_view s = (s.0, literals_view s.1.items, literals_view s.2.items)
 
--- the log grew by some asks, and the record tells these, in order
+-- the log grew by some asks, and the record lists these, in order
 pub record Logs (before after : List Entry) (served : List Served) : Type 0 where
   pub entries : List Entry
   pub grown : after ≡ before ++ entries
@@ -169,7 +169,7 @@ LeavesSame memory after = after ≡ memory
 -- the asks and the results were within these limits; the store is trapped where the call was refused. After an answer that is Ok, memory is
 -- that of the return; after a refusal nothing reads its bytes, since every later call is refused. The memory that the run has
 -- sufficed. The parameters are those of the script, with the resources of the list in the place of their numbers. Functions of the host
--- give these answers, by the asks that they served so far, and the record tells those that they served in this call.
+-- give these answers, by the asks that they served so far, and the record lists those that they served in this call.
 pub record WasCalled (callee : Callee) (limits : Limits) (answers : List (List HostAnswer)) (call : ScriptCall) (list : List Any) (before after : State) (r : Record) : Type 0 where
   pub params : List Val
   pub params_are : literals_view params ≡ map (replaced (listed list)) call.params
@@ -192,7 +192,7 @@ Called callee limits answers call list before after r None = WasCalled callee li
 
 -- ---- a new resource
 
--- a resource of the host of a type that a number tells
+-- a resource of the host of a type that a number gives
 abbrev pub dynamic : ResourceAnyHandle → ℕ → Val
 dynamic handle ty = val.Resource (any handle (HostDynamic ty))
 

@@ -54,7 +54,7 @@ abbrev pub MakesResource : Bool → NewItem → LedgerState → Result Any Resou
 MakesResource true n before result after = (result ≡ Ok (any (Synthetic n.rep) (HostDynamic n.ty))) × (after ≡ before)
 MakesResource false n before result after = Inserts n.ty (given before (host_resource_lower_own before n.rep None None)) result before after
 
--- what a resource that was made answers; want of memory has no record
+-- what a resource that was made answers; out of memory has no record
 abbrev pub MadeAnswer : Result Any ResourceFault → Answer → Type 0
 MadeAnswer (Ok x) a = AnswersOk a (val.Resource x ∷ [])
 MadeAnswer (Err refusal.OutOfMemory) a = ⊥

@@ -24,7 +24,7 @@ const SCRIPT_STORE: u64 = 0;
 /// A store whose guest follows a script, and whose functions of the host give the script's answers.
 pub(crate) type ScriptStore = Store<(), Journaled<ScriptedGuest>, ScriptedImports>;
 
-/// A component that exports the first functions of the table, for each of which `posts` tells whether it has a post-return function: its
+/// A component that exports the first functions of the table, for each of which `posts` says whether it has a post-return function: its
 /// core function and that function have its number. It has these imports. Its first options are those of the functions of the host, and
 /// after them stand those of each export.
 pub(crate) fn component_of(

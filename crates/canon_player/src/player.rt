@@ -216,7 +216,7 @@ fn play_new(
     Ok(idle_record(alloc, store, Head::New, answer))
 }
 
-/// A resource of the host of a type that a number tells: an own handle is put into the host's table, a borrow has none.
+/// A resource of the host of a type that a number gives: an own handle is put into the host's table, a borrow has none.
 fn new_resource(store: &mut ScriptStore, item: NewItem) -> Result<ResourceAny, ResourceFault>
     ensures made { MakesResource item.borrow item store.old.core.ledger result store.new.core.ledger }
     ensures same { store.new ≡ record store.old { core = record store.old.core { ledger = store.new.core.ledger } } }

@@ -16,14 +16,14 @@ use Rattle.canon_resources.specs.Held.{HostHandle, held, Any, any}
 abbrev pub answered : {A : Type 0} → A → LedgerState → Done A
 answered a l = record { answer = Ok a; after = l }
 
--- into a resource that tells its type: an own handle that is in no table is put into the host's, and a borrow keeps its representation alone
+-- into a resource that carries its type: an own handle that is in no table is put into the host's, and a borrow keeps its representation alone
 abbrev pub into_any : ResourceState → ℕ → ResourceType → LedgerState → Done Any
 into_any state.Borrow rep ty l = answered (any (handle.Synthetic rep) ty) l
 into_any state.NotInTable rep ty l = mapped (λ x. any (handle.Own x) ty) (given l (ledger.host_resource_lower_own l rep None None))
 into_any state.Taken rep ty l = refused fault.HostConsumed l
 into_any (state.Index x) rep ty l = answered (any (handle.Own x) ty) l
 
--- out of a resource that tells its type, where that is d
+-- out of a resource that carries its type, where that is d
 abbrev pub out_of : {D : Type 0} → D → ResourceAnyHandle → LedgerState → Done (HostHandle D)
 out_of d (handle.Own x) l = mapped (λ rep. held state.NotInTable rep d) (ledger.host_resource_lift_own l x)
 out_of d (handle.Borrow x) l = mapped (λ rep. held state.Borrow rep d) (ledger.host_resource_remove l x)
@@ -34,7 +34,7 @@ abbrev pub from_any : {D : Type 0} → Option D → ResourceAnyHandle → Ledger
 from_any (Some d) h l = out_of d h l
 from_any None h l = refused fault.ResourceTypeMismatch l
 
--- a conversion into a resource that tells its type: one that must insert may want memory, and no other does
+-- a conversion into a resource that carries its type: one that must insert may run out of memory, and no other does
 abbrev pub Converted : ResourceState → Done Any → Result Any ResourceFault → LedgerState → LedgerState → Type 0
 Converted state.NotInTable d r l l' = Did d r l l'
 Converted _ d r l l' = DidSurely d r l'

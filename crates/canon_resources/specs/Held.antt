@@ -21,7 +21,7 @@ abbrev pub is_owned : ResourceState → Bool
 is_owned state.Borrow = false
 is_owned _ = true
 
--- a resource whose type is told by its value: its handle, and its type
+-- a resource that carries its type: its handle, and its type
 pub record Any : Type 0 where
   pub handle : ResourceAnyHandle
   pub ty : ResourceType

@@ -1,4 +1,4 @@
-//! A resource whose type is told by its value.
+//! A resource that carries its type.
 
 ghost use Rattle.std.specs.Prelude.{◌≡◌, true, false, map, Some, None};
 

@@ -1,4 +1,4 @@
-//! How a host resource becomes one that tells its type by its value.
+//! How a host resource becomes one that carries its type.
 
 ghost use Rattle.std.specs.Prelude.{◌≡◌};
 ghost use Rattle.canon_resources.specs.Conversions.{Converted, into_any};
@@ -11,7 +11,7 @@ use crate::host::ResourceState;
 use canon_ledger::{HostResourceTables, ResourceFault};
 use canon_types::ResourceType;
 
-/// A host resource as one that tells its type by its value. One that is in no table is put into the
+/// A host resource as one that carries its type. One that is in no table is put into the
 /// host's.
 pub(crate) fn into_any(
     state: ResourceState,

@@ -1,4 +1,4 @@
-//! The conversions of a resource whose type is told by its value.
+//! The conversions of a resource that carries its type.
 
 ghost use Rattle.std.specs.Prelude.{◌≡◌};
 ghost use Rattle.canon_types.specs.Resource.{as_host_dynamic};
@@ -16,7 +16,7 @@ use canon_ledger::{HostResourceTables, ResourceFault};
 use canon_types::HostType;
 
 impl ResourceAny {
-    /// A resource of a host type as one that tells its type by its value, as
+    /// A resource of a host type as one that carries its type, as
     /// `Resource::try_into_resource_any`.
     pub fn try_from_resource<T: HostType>(
         resource: Resource<T>,
@@ -47,7 +47,7 @@ impl ResourceAny {
         Resource::try_from_resource_any(self, tables)
     }
 
-    /// The resource as one of a type that a number tells, as
+    /// The resource as one of a type that a number gives, as
     /// `ResourceDynamic::try_from_resource_any`.
     pub fn try_into_resource_dynamic(
         self,

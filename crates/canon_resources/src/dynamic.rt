@@ -1,4 +1,4 @@
-//! A host resource whose type is told by a number.
+//! A host resource whose type a number gives.
 
 ghost use Rattle.std.specs.Prelude.{◌≡◌};
 ghost use Rattle.canon_ledger.specs.Books.{DidSurely, IsOpen};
@@ -13,7 +13,7 @@ use std::fmt;
 use std::fmt::{Debug, Formatter};
 use std::marker::Model;
 
-/// The kind of the resources whose types numbers tell.
+/// The kind of the resources whose types numbers give.
 pub struct Dynamic;
 
 impl HostResourceType<u32> for Dynamic {
@@ -38,7 +38,7 @@ impl HostResourceType<u32> for Dynamic {
     }
 }
 
-/// A resource of a type of the host that a number tells. Its representation is a number of the host's.
+/// A resource of a type of the host that a number gives. Its representation is a number of the host's.
 #[derive(Drop)]
 pub struct ResourceDynamic {
     inner: HostResource<Dynamic, u32>,
@@ -85,7 +85,7 @@ impl ResourceDynamic {
         self.inner.rep()
     }
 
-    /// The number that tells its type.
+    /// The number that gives its type.
     pub fn ty(&self) -> u32
         ensures { result ≡ self.now.ty }
     {
@@ -122,7 +122,7 @@ impl ResourceDynamic {
         self.inner.place(idx);
     }
 
-    /// The resource as one that tells its type by its value. One that is in no table is put into the
+    /// The resource as one that carries its type. One that is in no table is put into the
     /// host's. After a refusal the value is gone and the tables are unchanged.
     pub fn try_into_resource_any(
         self,
@@ -139,7 +139,7 @@ impl ResourceDynamic {
     }
 
     /// A resource of any type as one of this type. An own handle is taken out of the host's table, and
-    /// a borrow handle is dropped there once its representation was told.
+    /// a borrow handle is dropped there once its representation was read.
     pub fn try_from_resource_any(
         resource: ResourceAny,
         tables: &mut HostResourceTables<'_>,

@@ -1,4 +1,4 @@
-//! A host resource whose type is told by its Rust type.
+//! A host resource whose type comes from its Rust type.
 
 ghost use Rattle.std.specs.Prelude.{◌≡◌};
 ghost use Rattle.canon_ledger.specs.Books.{DidSurely, IsOpen};
@@ -116,7 +116,7 @@ impl<T: HostType> Resource<T> {
         self.inner.place(idx);
     }
 
-    /// The resource as one that tells its type by its value. One that is in no table is put into the
+    /// The resource as one that carries its type. One that is in no table is put into the
     /// host's. After a refusal the value is gone and the tables are unchanged.
     pub fn try_into_resource_any(
         self,
@@ -133,7 +133,7 @@ impl<T: HostType> Resource<T> {
     }
 
     /// A resource of any type as one of this type. An own handle is taken out of the host's table, and
-    /// a borrow handle is dropped there once its representation was told.
+    /// a borrow handle is dropped there once its representation was read.
     pub fn try_from_resource_any(
         resource: ResourceAny,
         tables: &mut HostResourceTables<'_>,

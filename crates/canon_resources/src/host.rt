@@ -26,7 +26,7 @@ pub enum ResourceState {
     Index(HostResourceIndex),
 }
 
-/// A kind of host resources: the resource types that belong to it, each told by a `D`.
+/// A kind of host resources: the resource types that belong to it, each given by a `D`.
 pub trait HostResourceType<D> {
     ghost use Rattle.std.specs.Prelude.{◌≡◌, Option, Some};
     ghost use Rattle.canon_types.specs.declared.resource.ResourceType.{ResourceType as Kind};
@@ -35,11 +35,11 @@ pub trait HostResourceType<D> {
 
     ghost type_of: { D → Kind };
 
-    /// What tells a resource type, where it is one of this kind.
+    /// What gives a resource type, where it is one of this kind.
     fn typecheck(ty: ResourceType) -> Option<D>
         ensures { result ≡ checked ty };
 
-    /// The resource type that is told so.
+    /// The resource type that it gives.
     fn resource_type(d: D) -> ResourceType
         ensures { result ≡ type_of d };
 
@@ -48,7 +48,7 @@ pub trait HostResourceType<D> {
     ghost no_others_pass: { (ty : Kind) (d : D) → checked ty ≡ Some d → ty ≡ type_of d };
 }
 
-/// A resource of a kind `T`, whose type a `D` tells. Its representation is a number of the host's.
+/// A resource of a kind `T`, whose type a `D` gives. Its representation is a number of the host's.
 #[derive(Drop)]
 pub struct HostResource<T, D> {
     rep: u32,
@@ -101,7 +101,7 @@ impl<T: HostResourceType<D>, D: Copy> HostResource<T, D> {
         self.rep
     }
 
-    /// What tells its type.
+    /// What gives its type.
     pub fn ty(&self) -> D
         ensures { result ≡ self.now.ty }
     {
@@ -141,7 +141,7 @@ impl<T: HostResourceType<D>, D: Copy> HostResource<T, D> {
         self.state = ResourceState::Index(idx);
     }
 
-    /// The resource as one that tells its type by its value. One that is in no table is put into the
+    /// The resource as one that carries its type. One that is in no table is put into the
     /// host's. After a refusal the value is gone and the tables are unchanged.
     pub fn try_into_resource_any(
         self,

@@ -1,5 +1,5 @@
 //! Resources: the ledger of a store's handles (of `canon_ledger`), and the resources of the host as values, whose type is
-//! told by their Rust type, by a number or by their own value, with the conversions between these.
+//! whose types come from their Rust type, from a number or from the value itself, with the conversions between these.
 #![tactic(auto)]
 
 mod any;

@@ -27,7 +27,7 @@ module _ (f : Any → Any) where
   field_views (x ∷ xs) = ap (λ (ys : List (Name × Literal)). field_view x ∷ ys) (field_views xs)
 
   module _ (v : Val) where
-    -- a value of members in a row, told so by what it is made of
+    -- a value of members in a row, by what it is made of
     in_row : (made : Vec Val Global → Val) (told : Literals → Literal) → ((xs : Vec Val Global) → literal_view (made xs) ≡ told (literals_of (literals_view xs.items))) → ((ys : Literals) → replaced f (told ys) ≡ told (all_replaced f ys))
         → (xs ys : Vec Val Global) (vs : List Val) → v ≡ made ys → vs ≡ ys.items → literals_view xs.items ≡ map (replaced f) (literals_view vs) → literal_view (made xs) ≡ replaced f (literal_view v)
     in_row made told views puts xs ys vs ev es e =

@@ -70,7 +70,7 @@ call_item_of t count d =
     (option_and_then (if_below count) (option_and_then u32_of (get (codes "call") d)))
     else None
 
--- the number that tells the type of a resource of the host
+-- the number that gives the type of a resource of the host
 abbrev pub dynamic_id : ResourceKind → Option ℕ
 dynamic_id (resource.HostDynamic id) = Some id
 dynamic_id _ = None
@@ -82,7 +82,7 @@ dynamic_type t r = option_and_then (λ x. dynamic_id x.kind) (slice_get t.resour
 abbrev pub new_with : ℕ → ℕ → Bool → NewItem
 new_with ty rep borrow = record { ty = ty; rep = rep; borrow = borrow }
 
--- a new resource of one of the host's types that a number tells
+-- a new resource of one of the host's types, which a number gives
 abbrev pub new_item_of : Table → Data → Option NewItem
 new_item_of t d =
     if has_len (2 + there (get (codes "borrow") d)) (as_object d)

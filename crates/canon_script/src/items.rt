@@ -72,7 +72,7 @@ fn other_item_of(types: &ComponentTypes, v: &Value) -> Option<Item>
     drop_item_of(v).map(Item::Drop)
 }
 
-/// A new resource of one of the host's types that a number tells.
+/// A new resource of one of the host's types, which a number gives.
 fn new_item_of(types: &ComponentTypes, v: &Value) -> Option<NewItem>
     ensures { result ≡ spec.new_item_of types.now (view v.now) }
 {
@@ -85,7 +85,7 @@ fn new_item_of(types: &ComponentTypes, v: &Value) -> Option<NewItem>
     Some(NewItem { ty, rep, borrow })
 }
 
-/// The number that tells the type of a resource of the host, if the resource of this number is one.
+/// The number that gives the type of a resource of the host, if the resource of this number is one.
 fn dynamic_type(types: &ComponentTypes, resource: u32) -> Option<u32>
     ensures { result ≡ spec.dynamic_type types.now resource }
 {

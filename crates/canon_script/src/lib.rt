@@ -21,7 +21,7 @@
 //!   [reference, ..]}`, `{"variant": [case, ..]}`, `{"enum": [name, ..]}`, `{"option": reference}`, `{"result": [ok,
 //!   error]}`, `{"flags": [name, ..]}`, `{"fixed": [reference, length]}`, `{"own": resource}` or `{"borrow": resource}`, with the
 //!   number of an entry of `resources`. A case is `[name]` or `[name, reference]`; each of `ok` and `error` is a reference or `null`.
-//! - A resource is `{"kind": "dynamic", "id": number}`, one of the host's that the number tells, or `{"kind": "guest", "id": number}`, one
+//! - A resource is `{"kind": "dynamic", "id": number}`, one of the host's that the number gives, or `{"kind": "guest", "id": number}`, one
 //!   of the guest's, which may have `here` (whether the guest's instance defines it, true where it is missing) and `dtor` (the core
 //!   function that destroys it, or `null`).
 //! - A function is `{"params": [reference, ..], "results": [reference, ..]}`, and may have `async` and `post`, which are

@@ -26,7 +26,7 @@ pub struct CallItem {
 /// A new resource of the host.
 #[derive(Clone, Copy, Debug, PartialEq, Eq)]
 pub struct NewItem {
-    /// The number that tells its type.
+    /// The number that gives its type.
     pub ty: u32,
     pub rep: u32,
     /// Whether it is a borrow, and no own handle.

@@ -16,7 +16,7 @@ use canon_memory::Guest;
 use canon_text::{SizePair, UTF16_TAG, utf8_to_compact_utf16, utf8_to_latin1};
 use canon_types::StringEncoding;
 
-/// Where a text stands, and the length that is told with it.
+/// Where a text stands, and its length.
 #[derive(Clone, Copy)]
 pub struct TextBlock {
     pub pointer: u64,
@@ -27,7 +27,7 @@ pub struct TextBlock {
 const MAX_STRING_BYTES: u64 = 0x7fff_ffff;
 
 /// Puts the text that these bytes of UTF-8 are into a block of its own in the guest's memory, under the encoding of the options
-/// (CanonicalABI.md, "store_string_into_range"). Answers the block's address, and the length that is told with it, in bytes or in units,
+/// (CanonicalABI.md, "store_string_into_range"). Answers the block's address, and its length, in bytes or in units,
 /// with its tag. Refuses `StringTooLong`, with the number of these bytes, before anything is asked for; else as
 /// `LowerContext::realloc` does.
 pub fn put_text<T, G: Guest>(

@@ -1,4 +1,4 @@
--- The blocks that a guest's answers of `realloc` leave, as its events tell them.
+-- The blocks that a guest's answers of `realloc` leave, as its events show them.
 use Rattle.std.specs.Prelude.{ℕ, ◌==◌, ◌&&◌, Bool, if◌then◌else◌, List, [], ◌∷◌, ◌++◌, fold, sum_by}
 use Rattle.canon_memory.specs.declared.event.Event.{Event}
 use Rattle.canon_memory.specs.declared.event.Event.TheVariants as event

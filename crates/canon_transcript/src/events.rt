@@ -46,7 +46,7 @@ pub(crate) fn print_events(
     Ok(())
 }
 
-/// Prints the served ask that an event ends, if it ends one, and tells those that are left.
+/// Prints the served ask that an event ends, if it ends one, and gives those that are left.
 fn print_before<'a>(
     text: &mut String,
     asked: Option<u32>,

@@ -34,7 +34,7 @@ pub type Served = (u32, Vec<Val>, Vec<Val>);
 #[derive(Debug, Drop)]
 pub struct Record {
     pub head: Head,
-    /// What the guest was told and did, in order.
+    /// What the guest was asked and did, in order.
     pub events: Events,
     /// The asks that functions of the host served, in order.
     pub served: Vec<Served>,

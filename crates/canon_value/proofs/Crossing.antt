@@ -1,4 +1,4 @@
--- From a walk's answer to a public call's, where want of the ledger's memory is told as want of memory.
+-- From a walk's answer to a public call's, where a shortage of the ledger's memory becomes out of memory.
 use Rattle.std.proofs.Common.{◌≡◌, ◌⊎◌, Bool, Err, List, None, [], ap, false, inl, inr, map, refl, subst, sym, true, ℕ}
 use Rattle.canon_context.proofs.Moves.{GuestLaws}
 use Rattle.canon_context.specs.Lowers.{fault_ending}
@@ -20,7 +20,7 @@ use Rattle.canon_value.specs.Resources.{Crosses, EndsAs, UsesLedger, ledger_faul
 abbrev wanting : Fault
 wanting = fault.Resource resource.OutOfMemory
 
--- what is told is told of want of memory, or the same
+-- what is reported is out of memory, or the same
 pub told_by : (P : Fault → Type 0) (e : Fault) → (e ≡ wanting → P fault.OutOfMemory) → P e → P (told_fault e)
 told_by P (fault.TypeMismatch k) f h = h
 told_by P (fault.LengthMismatch k) f h = h
@@ -57,7 +57,7 @@ told_by P (fault.Resource resource.BorrowsRemain) f h = h
 told_by P (fault.Resource resource.NoScope) f h = h
 told_by P (fault.Resource resource.OutOfMemory) f h = f refl
 
--- what was told is told as it is
+-- what was reported is reported as it is
 told_itself : (e : Fault) → told_fault (told_fault e) ≡ told_fault e
 told_itself (fault.TypeMismatch k) = refl
 told_itself (fault.LengthMismatch k) = refl

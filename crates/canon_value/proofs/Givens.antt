@@ -11,7 +11,7 @@ use Rattle.canon_model.specs.Shape.{Members, Shape, of_places, product}
 use Rattle.canon_model.specs.Text.{Encoding}
 use Rattle.canon_model.specs.Tree.{Trees}
 
--- the same trees, told otherwise
+-- the same trees, said otherwise
 module _ (enc : Encoding) (ms : Members) (Have Have2 : Trees → Type 0) (to : (ts : Trees) → Have ts → Have2 ts) (from : (ts : Trees) → Have2 ts → Have ts) where
   pub words_as : {hs : List ℕ} (a c : Moment) (ws : List ℕ) (e : Ending) → LowersMembers false a c enc ms ws 0 Have hs e → LowersMembers false a c enc ms ws 0 Have2 hs e
   words_as a c ws e h = attempt_as false a c [] [] (members_words false enc ms ws 0 Have) (members_words false enc ms ws 0 Have2) e (λ i q. q) (record {

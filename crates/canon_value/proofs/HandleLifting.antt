@@ -92,7 +92,7 @@ stopped types before after l resource.GenerationExhausted h = record { lifts = l
 stopped types before after l resource.BorrowsRemain h = record { lifts = leaves_stop_one (refusal_of resource.BorrowsRemain) before after (lift_parts types l) h; is = tt; refusal = inr (resource.BorrowsRemain, refl, refl) }
 stopped types before after l resource.NoScope h = record { lifts = leaves_stop_one (refusal_of resource.NoScope) before after (lift_parts types l) h; is = tt; refusal = inr (resource.NoScope, refl, refl) }
 
--- the resource, or why not, as callers are told
+-- the resource, or why not, as callers see it
 pub handle_taken : (types : Instance) (before after : LedgerState) (l : Leaf) (x : Any) → LeafLifts types before after l (Ok x) → TakesHandle types before after l (Ok (val.Resource x))
 handle_taken types before after l x h = record {
   lifts = subst (λ (xs : List Any). LeavesLift types before (l ∷ []) xs after) (sym (resources_resource x)) (lifts_one types before after l x h);
@@ -108,7 +108,7 @@ told_so F Low e (inl is) = subst (λ (x : Fault). LiftBlames F Low x) (sym is) t
 told_so F Low e (inr (r, is, refused)) = subst (λ (x : Fault). LiftBlames F Low x) (sym is) refused
 
 module _ (types : Instance) (before after : LedgerState) where
-  -- its fault is the ledger's, or want of memory
+  -- its fault is the ledger's, or out of memory
   pub handle_blamed : (F : Kind → At → Type 0) (Low : Type 0) (l : Leaf) (r : Result Val Fault) → TakesHandle types before after l r → IfErr r (LiftBlames F Low)
   handle_blamed F Low l (Ok v) h = tt
   handle_blamed F Low l (Err e) h = told_so F Low e h.refusal

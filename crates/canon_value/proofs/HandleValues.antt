@@ -39,7 +39,7 @@ borrow_fails payload_not_expected r v x f e = f
 borrow_fails (too_long enc n) r v x f e = f
 borrow_fails (overflow n) r v x f e = f
 
--- ---- the keys tell all
+-- ---- the keys decide all
 
 same_index : (x y : GivenIndex) → x.index ≡ y.index → x.generation ≡ y.generation → x ≡ y
 same_index x y e f = ap₂ (λ (i g : ℕ). record { index = i; generation = g }) e f

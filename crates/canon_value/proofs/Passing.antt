@@ -115,7 +115,7 @@ last_empty [] qs e = e
 last_empty (p ∷ ps) qs e = cc
 
 module _ (types : Instance) where
-  -- all of it went through, or up to this fault, as `LowersHandles` tells
+  -- all of it went through, or up to this fault, as `LowersHandles` says
   abbrev pub Took : LedgerState → LedgerState → List Passed → List ℕ → Type 0
   Took l n ps hs = LeavesTake l (map (lower_parts types) ps) hs n
 

@@ -1,4 +1,4 @@
--- What a view tells a walk: room, depth, and members that reach no handle.
+-- What a view says to a walk: room, depth, and members that reach no handle.
 use Rattle.std.proofs.Common.{◌≡◌, ◌≤◌, ◌<◌, ◌+◌, ◌*◌, ◌∙◌, List, ap, arith, false, length, refl, subst, sym, ℕ}
 use Rattle.std.proofs.Math.Nat.{zero-mod}
 use Rattle.std.proofs.lemmas.Nat.Gcd.{dvd_of_mod-eq-zero}

@@ -66,7 +66,7 @@ case_counted enc k cs d vs v place (Ok to) of (e, small) = (omega (arith, e, cas
 case_counted enc k cs d vs v place (Err e) of b =
     blames_later enc (λ how j. MemberFails how (case_members cs d) vs j) (λ how j. FailsAt how (variant k cs) v j) 1 place (cap (place + 1)) e refl (λ how j f. inr (d, vs, j, of, refl, case_fails how cs d vs j f)) b
 
--- ---- what a view of a case tells a walk
+-- ---- what a view of a case says to a walk
 
 pub record CaseWants (t : Table) (s : Shape) (c : Case) (at : ℕ) : Type 0 where
   pub few : tag_bytes c.info.size ≤ 8

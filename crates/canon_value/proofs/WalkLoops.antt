@@ -64,7 +64,7 @@ module _ {T G : Type 0} (L : GuestLaws G) (options place : ℕ) (ms : Members) (
           small = h.small;
         }
 
-    -- the rest with its first member told
+    -- the rest with its first member
     told : (z : Parts T G) (r : Result ℕ Fault) → PartsStoreTo L.seen L.moves options now z place (member is.name s (members_from (i + 1) ms)) o at (is.named ∷ drop (i + 1) names) (m.value.now ∷ drop (i + 1) vs) next r
         → PartsStoreTo L.seen L.moves options now z place (members_from i ms) o at (drop i names) (drop i vs) next r
     told z r g =

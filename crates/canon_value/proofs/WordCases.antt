@@ -106,7 +106,7 @@ module _ {T G : Type 0} (L : GuestLaws G) (options : ℕ) where
         quiet = λ none. h.quiet (case_quiet cs d none);
       }
 
-  -- its payload ended it: told of words of its own, since none are told of these
+  -- its payload ended it: said of words of its own, since nothing is said of these
   case_stops : (a c : Parts T G) (dst dst1 dst2 : List ℕ) (from : Spot) (k : VariantKind) (cs : Cases) (d : ℕ) (names : List Name) (vs : List Val) (v : Val) (e : Fault) → d < case_count cs → d < 2 ^ 32 → IsCase k cs d vs v
       → names ≡ member_names (case_members cs d) → dst1 ≡ set dst from.word d → passes v (variant k cs) ≡ all_passes (case_members cs d) vs → PartsLowerTo L.seen L.moves options a c dst1 dst2 (behind_tag from) (Err e) from.place (case_members cs d) names vs
       → LowersTo L.seen L.moves options a c dst dst2 from (Err e) (variant k cs) v

@@ -57,7 +57,7 @@ module _ {T G : Type 0} (L : GuestLaws G) (options place : ℕ) (ms : Members) (
           small = h.small;
         }
 
-    -- the rest with its first member told
+    -- the rest with its first member
     told : (z : Parts T G) (zs : List ℕ) (r : Result Spot Fault) → PartsLowerTo L.seen L.moves options now z dst zs next r place (member is.name s (members_from (i + 1) ms)) (is.named ∷ drop (i + 1) names) (m.value.now ∷ drop (i + 1) vs)
         → PartsLowerTo L.seen L.moves options now z dst zs next r place (members_from i ms) (drop i names) (drop i vs)
     told z zs r g =

@@ -35,7 +35,7 @@ abbrev pub pair_row : List (Data × Data) → Datas
 pair_row [] = no_data
 pair_row (p ∷ ps) = data_and p.0 (data_and p.1 (pair_row ps))
 
--- a resource: its handle and its type, as numbers that tell all of it
+-- a resource: its handle and its type, as numbers that determine it
 abbrev pub handle_key : ResourceAnyHandle → List ℕ
 handle_key (handle.Own x) = 0 ∷ x.index ∷ x.generation ∷ []
 handle_key (handle.Borrow x) = 1 ∷ x.index ∷ x.generation ∷ []

@@ -92,12 +92,12 @@ all_passes ms vs = row_passes ms (map passes vs)
 
 -- ---- through the ledger
 
--- what the ledger told, if the fault is the ledger's
+-- what the ledger answered, if the fault is the ledger's
 abbrev pub ledger_fault : Fault → Option ResourceFault
 ledger_fault (fault.Resource e) = Some e
 ledger_fault _ = None
 
--- the refusal that stopped a walk, if it was the ledger's; want of memory is none
+-- the refusal that stopped a walk, if it was the ledger's; out of memory is none
 abbrev pub stop_of : Fault → Option ResourceFault
 stop_of (fault.Resource e) = refusal_of e
 stop_of _ = None
@@ -126,7 +126,7 @@ pub record PartsLower {T G X : Type 0} (before after : Parts T G) (ps : List Pas
   pub lowered : Lowered handles
   pub passed : LowersHandles before.component.types before.ledger after.ledger ps handles result
 
--- a fault as callers are told it
+-- a fault as callers see it
 abbrev pub told_fault : Fault → Fault
 told_fault (fault.Resource resource.OutOfMemory) = fault.OutOfMemory
 told_fault e = e
@@ -135,7 +135,7 @@ told_fault e = e
 abbrev pub UsesLedger : Bool → List Passed → Type 0
 UsesLedger handles ps = (handles ≡ true) × ¬ (ps ≡ [])
 
--- How a lowering ended with this answer. Memory that the ledger wanted ended it as a fault of the value does; that is told apart from
+-- How a lowering ended with this answer. Memory that the ledger wanted ended it as a fault of the value does; that is kept apart from
 -- want of the guest's memory only inside.
 abbrev pub EndsAs : {T : Type 0} → Bool → List Passed → Result T Fault → Ending → Type 0
 EndsAs handles ps (Err fault.OutOfMemory) ending = (ending ≡ short) ⊎ (UsesLedger handles ps × (ending ≡ refused))
@@ -148,10 +148,10 @@ pub record Crosses {T : Type 0} (types : Instance) (handles : Bool) (ps : List P
   pub ends : EndsAs handles ps result ending
   pub lowered : Attempted given ending
   pub passed : LowersHandles types before after ps given result
-  -- want of the ledger's memory isn't told as a refusal
+  -- a shortage of the ledger's memory isn't reported as a refusal
   pub as_told : IfErr result (λ e. told_fault e ≡ e)
 
--- where no text, list or map is reached, the same is there as before, and a refusal is for the value alone, or for want of memory in
+-- where no text, list or map is reached, the same is there as before, and a refusal is for the value alone, or a shortage of memory in
 -- the ledger where handles are passed
 abbrev pub QuietBut : {T : Type 0} → Bool → List Passed → Bool → Type 0 → Result T Fault → Type 0
 QuietBut handles ps blocks same result = blocks ≡ false → same × IfErr result (λ e. (fault_ending e ≡ refused) ⊎ (UsesLedger handles ps × (e ≡ fault.OutOfMemory)))

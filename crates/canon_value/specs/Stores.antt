@@ -19,7 +19,7 @@ use Rattle.canon_value.specs.declared.val.Val.{Val}
 use Rattle.canon_model.specs.Text.{Encoding}
 use Rattle.canon_context.specs.Asks.{SameButHandles}
 
--- n places were counted from `from` on and nothing there is too large, or the fault is told at its place
+-- n places were counted from `from` on and nothing there is too large, or the fault is reported at its place
 abbrev pub Counts : Encoding → (Failure → ℕ → Type 0) → ℕ → ℕ → Result ℕ Fault → Type 0
 Counts enc F from n (Ok next) = (next ≡ cap (from + n)) × NoneTooLarge enc F
 Counts enc F from n (Err e) = Blames enc F from e
@@ -59,7 +59,7 @@ module _ {T G : Type 0} (seen : G → Seen) (moves : GuestIn G → List Event �
     pub same : SameButHandles before after
     pub quiet : Quiet (have_block ms) (after.guest ≡ before.guest) result
 
-  -- a text or a list in a block of its own, which a pointer and a length tell
+  -- a text or a list in a block of its own, which a pointer and a length give
   pub record PlacesTo (s : Shape) (v : Val) (from : ℕ) (result : Result Placed Fault) : Type 0 where
     pub handles : List ℕ
     pub lowered : LowersValue false (moment_of seen before) (moment_of seen after) (encoding_by before options) s (placed_words result) 0 (HasTree s v) handles (ending_of result)

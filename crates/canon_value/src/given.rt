@@ -84,7 +84,7 @@ pub fn lower_results<T, G: Guest>(
     }
 }
 
-/// The same, with want of the ledger's memory told as its fault.
+/// The same, with a shortage of the ledger's memory reported as its fault.
 fn lower_results_by_size<T, G: Guest>(
     cx: &mut LowerContext<'_, T, G>,
     results: &[Val],

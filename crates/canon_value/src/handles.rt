@@ -19,7 +19,7 @@ use canon_resources::ResourceAny;
 use canon_types::InstanceType;
 
 /// Passes a resource through the ledger where a handle of this type is wanted, and answers the number that the guest is given. Want
-/// of the ledger's memory is told as its fault, so that a walk tells it apart from want of the guest's (`told`).
+/// of the ledger's memory is reported as its fault, so that a walk can tell it from a shortage of the guest's (`told`).
 pub(crate) fn give_handle<T, G: Guest>(
     cx: &mut LowerContext<'_, T, G>,
     handle: HandleType,
@@ -77,7 +77,7 @@ fn taken(
     }
 }
 
-/// A fault as callers are told it: want of memory is one.
+/// A fault as callers see it: out of memory is one.
 pub(crate) fn told(fault: Fault) -> Fault
     ensures { result ≡ told_fault fault }
 {

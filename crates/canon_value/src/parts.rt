@@ -7,5 +7,5 @@ pub use crate::flags::{Marks, flags_of, mark_byte, number_of};
 pub use crate::members::{Member, Members, count_of, member_of};
 pub use crate::rebuild::rebuild;
 pub use crate::rebuild_case::rebuild_case;
-pub use crate::scalar_bytes::{load_scalar, load_tag};
+pub use crate::scalar_bytes::load_scalar;
 pub use crate::view::{View, view_of};

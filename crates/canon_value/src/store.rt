@@ -1,12 +1,8 @@
 //! Stores values in a guest's memory.
 
 ghost use Rattle.std.specs.Prelude.{◌≡◌, ◌≤◌, ◌<◌, ◌+◌, ◌*◌, ◌%◌, ◌^◌, false, IfErr, Ok, OnOk, length};
-ghost use Rattle.canon_lowering.specs.Steps.{Writes};
 ghost use Rattle.canon_lowering.specs.Attempt.{StoresValue};
-ghost use Rattle.canon_lowering.specs.Storing.{IsPair, narrow};
-ghost use Rattle.canon_memory.specs.Realloc.{block};
 ghost use Rattle.canon_model.specs.Layout.{align, members_end, size};
-ghost use Rattle.canon_model.specs.Memory.{num};
 ghost use Rattle.canon_model.specs.Shape.{member_count, string};
 ghost use Rattle.canon_types.specs.Table.{Knows, shape_of};
 ghost use Rattle.canon_plan.specs.Plan.{shape_of_handle, type_of_handle};
@@ -25,13 +21,14 @@ ghost use Rattle.canon_value.specs.Value.{HasTree};
 ghost use Rattle.canon_value.specs.View.{AreKnown, names_of, shapes_of, values_of};
 ghost use Rattle.canon_value.specs.Words.{IsWordOf};
 
-use crate::blocks::{Placed, ask_items, block_size, place_text};
+use crate::blocks::{Placed, ask_items, place_text};
 use crate::elements::{Elements, element_count, element_of};
 use crate::flags::store_names;
 use crate::handles::{give_handle, told};
 use crate::members::{Members, count_of, member_of, members_in};
 use crate::view::{View, view_of};
 use crate::{Fault, LowerContext, Val};
+use canon_bytes::{block_size, put_low_bytes, put_pair};
 use canon_memory::Guest;
 use canon_plan::{HandleType, element_abi};
 use canon_resources::ResourceAny;
@@ -266,28 +263,4 @@ fn store_word<T, G: Guest>(
     let size = cx.types().canonical_abi(&ty).size32;
     put_low_bytes(cx.core.as_slice_mut(), at, word, size);
     place.saturating_add(1)
-}
-
-/// Writes a pointer and the length after it.
-fn put_pair(memory: &mut [u8], at: u64, pointer: u64, count: u64)
-    requires narrow { pointer < 2 ^ 32 }
-    requires narrow_count { count < 2 ^ 32 }
-    requires room { at + 8 ≤ length memory.old }
-    ensures { IsPair memory.old memory.new at pointer count }
-{
-    put_low_bytes(memory, at, pointer, 4);
-    put_low_bytes(memory, at + 4, count, 4);
-}
-
-/// Writes the lowest bytes of a number, the lowest first.
-fn put_low_bytes(memory: &mut [u8], at: u64, number: u64, size: u32)
-    requires few { size ≤ 8 }
-    requires room { at + size ≤ length memory.old }
-    ensures stored { num (narrow memory.new) at size ≡ number % 256 ^ size }
-    ensures writes { Writes (block at size) memory.old memory.new }
-{
-    let start = at as usize;
-    let size = size as usize;
-    let bytes = number.to_le_bytes();
-    memory[start..start + size].copy_from_slice(&bytes[..size]);
 }

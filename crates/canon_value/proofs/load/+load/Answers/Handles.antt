@@ -1,4 +1,4 @@
--- What loading does with handles, step by step, and what it tells of lists and cases.
+-- What loading does with handles, step by step, and what it says of lists and cases.
 use Rattle.std.proofs.Common.{◌≡◌, ◌≤◌, ◌<◌, ◌+◌, ◌-◌, ◌*◌, ◌%◌, ◌∙◌, [], List, None, Vec, ap, arith, false, length, refl, subst, sym}
 use Rattle.std.specs.declared.alloc.Global.{Global}
 use Rattle.canon_lowering.specs.Storing.{narrow}

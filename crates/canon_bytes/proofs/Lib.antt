@@ -1,0 +1,2 @@
+mod LowBytes
+mod Numbers
