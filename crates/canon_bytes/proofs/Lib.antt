@@ -1,2 +1,2 @@
-mod LowBytes
-mod Numbers
+pub mod LowBytes
+pub mod Numbers

@@ -1,7 +1,7 @@
 use Rattle.std.proofs.Common.{arith, ap, drop, length, take, w64, ℕ, ◌+◌, ◌-◌, ◌<◌, ◌∙◌, ◌≡◌, ◌≤◌}
 use Rattle.std.specs.Int.{from_le_bytes}
 use Rattle.std.specs.Prelude.{slice_index}
-use Rattle.canon_value.proofs.LoadedBytes.{num_read_8}
+use Rattle.canon_bytes.proofs.Numbers.{num_read_8}
 use Rattle.canon_image.proofs.Fetching.{number_read}
 use Rattle.canon_image.proofs.read.read_count.Goals as goal
 
