@@ -1,0 +1,5 @@
+//! Tests of calls whose guest asks for a function of the host, by a store.
+#![tactic(auto)]
+
+#[cfg(test)]
+mod asks;
