@@ -1,13 +1,14 @@
 //! A guest whose answers are lawful.
 
-ghost use Rattle.std.specs.Prelude.{◌≡◌, ◌≤◌, None, replicate, true};
-ghost use Rattle.canon_memory.specs.Counts.{Rose};
+ghost use Rattle.std.specs.Prelude.{◌≡◌, [], None, replicate, true};
+ghost use Rattle.canon_example_guests.specs.Arena.{Counts};
 
 use crate::blocks::Blocks;
 use canon_memory::{Guest, GuestFault, Memory, Step, ValRaw, Words};
 use std::alloc::Global;
 
-/// A guest that is passed a text, and returns how many bytes it has. It gives each block behind all others, and takes none back.
+/// A guest that is passed a text, and returns the text's length as it was passed, which for UTF-8 is how many bytes it has. It gives each block
+/// behind all others, and takes none back.
 #[derive(Drop)]
 pub struct Arena {
     alloc: Global,
@@ -19,7 +20,10 @@ pub struct Arena {
 
 impl Arena {
     /// A guest whose first block is given from `top` on.
-    pub fn new(alloc: Global, top: u64) -> Self {
+    pub fn new(alloc: Global, top: u64) -> Self
+        ensures blocks { result.blocks ≡ record { top = top; live = [] } }
+        ensures counts { (result.answers ≡ 0) × (result.traps ≡ 0) × (result.shortages ≡ 0) }
+    {
         Arena {
             alloc,
             blocks: Blocks::new(alloc, top),
@@ -32,11 +36,7 @@ impl Arena {
     /// Counts a fault.
     fn count(&mut self, fault: GuestFault) -> GuestFault
         ensures same { result ≡ fault }
-        ensures rest { self.new ≡ record self.old { traps = self.new.traps; shortages = self.new.shortages } }
-        ensures traps { self.old.traps ≤ self.new.traps }
-        ensures shortages { self.old.shortages ≤ self.new.shortages }
-        ensures trap { fault ≡ GuestFault.Trap → Rose self.old.traps self.new.traps }
-        ensures shortage { fault ≡ GuestFault.OutOfMemory → Rose self.old.shortages self.new.shortages }
+        ensures counts { Counts fault self.old self.new }
     {
         match fault {
             GuestFault::Trap => self.traps = self.traps.saturating_add(1),
@@ -47,6 +47,11 @@ impl Arena {
 }
 
 impl Guest for Arena {
+    ghost use Rattle.std.specs.Prelude.{◌≡◌, ◌≢◌, ◌↔◌, ◌+◌, ◌<◌, ◌^◌, IfOk, Err, drop, length};
+    ghost use Rattle.canon_memory.specs.Realloc.{ReallocLaw, call};
+    ghost use Rattle.canon_scripted.specs.Allocator.{DoesPlace, new_placed};
+    ghost use Rattle.canon_example_guests.specs.Arena.{Answers, Starts};
+
     // Each answer is marked as lawful and tidy, and the live blocks are those of the list.
     ghost seen = { λ g. record { journal = None; marks = replicate g.answers (record { lawful = true; tidy = true }); live = g.blocks.live; traps = g.traps; shortages = g.shortages } };
 
@@ -63,7 +68,12 @@ impl Guest for Arena {
         _memory: &mut Memory,
         _func: u32,
         words: &[ValRaw],
-    ) -> Result<Step, GuestFault> {
+    ) -> Result<Step, GuestFault>
+        ensures returns { IfOk result (λ step. step ≡ Step.Return (drop 1 words.now)) }
+        ensures trap { (result ≡ Err GuestFault.Trap) ↔ (length words.now ≢ 2) }
+        ensures counts { Starts result self.old self.new }
+        ensures memory { _memory.new ≡ _memory.old }
+    {
         let [_pointer, len] = words else {
             return Err(self.count(GuestFault::Trap));
         };
@@ -84,7 +94,16 @@ impl Guest for Arena {
         old_size: u64,
         align: u32,
         new_size: u64,
-    ) -> Result<u64, GuestFault> {
+    ) -> Result<u64, GuestFault>
+        requires aligned { 0 < align }
+        ensures narrow { IfOk result (λ at. at < 2 ^ 32) }
+        ensures placed { old_size ≡ 0 → self.old.answers + 1 < 2 ^ 64 → DoesPlace (new_placed (length memory.old) self.old.blocks (call 0 0 align new_size)) self.old.blocks self.new.blocks result }
+        ensures grows_none { 0 < old_size → result ≡ Err GuestFault.Trap }
+        ensures few { self.old.answers + 1 ≡ 2 ^ 64 → result ≡ Err GuestFault.Trap }
+        ensures counts { Answers result self.old self.new }
+        ensures memory { memory.new ≡ memory.old }
+        ensures lawful { IfOk result (λ at. ReallocLaw self.old.blocks.live self.new.blocks.live memory.old memory.new (call _old old_size align new_size) at) }
+    {
         // It grows no block.
         if old_size > 0 || self.answers == u64::MAX {
             return Err(self.count(GuestFault::Trap));

@@ -47,9 +47,9 @@ impl Model for Blocks {
 }
 
 impl Blocks {
-    ghost use Rattle.std.specs.Prelude.{◌≡◌, ◌<◌, ◌^◌, [], IfOk, OnErr, Some};
+    ghost use Rattle.std.specs.Prelude.{◌≡◌, ◌<◌, ◌^◌, [], IfOk};
     ghost use Rattle.canon_memory.specs.Realloc.{call};
-    ghost use Rattle.canon_scripted.specs.Allocator.{InRow, new_placed};
+    ghost use Rattle.canon_scripted.specs.Allocator.{DoesPlace, InRow, new_placed};
 
     /// No blocks yet. The first is given from `top` on.
     pub(crate) fn new(alloc: Global, top: u64) -> Self
@@ -61,12 +61,12 @@ impl Blocks {
         }
     }
 
-    /// Gives a block of this size at the first multiple of the alignment from the top on, in a memory of `len` bytes.
+    /// Gives a block of this size at the first multiple of the alignment from the top on, in a memory of `len` bytes. It traps where the
+    /// block has no room there.
     pub(crate) fn give(&mut self, len: u64, align: u32, size: u64) -> Result<u64, GuestFault>
         requires aligned { 0 < align }
-        ensures gives { IfOk result (λ at. new_placed len self.old (call 0 0 align size) ≡ Some (record { answer = at; after = self.new })) }
+        ensures does { DoesPlace (new_placed len self.old (call 0 0 align size)) self.old self.new result }
         ensures narrow { IfOk result (λ at. at < 2 ^ 32) }
-        ensures stays { OnErr result (self.new ≡ self.old) }
         ensures row { InRow 0 self.old.live self.old.top }
     {
         let Some(start) = next_start(self.top, len, u64::from(align), size) else {

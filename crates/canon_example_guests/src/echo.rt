@@ -1,4 +1,4 @@
-//! The smallest guest. Of what it does nothing is told.
+//! The smallest guest. Contracts see no journal of it.
 
 ghost use Rattle.std.specs.Prelude.{◌≡◌, [], None};
 
@@ -14,7 +14,9 @@ pub struct Echo {
 }
 
 impl Echo {
-    pub fn new(alloc: Global) -> Self {
+    pub fn new(alloc: Global) -> Self
+        ensures { (result.traps ≡ 0) × (result.shortages ≡ 0) }
+    {
         Echo {
             alloc,
             traps: 0,
@@ -24,6 +26,9 @@ impl Echo {
 }
 
 impl Guest for Echo {
+    ghost use Rattle.std.specs.Prelude.{◌≡◌, ◌≤◌, [], IfOk, OnErr, Err};
+    ghost use Rattle.canon_memory.specs.Counts.{Rose};
+
     ghost seen = { λ g. record { journal = None; marks = []; live = []; traps = g.traps; shortages = g.shortages } };
 
     ghost moves = { λ _ _ _. Unit {0} };
@@ -39,7 +44,12 @@ impl Guest for Echo {
         _memory: &mut Memory,
         _func: u32,
         words: &[ValRaw],
-    ) -> Result<Step, GuestFault> {
+    ) -> Result<Step, GuestFault>
+        ensures returns { IfOk result (λ step. step ≡ Step.Return words.now) }
+        ensures short { OnErr result ((result ≡ Err GuestFault.OutOfMemory) × Rose self.old.shortages self.new.shortages) }
+        ensures counts { (self.new.traps ≡ self.old.traps) × (self.old.shortages ≤ self.new.shortages) }
+        ensures memory { _memory.new ≡ _memory.old }
+    {
         match Words::from_slice(self.alloc, words) {
             Ok(words) => Ok(Step::Return(words)),
             Err(_) => {

@@ -1,4 +1,4 @@
-//! Guests that show how one is written: one of which nothing is told, one that tells its journal, and one whose answers are lawful.
+//! Guests that show how one is written: the smallest one, and one whose answers are lawful.
 #![tactic(auto)]
 
 mod arena;

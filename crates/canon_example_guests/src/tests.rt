@@ -20,7 +20,7 @@ fn an_echo_returns_its_words(rt: HostRuntime) -> Result<(), Fail> {
 }
 
 #[test]
-fn a_journal_tells_what_an_echo_did(rt: HostRuntime) -> Result<(), Fail> {
+fn a_journal_has_what_an_echo_did(rt: HostRuntime) -> Result<(), Fail> {
     let alloc = rt.alloc();
     let mut memory = Memory::new(alloc, 65_536)?;
     let mut guest = Journaled::new(alloc, Echo::new(alloc));
