@@ -1,5 +1,6 @@
 //! Each Rust type once: its numbers, its size in the host, and the component types that are its own.
 
+ghost use Rattle.std.specs.Prelude.{◌≡◌, IfSome, slice_set};
 ghost use Rattle.canon_types.specs.Table.{Knows};
 
 use canon_resources::{HostResource, HostResourceType, Resource, ResourceAny, ResourceDynamic};
@@ -190,7 +191,9 @@ fn constants_of_types_with_parts(rt: HostRuntime) -> Result<(), Fail> {
     assert!(rt; tells::<Box<()>>(false, false) && tells::<&()>(false, false));
     assert!(rt; tells::<Option<u8>>(false, false) && tells::<Option<String>>(false, true));
     assert!(rt; tells::<Result<u8, u8>>(false, false) && tells::<Result<(), ()>>(false, false));
-    assert!(rt; tells::<Result<String, u8>>(false, true) && tells::<Result<u8, String>>(false, true));
+    assert!(rt;
+        tells::<Result<String, u8>>(false, true) && tells::<Result<u8, String>>(false, true)
+    );
     Ok(())
 }
 
@@ -313,7 +316,11 @@ fn cases_and_tuples_are_those_of_their_parts(rt: HostRuntime) -> Result<(), Fail
 #[test]
 fn tuples_are_those_of_their_members(rt: HostRuntime) -> Result<(), Fail> {
     let alloc = rt.alloc();
-    let (a, b, c) = (InterfaceType::U8, InterfaceType::String, InterfaceType::Char);
+    let (a, b, c) = (
+        InterfaceType::U8,
+        InterfaceType::String,
+        InterfaceType::Char,
+    );
     let (d, e, f) = (InterfaceType::Bool, InterfaceType::S64, InterfaceType::U16);
     let mut builder = TypeBuilder::new(alloc);
     let one = builder.add_tuple(vec![in alloc; a]?)?;
@@ -375,11 +382,11 @@ fn handles_are_those_of_their_resource_types(rt: HostRuntime) -> Result<(), Fail
 }
 
 /// The items of a list of three, the second of which was changed; none where there aren't three.
-fn changed(items: Vec<u8>) -> Option<Vec<u8>> {
+fn changed(items: Vec<u8>) -> Option<Vec<u8>>
+    ensures { IfSome result (λ now. now.items ≡ slice_set items.items 1 9) }
+{
     let mut list = FixedList::<u8, 3>::new(items)?;
-    if let Some(second) = list.items_mut().get_mut(1) {
-        *second = 9;
-    }
+    list.items_mut()[1] = 9;
     Some(list.into_items())
 }
 
@@ -428,7 +435,10 @@ fn a_records_parts_may_ask_for_a_type_of_the_table(rt: HostRuntime) -> Result<()
     let ty = builder.add_record(vec![in alloc; id, content]?)?;
     let types = InstanceType::new(builder.finish(), StoreId::from_u64(1));
     assert!(rt; types.types().contains(&ty));
-    let names = [String::from_str(alloc, "id")?, String::from_str(alloc, "content")?];
+    let names = [
+        String::from_str(alloc, "id")?,
+        String::from_str(alloc, "content")?,
+    ];
     assert!(rt; typecheck_record(&ty, &types, &names, &[is_u8, is_bytes]) == Ok(()));
     assert!(rt; typecheck_record(&ty, &types, &names, &[is_u8, is_u8]) == Err(TypecheckFailed));
     Ok(())
