@@ -2,7 +2,9 @@
 //! calls, and what comes of a guest that lies and of a host that errs.
 #![tactic(auto)]
 
-ghost use Rattle.std.specs.Prelude.{◌≡◌, IfOk};
+ghost use Rattle.std.specs.Prelude.{◌≡◌, ◌+◌, ◌%◌, ◌^◌, ◌<◌, IfOk, IsOk, Some, false, length, replicate, slice_get};
+ghost use Rattle.canon_example.specs.Component.{IsNotes};
+ghost use Rattle.canon_value.specs.declared.val.Val.TheVariants as val;
 
 mod component;
 mod failure;
@@ -53,6 +55,9 @@ fn main(rt: HostRuntime) -> Result<(), Failure> {
         >
             ensures state { view.new.state.ghost_name ≡ view.old.state.ghost_name }
             ensures tables { view.new.tables ≡ view.old.tables }
+            ensures ticks { view.new.state.now.now ≡ (view.old.state.now.now + 1) % 2 ^ 32 }
+            ensures ok { IsOk result }
+            ensures answers { 0 < length results.new → slice_get results.new 0 ≡ Some (val.U32 view.new.state.now.now) }
         {
             view.state.now = view.state.now.wrapping_add(1);
             if let Some(result) = results.first_mut() {
@@ -65,18 +70,24 @@ fn main(rt: HostRuntime) -> Result<(), Failure> {
         func: clock,
         refusals: 0,
     };
-    take_notes(&rt, alloc, store_of(alloc, imports)?)?;
-    make_a_mistake(&rt, alloc, store_of(alloc, NoImports::new())?)
+    let store = store_of(alloc, StoreId::from_u64(1), imports)?;
+    take_notes(&rt, alloc, store)?;
+    // Each store of a program has a number of its own.
+    let store = store_of(alloc, StoreId::from_u64(2), NoImports::new())?;
+    make_a_mistake(&rt, alloc, store)
 }
 
 /// A store: the component, its guest with its memory, the data of the host, and what serves the imports.
 fn store_of<I: Imports<Clock, Notes> + Drop>(
     alloc: Global,
+    id: StoreId,
     imports: I,
 ) -> Result<Store<Clock, Notes, I>, Failure>
-    ensures { IfOk result (λ store. store.imports ≡ imports) }
+    ensures imports { IfOk result (λ store. store.imports ≡ imports) }
+    ensures component { IfOk result (λ store. IsNotes id store.core.component) }
+    ensures limits { IfOk result (λ store. (store.core.fuel ≡ 1_000_000) × (store.turns ≡ 100) × (store.core.ledger.handles.counter ≡ record { live = 0; limit = 8 })) }
+    ensures fresh { IfOk result (λ store. (store.core.id ≡ id) × (store.core.state ≡ record { now = 0 }) × (store.core.memory ≡ replicate 65_536 0) × (store.core.guest.notes ≡ 0) × (store.trapped ≡ false)) }
 {
-    let id = StoreId::from_u64(1);
     let component = component_of(alloc, id)?;
     if !component.check() {
         return Err(Failure::BadComponent);
