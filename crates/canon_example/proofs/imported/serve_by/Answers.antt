@@ -34,3 +34,9 @@ returns-in-Err-Fault-clause-serves g c =
     let done = found_import g.F.Fn func AnyAnswer None c.args.n g.G.Guest.seen g.G.Guest.moves tt c.args.cx.ty c.args.cx.options core c.entrypoint.new.cx.0 c.args.storage.now c.entrypoint.new.storage (Err c.in-Err-Fault.field-0) o c.in-Err-Fault.ensures.serves in
     faults AnyAnswer None None c.args.n g.G.Guest.seen g.G.Guest.moves c.args.cx.ty c.args.cx.options refusals refusals core c.entrypoint.new.cx.0 c.args.storage.now c.entrypoint.new.storage o
     c.in-Err-Fault.fault (rw c.in-Err-Fault.field-0-is at done) refl refl
+
+pub returns-in-Err-Refused-clause-served : goal.returns-in-Err-Refused-clause-served
+returns-in-Err-Refused-clause-served g c = rw c.in-Err-Refused.field-0-is at c.in-Err-Refused.ensures.serves
+
+pub returns-in-Err-Fault-clause-served : goal.returns-in-Err-Fault-clause-served
+returns-in-Err-Fault-clause-served g c = rw c.in-Err-Fault.field-0-is at c.in-Err-Fault.ensures.serves
