@@ -86,7 +86,9 @@ fn store_of<I: Imports<Clock, Notes> + Drop>(
     ensures imports { IfOk result (λ store. store.imports ≡ imports) }
     ensures component { IfOk result (λ store. IsNotes id store.core.component) }
     ensures limits { IfOk result (λ store. (store.core.fuel ≡ 1_000_000) × (store.turns ≡ 100) × (store.core.ledger.handles.counter ≡ record { live = 0; limit = 8 })) }
-    ensures fresh { IfOk result (λ store. (store.core.id ≡ id) × (store.core.state ≡ record { now = 0 }) × (store.core.memory ≡ replicate 65_536 0) × (store.core.guest.notes ≡ 0) × (store.trapped ≡ false)) }
+    ensures fresh { IfOk result (λ store. (store.core.id ≡ id) × (store.core.state ≡ record { now = 0 }) × (store.trapped ≡ false)) }
+    ensures guest { IfOk result (λ store. store.core.guest.notes ≡ 0) }
+    ensures memory { IfOk result (λ store. store.core.memory ≡ replicate 65_536 0) }
 {
     let component = component_of(alloc, id)?;
     if !component.check() {
