@@ -24,8 +24,8 @@ use imported::OneImport;
 use notes::Notes;
 use std::alloc::Global;
 
-/// How many bytes the guest's memory has.
-const MEMORY: u64 = 65_536;
+/// How many bytes the guest's memory has. They are few, since the journal copies them at each start, ask, resume and return.
+const MEMORY: u64 = 4_096;
 
 /// How many handles may live.
 const HANDLES: u64 = 8;
@@ -91,7 +91,7 @@ fn store_of<I: Imports<Clock, Journaled<Notes>> + Drop>(
     ensures fresh { IfOk result (λ store. (store.core.id ≡ id) × (store.core.state ≡ record { now = 0 }) × (store.trapped ≡ false)) }
     ensures guest { IfOk result (λ store. store.core.guest.guest.notes ≡ 0) }
     ensures journal { IfOk result (λ store. store.core.guest.events ≡ []) }
-    ensures memory { IfOk result (λ store. store.core.memory ≡ replicate 65_536 0) }
+    ensures memory { IfOk result (λ store. store.core.memory ≡ replicate 4_096 0) }
 {
     let component = component_of(alloc, id)?;
     if !component.check() {
