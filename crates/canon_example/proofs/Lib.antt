@@ -1,1 +1,1 @@
-mod Untold
+mod Unlogged

@@ -1,5 +1,8 @@
 //! The component that the guest implements.
 
+ghost use Rattle.std.specs.Prelude.{◌≡◌, ◌∷◌, [], IfOk, None, false};
+ghost use Rattle.canon_example.specs.Component.{IsNotes};
+
 use crate::{Failure, notes};
 use canon_types::{
     CanonicalOptions, ComponentTypes, HostType, InstanceType, InterfaceType, OptionsIndex,
@@ -22,6 +25,7 @@ pub const BROKEN: u32 = 2;
 pub struct Notebook;
 
 impl HostType for Notebook {
+    // No other host type of the program may have this number: handles of the two would pass for one another.
     ghost ID = { 1 };
 
     const ID: u32 = 1;
@@ -80,7 +84,10 @@ fn field(alloc: Global, name: &str, ty: InterfaceType) -> Result<RecordField, Fa
 /// export count: func(book: borrow<notebook>) -> u32;
 /// export broken: func(text: string) -> note;
 /// ```
-pub fn component_of(alloc: Global, id: StoreId) -> Result<Component, Failure> {
+pub fn component_of(alloc: Global, id: StoreId) -> Result<Component, Failure>
+    ensures parts { IfOk result (IsNotes id) }
+    ensures options { IfOk result (λ component. component.options.items ≡ record { instance = 0; string_encoding = StringEncoding.Utf8; async_ = false; post_return = None } ∷ []) }
+{
     let Types {
         table,
         notebook,

@@ -1,5 +1,8 @@
 //! Why the program ends early.
 
+ghost use Rattle.std.specs.Prelude.{◌≡◌};
+ghost use Rattle.canon_example.specs.declared.failure.Failure.TheVariants as failure;
+
 use canon_func::Error;
 use canon_memory::MemoryError;
 use canon_resources::ResourceFault;
@@ -16,8 +19,8 @@ pub enum Failure {
     Memory(#[from] MemoryError),
     #[error("no handle of the host: {0}")]
     NoHandle(#[from] ResourceFault),
-    #[error("the host can't drop its notebook: {0}")]
-    NoDrop(#[from] Error),
+    #[error("a call or the drop of a resource is refused: {0}")]
+    Call(#[from] Error),
     #[error("nothing can be printed: {0}")]
     Print(#[from] io::Error),
     #[error("an index of the component is outside its table")]
@@ -31,18 +34,24 @@ pub enum Failure {
 }
 
 impl From<OutOfMemory> for Failure {
+    ghost from_gives = { λ _ e. e ≡ failure.OutOfMemory };
+
     fn from(_: OutOfMemory) -> Self {
         Failure::OutOfMemory
     }
 }
 
 impl From<AllocError> for Failure {
+    ghost from_gives = { λ _ e. e ≡ failure.OutOfMemory };
+
     fn from(_: AllocError) -> Self {
         Failure::OutOfMemory
     }
 }
 
 impl<T: Drop> From<AllocFailed<T>> for Failure {
+    ghost from_gives = { λ _ e. e ≡ failure.OutOfMemory };
+
     fn from(_: AllocFailed<T>) -> Self {
         Failure::OutOfMemory
     }

@@ -7,7 +7,7 @@ ghost use Rattle.canon_context.specs.Core.{types_of};
 ghost use Rattle.canon_context.specs.Host.{Keeps};
 ghost use Rattle.canon_host.specs.Asked.{HasRoomFor};
 ghost use Rattle.canon_host.specs.Imports.{ServesImport};
-ghost use Rattle.canon_example.specs.Imported.{AnyAnswer};
+ghost use Rattle.canon_example.specs.Imported.{AnyAnswer, CountsOnce, ServedBy};
 
 use canon_host::{DynamicHostFn, HostCx, HostError, HostFunc, HostStop, HostView, Imports};
 use canon_memory::{Guest, ValRaw};
@@ -15,7 +15,8 @@ use canon_types::TypeFunc;
 use canon_value::Val;
 use std::alloc::Global;
 
-/// The imports of a component that has one function of the host. Contracts don't see which asks were served, nor what was answered.
+/// The imports of a component that has one function of the host. Contracts see which function serves an ask and how often asks were refused,
+/// but no log of the asks.
 #[derive(Drop)]
 pub struct OneImport<F> {
     pub func: HostFunc<DynamicHostFn<F>>,
@@ -34,7 +35,7 @@ impl<
     ghost use Rattle.canon_context.specs.Host.{Keeps};
     ghost use Rattle.canon_host.specs.Asked.{HasRoomFor};
     ghost use Rattle.canon_host.specs.Imports.{ServesImport};
-    ghost use Rattle.canon_example.specs.Imported.{AnyAnswer};
+    ghost use Rattle.canon_example.specs.Imported.{AnyAnswer, CountsOnce, ServedBy};
 
     type Plan = ();
 
@@ -47,6 +48,7 @@ impl<
 
     ghost refusals = { λ s. s.refusals };
 
+    // Where no log is exposed, nothing is said by this.
     ghost gives = { λ plan. AnyAnswer };
 
     fn serve(
@@ -62,11 +64,14 @@ impl<
         requires room { HasRoomFor (types_of cx.core.now) cx.ty storage.old }
         ensures still_ready { Keeps F.Fn self.new.func }
         ensures plan { tt {0} ≡ tt {0} }
+        ensures kept { self.new.func ≡ self.old.func }
+        ensures served { IfSome (slice_get (types_of cx.entry.core.now).funcs cx.entry.ty) (λ t. ServedBy F.Fn self.old.func G.seen G.moves (record { ty = cx.entry.ty; func = t; options = cx.entry.options }) cx.entry.core.now storage.old result cx.exit.0.now storage.new) }
+        ensures counts { CountsOnce result self.old.refusals self.new.refusals }
         ensures refusals { self.old.refusals ≤ self.new.refusals }
         ensures serves { IfSome (slice_get (types_of cx.entry.core.now).funcs cx.entry.ty) (λ t. ServesImport AnyAnswer None n G.seen G.moves (record { ty = cx.entry.ty; func = t; options = cx.entry.options }) None self.old.refusals self.new.refusals cx.entry.core.now storage.old result cx.exit.0.now storage.new) }
         ensures same { cx.exit.0.now ≡ record cx.entry.core.now { state = cx.exit.0.now.state; guest = cx.exit.0.now.guest; memory = cx.exit.0.now.memory; ledger = cx.exit.0.now.ledger } }
     {
-        // A component with several functions has a field for each, and `n` says which is asked for.
+        // A component with several functions has a field for each, and `n` says which import is asked for.
         serve_by(&self.func, &mut self.refusals, alloc, n, cx, storage)
     }
 }
@@ -88,6 +93,8 @@ fn serve_by<
     requires func { HasFunc (types_of cx.core.now) cx.ty }
     requires options { HasOptions cx.core.now.component cx.options }
     requires room { HasRoomFor (types_of cx.core.now) cx.ty storage.old }
+    ensures served { IfSome (slice_get (types_of cx.entry.core.now).funcs cx.entry.ty) (λ t. ServedBy F.Fn func.now G.seen G.moves (record { ty = cx.entry.ty; func = t; options = cx.entry.options }) cx.entry.core.now storage.old result cx.exit.0.now storage.new) }
+    ensures counts { CountsOnce result refusals.old refusals.new }
     ensures refusals { refusals.old ≤ refusals.new }
     ensures serves { IfSome (slice_get (types_of cx.entry.core.now).funcs cx.entry.ty) (λ t. ServesImport AnyAnswer None n G.seen G.moves (record { ty = cx.entry.ty; func = t; options = cx.entry.options }) None refusals.old refusals.new cx.entry.core.now storage.old result cx.exit.0.now storage.new) }
     ensures same { cx.exit.0.now ≡ record cx.entry.core.now { state = cx.exit.0.now.state; guest = cx.exit.0.now.guest; memory = cx.exit.0.now.memory; ledger = cx.exit.0.now.ledger } }

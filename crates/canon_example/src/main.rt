@@ -2,7 +2,10 @@
 //! calls, and what comes of a guest that lies and of a host that errs.
 #![tactic(auto)]
 
-ghost use Rattle.std.specs.Prelude.{◌≡◌, IfOk};
+ghost use Rattle.std.specs.Prelude.{[], ◌≡◌, ◌+◌, ◌%◌, ◌^◌, ◌<◌, IfOk, IsOk, Some, false, length, replicate, slice_get};
+ghost use Rattle.canon_example.specs.Component.{IsNotes};
+ghost use Rattle.canon_ledger.specs.Ledger.{new_ledger};
+ghost use Rattle.canon_value.specs.declared.val.Val.TheVariants as val;
 
 mod component;
 mod failure;
@@ -11,7 +14,7 @@ mod notes;
 
 use canon_func::{Error, Store, resource_drop};
 use canon_host::{HostFunc, HostStop, HostView, Imports, NoImports};
-use canon_memory::Memory;
+use canon_memory::{Journaled, Memory};
 use canon_resources::Resource;
 use canon_types::{ExportIndex, StoreId, TypeFunc};
 use canon_value::{Core, Fault, Val};
@@ -21,8 +24,8 @@ use imported::OneImport;
 use notes::Notes;
 use std::alloc::Global;
 
-/// How many bytes the guest's memory has.
-const MEMORY: u64 = 65_536;
+/// How many bytes the guest's memory has. They are few, since the journal copies them at each start, ask, resume and return.
+const MEMORY: u64 = 4_096;
 
 /// How many handles may live.
 const HANDLES: u64 = 8;
@@ -53,6 +56,9 @@ fn main(rt: HostRuntime) -> Result<(), Failure> {
         >
             ensures state { view.new.state.ghost_name ≡ view.old.state.ghost_name }
             ensures tables { view.new.tables ≡ view.old.tables }
+            ensures ticks { view.new.state.now.now ≡ (view.old.state.now.now + 1) % 2 ^ 32 }
+            ensures ok { IsOk result }
+            ensures answers { 0 < length results.new → slice_get results.new 0 ≡ Some (val.U32 view.new.state.now.now) }
         {
             view.state.now = view.state.now.wrapping_add(1);
             if let Some(result) = results.first_mut() {
@@ -65,33 +71,43 @@ fn main(rt: HostRuntime) -> Result<(), Failure> {
         func: clock,
         refusals: 0,
     };
-    take_notes(&rt, alloc, store_of(alloc, imports)?)?;
-    make_a_mistake(&rt, alloc, store_of(alloc, NoImports::new())?)
+    let store = store_of(alloc, StoreId::from_u64(1), imports)?;
+    take_notes(&rt, alloc, store)?;
+    // Each store of a program has a number of its own.
+    let store = store_of(alloc, StoreId::from_u64(2), NoImports::new())?;
+    make_a_mistake(&rt, alloc, store)
 }
 
-/// A store: the component, its guest with its memory, the data of the host, and what serves the imports.
-fn store_of<I: Imports<Clock, Notes> + Drop>(
+/// A store: the component, its guest with its memory and its journal, the data of the host, and what serves the imports.
+fn store_of<I: Imports<Clock, Journaled<Notes>> + Drop>(
     alloc: Global,
+    id: StoreId,
     imports: I,
-) -> Result<Store<Clock, Notes, I>, Failure>
-    ensures { IfOk result (λ store. store.imports ≡ imports) }
+) -> Result<Store<Clock, Journaled<Notes>, I>, Failure>
+    ensures imports { IfOk result (λ store. store.imports ≡ imports) }
+    ensures component { IfOk result (λ store. IsNotes id store.core.component) }
+    ensures limits { IfOk result (λ store. (store.core.fuel ≡ 1_000_000) × (store.turns ≡ 100)) }
+    ensures handles { IfOk result (λ store. store.core.ledger ≡ new_ledger 256 8 0) }
+    ensures fresh { IfOk result (λ store. (store.core.id ≡ id) × (store.core.state ≡ record { now = 0 }) × (store.trapped ≡ false)) }
+    ensures guest { IfOk result (λ store. store.core.guest.guest.notes ≡ 0) }
+    ensures journal { IfOk result (λ store. store.core.guest.events ≡ []) }
+    ensures memory { IfOk result (λ store. store.core.memory ≡ replicate 4_096 0) }
 {
-    let id = StoreId::from_u64(1);
     let component = component_of(alloc, id)?;
     if !component.check() {
         return Err(Failure::BadComponent);
     }
-    let (clock, guest) = (Clock { now: 0 }, Notes::new(alloc));
+    let (clock, guest) = (Clock { now: 0 }, Journaled::new(alloc, Notes::new(alloc)));
     let memory = Memory::new(alloc, MEMORY)?;
     let core = Core::new(alloc, id, clock, guest, memory, component, HANDLES, FUEL)?;
     Ok(Store::new(core, imports, TURNS))
 }
 
 /// Calls what the component exports. The last call is refused, since a guest that lied is called no more.
-fn take_notes<I: Imports<Clock, Notes> + Drop>(
+fn take_notes<I: Imports<Clock, Journaled<Notes>> + Drop>(
     rt: &impl Print,
     alloc: Global,
-    mut store: Store<Clock, Notes, I>,
+    mut store: Store<Clock, Journaled<Notes>, I>,
 ) -> Result<(), Failure>
     requires { I.ready store.imports }
 {
@@ -104,10 +120,10 @@ fn take_notes<I: Imports<Clock, Notes> + Drop>(
 }
 
 /// Calls an export with a text.
-fn add_note<I: Imports<Clock, Notes>>(
+fn add_note<I: Imports<Clock, Journaled<Notes>>>(
     rt: &impl Print,
     alloc: Global,
-    store: &mut Store<Clock, Notes, I>,
+    store: &mut Store<Clock, Journaled<Notes>, I>,
     export: u32,
     text: &str,
 ) -> Result<(), Failure>
@@ -119,10 +135,10 @@ fn add_note<I: Imports<Clock, Notes>>(
 }
 
 /// Makes a resource of the host, lends it to the guest for one call, and drops it.
-fn lend_notebook<I: Imports<Clock, Notes>>(
+fn lend_notebook<I: Imports<Clock, Journaled<Notes>>>(
     rt: &impl Print,
     alloc: Global,
-    store: &mut Store<Clock, Notes, I>,
+    store: &mut Store<Clock, Journaled<Notes>, I>,
 ) -> Result<(), Failure>
     requires { I.ready store.old.imports }
     ensures { I.ready store.new.imports }
@@ -136,10 +152,10 @@ fn lend_notebook<I: Imports<Clock, Notes>>(
 }
 
 /// Calls the function that takes a text with a number. The guest isn't started, but the call had begun, so the store is trapped.
-fn make_a_mistake<I: Imports<Clock, Notes> + Drop>(
+fn make_a_mistake<I: Imports<Clock, Journaled<Notes>> + Drop>(
     rt: &impl Print,
     alloc: Global,
-    mut store: Store<Clock, Notes, I>,
+    mut store: Store<Clock, Journaled<Notes>, I>,
 ) -> Result<(), Failure>
     requires { I.ready store.imports }
 {
@@ -149,10 +165,10 @@ fn make_a_mistake<I: Imports<Clock, Notes> + Drop>(
 }
 
 /// Calls an export, and prints what it answers, or why there is no answer.
-fn call<I: Imports<Clock, Notes>>(
+fn call<I: Imports<Clock, Journaled<Notes>>>(
     rt: &impl Print,
     alloc: Global,
-    store: &mut Store<Clock, Notes, I>,
+    store: &mut Store<Clock, Journaled<Notes>, I>,
     export: u32,
     params: &[Val],
 ) -> Result<(), Failure>
@@ -163,7 +179,10 @@ fn call<I: Imports<Clock, Notes>>(
         return Err(Failure::NoExport);
     };
     let mut results = [Val::Bool(false)];
-    match func.call(alloc, store, params, &mut results) {
+    let answer = func.call(alloc, store, params, &mut results);
+    // What the guest was asked and did in this call, of which the contract of `call` speaks. Here it is let go.
+    let _events = store.core_mut().guest_mut().take_journal();
+    match answer {
         Ok(()) => print_answer(rt, &results)?,
         Err(Error::Fault(Fault::TypeMismatch(place))) => {
             println!(rt; "refused: the value at place {place} is not of its type")?;

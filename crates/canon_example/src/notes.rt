@@ -1,6 +1,7 @@
 //! The guest: a plug-in that keeps notes. It stands for the code that an embedder's engine runs in the guest's memory.
 
-ghost use Rattle.std.specs.Prelude.{◌≡◌, ◌≤◌, ◌<◌, ◌+◌, ◌^◌, [], IfSome, None, false, length, replicate};
+ghost use Rattle.std.specs.Prelude.{◌≡◌, ◌≤◌, ◌<◌, ◌+◌, ◌++◌, ◌^◌, [], MatchOption, None, SomeIff, drop, false, length, replicate, take};
+ghost use Rattle.std.specs.Int.{next_multiple_of, to_le_bytes, w32};
 ghost use Rattle.canon_memory.specs.Counts.{Rose};
 
 use canon_memory::{Guest, GuestFault, Memory, Step, ValRaw, Words};
@@ -81,7 +82,11 @@ pub struct Notes {
 }
 
 impl Notes {
-    pub fn new(alloc: Global) -> Self {
+    /// A guest that has no notes yet. Its first block is given from 8 on.
+    pub fn new(alloc: Global) -> Self
+        ensures empty { (result.asked ≡ None) × (result.notes ≡ 0) × (result.top ≡ 8) }
+        ensures counts { result.counts ≡ record { blocks = 0; traps = 0; shortages = 0 } }
+    {
         Notes {
             alloc,
             asked: None,
@@ -95,12 +100,12 @@ impl Notes {
         }
     }
 
-    /// The address of a block, where memory has room for it before its last byte.
+    /// The address of a block, the first multiple of the alignment from the top on, where memory has room for it before its last byte.
     fn place(&mut self, len: u64, align: u32, size: u64) -> Option<u64>
         requires aligned { 0 < align }
         requires few { len ≤ 2 ^ 32 }
-        ensures inside { IfSome result (λ at. at + size < len) }
-        ensures counts { self.new.counts ≡ self.old.counts }
+        ensures place { SomeIff result (next_multiple_of self.old.top align + size < len) (next_multiple_of self.old.top align) }
+        ensures raises { MatchOption result (self.new ≡ self.old) (λ at. self.new ≡ record self.old { top = at + size }) }
     {
         let at = self.top.checked_next_multiple_of(u64::from(align))?;
         let end = at.checked_add(size)?;
@@ -273,7 +278,8 @@ fn count_words(text: &[u8]) -> u32 {
 /// Writes a number at an address.
 fn put_u32(memory: &mut Memory, at: u64, number: u32)
     requires { at + 4 ≤ length memory.old }
-    ensures { length memory.new ≡ length memory.old }
+    ensures length { length memory.new ≡ length memory.old }
+    ensures bytes { memory.new ≡ take at memory.old ++ to_le_bytes w32 number ++ drop (at + 4) memory.old }
 {
     let at = at as usize;
     memory.as_slice_mut()[at..at + 4].copy_from_slice(&number.to_le_bytes());

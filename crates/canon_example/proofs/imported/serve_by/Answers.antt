@@ -3,7 +3,7 @@ use Rattle.std.specs.Prelude.{slice_get}
 use Rattle.canon_context.specs.Core.{types_of}
 use Rattle.canon_host.proofs.Importing.{faults, found_import, refuses}
 use Rattle.canon_example.specs.Imported.{AnyAnswer}
-use Rattle.canon_example.proofs.Untold.{untold}
+use Rattle.canon_example.proofs.Unlogged.{unlogged}
 use Rattle.canon_example.proofs.imported.serve_by.Goals as goal
 
 pub returns-in-Ok-clause-serves : goal.returns-in-Ok-clause-serves
@@ -13,7 +13,7 @@ returns-in-Ok-clause-serves g c =
     let core = c.args.cx.core.now in
     let o = slice_get (types_of core).funcs c.args.cx.ty in
     let done = found_import g.F.Fn func AnyAnswer None c.args.n g.G.Guest.seen g.G.Guest.moves tt c.args.cx.ty c.args.cx.options core c.entrypoint.new.cx.0 c.args.storage.now c.entrypoint.new.storage (Ok c.in-Ok._values) o c.in-Ok.ensures.serves in
-    untold AnyAnswer c.args.n g.G.Guest.seen g.G.Guest.moves c.args.cx.ty c.args.cx.options refusals core c.entrypoint.new.cx.0 c.args.storage.now c.entrypoint.new.storage o c.in-Ok._values done
+    unlogged AnyAnswer c.args.n g.G.Guest.seen g.G.Guest.moves c.args.cx.ty c.args.cx.options refusals core c.entrypoint.new.cx.0 c.args.storage.now c.entrypoint.new.storage o c.in-Ok._values done
 
 pub returns-in-Err-Refused-clause-serves : goal.returns-in-Err-Refused-clause-serves
 returns-in-Err-Refused-clause-serves g c =
@@ -34,3 +34,9 @@ returns-in-Err-Fault-clause-serves g c =
     let done = found_import g.F.Fn func AnyAnswer None c.args.n g.G.Guest.seen g.G.Guest.moves tt c.args.cx.ty c.args.cx.options core c.entrypoint.new.cx.0 c.args.storage.now c.entrypoint.new.storage (Err c.in-Err-Fault.field-0) o c.in-Err-Fault.ensures.serves in
     faults AnyAnswer None None c.args.n g.G.Guest.seen g.G.Guest.moves c.args.cx.ty c.args.cx.options refusals refusals core c.entrypoint.new.cx.0 c.args.storage.now c.entrypoint.new.storage o
     c.in-Err-Fault.fault (rw c.in-Err-Fault.field-0-is at done) refl refl
+
+pub returns-in-Err-Refused-clause-served : goal.returns-in-Err-Refused-clause-served
+returns-in-Err-Refused-clause-served g c = rw c.in-Err-Refused.field-0-is at c.in-Err-Refused.ensures.serves
+
+pub returns-in-Err-Fault-clause-served : goal.returns-in-Err-Fault-clause-served
+returns-in-Err-Fault-clause-served g c = rw c.in-Err-Fault.field-0-is at c.in-Err-Fault.ensures.serves

@@ -11,6 +11,6 @@ use Rattle.canon_host.specs.HostSide.{Giving}
 use Rattle.canon_host.proofs.Importing.{Answered, Done}
 
 module _ {T G : Type 0} (gives : Giving T) (n : ℕ) (seen : G → Seen) (moves : GuestIn G → List Event → GuestIn G → Type 0) (ty options r : ℕ) (before after : Parts T G) (words words2 : List ℕ) where
-  pub untold : (o : Option TypeFunc) (values : Vec Val Global) → IfSome o (Done gives None None n seen moves ty options r r before after words words2 (Ok values)) → IfSome o (Answered gives None None n seen moves ty options r r before after words words2 (Ok tt))
-  untold (Some t) values (told, row, served) = (told, served, refl, refl)
-  untold None values done = tt
+  pub unlogged : (o : Option TypeFunc) (values : Vec Val Global) → IfSome o (Done gives None None n seen moves ty options r r before after words words2 (Ok values)) → IfSome o (Answered gives None None n seen moves ty options r r before after words words2 (Ok tt))
+  unlogged (Some t) values (told, row, served) = (told, served, refl, refl)
+  unlogged None values done = tt
