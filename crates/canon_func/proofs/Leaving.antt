@@ -26,8 +26,7 @@ use Rattle.canon_leaves.specs.Parts.{LeafTakes, LeavesLift, dtor_for, instance_f
 use Rattle.canon_model.specs.Leaves.{Leaf}
 use Rattle.canon_resources.specs.Held.{Any}
 use Rattle.canon_types.specs.Instance.{Instance}
-use Rattle.canon_func.specs.Call.{LiftsReturned, returned_leaves, scope_exit}
-use Rattle.canon_func.specs.Stores.{Callee}
+use Rattle.canon_func.specs.Call.{scope_exit}
 use Rattle.canon_func.proofs.Owned.{AreOwned}
 
 -- ---- own handles that are lifted
@@ -70,7 +69,7 @@ own_lifted i l n ty index h takes =
 leaf_lifted : (i : Instance) (l n : LedgerState) (leaf : Leaf) (h : ℕ) → leaf.owned ≡ true → LeafTakes l (lift_parts i leaf) h n → n.handles.scopes ≡ l.handles.scopes
 leaf_lifted i l n leaf h owned takes = own_lifted i l n leaf.resource leaf.index h (subst (λ (b : Bool). LeafTakes l (lifted_parts b i leaf.resource leaf.index) h n) owned takes)
 
-lifts_scopes : (i : Instance) (l n : LedgerState) (leaves : List Leaf) (xs : List Any) → AreOwned leaves → LeavesLift i l leaves xs n → n.handles.scopes ≡ l.handles.scopes
+pub lifts_scopes : (i : Instance) (l n : LedgerState) (leaves : List Leaf) (xs : List Any) → AreOwned leaves → LeavesLift i l leaves xs n → n.handles.scopes ≡ l.handles.scopes
 lifts_scopes i l n [] xs owned lifts = ap (λ (m : LedgerState). m.handles.scopes) lifts.1
 lifts_scopes i l n (leaf ∷ leaves) xs owned (h, rest, mid, is, takes, more) = lifts_scopes i mid n leaves rest owned.1 more ∙ leaf_lifted i l mid leaf h owned.0 takes
 
@@ -130,9 +129,9 @@ leaves_by scopes = can_leave (record { tables = []; counter = record { live = 0;
 pub ended_leaves : (l m : LedgerState) → scope_exit l ≡ record { answer = Ok tt; after = m } → can_leave m.handles ≡ true
 ended_leaves l m e = empty_leaves m.handles (ended_empty l m e)
 
-pub lifted_empty : (callee : Callee) (words memory : List ℕ) (xs : List Any) (before after : LedgerState) → AreOwned (returned_leaves callee words memory) → LiftsReturned callee words memory xs before after → can_leave after.handles ≡ true
-lifted_empty callee words memory xs before after owned h =
-    ap leaves_by (lifts_scopes callee.types h.ended after (returned_leaves callee words memory) xs owned h.lifts) ∙ empty_leaves h.ended.handles (ended_empty before h.ended h.ends)
+-- also once handles were lifted that keep the scopes
+pub lifted_leaves : (l ended m : LedgerState) → scope_exit l ≡ record { answer = Ok tt; after = ended } → m.handles.scopes ≡ ended.handles.scopes → can_leave m.handles ≡ true
+lifted_leaves l ended m ends same = ap leaves_by same ∙ ended_leaves l ended ends
 
 -- ---- refusals of the end
 

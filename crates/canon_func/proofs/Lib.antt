@@ -11,9 +11,13 @@ pub mod Leaving
 pub mod Lowered
 pub mod Owned
 pub mod Partways
+pub mod Passed
 pub mod Prefixes
+pub mod Refusals
 pub mod Rests
 pub mod Returned
 pub mod Scoped
+pub mod Tails
 pub mod Throughs
 pub mod Turns
+pub mod Unserved
