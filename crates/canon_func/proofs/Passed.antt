@@ -1,5 +1,5 @@
 -- What is asked of the definitions of parameters and of results, and that those of dynamic values meet it.
-use Rattle.std.proofs.Common.{List, arith, length, ℕ, ⊎_elim, ◌<◌, ◌≡◌, ◌≤◌}
+use Rattle.std.proofs.Common.{List, arith, length, ℕ, ⊎_elim, ◌≡◌, ◌≤◌}
 use Rattle.std.specs.Prelude.{false, ⊤}
 use Rattle.std.proofs.lemmas.Bool.{cases_lt, le-leb, lt-leb}
 use Rattle.canon_model.specs.Flat.{RepResults, max_results}

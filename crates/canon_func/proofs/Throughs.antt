@@ -1,7 +1,8 @@
 -- The ledger of a call, step after step.
-use Rattle.std.proofs.Common.{List, Ok, [], ap, inl, inr, refl, subst, sym, true, ℕ, ◌++◌, ◌∷◌, ◌≡◌}
+use Rattle.std.proofs.Common.{List, Ok, Option, [], ap, inl, inr, refl, subst, sym, true, ℕ, ◌++◌, ◌∷◌, ◌≡◌}
 use Rattle.canon_memory.specs.declared.event.Event.{Event}
 use Rattle.canon_memory.specs.declared.event.Event.TheVariants as event
+use Rattle.canon_lowering.specs.Lowering.{Answer, Trap}
 use Rattle.canon_ledger.specs.Handles.{can_leave, top_scope}
 use Rattle.canon_ledger.specs.Ledger.{Done, ExitScope, Leave, LedgerState, LedgerStep, Through, do_step, enter, leave, leaving, numbered}
 use Rattle.canon_ledger.proofs.LedgerLemmas.{compose}

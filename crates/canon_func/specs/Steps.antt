@@ -1,13 +1,10 @@
 -- The steps of a call.
-use Rattle.std.specs.Prelude.{Err, IfErr, IfOk, IsOkUnless, IsSome, List, Option, take, None, Ok, OnOk, Result, Some, Vec, [], false, length, true, ℕ, ⊤, ◌++◌, ◌∷◌, ◌≡◌, ◌≢◌, ◌⊎◌, ◌<◌, ◌≤◌}
+use Rattle.std.specs.Prelude.{Err, IfErr, IfOk, IsOkUnless, IsSome, List, Option, take, None, Ok, OnOk, Result, Some, Vec, [], false, length, ℕ, ⊤, ◌++◌, ◌∷◌, ◌≡◌, ◌≢◌, ◌⊎◌, ◌<◌, ◌≤◌}
 use Rattle.std.specs.declared.alloc.Global.{Global}
-use Rattle.canon_model.specs.Cost.{members_cost}
-use Rattle.canon_model.specs.Flat.{RepResults, max_params}
+use Rattle.canon_model.specs.Flat.{max_params}
 use Rattle.canon_model.specs.Layout.{members_flat}
 use Rattle.canon_model.specs.Reach.{badly_spelled, misaligned, no_case, no_scalar, out_of_bounds}
-use Rattle.canon_model.specs.Shape.{Members, member_count}
 use Rattle.canon_model.specs.Text.{in_utf16, in_utf8}
-use Rattle.canon_model.specs.Tree.{Trees}
 use Rattle.canon_memory.specs.declared.event.Event.{Event}
 use Rattle.canon_memory.specs.declared.event.Event.TheVariants as event
 use Rattle.canon_memory.specs.Counts.{Rose}
@@ -15,23 +12,19 @@ use Rattle.canon_memory.specs.Guest.{Goes, GuestIn, Moment, Seen}
 use Rattle.canon_memory.specs.Journal.{step_event, trap_event}
 use Rattle.canon_memory.specs.declared.guest.Step.{Step}
 use Rattle.canon_lowering.specs.Attempt.{LowersArgs}
-use Rattle.canon_lowering.specs.Lowering.{AllLawful, Answer, Ending, Trap, done, events_of, marks_of}
-use Rattle.canon_lowering.specs.Storing.{narrow}
+use Rattle.canon_lowering.specs.Lowering.{AllLawful, Answer, Ending, Trap, done, events_of, marks_of, refused, short}
 use Rattle.canon_value.specs.Fails.{AreSmall, BlamesMembers}
-use Rattle.canon_context.specs.Lifter.{Origin}
-use Rattle.canon_value.specs.Lifts.{AreResults, LiftsResults}
-use Rattle.canon_ledger.specs.Handles.{can_leave}
 use Rattle.canon_ledger.specs.Ledger.{LedgerState, leave}
 use Rattle.canon_leaves.specs.Parts.{LeavesStop, LeavesTake, refusal_of}
 use Rattle.canon_value.specs.Args.{LowersParams}
-use Rattle.canon_value.specs.Resources.{Crosses, EndsAs, QuietBut, all_passes, all_resources, stop_of, told_fault}
+use Rattle.canon_value.specs.Resources.{Crosses, QuietBut, all_passes, stop_of, told_fault}
 use Rattle.canon_types.specs.Table.{tuple_members}
 use Rattle.canon_context.specs.Asks.{SameButHandles}
 use Rattle.canon_context.specs.Core.{Parts, SameButLedger, encoding_by, guest_of, moment_of, types_of}
-use Rattle.canon_context.specs.Lowers.{ending_of}
+use Rattle.canon_context.specs.Lowers.{ending_of, fault_ending}
 use Rattle.canon_context.specs.Moves.{Moves}
 use Rattle.canon_context.specs.Quiet.{have_block, have_handle}
-use Rattle.canon_context.specs.Told.{LiftBlames}
+use Rattle.canon_context.specs.Told.{Exactly, LiftBlames}
 use Rattle.canon_context.specs.declared.fault.Fault.{Fault}
 use Rattle.canon_value.specs.Value.{HaveTrees}
 use Rattle.canon_context.specs.declared.fault.Fault.TheVariants as fault
@@ -41,7 +34,8 @@ use Rattle.canon_host.specs.Asked.{row_words}
 use Rattle.canon_host.specs.declared.asked.Asked.{Asked}
 use Rattle.canon_func.specs.Asks.{AreServed, AskStops, IsServed, Limits}
 use Rattle.canon_func.specs.HostAsks.{HostStops, IsHostServed, asked_results}
-use Rattle.canon_func.specs.Call.{AcceptsLater, AfterTurns, AskCause, AsksByTypes, Concludes, HasFault, IsCall, IsPastFuel, Left, LiftsReturned, StopsReturned, StopsStarted, param_parts, refused_by, result_words, words_within}
+use Rattle.canon_func.specs.Call.{AcceptsLater, AfterTurns, AskCause, AsksByTypes, Concludes, HasFault, IsCallOf, IsPastFuel, Left, StopsStartedOf, dynamic, dynamic_results, refused_by, result_words, scope_exit, words_within}
+use Rattle.canon_func.specs.Passing.{Arguments, Returns}
 use Rattle.canon_func.specs.Runs.{AskTurn, Each, EndsIn, Grows, IsNoPost, IsOneRun, IsPrefixOfRun, IsReturn, IsTrap, MayStart, OnReturn, OnStart, answers_in, asks_in, events_in, last_len, posts}
 use Rattle.canon_func.specs.Stores.{Callee}
 use Rattle.canon_func.specs.declared.error.Error.{Error}
