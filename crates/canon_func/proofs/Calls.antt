@@ -1,11 +1,11 @@
 -- What a call did, from what its steps did.
-use Rattle.std.proofs.Common.{Err, inl, inr, List, None, Ok, Option, Result, Some, Vec, Global, [], ap, append_assoc, arith, length, refl, subst, sym, true, ℕ, ◌++◌, ◌%◌, ◌+◌, ◌∷◌, ◌∙◌, ◌≡◌, ◌≤◌}
+use Rattle.std.proofs.Common.{Err, inl, inr, List, None, Ok, Result, [], ap, append_assoc, arith, length, refl, subst, sym, true, ℕ, ◌++◌, ◌∷◌, ◌∙◌, ◌≡◌, ◌≤◌}
 use Rattle.std.specs.Prelude.{false}
 use Rattle.std.proofs.lemmas.List.{append-nil}
 use Rattle.canon_model.specs.Flat.{max_params}
 use Rattle.canon_model.specs.Homes.{ParamsHome, PointsTo}
 use Rattle.canon_model.specs.Shape.{Members}
-use Rattle.canon_model.specs.Requests.{Call, Request, params_requests}
+use Rattle.canon_model.specs.Requests.{Request, params_requests}
 use Rattle.canon_model.specs.Tree.{Trees}
 use Rattle.canon_model.proofs.Frames.{blocks_are_read}
 use Rattle.canon_memory.specs.declared.event.Event.{Event}
@@ -13,34 +13,24 @@ use Rattle.canon_memory.specs.declared.event.Event.TheVariants as event
 use Rattle.canon_memory.specs.Counts.{Rose}
 use Rattle.canon_memory.specs.Guest.{Goes, Mark, Moment}
 use Rattle.canon_ledger.specs.Ledger.{enter}
-use Rattle.canon_ledger.specs.declared.fault.ResourceFault.{ResourceFault}
-use Rattle.canon_ledger.specs.declared.fault.ResourceFault.TheVariants as resource
 use Rattle.canon_leaves.proofs.Leaves.{leaves_same}
-use Rattle.canon_leaves.specs.Parts.{LeavesStop, LeavesTake, refusal_of}
+use Rattle.canon_leaves.specs.Parts.{LeavesTake}
 use Rattle.canon_lowering.proofs.Lowerings.{lawful_second}
 use Rattle.canon_lowering.specs.Attempt.{AnyPointer, LowersArgs}
-use Rattle.canon_lowering.specs.Lowering.{Accepted, AllGood, AllLawful, Answer, BeginsWith, CauseOf, Ending, Meets, Trap, addresses_of, done, refused, short, events_of, marks_of}
+use Rattle.canon_lowering.specs.Lowering.{Accepted, AllGood, Answer, Ending, Meets, addresses_of, done, short, events_of, marks_of}
 use Rattle.canon_lowering.specs.Storing.{narrow}
-use Rattle.canon_value.specs.Fails.{AreSmall, BlamesMembers, Failure, IsTypeFailure, MemberFails, field_name, mismatch, payload_expected, payload_not_expected, unknown_case, unknown_flag, wrong_length}
-use Rattle.canon_value.proofs.Values.{failure_excludes}
-use Rattle.canon_value.specs.Lifts.{AreResults}
-use Rattle.canon_value.specs.Resources.{EndsAs, all_passes, stop_of, told_fault}
-use Rattle.canon_context.specs.Lowers.{fault_ending}
-use Rattle.canon_value.specs.Value.{HaveTrees}
-use Rattle.canon_context.specs.declared.fault.Fault.{Fault}
 use Rattle.canon_context.specs.declared.fault.Fault.TheVariants as fault
-use Rattle.canon_value.specs.declared.val.Val.{Val}
 use Rattle.canon_host.specs.HostSide.{Giving, HostSide}
 use Rattle.canon_func.specs.Asks.{AreServed, Limits}
-use Rattle.canon_func.specs.Call.{Accepts, AcceptsLater, Advances, AfterTurns, AskCause, AsksByTypes, Cause, FaultCause, HandlesPass, IsCall, IsStart, lowering_ending, param_parts, words_within}
-use Rattle.canon_func.specs.Runs.{AskTurn, Each, EndsIn, IsNoPost, IsNoStart, IsTrap, OnReturn, OnStart, asks_in}
-use Rattle.canon_func.specs.Steps.{CoreCall, IsRest, RestCause, TrapsLate}
+use Rattle.canon_func.specs.Call.{Accepts, AcceptsLater, Advances, AfterTurns, AskCause, AsksByTypes, Cause, IsCallOf, IsStart, lowering_ending, words_within}
+use Rattle.canon_func.specs.Passing.{Arguments, Returns}
+use Rattle.canon_func.specs.Runs.{AskTurn, Each, IsNoPost, IsTrap, OnReturn, OnStart, asks_in}
+use Rattle.canon_func.specs.Steps.{IsRest, RestCause}
 use Rattle.canon_func.specs.Stores.{Callee}
 use Rattle.canon_func.specs.declared.error.Error.{Error}
 use Rattle.canon_func.specs.declared.error.Error.TheVariants as error
-use Rattle.canon_func.proofs.Handled.{leaves_excluded}
 use Rattle.canon_func.proofs.Turns.{err_same, marks_then, not_ok}
-use Rattle.canon_func.proofs.Prefixes.{IsEarly, answers_are, answers_early, asks_answers, each_after, each_answer, each_then, ends_after, ends_in_answer, ends_in_trap, grows_answers, grows_from, grows_request, last_lawful, none_trapped, post_then, prefix_after, prefix_requests, return_then, run_after}
+use Rattle.canon_func.proofs.Prefixes.{IsEarly, answers_are, answers_early, asks_answers, each_after, each_answer, each_then, ends_after, grows_answers, grows_from, post_then, prefix_after, return_then, run_after}
 
 pub advances_then : (a b c : Moment) → Advances a b → Advances b c → Advances a c
 advances_then a b c f g = record {
@@ -130,7 +120,7 @@ good_later m n (x ∷ xs) le good = ((good.0.0, omega (arith, le, good.0.1)), go
 
 -- a call that was refused after its parameters were lowered accepted each answer
 accepted_after : {R : Type 0} (its : Returns R) (callee : Callee) (limits : Limits) (mid after : Moment) (ys tail : List Event) (answers : List Answer) (e : Error) → RestCause its callee limits mid after ys tail e
-    → AllGood (length after.bytes) answers → Accepted (lowering_ending {R} (Err e)) (length after.bytes) answers
+    → AllGood (length after.bytes) answers → Accepted (lowering_ending {R = R} (Err e)) (length after.bytes) answers
 accepted_after its callee limits mid after ys tail answers (error.Fault (fault.ReallocMisaligned a)) h good = absurd h
 accepted_after its callee limits mid after ys tail answers (error.Fault (fault.ReallocOutOfBounds a)) h good = absurd h
 accepted_after its callee limits mid after ys tail answers e h good = good
@@ -233,7 +223,7 @@ module _ {T R : Type 0} (args : Arguments) (its : Returns R) (gives : Giving T) 
     accepted = accepted_after its callee limits mid after later rest.tail answers e rest.cause (good_later (length mid.bytes) (length after.bytes) answers on.no_shorter low.start.good);
     marks = all_marks more low.marks marks ∙ ap (λ xs. entry.guest.marks ++ marks_of (answers ++ xs)) rest.answers_are;
     requested = λ ts have. record { left = []; met = low.requested ts have; all = each_start ([] ≡ []) refl later };
-    quiet = asks_started callee.params (lowering_ending {R} (Err e)) answers low.quiet;
+    quiet = asks_started callee.params (lowering_ending {R = R} (Err e)) answers low.quiet;
     given = given;
     handles = inr (inr (l1.ledger, took, after_turns rest.turns _ rest.handles));
     start = each_then _ first later (each_answer _ (λ c a. tt) (λ c n. tt) answers None) (on_start words mid.bytes _ low.start later rest.start);

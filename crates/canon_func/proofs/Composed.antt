@@ -1,5 +1,5 @@
 -- One step of a call after another.
-use Rattle.std.proofs.Common.{Err, List, None, Ok, Result, Some, Vec, Global, [], ap, append_assoc, arith, inl, inr, length, refl, subst, sym, ℕ, ⊎_elim, ◌++◌, ◌∙◌, ◌∷◌, ◌≡◌, ◌≤◌}
+use Rattle.std.proofs.Common.{Err, List, None, Ok, Result, Some, Vec, Global, [], ap, append_assoc, arith, inl, inr, length, refl, subst, sym, ℕ, ◌++◌, ◌∙◌, ◌∷◌, ◌≡◌, ◌≤◌}
 use Rattle.std.specs.Prelude.{IfErr, IsSome, false}
 use Rattle.std.proofs.lemmas.List.{append-nil}
 use Rattle.canon_memory.specs.declared.error.GuestFault.{GuestFault}
@@ -12,25 +12,26 @@ use Rattle.canon_ledger.specs.Ledger.{LedgerState, enter, leave}
 use Rattle.canon_leaves.proofs.Leaves.{stops_at_once}
 use Rattle.canon_leaves.specs.Parts.{LeavesTake}
 use Rattle.canon_lowering.proofs.Lowerings.{goes_none, goes_then}
-use Rattle.canon_lowering.specs.Storing.{narrow}
-use Rattle.canon_value.specs.Resources.{all_resources}
 use Rattle.canon_lowering.specs.Attempt.{LowersArgs}
 use Rattle.canon_lowering.specs.Lowering.{Answer, done, events_of, marks_of}
-use Rattle.canon_value.specs.Value.{HaveTrees}
+use Rattle.canon_context.specs.declared.fault.Fault.{Fault}
 use Rattle.canon_context.specs.declared.fault.Fault.TheVariants as fault
-use Rattle.canon_value.specs.declared.val.Val.{Val}
 use Rattle.canon_host.specs.HostSide.{Giving, HostSide}
 use Rattle.canon_func.specs.Asks.{Limits}
-use Rattle.canon_func.specs.Call.{Adding, Advances, IsCall, Left, OnAnswered, param_parts, result_words}
+use Rattle.canon_func.specs.Call.{Adding, IsCallOf, Left, OnAnswered}
 use Rattle.canon_func.specs.Runs.{AskTurn, answers_in, events_in, posts}
-use Rattle.canon_func.specs.Steps.{Concluded, CoreCall, Proceeds, IsLate, IsRest, Lifted, LoweredArgs, MayRun, Posted, RunsUntil, RestCause, Serving, so_far}
+use Rattle.canon_func.specs.Passing.{Arguments, Returns}
+use Rattle.canon_func.specs.Steps.{Concluded, Ended, Proceeds, IsLate, IsRest, Lifted, LoweredArgs, MayRun, Posted, RunsOut, RunsToEnd, RunsUntil, RestCause, Serving, so_far}
 use Rattle.canon_func.specs.Stores.{Callee}
 use Rattle.canon_func.specs.declared.error.Error.{Error}
 use Rattle.canon_func.specs.declared.error.Error.TheVariants as error
-use Rattle.canon_func.proofs.Calls.{goes_advance, joined, ready, refused_call, short_call}
-use Rattle.canon_func.proofs.Handled.{lifted_stops}
-use Rattle.canon_func.proofs.Turns.{err_same, not_ok}
-use Rattle.canon_func.proofs.Rests.{rest_of_none, rest_of_tail, returned_rest, stopped_rest, words_of_results}
+use Rattle.canon_func.proofs.Calls.{goes_advance, joined, ready}
+use Rattle.canon_func.proofs.Passed.{BlamesRightly, ReadsRightly}
+use Rattle.canon_func.proofs.Refusals.{refused_call, short_call}
+use Rattle.canon_func.proofs.Rests.{returned_rest, unended_tail}
+use Rattle.canon_func.proofs.Tails.{IsTail, rest_of_none, rest_of_tail}
+use Rattle.canon_func.proofs.Turns.{err_same, not_ok, same_le}
+use Rattle.canon_func.proofs.Unserved.{stopped_rest}
 
 -- what follows from a fact for every answer except out of memory
 pub answered : {T : Type 0} (r : Result T Error) (P Q : Type 0) → (P → Q) → OnAnswered r P → OnAnswered r Q
@@ -117,8 +118,8 @@ module _ {T R : Type 0} (its : Returns R) (gives : Giving T) (callee : Callee) (
 module _ {T : Type 0} (gives : Giving T) (callee : Callee) (limits : Limits) (words : List ℕ) (a b : Moment) (l m n : HostSide T) (kept : n ≡ record m { ledger = n.ledger }) (returned : List ℕ) where
   -- the guest returned, and the scope ended so, which changes nothing but the ledger
   out_of : (r : Result (Unit {0}) Error) (answers : List Answer) (es : List Event) → Ended callee returned m.ledger n.ledger r → MayRun gives callee limits words a b l m (Ok returned) answers es → RunsOut gives callee limits words a b l n returned r answers es
-  out_of r answers es ends (inl (is, more)) = absurd (not_ok returned (error.Fault fault.OutOfMemory) is)
-  out_of r answers es ends (inr ran) = record { ran = m; run = ran; ends = ends; kept = kept }
+  out_of r xs es ends (inl (is, none, quiet, same)) = absurd (not_ok returned (error.Fault fault.OutOfMemory) is)
+  out_of r xs es ends (inr ran) = record { ran = m; run = ran; ends = ends; kept = kept }
 
   pub run_ended : (M N : List Event → Type 0) → ((es : List Event) → M es → N es) → Ended callee returned m.ledger n.ledger (Ok tt) → Serving a b M (MayRun gives callee limits words a b l m (Ok returned)) → Serving a b N (RunsToEnd gives callee limits words a b l n (Ok returned))
   run_ended M N f ends first = record { answers = first.answers; events = first.events; goes = first.goes; moves = λ told. f first.events (first.moves told); so = out_of (Ok tt) first.answers first.events ends first.so }

@@ -1,5 +1,5 @@
 -- What lowering the parameters did.
-use Rattle.std.proofs.Common.{Bool, Err, List, None, Ok, Option, Result, Some, [], ap, inl, inr, length, map, refl, subst, sym, true, ℕ, ◌++◌, ◌∙◌, ◌≡◌, ◌≤◌, ◌⊎◌}
+use Rattle.std.proofs.Common.{Bool, Err, List, None, Ok, Option, Result, Some, [], ap, inl, inr, length, map, refl, subst, sym, ℕ, ◌++◌, ◌∙◌, ◌≡◌, ◌≤◌, ◌⊎◌}
 use Rattle.std.specs.Prelude.{IsSome, drop, false, take}
 use Rattle.std.proofs.Math.Seq.{take-append_seam}
 use Rattle.std.proofs.lemmas.Bool.{false≢true}
@@ -62,10 +62,10 @@ untrapped a b answers trap ending cause (inl is) = (subst (λ end. CauseOf a b a
 untrapped a b answers trap ending cause (inr is) = subst (λ end. CauseOf a b answers trap end) is cause
 
 -- whether there are handles or not
-ends_for : {T : Type 0} (some : Bool) (ps : List Passed) (f : Fault) (ending : Ending) → EndsAs {T = T} some ps (Err f) ending → EndsFor f ending
-ends_for some ps fault.OutOfMemory ending (inl is) = inl is
-ends_for some ps fault.OutOfMemory ending (inr both) = inr both.1
-ends_for some ps f ending is = is
+ends_for : (T : Type 0) (some : Bool) (ps : List Passed) (f : Fault) (ending : Ending) → EndsAs {T = T} some ps (Err f) ending → EndsFor f ending
+ends_for T some ps fault.OutOfMemory ending (inl is) = inl is
+ends_for T some ps fault.OutOfMemory ending (inr both) = inr both.1
+ends_for T some ps f ending is = is
 
 -- what a refused lowering says of the guest's moves
 pub refused_moves : {G : Type 0} (V : Type 0) (seen : G → Seen) (moves : GuestIn G → List Event → GuestIn G → Type 0) (g h : GuestIn G) (f : Fault) → Moves seen moves g h (fault_ending f)
@@ -144,7 +144,7 @@ module _ (a b : Moment) (enc : Encoding) (types : Instance) (ms ns : Members) (p
           cross.given,
           cross.ending,
           mine,
-          ends_for (have_handle ms) (all_passes ms params) f cross.ending cross.ends,
+          ends_for (Unit {0}) (have_handle ms) (all_passes ms params) f cross.ending cross.ends,
           subst (λ ks. BlamesMembers enc ks params f) is blames,
           cross.as_told,
           refl,

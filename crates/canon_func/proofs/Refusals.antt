@@ -1,46 +1,33 @@
 -- What a call did whose parameters weren't lowered.
-use Rattle.std.proofs.Common.{Err, inl, inr, List, None, Ok, Option, Result, Some, Vec, Global, [], ap, append_assoc, arith, length, refl, subst, sym, true, ℕ, ◌++◌, ◌%◌, ◌+◌, ◌∷◌, ◌∙◌, ◌≡◌, ◌≤◌}
+use Rattle.std.proofs.Common.{Err, inl, inr, List, None, Option, Some, [], ap, arith, length, refl, subst, sym, ℕ, ◌++◌, ◌%◌, ◌+◌, ◌∷◌, ◌∙◌, ◌≡◌, ◌≤◌}
 use Rattle.std.specs.Prelude.{false}
 use Rattle.std.proofs.lemmas.List.{append-nil}
-use Rattle.canon_model.specs.Flat.{max_params}
-use Rattle.canon_model.specs.Homes.{ParamsHome, PointsTo}
-use Rattle.canon_model.specs.Shape.{Members}
 use Rattle.canon_model.specs.Requests.{Call, Request, params_requests}
 use Rattle.canon_model.specs.Tree.{Trees}
-use Rattle.canon_model.proofs.Frames.{blocks_are_read}
 use Rattle.canon_memory.specs.declared.event.Event.{Event}
-use Rattle.canon_memory.specs.declared.event.Event.TheVariants as event
-use Rattle.canon_memory.specs.Counts.{Rose}
-use Rattle.canon_memory.specs.Guest.{Goes, Mark, Moment}
+use Rattle.canon_memory.specs.Guest.{Moment}
 use Rattle.canon_ledger.specs.Ledger.{enter}
 use Rattle.canon_ledger.specs.declared.fault.ResourceFault.{ResourceFault}
 use Rattle.canon_ledger.specs.declared.fault.ResourceFault.TheVariants as resource
-use Rattle.canon_leaves.proofs.Leaves.{leaves_same}
-use Rattle.canon_leaves.specs.Parts.{LeavesStop, LeavesTake, refusal_of}
-use Rattle.canon_lowering.proofs.Lowerings.{lawful_second}
-use Rattle.canon_lowering.specs.Attempt.{AnyPointer, LowersArgs}
-use Rattle.canon_lowering.specs.Lowering.{Accepted, AllGood, AllLawful, Answer, BeginsWith, CauseOf, Ending, Meets, Trap, addresses_of, done, refused, short, events_of, marks_of}
-use Rattle.canon_lowering.specs.Storing.{narrow}
-use Rattle.canon_value.specs.Fails.{AreSmall, BlamesMembers, Failure, IsTypeFailure, MemberFails, field_name, mismatch, payload_expected, payload_not_expected, unknown_case, unknown_flag, wrong_length}
-use Rattle.canon_value.proofs.Values.{failure_excludes}
-use Rattle.canon_value.specs.Lifts.{AreResults}
-use Rattle.canon_value.specs.Resources.{EndsAs, all_passes, stop_of, told_fault}
+use Rattle.canon_leaves.specs.Parts.{LeavesStop, refusal_of}
+use Rattle.canon_lowering.specs.Attempt.{LowersArgs}
+use Rattle.canon_lowering.specs.Lowering.{Accepted, AllLawful, Answer, BeginsWith, CauseOf, Ending, Meets, Trap, refused, short, events_of, marks_of}
+use Rattle.canon_value.specs.Resources.{stop_of, told_fault}
 use Rattle.canon_context.specs.Lowers.{fault_ending}
-use Rattle.canon_value.specs.Value.{HaveTrees}
 use Rattle.canon_context.specs.declared.fault.Fault.{Fault}
 use Rattle.canon_context.specs.declared.fault.Fault.TheVariants as fault
-use Rattle.canon_value.specs.declared.val.Val.{Val}
 use Rattle.canon_host.specs.HostSide.{Giving, HostSide}
-use Rattle.canon_func.specs.Asks.{AreServed, Limits}
-use Rattle.canon_func.specs.Call.{Accepts, AcceptsLater, Advances, AfterTurns, AskCause, AsksByTypes, Cause, FaultCause, HandlesPass, IsCall, IsStart, lowering_ending, param_parts, words_within}
-use Rattle.canon_func.specs.Runs.{AskTurn, Each, EndsIn, IsNoPost, IsNoStart, IsTrap, OnReturn, OnStart, asks_in}
-use Rattle.canon_func.specs.Steps.{CoreCall, IsRest, RestCause, TrapsLate}
+use Rattle.canon_func.specs.Asks.{Limits}
+use Rattle.canon_func.specs.Call.{Accepts, Advances, AsksByTypes, FaultCause, HandlesPassOf, IsCallOf}
+use Rattle.canon_func.specs.Passing.{Arguments, Returns}
+use Rattle.canon_func.specs.Runs.{Each, EndsIn, IsNoPost, IsNoStart, IsTrap, asks_in}
+use Rattle.canon_func.specs.Steps.{EndsFor, TrapsLate}
 use Rattle.canon_func.specs.Stores.{Callee}
-use Rattle.canon_func.specs.declared.error.Error.{Error}
 use Rattle.canon_func.specs.declared.error.Error.TheVariants as error
+use Rattle.canon_func.proofs.Calls.{goes_advance}
 use Rattle.canon_func.proofs.Handled.{leaves_excluded}
-use Rattle.canon_func.proofs.Turns.{err_same, marks_then, not_ok}
-use Rattle.canon_func.proofs.Prefixes.{IsEarly, answers_are, answers_early, asks_answers, each_after, each_answer, each_then, ends_after, ends_in_answer, ends_in_trap, grows_answers, grows_from, grows_request, last_lawful, none_trapped, post_then, prefix_after, prefix_requests, return_then, run_after}
+use Rattle.canon_func.proofs.Passed.{BlamesRightly, Unfit}
+use Rattle.canon_func.proofs.Prefixes.{asks_answers, each_answer, ends_in_answer, ends_in_trap, grows_request, last_lawful, none_trapped, prefix_requests}
 
 refused_not_short : refused ≡ short → ⊥
 refused_not_short e = cc

@@ -1,55 +1,36 @@
 -- What comes after the turns where the guest didn't return: it trapped, or its last ask isn't resumed.
-use Rattle.std.proofs.Common.{Err, List, None, Ok, Option, Result, Some, Vec, Global, [], ap, append_assoc, arith, inl, inr, length, refl, subst, sym, true, ℕ, ⊎_elim, ◌++◌, ◌+◌, ◌∙◌, ◌∷◌, ◌≡◌, ◌≤◌, ◌<◌}
-use Rattle.std.specs.Prelude.{IfErr, IfOk, IsOkUnless, OnOk, false, slice_get, ◌≢◌}
+use Rattle.std.proofs.Common.{Err, List, None, Ok, Option, Result, Some, [], ap, append_assoc, arith, inl, inr, length, refl, subst, sym, ℕ, ◌++◌, ◌+◌, ◌∙◌, ◌∷◌, ◌≡◌, ◌≤◌, ◌<◌}
+use Rattle.std.specs.Prelude.{slice_get, ◌≢◌}
 use Rattle.std.specs.Option.{option_and_then}
 use Rattle.std.proofs.lemmas.List.{append-nil}
-use Rattle.std.proofs.lemmas.Bool.{cases_lt, le-leb, lt-leb}
-use Rattle.canon_model.specs.Cost.{members_cost}
-use Rattle.canon_model.specs.Flat.{RepResults, max_results}
-use Rattle.canon_model.specs.Layout.{members_flat}
-use Rattle.canon_model.specs.Memory.{Memory}
-use Rattle.canon_model.specs.Reach.{Kind}
-use Rattle.canon_model.specs.Shape.{Members, member_count}
-use Rattle.canon_model.specs.Text.{Encoding}
-use Rattle.canon_model.specs.Tree.{Trees}
-use Rattle.canon_model.proofs.Faults.{fault_excludes}
-use Rattle.canon_model.proofs.Reached.{reach_is_the_cost}
 use Rattle.canon_memory.specs.declared.event.Event.{Event}
 use Rattle.canon_memory.specs.declared.event.Event.TheVariants as event
 use Rattle.canon_memory.specs.Counts.{Rose}
 use Rattle.canon_memory.specs.Guest.{Moment}
 use Rattle.canon_memory.specs.Journal.{asked_trap, trap_event}
 use Rattle.canon_lowering.specs.Lowering.{AllLawful, Answer, Trap, events_of}
-use Rattle.canon_lowering.specs.Storing.{narrow}
-use Rattle.canon_value.proofs.Values.{have_count}
 use Rattle.canon_ledger.specs.Ledger.{Done, LedgerState}
 use Rattle.canon_ledger.specs.declared.fault.ResourceFault.{ResourceFault}
-use Rattle.canon_resources.specs.Held.{Any}
-use Rattle.canon_value.specs.Lifts.{AreResults}
-use Rattle.canon_value.specs.Resources.{all_resources, stop_of}
-use Rattle.canon_context.specs.declared.fault.At.{At}
-use Rattle.canon_context.specs.Told.{place_of}
 use Rattle.canon_context.specs.declared.fault.Fault.{Fault}
 use Rattle.canon_context.specs.declared.fault.Fault.TheVariants as fault
-use Rattle.canon_value.specs.declared.val.Val.{Val}
 use Rattle.canon_context.specs.declared.component.Import.{Import}
 use Rattle.canon_context.specs.declared.component.Import.TheVariants as import
 use Rattle.canon_host.specs.HostSide.{Giving, HostSide}
 use Rattle.canon_host.specs.declared.asked.Asked.{Asked}
-use Rattle.canon_func.specs.Asks.{AcceptsAsk, AreServed, AskStops, BuiltinStops, IsAskOf, Limits, ask_step, builtin_at, builtin_of, host_words, import_words}
-use Rattle.canon_func.specs.Call.{AcceptsLater, Advances, Concludes, HasFault, Left, LiftsReturned, StopsLater, StopsReturned, result_words, stopped_by}
+use Rattle.canon_func.specs.Asks.{AcceptsAsk, AskStops, BuiltinStops, IsAskOf, Limits, ask_step, builtin_at, builtin_of, host_words, import_words}
 use Rattle.canon_func.specs.HostAsks.{AcceptsHost, HostStops, IsHostAsk}
-use Rattle.canon_func.specs.Runs.{AskTurn, Each, EndsAsking, EndsIn, Grows, IsNoPost, IsNoRequest, IsNoResume, IsNoStart, IsPrefixOfRun, IsReturn, IsTrap, MayTrap, OnReturn, OnStart, answers_in, asks_in, events_in, last_len, posts}
-use Rattle.canon_func.specs.Steps.{Concluded, IsRest, Lifted, RestCause, RestPasses, RisesAt, Stopped, StopsInAsk, TrapsLate, TurnsTaken, ask_turn, so_far}
+use Rattle.canon_func.specs.Passing.{Returns}
+use Rattle.canon_func.specs.Runs.{EndsIn, IsNoPost, IsNoResume, IsNoStart, IsTrap, MayTrap, asks_in, last_len, posts}
+use Rattle.canon_func.specs.Steps.{RestCause, RisesAt, Stopped, StopsInAsk, TrapsLate, ask_turn}
 use Rattle.canon_func.specs.Stores.{Callee}
 use Rattle.canon_func.specs.declared.asks.Builtin.{Builtin}
 use Rattle.canon_func.specs.declared.error.Error.{Error}
 use Rattle.canon_func.specs.declared.error.Error.TheVariants as error
-use Rattle.canon_func.proofs.Handled.{returned_excluded}
 use Rattle.canon_func.proofs.HostAccepts.{asked_excluded, is_asked}
 use Rattle.canon_func.proofs.HostStopped.{asked_traps, none_more, refused_alone}
-use Rattle.canon_func.proofs.Prefixes.{IsEarly, asks_answers, each_after, each_answer, each_then, ends_after, ends_in_trap, events_of-trap, grows_request, last_len_answers, past_cost, post_then, prefix_none, return_then}
-use Rattle.canon_func.proofs.Turns.{asks_then, asks_turns, each_turn, events_more, len_then, same_le}
+use Rattle.canon_func.proofs.Prefixes.{asks_answers, each_answer, ends_after, ends_in_trap, events_of-trap, grows_request, last_len_answers}
+use Rattle.canon_func.proofs.Tails.{IsTail, TailPrefix}
+use Rattle.canon_func.proofs.Turns.{asks_then, same_le}
 
 -- an answer that is Ok isn't a refusal
 answered_once : (e : ResourceFault) (a : ℕ) (d : Done ℕ) (l m : LedgerState) → d ≡ record { answer = Err e; after = l } → d ≡ record { answer = Ok a; after = m } → ⊥
