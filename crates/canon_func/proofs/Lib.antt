@@ -3,6 +3,7 @@ pub mod Calls
 pub mod Composed
 pub mod Counts
 pub mod DropLemmas
+pub mod Finishing
 pub mod Handled
 pub mod HostAccepts
 pub mod HostServed

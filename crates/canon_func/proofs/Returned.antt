@@ -1,6 +1,6 @@
--- What the end of the scope and lifting the results did.
-use Rattle.std.proofs.Common.{Err, Global, List, Ok, Result, Some, Vec, ap, inl, inr, length, subst, sym, ℕ, ◌<◌, ◌∙◌, ◌≡◌}
-use Rattle.std.specs.Prelude.{All, IfOk, false, slice_get}
+-- What lifting the results did.
+use Rattle.std.proofs.Common.{Err, Global, List, Ok, Result, Some, Vec, ap, length, subst, sym, ℕ, ◌∙◌, ◌≡◌}
+use Rattle.std.specs.Prelude.{All, IfOk, false, slice_get, true}
 use Rattle.std.proofs.lemmas.List.Elements.{All-get_or}
 use Rattle.std.proofs.lemmas.Option.{get_or_from_slice_get, slice_get_within}
 use Rattle.canon_model.specs.Flat.{max_results}
@@ -10,22 +10,19 @@ use Rattle.canon_types.specs.Table.{Table, tuple_members}
 use Rattle.canon_types.specs.Valid.{HoldNoBorrow}
 use Rattle.canon_types.specs.declared.types.TypeFunc.{TypeFunc}
 use Rattle.canon_ledger.specs.Ledger.{LedgerState}
-use Rattle.canon_ledger.specs.declared.fault.ResourceFault.{ResourceFault}
 use Rattle.canon_lowering.specs.Storing.{narrow}
 use Rattle.canon_context.specs.Lifter.{origin_in}
 use Rattle.canon_context.specs.Core.{Parts, types_of}
 use Rattle.canon_context.specs.declared.component.Export.{Export}
 use Rattle.canon_context.specs.declared.fault.Fault.{Fault}
-use Rattle.canon_context.specs.declared.fault.Fault.TheVariants as fault
 use Rattle.canon_value.proofs.Values.{have_count}
 use Rattle.canon_value.specs.Lifts.{LiftsResults}
 use Rattle.canon_value.specs.Resources.{all_resources}
 use Rattle.canon_value.specs.declared.val.Val.{Val}
-use Rattle.canon_func.specs.Call.{dynamic_results, result_words, returned_leaves, scope_exit, words_within}
-use Rattle.canon_func.specs.Steps.{Ended, Lifted, LiftsIn, items_in}
+use Rattle.canon_func.specs.Call.{dynamic_results, returned_leaves}
+use Rattle.canon_func.specs.Steps.{Lifted, LiftsIn, items_in}
 use Rattle.canon_func.specs.Stores.{Callee, export_callee, results_in}
-use Rattle.canon_func.specs.declared.error.Error.TheVariants as error
-use Rattle.canon_func.proofs.Leaving.{exit_refuses, lifts_scopes}
+use Rattle.canon_func.proofs.Leaving.{lifts_scopes}
 use Rattle.canon_func.proofs.Owned.{values_owned}
 
 -- what was lifted in a context, said of the core that it was made from
@@ -48,25 +45,7 @@ members_are t u i f same found = sym (ap (results_in t) (ap (λ v. slice_get v.f
 pub no_borrow : (t : Table) (i : ℕ) (f : TypeFunc) → slice_get t.funcs i ≡ Some f → All (HoldNoBorrow t) t.funcs → member_borrows (tuple_members t f.results) ≡ false
 no_borrow t i f found all = subst (HoldNoBorrow t) (get_or_from_slice_get t.funcs i f f found) (All-get_or (HoldNoBorrow t) t.funcs i f (slice_get_within t.funcs i f found) all)
 
--- ---- the end of the scope
-
--- the step by which it ended
-exit_is : (l m : LedgerState) (r : Result (Unit {0}) ResourceFault) → r ≡ (scope_exit l).answer → m ≡ (scope_exit l).after → scope_exit l ≡ record { answer = r; after = m }
-exit_is l m r a b = λ i. record { answer = sym a i; after = sym b i }
-
-module _ (callee : Callee) (words : List ℕ) (l m : LedgerState) (count : length words ≡ result_words callee.results) (left : m ≡ (scope_exit l).after) where
-  pub scope_ended : Ok tt ≡ (scope_exit l).answer → Ended callee words l m (Ok tt)
-  scope_ended is = (count, exit_is l m (Ok tt) is left)
-
-  pub scope_kept : (e : ResourceFault) → Err e ≡ (scope_exit l).answer → Ended callee words l m (Err (error.Fault (fault.Resource e)))
-  scope_kept e is = (count, exit_refuses l e (sym is), exit_is l m (Err e) is left)
-
--- as many words as the results of an export take
-pub counted : {T G : Type 0} (core : Parts T G) (export : Export) (types : Table) (f : TypeFunc) (n k : ℕ) → types ≡ types_of core → slice_get types.funcs export.ty ≡ Some f → n ≡ k → k ≡ words_within max_results (tuple_members types f.results)
-    → n ≡ result_words (export_callee core.component export).results
-counted core export types f n k is found a b = a ∙ (b ∙ (ap (λ (t : Table). result_words (tuple_members t f.results)) is ∙ ap result_words (members_are (types_of core) types export.ty f is found)))
-
--- ---- lifting after it ended, of the results of an export
+-- ---- the results of an export
 
 module _ {T G : Type 0} (core : Parts T G) (export : Export) (words : List ℕ) (types : Table) (f : TypeFunc) (m : LedgerState) (is : types ≡ types_of core) (found : slice_get types.funcs export.ty ≡ Some f) where
   abbrev Callee_ : Callee
@@ -78,7 +57,7 @@ module _ {T G : Type 0} (core : Parts T G) (export : Export) (words : List ℕ) 
   of_callee : (result : Result (Vec Val Global) Fault) → Lifts (tuple_members (types_of core) f.results) result → Lifts Callee_.results result
   of_callee result h = subst (λ ms. Lifts ms result) (members_are (types_of core) types export.ty f is found) h
 
-  lifted_so : (result : Result (Vec Val Global) Fault) → All (HoldNoBorrow types) types.funcs → Lifts (tuple_members (types_of core) f.results) result → Lifted (dynamic_results Callee_) core.fuel words core.memory core.ledger m (items_in result)
+  pub lifted_so : (result : Result (Vec Val Global) Fault) → All (HoldNoBorrow types) types.funcs → Lifts (tuple_members (types_of core) f.results) result → Lifted (dynamic_results Callee_) core.fuel words core.memory core.ledger m (items_in result)
   lifted_so (Err e) valid h = let lifts = of_callee (Err e) h in (lifts.1.err, lifts.1.handles)
   lifted_so (Ok vals) valid h =
       let lifts = of_callee (Ok vals) h in
@@ -86,7 +65,6 @@ module _ {T G : Type 0} (core : Parts T G) (export : Export) (words : List ℕ) 
       let owned = values_owned (narrow core.memory) words max_results Callee_.results none in
       (lifts.0, lifts.1.ok, lifts.1.handles, lifts_scopes Callee_.types core.ledger m (returned_leaves Callee_ words core.memory) (all_resources vals.items) owned lifts.1.handles)
 
-  pub lifts_so : (result : Result (Vec Val Global) Fault) → All (HoldNoBorrow types) types.funcs → Lifts (tuple_members (types_of core) f.results) result
-      → Lifted (dynamic_results Callee_) core.fuel words core.memory core.ledger m (items_in result) × IfOk result (λ vals. length vals.items ≡ member_count Callee_.results)
-  lifts_so (Err e) valid h = (lifted_so (Err e) valid h, tt)
-  lifts_so (Ok vals) valid h = let are = (of_callee (Ok vals) h).1.ok in (lifted_so (Ok vals) valid h, have_count true Callee_.results vals.items are.its_trees are.have)
+  pub lifted_count : (result : Result (Vec Val Global) Fault) → Lifts (tuple_members (types_of core) f.results) result → IfOk result (λ vals. length vals.items ≡ member_count Callee_.results)
+  lifted_count (Err e) h = tt
+  lifted_count (Ok vals) h = let are = (of_callee (Ok vals) h).1.ok in have_count true Callee_.results vals.items are.its_trees are.have

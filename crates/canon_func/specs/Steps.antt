@@ -4,6 +4,7 @@ use Rattle.std.specs.declared.alloc.Global.{Global}
 use Rattle.canon_model.specs.Flat.{max_params}
 use Rattle.canon_model.specs.Layout.{members_flat}
 use Rattle.canon_model.specs.Reach.{badly_spelled, misaligned, no_case, no_scalar, out_of_bounds}
+use Rattle.canon_model.specs.Shape.{Members}
 use Rattle.canon_model.specs.Text.{in_utf16, in_utf8}
 use Rattle.canon_memory.specs.declared.event.Event.{Event}
 use Rattle.canon_memory.specs.declared.event.Event.TheVariants as event
@@ -17,10 +18,12 @@ use Rattle.canon_value.specs.Fails.{AreSmall, BlamesMembers}
 use Rattle.canon_ledger.specs.Ledger.{LedgerState, leave}
 use Rattle.canon_leaves.specs.Parts.{LeavesStop, LeavesTake, refusal_of}
 use Rattle.canon_value.specs.Args.{LowersParams}
+use Rattle.canon_value.specs.Lifts.{LiftsResults}
 use Rattle.canon_value.specs.Resources.{Crosses, QuietBut, all_passes, stop_of, told_fault}
 use Rattle.canon_types.specs.Table.{tuple_members}
 use Rattle.canon_context.specs.Asks.{SameButHandles}
 use Rattle.canon_context.specs.Core.{Parts, SameButLedger, encoding_by, guest_of, moment_of, types_of}
+use Rattle.canon_context.specs.Lifter.{Origin}
 use Rattle.canon_context.specs.Lowers.{ending_of, fault_ending}
 use Rattle.canon_context.specs.Moves.{Moves}
 use Rattle.canon_context.specs.Quiet.{have_block, have_handle}
@@ -318,13 +321,18 @@ module _ {T R : Type 0} (its : Returns R) (gives : Giving T) (callee : Callee) (
         → ((served : HostSide T) → AreServed gives callee limits.fuel turns host served → AcceptsLater its gives callee limits.fuel served tail)
         → IsOkUnless answer (error.Fault fault.OutOfMemory)
 
--- ---- the whole of a call with dynamic values, before the results are written
+-- ---- a call with dynamic values
+
+-- results were lifted with this fuel, some of which is left
+abbrev pub LiftsIn : Origin → List ℕ → Members → LedgerState → ℕ → Result (Vec Val Global) Fault → LedgerState → Type 0
+LiftsIn o words ms before fuel result after = (left : ℕ) × LiftsResults o words ms before fuel result after left
 
 -- the values in a vector
 abbrev pub items_in : {E : Type 0} → Result (Vec Val Global) E → Result (List Val) E
 items_in (Ok values) = Ok values.items
 items_in (Err e) = Err e
 
+-- the whole, before the results are written
 abbrev pub CoreCall : {T : Type 0} → Giving T → Callee → Limits → (List ℕ → List ℕ → Type 0) → List Val → Moment → Moment → HostSide T → HostSide T → Result (Vec Val Global) Error → List Event → Type 0
 CoreCall gives callee limits Leaves params before after host left answer events =
     IsCallOf (dynamic callee params) (dynamic_results callee) Leaves gives callee limits before after host left (items_in answer) events

@@ -12,7 +12,7 @@ use Rattle.canon_func.specs.Stores.{export_callee}
 use Rattle.canon_func.specs.declared.error.Error.TheVariants as error
 use Rattle.canon_func.proofs.Asking.{ledger_kept, side_ledger}
 use Rattle.canon_func.proofs.Composed.{InScope, entered_call, scope_short}
-use Rattle.canon_func.proofs.steps.call_core.Goals as goal
+use Rattle.canon_func.proofs.dynamic.call_core.Goals as goal
 
 pub returns-in-Ok-clause-call : goal.returns-in-Ok-clause-call
 returns-in-Ok-clause-call g c =

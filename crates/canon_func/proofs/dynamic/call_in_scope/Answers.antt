@@ -10,7 +10,7 @@ use Rattle.canon_func.specs.Steps.{IsRest, Serving}
 use Rattle.canon_func.specs.Stores.{export_callee}
 use Rattle.canon_func.proofs.Asking.{side_handles, told_after_lowering}
 use Rattle.canon_func.proofs.Composed.{answered, call_refused, call_started, lowered_is_late, rest_is_late}
-use Rattle.canon_func.proofs.steps.call_in_scope.Goals as goal
+use Rattle.canon_func.proofs.dynamic.call_in_scope.Goals as goal
 
 pub returns-in-Ok-clause-call : goal.returns-in-Ok-clause-call
 returns-in-Ok-clause-call g c =

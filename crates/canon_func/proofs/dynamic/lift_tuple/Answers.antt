@@ -1,6 +1,6 @@
 use Rattle.std.proofs.Common.{rules}
 use Rattle.canon_func.proofs.Returned.{lifts_at}
-use Rattle.canon_func.proofs.steps.lift_ended.Goals as goal
+use Rattle.canon_func.proofs.dynamic.lift_tuple.Goals as goal
 
 pub returns-clause-lifts : goal.returns-clause-lifts
 returns-clause-lifts g c =

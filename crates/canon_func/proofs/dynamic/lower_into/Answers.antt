@@ -1,6 +1,6 @@
 use Rattle.std.proofs.Common.{rules}
 use Rattle.canon_func.proofs.Lowered.{lowers_at}
-use Rattle.canon_func.proofs.steps.lower_into.Goals as goal
+use Rattle.canon_func.proofs.dynamic.lower_into.Goals as goal
 
 pub returns : goal.returns
 returns g c =

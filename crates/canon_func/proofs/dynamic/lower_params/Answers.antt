@@ -8,7 +8,7 @@ use Rattle.canon_func.specs.Call.{OnAnswered, words_within}
 use Rattle.canon_func.specs.Stores.{params_in}
 use Rattle.canon_func.specs.declared.error.Error.TheVariants as error
 use Rattle.canon_func.proofs.Lowered.{lowered_done, lowered_refused, refused_moves, written}
-use Rattle.canon_func.proofs.steps.lower_params.Goals as goal
+use Rattle.canon_func.proofs.dynamic.lower_params.Goals as goal
 
 -- the members of the tuple are the callee's parameters
 members_are : (t u : Table) (i : ℕ) (f : TypeFunc) → u ≡ t → slice_get u.funcs i ≡ Some f → tuple_members t f.params ≡ params_in t (slice_get t.funcs i)
