@@ -1,6 +1,6 @@
 -- What lifting the results did.
 use Rattle.std.proofs.Common.{Err, Global, List, Ok, Result, Some, Vec, ap, length, subst, sym, ℕ, ◌∙◌, ◌≡◌}
-use Rattle.std.specs.Prelude.{All, IfOk, false, slice_get, true}
+use Rattle.std.specs.Prelude.{All, IfErr, IfOk, false, slice_get, true}
 use Rattle.std.proofs.lemmas.List.Elements.{All-get_or}
 use Rattle.std.proofs.lemmas.Option.{get_or_from_slice_get, slice_get_within}
 use Rattle.canon_model.specs.Flat.{max_results}
@@ -20,8 +20,9 @@ use Rattle.canon_value.specs.Lifts.{LiftsResults}
 use Rattle.canon_value.specs.Resources.{all_resources}
 use Rattle.canon_value.specs.declared.val.Val.{Val}
 use Rattle.canon_func.specs.Call.{dynamic_results, returned_leaves}
-use Rattle.canon_func.specs.Steps.{Lifted, LiftsIn, items_in}
+use Rattle.canon_func.specs.Steps.{IsLate, Lifted, LiftsIn, items_in}
 use Rattle.canon_func.specs.Stores.{Callee, export_callee, results_in}
+use Rattle.canon_func.specs.declared.error.Error.{Error}
 use Rattle.canon_func.proofs.Leaving.{lifts_scopes}
 use Rattle.canon_func.proofs.Owned.{values_owned}
 
@@ -68,3 +69,8 @@ module _ {T G : Type 0} (core : Parts T G) (export : Export) (words : List ℕ) 
   pub lifted_count : (result : Result (Vec Val Global) Fault) → Lifts (tuple_members (types_of core) f.results) result → IfOk result (λ vals. length vals.items ≡ member_count Callee_.results)
   lifted_count (Err e) h = tt
   lifted_count (Ok vals) h = let are = (of_callee (Ok vals) h).1.ok in have_count true Callee_.results vals.items are.its_trees are.have
+
+-- its refusal isn't one before the guest is entered
+pub items_late : (result : Result (Vec Val Global) Error) → IfErr (items_in result) IsLate → IfErr result IsLate
+items_late (Ok vals) h = h
+items_late (Err e) h = h

@@ -1,7 +1,7 @@
 //! Calls with dynamic values.
 
 ghost use Rattle.std.specs.Prelude.{◌≡◌, IfErr, IfOk, length};
-ghost use Rattle.canon_model.specs.Flat.{max_results};
+ghost use Rattle.canon_model.specs.Flat.{max_params, max_results};
 ghost use Rattle.canon_model.specs.Shape.{member_count};
 ghost use Rattle.canon_types.specs.Table.{HasTuple, tuple_members};
 ghost use Rattle.canon_context.specs.Asks.{SameButHandles};
