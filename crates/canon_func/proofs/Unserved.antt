@@ -136,7 +136,7 @@ module _ {T R : Type 0} (its : Returns R) (gives : Giving T) (callee : Callee) (
     asks = λ none. omega (arith, few);
     only_results = tt;
     posted = λ some. absurd (some (tt, tt));
-      leaves = tt;
+    leaves = tt;
     handles = inl (inl (refl, ap (λ s. s.ledger) same, inl (tt, tt), tt), kept_side served left same);
     cause = λ xs told. (rose, ends_after IsTrap xs (trap_event len ∷ []) tt);
     valid = λ lawful rest calm few right accepted. absurd (calm tt);
@@ -160,7 +160,7 @@ module _ {T R : Type 0} (its : Returns R) (gives : Giving T) (callee : Callee) (
       asks = λ other. one_more count (asks_in (events_of late trap)) limits.turns (asks_late late trap) (few other);
       only_results = tt;
       posted = λ some. absurd (some (tt, each_answer IsNoPost (λ c a. tt) (λ c n. tt) late trap));
-          leaves = tt;
+      leaves = tt;
       handles = inr stops;
       cause = cause;
       valid = λ lawful rest calm within right accepted. excluded lawful (untrapped_late index asked memory late trap calm) rest (one_fewer count (asks_in (events_of late trap)) limits.turns within) accepted.0;

@@ -20,9 +20,7 @@ use crate::steps::{conclude, run, word_count};
 use canon_host::Imports;
 use canon_memory::{Guest, ValRaw};
 use canon_types::{MAX_FLAT_PARAMS, TypeTupleIndex};
-use canon_value::{
-    Core, Export, Fault, LiftContext, LowerContext, Val, lift_results, lower_args,
-};
+use canon_value::{Core, Export, Fault, LiftContext, LowerContext, Val, lift_results, lower_args};
 use std::alloc::Global;
 
 /// Calls with dynamic values: opens a scope, lowers the parameters, runs the guest, ends the scope, lifts what the guest

@@ -91,11 +91,7 @@ pub(crate) fn run<T, G: Guest, I: Imports<T, G>>(
 }
 
 /// Ends the call's scope, where the guest returned as many words as the results take.
-fn end_scope<T, G>(
-    core: &mut Core<T, G>,
-    export: &Export,
-    words: &[ValRaw],
-) -> Result<(), Error>
+fn end_scope<T, G>(core: &mut Core<T, G>, export: &Export, words: &[ValRaw]) -> Result<(), Error>
     requires inside { IsInside core.old.component export.now }
     ensures ended { Ended (export_callee core.old.component export.now) words.now core.old.ledger core.new.ledger result }
     ensures same { SameButLedger core.old core.new }
