@@ -176,7 +176,8 @@ module _ {T R : Type 0} (args : Arguments) (its : Returns R) (gives : Giving T) 
   all_marks more first second = second ∙ (ap (λ ms. ms ++ marks_of more) first ∙ (append_assoc entry.guest.marks (marks_of answers) (marks_of more) ∙ ap (λ ms. entry.guest.marks ++ ms) (sym (marks_then answers more))))
 
   pub joined : (more : List Answer) (answer : Result R Error) → IsReady args callee entry mid words answers given → LeavesTake (enter l0.ledger) args.parts given l1.ledger → Advances entry mid → Advances mid after
-      → after.guest.marks ≡ mid.guest.marks ++ marks_of more → IsRest its gives callee limits Leaves words mid after l1 l2 answer more later → IsCallOf args its Leaves gives callee limits entry after l0 l2 answer (events_of answers None ++ later)
+      → after.guest.marks ≡ mid.guest.marks ++ marks_of more → IsRest its gives callee limits Leaves words mid after l1 l2 answer more later
+      → IsCallOf args its Leaves gives callee limits entry after l0 l2 answer (events_of answers None ++ later)
   joined more (Ok results) low took goes on marks rest = record {
     one_run = run_after callee.func callee.post (events_of answers None) later (answers_are answers) rest.one_run;
     prefix = prefix_after callee.func callee.post (length entry.bytes) (events_of answers None) later (answers_are answers) (rest.prefix (length entry.bytes));

@@ -73,7 +73,8 @@ module _ {T R : Type 0} (its : Returns R) (gives : Giving T) (callee : Callee) (
 
   -- the guest returned, and the scope ended
   pub run_returned : (a b c : Moment) (l m l2 : HostSide T) → l2 ≡ record m { ledger = l2.ledger } → (returned : List ℕ) (answer : Result R Error) (M N O : List Event → Type 0) → ((xs ys : List Event) → M xs → N ys → O (xs ++ ys))
-      → Serving a b M (RunsToEnd gives callee limits words a b l m (Ok returned)) → Proceeds b c N (Concluded its Leaves callee limits.fuel returned b c m.ledger l2.ledger answer) → Serving a c O (IsRest its gives callee limits Leaves words a c l l2 answer)
+      → Serving a b M (RunsToEnd gives callee limits words a b l m (Ok returned)) → Proceeds b c N (Concluded its Leaves callee limits.fuel returned b c m.ledger l2.ledger answer)
+      → Serving a c O (IsRest its gives callee limits Leaves words a c l l2 answer)
   run_returned a b c l m l2 kept returned answer M N O f first second =
       let out = first.so in
       let whole : l2 ≡ record out.ran { ledger = l2.ledger } = subst (λ (k : HostSide T). l2 ≡ record k { ledger = l2.ledger }) out.kept kept in
@@ -87,7 +88,8 @@ module _ {T R : Type 0} (its : Returns R) (gives : Giving T) (callee : Callee) (
             m.ledger out.ends.0 out.ends.1 answer second.events second.so);
       }
 
-  rest_stopped : (a b : Moment) (l l2 : HostSide T) (e : Error) (answers : List Answer) (xs : List Event) → length a.bytes ≤ length b.bytes → MayRun gives callee limits words a b l l2 (Err e) answers xs → IsRest its gives callee limits Leaves words a b l l2 (Err e) answers xs
+  rest_stopped : (a b : Moment) (l l2 : HostSide T) (e : Error) (answers : List Answer) (xs : List Event) → length a.bytes ≤ length b.bytes → MayRun gives callee limits words a b l l2 (Err e) answers xs
+      → IsRest its gives callee limits Leaves words a b l l2 (Err e) answers xs
   rest_stopped a b l l2 e answers xs longer (inl (is, none, quiet, same)) =
       subst (λ k. IsRest its gives callee limits Leaves words a b l k (Err e) answers xs) (sym same) (subst (λ es. IsRest its gives callee limits Leaves words a b l l (Err e) answers es) (sym none)
       (subst (λ ys. IsRest its gives callee limits Leaves words a b l l (Err e) ys []) (sym quiet)
@@ -97,14 +99,16 @@ module _ {T R : Type 0} (its : Returns R) (gives : Giving T) (callee : Callee) (
       (stopped_rest its gives callee limits Leaves a b (length ran.turns) ran.len ran.served l2 e ran.late ran.late_trap ran.tail ran.longer ran.few ran.stopped))
 
   -- the guest stopped, or it returned and the scope didn't end
-  rest_refused : (a b : Moment) (l l2 : HostSide T) (e : Error) (answers : List Answer) (xs : List Event) → length a.bytes ≤ length b.bytes → RunsToEnd gives callee limits words a b l l2 (Err e) answers xs → IsRest its gives callee limits Leaves words a b l l2 (Err e) answers xs
+  rest_refused : (a b : Moment) (l l2 : HostSide T) (e : Error) (answers : List Answer) (xs : List Event) → length a.bytes ≤ length b.bytes → RunsToEnd gives callee limits words a b l l2 (Err e) answers xs
+      → IsRest its gives callee limits Leaves words a b l l2 (Err e) answers xs
   rest_refused a b l l2 e answers xs longer (inl ran) = rest_stopped a b l l2 e answers xs longer ran
   rest_refused a b l l2 e answers xs longer (inr (returned, out)) =
       subst (λ es. IsRest its gives callee limits Leaves words a b l l2 (Err e) answers es) (append-nil xs)
       (rest_of_ran a b b l out.ran l2 returned (Err e) answers xs [] out.run
       (unended_tail its gives callee limits Leaves law a b (length out.run.turns) out.run.len out.ran l2 out.kept returned b.bytes out.run.few out.run.longer (same_le (length b.bytes)) e out.ends))
 
-  pub run_refused : (a b : Moment) (l l2 : HostSide T) (e : Error) (M N : List Event → Type 0) → ((es : List Event) → M es → N es) → Serving a b M (RunsToEnd gives callee limits words a b l l2 (Err e)) → Serving a b N (IsRest its gives callee limits Leaves words a b l l2 (Err e))
+  pub run_refused : (a b : Moment) (l l2 : HostSide T) (e : Error) (M N : List Event → Type 0) → ((es : List Event) → M es → N es) → Serving a b M (RunsToEnd gives callee limits words a b l l2 (Err e))
+      → Serving a b N (IsRest its gives callee limits Leaves words a b l l2 (Err e))
   run_refused a b l l2 e M N f first = record {
     answers = first.answers;
     events = first.events;
@@ -117,19 +121,18 @@ module _ {T R : Type 0} (its : Returns R) (gives : Giving T) (callee : Callee) (
 
 module _ {T : Type 0} (gives : Giving T) (callee : Callee) (limits : Limits) (words : List ℕ) (a b : Moment) (l m n : HostSide T) (kept : n ≡ record m { ledger = n.ledger }) (returned : List ℕ) where
   -- the guest returned, and the scope ended so, which changes nothing but the ledger
-  out_of : (r : Result (Unit {0}) Error) (answers : List Answer) (es : List Event) → Ended callee returned m.ledger n.ledger r → MayRun gives callee limits words a b l m (Ok returned) answers es → RunsOut gives callee limits words a b l n returned r answers es
+  out_of : (r : Result (Unit {0}) Error) (answers : List Answer) (es : List Event) → Ended callee returned m.ledger n.ledger r → MayRun gives callee limits words a b l m (Ok returned) answers es
+      → RunsOut gives callee limits words a b l n returned r answers es
   out_of r xs es ends (inl (is, none, quiet, same)) = absurd (not_ok returned (error.Fault fault.OutOfMemory) is)
   out_of r xs es ends (inr ran) = record { ran = m; run = ran; ends = ends; kept = kept }
 
-  pub run_ended : (M N : List Event → Type 0) → ((es : List Event) → M es → N es) → Ended callee returned m.ledger n.ledger (Ok tt) → Serving a b M (MayRun gives callee limits words a b l m (Ok returned)) → Serving a b N (RunsToEnd gives callee limits words a b l n (Ok returned))
+  pub run_ended : (M N : List Event → Type 0) → ((es : List Event) → M es → N es) → Ended callee returned m.ledger n.ledger (Ok tt) → Serving a b M (MayRun gives callee limits words a b l m (Ok returned))
+      → Serving a b N (RunsToEnd gives callee limits words a b l n (Ok returned))
   run_ended M N f ends first = record { answers = first.answers; events = first.events; goes = first.goes; moves = λ told. f first.events (first.moves told); so = out_of (Ok tt) first.answers first.events ends first.so }
 
-  pub run_unended : (e : Error) (M N : List Event → Type 0) → ((es : List Event) → M es → N es) → Ended callee returned m.ledger n.ledger (Err e) → Serving a b M (MayRun gives callee limits words a b l m (Ok returned)) → Serving a b N (RunsToEnd gives callee limits words a b l n (Err e))
+  pub run_unended : (e : Error) (M N : List Event → Type 0) → ((es : List Event) → M es → N es) → Ended callee returned m.ledger n.ledger (Err e) → Serving a b M (MayRun gives callee limits words a b l m (Ok returned))
+      → Serving a b N (RunsToEnd gives callee limits words a b l n (Err e))
   run_unended e M N f ends first = record { answers = first.answers; events = first.events; goes = first.goes; moves = λ told. f first.events (first.moves told); so = inr (returned, out_of (Err e) first.answers first.events ends first.so) }
-
--- the guest stopped before
-pub run_stopped : {T : Type 0} (gives : Giving T) (callee : Callee) (limits : Limits) (words : List ℕ) (a b : Moment) (l m : HostSide T) (e : Error) (M : List Event → Type 0) → Serving a b M (MayRun gives callee limits words a b l m (Err e)) → Serving a b M (RunsToEnd gives callee limits words a b l m (Err e))
-run_stopped gives callee limits words a b l m e M first = record { answers = first.answers; events = first.events; goes = first.goes; moves = first.moves; so = inl first.so }
 
 -- ---- after the scope ended
 
@@ -219,9 +222,11 @@ module _ {T R : Type 0} (args : Arguments) (its : Returns R) (gives : Giving T) 
     so = short_call args its gives callee limits Leaves (moment s bytes) (moment s bytes) l0 l2 refl (inl (refl, refl, same));
   }
 
-  core_refused : BlamesRightly args → (a b : Moment) (l0 l2 : HostSide T) → l2 ≡ record l0 { ledger = l2.ledger } → (e : Error) (es : List Event) → LoweredArgs args callee a b (enter l0.ledger) l2.ledger (Err e) es → IsCallOf args its Leaves gives callee limits a b l0 l2 (Err e) es
+  core_refused : BlamesRightly args → (a b : Moment) (l0 l2 : HostSide T) → l2 ≡ record l0 { ledger = l2.ledger } → (e : Error) (es : List Event) → LoweredArgs args callee a b (enter l0.ledger) l2.ledger (Err e) es
+      → IsCallOf args its Leaves gives callee limits a b l0 l2 (Err e) es
   core_refused law a b l0 l2 left (error.Fault f) es (inl (short, same, kept, none)) = subst (λ fs. IsCallOf args its Leaves gives callee limits a b l0 l2 (Err (error.Fault f)) fs) (sym none)
-      (subst (λ g. IsCallOf args its Leaves gives callee limits a b l0 l2 (Err (error.Fault g)) []) (sym short) (short_call args its gives callee limits Leaves a b l0 l2 same (inr (inl (tt, stops_at_once (enter l0.ledger) l2.ledger args.parts kept, left)))))
+      (subst (λ g. IsCallOf args its Leaves gives callee limits a b l0 l2 (Err (error.Fault g)) []) (sym short)
+      (short_call args its gives callee limits Leaves a b l0 l2 same (inr (inl (tt, stops_at_once (enter l0.ledger) l2.ledger args.parts kept, left)))))
   core_refused law a b l0 l2 left (error.Fault f) es (inr (words, handles, ending, low, ends, blames, told, is, quiet, stops)) = subst (λ fs. IsCallOf args its Leaves gives callee limits a b l0 l2 (Err (error.Fault f)) fs) (sym is)
       (refused_call args its gives callee limits Leaves law a b l0 l2 left f ending words handles low ends blames told quiet stops)
   core_refused law a b l0 l2 left error.WrongCount es h = absurd h
@@ -238,7 +243,8 @@ module _ {T R : Type 0} (args : Arguments) (its : Returns R) (gives : Giving T) 
   InScope l a b l2 answer es = (before : LedgerState) → enter before ≡ l.ledger → IsCallOf args its Leaves gives callee limits a b (record l { ledger = before }) l2 answer es
 
   -- the parameters were lowered
-  pub call_started : (a b c : Moment) (l l1 l2 : HostSide T) → l1 ≡ record l { ledger = l1.ledger } → (words : Vec ℕ Global) (answer : Result R Error) (M N O : List Event → Type 0) → (IsSome a.guest.journal → IsSome b.guest.journal) → ((xs ys : List Event) → M xs → N ys → O (xs ++ ys))
+  pub call_started : (a b c : Moment) (l l1 l2 : HostSide T) → l1 ≡ record l { ledger = l1.ledger } → (words : Vec ℕ Global) (answer : Result R Error) (M N O : List Event → Type 0)
+      → (IsSome a.guest.journal → IsSome b.guest.journal) → ((xs ys : List Event) → M xs → N ys → O (xs ++ ys))
       → Adding a b M (LoweredArgs args callee a b l.ledger l1.ledger (Ok words)) → Serving b c N (IsRest its gives callee limits Leaves words.items b c l1 l2 answer) → Adding a c O (InScope l a c l2 answer)
   call_started a b c l l1 l2 same words answer M N O told f first second =
       let low : LowersArgs false a b callee.encoding callee.params args.are words.items first.so.0 done = first.so.1 in
@@ -255,7 +261,8 @@ module _ {T R : Type 0} (args : Arguments) (its : Returns R) (gives : Giving T) 
       }
 
   -- they weren't
-  pub call_refused : BlamesRightly args → (a b : Moment) (l l2 : HostSide T) → l2 ≡ record l { ledger = l2.ledger } → (e : Error) (M : List Event → Type 0) → Adding a b M (LoweredArgs args callee a b l.ledger l2.ledger (Err e)) → Adding a b M (InScope l a b l2 (Err e))
+  pub call_refused : BlamesRightly args → (a b : Moment) (l l2 : HostSide T) → l2 ≡ record l { ledger = l2.ledger } → (e : Error) (M : List Event → Type 0)
+      → Adding a b M (LoweredArgs args callee a b l.ledger l2.ledger (Err e)) → Adding a b M (InScope l a b l2 (Err e))
   call_refused law a b l l2 same e M low = record {
     events = low.events;
     added = low.added;
@@ -264,7 +271,8 @@ module _ {T R : Type 0} (args : Arguments) (its : Returns R) (gives : Giving T) 
   }
 
   -- the scope was opened
-  pub entered_call : (a b : Moment) (l0 l l2 : HostSide T) (answer : Result R Error) (M : List Event → Type 0) → l ≡ record l0 { ledger = enter l0.ledger } → Adding a b M (InScope l a b l2 answer) → Adding a b M (IsCallOf args its Leaves gives callee limits a b l0 l2 answer)
+  pub entered_call : (a b : Moment) (l0 l l2 : HostSide T) (answer : Result R Error) (M : List Event → Type 0) → l ≡ record l0 { ledger = enter l0.ledger } → Adding a b M (InScope l a b l2 answer)
+      → Adding a b M (IsCallOf args its Leaves gives callee limits a b l0 l2 answer)
   entered_call a b l0 l l2 answer M entered h = record {
     events = h.events;
     added = h.added;

@@ -18,6 +18,7 @@ pub mod Refusals
 pub mod Rests
 pub mod Returned
 pub mod Scoped
+pub mod Starting
 pub mod Tails
 pub mod Throughs
 pub mod Turns

@@ -50,7 +50,8 @@ lowers_at seen moves core made after b options own tuple params words result sam
     (subst (λ k. LowersFor seen moves k after own tuple params words result) same h))
 
 -- how a lowering ended that asked for nothing
-pub ending_quiet : (some : Bool) (ps : List Passed) (f : Fault) (ending : Ending) → EndsAs {T = Unit {0}} some ps (Err f) ending → (fault_ending f ≡ refused) ⊎ (UsesLedger some ps × (f ≡ fault.OutOfMemory)) → (ending ≡ short) ⊎ (ending ≡ refused)
+pub ending_quiet : (some : Bool) (ps : List Passed) (f : Fault) (ending : Ending) → EndsAs {T = Unit {0}} some ps (Err f) ending → (fault_ending f ≡ refused) ⊎ (UsesLedger some ps × (f ≡ fault.OutOfMemory))
+    → (ending ≡ short) ⊎ (ending ≡ refused)
 ending_quiet some ps fault.OutOfMemory ending (inl is) h = inl is
 ending_quiet some ps fault.OutOfMemory ending (inr both) h = inr both.1
 ending_quiet some ps f ending is (inl e) = inr (is ∙ e)

@@ -72,7 +72,8 @@ module _ {T : Type 0} (gives : Giving T) (callee : Callee) (fuel : ℕ) where
     whole_first : (lifted : LedgerState) → Through before.ledger (asked_steps callee asked words memory before.ledger) lifted → after.ledger ≡ lifted → Partway before.ledger (asked_steps callee asked words memory before.ledger) after.ledger
     whole_first lifted first same = through_partway before.ledger after.ledger (asked_steps callee asked words memory before.ledger) (subst (λ k. Through before.ledger (asked_steps callee asked words memory before.ledger) k) (sym same) first)
 
-    given_partway : (results : List Val) (called : LedgerState) → StopsGiven gives callee fuel asked index words memory memory2 answers trap before after e results called → Partway called (given_steps callee asked results called) after.ledger
+    given_partway : (results : List Val) (called : LedgerState) → StopsGiven gives callee fuel asked index words memory memory2 answers trap before after e results called
+        → Partway called (given_steps callee asked results called) after.ledger
     given_partway results called (inl (f, told, bad, left, quiet)) = inl left
     given_partway results called (inr (at, place, inl (x, told, refused, quiet))) =
         inr (inl (x, ap (λ (d : Done (Unit {0})). (numbered (λ _. 0) d).answer) refused, sym (ap (λ (d : Done (Unit {0})). d.after) refused)))
@@ -82,7 +83,8 @@ module _ {T : Type 0} (gives : Giving T) (callee : Callee) (fuel : ℕ) where
         (compose_parts ended (leave ended) after.ledger (Leave ∷ []) (leaves_steps (leave ended) (given_parts callee asked results)) (left_through ended (leave ended) (ended_can_leave called ended ends) refl)
         (leaves_partway (stop_of f) (leave ended) after.ledger (given_parts callee asked results) lowers.crosses.passed.0)))
 
-    called_partway : (params : Vec Val Global) (lifted : LedgerState) → AskLifts callee fuel asked words memory (enter before.ledger) (Ok params) lifted → StopsCalled gives callee fuel asked index words memory memory2 answers trap before after e params lifted
+    called_partway : (params : Vec Val Global) (lifted : LedgerState) → AskLifts callee fuel asked words memory (enter before.ledger) (Ok params) lifted
+        → StopsCalled gives callee fuel asked index words memory memory2 answers trap before after e params lifted
         → AskPartway callee index words memory before.ledger after.ledger
     called_partway params lifted lift (inl (short, left, same, quiet)) = inr (inr (asked, is, inl (whole_first lifted (lifted_first params lifted lift) left)))
     called_partway params lifted lift (inr (inl (why, told, steps, gave, quiet))) = inr (inr (asked, is, inr ([], lifted, after.ledger, lifted_first params lifted lift, steps, inl refl)))
@@ -103,11 +105,13 @@ module _ {T : Type 0} (gives : Giving T) (callee : Callee) (fuel : ℕ) where
   builtin_partway : (index : ℕ) (words memory : List ℕ) (called : Builtin) (l n : LedgerState) → builtin_at callee index ≡ Some called → n ≡ (ask_step callee.types called words l).after → AskPartway callee index words memory l n
   builtin_partway index words memory called l n known left = inr (inl (called, known, one_step l n _ _ refl left))
 
-  short_partway : (index : ℕ) (words memory : List ℕ) (l n : HostSide T) (h : BuiltinIsShort callee index words l n) → (n.ledger ≡ l.ledger) ⊎ (n.ledger ≡ (ask_step callee.types h.called words l.ledger).after) → AskPartway callee index words memory l.ledger n.ledger
+  short_partway : (index : ℕ) (words memory : List ℕ) (l n : HostSide T) (h : BuiltinIsShort callee index words l n) → (n.ledger ≡ l.ledger) ⊎ (n.ledger ≡ (ask_step callee.types h.called words l.ledger).after)
+      → AskPartway callee index words memory l.ledger n.ledger
   short_partway index words memory l n h (inl same) = inl same
   short_partway index words memory l n h (inr left) = builtin_partway index words memory h.called l.ledger n.ledger h.is.known left
 
-  ask_stops : (e : Error) (l n : HostSide T) (index : ℕ) (words memory memory2 : List ℕ) (answers : List Answer) (trap : Option Trap) → AskStops gives callee fuel e index words memory memory2 answers trap l n → AskPartway callee index words memory l.ledger n.ledger
+  ask_stops : (e : Error) (l n : HostSide T) (index : ℕ) (words memory memory2 : List ℕ) (answers : List Answer) (trap : Option Trap) → AskStops gives callee fuel e index words memory memory2 answers trap l n
+      → AskPartway callee index words memory l.ledger n.ledger
   ask_stops error.TurnsExhausted l n index words memory memory2 answers trap h = inl (ap (λ s. s.ledger) h.0)
   ask_stops (error.UnknownImport k) l n index words memory memory2 answers trap h = inl (ap (λ s. s.ledger) h.2)
   ask_stops error.WrongWords l n index words memory memory2 answers trap h = inl (ap (λ s. s.ledger) h.3)

@@ -85,7 +85,8 @@ module _ {T R : Type 0} (args : Arguments) (its : Returns R) (gives : Giving T) 
   }
 
   -- memory ran out before a request
-  pub short_call : after ≡ entry → HandlesPassOf args its gives callee limits.fuel [] after.bytes [] None before left [] (Err (error.Fault fault.OutOfMemory)) [] [] → IsCallOf args its Leaves gives callee limits entry after before left (Err (error.Fault fault.OutOfMemory)) []
+  pub short_call : after ≡ entry → HandlesPassOf args its gives callee limits.fuel [] after.bytes [] None before left [] (Err (error.Fault fault.OutOfMemory)) [] []
+      → IsCallOf args its Leaves gives callee limits entry after before left (Err (error.Fault fault.OutOfMemory)) []
   short_call e handles = made fault.OutOfMemory [] None (subst (λ m. Advances entry m) (sym e) (record { no_shorter = omega arith; traps_later = omega arith; shortages_later = omega arith })) (λ near none. (refl, refl), λ far. (refl, λ none. tt)) (ap (λ m. m.guest.marks) e ∙ sym (append-nil entry.guest.marks))
       (λ ts have. (params_requests false callee.encoding callee.params ts, λ last. refl)) handles
       (record { late = tt; accepted = tt; cause = tt; valid = λ ts have small lawful calm accepted. refl })
@@ -137,7 +138,8 @@ module _ {T R : Type 0} (args : Arguments) (its : Returns R) (gives : Giving T) 
       (cause (none_started low.answers low.trap) (none_trapped low.answers low.trap low.lowering.cause))
 
   -- how a lowering ended that was refused for a fault of its own
-  refused_by : (f : Fault) (words handles : List ℕ) (low : Low words handles (fault_ending f)) → args.blames f → told_fault f ≡ f → LeavesStop (stop_of f) (enter before.ledger) args.parts left.ledger → Why f (fault_ending f) words handles low
+  refused_by : (f : Fault) (words handles : List ℕ) (low : Low words handles (fault_ending f)) → args.blames f → told_fault f ≡ f → LeavesStop (stop_of f) (enter before.ledger) args.parts left.ledger
+      → Why f (fault_ending f) words handles low
   refused_by (fault.TypeMismatch k) words handles low blames told stops = value_by (fault.TypeMismatch k) words handles low refl (law (fault.TypeMismatch k) blames) (λ unstarted calm. (unstarted, calm, blames))
   refused_by (fault.FieldName k) words handles low blames told stops = value_by (fault.FieldName k) words handles low refl (law (fault.FieldName k) blames) (λ unstarted calm. (unstarted, calm, blames))
   refused_by (fault.UnknownCase k) words handles low blames told stops = value_by (fault.UnknownCase k) words handles low refl (law (fault.UnknownCase k) blames) (λ unstarted calm. (unstarted, calm, blames))
@@ -209,7 +211,8 @@ module _ {T R : Type 0} (args : Arguments) (its : Returns R) (gives : Giving T) 
   asks_as f ending answers trap is h = subst (λ end. AsksByTypes callee.params end answers trap) is h
 
   pub refused_call : left ≡ record before { ledger = left.ledger } → (f : Fault) (ending : Ending) (words handles : List ℕ) (low : Low words handles ending) → EndsFor f ending → args.blames f → told_fault f ≡ f
-      → AsksByTypes callee.params ending low.answers low.trap → LeavesStop (stop_of f) (enter before.ledger) args.parts left.ledger → IsCallOf args its Leaves gives callee limits entry after before left (Err (error.Fault f)) (events_of low.answers low.trap)
+      → AsksByTypes callee.params ending low.answers low.trap → LeavesStop (stop_of f) (enter before.ledger) args.parts left.ledger
+      → IsCallOf args its Leaves gives callee limits entry after before left (Err (error.Fault f)) (events_of low.answers low.trap)
   refused_call kept f ending words handles low is blames told quiet stops =
       made args its gives callee limits Leaves entry after before left f low.answers low.trap (goes_advance entry after _ _ low.lowering.goes) (asks_as f ending low.answers low.trap is quiet) low.lowering.goes.marks (λ ts have. ((low.requested ts have).rest, (low.requested ts have).met))
       (inr (inl (none_started low.answers low.trap, stops, kept))) (refused_so f ending words handles low is blames told stops)

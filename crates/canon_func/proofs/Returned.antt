@@ -58,7 +58,8 @@ module _ {T G : Type 0} (core : Parts T G) (export : Export) (words : List ℕ) 
   of_callee : (result : Result (Vec Val Global) Fault) → Lifts (tuple_members (types_of core) f.results) result → Lifts Callee_.results result
   of_callee result h = subst (λ ms. Lifts ms result) (members_are (types_of core) types export.ty f is found) h
 
-  pub lifted_so : (result : Result (Vec Val Global) Fault) → All (HoldNoBorrow types) types.funcs → Lifts (tuple_members (types_of core) f.results) result → Lifted (dynamic_results Callee_) core.fuel words core.memory core.ledger m (items_in result)
+  pub lifted_so : (result : Result (Vec Val Global) Fault) → All (HoldNoBorrow types) types.funcs → Lifts (tuple_members (types_of core) f.results) result
+      → Lifted (dynamic_results Callee_) core.fuel words core.memory core.ledger m (items_in result)
   lifted_so (Err e) valid h = let lifts = of_callee (Err e) h in (lifts.1.err, lifts.1.handles)
   lifted_so (Ok vals) valid h =
       let lifts = of_callee (Ok vals) h in

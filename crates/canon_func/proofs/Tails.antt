@@ -143,7 +143,8 @@ module _ {T R : Type 0} (its : Returns R) (gives : Giving T) (callee : Callee) (
   }
 
 -- memory ran out for the start
-pub rest_of_none : {T R : Type 0} (its : Returns R) (gives : Giving T) (callee : Callee) (limits : Limits) (Leaves : List ℕ → List ℕ → Type 0) (words : List ℕ) (before after : Moment) (host : HostSide T) → length before.bytes ≤ length after.bytes
+pub rest_of_none : {T R : Type 0} (its : Returns R) (gives : Giving T) (callee : Callee) (limits : Limits) (Leaves : List ℕ → List ℕ → Type 0) (words : List ℕ) (before after : Moment) (host : HostSide T)
+    → length before.bytes ≤ length after.bytes
     → IsRest its gives callee limits Leaves words before after host host (Err (error.Fault fault.OutOfMemory)) [] []
 rest_of_none its gives callee limits Leaves words before after host longer = record {
   one_run = tt;
