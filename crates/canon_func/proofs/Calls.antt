@@ -73,7 +73,9 @@ module _ (args : Arguments) (callee : Callee) (entry mid : Moment) (words : List
       small = small;
       represented = λ lawful. blocks_are_read.values low.fresh max_params true callee.encoding (narrow mid.bytes) words callee.params low.shown.it (low.shown.rep lawful (inl (λ i h. absurd h)));
       homes = subst (λ xs. ParamsHome AnyPointer callee.encoding false words callee.params low.shown.it xs []) (append-nil (addresses_of low.answers)) (low.shown.homes []);
-      memory_homes = λ lawful. subst (λ xs. ParamsHome (PointsTo (narrow mid.bytes)) callee.encoding false words callee.params low.shown.it xs []) (append-nil (addresses_of low.answers)) (low.shown.memory_homes lawful (inl (λ i h. absurd h)) []);
+      memory_homes =
+          λ lawful. subst (λ xs. ParamsHome (PointsTo (narrow mid.bytes)) callee.encoding false words callee.params low.shown.it xs []) (append-nil (addresses_of low.answers))
+          (low.shown.memory_homes lawful (inl (λ i h. absurd h)) []);
       no_shorter = low.lowering.goes.no_shorter;
       count = count;
       good = low.lowering.accepted;
@@ -139,7 +141,8 @@ each_start P p [] = tt
 each_start P p (event.Start f ws m ∷ events) = (p, each_start P p events)
 each_start P p (e ∷ events) = (tt, each_start P p events)
 
-module _ {T R : Type 0} (args : Arguments) (its : Returns R) (gives : Giving T) (callee : Callee) (limits : Limits) (Leaves : List ℕ → List ℕ → Type 0) (entry mid after : Moment) (l0 l1 l2 : HostSide T) (same : l1 ≡ record l0 { ledger = l1.ledger }) (words : List ℕ) (answers : List Answer) (given : List ℕ) (later : List Event) where
+module _ {T R : Type 0} (args : Arguments) (its : Returns R) (gives : Giving T) (callee : Callee) (limits : Limits) (Leaves : List ℕ → List ℕ → Type 0) (entry mid after : Moment) (l0 l1 l2 : HostSide T)
+    (same : l1 ≡ record l0 { ledger = l1.ledger }) (words : List ℕ) (answers : List Answer) (given : List ℕ) (later : List Event) where
   abbrev first : List Event
   first = events_of answers None
 

@@ -46,7 +46,8 @@ module _ {T G R : Type 0} (its : Returns R) (gives : Giving T) (callee : Callee)
         let e : Error = error.Fault f in
         let N : List Event → Type 0 = λ es. OnAnswered {T = U} (Err e) (moves (guest_of ran) es (guest_of ran)) in
         subst (λ k. Rest {U = U} (Err e) (Err e) k) (sym same)
-        (run_returned its gives callee limits Leaves law words (moment_of seen before) (moment_of seen ran) (moment_of seen ran) host (host_side ran log refusals) (record (host_side ran log refusals) { ledger = lifted.ledger }) refl returned (Err e)
+        (run_returned its gives callee limits Leaves law words (moment_of seen before) (moment_of seen ran) (moment_of seen ran) host (host_side ran log refusals)
+        (record (host_side ran log refusals) { ledger = lifted.ledger }) refl returned (Err e)
         (λ es. moves (guest_of before) es (guest_of ran)) N (λ es. OnAnswered {T = U} (Err e) (moves (guest_of before) es (guest_of ran)))
         (λ xs ys p q. answered {T = U} (Err e) (moves (guest_of ran) ys (guest_of ran)) (moves (guest_of before) (xs ++ ys) (guest_of ran)) (λ r. goes_on (guest_of before) (guest_of ran) (guest_of ran) xs ys p r) q) first
         (conclude_unlifted its Leaves callee limits.fuel returned ran.ledger (seen ran.guest) ran.memory lifted.ledger f N h (answers {T = U} (Err e) (moves (guest_of ran) [] (guest_of ran)) (stays (guest_of ran)))))
@@ -65,7 +66,8 @@ module _ {T G R : Type 0} (its : Returns R) (gives : Giving T) (callee : Callee)
           let concluded : Proceeds (moment_of seen ran) (moment_of seen after) N (Concluded its Leaves callee limits.fuel returned (moment_of seen ran) (moment_of seen after) ran.ledger lifted.ledger (Err e)) =
           conclude_failed its Leaves callee limits.fuel returned ran.ledger (moment_of seen ran) (moment_of seen after) lifted.ledger results h e (λ es. OnAnswered {T = Unit {0}} (Err e) (moves (guest_of ran) es (guest_of after))) N
           (λ es q. retyped (Unit {0}) U e (moves (guest_of ran) es (guest_of after)) q) (finished (Err e) p) in
-          run_returned its gives callee limits Leaves law words (moment_of seen before) (moment_of seen ran) (moment_of seen after) host (host_side ran log refusals) (host_side after log refusals) (side_handles ran after log refusals from_ran) returned (Err e)
+          run_returned its gives callee limits Leaves law words (moment_of seen before) (moment_of seen ran) (moment_of seen after) host (host_side ran log refusals) (host_side after log refusals)
+          (side_handles ran after log refusals from_ran) returned (Err e)
           (λ es. moves (guest_of before) es (guest_of ran)) N (λ es. OnAnswered {T = U} (Err e) (moves (guest_of before) es (guest_of after)))
           (λ xs ys p q. answered {T = U} (Err e) (moves (guest_of ran) ys (guest_of after)) (moves (guest_of before) (xs ++ ys) (guest_of after)) (λ r. goes_on (guest_of before) (guest_of ran) (guest_of after) xs ys p r) q) first
           (subst (λ (l : LedgerState). Proceeds (moment_of seen ran) (moment_of seen after) N (Concluded its Leaves callee limits.fuel returned (moment_of seen ran) (moment_of seen after) ran.ledger l (Err e))) (sym left) concluded)
@@ -73,6 +75,8 @@ module _ {T G R : Type 0} (its : Returns R) (gives : Giving T) (callee : Callee)
       -- and the whole was done
       pub completed : {U : Type 0} (u : U) → after.ledger ≡ leave lifted.ledger → Finished lifted (Ok tt) after → Rest {U = U} (Ok u) (Ok results) after
       completed u left p =
-          run_returned its gives callee limits Leaves law words (moment_of seen before) (moment_of seen ran) (moment_of seen after) host (host_side ran log refusals) (host_side after log refusals) (side_handles ran after log refusals from_ran) returned (Ok results)
-          (λ es. moves (guest_of before) es (guest_of ran)) (λ es. moves (guest_of ran) es (guest_of after)) (λ es. moves (guest_of before) es (guest_of after)) (λ xs ys p q. goes_on (guest_of before) (guest_of ran) (guest_of after) xs ys p q) first
+          run_returned its gives callee limits Leaves law words (moment_of seen before) (moment_of seen ran) (moment_of seen after) host (host_side ran log refusals) (host_side after log refusals)
+          (side_handles ran after log refusals from_ran) returned (Ok results)
+          (λ es. moves (guest_of before) es (guest_of ran)) (λ es. moves (guest_of ran) es (guest_of after)) (λ es. moves (guest_of before) es (guest_of after))
+          (λ xs ys p q. goes_on (guest_of before) (guest_of ran) (guest_of after) xs ys p q) first
           (conclude_done its Leaves callee limits.fuel returned ran.ledger (moment_of seen ran) (moment_of seen after) lifted.ledger results h after.ledger (λ es. moves (guest_of ran) es (guest_of after)) left (finished (Ok tt) p))

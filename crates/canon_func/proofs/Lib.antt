@@ -6,6 +6,7 @@ pub mod DropLemmas
 pub mod Finishing
 pub mod Handled
 pub mod HostAccepts
+pub mod HostLowered
 pub mod HostServed
 pub mod HostStopped
 pub mod Leaving

@@ -39,7 +39,8 @@ begins_short c [] (Some t) h = h
 begins_short c (x ∷ answers) trap h = h
 
 -- why a lowering was refused, and that a valid call isn't
-record Refused {T R : Type 0} (args : Arguments) (its : Returns R) (gives : Giving T) (callee : Callee) (limits : Limits) (entry after : Moment) (before : HostSide T) (events : List Event) (answers : List Answer) (trap : Option Trap) (f : Fault) : Type 0 where
+record Refused {T R : Type 0} (args : Arguments) (its : Returns R) (gives : Giving T) (callee : Callee) (limits : Limits) (entry after : Moment) (before : HostSide T) (events : List Event) (answers : List Answer)
+    (trap : Option Trap) (f : Fault) : Type 0 where
   late : TrapsLate (length entry.bytes) trap
   accepted : Accepted (fault_ending f) (length after.bytes) answers
   cause : FaultCause args its callee limits.fuel entry after events f
@@ -87,7 +88,9 @@ module _ {T R : Type 0} (args : Arguments) (its : Returns R) (gives : Giving T) 
   -- memory ran out before a request
   pub short_call : after ≡ entry → HandlesPassOf args its gives callee limits.fuel [] after.bytes [] None before left [] (Err (error.Fault fault.OutOfMemory)) [] []
       → IsCallOf args its Leaves gives callee limits entry after before left (Err (error.Fault fault.OutOfMemory)) []
-  short_call e handles = made fault.OutOfMemory [] None (subst (λ m. Advances entry m) (sym e) (record { no_shorter = omega arith; traps_later = omega arith; shortages_later = omega arith })) (λ near none. (refl, refl), λ far. (refl, λ none. tt)) (ap (λ m. m.guest.marks) e ∙ sym (append-nil entry.guest.marks))
+  short_call e handles =
+      made fault.OutOfMemory [] None (subst (λ m. Advances entry m) (sym e) (record { no_shorter = omega arith; traps_later = omega arith; shortages_later = omega arith })) (λ near none. (refl, refl), λ far. (refl, λ none. tt))
+      (ap (λ m. m.guest.marks) e ∙ sym (append-nil entry.guest.marks))
       (λ ts have. (params_requests false callee.encoding callee.params ts, λ last. refl)) handles
       (record { late = tt; accepted = tt; cause = tt; valid = λ ts have small lawful calm accepted. refl })
 
@@ -214,5 +217,6 @@ module _ {T R : Type 0} (args : Arguments) (its : Returns R) (gives : Giving T) 
       → AsksByTypes callee.params ending low.answers low.trap → LeavesStop (stop_of f) (enter before.ledger) args.parts left.ledger
       → IsCallOf args its Leaves gives callee limits entry after before left (Err (error.Fault f)) (events_of low.answers low.trap)
   refused_call kept f ending words handles low is blames told quiet stops =
-      made args its gives callee limits Leaves entry after before left f low.answers low.trap (goes_advance entry after _ _ low.lowering.goes) (asks_as f ending low.answers low.trap is quiet) low.lowering.goes.marks (λ ts have. ((low.requested ts have).rest, (low.requested ts have).met))
+      made args its gives callee limits Leaves entry after before left f low.answers low.trap (goes_advance entry after _ _ low.lowering.goes) (asks_as f ending low.answers low.trap is quiet) low.lowering.goes.marks
+      (λ ts have. ((low.requested ts have).rest, (low.requested ts have).met))
       (inr (inl (none_started low.answers low.trap, stops, kept))) (refused_so f ending words handles low is blames told stops)

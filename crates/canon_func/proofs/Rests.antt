@@ -116,10 +116,12 @@ module _ {T R : Type 0} (its : Returns R) (gives : Giving T) (callee : Callee) (
     unlifted_tail (fault.InvalidUtf16 at) h = stopped (fault.InvalidUtf16 at) h.1 (λ xs told. at_end _ xs (counted, h.0)) (faulty (error.Fault (fault.InvalidUtf16 at)) _ _ h.0)
     unlifted_tail (fault.InvalidChar at) h = stopped (fault.InvalidChar at) h.1 (λ xs told. at_end _ xs (counted, h.0)) (faulty (error.Fault (fault.InvalidChar at)) _ _ h.0)
     unlifted_tail (fault.BadDiscriminant at d) h = stopped (fault.BadDiscriminant at d) h.1 (λ xs told. at_end _ xs (counted, h.0)) (faulty (error.Fault (fault.BadDiscriminant at d)) _ _ h.0)
-    unlifted_tail fault.HostcallFuelExhausted h = stopped fault.HostcallFuelExhausted h.1 (λ xs told. at_end _ xs (counted, h.0)) (λ rep accepted. absurd (less_not limits.fuel (its.reach returned memory) h.0 (law.within returned memory limits.fuel rep)))
+    unlifted_tail fault.HostcallFuelExhausted h =
+        stopped fault.HostcallFuelExhausted h.1 (λ xs told. at_end _ xs (counted, h.0)) (λ rep accepted. absurd (less_not limits.fuel (its.reach returned memory) h.0 (law.within returned memory limits.fuel rep)))
     unlifted_tail fault.OutOfMemory h = stopped fault.OutOfMemory h.1 (λ xs told. tt) (λ rep accepted. refl)
     unlifted_tail (fault.Resource r) h = stopped (fault.Resource r) h.1 (λ xs told. (h.0, at_end _ xs counted))
-        (λ rep accepted. absurd (returned_excluded its callee law returned memory r host.ledger left.ledger accepted.0 (subst (λ why. StopsReturned its callee returned memory why host.ledger left.ledger) h.0 (inr (ended, ends, h.1))) accepted.1))
+        (λ rep accepted. absurd (returned_excluded its callee law returned memory r host.ledger left.ledger accepted.0
+        (subst (λ why. StopsReturned its callee returned memory why host.ledger left.ledger) h.0 (inr (ended, ends, h.1))) accepted.1))
     unlifted_tail f h = absurd h.0
 
     -- memory ran out for post-return

@@ -63,7 +63,8 @@ module _ {T G : Type 0} (core : Parts T G) (export : Export) (words : List ℕ) 
   lifted_so (Err e) valid h = let lifts = of_callee (Err e) h in (lifts.1.err, lifts.1.handles)
   lifted_so (Ok vals) valid h =
       let lifts = of_callee (Ok vals) h in
-      let none : member_borrows Callee_.results ≡ false = subst (λ ms. member_borrows ms ≡ false) (members_are (types_of core) types export.ty f is found) (subst (λ t. member_borrows (tuple_members t f.results) ≡ false) is (no_borrow types export.ty f found valid)) in
+      let none : member_borrows Callee_.results ≡ false =
+      subst (λ ms. member_borrows ms ≡ false) (members_are (types_of core) types export.ty f is found) (subst (λ t. member_borrows (tuple_members t f.results) ≡ false) is (no_borrow types export.ty f found valid)) in
       let owned = values_owned (narrow core.memory) words max_results Callee_.results none in
       (lifts.0, lifts.1.ok, lifts.1.handles, lifts_scopes Callee_.types core.ledger m (returned_leaves Callee_ words core.memory) (all_resources vals.items) owned lifts.1.handles)
 

@@ -41,29 +41,36 @@ module _ {T G R : Type 0} (args : Arguments) (its : Returns R) (gives : Giving T
       → Serving (moment_of seen mid) (moment_of seen after) (λ es. OnAnswered result (moves (guest_of mid) es (guest_of after)))
       (IsRest its gives callee limits Leaves words.items (moment_of seen mid) (moment_of seen after) (host_side mid log refusals) left answer) → Within result answer before after left
   lowered result answer before mid after left words same goes_on first second =
-      call_started args its gives callee limits Leaves (moment_of seen before) (moment_of seen mid) (moment_of seen after) (host_side before log refusals) (host_side mid log refusals) left (side_handles before mid log refusals same) words answer
+      call_started args its gives callee limits Leaves (moment_of seen before) (moment_of seen mid) (moment_of seen after) (host_side before log refusals) (host_side mid log refusals) left
+      (side_handles before mid log refusals same) words answer
       (λ es. moves (guest_of before) es (guest_of mid)) (λ es. OnAnswered result (moves (guest_of mid) es (guest_of after))) (λ es. OnAnswered result (moves (guest_of before) es (guest_of after)))
       (told_after_lowering (moment_of seen before) (moment_of seen mid) first.events first.added)
       (λ xs ys p q. answered result (moves (guest_of mid) ys (guest_of after)) (moves (guest_of before) (xs ++ ys) (guest_of after)) (λ r. goes_on (guest_of before) (guest_of mid) (guest_of after) xs ys p r) q) first second
 
   -- they weren't
-  pub unlowered : (U : Type 0) (e : Error) (before after : Parts T G) → BlamesRightly args → SameButHandles before after → Lowers {U = Vec ℕ Global} (Err e) (Err e) before after → Within {U = U} (Err e) (Err e) before after (host_side after log refusals)
+  pub unlowered : (U : Type 0) (e : Error) (before after : Parts T G) → BlamesRightly args → SameButHandles before after → Lowers {U = Vec ℕ Global} (Err e) (Err e) before after
+      → Within {U = U} (Err e) (Err e) before after (host_side after log refusals)
   unlowered U e before after law same low =
       call_refused args its gives callee limits Leaves law (moment_of seen before) (moment_of seen after) (host_side before log refusals) (host_side after log refusals) (side_handles before after log refusals same) e
       (λ es. OnAnswered {T = U} (Err e) (moves (guest_of before) es (guest_of after)))
       (record { events = low.events; added = low.added; moves = λ there. retyped (Vec ℕ Global) U e (moves (guest_of before) low.events (guest_of after)) (low.moves there); so = low.so })
 
   -- the scope was opened
-  pub entered : {U : Type 0} (result : Result U Error) (answer : Result R Error) (before mid after : Parts T G) (left : HostSide T) → SameButLedger before mid → mid.ledger ≡ enter before.ledger → Within result answer mid after left → Whole result answer before after left
+  pub entered : {U : Type 0} (result : Result U Error) (answer : Result R Error) (before mid after : Parts T G) (left : HostSide T) → SameButLedger before mid → mid.ledger ≡ enter before.ledger
+      → Within result answer mid after left → Whole result answer before after left
   entered result answer before mid after left same is h =
-      entered_call args its gives callee limits Leaves (moment_of seen before) (moment_of seen after) (host_side before log refusals) (host_side mid log refusals) left answer (λ es. OnAnswered result (moves (guest_of before) es (guest_of after)))
+      entered_call args its gives callee limits Leaves (moment_of seen before) (moment_of seen after) (host_side before log refusals) (host_side mid log refusals) left answer
+      (λ es. OnAnswered result (moves (guest_of before) es (guest_of after)))
       (side_ledger before mid log refusals same is)
-      (subst (λ k. Adding (moment_of seen k) (moment_of seen after) (λ es. OnAnswered result (moves (guest_of k) es (guest_of after))) (InScope args its gives callee limits Leaves (host_side mid log refusals) (moment_of seen k) (moment_of seen after) left answer)) same h)
+      (subst (λ k. Adding (moment_of seen k) (moment_of seen after) (λ es. OnAnswered result (moves (guest_of k) es (guest_of after)))
+      (InScope args its gives callee limits Leaves (host_side mid log refusals) (moment_of seen k) (moment_of seen after) left answer)) same h)
 
   -- memory ran out for it
-  pub unentered : (U : Type 0) (before after : Parts T G) → SameButLedger before after → after.ledger ≡ before.ledger → Whole {U = U} (Err (error.Fault fault.OutOfMemory)) (Err (error.Fault fault.OutOfMemory)) before after (host_side after log refusals)
+  pub unentered : (U : Type 0) (before after : Parts T G) → SameButLedger before after → after.ledger ≡ before.ledger
+      → Whole {U = U} (Err (error.Fault fault.OutOfMemory)) (Err (error.Fault fault.OutOfMemory)) before after (host_side after log refusals)
   unentered U before after same left =
       let host = host_side before log refusals in
       subst (λ k. Whole {U = U} (Err (error.Fault fault.OutOfMemory)) (Err (error.Fault fault.OutOfMemory)) before k (host_side k log refusals)) (sym same)
-      (scope_short args its gives callee limits Leaves (seen before.guest) before.memory host (record host { ledger = after.ledger }) (λ es. OnAnswered {T = U} (Err (error.Fault fault.OutOfMemory)) (moves (guest_of before) es (guest_of before)))
+      (scope_short args its gives callee limits Leaves (seen before.guest) before.memory host (record host { ledger = after.ledger })
+      (λ es. OnAnswered {T = U} (Err (error.Fault fault.OutOfMemory)) (moves (guest_of before) es (guest_of before)))
       (ledger_kept before after log refusals left) (λ there. tt))

@@ -34,7 +34,8 @@ pub record TailPrefix (post : Option ℕ) (len : ℕ) (tail : List Event) : Type
   pub may_trap : MayTrap (last_len len prefix) trap
 
 -- What the events say that come after so many turns, the last of which let the guest go in a memory of so many bytes.
-pub record IsTail {T R : Type 0} (its : Returns R) (gives : Giving T) (callee : Callee) (limits : Limits) (Leaves : List ℕ → List ℕ → Type 0) (before after : Moment) (count len : ℕ) (served left : HostSide T) (answer : Result R Error) (late : List Answer) (late_trap : Option Trap) (tail : List Event) : Type 0 where
+pub record IsTail {T R : Type 0} (its : Returns R) (gives : Giving T) (callee : Callee) (limits : Limits) (Leaves : List ℕ → List ℕ → Type 0) (before after : Moment) (count len : ℕ) (served left : HostSide T)
+    (answer : Result R Error) (late : List Answer) (late_trap : Option Trap) (tail : List Event) : Type 0 where
   pub whole : OnOk answer ((returned memory : List ℕ) × (tail ≡ event.Return returned memory ∷ posts callee.post returned))
   pub prefix : TailPrefix callee.post len tail
   pub no_resume : Each IsNoResume tail

@@ -171,7 +171,9 @@ module _ {T R : Type 0} (its : Returns R) (gives : Giving T) (callee : Callee) (
 
     exhausted_tail : count ≡ limits.turns → AskStops gives callee limits.fuel error.TurnsExhausted index asked memory after.bytes late trap served left
         → IsTail its gives callee limits Leaves before after count len served left (Err error.TurnsExhausted) late trap tail
-    exhausted_tail all stops = asked_tail error.TurnsExhausted (λ none. absurd (none refl)) stops (λ xs told. (none_more late trap stops.1.0 stops.1.1, counted stops.1.0 stops.1.1 xs told all)) (λ lawful quiet rest within accepted. absurd (more_than count limits.turns all within))
+    exhausted_tail all stops =
+        asked_tail error.TurnsExhausted (λ none. absurd (none refl)) stops (λ xs told. (none_more late trap stops.1.0 stops.1.1, counted stops.1.0 stops.1.1 xs told all))
+        (λ lawful quiet rest within accepted. absurd (more_than count limits.turns all within))
 
     -- the ask can be served
     builtin_excluded : (r : ResourceFault) → BuiltinStops callee index asked served left (error.ImportFault index (fault.Resource r)) → AcceptsAsk gives callee limits.fuel index asked memory served → ⊥
@@ -213,7 +215,8 @@ module _ {T R : Type 0} (its : Returns R) (gives : Giving T) (callee : Callee) (
     trap_ends : (n : ℕ) (f : Fault) (xs : List Event) → AskStops gives callee limits.fuel (error.ImportFault n f) index asked memory after.bytes late trap served left → f ≡ fault.GuestTrap → EndsIn IsTrap (xs ++ tail)
     trap_ends n f xs (same, inl (h, quiet)) trapped = absurd (no_builtin_trap n f trapped h)
     trap_ends n f xs (same, inr (a, h)) trapped =
-        let (t, is) = asked_traps gives callee limits.fuel a index asked memory after.bytes late trap served left n (subst (λ g. HostStops gives callee limits.fuel a index asked memory after.bytes late trap served left (error.ImportFault n g)) trapped h) in
+        let (t, is) = asked_traps gives callee limits.fuel a index asked memory after.bytes late trap served left n
+        (subst (λ g. HostStops gives callee limits.fuel a index asked memory after.bytes late trap served left (error.ImportFault n g)) trapped h) in
         ends_after IsTrap xs tail (ends_after IsTrap (event.Ask index asked memory ∷ []) (events_of late trap) (subst (λ o. EndsIn IsTrap (events_of late o)) (sym is) (ends_in_trap late t)))
 
     rises_of : (n : ℕ) (f : Fault) → f ≡ fault.GuestTrap → RisesAt (error.ImportFault n f) before after → Rose before.guest.traps after.guest.traps
@@ -221,13 +224,18 @@ module _ {T R : Type 0} (its : Returns R) (gives : Giving T) (callee : Callee) (
 
     stopped_tail : (e : Error) → count + 1 ≤ limits.turns → AskStops gives callee limits.fuel e index asked memory after.bytes late trap served left → RisesAt e before after → (e ≡ error.TurnsExhausted → ⊥)
         → IsTail its gives callee limits Leaves before after count len served left (Err e) late trap tail
-    stopped_tail (error.UnknownImport n) few stops rises other = asked_tail (error.UnknownImport n) (λ none. few) stops (λ xs told. (sym stops.0, stops.1, none_more late trap stops.3.0 stops.3.1)) (λ lawful quiet rest within accepted. absurd (unknown_excluded stops.1 accepted))
-    stopped_tail error.WrongWords few stops rises other = asked_tail error.WrongWords (λ none. few) stops (λ xs told. inr (stops.0, stops.1, stops.2, none_more late trap stops.4.0 stops.4.1)) (λ lawful quiet rest within accepted. absurd (words_excluded stops.0 stops.1 stops.2 accepted))
+    stopped_tail (error.UnknownImport n) few stops rises other =
+        asked_tail (error.UnknownImport n) (λ none. few) stops (λ xs told. (sym stops.0, stops.1, none_more late trap stops.3.0 stops.3.1)) (λ lawful quiet rest within accepted. absurd (unknown_excluded stops.1 accepted))
+    stopped_tail error.WrongWords few stops rises other =
+        asked_tail error.WrongWords (λ none. few) stops (λ xs told. inr (stops.0, stops.1, stops.2, none_more late trap stops.4.0 stops.4.1))
+        (λ lawful quiet rest within accepted. absurd (words_excluded stops.0 stops.1 stops.2 accepted))
     stopped_tail (error.ImportFault n f) few stops rises other =
         let of = fault_import n f stops in
         asked_tail (error.ImportFault n f) (λ none. few) stops (λ xs told. ((sym stops.0, (of.called, of.there, of.takes)), λ trapped. (rises_of n f trapped rises, trap_ends n f xs stops trapped)))
         (λ lawful quiet rest within accepted. fault_excluded n f stops lawful quiet rest accepted)
-    stopped_tail (error.HostRefused n) few stops rises other = asked_tail (error.HostRefused n) (λ none. few) stops (λ xs told. (sym stops.0, refused_alone gives callee limits.fuel stops.1.0 index asked memory after.bytes late trap served left n stops.1.1, (stops.1.0.ty, stops.1.0.options, stops.1.1.is.known)))
+    stopped_tail (error.HostRefused n) few stops rises other =
+        asked_tail (error.HostRefused n) (λ none. few) stops
+        (λ xs told. (sym stops.0, refused_alone gives callee limits.fuel stops.1.0 index asked memory after.bytes late trap served left n stops.1.1, (stops.1.0.ty, stops.1.0.options, stops.1.1.is.known)))
         (λ lawful quiet rest within accepted. host_excluded (error.HostRefused n) stops.1.0 stops.1.1 lawful quiet rest accepted)
     stopped_tail (error.Fault fault.OutOfMemory) few stops rises other = asked_tail (error.Fault fault.OutOfMemory) (λ none. few) stops (λ xs told. tt) (λ lawful quiet rest within accepted. refl)
     stopped_tail error.TurnsExhausted few stops rises other = absurd (other refl)

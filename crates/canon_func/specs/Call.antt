@@ -57,6 +57,10 @@ refusal callee params results trapped = first_error (
     ∷ (trapped, error.CannotEnterComponent)
     ∷ [])
 
+-- the same of any call, whatever is passed
+abbrev pub entry_refusal : Callee → Bool → Option Error
+entry_refusal callee trapped = first_error ((callee.async_, error.AsyncLifted) ∷ (trapped, error.CannotEnterComponent) ∷ [])
+
 -- the error, where it is one of these three
 abbrev pub refused_by : Result (Unit {0}) Error → Option Error
 refused_by (Ok x) = None

@@ -28,7 +28,8 @@ returns-in-Ok-clause-call g c =
     let limits = allowed before.fuel c.args.turns in
     entered (dynamic callee params) (dynamic_results callee) gives callee limits seen moves g.G.Guest.leaves (imports.log i) (imports.refusals i) result (items_in result) before mid after left c.in-Ok.ensures.same c.in-Ok.ensures.ok.1
     (subst (λ k. let d = export_callee k.component c.args.export.now in
-    Within (dynamic d params) (dynamic_results d) gives d (allowed k.fuel c.args.turns) seen moves g.G.Guest.leaves (imports.log i) (imports.refusals i) result (items_in result) mid after left) c.in-Ok.ensures.same c.call_in_scope.ensures.call)
+    Within (dynamic d params) (dynamic_results d) gives d (allowed k.fuel c.args.turns) seen moves g.G.Guest.leaves (imports.log i) (imports.refusals i) result (items_in result) mid after left)
+    c.in-Ok.ensures.same c.call_in_scope.ensures.call)
 
 pub returns-in-Ok-clause-count : goal.returns-in-Ok-clause-count
 returns-in-Ok-clause-count g c =
@@ -40,5 +41,6 @@ returns-in-Err-clause-call g c =
     let i = c.args.imports.now in
     let before = c.args.core.now in
     let callee = export_callee before.component c.args.export.now in
-    unentered (dynamic callee c.args.params.now) (dynamic_results callee) (imports.gives (imports.plan i)) callee (allowed before.fuel c.args.turns) g.G.Guest.seen g.G.Guest.moves g.G.Guest.leaves (imports.log i) (imports.refusals i) (Vec Val Global)
+    unentered (dynamic callee c.args.params.now) (dynamic_results callee) (imports.gives (imports.plan i)) callee (allowed before.fuel c.args.turns) g.G.Guest.seen g.G.Guest.moves g.G.Guest.leaves (imports.log i)
+    (imports.refusals i) (Vec Val Global)
     before c.enter.new.self c.in-Err.ensures.same c.in-Err.ensures.err

@@ -38,7 +38,8 @@ returns-in-Err-lift-clause-did g c =
     let lifted = c.lift.new.core in
     let callee = export_callee before.component c.args.export.now in
     let result : Result (Vec Val Global) Fault = Err c.in-Err-lift.fault in
-    unlifted (dynamic_results callee) (imports.gives (imports.plan i)) callee (allowed before.fuel c.args.turns) g.G.Guest.seen g.G.Guest.moves g.G.Guest.leaves c.args.words.now before ran (host_side before (imports.log i) (imports.refusals i))
+    unlifted (dynamic_results callee) (imports.gives (imports.plan i)) callee (allowed before.fuel c.args.turns) g.G.Guest.seen g.G.Guest.moves g.G.Guest.leaves c.args.words.now before ran
+    (host_side before (imports.log i) (imports.refusals i))
     (imports.log j) (imports.refusals j) c.in-Ok.returned (dynamic_reads callee) g.met.G.Guest.goes_on c.in-Ok.ensures.did lifted c.in-Err-lift.ensures.same (Vec Val Global) c.in-Err-lift.fault g.met.G.Guest.stays
     (subst (λ k. Lifted (dynamic_results (export_callee k.component c.args.export.now)) k.fuel c.in-Ok.returned ran.memory ran.ledger lifted.ledger (items_in result)) c.run.ensures.same
     (subst (λ ws. Lifted (dynamic_results (export_callee ran.component c.args.export.now)) ran.fuel ws ran.memory ran.ledger lifted.ledger (items_in result)) c.as_slice.ensures c.in-Err-lift.ensures.lifted))
@@ -53,7 +54,8 @@ conclude-requires-clause-empty g c =
     let lifted = c.lift.new.core in
     let callee = export_callee before.component c.args.export.now in
     let result : Result (Vec Val Global) Fault = Ok c.in-Ok-lift.values in
-    may_leave (dynamic_results callee) (imports.gives (imports.plan i)) callee (allowed before.fuel c.args.turns) g.G.Guest.seen g.G.Guest.moves g.G.Guest.leaves c.args.words.now before ran (host_side before (imports.log i) (imports.refusals i))
+    may_leave (dynamic_results callee) (imports.gives (imports.plan i)) callee (allowed before.fuel c.args.turns) g.G.Guest.seen g.G.Guest.moves g.G.Guest.leaves c.args.words.now before ran
+    (host_side before (imports.log i) (imports.refusals i))
     (imports.log j) (imports.refusals j) c.in-Ok.returned lifted c.in-Ok-lift.values.items c.in-Ok.ensures.did
     (subst (λ k. Lifted (dynamic_results (export_callee k.component c.args.export.now)) k.fuel c.in-Ok.returned ran.memory ran.ledger lifted.ledger (items_in result)) c.run.ensures.same
     (subst (λ ws. Lifted (dynamic_results (export_callee ran.component c.args.export.now)) ran.fuel ws ran.memory ran.ledger lifted.ledger (items_in result)) c.as_slice.ensures c.in-Ok-lift.ensures.lifted))

@@ -27,7 +27,8 @@ returns-in-Ok-clause-lowered g c =
     let low = c.in-Ok.ensures.lowers in
     lowered_done (moment_of seen before) (moment_of seen after) (encoding_by before c.args.export.now.options) before.component.types (tuple_members (types_of before) f.params) _ c.args.params.now before.ledger after.ledger
     (members_are (types_of before) c.types-types.result.now c.args.export.now.ty f same c.func.ensures.found)
-    _ c.lower_into.new.words _ all (omega (arith, ap length all, c.lower_into.auto.words, c.deref_mut.ensures.len, c.in_ok-words.ensures.len, c.word_count.ensures, counted)) (λ near none. ap (moment_of seen) (low.quiet near none).0) low.crosses low.small low.moved
+    _ c.lower_into.new.words _ all (omega (arith, ap length all, c.lower_into.auto.words, c.deref_mut.ensures.len, c.in_ok-words.ensures.len, c.word_count.ensures, counted))
+    (λ near none. ap (moment_of seen) (low.quiet near none).0) low.crosses low.small low.moved
 
 pub returns-in-Err-clause-lowered : goal.returns-in-Err-clause-lowered
 returns-in-Err-clause-lowered g c =
