@@ -10,7 +10,7 @@ use Rattle.canon_types.specs.Table.{Table, members_of}
 use Rattle.canon_types.specs.declared.types.InterfaceType.{InterfaceType}
 use Rattle.canon_context.specs.declared.component.Component.{Component}
 use Rattle.canon_context.specs.declared.component.Export.{Export}
-use Rattle.canon_func.specs.Call.{refusal, words_within}
+use Rattle.canon_func.specs.Call.{entry_refusal, refusal, words_within}
 use Rattle.canon_func.specs.Stores.{Callee, export_callee, params_in, results_in}
 use Rattle.canon_func.specs.declared.error.Error.TheVariants as error
 
@@ -47,14 +47,18 @@ module _ (callee : Callee) (params results : ℕ) (trapped : Bool) where
   pub by_count : (b : Bool) → b ≡ Counts → b ≡ false → Some error.WrongCount ≡ refusal callee params results trapped
   by_count b e h = rw (sym e ∙ h)
 
-  pub by_async : (b : Bool) → b ≡ Counts → b ≡ true → callee.async_ ≡ true → Some error.AsyncLifted ≡ refusal callee params results trapped
-  by_async b e h async = rw (sym e ∙ h, async)
+  pub by_entry : (b : Bool) → b ≡ Counts → b ≡ true → entry_refusal callee trapped ≡ refusal callee params results trapped
+  by_entry b e h = rw (sym e ∙ h) refl
 
-  pub by_trap : (b : Bool) → b ≡ Counts → b ≡ true → callee.async_ ≡ false → trapped ≡ true → Some error.CannotEnterComponent ≡ refusal callee params results trapped
-  by_trap b e h async t = rw (sym e ∙ h, async, t)
+module _ (callee : Callee) (trapped : Bool) where
+  pub by_async : callee.async_ ≡ true → Some error.AsyncLifted ≡ entry_refusal callee trapped
+  by_async async = rw async refl
 
-  pub by_none : (b : Bool) → b ≡ Counts → b ≡ true → callee.async_ ≡ false → trapped ≡ false → None ≡ refusal callee params results trapped
-  by_none b e h async t = rw (sym e ∙ h, async, t)
+  pub by_trap : callee.async_ ≡ false → trapped ≡ true → Some error.CannotEnterComponent ≡ entry_refusal callee trapped
+  by_trap async t = rw (async, t) refl
+
+  pub by_none : callee.async_ ≡ false → trapped ≡ false → None ≡ entry_refusal callee trapped
+  by_none async t = rw (async, t) refl
 
 -- as counted by the table
 pub counts_of : (component : Component) (e : Export) (t : Table) (params results : ℕ) (trapped b : Bool) → t ≡ component.types.types

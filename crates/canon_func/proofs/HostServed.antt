@@ -1,36 +1,30 @@
 -- How an ask of a function of the host was served, from what the imports of a store did.
-use Rattle.std.proofs.Common.{Bool, Err, List, None, Ok, Option, Result, Some, Vec, Global, [], ap, arith, inl, inr, length, refl, subst, subst₂, sym, ℕ, ⊎_elim, ◌%◌, ◌++◌, ◌+◌, ◌<◌, ◌∙◌, ◌≡◌, ◌≤◌, ◌⊎◌}
+use Rattle.std.proofs.Common.{Err, List, None, Ok, Option, Result, Some, Vec, Global, [], ap, arith, inl, inr, length, refl, subst, subst₂, sym, ℕ, ⊎_elim, ◌%◌, ◌++◌, ◌+◌, ◌<◌, ◌∙◌, ◌≡◌, ◌≤◌}
 use Rattle.std.proofs.lemmas.Bool.{cases_lt, le-leb, lt-leb}
 use Rattle.std.proofs.lemmas.List.{get_or_append_left, length-take-le, take-append-le}
-use Rattle.std.specs.Prelude.{IfErr, IfSome, false, if◌then◌else◌, nat_le, slice_index, take}
+use Rattle.std.specs.Prelude.{IfSome, false, if◌then◌else◌, nat_le, slice_index, take}
 use Rattle.canon_model.specs.Flat.{max_results}
 use Rattle.canon_model.specs.Layout.{members_align, members_flat, size}
 use Rattle.canon_model.specs.Memory.{low}
 use Rattle.canon_model.specs.Shape.{Members, of_places, product}
 use Rattle.canon_memory.specs.declared.event.Event.{Event}
-use Rattle.canon_memory.specs.Counts.{Rose}
-use Rattle.canon_memory.specs.Guest.{Goes, GuestIn, Moment, Seen}
+use Rattle.canon_memory.specs.Guest.{Goes, GuestIn, Seen}
 use Rattle.canon_memory.specs.Journal.{Adds}
 use Rattle.canon_ledger.specs.Books.{DidSurely}
 use Rattle.canon_ledger.specs.Ledger.{LedgerState, enter, leave}
 use Rattle.canon_ledger.specs.declared.fault.ResourceFault.{ResourceFault}
-use Rattle.canon_ledger.specs.declared.fault.ResourceFault.TheVariants as resource
 use Rattle.canon_lowering.proofs.Lowerings.{goes_none, none_answered}
-use Rattle.canon_lowering.specs.Lowering.{Answer, CauseOf, Ending, Trap, done, events_of, marks_of, misaligned, out_of_bounds, refused, short, trapped}
+use Rattle.canon_lowering.specs.Lowering.{Answer, CauseOf, Trap, events_of, marks_of}
 use Rattle.canon_context.specs.Core.{Parts, guest_of, moment_of, types_of}
-use Rattle.canon_context.specs.Lowers.{fault_ending}
-use Rattle.canon_context.specs.Moves.{Moves}
 use Rattle.canon_context.specs.Quiet.{have_block, have_handle}
 use Rattle.canon_context.specs.declared.fault.Fault.{Fault}
 use Rattle.canon_context.specs.declared.fault.Fault.TheVariants as fault
 use Rattle.canon_context.specs.declared.component.Export.{Export}
 use Rattle.canon_context.specs.declared.host.HostStop.{HostStop}
 use Rattle.canon_context.specs.declared.host.HostStop.TheVariants as stop
-use Rattle.canon_leaves.specs.Parts.{Passed}
-use Rattle.canon_value.specs.Args.{IsNoArea, LowersResults, args_words}
+use Rattle.canon_value.specs.Args.{args_words}
 use Rattle.canon_value.specs.Lifts.{LiftsParams}
-use Rattle.canon_value.specs.Resources.{EndsAs, UsesLedger, all_passes}
-use Rattle.canon_value.specs.Value.{HaveTrees}
+use Rattle.canon_value.specs.Resources.{all_passes}
 use Rattle.canon_value.specs.declared.val.Val.{Val}
 use Rattle.canon_host.specs.Asked.{AreEnough, row_words}
 use Rattle.canon_host.specs.HostSide.{Entry, Giving, HostSide, entry, host_side}
@@ -40,138 +34,17 @@ use Rattle.canon_host.specs.declared.asked.Asked.{Asked}
 use Rattle.canon_host.specs.declared.error.HostError.{HostError}
 use Rattle.canon_host.specs.declared.error.HostError.TheVariants as host
 use Rattle.canon_func.specs.Call.{OnAnswered}
-use Rattle.canon_func.specs.HostAsks.{AskLifts, AskLowers, Counted, HostStops, IsHostAsk, LowersInto, NothingAsked, StopsAt, StopsGiven, asked_error, asked_exit, asked_origin, asked_params, asked_results, host_error, stopped_error}
-use Rattle.canon_func.specs.Steps.{HostAsked, RisesAt, Serving, TrapsLate}
+use Rattle.canon_func.specs.HostAsks.{AskLifts, AskLowers, Counted, HostStops, IsHostAsk, NothingAsked, StopsAt, StopsGiven, asked_error, asked_exit, asked_origin, asked_params, asked_results, host_error, stopped_error}
+use Rattle.canon_func.specs.Steps.{HostAsked, RisesAt, Serving}
 use Rattle.canon_func.specs.Stores.{Callee, export_callee}
 use Rattle.canon_func.specs.declared.error.Error.{Error}
 use Rattle.canon_func.specs.declared.error.Error.TheVariants as error
 use Rattle.canon_host.proofs.Serving.{concluded_state}
 use Rattle.canon_func.proofs.Composed.{answers as answered}
+use Rattle.canon_func.proofs.HostLowered.{AskLowered, CountsHost, asked_moves, fault_counted, into_by, no_rise, no_trap_there, pointer_counts, quiet_trap, rises, row_is, stopped_counted, traps_late}
 use Rattle.canon_func.proofs.HostStopped.{no_trap_lifted}
-use Rattle.canon_func.proofs.Lowered.{ending_quiet, told as told_moves, untrapped}
+use Rattle.canon_func.proofs.Lowered.{told as told_moves}
 use Rattle.canon_func.proofs.Turns.{done_is}
-
--- ---- words
-
-row_is : (n : ℕ) (ws : List ℕ) → take (if nat_le n max_results then n else 0) ws ≡ (if nat_le n max_results then take n ws else [])
-row_is n ws = ⊎_elim (λ far. rw (lt-leb n max_results far) refl) (λ near. rw (le-leb n max_results near) refl) (cases_lt max_results n)
-
-pointer_counts : (a n k : ℕ) → k ≡ a + (if nat_le n max_results then 0 else 1) → (a ≤ k) × (max_results < n → a < k)
-pointer_counts a n k e = (
-  ⊎_elim (λ far. let w : k ≡ a + 1 = subst (λ b. k ≡ a + (if b then 0 else 1)) (lt-leb n max_results far) e in omega (arith, w))
-      (λ near. let w : k ≡ a + 0 = subst (λ b. k ≡ a + (if b then 0 else 1)) (le-leb n max_results near) e in omega (arith, w)) (cases_lt max_results n),
-  λ far. let w : k ≡ a + 1 = subst (λ b. k ≡ a + (if b then 0 else 1)) (lt-leb n max_results far) e in omega (arith, w),
-)
-
--- ---- results that were lowered
-
--- what was lowered, from one moment to another
-pub record AskLowered (callee : Callee) (asked : Asked) (at : ℕ) (a b : Moment) (results : List Val) (words : List ℕ) (l n : LedgerState) (r : Result (Unit {0}) Fault) : Type 0 where
-  pub answers : List Answer
-  pub trap : Option Trap
-  pub ending : Ending
-  pub ends : EndsAs (have_handle (asked_results callee asked)) (all_passes (asked_results callee asked) results) r ending
-  pub lowers : AskLowers callee asked at a.bytes b.bytes results words answers trap l n r
-  pub goes : Goes a b (marks_of answers) (events_of answers trap)
-  pub cause : CauseOf a b answers trap ending
-
--- the same without its handles
-record IntoBy (callee : Callee) (asked : Asked) (at : ℕ) (a b : Moment) (results : List Val) (words : List ℕ) (hs : List ℕ) (ending : Ending) : Type 0 where
-  answers : List Answer
-  trap : Option Trap
-  into : LowersInto a b callee asked at results words answers trap hs ending
-  goes : Goes a b (marks_of answers) (events_of answers trap)
-  cause : CauseOf a b answers trap ending
-
-not_far : (n : ℕ) → n ≤ max_results → max_results < n → ⊥
-not_far n a b = omega (arith, a, b)
-
-module _ (callee : Callee) (asked : Asked) (at : ℕ) (a b : Moment) (results : List Val) (words : List ℕ) where
-  into_by : (hs : List ℕ) (ending : Ending) → LowersResults a b (asked_origin callee asked a.bytes).encoding (asked_results callee asked) (HaveTrees (asked_results callee asked) results) at words hs ending → IntoBy callee asked at a b results words hs ending
-  into_by hs ending h = ⊎_elim
-      (λ far. let low = h.far far in record {
-        answers = low.answers;
-        trap = low.trap;
-        into = record { near = λ near. absurd (not_far (members_flat (asked_results callee asked)) near far); far = λ again. (low, refl, refl) };
-        goes = low.lowering.goes;
-        cause = low.lowering.cause;
-      })
-      (λ near. let low = h.near near in record {
-        answers = low.answers;
-        trap = low.trap;
-        into = record { near = λ again. (low, refl, refl); far = λ far. absurd (not_far (members_flat (asked_results callee asked)) near far) };
-        goes = low.lowering.goes;
-        cause = low.lowering.cause;
-      })
-      (cases_lt max_results (members_flat (asked_results callee asked)))
-
--- ---- what a refused lowering says
-
-trap_same : (t u : Trap) → Some t ≡ Some u → t ≡ u
-trap_same t u e = cc
-
-late_at : (a b : Moment) (answers : List Answer) (t : Trap) (ending : Ending) → CauseOf a b answers (Some t) ending → length a.bytes ≤ t.len
-late_at a b answers t trapped (rose, (u, is, late)) = subst (λ (k : Trap). length a.bytes ≤ k.len) (sym (trap_same t u is)) late
-late_at a b answers t done h = cc
-late_at a b answers t short h = let w = h.0 in cc
-late_at a b answers t refused h = cc
-late_at a b answers t (misaligned k) h = let w = h.0 in cc
-late_at a b answers t (out_of_bounds k) h = let w = h.0 in cc
-
-traps_late : (a b : Moment) (answers : List Answer) (trap : Option Trap) (ending : Ending) → CauseOf a b answers trap ending → TrapsLate (length a.bytes) trap
-traps_late a b answers None ending h = tt
-traps_late a b answers (Some t) ending h = late_at a b answers t ending h
-
-rises : (index : ℕ) (some : Bool) (ps : List Passed) (f : Fault) (a b : Moment) (answers : List Answer) (trap : Option Trap) (ending : Ending) → EndsAs {T = Unit {0}} some ps (Err f) ending → CauseOf a b answers trap ending
-    → RisesAt (asked_error index f) a b
-rises index some ps fault.GuestTrap a b answers trap ending ends cause = (subst (λ e. CauseOf a b answers trap e) ends cause).0
-rises index some ps fault.OutOfMemory a b answers trap ending ends cause = tt
-rises index some ps (fault.Resource resource.OutOfMemory) a b answers trap ending ends cause = tt
-rises index some ps (fault.Resource r) a b answers trap ending ends cause = tt
-rises index some ps f a b answers trap ending ends cause = tt
-
-no_trap_there : (f : Fault) (bytes : List ℕ) (ms : Members) (ws : List ℕ) (k : ℕ) → IsNoArea bytes ms ws k f → ¬ (f ≡ fault.GuestTrap)
-no_trap_there f bytes ms ws k (inl h) is = let w = sym h.0 ∙ is in cc
-no_trap_there f bytes ms ws k (inr h) is = let w = sym h.0 ∙ is in cc
-
--- nothing of the guest moved where nothing was asked for
-no_rise : (index : ℕ) (f : Fault) (a b : Moment) → ¬ (f ≡ fault.GuestTrap) → RisesAt (asked_error index f) a b
-no_rise index fault.GuestTrap a b other = absurd (other refl)
-no_rise index fault.OutOfMemory a b other = tt
-no_rise index (fault.Resource resource.OutOfMemory) a b other = tt
-no_rise index (fault.Resource r) a b other = tt
-no_rise index f a b other = tt
-
-asked_moves : {G : Type 0} (V : Type 0) (seen : G → Seen) (moves : GuestIn G → List Event → GuestIn G → Type 0) (g h : GuestIn G) (index : ℕ) (f : Fault) → Moves seen moves g h (fault_ending f)
-    → (l es : List Event) → (seen g.guest).journal ≡ Some l → (seen h.guest).journal ≡ Some (l ++ es) → OnAnswered {T = V} (Err (asked_error index f)) (moves g es h)
-asked_moves V seen moves g h index fault.OutOfMemory m l es p q = tt
-asked_moves V seen moves g h index (fault.Resource resource.OutOfMemory) m l es p q = tt
-asked_moves V seen moves g h index (fault.Resource r) m l es p q = m l es p q
-asked_moves V seen moves g h index f m l es p q = m l es p q
-
--- ---- the count of refusals
-
--- what an error of the host says of it
-abbrev pub CountsHost : ℕ → ℕ → HostError → Type 0
-CountsHost before after host.Refused = Rose before after
-CountsHost before after (host.Fault f) = after ≡ before
-
-fault_counted : {before after : ℕ} (index : ℕ) (f : Fault) → after ≡ before → Counted (asked_error index f) before after
-fault_counted index fault.OutOfMemory same = same
-fault_counted index (fault.Resource resource.OutOfMemory) same = same
-fault_counted index (fault.Resource r) same = same
-fault_counted index f same = same
-
-stopped_counted : (before after index : ℕ) (why : HostStop) → CountsHost before after (stopped why) → Counted (stopped_error index why) before after
-stopped_counted before after index stop.Refused rose = rose
-stopped_counted before after index stop.OutOfMemory same = same
-
--- ---- results that ask for nothing
-
-quiet_trap : (r : Result (Unit {0}) Fault) (some : Bool) (ps : List Passed) (a b : Moment) (answers : List Answer) (trap : Option Trap) (ending : Ending) → EndsAs some ps r ending
-    → IfErr r (λ e. (fault_ending e ≡ refused) ⊎ (UsesLedger some ps × (e ≡ fault.OutOfMemory))) → CauseOf a b answers trap ending → trap ≡ None
-quiet_trap (Ok x) some ps a b answers trap ending ends why cause = subst (λ e. CauseOf a b answers trap e) ends cause
-quiet_trap (Err f) some ps a b answers trap ending ends why cause = untrapped a b answers trap ending cause (ending_quiet some ps f ending ends why)
 
 -- ---- the chain of steps, said of the ask
 

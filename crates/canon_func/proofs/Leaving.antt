@@ -26,8 +26,7 @@ use Rattle.canon_leaves.specs.Parts.{LeafTakes, LeavesLift, dtor_for, instance_f
 use Rattle.canon_model.specs.Leaves.{Leaf}
 use Rattle.canon_resources.specs.Held.{Any}
 use Rattle.canon_types.specs.Instance.{Instance}
-use Rattle.canon_func.specs.Call.{LiftsReturned, returned_leaves, scope_exit}
-use Rattle.canon_func.specs.Stores.{Callee}
+use Rattle.canon_func.specs.Call.{scope_exit}
 use Rattle.canon_func.proofs.Owned.{AreOwned}
 
 -- ---- own handles that are lifted
@@ -70,7 +69,7 @@ own_lifted i l n ty index h takes =
 leaf_lifted : (i : Instance) (l n : LedgerState) (leaf : Leaf) (h : ℕ) → leaf.owned ≡ true → LeafTakes l (lift_parts i leaf) h n → n.handles.scopes ≡ l.handles.scopes
 leaf_lifted i l n leaf h owned takes = own_lifted i l n leaf.resource leaf.index h (subst (λ (b : Bool). LeafTakes l (lifted_parts b i leaf.resource leaf.index) h n) owned takes)
 
-lifts_scopes : (i : Instance) (l n : LedgerState) (leaves : List Leaf) (xs : List Any) → AreOwned leaves → LeavesLift i l leaves xs n → n.handles.scopes ≡ l.handles.scopes
+pub lifts_scopes : (i : Instance) (l n : LedgerState) (leaves : List Leaf) (xs : List Any) → AreOwned leaves → LeavesLift i l leaves xs n → n.handles.scopes ≡ l.handles.scopes
 lifts_scopes i l n [] xs owned lifts = ap (λ (m : LedgerState). m.handles.scopes) lifts.1
 lifts_scopes i l n (leaf ∷ leaves) xs owned (h, rest, mid, is, takes, more) = lifts_scopes i mid n leaves rest owned.1 more ∙ leaf_lifted i l mid leaf h owned.0 takes
 
@@ -94,7 +93,8 @@ emptied h m k within is same =
       ap (λ n. scope_at m (n - 1)) count ∙ (ap (λ n. scope_at m n) (sym is) ∙ (ap (λ scopes. scope_at (record { tables = m.tables; counter = m.counter; scopes = scopes }) k) same ∙ get_or-set_same h.scopes k no_scope no_scope within)),
     )
 
-exit_refused : (h : Handles) (k : ℕ) (b : Bool) (answer : StepAnswer (Unit {0})) (l m : LedgerState) → plainly (refuse_if b fault.BorrowsRemain answer) l ≡ record { answer = Ok tt; after = m } → refuse_if b fault.BorrowsRemain answer ≡ answer
+exit_refused : (h : Handles) (k : ℕ) (b : Bool) (answer : StepAnswer (Unit {0})) (l m : LedgerState) → plainly (refuse_if b fault.BorrowsRemain answer) l ≡ record { answer = Ok tt; after = m }
+    → refuse_if b fault.BorrowsRemain answer ≡ answer
 exit_refused h k true answer l m e = absurd (let w = ap (λ (d : Done (Unit {0})). d.answer) e in cc)
 exit_refused h k false answer l m e = refl
 
@@ -102,7 +102,8 @@ some_if : (b : Bool) (n k : ℕ) → Some k ≡ (if b then Some n else None) →
 some_if true n k e = (cc, refl)
 some_if false n k e = absurd (cc)
 
-exit_at : (l m : LedgerState) (o : Option ℕ) (n : ℕ) → o ≡ (if nat_lt n (length l.handles.scopes) then Some n else None) → n ≡ length l.handles.scopes - 1 → plainly (exit_scope o l.handles) l ≡ record { answer = Ok tt; after = m } → HasEmptyTop m.handles
+exit_at : (l m : LedgerState) (o : Option ℕ) (n : ℕ) → o ≡ (if nat_lt n (length l.handles.scopes) then Some n else None) → n ≡ length l.handles.scopes - 1
+    → plainly (exit_scope o l.handles) l ≡ record { answer = Ok tt; after = m } → HasEmptyTop m.handles
 exit_at l m None n is top e = absurd (let w = ap (λ (d : Done (Unit {0})). d.answer) e in cc)
 exit_at l m (Some k) n is top e =
     let answer : StepAnswer (Unit {0}) = Ok (tt, give_back (scope_at l.handles k).lenders (with_scope l.handles k no_scope)) in
@@ -130,9 +131,9 @@ leaves_by scopes = can_leave (record { tables = []; counter = record { live = 0;
 pub ended_leaves : (l m : LedgerState) → scope_exit l ≡ record { answer = Ok tt; after = m } → can_leave m.handles ≡ true
 ended_leaves l m e = empty_leaves m.handles (ended_empty l m e)
 
-pub lifted_empty : (callee : Callee) (words memory : List ℕ) (xs : List Any) (before after : LedgerState) → AreOwned (returned_leaves callee words memory) → LiftsReturned callee words memory xs before after → can_leave after.handles ≡ true
-lifted_empty callee words memory xs before after owned h =
-    ap leaves_by (lifts_scopes callee.types h.ended after (returned_leaves callee words memory) xs owned h.lifts) ∙ empty_leaves h.ended.handles (ended_empty before h.ended h.ends)
+-- also once handles were lifted that keep the scopes
+pub lifted_leaves : (l ended m : LedgerState) → scope_exit l ≡ record { answer = Ok tt; after = ended } → m.handles.scopes ≡ ended.handles.scopes → can_leave m.handles ≡ true
+lifted_leaves l ended m ends same = ap leaves_by same ∙ ended_leaves l ended ends
 
 -- ---- refusals of the end
 

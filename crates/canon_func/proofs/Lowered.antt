@@ -1,5 +1,5 @@
 -- What lowering the parameters did.
-use Rattle.std.proofs.Common.{Bool, Err, List, None, Ok, Option, Result, Some, [], ap, inl, inr, length, map, refl, subst, sym, true, ℕ, ◌++◌, ◌∙◌, ◌≡◌, ◌≤◌, ◌⊎◌}
+use Rattle.std.proofs.Common.{Bool, Err, List, None, Ok, Option, Result, Some, [], ap, inl, inr, length, map, refl, subst, sym, ℕ, ◌++◌, ◌∙◌, ◌≡◌, ◌≤◌, ◌⊎◌}
 use Rattle.std.specs.Prelude.{IsSome, drop, false, take}
 use Rattle.std.proofs.Math.Seq.{take-append_seam}
 use Rattle.std.proofs.lemmas.Bool.{false≢true}
@@ -28,7 +28,7 @@ use Rattle.canon_context.specs.declared.fault.Fault.{Fault}
 use Rattle.canon_context.specs.declared.fault.Fault.TheVariants as fault
 use Rattle.canon_value.specs.declared.val.Val.{Val}
 use Rattle.canon_func.specs.Call.{Adding, AsksByTypes, AsksNothing, OnAnswered, words_within}
-use Rattle.canon_func.specs.Steps.{LowersFor}
+use Rattle.canon_func.specs.Steps.{EndsFor, LowersFor}
 use Rattle.canon_func.specs.declared.error.Error.TheVariants as error
 
 -- a fact of the new events of an exposed journal
@@ -50,7 +50,8 @@ lowers_at seen moves core made after b options own tuple params words result sam
     (subst (λ k. LowersFor seen moves k after own tuple params words result) same h))
 
 -- how a lowering ended that asked for nothing
-pub ending_quiet : (some : Bool) (ps : List Passed) (f : Fault) (ending : Ending) → EndsAs {T = Unit {0}} some ps (Err f) ending → (fault_ending f ≡ refused) ⊎ (UsesLedger some ps × (f ≡ fault.OutOfMemory)) → (ending ≡ short) ⊎ (ending ≡ refused)
+pub ending_quiet : (some : Bool) (ps : List Passed) (f : Fault) (ending : Ending) → EndsAs {T = Unit {0}} some ps (Err f) ending → (fault_ending f ≡ refused) ⊎ (UsesLedger some ps × (f ≡ fault.OutOfMemory))
+    → (ending ≡ short) ⊎ (ending ≡ refused)
 ending_quiet some ps fault.OutOfMemory ending (inl is) h = inl is
 ending_quiet some ps fault.OutOfMemory ending (inr both) h = inr both.1
 ending_quiet some ps f ending is (inl e) = inr (is ∙ e)
@@ -61,11 +62,11 @@ pub untrapped : (a b : Moment) (answers : List Answer) (trap : Option Trap) (end
 untrapped a b answers trap ending cause (inl is) = (subst (λ end. CauseOf a b answers trap end) is cause).0
 untrapped a b answers trap ending cause (inr is) = subst (λ end. CauseOf a b answers trap end) is cause
 
--- it ended so whether there are handles or not
-ends_any : (T U : Type 0) (some : Bool) (ps : List Passed) (f : Fault) (ending : Ending) → EndsAs {T = T} some ps (Err f) ending → EndsAs {T = U} true ps (Err f) ending
-ends_any T U some ps fault.OutOfMemory ending (inl is) = inl is
-ends_any T U some ps fault.OutOfMemory ending (inr both) = inr ((refl, both.0.1), both.1)
-ends_any T U some ps f ending is = is
+-- whether there are handles or not
+ends_for : (T : Type 0) (some : Bool) (ps : List Passed) (f : Fault) (ending : Ending) → EndsAs {T = T} some ps (Err f) ending → EndsFor f ending
+ends_for T some ps fault.OutOfMemory ending (inl is) = inl is
+ends_for T some ps fault.OutOfMemory ending (inr both) = inr both.1
+ends_for T some ps f ending is = is
 
 -- what a refused lowering says of the guest's moves
 pub refused_moves : {G : Type 0} (V : Type 0) (seen : G → Seen) (moves : GuestIn G → List Event → GuestIn G → Type 0) (g h : GuestIn G) (f : Fault) → Moves seen moves g h (fault_ending f)
@@ -130,7 +131,7 @@ module _ (a b : Moment) (enc : Encoding) (types : Instance) (ms ns : Members) (p
       → (members_flat ms ≤ max_params → have_block ms ≡ false → (b ≡ a) × ((fault_ending f ≡ refused) ⊎ (UsesLedger (have_handle ms) (all_passes ms params) × (f ≡ fault.OutOfMemory))))
       → ((l es : List Event) → a.guest.journal ≡ Some l → b.guest.journal ≡ Some (l ++ es) → M es)
       → Adding a b M (λ es. ((f ≡ fault.OutOfMemory) × (b ≡ a) × (l2 ≡ l) × (es ≡ [])) ⊎ ((words hs : List ℕ) × (ending : Ending) × (low : LowersArgs false a b enc ns (HaveTrees ns params) words hs ending)
-      × EndsAs {T = Unit {0}} true (all_passes ns params) (Err f) ending × BlamesMembers enc ns params f × (told_fault f ≡ f) × (es ≡ events_of low.answers low.trap) × AsksByTypes ns ending low.answers low.trap
+      × EndsFor f ending × BlamesMembers enc ns params f × (told_fault f ≡ f) × (es ≡ events_of low.answers low.trap) × AsksByTypes ns ending low.answers low.trap
       × LeavesStop (stop_of f) l (map (lower_parts types) (all_passes ns params)) l2))
   lowered_refused f dst M cross blames same new =
       let both : Lowers ns dst cross.given cross.ending = subst (λ ks. Lowers ks dst cross.given cross.ending) is cross.lowered in
@@ -144,7 +145,7 @@ module _ (a b : Moment) (enc : Encoding) (types : Instance) (ms ns : Members) (p
           cross.given,
           cross.ending,
           mine,
-          subst (λ ks. EndsAs {T = Unit {0}} true (all_passes ks params) (Err f) cross.ending) is (ends_any (Unit {0}) (Unit {0}) (have_handle ms) (all_passes ms params) f cross.ending cross.ends),
+          ends_for (Unit {0}) (have_handle ms) (all_passes ms params) f cross.ending cross.ends,
           subst (λ ks. BlamesMembers enc ks params f) is blames,
           cross.as_told,
           refl,

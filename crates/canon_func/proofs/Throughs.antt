@@ -1,24 +1,25 @@
 -- The ledger of a call, step after step.
-use Rattle.std.proofs.Common.{List, Ok, [], ap, inl, inr, refl, subst, sym, true, ℕ, ◌++◌, ◌∷◌, ◌≡◌}
+use Rattle.std.proofs.Common.{List, Ok, Option, [], ap, inl, inr, refl, subst, sym, true, ℕ, ◌++◌, ◌∷◌, ◌≡◌}
 use Rattle.canon_memory.specs.declared.event.Event.{Event}
 use Rattle.canon_memory.specs.declared.event.Event.TheVariants as event
+use Rattle.canon_lowering.specs.Lowering.{Answer, Trap}
 use Rattle.canon_ledger.specs.Handles.{can_leave, top_scope}
 use Rattle.canon_ledger.specs.Ledger.{Done, ExitScope, Leave, LedgerState, LedgerStep, Through, do_step, enter, leave, leaving, numbered}
 use Rattle.canon_ledger.proofs.LedgerLemmas.{compose}
 use Rattle.canon_leaves.proofs.Lifts.{lifts_take}
 use Rattle.canon_leaves.proofs.Through.{leaves_through}
-use Rattle.canon_leaves.specs.Parts.{LeavesTake}
+use Rattle.canon_leaves.specs.Parts.{LeavesTake, Part}
 use Rattle.canon_leaves.specs.Steps.{leaves_steps}
-use Rattle.canon_value.specs.Resources.{all_resources}
-use Rattle.canon_value.specs.declared.val.Val.{Val}
 use Rattle.canon_func.proofs.Leaving.{ended_leaves}
 use Rattle.canon_host.specs.HostSide.{Giving, HostSide}
 use Rattle.canon_func.specs.Asks.{AreServed}
-use Rattle.canon_func.specs.Call.{Concludes, param_parts, result_parts, returned_leaves}
+use Rattle.canon_func.specs.Call.{Concludes, HandlesPassOf, dynamic, dynamic_results}
 use Rattle.canon_func.specs.HostAsks.{IsHostServed, asked_exit}
-use Rattle.canon_func.specs.Laws.{AskThrough, AsksThrough, CallIsThrough, CallThrough, asked_parts, given_parts, last_steps}
+use Rattle.canon_func.specs.Laws.{AskThrough, AsksThrough, CallIsThrough, CallThrough, PassesThrough, asked_parts, given_parts, last_steps}
+use Rattle.canon_func.specs.Passing.{Arguments, Returns}
 use Rattle.canon_func.specs.Runs.{AskTurn, Each, OnReturn}
 use Rattle.canon_func.specs.Stores.{Callee}
+use Rattle.canon_func.proofs.Passed.{ReadsRightly, dynamic_reads}
 
 each_return : (P Q : List ℕ → List ℕ → Type 0) → ((ws m : List ℕ) → P ws m → Q ws m) → (events : List Event) → Each (OnReturn P) events → Each (OnReturn Q) events
 each_return P Q f [] h = tt
@@ -68,21 +69,27 @@ module _ {T : Type 0} (gives : Giving T) (callee : Callee) (fuel : ℕ) where
       (mid.ledger, inl (is.called, is.is.known, (is.answer, ap (λ (d : Done ℕ). d.answer) is.taken, sym (ap (λ (d : Done ℕ). d.after) is.taken))), turns_through turns mid n rest)
   turns_through (t ∷ turns) l n (mid, inr is, rest) = (mid.ledger, host_through t l mid is, turns_through turns mid n rest)
 
-  pub call_through : (params : List Val) (turns : List AskTurn) (before served : HostSide T) (given : List ℕ) (lowered : LedgerState) → LeavesTake (enter before.ledger) (param_parts callee params) given lowered
-      → AreServed gives callee fuel turns (record before { ledger = lowered }) served → CallThrough callee params turns before.ledger served.ledger
-  call_through params turns before served given lowered took serves = record {
+  pub call_through : (parts : List (List Part)) (turns : List AskTurn) (before served : HostSide T) (given : List ℕ) (lowered : LedgerState) → LeavesTake (enter before.ledger) parts given lowered
+      → AreServed gives callee fuel turns (record before { ledger = lowered }) served → CallThrough callee parts turns before.ledger served.ledger
+  call_through parts turns before served given lowered took serves = record {
     lowered = lowered;
-    first = (0, refl, leaves_through (enter before.ledger) lowered (param_parts callee params) given took);
+    first = (0, refl, leaves_through (enter before.ledger) lowered parts given took);
     asks = turns_through turns (record before { ledger = lowered }) served serves;
   }
 
-last_through : (callee : Callee) (words memory : List ℕ) (results : List Val) (l n : LedgerState) → Concludes callee words memory results l n → Through l (last_steps callee words memory l) n
-last_through callee words memory results l n h =
-    let taken = lifts_take callee.types h.lifts.ended h.lifted (returned_leaves callee words memory) (all_resources results) h.lifts.lifts in
-    subst (λ k. Through l (ExitScope (top_scope l.handles) ∷ leaves_steps k (result_parts callee words memory) ++ Leave ∷ []) n) (ended_is l h.lifts.ended h.lifts.ends)
-    (ended_through l h.lifts.ended n (leaves_steps h.lifts.ended (result_parts callee words memory) ++ Leave ∷ []) h.lifts.ends
-    (compose h.lifts.ended h.lifted n (leaves_steps h.lifts.ended (result_parts callee words memory)) (Leave ∷ []) (leaves_through h.lifts.ended h.lifted (result_parts callee words memory) taken.0 taken.1) (left_through h.lifted n h.empty h.left)))
+module _ {T R : Type 0} (args : Arguments) (its : Returns R) (gives : Giving T) (callee : Callee) (fuel : ℕ) (law : ReadsRightly callee its) where
+  last_through : (words memory : List ℕ) (results : R) (l n : LedgerState) → Concludes its callee words memory results l n → Through l (last_steps (its.parts words memory) l) n
+  last_through words memory results l n h =
+      let taken = law.taken words memory h.lifts.ended h.lifted (law.accepted words memory h.lifts.ended h.lifted results h.lifts.lifts) in
+      subst (λ k. Through l (ExitScope (top_scope l.handles) ∷ leaves_steps k (its.parts words memory) ++ Leave ∷ []) n) (ended_is l h.lifts.ended h.lifts.ends)
+      (ended_through l h.lifts.ended n (leaves_steps h.lifts.ended (its.parts words memory) ++ Leave ∷ []) h.lifts.ends
+      (compose h.lifts.ended h.lifted n (leaves_steps h.lifts.ended (its.parts words memory)) (Leave ∷ []) (leaves_through h.lifts.ended h.lifted (its.parts words memory) taken.0 taken.1) (left_through h.lifted n h.empty h.left)))
+
+  pub passes_through : (turns : List AskTurn) (memory2 : List ℕ) (late : List Answer) (trap : Option Trap) (before after : HostSide T) (given : List ℕ) (results : R) (events tail : List Event)
+      → HandlesPassOf args its gives callee fuel turns memory2 late trap before after given (Ok results) events tail → PassesThrough callee args.parts its.parts turns before.ledger after.ledger tail
+  passes_through turns memory2 late trap before after given results events tail (lowered, took, (served, serves, (each, kept))) =
+      (served.ledger, call_through gives callee fuel args.parts turns before served given lowered took serves, each_return _ _ (λ ws m h. last_through ws m results served.ledger after.ledger h) tail each)
 
 pub call_is_through : {T : Type 0} (gives : Giving T) → CallIsThrough gives
-call_is_through gives callee fuel params turns memory2 late trap before after given results events tail (lowered, took, (served, serves, (each, kept))) =
-    (served.ledger, call_through gives callee fuel params turns before served given lowered took serves, each_return _ _ (λ ws m h. last_through callee ws m results served.ledger after.ledger h) tail each)
+call_is_through gives callee fuel params turns memory2 late trap before after given results events tail h =
+    passes_through (dynamic callee params) (dynamic_results callee) gives callee fuel (dynamic_reads callee) turns memory2 late trap before after given results events tail h

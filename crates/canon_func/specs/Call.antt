@@ -1,5 +1,6 @@
--- What a call did.
-use Rattle.std.specs.Prelude.{Bool, Err, IfErr, IsOkUnless, IsSome, List, None, Ok, OnOk, Option, Result, Some, [], false, if◌then◌else◌, length, map, nat_le, not, slice_get, slice_index, true, ℕ, ⊤, ◌%◌, ◌&&◌, ◌++◌, ◌+◌, ◌<◌, ◌==◌, ◌∷◌, ◌≡◌, ◌≢◌, ◌≤◌, ◌⊎◌}
+-- What a call did. Of a call that entered the guest this is said over what its parameters and its results are (`Arguments` and `Returns`);
+-- at the end stands what it says of dynamic values.
+use Rattle.std.specs.Prelude.{Bool, Err, IfErr, IfOk, IsOkUnless, IsSome, List, None, Ok, OnOk, Option, Result, Some, [], false, if◌then◌else◌, length, map, nat_le, not, slice_get, slice_index, true, ℕ, ⊤, ◌%◌, ◌&&◌, ◌++◌, ◌+◌, ◌<◌, ◌==◌, ◌∷◌, ◌≡◌, ◌≢◌, ◌≤◌, ◌⊎◌}
 use Rattle.canon_model.specs.Cost.{members_cost}
 use Rattle.canon_model.specs.Flat.{RepArgs, RepResults, max_params, max_results}
 use Rattle.canon_model.specs.Homes.{ParamsHome, PointsTo}
@@ -40,6 +41,7 @@ use Rattle.canon_context.specs.declared.fault.Fault.TheVariants as fault
 use Rattle.canon_value.specs.declared.val.Val.{Val}
 use Rattle.canon_host.specs.HostSide.{Giving, HostSide}
 use Rattle.canon_func.specs.Asks.{AreServed, AskStops, AcceptsAsk, Limits, import_words}
+use Rattle.canon_func.specs.Passing.{Arguments, Returns}
 use Rattle.canon_func.specs.Runs.{AskTurn, BeginsInAsk, Each, EndsIn, Grows, IsAnswer, IsNoPost, IsNoReturn, IsNoStart, IsOneRun, IsPrefixOfRun, IsReturn, IsTrap, MayStart, OnAsk, OnReturn, OnStart, SomeReturn, answers_in, asks_in}
 use Rattle.canon_func.specs.Stores.{Callee}
 use Rattle.canon_func.specs.declared.error.Error.{Error}
@@ -54,6 +56,10 @@ refusal callee params results trapped = first_error (
     ∷ (callee.async_, error.AsyncLifted)
     ∷ (trapped, error.CannotEnterComponent)
     ∷ [])
+
+-- the same of any call, whatever is passed
+abbrev pub entry_refusal : Callee → Bool → Option Error
+entry_refusal callee trapped = first_error ((callee.async_, error.AsyncLifted) ∷ (trapped, error.CannotEnterComponent) ∷ [])
 
 -- the error, where it is one of these three
 abbrev pub refused_by : Result (Unit {0}) Error → Option Error
@@ -76,12 +82,12 @@ words_within most ms = if nat_le (members_flat ms) most then members_flat ms els
 
 -- The guest was started with these words in this memory: they stand for the parameters, with these handles in order, as far as
 -- the answers kept the law of `realloc`.
-pub record IsStart (callee : Callee) (params : List Val) (entry : List ℕ) (answers : List Answer) (given : List ℕ) (words memory : List ℕ) : Type 0 where
+pub record IsStart (args : Arguments) (callee : Callee) (entry : List ℕ) (answers : List Answer) (given : List ℕ) (words memory : List ℕ) : Type 0 where
   pub trees : Trees
-  pub have : HaveTrees callee.params params trees
+  pub have : args.are trees
   pub handles : handle_numbers (members_leaves callee.params trees) ≡ given
   -- no text among them is too long, and no list or map too large
-  pub small : AreSmall callee.encoding callee.params params
+  pub small : args.small
   -- memory isn't shorter than at the call's entry
   pub no_shorter : length entry ≤ length memory
   -- there are as many words as the parameters take; each answer is aligned, and its block ends inside memory
@@ -114,40 +120,41 @@ AsksByTypes ms ending answers trap = AsksNothing ms answers trap × AsksTuple ms
 abbrev pub result_words : Members → ℕ
 result_words ms = words_within max_results ms
 
--- there are as many words as the results take, and they or the memory that was returned have a fault of this kind there
-abbrev pub HasFault : Callee → Kind → At → List ℕ → List ℕ → Type 0
-HasFault callee kind at words memory = (length words ≡ result_words callee.results) × ValuesFault callee.encoding (narrow memory) words max_results callee.results kind (place_of at)
+module _ {R : Type 0} (its : Returns R) (callee : Callee) where
+  -- there are as many words as the results take, and they or the memory that was returned have a fault of this kind there
+  abbrev pub HasFault : Kind → At → List ℕ → List ℕ → Type 0
+  HasFault kind at words memory = (length words ≡ result_words callee.results) × its.faults words memory kind (place_of at)
 
--- what as many words stand for, as far as it was reached, costs more than this fuel
-abbrev pub IsPastFuel : Callee → ℕ → List ℕ → List ℕ → Type 0
-IsPastFuel callee fuel words memory = (length words ≡ result_words callee.results) × (fuel < values_reach callee.encoding (narrow memory) words max_results callee.results)
+  -- what as many words stand for, as far as it was reached, costs more than this fuel
+  abbrev pub IsPastFuel : ℕ → List ℕ → List ℕ → Type 0
+  IsPastFuel fuel words memory = (length words ≡ result_words callee.results) × (fuel < its.reach words memory)
 
 -- Why a call was refused with this fault. Of a refusal of the ledger this says when it came: before the start, or at the end of the
 -- call's scope or in lifting; why it was refused follows from the ledger (`HandlesPass`), and it is never out of memory.
-abbrev pub FaultCause : Callee → ℕ → List Val → Moment → Moment → List Event → Fault → Type 0
-FaultCause callee fuel params before after events (fault.TypeMismatch k) = Each IsNoStart events × ¬ EndsIn IsTrap events × BlamesMembers callee.encoding callee.params params (fault.TypeMismatch k)
-FaultCause callee fuel params before after events (fault.FieldName k) = Each IsNoStart events × ¬ EndsIn IsTrap events × BlamesMembers callee.encoding callee.params params (fault.FieldName k)
-FaultCause callee fuel params before after events (fault.UnknownCase k) = Each IsNoStart events × ¬ EndsIn IsTrap events × BlamesMembers callee.encoding callee.params params (fault.UnknownCase k)
-FaultCause callee fuel params before after events (fault.UnknownFlag k) = Each IsNoStart events × ¬ EndsIn IsTrap events × BlamesMembers callee.encoding callee.params params (fault.UnknownFlag k)
-FaultCause callee fuel params before after events (fault.PayloadExpected k) = Each IsNoStart events × ¬ EndsIn IsTrap events × BlamesMembers callee.encoding callee.params params (fault.PayloadExpected k)
-FaultCause callee fuel params before after events (fault.PayloadNotExpected k) = Each IsNoStart events × ¬ EndsIn IsTrap events × BlamesMembers callee.encoding callee.params params (fault.PayloadNotExpected k)
-FaultCause callee fuel params before after events (fault.LengthMismatch k) = Each IsNoStart events × ¬ EndsIn IsTrap events × BlamesMembers callee.encoding callee.params params (fault.LengthMismatch k)
-FaultCause callee fuel params before after events (fault.StringTooLong n) = Each IsNoStart events × ¬ EndsIn IsTrap events × BlamesMembers callee.encoding callee.params params (fault.StringTooLong n)
-FaultCause callee fuel params before after events (fault.SizeOverflow n) = Each IsNoStart events × ¬ EndsIn IsTrap events × BlamesMembers callee.encoding callee.params params (fault.SizeOverflow n)
-FaultCause callee fuel params before after events (fault.ReallocMisaligned a) =
+abbrev pub FaultCause : {R : Type 0} → Arguments → Returns R → Callee → ℕ → Moment → Moment → List Event → Fault → Type 0
+FaultCause args its callee fuel before after events (fault.TypeMismatch k) = Each IsNoStart events × ¬ EndsIn IsTrap events × args.blames (fault.TypeMismatch k)
+FaultCause args its callee fuel before after events (fault.FieldName k) = Each IsNoStart events × ¬ EndsIn IsTrap events × args.blames (fault.FieldName k)
+FaultCause args its callee fuel before after events (fault.UnknownCase k) = Each IsNoStart events × ¬ EndsIn IsTrap events × args.blames (fault.UnknownCase k)
+FaultCause args its callee fuel before after events (fault.UnknownFlag k) = Each IsNoStart events × ¬ EndsIn IsTrap events × args.blames (fault.UnknownFlag k)
+FaultCause args its callee fuel before after events (fault.PayloadExpected k) = Each IsNoStart events × ¬ EndsIn IsTrap events × args.blames (fault.PayloadExpected k)
+FaultCause args its callee fuel before after events (fault.PayloadNotExpected k) = Each IsNoStart events × ¬ EndsIn IsTrap events × args.blames (fault.PayloadNotExpected k)
+FaultCause args its callee fuel before after events (fault.LengthMismatch k) = Each IsNoStart events × ¬ EndsIn IsTrap events × args.blames (fault.LengthMismatch k)
+FaultCause args its callee fuel before after events (fault.StringTooLong n) = Each IsNoStart events × ¬ EndsIn IsTrap events × args.blames (fault.StringTooLong n)
+FaultCause args its callee fuel before after events (fault.SizeOverflow n) = Each IsNoStart events × ¬ EndsIn IsTrap events × args.blames (fault.SizeOverflow n)
+FaultCause args its callee fuel before after events (fault.ReallocMisaligned a) =
     Each IsNoStart events × EndsIn (IsAnswer (λ c answer. (answer ≡ a) × ¬ (a % c.align ≡ 0))) events
-FaultCause callee fuel params before after events (fault.ReallocOutOfBounds a) =
+FaultCause args its callee fuel before after events (fault.ReallocOutOfBounds a) =
     Each IsNoStart events × EndsIn (IsAnswer (λ c answer. (answer ≡ a) × (a % c.align ≡ 0) × ¬ (a + c.new_size ≤ length after.bytes))) events
-FaultCause callee fuel params before after events fault.GuestTrap = Rose before.guest.traps after.guest.traps × EndsIn IsTrap events
-FaultCause callee fuel params before after events (fault.PointerMisaligned at) = EndsIn (IsReturn (HasFault callee misaligned at)) events
-FaultCause callee fuel params before after events (fault.PointerOutOfBounds at) = EndsIn (IsReturn (HasFault callee out_of_bounds at)) events
-FaultCause callee fuel params before after events (fault.InvalidUtf8 at) = EndsIn (IsReturn (HasFault callee (badly_spelled in_utf8) at)) events
-FaultCause callee fuel params before after events (fault.InvalidUtf16 at) = EndsIn (IsReturn (HasFault callee (badly_spelled in_utf16) at)) events
-FaultCause callee fuel params before after events (fault.InvalidChar at) = EndsIn (IsReturn (HasFault callee no_scalar at)) events
-FaultCause callee fuel params before after events (fault.BadDiscriminant at d) = EndsIn (IsReturn (HasFault callee (no_case d) at)) events
-FaultCause callee fuel params before after events fault.HostcallFuelExhausted = EndsIn (IsReturn (IsPastFuel callee fuel)) events
-FaultCause callee fuel params before after events fault.OutOfMemory = ⊤
-FaultCause callee fuel params before after events (fault.Resource e) = (refusal_of e ≡ Some e)
+FaultCause args its callee fuel before after events fault.GuestTrap = Rose before.guest.traps after.guest.traps × EndsIn IsTrap events
+FaultCause args its callee fuel before after events (fault.PointerMisaligned at) = EndsIn (IsReturn (HasFault its callee misaligned at)) events
+FaultCause args its callee fuel before after events (fault.PointerOutOfBounds at) = EndsIn (IsReturn (HasFault its callee out_of_bounds at)) events
+FaultCause args its callee fuel before after events (fault.InvalidUtf8 at) = EndsIn (IsReturn (HasFault its callee (badly_spelled in_utf8) at)) events
+FaultCause args its callee fuel before after events (fault.InvalidUtf16 at) = EndsIn (IsReturn (HasFault its callee (badly_spelled in_utf16) at)) events
+FaultCause args its callee fuel before after events (fault.InvalidChar at) = EndsIn (IsReturn (HasFault its callee no_scalar at)) events
+FaultCause args its callee fuel before after events (fault.BadDiscriminant at d) = EndsIn (IsReturn (HasFault its callee (no_case d) at)) events
+FaultCause args its callee fuel before after events fault.HostcallFuelExhausted = EndsIn (IsReturn (IsPastFuel its callee fuel)) events
+FaultCause args its callee fuel before after events fault.OutOfMemory = ⊤
+FaultCause args its callee fuel before after events (fault.Resource e) = (refusal_of e ≡ Some e)
     × ((Each IsNoStart events × ¬ EndsIn IsTrap events) ⊎ EndsIn (IsReturn (λ words m. length words ≡ result_words callee.results)) events)
 
 -- Why an ask wasn't served, by all events and those after the turns: it is the last event, and one more than the call has, or of no
@@ -167,62 +174,52 @@ AskCause callee limits before after events tail (error.HostRefused n) =
 AskCause callee limits before after events tail _ = ⊥
 
 -- why a call was refused with this error, which isn't one of those before the guest is entered
-abbrev pub Cause : Callee → Limits → List Val → Moment → Moment → List Event → List Event → Error → Type 0
-Cause callee limits params before after events tail (error.Fault f) = FaultCause callee limits.fuel params before after events f
-Cause callee limits params before after events tail error.WrongWords =
+abbrev pub Cause : {R : Type 0} → Arguments → Returns R → Callee → Limits → Moment → Moment → List Event → List Event → Error → Type 0
+Cause args its callee limits before after events tail (error.Fault f) = FaultCause args its callee limits.fuel before after events f
+Cause args its callee limits before after events tail error.WrongWords =
     EndsIn (IsReturn (λ words m. ¬ (length words ≡ result_words callee.results))) events ⊎ AskCause callee limits before after events tail error.WrongWords
-Cause callee limits params before after events tail e = AskCause callee limits before after events tail e
+Cause args its callee limits before after events tail e = AskCause callee limits before after events tail e
 
 -- how lowering the parameters of a call that answered so ended: a fault of its own ended it, and it was done else
-abbrev pub lowering_ending : Result (Unit {0}) Error → Ending
+abbrev pub lowering_ending : {R : Type 0} → Result R Error → Ending
 lowering_ending (Ok x) = done
 lowering_ending (Err (error.Fault f)) = fault_ending f
 lowering_ending (Err _) = done
 
 -- ---- handles
 
--- what the handles among the parameters do, in order
-abbrev pub param_parts : Callee → List Val → List (List Part)
-param_parts callee params = map (lower_parts callee.types) (all_passes callee.params params)
-
--- the handles at the reached places of a return, in order
-abbrev pub returned_leaves : Callee → List ℕ → List ℕ → List Leaf
-returned_leaves callee words memory = values_leaves (narrow memory) words max_results callee.results
-
-abbrev pub result_parts : Callee → List ℕ → List ℕ → List (List Part)
-result_parts callee words memory = map (lift_parts callee.types) (returned_leaves callee words memory)
-
 -- The end of the call whose scope is the top one: each borrow handle that it was given was dropped (else `BorrowsRemain`), and what
 -- was lent to it is given back.
 abbrev pub scope_exit : LedgerState → Done (Unit {0})
 scope_exit l = validate_scope_exit (top_scope l.handles) l
 
--- The scope of the call ended, and the handles of the results were lifted to these resources.
-pub record LiftsReturned (callee : Callee) (words memory : List ℕ) (resources : List Any) (before after : LedgerState) : Type 0 where
+-- The scope of the call ended, and then the handles of the results took the ledger on so.
+pub record LiftsReturned (Lifts : LedgerState → LedgerState → Type 0) (before after : LedgerState) : Type 0 where
   pub ended : LedgerState
   pub ends : scope_exit before ≡ record { answer = Ok tt; after = ended }
-  pub lifts : LeavesLift callee.types ended (returned_leaves callee words memory) resources after
+  pub lifts : Lifts ended after
 
--- The ledger refused the end of the scope, or after it a handle of the results, for this reason; or lifting stopped for another.
-abbrev pub StopsReturned : Callee → List ℕ → List ℕ → Option ResourceFault → LedgerState → LedgerState → Type 0
-StopsReturned callee words memory why before after =
-    ((e : ResourceFault) × (why ≡ Some e) × (scope_exit before ≡ record { answer = Err e; after = after }))
-    ⊎ ((ended : LedgerState) × (scope_exit before ≡ record { answer = Ok tt; after = ended }) × LeavesStop why ended (result_parts callee words memory) after)
+module _ {R : Type 0} (its : Returns R) (callee : Callee) where
+  -- The ledger refused the end of the scope, or after it a handle of the results, for this reason; or lifting stopped for another.
+  abbrev pub StopsReturned : List ℕ → List ℕ → Option ResourceFault → LedgerState → LedgerState → Type 0
+  StopsReturned words memory why before after =
+      ((e : ResourceFault) × (why ≡ Some e) × (scope_exit before ≡ record { answer = Err e; after = after }))
+      ⊎ ((ended : LedgerState) × (scope_exit before ≡ record { answer = Ok tt; after = ended }) × LeavesStop why ended (its.parts words memory) after)
 
--- From the return on, of a call that is Ok: then the scope was left.
-pub record Concludes (callee : Callee) (words memory : List ℕ) (results : List Val) (before after : LedgerState) : Type 0 where
-  pub lifted : LedgerState
-  pub lifts : LiftsReturned callee words memory (all_resources results) before lifted
-  pub empty : can_leave lifted.handles ≡ true
-  pub left : after ≡ leave lifted
+  -- From the return on, of a call that is Ok: then the scope was left.
+  pub record Concludes (words memory : List ℕ) (results : R) (before after : LedgerState) : Type 0 where
+    pub lifted : LedgerState
+    pub lifts : LiftsReturned (λ l m. its.lifts words memory l results m) before lifted
+    pub empty : can_leave lifted.handles ≡ true
+    pub left : after ≡ leave lifted
 
--- Of a call that was refused, after its start and not in an ask: nothing more before a return, or at one of another number of words than
--- the results take; at one of as many words, or after it in post-return, the ledger went on.
-abbrev pub StopsLater : Callee → Option ResourceFault → LedgerState → LedgerState → List Event → Type 0
-StopsLater callee why before after events =
-    ((why ≡ None) × (after ≡ before) × (Each IsNoReturn events ⊎ EndsIn (IsReturn (λ words m. ¬ (length words ≡ result_words callee.results))) events) × OnAsk (λ index words m more. ⊥) events)
-    ⊎ ((Each IsNoPost events) × (¬ EndsIn IsTrap events) × SomeReturn (λ words m. (length words ≡ result_words callee.results) × StopsReturned callee words m why before after) events)
-    ⊎ ((why ≡ None) × (¬ Each IsNoPost events) × SomeReturn (λ words m. (resources : List Any) × LiftsReturned callee words m resources before after) events)
+  -- Of a call that was refused, after its start and not in an ask: nothing more before a return, or at one of another number of words than
+  -- the results take; at one of as many words, or after it in post-return, the ledger went on.
+  abbrev pub StopsLater : Option ResourceFault → LedgerState → LedgerState → List Event → Type 0
+  StopsLater why before after events =
+      ((why ≡ None) × (after ≡ before) × (Each IsNoReturn events ⊎ EndsIn (IsReturn (λ words m. ¬ (length words ≡ result_words callee.results))) events) × OnAsk (λ index words m more. ⊥) events)
+      ⊎ ((Each IsNoPost events) × (¬ EndsIn IsTrap events) × SomeReturn (λ words m. (length words ≡ result_words callee.results) × StopsReturned words m why before after) events)
+      ⊎ ((why ≡ None) × (¬ Each IsNoPost events) × SomeReturn (λ words m. LiftsReturned (its.accepts words m) before after) events)
 
 -- the refusal of the ledger that a call answers, if it is one
 abbrev pub stopped_by : Error → Option ResourceFault
@@ -234,35 +231,37 @@ module _ {T : Type 0} (gives : Giving T) (callee : Callee) (fuel : ℕ) where
   abbrev pub AfterTurns : List AskTurn → HostSide T → (HostSide T → Type 0) → Type 0
   AfterTurns turns before P = (served : HostSide T) × AreServed gives callee fuel turns before served × P served
 
+module _ {T R : Type 0} (its : Returns R) (gives : Giving T) (callee : Callee) (fuel : ℕ) where
   -- a call that was refused after its start stopped at an ask that it didn't resume, or otherwise
-  abbrev pub StopsStarted : Error → List ℕ → List Answer → Option Trap → HostSide T → HostSide T → List Event → Type 0
-  StopsStarted e memory2 late late_trap before after tail =
-      (StopsLater callee (stopped_by e) before.ledger after.ledger tail × (after ≡ record before { ledger = after.ledger }))
+  abbrev pub StopsStartedOf : Error → List ℕ → List Answer → Option Trap → HostSide T → HostSide T → List Event → Type 0
+  StopsStartedOf e memory2 late late_trap before after tail =
+      (StopsLater its callee (stopped_by e) before.ledger after.ledger tail × (after ≡ record before { ledger = after.ledger }))
       ⊎ BeginsInAsk (λ index words memory more. AskStops gives callee fuel e index words memory memory2 late late_trap before after) tail
-
-  -- What became of the host, by the call's events. At Ok a scope was opened, the handles of the parameters were lowered in it, in
-  -- order, and were given these numbers; each ask was served; and from the return on as above. A refused call stopped somewhere on this
-  -- way, its scope is left open, and a refusal of the ledger is that of the step at which it stopped. Where memory ran out for the
-  -- scope, nothing was done.
-  abbrev pub HandlesPass : List Val → List AskTurn → List ℕ → List Answer → Option Trap → HostSide T → HostSide T → List ℕ → Result (Unit {0}) Error → List Val → List Event → List Event → Type 0
-  HandlesPass params turns memory2 late late_trap before after given (Ok x) results events tail =
-      (lowered : LedgerState) × LeavesTake (enter before.ledger) (param_parts callee params) given lowered
-      × AfterTurns turns (record before { ledger = lowered }) (λ served. Each (OnReturn (λ words m. Concludes callee words m results served.ledger after.ledger)) tail × (after ≡ record served { ledger = after.ledger }))
-  HandlesPass params turns memory2 late late_trap before after given (Err e) results events tail =
-      ((e ≡ error.Fault fault.OutOfMemory) × (events ≡ []) × (after ≡ before))
-      ⊎ (Each IsNoStart events × LeavesStop (stopped_by e) (enter before.ledger) (param_parts callee params) after.ledger × (after ≡ record before { ledger = after.ledger }))
-      ⊎ ((lowered : LedgerState) × LeavesTake (enter before.ledger) (param_parts callee params) given lowered
-      × AfterTurns turns (record before { ledger = lowered }) (λ served. StopsStarted e memory2 late late_trap served after tail))
 
   -- an ask that isn't resumed can be served, and at a return the ledger accepts the end of the scope and each handle of the results
   abbrev pub AcceptsLater : HostSide T → List Event → Type 0
   AcceptsLater before tail = OnAsk (λ index words memory more. AcceptsAsk gives callee fuel index words memory before) tail
-      × Each (OnReturn (λ words m. (resources : List Any) × (lifted : LedgerState) × LiftsReturned callee words m resources before.ledger lifted)) tail
+      × Each (OnReturn (λ words m. (lifted : LedgerState) × LiftsReturned (its.accepts words m) before.ledger lifted)) tail
+
+module _ {T R : Type 0} (args : Arguments) (its : Returns R) (gives : Giving T) (callee : Callee) (fuel : ℕ) where
+  -- What became of the host, by the call's events. At Ok a scope was opened, the handles of the parameters were lowered in it, in
+  -- order, and were given these numbers; each ask was served; and from the return on as above. A refused call stopped somewhere on this
+  -- way, its scope is left open, and a refusal of the ledger is that of the step at which it stopped. Where memory ran out for the
+  -- scope, nothing was done.
+  abbrev pub HandlesPassOf : List AskTurn → List ℕ → List Answer → Option Trap → HostSide T → HostSide T → List ℕ → Result R Error → List Event → List Event → Type 0
+  HandlesPassOf turns memory2 late late_trap before after given (Ok results) events tail =
+      (lowered : LedgerState) × LeavesTake (enter before.ledger) args.parts given lowered
+      × AfterTurns gives callee fuel turns (record before { ledger = lowered }) (λ served. Each (OnReturn (λ words m. Concludes its callee words m results served.ledger after.ledger)) tail × (after ≡ record served { ledger = after.ledger }))
+  HandlesPassOf turns memory2 late late_trap before after given (Err e) events tail =
+      ((e ≡ error.Fault fault.OutOfMemory) × (events ≡ []) × (after ≡ before))
+      ⊎ (Each IsNoStart events × LeavesStop (stopped_by e) (enter before.ledger) args.parts after.ledger × (after ≡ record before { ledger = after.ledger }))
+      ⊎ ((lowered : LedgerState) × LeavesTake (enter before.ledger) args.parts given lowered
+      × AfterTurns gives callee fuel turns (record before { ledger = lowered }) (λ served. StopsStartedOf its gives callee fuel e memory2 late late_trap served after tail))
 
   -- the same of the whole call, after each handle of the parameters and each ask that was resumed, however it was served
-  abbrev pub Accepts : List Val → List AskTurn → HostSide T → List Event → Type 0
-  Accepts params turns before tail = (given : List ℕ) × (lowered : LedgerState) × LeavesTake (enter before.ledger) (param_parts callee params) given lowered
-      × ((served : HostSide T) → AreServed gives callee fuel turns (record before { ledger = lowered }) served → AcceptsLater served tail)
+  abbrev pub Accepts : List AskTurn → HostSide T → List Event → Type 0
+  Accepts turns before tail = (given : List ℕ) × (lowered : LedgerState) × LeavesTake (enter before.ledger) args.parts given lowered
+      × ((served : HostSide T) → AreServed gives callee fuel turns (record before { ledger = lowered }) served → AcceptsLater its gives callee fuel served tail)
 
 -- ---- the whole
 
@@ -277,10 +276,9 @@ pub record Advances (before after : Moment) : Type 0 where
   pub traps_later : before.guest.traps ≤ after.guest.traps
   pub shortages_later : before.guest.shortages ≤ after.guest.shortages
 
--- A call that wasn't refused before the guest was entered, by what functions of the host may give, its callee, what it may use, its
--- parameters, the moments and the host before and after, its answer, the results that it leaves and the events that it adds to an exposed
--- journal.
-pub record IsCall {T : Type 0} (Leaves : List ℕ → List ℕ → Type 0) (gives : Giving T) (callee : Callee) (limits : Limits) (params : List Val) (before after : Moment) (host left : HostSide T) (answer : Result (Unit {0}) Error) (results : List Val) (events : List Event) : Type 0 where
+-- A call that wasn't refused before the guest was entered, by its parameters, what its results are, what functions of the host may give, its
+-- callee, what it may use, the moments and the host before and after, its answer and the events that it adds to an exposed journal.
+pub record IsCallOf {T R : Type 0} (args : Arguments) (its : Returns R) (Leaves : List ℕ → List ℕ → Type 0) (gives : Giving T) (callee : Callee) (limits : Limits) (before after : Moment) (host left : HostSide T) (answer : Result R Error) (events : List Event) : Type 0 where
   -- The guest made one run; of a refused call the events are a prefix of one.
   pub one_run : OnOk answer (IsOneRun callee.func callee.post events)
   pub prefix : IsPrefixOfRun callee.func callee.post (length before.bytes) events
@@ -302,26 +300,78 @@ pub record IsCall {T : Type 0} (Leaves : List ℕ → List ℕ → Type 0) (give
   -- each answer was aligned and its block ended inside memory, but one that the call was refused for; and each answer has its mark
   pub accepted : Accepted (lowering_ending answer) (length after.bytes) answers
   pub marks : after.guest.marks ≡ before.guest.marks ++ marks_of (answers ++ (answers_in turns ++ late))
-  pub requested : (ts : Trees) → HaveTrees callee.params params ts → MetFirst (params_requests false callee.encoding callee.params ts) answers trap later
+  pub requested : (ts : Trees) → args.are ts → MetFirst (params_requests false callee.encoding callee.params ts) answers trap later
   pub quiet : AsksByTypes callee.params (lowering_ending answer) answers trap
   -- Handles went through the ledger, and each ask was served; the words of the start have the handles that the parameters were given.
   pub given : List ℕ
-  pub handles : HandlesPass gives callee limits.fuel params turns after.bytes late late_trap host left given answer results events tail
-  pub start : Each (OnStart (IsStart callee params before.bytes answers given)) events
+  pub handles : HandlesPassOf args its gives callee limits.fuel turns after.bytes late late_trap host left given answer events tail
+  pub start : Each (OnStart (IsStart args callee before.bytes answers given)) events
   -- The results are the only values that the returned words and memory represent, and cost no more than the fuel; that
   -- memory is left, as far as a post-return leaves it.
-  pub only_results : OnOk answer (Each (OnReturn (λ words m. (left : ℕ) × AreResults callee.encoding (narrow m) callee.results words limits.fuel left results)) events)
+  pub only_results : IfOk answer (λ results. Each (OnReturn (λ words m. (left : ℕ) × its.are words m limits.fuel left results)) events)
   -- Post-return runs only where the results were lifted.
-  pub posted : ¬ Each IsNoPost events → Each (OnReturn (λ words m. (left : ℕ) × (vs : List Val) × AreResults callee.encoding (narrow m) callee.results words limits.fuel left vs)) events
+  pub posted : ¬ Each IsNoPost events → Each (OnReturn (λ words m. (left : ℕ) × (lifted : R) × its.are words m limits.fuel left lifted)) events
   pub leaves : OnOk answer (Each (OnReturn (λ words m. Left Leaves callee.post m after.bytes)) events)
-  pub cause : IfErr answer (Cause callee limits params before after events tail)
+  pub cause : IfErr answer (Cause args its callee limits before after events tail)
   -- A valid call answers Ok or out of memory: the parameters are of their types, no text among them is too long and no
   -- list too large, `realloc` kept its law, the guest doesn't trap and doesn't ask too often, no function of the host refuses, what
   -- it returns represents results that cost no more than the fuel, the ledger accepts the handles, and each ask can be served.
-  pub valid : (ts : Trees) → HaveTrees callee.params params ts → AreSmall callee.encoding callee.params params → AllLawful (answers ++ late) → ¬ Rose host.refusals left.refusals → ¬ EndsIn IsTrap events → asks_in events ≤ limits.turns
-      → Each (OnReturn (λ words m. (us : Trees) × RepResults false callee.encoding (narrow m) words callee.results us × (members_cost callee.results us ≤ limits.fuel))) events
-      → Accepts gives callee limits.fuel params turns host tail
+  pub valid : (ts : Trees) → args.are ts → args.small → AllLawful (answers ++ late) → ¬ Rose host.refusals left.refusals → ¬ EndsIn IsTrap events → asks_in events ≤ limits.turns
+      → Each (OnReturn (λ words m. its.represent words m limits.fuel)) events
+      → Accepts args its gives callee limits.fuel turns host tail
       → IsOkUnless answer (error.Fault fault.OutOfMemory)
+
+-- ---- dynamic values
+
+-- what the handles among the parameters do, in order
+abbrev pub param_parts : Callee → List Val → List (List Part)
+param_parts callee params = map (lower_parts callee.types) (all_passes callee.params params)
+
+-- the handles at the reached places of a return, in order
+abbrev pub returned_leaves : Callee → List ℕ → List ℕ → List Leaf
+returned_leaves callee words memory = values_leaves (narrow memory) words max_results callee.results
+
+abbrev pub result_parts : Callee → List ℕ → List ℕ → List (List Part)
+result_parts callee words memory = map (lift_parts callee.types) (returned_leaves callee words memory)
+
+-- values that are passed
+abbrev pub dynamic : Callee → List Val → Arguments
+dynamic callee params = record {
+  are = HaveTrees callee.params params;
+  small = AreSmall callee.encoding callee.params params;
+  blames = BlamesMembers callee.encoding callee.params params;
+  parts = param_parts callee params;
+}
+
+-- values that are lifted: the only ones that the words and memory represent
+abbrev pub dynamic_results : Callee → Returns (List Val)
+dynamic_results callee = record {
+  are = λ words memory fuel left results. AreResults callee.encoding (narrow memory) callee.results words fuel left results;
+  faults = λ words memory kind at. ValuesFault callee.encoding (narrow memory) words max_results callee.results kind at;
+  reach = λ words memory. values_reach callee.encoding (narrow memory) words max_results callee.results;
+  parts = result_parts callee;
+  lifts = λ words memory before results after. LeavesLift callee.types before (returned_leaves callee words memory) (all_resources results) after;
+  accepts = λ words memory before after. (resources : List Any) × LeavesLift callee.types before (returned_leaves callee words memory) resources after;
+  represent = λ words memory fuel. (us : Trees) × RepResults false callee.encoding (narrow memory) words callee.results us × (members_cost callee.results us ≤ fuel);
+}
+
+-- an answer with the results that it left, where it is Ok
+abbrev pub with_results : {R : Type 0} → Result (Unit {0}) Error → R → Result R Error
+with_results (Ok x) results = Ok results
+with_results (Err e) results = Err e
+
+module _ {T : Type 0} (gives : Giving T) (callee : Callee) (fuel : ℕ) where
+  abbrev pub StopsStarted : Error → List ℕ → List Answer → Option Trap → HostSide T → HostSide T → List Event → Type 0
+  StopsStarted = StopsStartedOf (dynamic_results callee) gives callee fuel
+
+  abbrev pub HandlesPass : List Val → List AskTurn → List ℕ → List Answer → Option Trap → HostSide T → HostSide T → List ℕ → Result (Unit {0}) Error → List Val → List Event → List Event → Type 0
+  HandlesPass params turns memory2 late late_trap before after given answer results events tail =
+      HandlesPassOf (dynamic callee params) (dynamic_results callee) gives callee fuel turns memory2 late late_trap before after given (with_results answer results) events tail
+
+-- A call with these parameters, by its answer and the results that it leaves.
+abbrev pub IsCall : {T : Type 0} → (List ℕ → List ℕ → Type 0) → Giving T → Callee → Limits → List Val → Moment → Moment → HostSide T → HostSide T → Result (Unit {0}) Error → List Val → List Event → Type 0
+IsCall Leaves gives callee limits params before after host left answer results events =
+    IsCallOf (dynamic callee params) (dynamic_results callee) Leaves gives callee limits before after host left (with_results answer results) events
 
 -- a fact for every answer except out of memory
 abbrev pub OnAnswered : {T : Type 0} → Result T Error → Type 0 → Type 0

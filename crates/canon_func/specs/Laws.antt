@@ -70,27 +70,32 @@ AsksThrough callee (t ∷ turns) before after = (mid : LedgerState) × AskThroug
 
 -- ---- the steps of a call
 
--- up to the start: the scope is opened, and the handles of the parameters are lowered
-abbrev pub first_steps : Callee → List Val → LedgerState → List LedgerStep
-first_steps callee params l = Enter ∷ leaves_steps (enter l) (param_parts callee params)
+-- up to the start: the scope is opened, and the handles of the parameters are lowered, each of which does these parts
+abbrev pub first_steps : List (List Part) → LedgerState → List LedgerStep
+first_steps parts l = Enter ∷ leaves_steps (enter l) parts
 
 -- from the return on: the scope ends, the handles of the results are lifted, and it is left
-abbrev pub last_steps : Callee → List ℕ → List ℕ → LedgerState → List LedgerStep
-last_steps callee words memory l =
+abbrev pub last_steps : List (List Part) → LedgerState → List LedgerStep
+last_steps parts l =
     let exit : LedgerStep = ExitScope (top_scope l.handles) in
-    exit ∷ leaves_steps (do_step exit l).after (result_parts callee words memory) ++ Leave ∷ []
+    exit ∷ leaves_steps (do_step exit l).after parts ++ Leave ∷ []
 
--- the ledger from before a call to its return, or to its last ask
-pub record CallThrough (callee : Callee) (params : List Val) (turns : List AskTurn) (before served : LedgerState) : Type 0 where
+-- the ledger from before a call, the handles of whose parameters do these parts, to its return, or to its last ask
+pub record CallThrough (callee : Callee) (parts : List (List Part)) (turns : List AskTurn) (before served : LedgerState) : Type 0 where
   pub lowered : LedgerState
-  pub first : Through before (first_steps callee params before) lowered
+  pub first : Through before (first_steps parts before) lowered
   pub asks : AsksThrough callee turns lowered served
+
+-- of a call that is Ok, to its end
+abbrev pub PassesThrough : Callee → List (List Part) → (List ℕ → List ℕ → List (List Part)) → List AskTurn → LedgerState → LedgerState → List Event → Type 0
+PassesThrough callee first last turns before after tail =
+    (served : LedgerState) × CallThrough callee first turns before served × Each (OnReturn (λ words memory. Through served (last_steps (last words memory) served) after)) tail
 
 -- The ledger of a call that is Ok went through these steps, one after another, each of which it accepted.
 abbrev pub CallIsThrough : {T : Type 0} → Giving T → Type 0
 CallIsThrough {T} gives = (callee : Callee) (fuel : ℕ) (params : List Val) (turns : List AskTurn) (memory2 : List ℕ) (late : List Answer) (trap : Option Trap) (before after : HostSide T) (given : List ℕ) (results : List Val) (events tail : List Event)
     → HandlesPass gives callee fuel params turns memory2 late trap before after given (Ok tt) results events tail
-    → (served : LedgerState) × CallThrough callee params turns before.ledger served × Each (OnReturn (λ words memory. Through served (last_steps callee words memory served) after.ledger)) tail
+    → PassesThrough callee (param_parts callee params) (result_parts callee) turns before.ledger after.ledger tail
 
 -- an ask that wasn't resumed: up to some step of a builtin or of a function of the host
 abbrev pub AskPartway : Callee → ℕ → List ℕ → List ℕ → LedgerState → LedgerState → Type 0
@@ -102,14 +107,19 @@ AskPartway callee index words memory served after =
     ⊎ ((results : List Val) × (lifted called : LedgerState) × Through served (asked_steps callee asked words memory served) lifted × HostSteps lifted called × Partway called (given_steps callee asked results called) after)))
 
 -- from the last turn on, of a call that was refused after its start: nothing, or up to some step of its last ask, or from its return on
-abbrev pub GoesOn : Callee → LedgerState → LedgerState → List Event → Type 0
-GoesOn callee served after tail = (after ≡ served)
+abbrev pub GoesOn : Callee → (List ℕ → List ℕ → List (List Part)) → LedgerState → LedgerState → List Event → Type 0
+GoesOn callee last served after tail = (after ≡ served)
     ⊎ BeginsInAsk (λ index words memory more. AskPartway callee index words memory served after) tail
-    ⊎ SomeReturn (λ words memory. Partway served (last_steps callee words memory served) after) tail
+    ⊎ SomeReturn (λ words memory. Partway served (last_steps (last words memory) served) after) tail
+
+-- of a call that is refused, up to some step
+abbrev pub PassesPartway : Callee → List (List Part) → (List ℕ → List ℕ → List (List Part)) → List AskTurn → LedgerState → LedgerState → List Event → List Event → Type 0
+PassesPartway callee first last turns before after events tail =
+    (Each IsNoStart events × Partway before (first_steps first before) after)
+    ⊎ ((served : LedgerState) × CallThrough callee first turns before served × GoesOn callee last served after tail)
 
 -- The ledger of a call that is refused went through the same steps up to some step, which is one of those that the events determine.
 abbrev pub RefusedIsPartway : {T : Type 0} → Giving T → Type 0
 RefusedIsPartway {T} gives = (callee : Callee) (fuel : ℕ) (params : List Val) (turns : List AskTurn) (memory2 : List ℕ) (late : List Answer) (trap : Option Trap) (before after : HostSide T) (given : List ℕ) (e : Error) (results : List Val) (events tail : List Event)
     → HandlesPass gives callee fuel params turns memory2 late trap before after given (Err e) results events tail
-    → (Each IsNoStart events × Partway before.ledger (first_steps callee params before.ledger) after.ledger)
-    ⊎ ((served : LedgerState) × CallThrough callee params turns before.ledger served × GoesOn callee served after.ledger tail)
+    → PassesPartway callee (param_parts callee params) (result_parts callee) turns before.ledger after.ledger events tail

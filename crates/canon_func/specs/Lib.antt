@@ -3,6 +3,7 @@ pub mod Call
 pub mod Drop
 pub mod HostAsks
 pub mod Laws
+pub mod Passing
 pub mod Runs
 pub mod Steps
 pub mod Stores

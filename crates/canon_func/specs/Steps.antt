@@ -1,13 +1,11 @@
 -- The steps of a call.
-use Rattle.std.specs.Prelude.{Err, IfErr, IfOk, IsOkUnless, IsSome, List, Option, take, None, Ok, OnOk, Result, Some, Vec, [], false, length, true, ℕ, ⊤, ◌++◌, ◌∷◌, ◌≡◌, ◌≢◌, ◌⊎◌, ◌<◌, ◌≤◌}
+use Rattle.std.specs.Prelude.{Err, IfErr, IfOk, IsOkUnless, IsSome, List, Option, take, None, Ok, OnOk, Result, Some, Vec, [], false, length, ℕ, ⊤, ◌++◌, ◌∷◌, ◌≡◌, ◌≢◌, ◌⊎◌, ◌<◌, ◌≤◌}
 use Rattle.std.specs.declared.alloc.Global.{Global}
-use Rattle.canon_model.specs.Cost.{members_cost}
-use Rattle.canon_model.specs.Flat.{RepResults, max_params}
+use Rattle.canon_model.specs.Flat.{max_params}
 use Rattle.canon_model.specs.Layout.{members_flat}
 use Rattle.canon_model.specs.Reach.{badly_spelled, misaligned, no_case, no_scalar, out_of_bounds}
-use Rattle.canon_model.specs.Shape.{Members, member_count}
+use Rattle.canon_model.specs.Shape.{Members}
 use Rattle.canon_model.specs.Text.{in_utf16, in_utf8}
-use Rattle.canon_model.specs.Tree.{Trees}
 use Rattle.canon_memory.specs.declared.event.Event.{Event}
 use Rattle.canon_memory.specs.declared.event.Event.TheVariants as event
 use Rattle.canon_memory.specs.Counts.{Rose}
@@ -15,23 +13,21 @@ use Rattle.canon_memory.specs.Guest.{Goes, GuestIn, Moment, Seen}
 use Rattle.canon_memory.specs.Journal.{step_event, trap_event}
 use Rattle.canon_memory.specs.declared.guest.Step.{Step}
 use Rattle.canon_lowering.specs.Attempt.{LowersArgs}
-use Rattle.canon_lowering.specs.Lowering.{AllLawful, Answer, Ending, Trap, done, events_of, marks_of}
-use Rattle.canon_lowering.specs.Storing.{narrow}
+use Rattle.canon_lowering.specs.Lowering.{AllLawful, Answer, Ending, Trap, done, events_of, marks_of, refused, short}
 use Rattle.canon_value.specs.Fails.{AreSmall, BlamesMembers}
-use Rattle.canon_context.specs.Lifter.{Origin}
-use Rattle.canon_value.specs.Lifts.{AreResults, LiftsResults}
-use Rattle.canon_ledger.specs.Handles.{can_leave}
 use Rattle.canon_ledger.specs.Ledger.{LedgerState, leave}
 use Rattle.canon_leaves.specs.Parts.{LeavesStop, LeavesTake, refusal_of}
 use Rattle.canon_value.specs.Args.{LowersParams}
-use Rattle.canon_value.specs.Resources.{Crosses, EndsAs, QuietBut, all_passes, all_resources, stop_of, told_fault}
+use Rattle.canon_value.specs.Lifts.{LiftsResults}
+use Rattle.canon_value.specs.Resources.{Crosses, QuietBut, all_passes, stop_of, told_fault}
 use Rattle.canon_types.specs.Table.{tuple_members}
 use Rattle.canon_context.specs.Asks.{SameButHandles}
 use Rattle.canon_context.specs.Core.{Parts, SameButLedger, encoding_by, guest_of, moment_of, types_of}
-use Rattle.canon_context.specs.Lowers.{ending_of}
+use Rattle.canon_context.specs.Lifter.{Origin}
+use Rattle.canon_context.specs.Lowers.{ending_of, fault_ending}
 use Rattle.canon_context.specs.Moves.{Moves}
 use Rattle.canon_context.specs.Quiet.{have_block, have_handle}
-use Rattle.canon_context.specs.Told.{LiftBlames}
+use Rattle.canon_context.specs.Told.{Exactly, LiftBlames}
 use Rattle.canon_context.specs.declared.fault.Fault.{Fault}
 use Rattle.canon_value.specs.Value.{HaveTrees}
 use Rattle.canon_context.specs.declared.fault.Fault.TheVariants as fault
@@ -41,7 +37,8 @@ use Rattle.canon_host.specs.Asked.{row_words}
 use Rattle.canon_host.specs.declared.asked.Asked.{Asked}
 use Rattle.canon_func.specs.Asks.{AreServed, AskStops, IsServed, Limits}
 use Rattle.canon_func.specs.HostAsks.{HostStops, IsHostServed, asked_results}
-use Rattle.canon_func.specs.Call.{AcceptsLater, AfterTurns, AskCause, AsksByTypes, Concludes, HasFault, IsCall, IsPastFuel, Left, LiftsReturned, StopsReturned, StopsStarted, param_parts, refused_by, result_words, words_within}
+use Rattle.canon_func.specs.Call.{AcceptsLater, AfterTurns, AskCause, AsksByTypes, Concludes, HasFault, IsCallOf, IsPastFuel, Left, StopsStartedOf, dynamic, dynamic_results, refused_by, result_words, scope_exit, words_within}
+use Rattle.canon_func.specs.Passing.{Arguments, Returns}
 use Rattle.canon_func.specs.Runs.{AskTurn, Each, EndsIn, Grows, IsNoPost, IsOneRun, IsPrefixOfRun, IsReturn, IsTrap, MayStart, OnReturn, OnStart, answers_in, asks_in, events_in, last_len, posts}
 use Rattle.canon_func.specs.Stores.{Callee}
 use Rattle.canon_func.specs.declared.error.Error.{Error}
@@ -57,19 +54,24 @@ pub record Proceeds (before after : Moment) (Moves IsSo : List Event → Type 0)
 
 -- ---- lowering
 
+-- how a lowering ended that was refused for this fault; where memory ran out, it was the guest's or the ledger's
+abbrev pub EndsFor : Fault → Ending → Type 0
+EndsFor fault.OutOfMemory ending = (ending ≡ short) ⊎ (ending ≡ refused)
+EndsFor f ending = ending ≡ fault_ending f
+
 -- The parameters were lowered into these words, or why not; these are the events. Their handles went through the ledger. Where
 -- memory ran out before, nothing was done. Memory that the ledger wanted ends a lowering as a refusal does.
-abbrev pub LoweredArgs : Callee → List Val → Moment → Moment → LedgerState → LedgerState → Result (Vec ℕ Global) Error → List Event → Type 0
-LoweredArgs callee params before after ledger left (Ok words) events =
-    (handles : List ℕ) × (low : LowersArgs false before after callee.encoding callee.params (HaveTrees callee.params params) words.items handles done) × (events ≡ events_of low.answers low.trap)
+abbrev pub LoweredArgs : Arguments → Callee → Moment → Moment → LedgerState → LedgerState → Result (Vec ℕ Global) Error → List Event → Type 0
+LoweredArgs args callee before after ledger left (Ok words) events =
+    (handles : List ℕ) × (low : LowersArgs false before after callee.encoding callee.params args.are words.items handles done) × (events ≡ events_of low.answers low.trap)
     × (length words.items ≡ words_within max_params callee.params) × AsksByTypes callee.params done low.answers low.trap
-    × AreSmall callee.encoding callee.params params × LeavesTake ledger (param_parts callee params) handles left
-LoweredArgs callee params before after ledger left (Err (error.Fault f)) events =
+    × args.small × LeavesTake ledger args.parts handles left
+LoweredArgs args callee before after ledger left (Err (error.Fault f)) events =
     ((f ≡ fault.OutOfMemory) × (after ≡ before) × (left ≡ ledger) × (events ≡ []))
-    ⊎ ((words handles : List ℕ) × (ending : Ending) × (low : LowersArgs false before after callee.encoding callee.params (HaveTrees callee.params params) words handles ending)
-    × EndsAs {T = Unit {0}} true (all_passes callee.params params) (Err f) ending × BlamesMembers callee.encoding callee.params params f × (told_fault f ≡ f) × (events ≡ events_of low.answers low.trap) × AsksByTypes callee.params ending low.answers low.trap
-    × LeavesStop (stop_of f) ledger (param_parts callee params) left)
-LoweredArgs callee params before after ledger left (Err _) events = ⊥
+    ⊎ ((words handles : List ℕ) × (ending : Ending) × (low : LowersArgs false before after callee.encoding callee.params args.are words handles ending)
+    × EndsFor f ending × args.blames f × (told_fault f ≡ f) × (events ≡ events_of low.answers low.trap) × AsksByTypes callee.params ending low.answers low.trap
+    × LeavesStop (stop_of f) ledger args.parts left)
+LoweredArgs args callee before after ledger left (Err _) events = ⊥
 
 -- Parameters whose types are those of the tuple were lowered into these words, with their handles through the ledger.
 pub record LowersFor {T G X : Type 0} (seen : G → Seen) (moves : GuestIn G → List Event → GuestIn G → Type 0) (core after : Parts T G) (options tuple : ℕ) (params : List Val) (words : List ℕ) (result : Result X Fault) : Type 0 where
@@ -222,19 +224,37 @@ module _ {T : Type 0} (gives : Giving T) (callee : Callee) (limits : Limits) whe
 
 -- ---- after the return
 
--- a function's results were lifted with this fuel, some of which is left
-abbrev pub LiftsIn : Origin → List ℕ → Members → LedgerState → ℕ → Result (Vec Val Global) Fault → LedgerState → Type 0
-LiftsIn o words ms before fuel result after = (left : ℕ) × LiftsResults o words ms before fuel result after left
+-- the call's scope ended after as many words were returned as the results take, or why it didn't
+abbrev pub Ended : Callee → List ℕ → LedgerState → LedgerState → Result (Unit {0}) Error → Type 0
+Ended callee words before after (Ok x) = (length words ≡ result_words callee.results) × (scope_exit before ≡ record { answer = Ok tt; after = after })
+Ended callee words before after (Err error.WrongWords) = ¬ (length words ≡ result_words callee.results) × (after ≡ before)
+Ended callee words before after (Err (error.Fault (fault.Resource e))) =
+    (length words ≡ result_words callee.results) × (refusal_of e ≡ Some e) × (scope_exit before ≡ record { answer = Err e; after = after })
+Ended callee words before after (Err _) = ⊥
 
--- The values of returned words, whose cost was taken from the fuel, or why there are none. The call's scope ended before, and the
--- handles went through the ledger.
-abbrev pub Lifted : Callee → ℕ → List ℕ → List ℕ → LedgerState → LedgerState → Result (Vec Val Global) Error → Type 0
-Lifted callee fuel words memory before after (Ok vals) = (left : ℕ) × AreResults callee.encoding (narrow memory) callee.results words fuel left vals.items
-    × LiftsReturned callee words memory (all_resources vals.items) before after × (can_leave after.handles ≡ true)
-Lifted callee fuel words memory before after (Err error.WrongWords) = ¬ (length words ≡ result_words callee.results) × (after ≡ before)
-Lifted callee fuel words memory before after (Err (error.Fault f)) = (length words ≡ result_words callee.results)
-    × LiftBlames (λ kind at. HasFault callee kind at words memory) (IsPastFuel callee fuel words memory) f × StopsReturned callee words memory (stop_of f) before after
-Lifted callee fuel words memory before after (Err _) = ⊥
+module _ {T : Type 0} (gives : Giving T) (callee : Callee) (limits : Limits) where
+  -- A core function was started with these words, and ran until it returned these; then the call's scope ended, or didn't.
+  pub record RunsOut (words : List ℕ) (before after : Moment) (host left : HostSide T) (returned : List ℕ) (ended : Result (Unit {0}) Error) (answers : List Answer) (events : List Event) : Type 0 where
+    pub ran : HostSide T
+    pub run : RunsUntil gives callee limits words before after host ran (Ok returned) answers events
+    pub ends : Ended callee returned ran.ledger left.ledger ended
+    pub kept : left ≡ record ran { ledger = left.ledger }
+
+  -- the same, or it stopped before
+  abbrev pub RunsToEnd : List ℕ → Moment → Moment → HostSide T → HostSide T → Result (List ℕ) Error → List Answer → List Event → Type 0
+  RunsToEnd words before after host left (Ok returned) answers events = RunsOut words before after host left returned (Ok tt) answers events
+  RunsToEnd words before after host left (Err e) answers events =
+      MayRun gives callee limits words before after host left (Err e) answers events ⊎ ((returned : List ℕ) × RunsOut words before after host left returned (Err e) answers events)
+
+-- ---- after the scope ended
+
+-- The results of as many words as they take, whose charges were taken from the fuel, or why there are none. Their handles went
+-- through the ledger, which keeps its scopes.
+abbrev pub Lifted : {R : Type 0} → Returns R → ℕ → List ℕ → List ℕ → LedgerState → LedgerState → Result R Fault → Type 0
+Lifted its fuel words memory ended after (Ok results) =
+    (left : ℕ) × its.are words memory fuel left results × its.lifts words memory ended results after × (after.handles.scopes ≡ ended.handles.scopes)
+Lifted its fuel words memory ended after (Err f) =
+    LiftBlames (Exactly (its.faults words memory)) (fuel < its.reach words memory) f × LeavesStop (stop_of f) ended (its.parts words memory) after
 
 -- post-return was given these words, where the callee has one
 abbrev pub Posted : (List ℕ → List ℕ → Type 0) → Callee → List ℕ → Moment → Moment → Result (Unit {0}) Error → List Event → Type 0
@@ -244,42 +264,42 @@ Posted Leaves callee words before after (Err (error.Fault fault.GuestTrap)) even
 Posted Leaves callee words before after (Err (error.Fault fault.OutOfMemory)) events = events ≡ []
 Posted Leaves callee words before after (Err _) events = ⊥
 
--- both, one after the other, and then the scope was left
-abbrev pub Concluded : (List ℕ → List ℕ → Type 0) → Callee → ℕ → List ℕ → Moment → Moment → LedgerState → LedgerState → Result (Vec Val Global) Error → List Event → Type 0
-Concluded Leaves callee fuel words before after ledger left (Ok vals) events =
-    ((lifted : LedgerState) × Lifted callee fuel words before.bytes ledger lifted (Ok vals) × (left ≡ leave lifted)) × Posted Leaves callee words before after (Ok tt) events
-Concluded Leaves callee fuel words before after ledger left (Err (error.Fault fault.GuestTrap)) events = ((vals : Vec Val Global) × Lifted callee fuel words before.bytes ledger left (Ok vals))
-    × Posted Leaves callee words before after (Err (error.Fault fault.GuestTrap)) events
-Concluded Leaves callee fuel words before after ledger left (Err e) events = Lifted callee fuel words before.bytes ledger left (Err e) × (events ≡ [])
+-- The results were lifted, post-return was run, and the scope was left; or why not.
+abbrev pub Concluded : {R : Type 0} → Returns R → (List ℕ → List ℕ → Type 0) → Callee → ℕ → List ℕ → Moment → Moment → LedgerState → LedgerState → Result R Error → List Event → Type 0
+Concluded its Leaves callee fuel words before after ended left (Ok results) events =
+    ((lifted : LedgerState) × Lifted its fuel words before.bytes ended lifted (Ok results) × (left ≡ leave lifted)) × Posted Leaves callee words before after (Ok tt) events
+Concluded {R} its Leaves callee fuel words before after ended left (Err e) events =
+    ((f : Fault) × (e ≡ error.Fault f) × Lifted its fuel words before.bytes ended left (Err f) × (events ≡ []))
+    ⊎ ((results : R) × Lifted its fuel words before.bytes ended left (Ok results) × Posted Leaves callee words before after (Err e) events)
 
 -- ---- from the start on
 
 -- why it wasn't done
-abbrev pub RestCause : Callee → Limits → Moment → Moment → List Event → List Event → Error → Type 0
-RestCause callee limits before after events tail error.WrongWords =
+abbrev pub RestCause : {R : Type 0} → Returns R → Callee → Limits → Moment → Moment → List Event → List Event → Error → Type 0
+RestCause its callee limits before after events tail error.WrongWords =
     EndsIn (IsReturn (λ words m. ¬ (length words ≡ result_words callee.results))) events ⊎ AskCause callee limits before after events tail error.WrongWords
-RestCause callee limits before after events tail (error.Fault fault.GuestTrap) = Rose before.guest.traps after.guest.traps × EndsIn IsTrap events
-RestCause callee limits before after events tail (error.Fault (fault.PointerMisaligned at)) = EndsIn (IsReturn (HasFault callee misaligned at)) events
-RestCause callee limits before after events tail (error.Fault (fault.PointerOutOfBounds at)) = EndsIn (IsReturn (HasFault callee out_of_bounds at)) events
-RestCause callee limits before after events tail (error.Fault (fault.InvalidUtf8 at)) = EndsIn (IsReturn (HasFault callee (badly_spelled in_utf8) at)) events
-RestCause callee limits before after events tail (error.Fault (fault.InvalidUtf16 at)) = EndsIn (IsReturn (HasFault callee (badly_spelled in_utf16) at)) events
-RestCause callee limits before after events tail (error.Fault (fault.InvalidChar at)) = EndsIn (IsReturn (HasFault callee no_scalar at)) events
-RestCause callee limits before after events tail (error.Fault (fault.BadDiscriminant at d)) = EndsIn (IsReturn (HasFault callee (no_case d) at)) events
-RestCause callee limits before after events tail (error.Fault fault.HostcallFuelExhausted) = EndsIn (IsReturn (IsPastFuel callee limits.fuel)) events
-RestCause callee limits before after events tail (error.Fault fault.OutOfMemory) = ⊤
-RestCause callee limits before after events tail (error.Fault (fault.Resource e)) = (refusal_of e ≡ Some e) × EndsIn (IsReturn (λ words m. length words ≡ result_words callee.results)) events
-RestCause callee limits before after events tail (error.Fault f) = ⊥
-RestCause callee limits before after events tail e = AskCause callee limits before after events tail e
+RestCause its callee limits before after events tail (error.Fault fault.GuestTrap) = Rose before.guest.traps after.guest.traps × EndsIn IsTrap events
+RestCause its callee limits before after events tail (error.Fault (fault.PointerMisaligned at)) = EndsIn (IsReturn (HasFault its callee misaligned at)) events
+RestCause its callee limits before after events tail (error.Fault (fault.PointerOutOfBounds at)) = EndsIn (IsReturn (HasFault its callee out_of_bounds at)) events
+RestCause its callee limits before after events tail (error.Fault (fault.InvalidUtf8 at)) = EndsIn (IsReturn (HasFault its callee (badly_spelled in_utf8) at)) events
+RestCause its callee limits before after events tail (error.Fault (fault.InvalidUtf16 at)) = EndsIn (IsReturn (HasFault its callee (badly_spelled in_utf16) at)) events
+RestCause its callee limits before after events tail (error.Fault (fault.InvalidChar at)) = EndsIn (IsReturn (HasFault its callee no_scalar at)) events
+RestCause its callee limits before after events tail (error.Fault (fault.BadDiscriminant at d)) = EndsIn (IsReturn (HasFault its callee (no_case d) at)) events
+RestCause its callee limits before after events tail (error.Fault fault.HostcallFuelExhausted) = EndsIn (IsReturn (IsPastFuel its callee limits.fuel)) events
+RestCause its callee limits before after events tail (error.Fault fault.OutOfMemory) = ⊤
+RestCause its callee limits before after events tail (error.Fault (fault.Resource e)) = (refusal_of e ≡ Some e) × EndsIn (IsReturn (λ words m. length words ≡ result_words callee.results)) events
+RestCause its callee limits before after events tail (error.Fault f) = ⊥
+RestCause its callee limits before after events tail e = AskCause callee limits before after events tail e
 
-module _ {T : Type 0} (gives : Giving T) (callee : Callee) (limits : Limits) where
+module _ {T R : Type 0} (its : Returns R) (gives : Giving T) (callee : Callee) (limits : Limits) where
   -- the host from the start on, after these turns
-  abbrev pub RestPasses : List ℕ → List Answer → Option Trap → HostSide T → HostSide T → Result (Vec Val Global) Error → List Event → Type 0
-  RestPasses memory2 late trap served left (Ok vals) tail = Each (OnReturn (λ words m. Concludes callee words m vals.items served.ledger left.ledger)) tail × (left ≡ record served { ledger = left.ledger })
-  RestPasses memory2 late trap served left (Err e) tail = StopsStarted gives callee limits.fuel e memory2 late trap served left tail
+  abbrev pub RestPasses : List ℕ → List Answer → Option Trap → HostSide T → HostSide T → Result R Error → List Event → Type 0
+  RestPasses memory2 late trap served left (Ok results) tail = Each (OnReturn (λ words m. Concludes its callee words m results served.ledger left.ledger)) tail × (left ≡ record served { ledger = left.ledger })
+  RestPasses memory2 late trap served left (Err e) tail = StopsStartedOf its gives callee limits.fuel e memory2 late trap served left tail
 
   -- A callee was started with these words at the moment `before`, was served in these turns, what it returned was lifted with this fuel,
   -- and post-return was run.
-  pub record IsRest (Leaves : List ℕ → List ℕ → Type 0) (words : List ℕ) (before after : Moment) (host left : HostSide T) (answer : Result (Vec Val Global) Error) (answers : List Answer) (events : List Event) : Type 0 where
+  pub record IsRest (Leaves : List ℕ → List ℕ → Type 0) (words : List ℕ) (before after : Moment) (host left : HostSide T) (answer : Result R Error) (answers : List Answer) (events : List Event) : Type 0 where
     pub one_run : OnOk answer (IsOneRun callee.func callee.post events)
     pub prefix : (len : ℕ) → IsPrefixOfRun callee.func callee.post len events
     pub turns : List AskTurn
@@ -291,22 +311,31 @@ module _ {T : Type 0} (gives : Giving T) (callee : Callee) (limits : Limits) whe
     pub asks : answer ≢ Err error.TurnsExhausted → asks_in events ≤ limits.turns
     pub grows : Grows (length before.bytes) events (length after.bytes)
     pub start : Each (OnStart (λ ws m. (ws ≡ words) × (m ≡ before.bytes))) events
-    pub only_results : IfOk answer (λ vals. Each (OnReturn (λ ws m. (left : ℕ) × AreResults callee.encoding (narrow m) callee.results ws limits.fuel left vals.items)) events)
-    pub posted : ¬ Each IsNoPost events → Each (OnReturn (λ ws m. (left : ℕ) × (vs : List Val) × AreResults callee.encoding (narrow m) callee.results ws limits.fuel left vs)) events
-    pub count : IfOk answer (λ vals. length vals.items ≡ member_count callee.results)
+    pub only_results : IfOk answer (λ results. Each (OnReturn (λ ws m. (left : ℕ) × its.are ws m limits.fuel left results)) events)
+    pub posted : ¬ Each IsNoPost events → Each (OnReturn (λ ws m. (left : ℕ) × (lifted : R) × its.are ws m limits.fuel left lifted)) events
     pub leaves : OnOk answer (Each (OnReturn (λ ws m. Left Leaves callee.post m after.bytes)) events)
     pub handles : AfterTurns gives callee limits.fuel turns host (λ served. RestPasses after.bytes late late_trap served left answer tail)
-    pub cause : IfErr answer (RestCause callee limits before after events tail)
+    pub cause : IfErr answer (RestCause its callee limits before after events tail)
     pub valid : AllLawful late → ¬ Rose host.refusals left.refusals → ¬ EndsIn IsTrap events → asks_in events ≤ limits.turns
-        → Each (OnReturn (λ ws m. (us : Trees) × RepResults false callee.encoding (narrow m) ws callee.results us × (members_cost callee.results us ≤ limits.fuel))) events
-        → ((served : HostSide T) → AreServed gives callee limits.fuel turns host served → AcceptsLater gives callee limits.fuel served tail)
+        → Each (OnReturn (λ ws m. its.represent ws m limits.fuel)) events
+        → ((served : HostSide T) → AreServed gives callee limits.fuel turns host served → AcceptsLater its gives callee limits.fuel served tail)
         → IsOkUnless answer (error.Fault fault.OutOfMemory)
 
-  -- ---- the whole, before the results are written
+-- ---- a call with dynamic values
 
-  abbrev pub CoreCall : (List ℕ → List ℕ → Type 0) → List Val → Moment → Moment → HostSide T → HostSide T → Result (Vec Val Global) Error → List Event → Type 0
-  CoreCall Leaves params before after host left (Ok vals) events = IsCall Leaves gives callee limits params before after host left (Ok tt) vals.items events
-  CoreCall Leaves params before after host left (Err e) events = (results : List Val) → IsCall Leaves gives callee limits params before after host left (Err e) results events
+-- results were lifted with this fuel, some of which is left
+abbrev pub LiftsIn : Origin → List ℕ → Members → LedgerState → ℕ → Result (Vec Val Global) Fault → LedgerState → Type 0
+LiftsIn o words ms before fuel result after = (left : ℕ) × LiftsResults o words ms before fuel result after left
+
+-- the values in a vector
+abbrev pub items_in : {E : Type 0} → Result (Vec Val Global) E → Result (List Val) E
+items_in (Ok values) = Ok values.items
+items_in (Err e) = Err e
+
+-- the whole, before the results are written
+abbrev pub CoreCall : {T : Type 0} → Giving T → Callee → Limits → (List ℕ → List ℕ → Type 0) → List Val → Moment → Moment → HostSide T → HostSide T → Result (Vec Val Global) Error → List Event → Type 0
+CoreCall gives callee limits Leaves params before after host left answer events =
+    IsCallOf (dynamic callee params) (dynamic_results callee) Leaves gives callee limits before after host left (items_in answer) events
 
 -- it isn't a refusal before the guest is entered
 abbrev pub IsLate : Error → Type 0

@@ -6,7 +6,7 @@ ghost use Rattle.canon_context.specs.Component.{IsInside};
 ghost use Rattle.canon_context.specs.Core.{guest_of, moment_of, types_of};
 ghost use Rattle.canon_host.specs.HostSide.{host_side};
 ghost use Rattle.canon_func.specs.Asks.{allowed};
-ghost use Rattle.canon_func.specs.Call.{Adding, IsCall, OnAnswered, refusal, refused_by};
+ghost use Rattle.canon_func.specs.Call.{Adding, IsCall, OnAnswered, entry_refusal, refusal, refused_by};
 ghost use Rattle.canon_func.specs.Steps.{SameButHost};
 ghost use Rattle.canon_func.specs.Stores.{IsOwned, Named, callee_of, type_of};
 
@@ -97,7 +97,16 @@ impl Func {
         if !has_counts(component.types.types(), &export, params, results) {
             return Some(Error::WrongCount);
         }
-        if options_of(component, &export).async_ {
+        self.entry_refusal(store)
+    }
+
+    // Why any call is refused before the guest is entered, whatever is passed, if it is.
+    fn entry_refusal<T, G, I>(&self, store: &Store<T, G, I>) -> Option<Error>
+        requires { IsOwned store.now self.now }
+        ensures { result ≡ entry_refusal (callee_of store.now self.now) store.now.trapped }
+    {
+        let export = self.export_in(store);
+        if options_of(store.core().component(), &export).async_ {
             return Some(Error::AsyncLifted);
         }
         if store.is_trapped() {

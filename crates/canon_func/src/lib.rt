@@ -3,6 +3,7 @@
 
 mod asks;
 mod dropping;
+mod dynamic;
 mod error;
 mod func;
 mod laws;

@@ -1,32 +1,26 @@
-//! The steps of a call.
+//! The steps of a call, whatever its parameters and its results are.
 
-ghost use Rattle.std.specs.Prelude.{◌≡◌, ◌≤◌, ◌==◌, ◌&&◌, ◌↔◌, IfErr, IfOk, IsTrue, List, None, OnOk, false, length, slice_get, ℕ};
-ghost use Rattle.canon_model.specs.Flat.{max_params, max_results};
+ghost use Rattle.std.specs.Prelude.{◌≡◌, ◌≤◌, ◌==◌, ◌&&◌, List, MatchResult, length, slice_get, true, ℕ};
 ghost use Rattle.canon_model.specs.Layout.{members_flat};
 ghost use Rattle.canon_model.specs.Shape.{member_count};
-ghost use Rattle.canon_memory.specs.Guest.{OnAnswer};
 ghost use Rattle.canon_types.specs.Table.{HasFunc, HasTuple, tuple_members};
-ghost use Rattle.canon_context.specs.Component.{HasOptions, IsInside};
-ghost use Rattle.canon_context.specs.Lifter.{origin_in};
-ghost use Rattle.canon_context.specs.Core.{SameButLedger, guest_of, moment_of, types_of};
-ghost use Rattle.canon_ledger.specs.Ledger.{LedgerState, enter};
 ghost use Rattle.canon_context.specs.Asks.{SameBut, SameButHandles};
+ghost use Rattle.canon_context.specs.Component.{HasOptions, IsInside};
+ghost use Rattle.canon_context.specs.Core.{SameButLedger, guest_of, moment_of};
+ghost use Rattle.canon_ledger.specs.Handles.{can_leave};
+ghost use Rattle.canon_ledger.specs.Ledger.{leave};
 ghost use Rattle.canon_host.specs.HostSide.{host_side};
 ghost use Rattle.canon_func.specs.Asks.{allowed};
-ghost use Rattle.canon_func.specs.Call.{Adding, OnAnswered, words_within};
-ghost use Rattle.canon_func.specs.Steps.{Concluded, CoreCall, Proceeds, IsLate, IsRest, Lifted, LiftsIn, LoweredArgs, LowersFor, Posted, SameButHost, Serving};
+ghost use Rattle.canon_func.specs.Call.{OnAnswered, words_within};
+ghost use Rattle.canon_func.specs.Steps.{Ended, Posted, Proceeds, RunsToEnd, SameButHost, Serving};
 ghost use Rattle.canon_func.specs.Stores.{export_callee, params_in, results_in};
 
 use crate::Error;
 use crate::asks::run_core;
 use canon_host::Imports;
-use canon_memory::{Guest, GuestFault, ValRaw};
-use canon_types::{
-    CanonicalOptions, ComponentTypes, MAX_FLAT_PARAMS, MAX_FLAT_RESULTS, TypeTupleIndex,
-};
-use canon_value::{
-    Component, Core, Export, Fault, LiftContext, LowerContext, Val, lift_results, lower_args,
-};
+use canon_memory::{Guest, GuestFault, ValRaw, Words};
+use canon_types::{CanonicalOptions, ComponentTypes, MAX_FLAT_RESULTS, TypeTupleIndex};
+use canon_value::{Component, Core, Export, Fault};
 use std::alloc::Global;
 
 /// The options of an export.
@@ -54,107 +48,8 @@ pub(crate) fn has_counts(
         && results == types.tuple(func.results).types.len()
 }
 
-/// Opens a scope, lowers the parameters, runs the guest, lifts what it returns, runs post-return, and leaves the
-/// scope, which stays open where the call is refused.
-pub(crate) fn call_core<T, G: Guest, I: Imports<T, G>>(
-    alloc: Global,
-    core: &mut Core<T, G>,
-    imports: &mut I,
-    export: &Export,
-    turns: u64,
-    params: &[Val],
-) -> Result<Vec<Val>, Error>
-    requires ready { I.ready imports.old }
-    requires inside { IsInside core.old.component export.now }
-    requires params { length params.now ≡ member_count (export_callee core.old.component export.now).params }
-    ensures call { Adding (moment_of G.seen core.old) (moment_of G.seen core.new)
-        (λ events. OnAnswered result (G.moves (guest_of core.old) events (guest_of core.new)))
-        (λ events. CoreCall (I.gives (I.plan imports.old)) (export_callee core.old.component export.now) (allowed core.old.fuel turns) G.leaves params.now (moment_of G.seen core.old) (moment_of G.seen core.new)
-        (host_side core.old (I.log imports.old) (I.refusals imports.old)) (host_side core.new (I.log imports.new) (I.refusals imports.new)) result events) }
-    ensures late { IfErr result IsLate }
-    ensures count { IfOk result (λ vals. length vals.items ≡ member_count (export_callee core.old.component export.now).results) }
-    ensures same { SameButHost core.old core.new }
-    ensures plan { I.plan imports.new ≡ I.plan imports.old }
-    ensures still_ready { I.ready imports.new }
-{
-    match core.enter() {
-        Ok(_) => call_in_scope(alloc, core, imports, export, turns, params),
-        Err(_) => Err(Error::Fault(Fault::OutOfMemory)),
-    }
-}
-
-/// The same in the call's scope, which is the top one.
-fn call_in_scope<T, G: Guest, I: Imports<T, G>>(
-    alloc: Global,
-    core: &mut Core<T, G>,
-    imports: &mut I,
-    export: &Export,
-    turns: u64,
-    params: &[Val],
-) -> Result<Vec<Val>, Error>
-    requires ready { I.ready imports.old }
-    requires inside { IsInside core.old.component export.now }
-    requires params { length params.now ≡ member_count (export_callee core.old.component export.now).params }
-    ensures call { Adding (moment_of G.seen core.old) (moment_of G.seen core.new)
-        (λ events. OnAnswered result (G.moves (guest_of core.old) events (guest_of core.new)))
-        (λ events. (before : LedgerState) → enter before ≡ core.old.ledger
-        → CoreCall (I.gives (I.plan imports.old)) (export_callee core.old.component export.now) (allowed core.old.fuel turns) G.leaves params.now (moment_of G.seen core.old) (moment_of G.seen core.new)
-        (host_side (record core.old { ledger = before }) (I.log imports.old) (I.refusals imports.old)) (host_side core.new (I.log imports.new) (I.refusals imports.new)) result events) }
-    ensures late { IfErr result IsLate }
-    ensures count { IfOk result (λ vals. length vals.items ≡ member_count (export_callee core.old.component export.now).results) }
-    ensures same { SameButHost core.old core.new }
-    ensures plan { I.plan imports.new ≡ I.plan imports.old }
-    ensures still_ready { I.ready imports.new }
-{
-    match lower_params(alloc, core, export, params) {
-        Ok(words) => run(alloc, core, imports, export, turns, &words),
-        Err(error) => Err(error),
-    }
-}
-
-/// The words of the parameters.
-fn lower_params<T, G: Guest>(
-    alloc: Global,
-    core: &mut Core<T, G>,
-    export: &Export,
-    params: &[Val],
-) -> Result<Vec<ValRaw>, Error>
-    requires inside { IsInside core.old.component export.now }
-    requires params { length params.now ≡ member_count (export_callee core.old.component export.now).params }
-    ensures lowered { Adding (moment_of G.seen core.old) (moment_of G.seen core.new)
-        (λ events. OnAnswered result (G.moves (guest_of core.old) events (guest_of core.new)))
-        (λ events. LoweredArgs (export_callee core.old.component export.now) params.now (moment_of G.seen core.old) (moment_of G.seen core.new) core.old.ledger core.new.ledger result events) }
-    ensures same { SameButHandles core.old core.new }
-{
-    let types = core.component().types.types();
-    let tuple = types.func(export.ty).params;
-    let mut words = vec![in alloc; ValRaw::u64(0); word_count(types, tuple, MAX_FLAT_PARAMS)]?;
-    match lower_into(core, export, tuple, params, &mut words) {
-        Ok(()) => Ok(words),
-        Err(fault) => Err(Error::Fault(fault)),
-    }
-}
-
-/// Lowers the parameters, whose types are those of the tuple, into these words.
-fn lower_into<T, G: Guest>(
-    core: &mut Core<T, G>,
-    export: &Export,
-    tuple: TypeTupleIndex,
-    params: &[Val],
-    words: &mut [ValRaw],
-) -> Result<(), Fault>
-    requires inside { IsInside core.old.component export.now }
-    requires tuple { HasTuple (types_of core.old) tuple }
-    requires params { length params.now ≡ member_count (tuple_members (types_of core.old) tuple) }
-    requires words { length words.old ≡ words_within max_params (tuple_members (types_of core.old) tuple) }
-    ensures lowers { LowersFor G.seen G.moves core.old core.new export.now.options tuple params.now words.new result }
-{
-    let mut cx = LowerContext::new(core, export.options);
-    lower_args(&mut cx, params, tuple, words)
-}
-
 /// How many words values take: in a row up to `most` words, or one that points to them.
-fn word_count(types: &ComponentTypes, tuple: TypeTupleIndex, most: u8) -> usize
+pub(crate) fn word_count(types: &ComponentTypes, tuple: TypeTupleIndex, most: u8) -> usize
     requires tuple { HasTuple types.now tuple }
     requires few { most ≤ 16 }
     ensures { result ≡ words_within most (tuple_members types.now tuple) }
@@ -166,99 +61,73 @@ fn word_count(types: &ComponentTypes, tuple: TypeTupleIndex, most: u8) -> usize
         .unwrap_or(1) as usize
 }
 
-/// Runs the guest with the words of the parameters, and lifts what it returns.
-fn run<T, G: Guest, I: Imports<T, G>>(
+/// Runs the guest with the words of the parameters until it returns as many words as the results take, and ends the call's scope.
+pub(crate) fn run<T, G: Guest, I: Imports<T, G>>(
     alloc: Global,
     core: &mut Core<T, G>,
     imports: &mut I,
     export: &Export,
     turns: u64,
     words: &[ValRaw],
-) -> Result<Vec<Val>, Error>
+) -> Result<Words, Error>
     requires ready { I.ready imports.old }
     requires inside { IsInside core.old.component export.now }
     ensures did { Serving (moment_of G.seen core.old) (moment_of G.seen core.new)
         (λ events. OnAnswered result (G.moves (guest_of core.old) events (guest_of core.new)))
-        (λ answers events. IsRest (I.gives (I.plan imports.old)) (export_callee core.old.component export.now) (allowed core.old.fuel turns) G.leaves words.now (moment_of G.seen core.old) (moment_of G.seen core.new)
+        (λ answers events. RunsToEnd (I.gives (I.plan imports.old)) (export_callee core.old.component export.now) (allowed core.old.fuel turns) words.now (moment_of G.seen core.old) (moment_of G.seen core.new)
         (host_side core.old (I.log imports.old) (I.refusals imports.old)) (host_side core.new (I.log imports.new) (I.refusals imports.new)) result answers events) }
     ensures same { SameButHost core.old core.new }
     ensures plan { I.plan imports.new ≡ I.plan imports.old }
     ensures still_ready { I.ready imports.new }
 {
-    match run_core(alloc, core, imports, export, turns, words) {
-        Ok(returned) => conclude(alloc, core, export, returned.as_slice()),
-        Err(error) => Err(error),
-    }
-}
-
-/// Ends the scope, lifts the results from the words that the guest returned, runs post-return, and leaves the scope.
-fn conclude<T, G: Guest>(
-    alloc: Global,
-    core: &mut Core<T, G>,
-    export: &Export,
-    words: &[ValRaw],
-) -> Result<Vec<Val>, Error>
-    requires inside { IsInside core.old.component export.now }
-    ensures did { Proceeds (moment_of G.seen core.old) (moment_of G.seen core.new)
-        (λ events. OnAnswered result (G.moves (guest_of core.old) events (guest_of core.new)))
-        (λ events. Concluded G.leaves (export_callee core.old.component export.now) core.old.fuel words.now (moment_of G.seen core.old) (moment_of G.seen core.new) core.old.ledger core.new.ledger result events) }
-    ensures same { SameButHandles core.old core.new }
-{
-    let values = match lift_returned(alloc, core, export, words) {
-        Ok(values) => values,
+    let returned = match run_core(alloc, core, imports, export, turns, words) {
+        Ok(returned) => returned,
         Err(error) => return Err(error),
     };
-    match post_return(core, export, words) {
-        Ok(()) => {
-            core.leave();
-            Ok(values)
-        }
+    match end_scope(core, export, returned.as_slice()) {
+        Ok(()) => Ok(returned),
         Err(error) => Err(error),
     }
 }
 
-/// The values of the words that the guest returned, whose number is tested before the scope ends. The core's fuel bounds their cost.
-fn lift_returned<T, G: Guest>(
-    alloc: Global,
-    core: &mut Core<T, G>,
-    export: &Export,
-    words: &[ValRaw],
-) -> Result<Vec<Val>, Error>
+/// Ends the call's scope, where the guest returned as many words as the results take.
+fn end_scope<T, G>(core: &mut Core<T, G>, export: &Export, words: &[ValRaw]) -> Result<(), Error>
     requires inside { IsInside core.old.component export.now }
-    ensures lifted { Lifted (export_callee core.old.component export.now) core.old.fuel words.now core.old.memory core.old.ledger core.new.ledger result }
+    ensures ended { Ended (export_callee core.old.component export.now) words.now core.old.ledger core.new.ledger result }
     ensures same { SameButLedger core.old core.new }
 {
     let types = core.component().types.types();
-    types.laws();
     let tuple = types.func(export.ty).results;
     if words.len() != word_count(types, tuple, MAX_FLAT_RESULTS) {
         return Err(Error::WrongWords);
     }
-    if let Err(fault) = core.validate_scope_exit() {
-        return Err(Error::Fault(Fault::Resource(fault)));
-    }
-    match lift_ended(alloc, core, export, tuple, words) {
-        Ok(values) => Ok(values),
-        Err(fault) => Err(Error::Fault(fault)),
+    match core.validate_scope_exit() {
+        Ok(()) => Ok(()),
+        Err(fault) => Err(Error::Fault(Fault::Resource(fault))),
     }
 }
 
-/// The same once the scope has ended, of as many words as the results take, whose types are those of the tuple.
-fn lift_ended<T, G: Guest>(
-    alloc: Global,
+/// Runs post-return with the words that the guest returned, once the results were lifted, and leaves the scope, which has ended.
+pub(crate) fn conclude<T, G: Guest>(
     core: &mut Core<T, G>,
     export: &Export,
-    tuple: TypeTupleIndex,
     words: &[ValRaw],
-) -> Result<Vec<Val>, Fault>
+) -> Result<(), Error>
     requires inside { IsInside core.old.component export.now }
-    requires tuple { HasTuple (types_of core.old) tuple }
-    requires words { length words.now ≡ words_within max_results (tuple_members (types_of core.old) tuple) }
-    ensures lifts { LiftsIn (origin_in core.old export.now.options) words.now (tuple_members (types_of core.old) tuple) core.old.ledger core.old.fuel result core.new.ledger }
-    ensures same { SameButLedger core.old core.new }
+    requires empty { can_leave core.old.ledger.handles ≡ true }
+    ensures did { Proceeds (moment_of G.seen core.old) (moment_of G.seen core.new)
+        (λ events. OnAnswered result (G.moves (guest_of core.old) events (guest_of core.new)))
+        (λ events. Posted G.leaves (export_callee core.old.component export.now) words.now (moment_of G.seen core.old) (moment_of G.seen core.new) result events) }
+    ensures scope { MatchResult result (λ _. core.new.ledger ≡ leave core.old.ledger) (λ _. core.new.ledger ≡ core.old.ledger) }
+    ensures same { SameButHandles core.old core.new }
 {
-    let mut cx = LiftContext::new(core, export.options);
-    lift_results(alloc, &mut cx, tuple, words)
+    match post_return(core, export, words) {
+        Ok(()) => {
+            core.leave();
+            Ok(())
+        }
+        Err(error) => Err(error),
+    }
 }
 
 /// Tells the guest that its words were read, where the options name a function for it.

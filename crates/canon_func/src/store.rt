@@ -10,7 +10,7 @@ ghost use Rattle.canon_func.specs.Call.{Adding, OnAnswered};
 ghost use Rattle.canon_func.specs.Steps.{CoreCall, IsLate, SameButHost};
 ghost use Rattle.canon_func.specs.Stores.{IsOwned, StoreView, export_callee};
 
-use crate::steps::call_core;
+use crate::dynamic::call_core;
 use crate::{Error, Func};
 use canon_host::Imports;
 use canon_memory::Guest;

@@ -1,11 +1,11 @@
-use Rattle.std.proofs.Common.{Err, subst, sym, ◌∙◌, ◌≡◌}
+use Rattle.std.proofs.Common.{List, Ok, subst, sym, ◌∙◌, ◌≡◌}
 use Rattle.std.specs.Prelude.{IfSome}
 use Rattle.canon_context.specs.Core.{guest_of, moment_of}
-use Rattle.canon_func.specs.Asks.{allowed}
-use Rattle.canon_func.specs.Call.{OnAnswered}
-use Rattle.canon_func.specs.Stores.{export_callee}
-use Rattle.canon_func.proofs.Composed.{call_left}
+use Rattle.canon_value.specs.declared.val.Val.{Val}
 use Rattle.canon_host.specs.HostSide.{host_side}
+use Rattle.canon_func.specs.Asks.{allowed}
+use Rattle.canon_func.specs.Call.{Adding, IsCallOf, dynamic, dynamic_results}
+use Rattle.canon_func.specs.Stores.{export_callee}
 use Rattle.canon_func.proofs.func.Func.call.Goals as goal
 
 pub returns-in-Err-clause-refused : goal.returns-in-Err-clause-refused
@@ -14,15 +14,20 @@ returns-in-Err-clause-refused g c = c.in-Err.ensures.late ∙ (sym c.in_default.
 pub returns-in-Err-clause-unchanged : goal.returns-in-Err-clause-unchanged
 returns-in-Err-clause-unchanged g c = subst (λ o. IfSome o (λ e. c.trap.new.self ≡ c.args.store.now)) (sym c.in-Err.ensures.late) tt
 
-pub returns-in-Err-clause-call : goal.returns-in-Err-clause-call
-returns-in-Err-clause-call g c = λ none.
+pub returns-in-Ok-clause-call : goal.returns-in-Ok-clause-call
+returns-in-Ok-clause-call g c = λ none.
     let seen = g.G.Guest.seen in
     let moves = g.G.Guest.moves in
     let imports = g.I.Imports in
     let store = c.args.store.now in
     let left = c.call_core.new.self in
-    let e = c.in-Err.error in
-    rw (c.export_in-export.ensures.found, c.trap.ensures)
-    (call_left (imports.gives (imports.plan store.imports)) (export_callee store.core.component c.export_in-export.result) (allowed store.core.fuel store.turns) g.G.Guest.leaves c.args.params.now (moment_of seen store.core) (moment_of seen left.core)
-    (host_side store.core (imports.log store.imports) (imports.refusals store.imports)) (host_side left.core (imports.log left.imports) (imports.refusals left.imports)) e c.args.results.now
-    (λ es. OnAnswered {T = Unit {0}} (Err e) (moves (guest_of store.core) es (guest_of left.core))) c.in-Err.ensures.call)
+    let callee = export_callee store.core.component c.export_in-export.result in
+    let written : c.swap_with_slice.new.self ≡ c.in-Ok.values.items = c.swap_with_slice.ensures.after ∙ c.deref_mut.ensures.value in
+    rw c.export_in-export.ensures.found
+    (subst (λ (vs : List Val). Adding (moment_of seen store.core) (moment_of seen left.core) (λ es. moves (guest_of store.core) es (guest_of left.core))
+    (λ es. IsCallOf (dynamic callee c.args.params.now) (dynamic_results callee) g.G.Guest.leaves (imports.gives (imports.plan store.imports)) callee (allowed store.core.fuel store.turns) (moment_of seen store.core) (moment_of seen left.core)
+    (host_side store.core (imports.log store.imports) (imports.refusals store.imports)) (host_side left.core (imports.log left.imports) (imports.refusals left.imports)) (Ok vs) es))
+    (sym written) c.in-Ok.ensures.call)
+
+pub returns-in-Err-clause-call : goal.returns-in-Err-clause-call
+returns-in-Err-clause-call g c = λ none. rw (c.export_in-export.ensures.found, c.trap.ensures) c.in-Err.ensures.call

@@ -8,7 +8,7 @@ use Rattle.canon_func.specs.Call.{OnAnswered, words_within}
 use Rattle.canon_func.specs.Stores.{params_in}
 use Rattle.canon_func.specs.declared.error.Error.TheVariants as error
 use Rattle.canon_func.proofs.Lowered.{lowered_done, lowered_refused, refused_moves, written}
-use Rattle.canon_func.proofs.steps.lower_params.Goals as goal
+use Rattle.canon_func.proofs.dynamic.lower_params.Goals as goal
 
 -- the members of the tuple are the callee's parameters
 members_are : (t u : Table) (i : ℕ) (f : TypeFunc) → u ≡ t → slice_get u.funcs i ≡ Some f → tuple_members t f.params ≡ params_in t (slice_get t.funcs i)
@@ -27,7 +27,8 @@ returns-in-Ok-clause-lowered g c =
     let low = c.in-Ok.ensures.lowers in
     lowered_done (moment_of seen before) (moment_of seen after) (encoding_by before c.args.export.now.options) before.component.types (tuple_members (types_of before) f.params) _ c.args.params.now before.ledger after.ledger
     (members_are (types_of before) c.types-types.result.now c.args.export.now.ty f same c.func.ensures.found)
-    _ c.lower_into.new.words _ all (omega (arith, ap length all, c.lower_into.auto.words, c.deref_mut.ensures.len, c.in_ok-words.ensures.len, c.word_count.ensures, counted)) (λ near none. ap (moment_of seen) (low.quiet near none).0) low.crosses low.small low.moved
+    _ c.lower_into.new.words _ all (omega (arith, ap length all, c.lower_into.auto.words, c.deref_mut.ensures.len, c.in_ok-words.ensures.len, c.word_count.ensures, counted))
+    (λ near none. ap (moment_of seen) (low.quiet near none).0) low.crosses low.small low.moved
 
 pub returns-in-Err-clause-lowered : goal.returns-in-Err-clause-lowered
 returns-in-Err-clause-lowered g c =
