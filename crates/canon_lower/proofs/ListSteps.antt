@@ -1,0 +1,123 @@
+-- Lists of typed values.
+use Rattle.std.proofs.Common.{◌≡◌, ◌≤◌, ◌+◌, ◌*◌, ◌^◌, ◌∙◌, Err, List, Ok, Result, Some, [], ◌∷◌, ap, arith, false, inl, inr, length, refl, subst, suc, sym, true, zero, ℕ}
+use Rattle.std.specs.Prelude.{flat_map}
+use Rattle.canon_context.proofs.Moves.{GuestLaws}
+use Rattle.canon_context.specs.Core.{Parts, types_of}
+use Rattle.canon_context.specs.Quiet.{has_block}
+use Rattle.canon_context.specs.declared.fault.Fault.{Fault}
+use Rattle.canon_leaves.specs.Parts.{Part}
+use Rattle.canon_lowering.proofs.AimedPairs.{copies_row}
+use Rattle.canon_lowering.specs.Copies.{copies}
+use Rattle.canon_model.specs.Layout.{size}
+use Rattle.canon_model.specs.Shape.{ListKind, Shape, list, of_items}
+use Rattle.canon_model.specs.Text.{Encoding}
+use Rattle.canon_model.specs.Tree.{Tree, Trees, no_trees, tree, tree_count, trees_of}
+use Rattle.canon_types.specs.Instance.{Instance}
+use Rattle.canon_types.specs.Table.{IsDefined, Knows, ListType, Table, shape_of}
+use Rattle.canon_types.specs.declared.types.InterfaceType.{InterfaceType}
+use Rattle.canon_types.specs.declared.types.InterfaceType.TheVariants as ty
+use Rattle.canon_typed.specs.Meaning.{EachMeans, ListMeans}
+use Rattle.canon_typed.specs.Types.{IsListOf}
+use Rattle.canon_lower.proofs.Items.{each_count, list_trees, row_some}
+use Rattle.canon_lower.proofs.BlockSteps.{list_broken, list_placed, list_refused, list_told, placed_stops}
+use Rattle.canon_value.proofs.Passing.{handles_instance, same_handles}
+use Rattle.canon_lower.specs.Blames.{Blamed, BlamedMember, IsTooLarge, SomeMember, SomePart, SomeTree}
+use Rattle.canon_lower.specs.Gives.{item_shape}
+use Rattle.canon_lower.specs.Lists.{IsElementOf}
+use Rattle.canon_lower.specs.Places.{IsGivenBlock, IsNoBlock, IsPairPut, TypedPlaces}
+use Rattle.canon_lower.specs.Stores.{TypedMembersStore, TypedStores}
+use Rattle.canon_lower.specs.declared.blocks.Placed.{Placed}
+
+same_list : (x y : InterfaceType) → Some (ListType x) ≡ Some (ListType y) → x ≡ y
+same_list x y e = cc
+
+pub list_found : (Fits : Instance → InterfaceType → Type 0) (i : Instance) (t2 : Table) (type : InterfaceType) (j : ℕ) (element : InterfaceType) → t2 ≡ i.types → type ≡ ty.List j → IsListOf Fits i type → IsDefined t2 (ty.List j) (ListType element)
+    → IsElementOf (λ s. list of_items s) Fits i type element
+list_found Fits i t2 type j element e is fits defined =
+    let here : IsDefined i.types (ty.List j) (ListType element) = subst (λ (x : Table). IsDefined x (ty.List j) (ListType element)) e defined in
+    let (other, d, f) = subst (IsListOf Fits i) is fits in
+    subst (λ (x : InterfaceType). IsElementOf (λ s. list of_items s) Fits i x element) (sym is) (record {
+      shape = here.shape;
+      known = here.known 0 element (omega arith);
+      fits = subst (Fits i) (same_list other element (sym d.definition ∙ here.definition)) f;
+    })
+
+list_blamed : (enc : Encoding) (e : Fault) (k : ListKind) (n : ℕ) (s : Shape) (t : Tree) → BlamedMember enc (copies n s) (trees_of t) e → Blamed enc (list k s) t e
+list_blamed enc e k n s t (inl elsewhere) = inl elsewhere
+list_blamed enc e k n s t (inr large) = inr (inr (row_some (IsTooLarge enc e) n s (trees_of t) large))
+
+-- ---- in a block
+
+module _ {D G : Type 0} (L : GuestLaws G) (options : ℕ) {A : Type 0} (Walks : A → Tree → Type 0) (gives : Instance → Shape → A → List (List Part)) (Fits : Instance → InterfaceType → Type 0) (a b : Parts D G) (type element : InterfaceType) (xs : List A) (n : ℕ)
+    (of : IsElementOf (λ s. list of_items s) Fits a.component.types type element) (is : n ≡ length xs) where
+  abbrev s : Shape
+  s = shape_of (types_of a) element
+
+  abbrev z : Shape
+  z = shape_of (types_of a) type
+
+  abbrev all_gives : List (List Part)
+  all_gives = flat_map (gives a.component.types (item_shape z)) xs
+
+  counts : (t : Tree) → ListMeans Walks xs t → tree_count (trees_of t) ≡ n
+  counts t has = each_count Walks xs (trees_of t) (list_trees Walks xs t has) ∙ sym is
+
+  pub list_ungiven : (e : Fault) → length a.memory ≤ 2 ^ 32 → IsNoBlock L.seen L.moves a b s n e → TypedPlaces L.seen L.moves options a b z (ListMeans Walks xs) all_gives (Err e)
+  list_ungiven e small h = list_refused L options z s of_items n (ListMeans Walks xs) all_gives of.shape counts a b e small h
+
+  module _ (c : Parts D G) (p options2 : ℕ) (eo : options2 ≡ options) (g : IsGivenBlock L.seen L.moves a b s n p) where
+    instance : b.component.types ≡ a.component.types
+    instance = handles_instance a b (same_handles a b g.asked.same)
+
+    pub list_known : Knows (types_of b) element
+    list_known = subst (λ (i : Instance). Knows i.types element) (sym instance) of.known
+
+    pub list_fits : Fits b.component.types element
+    list_fits = subst (λ (i : Instance). Fits i element) (sym instance) of.fits
+
+    pub list_room : p + length xs * size false (shape_of (types_of b) element) ≤ length b.memory
+    list_room =
+        let same : length xs * size false (shape_of (types_of b) element) ≡ n * size false s = ap (λ (i : Instance). length xs * size false (shape_of i.types element)) instance ∙ ap (λ (k : ℕ). k * size false s) (sym is) in
+        omega (arith, same, g.asked.does.inside)
+
+    stood : (r : Result (Unit {0}) Fault) → TypedMembersStore L.seen L.moves options2 b c (copies (length xs) (shape_of (types_of b) element)) 0 p (EachMeans Walks xs) (flat_map (gives b.component.types (shape_of (types_of b) element)) xs) r
+        → TypedMembersStore L.seen L.moves options b c (copies n s) 0 p (EachMeans Walks xs) all_gives r
+    stood r h =
+        let part : s ≡ item_shape z = sym (ap item_shape of.shape) in
+        subst (λ (u : Shape). TypedMembersStore L.seen L.moves options b c (copies n s) 0 p (EachMeans Walks xs) (flat_map (gives a.component.types u) xs) r) part
+        (subst (λ (k : ℕ). TypedMembersStore L.seen L.moves options b c (copies k s) 0 p (EachMeans Walks xs) (flat_map (gives a.component.types s) xs) r) (sym is)
+        (subst (λ (i : Instance). TypedMembersStore L.seen L.moves options b c (copies (length xs) (shape_of i.types element)) 0 p (EachMeans Walks xs) (flat_map (gives i (shape_of i.types element)) xs) r) instance
+        (subst (λ (o : ℕ). TypedMembersStore L.seen L.moves o b c (copies (length xs) (shape_of (types_of b) element)) 0 p (EachMeans Walks xs) (flat_map (gives b.component.types (shape_of (types_of b) element)) xs) r) eo h)))
+
+    pub list_filled : TypedMembersStore L.seen L.moves options2 b c (copies (length xs) (shape_of (types_of b) element)) 0 p (EachMeans Walks xs) (flat_map (gives b.component.types (shape_of (types_of b) element)) xs) (Ok tt)
+        → TypedPlaces L.seen L.moves options a c z (ListMeans Walks xs) all_gives (Ok (record { pointer = p; length = n }))
+    list_filled h = list_placed L options z s of_items n (ListMeans Walks xs) all_gives of.shape counts n (copies n s) (λ ts. ts) (λ t. trees_of t) (λ enc. copies_row false enc s n) (EachMeans Walks xs)
+        (λ ts each. ((ts, refl, each), each_count Walks xs ts each ∙ sym is)) (λ t has. (list_trees Walks xs t has, refl)) (λ enc e t has blamed. list_blamed enc e of_items n s t blamed) a b c p g (stood (Ok tt) h)
+
+    pub list_stopped : (e : Fault) → TypedMembersStore L.seen L.moves options2 b c (copies (length xs) (shape_of (types_of b) element)) 0 p (EachMeans Walks xs) (flat_map (gives b.component.types (shape_of (types_of b) element)) xs) (Err e)
+        → TypedPlaces L.seen L.moves options a c z (ListMeans Walks xs) all_gives (Err e)
+    list_stopped e h = list_broken L options z s of_items n (ListMeans Walks xs) all_gives of.shape counts n (copies n s) (λ ts. ts) (λ t. trees_of t) (λ enc. copies_row false enc s n) (EachMeans Walks xs)
+        (λ ts each. ((ts, refl, each), each_count Walks xs ts each ∙ sym is)) (λ t has. (list_trees Walks xs t has, refl)) (λ enc e2 t has blamed. list_blamed enc e2 of_items n s t blamed) a b c p g e (stood (Err e) h)
+
+-- ---- in memory: a pointer and a length
+
+pub list_shape : (Fits : Instance → InterfaceType → Type 0) (i : Instance) (type : InterfaceType) → IsListOf Fits i type → (s : Shape) × (shape_of i.types type ≡ list of_items s)
+list_shape Fits i (ty.List j) (element, d, f) = (shape_of i.types element, d.shape)
+list_shape Fits i _ h = absurd h
+
+pub list_bytes : (z s : Shape) (k : ListKind) → z ≡ list k s → size false z ≡ 8
+unfolding size
+list_bytes z s k e = ap (size false) e
+
+pub list_blocks : (z s : Shape) (k : ListKind) → z ≡ list k s → has_block z ≡ true
+list_blocks z s k e = ap has_block e
+
+module _ {D G : Type 0} (L : GuestLaws G) (options : ℕ) (a b : Parts D G) (z s : Shape) (k : ListKind) (shape : z ≡ list k s) (at : ℕ) (room : at + size false z ≤ length a.memory) (Has : Tree → Type 0) (gs : List (List Part)) where
+  pub pair_room : (r : Result Placed Fault) → TypedPlaces L.seen L.moves options a b z Has gs r → at + 8 ≤ length b.memory
+  pair_room r h = omega (arith, room, list_bytes z s k shape, h.placed.attempt.lowering.goes.no_shorter)
+
+  pub list_stores : (c : Parts D G) (x : Placed) → TypedPlaces L.seen L.moves options a b z Has gs (Ok x) → IsPairPut b c at x.pointer x.length → TypedStores L.seen L.moves options a c z at Has gs (Ok tt)
+  list_stores c x h w = list_told L options a b c at Has gs x (pair_room (Ok x) h) w z s k shape h
+
+  pub list_stops : (e : Fault) → TypedPlaces L.seen L.moves options a b z Has gs (Err e) → TypedStores L.seen L.moves options a b z at Has gs (Err e)
+  list_stops e h = placed_stops L options a b z at Has gs e (list_blocks z s k shape) h

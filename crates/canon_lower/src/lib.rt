@@ -1,0 +1,18 @@
+//! Values of Rust types, lowered to a guest without a `Val` in between: into words, and into the guest's memory.
+#![tactic(auto)]
+
+mod blocks;
+mod cases;
+mod compounds;
+mod fixed_list;
+mod lists;
+mod lower;
+mod put;
+mod references;
+mod resources;
+mod scalars;
+mod texts;
+mod tuples;
+mod words;
+
+pub use lower::{Lower, LowerShared};
