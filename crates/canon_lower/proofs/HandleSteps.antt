@@ -1,9 +1,9 @@
--- A handle in words, or refused by the ledger.
-use Rattle.std.proofs.Common.{◌≡◌, ◌≤◌, ◌<◌, ◌^◌, ◌∙◌, ◌∷◌, [], Err, List, None, Ok, Result, ap, arith, inl, inr, length, refl, set, subst, sym, ℕ, false, true, Bool}
+-- A handle in words and in memory, or refused by the ledger.
+use Rattle.std.proofs.Common.{◌≡◌, ◌≤◌, ◌<◌, ◌+◌, ◌%◌, ◌^◌, ◌∙◌, ◌∷◌, [], Err, List, None, Ok, Result, ap, arith, inl, inr, length, refl, set, subst, sym, ℕ, false, true, Bool}
 use Rattle.std.proofs.Math.Nat.{mod-eq_of_lt}
 use Rattle.std.proofs.lemmas.List.{get_or-set_same}
 use Rattle.std.specs.Prelude.{slice_index}
-use Rattle.canon_context.proofs.Moves.{GuestLaws, moves_none}
+use Rattle.canon_context.proofs.Moves.{GuestLaws, moves_none, moves_written}
 use Rattle.canon_context.specs.Core.{Parts, encoding_by, guest_of, moment_of}
 use Rattle.canon_context.specs.Faults.{resource_fault}
 use Rattle.canon_context.specs.declared.fault.Fault.{Fault}
@@ -13,13 +13,19 @@ use Rattle.canon_ledger.specs.declared.fault.ResourceFault.{ResourceFault}
 use Rattle.canon_ledger.specs.declared.fault.ResourceFault.TheVariants as resource
 use Rattle.canon_lower.specs.Handles.{GivesNumber}
 use Rattle.canon_lower.specs.Lowers.{HandlesCross}
+use Rattle.canon_lower.specs.Stores.{IsPut, TypedStores}
 use Rattle.canon_lower.specs.Words.{TypedLowers}
+use Rattle.canon_lowering.proofs.AimedAt.{borrow_stored, own_stored}
 use Rattle.canon_lowering.proofs.AimedWords.{borrow_words, own_words}
 use Rattle.canon_lowering.proofs.Attempts.{attempt_refused}
-use Rattle.canon_lowering.specs.Attempt.{LowersValue}
+use Rattle.canon_lowering.specs.Attempt.{LowersValue, StoresValue}
 use Rattle.canon_lowering.specs.Lowering.{done, refused}
-use Rattle.canon_model.specs.Layout.{flat}
-use Rattle.canon_model.specs.Memory.{low}
+use Rattle.canon_lowering.specs.Steps.{Writes}
+use Rattle.canon_lowering.specs.Storing.{narrow}
+use Rattle.canon_memory.specs.Guest.{moment}
+use Rattle.canon_memory.specs.Realloc.{block}
+use Rattle.canon_model.specs.Layout.{flat, size}
+use Rattle.canon_model.specs.Memory.{low, num}
 use Rattle.canon_model.specs.Shape.{Shape}
 use Rattle.canon_plan.specs.Plan.{shaped_handle}
 use Rattle.canon_types.specs.Instance.{Instance}
@@ -28,7 +34,7 @@ use Rattle.canon_types.specs.declared.types.InterfaceType.{InterfaceType}
 use Rattle.canon_types.specs.declared.types.InterfaceType.TheVariants as ty
 use Rattle.canon_typed.specs.Meaning.{IsHandle}
 use Rattle.canon_typed.specs.Types.{IsHandleType}
-use Rattle.canon_value.proofs.HandleSteps.{handle_flat}
+use Rattle.canon_value.proofs.HandleSteps.{handle_flat, handle_size}
 
 -- ---- given
 
@@ -98,6 +104,54 @@ module _ {D G : Type 0} (L : GuestLaws G) (options : ℕ) (a b : Parts D G) (own
         ending = refused;
         ends = given.refusal.0;
         attempt = attempt_refused false (moment_of L.seen a) [] _ small;
+        passed = given.passed;
+        moved = moves_none L (guest_of a) refused;
+        same = refl;
+        quiet = λ none. (refl, refl);
+        cause = λ t has. inl given.refusal.1;
+      })
+
+  -- ---- in memory
+
+  abbrev Stored : Parts D G → ℕ → List (List Part) → Result (Unit {0}) Fault → Type 0
+  Stored c at gives q = TypedStores L.seen L.moves options a c s at IsHandle gives q
+
+  pub handle_room : (at : ℕ) → at + size false s ≤ length a.memory → at + 4 ≤ length a.memory
+  handle_room at room = omega (arith, room, ap (size false) shape, handle_size owned r)
+
+  -- the number that was given stands at its address
+  pub handle_stores : (c : Parts D G) (at : ℕ) (gives : List (List Part)) (h : ℕ) → at + size false s ≤ length a.memory → GivesNumber a b gives (Ok h) → IsPut b c at h 4 → Stored c at gives (Ok tt)
+  handle_stores c at gives h room given put =
+      let before : b.memory ≡ a.memory = ap (λ (x : Parts D G). x.memory) given.only_ledger in
+      let written : Writes (block at 4) a.memory c.memory = subst (λ (bytes : List ℕ). Writes (block at 4) bytes c.memory) before put.writes in
+      let there : num (narrow c.memory) at 4 ≡ h = put.stored ∙ mod-eq_of_lt given.narrow in
+      let now : c ≡ record a { memory = c.memory; ledger = b.ledger } = put.same ∙ ap (λ (x : Parts D G). record x { memory = c.memory }) given.only_ledger in
+      subst (λ (z : Shape). TypedStores L.seen L.moves options a c z at IsHandle gives (Ok tt)) (sym shape)
+      (subst (λ (x : Parts D G). TypedStores L.seen L.moves options a x (shaped_handle owned r) at IsHandle gives (Ok tt)) (sym now) (record {
+        handles = num (narrow c.memory) at 4 ∷ [];
+        ending = done;
+        ends = inl refl;
+        attempt = bytes owned written;
+        passed = subst (λ (n : ℕ). HandlesCross {T = Unit {0}} a.ledger b.ledger gives (n ∷ []) (Ok tt)) (sym there) given.passed;
+        moved = moves_written L (guest_of a) a.guest a.memory c.memory done written.same_length (moves_none L (guest_of a) done);
+        same = refl;
+        quiet = λ none. (refl, tt);
+        cause = tt;
+      }))
+    where
+      bytes : (owns : Bool) → Writes (block at 4) a.memory c.memory
+          → StoresValue false (moment_of L.seen a) (moment (L.seen a.guest) c.memory) (encoding_by a options) (shaped_handle owns r) at IsHandle (num (narrow c.memory) at 4 ∷ []) done
+      bytes true w = own_stored false (L.seen a.guest) a.memory c.memory (encoding_by a options) at IsHandle small r (handle_room at room) w (num (narrow c.memory) at 4, refl)
+      bytes false w = borrow_stored false (L.seen a.guest) a.memory c.memory (encoding_by a options) at IsHandle small r (handle_room at room) w (num (narrow c.memory) at 4, refl)
+
+  -- none was
+  pub handle_unstored : (at : ℕ) (gives : List (List Part)) (e : Fault) → GivesNumber a b gives (Err e) → Stored b at gives (Err e)
+  handle_unstored at gives e given =
+      subst (λ (x : Parts D G). TypedStores L.seen L.moves options a x s at IsHandle gives (Err e)) (sym given.only_ledger) (record {
+        handles = [];
+        ending = refused;
+        ends = given.refusal.0;
+        attempt = attempt_refused false (moment_of L.seen a) _ _ small;
         passed = given.passed;
         moved = moves_none L (guest_of a) refused;
         same = refl;

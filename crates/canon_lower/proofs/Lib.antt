@@ -8,9 +8,11 @@ pub mod Items
 pub mod ListSteps
 pub mod MemberSteps
 pub mod OptionSteps
+pub mod PairSteps
 pub mod ResultSteps
 pub mod Rows
 pub mod ScalarSteps
+pub mod Seen
 pub mod Stood
 pub mod TextSteps
 pub mod TupleSteps

@@ -48,6 +48,30 @@ list_blamed enc e k n s t (inr large) = inr (inr (row_some (IsTooLarge enc e) n 
 
 -- ---- in a block
 
+-- values in a row, in a block that is a list's
+module _ {D G : Type 0} (L : GuestLaws G) (options : ℕ) {A : Type 0} (Walks : A → Tree → Type 0) (give : A → List (List Part)) (a b : Parts D G) (z s : Shape) (k : ListKind) (shape : z ≡ list k s) (xs : List A) (n : ℕ) (is : n ≡ length xs) where
+  counts : (t : Tree) → ListMeans Walks xs t → tree_count (trees_of t) ≡ n
+  counts t has = each_count Walks xs (trees_of t) (list_trees Walks xs t has) ∙ sym is
+
+  pub list_ungiven : (e : Fault) → length a.memory ≤ 2 ^ 32 → IsNoBlock L.seen L.moves a b s n e → TypedPlaces L.seen L.moves options a b z (ListMeans Walks xs) (flat_map give xs) (Err e)
+  list_ungiven e small h = list_refused L options z s k n (ListMeans Walks xs) (flat_map give xs) shape counts a b e small h
+
+  module _ (c : Parts D G) (p : ℕ) (g : IsGivenBlock L.seen L.moves a b s n p) where
+    abbrev pub Filled : Result (Unit {0}) Fault → Type 0
+    Filled r = TypedMembersStore L.seen L.moves options b c (copies (length xs) s) 0 p (EachMeans Walks xs) (flat_map give xs) r
+
+    as_many : (r : Result (Unit {0}) Fault) → Filled r → TypedMembersStore L.seen L.moves options b c (copies n s) 0 p (EachMeans Walks xs) (flat_map give xs) r
+    as_many r h = subst (λ (m : ℕ). TypedMembersStore L.seen L.moves options b c (copies m s) 0 p (EachMeans Walks xs) (flat_map give xs) r) (sym is) h
+
+    pub list_filled : Filled (Ok tt) → TypedPlaces L.seen L.moves options a c z (ListMeans Walks xs) (flat_map give xs) (Ok (record { pointer = p; length = n }))
+    list_filled h = list_placed L options z s k n (ListMeans Walks xs) (flat_map give xs) shape counts n (copies n s) (λ ts. ts) (λ t. trees_of t) (λ enc. copies_row false enc s n) (EachMeans Walks xs)
+        (λ ts each. ((ts, refl, each), each_count Walks xs ts each ∙ sym is)) (λ t has. (list_trees Walks xs t has, refl)) (λ enc e t has blamed. list_blamed enc e k n s t blamed) a b c p g (as_many (Ok tt) h)
+
+    pub list_stopped : (e : Fault) → Filled (Err e) → TypedPlaces L.seen L.moves options a c z (ListMeans Walks xs) (flat_map give xs) (Err e)
+    list_stopped e h = list_broken L options z s k n (ListMeans Walks xs) (flat_map give xs) shape counts n (copies n s) (λ ts. ts) (λ t. trees_of t) (λ enc. copies_row false enc s n) (EachMeans Walks xs)
+        (λ ts each. ((ts, refl, each), each_count Walks xs ts each ∙ sym is)) (λ t has. (list_trees Walks xs t has, refl)) (λ enc e2 t has blamed. list_blamed enc e2 k n s t blamed) a b c p g e (as_many (Err e) h)
+
+-- the same of the items that a list's type has, said of the types of the start
 module _ {D G : Type 0} (L : GuestLaws G) (options : ℕ) {A : Type 0} (Walks : A → Tree → Type 0) (gives : Instance → Shape → A → List (List Part)) (Fits : Instance → InterfaceType → Type 0) (a b : Parts D G) (type element : InterfaceType) (xs : List A) (n : ℕ)
     (of : IsElementOf (λ s. list of_items s) Fits a.component.types type element) (is : n ≡ length xs) where
   abbrev s : Shape
@@ -59,45 +83,39 @@ module _ {D G : Type 0} (L : GuestLaws G) (options : ℕ) {A : Type 0} (Walks : 
   abbrev all_gives : List (List Part)
   all_gives = flat_map (gives a.component.types (item_shape z)) xs
 
-  counts : (t : Tree) → ListMeans Walks xs t → tree_count (trees_of t) ≡ n
-  counts t has = each_count Walks xs (trees_of t) (list_trees Walks xs t has) ∙ sym is
-
-  pub list_ungiven : (e : Fault) → length a.memory ≤ 2 ^ 32 → IsNoBlock L.seen L.moves a b s n e → TypedPlaces L.seen L.moves options a b z (ListMeans Walks xs) all_gives (Err e)
-  list_ungiven e small h = list_refused L options z s of_items n (ListMeans Walks xs) all_gives of.shape counts a b e small h
+  pub items_ungiven : (e : Fault) → length a.memory ≤ 2 ^ 32 → IsNoBlock L.seen L.moves a b s n e → TypedPlaces L.seen L.moves options a b z (ListMeans Walks xs) all_gives (Err e)
+  items_ungiven e small h = list_ungiven L options Walks (gives a.component.types (item_shape z)) a b z s of_items of.shape xs n is e small h
 
   module _ (c : Parts D G) (p options2 : ℕ) (eo : options2 ≡ options) (g : IsGivenBlock L.seen L.moves a b s n p) where
     instance : b.component.types ≡ a.component.types
     instance = handles_instance a b (same_handles a b g.asked.same)
 
-    pub list_known : Knows (types_of b) element
-    list_known = subst (λ (i : Instance). Knows i.types element) (sym instance) of.known
+    pub items_known : Knows (types_of b) element
+    items_known = subst (λ (i : Instance). Knows i.types element) (sym instance) of.known
 
-    pub list_fits : Fits b.component.types element
-    list_fits = subst (λ (i : Instance). Fits i element) (sym instance) of.fits
+    pub items_fits : Fits b.component.types element
+    items_fits = subst (λ (i : Instance). Fits i element) (sym instance) of.fits
 
-    pub list_room : p + length xs * size false (shape_of (types_of b) element) ≤ length b.memory
-    list_room =
+    pub items_room : p + length xs * size false (shape_of (types_of b) element) ≤ length b.memory
+    items_room =
         let same : length xs * size false (shape_of (types_of b) element) ≡ n * size false s = ap (λ (i : Instance). length xs * size false (shape_of i.types element)) instance ∙ ap (λ (k : ℕ). k * size false s) (sym is) in
         omega (arith, same, g.asked.does.inside)
 
-    stood : (r : Result (Unit {0}) Fault) → TypedMembersStore L.seen L.moves options2 b c (copies (length xs) (shape_of (types_of b) element)) 0 p (EachMeans Walks xs) (flat_map (gives b.component.types (shape_of (types_of b) element)) xs) r
-        → TypedMembersStore L.seen L.moves options b c (copies n s) 0 p (EachMeans Walks xs) all_gives r
+    abbrev pub Items : Result (Unit {0}) Fault → Type 0
+    Items r = TypedMembersStore L.seen L.moves options2 b c (copies (length xs) (shape_of (types_of b) element)) 0 p (EachMeans Walks xs) (flat_map (gives b.component.types (shape_of (types_of b) element)) xs) r
+
+    stood : (r : Result (Unit {0}) Fault) → Items r → TypedMembersStore L.seen L.moves options b c (copies (length xs) s) 0 p (EachMeans Walks xs) all_gives r
     stood r h =
         let part : s ≡ item_shape z = sym (ap item_shape of.shape) in
-        subst (λ (u : Shape). TypedMembersStore L.seen L.moves options b c (copies n s) 0 p (EachMeans Walks xs) (flat_map (gives a.component.types u) xs) r) part
-        (subst (λ (k : ℕ). TypedMembersStore L.seen L.moves options b c (copies k s) 0 p (EachMeans Walks xs) (flat_map (gives a.component.types s) xs) r) (sym is)
+        subst (λ (u : Shape). TypedMembersStore L.seen L.moves options b c (copies (length xs) s) 0 p (EachMeans Walks xs) (flat_map (gives a.component.types u) xs) r) part
         (subst (λ (i : Instance). TypedMembersStore L.seen L.moves options b c (copies (length xs) (shape_of i.types element)) 0 p (EachMeans Walks xs) (flat_map (gives i (shape_of i.types element)) xs) r) instance
-        (subst (λ (o : ℕ). TypedMembersStore L.seen L.moves o b c (copies (length xs) (shape_of (types_of b) element)) 0 p (EachMeans Walks xs) (flat_map (gives b.component.types (shape_of (types_of b) element)) xs) r) eo h)))
+        (subst (λ (o : ℕ). TypedMembersStore L.seen L.moves o b c (copies (length xs) (shape_of (types_of b) element)) 0 p (EachMeans Walks xs) (flat_map (gives b.component.types (shape_of (types_of b) element)) xs) r) eo h))
 
-    pub list_filled : TypedMembersStore L.seen L.moves options2 b c (copies (length xs) (shape_of (types_of b) element)) 0 p (EachMeans Walks xs) (flat_map (gives b.component.types (shape_of (types_of b) element)) xs) (Ok tt)
-        → TypedPlaces L.seen L.moves options a c z (ListMeans Walks xs) all_gives (Ok (record { pointer = p; length = n }))
-    list_filled h = list_placed L options z s of_items n (ListMeans Walks xs) all_gives of.shape counts n (copies n s) (λ ts. ts) (λ t. trees_of t) (λ enc. copies_row false enc s n) (EachMeans Walks xs)
-        (λ ts each. ((ts, refl, each), each_count Walks xs ts each ∙ sym is)) (λ t has. (list_trees Walks xs t has, refl)) (λ enc e t has blamed. list_blamed enc e of_items n s t blamed) a b c p g (stood (Ok tt) h)
+    pub items_filled : Items (Ok tt) → TypedPlaces L.seen L.moves options a c z (ListMeans Walks xs) all_gives (Ok (record { pointer = p; length = n }))
+    items_filled h = list_filled L options Walks (gives a.component.types (item_shape z)) a b z s of_items of.shape xs n is c p g (stood (Ok tt) h)
 
-    pub list_stopped : (e : Fault) → TypedMembersStore L.seen L.moves options2 b c (copies (length xs) (shape_of (types_of b) element)) 0 p (EachMeans Walks xs) (flat_map (gives b.component.types (shape_of (types_of b) element)) xs) (Err e)
-        → TypedPlaces L.seen L.moves options a c z (ListMeans Walks xs) all_gives (Err e)
-    list_stopped e h = list_broken L options z s of_items n (ListMeans Walks xs) all_gives of.shape counts n (copies n s) (λ ts. ts) (λ t. trees_of t) (λ enc. copies_row false enc s n) (EachMeans Walks xs)
-        (λ ts each. ((ts, refl, each), each_count Walks xs ts each ∙ sym is)) (λ t has. (list_trees Walks xs t has, refl)) (λ enc e2 t has blamed. list_blamed enc e2 of_items n s t blamed) a b c p g e (stood (Err e) h)
+    pub items_stopped : (e : Fault) → Items (Err e) → TypedPlaces L.seen L.moves options a c z (ListMeans Walks xs) all_gives (Err e)
+    items_stopped e h = list_stopped L options Walks (gives a.component.types (item_shape z)) a b z s of_items of.shape xs n is c p g e (stood (Err e) h)
 
 -- ---- in memory: a pointer and a length
 

@@ -3,7 +3,7 @@ use Rattle.std.proofs.Common.{◌≡◌, ◌∙◌, Some, ap, arith, false, subs
 use Rattle.canon_abi.specs.Abi.{HasInfo, HasLayout}
 use Rattle.canon_abi.specs.declared.abi.CanonicalAbiInfo.{CanonicalAbiInfo}
 use Rattle.canon_abi.specs.declared.abi.VariantInfo.{VariantInfo}
-use Rattle.canon_model.specs.Layout.{align, size}
+use Rattle.canon_model.specs.Layout.{size}
 use Rattle.canon_model.specs.Shape.{option_of}
 use Rattle.canon_types.specs.Depth.{variant_cases}
 use Rattle.canon_types.specs.Instance.{Instance}
@@ -15,8 +15,8 @@ use Rattle.canon_typed.specs.Types.{IsOptionOf}
 pub size_here : (t t2 : Table) (type : InterfaceType) (abi : CanonicalAbiInfo) → t2 ≡ t → HasLayout abi (shape_of t2 type) → abi.size32 ≡ size false (shape_of t type)
 size_here t t2 type abi e h = h.size ∙ ap (λ (x : Table). size false (shape_of x type)) e
 
-pub align_here : (t t2 : Table) (type : InterfaceType) (abi : CanonicalAbiInfo) → t2 ≡ t → HasLayout abi (shape_of t2 type) → abi.align32 ≡ align false (shape_of t type)
-align_here t t2 type abi e h = h.align ∙ ap (λ (x : Table). align false (shape_of x type)) e
+pub layout_here : (t t2 : Table) (type : InterfaceType) (abi : CanonicalAbiInfo) → t2 ≡ t → HasLayout abi (shape_of t2 type) → HasLayout abi (shape_of t type)
+layout_here t t2 type abi e h = subst (λ (x : Table). HasLayout abi (shape_of x type)) e h
 
 -- ---- options
 

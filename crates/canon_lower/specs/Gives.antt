@@ -1,5 +1,6 @@
 -- What the handles in a typed value do to the ledger, in order.
-use Rattle.std.specs.Prelude.{Bool, Err, List, None, Ok, Option, Result, Some, [], false, true, ℕ, ◌++◌, ◌∷◌}
+use Rattle.std.specs.HashMap.{HashMap}
+use Rattle.std.specs.Prelude.{Bool, Err, List, None, Ok, Option, Result, Some, [], false, flat_map, true, ℕ, ◌++◌, ◌∷◌}
 use Rattle.canon_leaves.specs.Parts.{Part}
 use Rattle.canon_model.specs.Layout.{payload_shape}
 use Rattle.canon_model.specs.Shape.{Members, Shape, fixed, list, member, product, variant}
@@ -40,3 +41,11 @@ row_gives _ _ = []
 abbrev pub product_gives : List (Shape → List (List Part)) → Shape → List (List Part)
 product_gives fs (product k ms) = row_gives ms fs
 product_gives fs s = []
+
+-- of a pair of a map: the key, and then the value
+abbrev pub pair_gives : {K V : Type 0} → (Instance → Shape → K → List (List Part)) → (Instance → Shape → V → List (List Part)) → Instance → Shape → K × V → List (List Part)
+pair_gives f g i s p = product_gives ((λ u. f i u p.0) ∷ (λ u. g i u p.1) ∷ []) s
+
+-- of a map, in the order of its entries
+abbrev pub map_gives : {K V S : Type 0} → (Instance → Shape → K → List (List Part)) → (Instance → Shape → V → List (List Part)) → Instance → Shape → HashMap K V S → List (List Part)
+map_gives f g i s m = flat_map (pair_gives f g i (item_shape s)) m.entries

@@ -5,6 +5,7 @@ pub mod Gives
 pub mod Handles
 pub mod Lists
 pub mod Lowers
+pub mod Pairs
 pub mod Places
 pub mod Scalars
 pub mod Stores

@@ -1,15 +1,15 @@
 //! Blocks of texts and lists, which the guest is asked for.
 
 ghost use Rattle.std.specs.Prelude.{◌≡◌, ◌≤◌, ◌<◌, ◌+◌, ◌^◌, ◌∷◌, [], length};
-ghost use Rattle.canon_context.specs.Core.{types_of};
+ghost use Rattle.canon_abi.specs.Abi.{HasLayout};
 ghost use Rattle.canon_lower.specs.Places.{BlockAsked, IsPairPut};
 ghost use Rattle.canon_model.specs.Flat.{SameWords};
-ghost use Rattle.canon_types.specs.Table.{Knows, shape_of};
+ghost use Rattle.canon_model.specs.Shape.{Shape};
 
+use canon_bytes::{block_size, put_pair};
 use canon_context::{Fault, LowerContext, ask};
 use canon_memory::{Guest, ValRaw};
-use canon_types::InterfaceType;
-use canon_bytes::{block_size, put_pair};
+use canon_types::CanonicalAbiInfo;
 
 /// Where a text or a list stands, and its length: the code units of a text with the tag of its encoding, or the items of a list.
 #[derive(Clone, Copy)]
@@ -42,19 +42,17 @@ pub(crate) fn put_words(dst: &mut [ValRaw], block: Placed)
     dst[1] = ValRaw::u32(block.length as u32);
 }
 
-/// Asks for the block of so many values of a type in a row (CanonicalABI.md, "store_list_into_range"), and answers its address.
-/// Refuses `SizeOverflow`, with their number, before anything is asked for, where the number or the bytes pass 2^32 - 1.
+/// Asks for the block of so many values in a row, each of which lies so (CanonicalABI.md, "store_list_into_range"), and answers
+/// its address. Refuses `SizeOverflow`, with their number, before anything is asked for, where the number or the bytes pass 2^32 - 1.
 pub(crate) fn ask_items<D, G: Guest>(
     cx: &mut LowerContext<'_, D, G>,
-    element: &InterfaceType,
+    abi: &CanonicalAbiInfo,
     count: u64,
 ) -> Result<u64, Fault>
-    requires known { Knows (types_of cx.old.core.now) element.now }
-    ensures asked { BlockAsked G.seen G.moves cx.old.core.now cx.new.core.now (shape_of (types_of cx.old.core.now) element.now) count result }
+    ensures asked { (s : Shape) → HasLayout abi.now s → BlockAsked G.seen G.moves cx.old.core.now cx.new.core.now s count result }
     ensures same_reference { cx.new.core.ghost_name ≡ cx.old.core.ghost_name }
     ensures same_options { cx.new.options ≡ cx.old.options }
 {
-    let abi = *cx.types().canonical_abi(element);
     let Some(bytes) = block_size(count, abi.size32) else {
         return Err(Fault::SizeOverflow(count));
     };

@@ -7,6 +7,7 @@ mod compounds;
 mod fixed_list;
 mod lists;
 mod lower;
+mod maps;
 mod put;
 mod references;
 mod resources;

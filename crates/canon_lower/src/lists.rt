@@ -18,7 +18,7 @@ use canon_typed::ComponentType;
 use canon_types::{InstanceType, InterfaceType};
 
 /// The type of a list's items.
-pub(crate) fn list_element<T: ComponentType>(
+fn list_element<T: ComponentType>(
     types: &InstanceType,
     ty: &InterfaceType,
 ) -> InterfaceType
@@ -33,7 +33,7 @@ pub(crate) fn list_element<T: ComponentType>(
 }
 
 /// Puts values into a block of their own, as the items of a list (CanonicalABI.md, "store_list_into_range").
-pub(crate) fn place_list<T: Lower, D, G: Guest>(
+fn place_list<T: Lower, D, G: Guest>(
     cx: &mut LowerContext<'_, D, G>,
     ty: &InterfaceType,
     items: &mut [T],
@@ -47,8 +47,9 @@ pub(crate) fn place_list<T: Lower, D, G: Guest>(
     ensures same_options { cx.new.options ≡ cx.old.options }
 {
     let element = list_element::<T>(cx.instance_type(), ty);
+    let abi = *cx.types().canonical_abi(&element);
     let length = items.len() as u64;
-    let pointer = match ask_items(cx, &element, length) {
+    let pointer = match ask_items(cx, &abi, length) {
         Ok(pointer) => pointer,
         Err(fault) => return Err(fault),
     };
@@ -59,7 +60,7 @@ pub(crate) fn place_list<T: Lower, D, G: Guest>(
 }
 
 /// The same from a shared reference.
-pub(crate) fn place_shared_list<T: LowerShared, D, G: Guest>(
+fn place_shared_list<T: LowerShared, D, G: Guest>(
     cx: &mut LowerContext<'_, D, G>,
     ty: &InterfaceType,
     items: &[T],
@@ -73,8 +74,9 @@ pub(crate) fn place_shared_list<T: LowerShared, D, G: Guest>(
     ensures same_options { cx.new.options ≡ cx.old.options }
 {
     let element = list_element::<T>(cx.instance_type(), ty);
+    let abi = *cx.types().canonical_abi(&element);
     let length = items.len() as u64;
-    let pointer = match ask_items(cx, &element, length) {
+    let pointer = match ask_items(cx, &abi, length) {
         Ok(pointer) => pointer,
         Err(fault) => return Err(fault),
     };

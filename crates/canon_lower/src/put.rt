@@ -3,9 +3,9 @@
 ghost use Rattle.std.specs.Prelude.{◌≡◌, ◌≤◌, ◌+◌, length};
 ghost use Rattle.canon_lower.specs.Stores.{IsPut};
 
+use canon_bytes::put_low_bytes;
 use canon_context::LowerContext;
 use canon_memory::Guest;
-use canon_bytes::put_low_bytes;
 
 /// Writes the lowest bytes of a number at an address.
 pub(crate) fn put<D, G: Guest>(cx: &mut LowerContext<'_, D, G>, at: u64, number: u64, size: u32)
