@@ -1,12 +1,15 @@
 //! Each Rust type once: its numbers, its size in the host, and the component types that are its own.
 
-use canon_resources::{Resource, ResourceAny, ResourceDynamic};
+ghost use Rattle.canon_types.specs.Table.{Knows};
+
+use canon_resources::{HostResource, HostResourceType, Resource, ResourceAny, ResourceDynamic};
 use canon_typed::{
     ComponentType, ComponentVariant, FixedList, Float32Bits, Float64Bits, TypecheckFailed,
+    typecheck_record,
 };
 use canon_types::{
-    DiscriminantSize, HostType, InstanceType, InterfaceType, ResourceKind, RuntimeInstance,
-    StoreId, TypeBuilder, TypeResourceTable,
+    DiscriminantSize, HostType, InstanceType, InterfaceType, RecordField, ResourceKind,
+    ResourceType, RuntimeInstance, StoreId, TypeBuilder, TypeResourceTable,
 };
 use std::alloc::Global;
 use std::collections::HashMap;
@@ -26,6 +29,31 @@ impl HostType for Window {
     ghost ID = { 8 };
 
     const ID: u32 = 8;
+}
+
+/// The kind of the resources that are doors.
+struct Doors;
+
+impl HostResourceType<()> for Doors {
+    ghost use Rattle.canon_types.specs.declared.resource.ResourceType.TheVariants.{Host};
+    ghost use Rattle.canon_resources.specs.Types.{as_host};
+    ghost use Rattle.canon_resources.specs.TypeLaws.{as_host_its, as_host_no_other};
+
+    ghost checked = { as_host 7 };
+
+    ghost type_of = { λ d. Host 7 };
+
+    ghost its_types_pass = { λ d. as_host_its 7 };
+
+    ghost no_others_pass = { λ ty d e. as_host_no_other 7 ty d e };
+
+    fn typecheck(ty: ResourceType) -> Option<()> {
+        if ty.is_host::<Door>() { Some(()) } else { None }
+    }
+
+    fn resource_type(_: ()) -> ResourceType {
+        ResourceType::host::<Door>()
+    }
 }
 
 /// Whether a type has these numbers.
@@ -82,6 +110,7 @@ fn types_have_the_numbers_of_their_component_types(rt: HostRuntime) -> Result<()
     assert!(rt; lies::<HashMap<u8, u64>>(8, 4, Some(2)));
     assert!(rt; lies::<ResourceAny>(4, 4, Some(1)) && lies::<Resource<Door>>(4, 4, Some(1)));
     assert!(rt; lies::<ResourceDynamic>(4, 4, Some(1)));
+    assert!(rt; lies::<HostResource<Doors, ()>>(4, 4, Some(1)));
     Ok(())
 }
 
@@ -101,7 +130,17 @@ fn types_with_parts_have_the_numbers_of_their_component_types(rt: HostRuntime) -
     assert!(rt;
         lies::<FixedList<u16, 5>>(10, 2, Some(5)) && lies::<FixedList<u8, 17>>(17, 1, None)
     );
-    assert!(rt; FixedList::<FixedList<u64, 65_536>, 65_536>::abi().is_none());
+    Ok(())
+}
+
+/// A list of 2^32 items of 8 bytes.
+type TooLarge = FixedList<FixedList<u64, 65_536>, 65_536>;
+
+#[test]
+fn a_type_that_is_too_large_has_no_numbers(rt: HostRuntime) -> Result<(), Fail> {
+    assert!(rt; TooLarge::abi().is_none() && TooLarge::flatten_count().is_none());
+    assert!(rt; Option::<TooLarge>::flatten_count().is_none());
+    assert!(rt; Option::<TooLarge>::info().is_none() && Result::<u8, TooLarge>::info().is_none());
     Ok(())
 }
 
@@ -123,17 +162,74 @@ fn values_have_a_size_in_the_host(rt: HostRuntime) -> Result<(), Fail> {
     assert!(rt; host::<Option<u32>>() == 12 && host::<Result<u8, String>>() == 32);
     assert!(rt; host::<()>() == 0 && host::<(u8, String, u32)>() == 29);
     assert!(rt; host::<ResourceAny>() == 24 && host::<ResourceDynamic>() == 24);
+    assert!(rt; host::<Resource<Door>>() == 24 && host::<HostResource<Doors, ()>>() == 24);
+    Ok(())
+}
+
+// Only `()` is the unit. A scalar or a handle asks for no block; a text, a list or a map may; the others as one of their parts.
+#[test]
+fn constants_of_plain_types(rt: HostRuntime) -> Result<(), Fail> {
+    assert!(rt; tells::<bool>(false, false) && tells::<char>(false, false));
+    assert!(rt; tells::<i8>(false, false) && tells::<u8>(false, false));
+    assert!(rt; tells::<i16>(false, false) && tells::<u16>(false, false));
+    assert!(rt; tells::<i32>(false, false) && tells::<u32>(false, false));
+    assert!(rt; tells::<i64>(false, false) && tells::<u64>(false, false));
+    assert!(rt; tells::<Float32Bits>(false, false) && tells::<Float64Bits>(false, false));
+    assert!(rt; tells::<ResourceAny>(false, false) && tells::<ResourceDynamic>(false, false));
+    assert!(rt; tells::<Resource<Door>>(false, false));
+    assert!(rt; tells::<HostResource<Doors, ()>>(false, false));
+    assert!(rt; tells::<String>(false, true) && tells::<Vec<u8>>(false, true));
+    assert!(rt; tells::<HashMap<u8, u8>>(false, true) && tells::<FixedList<u8, 3>>(false, true));
     Ok(())
 }
 
 #[test]
-fn constants_tell_units_and_blocks(rt: HostRuntime) -> Result<(), Fail> {
-    assert!(rt; tells::<()>(true, false) && tells::<(u8,)>(false, false));
-    assert!(rt; tells::<u8>(false, false) && tells::<ResourceAny>(false, false));
-    assert!(rt; tells::<String>(false, true) && tells::<Vec<u8>>(false, true));
-    assert!(rt; tells::<Box<u8>>(false, false) && tells::<Option<u8>>(false, false));
-    assert!(rt; tells::<(u8, String)>(false, true) && tells::<Result<(), String>>(false, true));
-    assert!(rt; tells::<HashMap<u8, u8>>(false, true) && tells::<FixedList<u8, 3>>(false, true));
+fn constants_of_types_with_parts(rt: HostRuntime) -> Result<(), Fail> {
+    assert!(rt; tells::<Box<u8>>(false, false) && tells::<Box<String>>(false, true));
+    assert!(rt; tells::<&u8>(false, false) && tells::<&String>(false, true));
+    assert!(rt; tells::<Box<()>>(false, false) && tells::<&()>(false, false));
+    assert!(rt; tells::<Option<u8>>(false, false) && tells::<Option<String>>(false, true));
+    assert!(rt; tells::<Result<u8, u8>>(false, false) && tells::<Result<(), ()>>(false, false));
+    assert!(rt; tells::<Result<String, u8>>(false, true) && tells::<Result<u8, String>>(false, true));
+    Ok(())
+}
+
+#[test]
+fn constants_of_tuples(rt: HostRuntime) -> Result<(), Fail> {
+    assert!(rt; tells::<()>(true, false) && tells::<((),)>(false, false));
+    assert!(rt; tells::<(u8,)>(false, false) && tells::<(String,)>(false, true));
+    assert!(rt; tells::<(u8, u8)>(false, false));
+    assert!(rt; tells::<(String, u8)>(false, true) && tells::<(u8, String)>(false, true));
+    assert!(rt; tells::<(u8, u8, u8)>(false, false) && tells::<(String, u8, u8)>(false, true));
+    assert!(rt; tells::<(u8, String, u8)>(false, true) && tells::<(u8, u8, String)>(false, true));
+    Ok(())
+}
+
+#[test]
+fn constants_of_long_tuples(rt: HostRuntime) -> Result<(), Fail> {
+    assert!(rt; tells::<(u8, u8, u8, u8)>(false, false));
+    assert!(rt; tells::<(String, u8, u8, u8)>(false, true));
+    assert!(rt; tells::<(u8, String, u8, u8)>(false, true));
+    assert!(rt; tells::<(u8, u8, String, u8)>(false, true));
+    assert!(rt; tells::<(u8, u8, u8, String)>(false, true));
+    assert!(rt; tells::<(u8, u8, u8, u8, u8)>(false, false));
+    assert!(rt; tells::<(String, u8, u8, u8, u8)>(false, true));
+    assert!(rt; tells::<(u8, String, u8, u8, u8)>(false, true));
+    assert!(rt; tells::<(u8, u8, String, u8, u8)>(false, true));
+    assert!(rt; tells::<(u8, u8, u8, String, u8)>(false, true));
+    assert!(rt; tells::<(u8, u8, u8, u8, String)>(false, true));
+    Ok(())
+}
+
+#[test]
+fn constants_of_the_longest_tuples(rt: HostRuntime) -> Result<(), Fail> {
+    assert!(rt; tells::<(u8, u8, u8, u8, u8, u8)>(false, false));
+    assert!(rt; tells::<(String, u8, u8, u8, u8, u8)>(false, true));
+    assert!(rt; tells::<(u8, String, u8, u8, u8, u8)>(false, true));
+    assert!(rt; tells::<(u8, u8, String, u8, u8, u8)>(false, true));
+    assert!(rt; tells::<(u8, u8, u8, String, u8, u8)>(false, true));
+    assert!(rt; tells::<(u8, u8, u8, u8, String, u8)>(false, true));
+    assert!(rt; tells::<(u8, u8, u8, u8, u8, String)>(false, true));
     Ok(())
 }
 
@@ -213,6 +309,36 @@ fn cases_and_tuples_are_those_of_their_parts(rt: HostRuntime) -> Result<(), Fail
     Ok(())
 }
 
+// Each passes where its members do, in order, and fails where one doesn't or where there are more or fewer.
+#[test]
+fn tuples_are_those_of_their_members(rt: HostRuntime) -> Result<(), Fail> {
+    let alloc = rt.alloc();
+    let (a, b, c) = (InterfaceType::U8, InterfaceType::String, InterfaceType::Char);
+    let (d, e, f) = (InterfaceType::Bool, InterfaceType::S64, InterfaceType::U16);
+    let mut builder = TypeBuilder::new(alloc);
+    let one = builder.add_tuple(vec![in alloc; a]?)?;
+    let three = builder.add_tuple(vec![in alloc; a, b, c]?)?;
+    let four = builder.add_tuple(vec![in alloc; a, b, c, d]?)?;
+    let five = builder.add_tuple(vec![in alloc; a, b, c, d, e]?)?;
+    let six = builder.add_tuple(vec![in alloc; a, b, c, d, e, f]?)?;
+    let types = InstanceType::new(builder.finish(), StoreId::from_u64(1));
+    assert!(rt; passes::<(u8,)>(&one, &types) && fails::<(i8,)>(&one, &types));
+    assert!(rt; fails::<()>(&one, &types) && fails::<(u8,)>(&three, &types));
+    assert!(rt; passes::<(u8, String, char)>(&three, &types));
+    assert!(rt; fails::<(u8, char, String)>(&three, &types));
+    assert!(rt; fails::<(u8, String, char)>(&four, &types));
+    assert!(rt; passes::<(u8, String, char, bool)>(&four, &types));
+    assert!(rt; fails::<(u8, String, char, u8)>(&four, &types));
+    assert!(rt; fails::<(u8, String, char, bool)>(&five, &types));
+    assert!(rt; passes::<(u8, String, char, bool, i64)>(&five, &types));
+    assert!(rt; fails::<(bool, String, char, u8, i64)>(&five, &types));
+    assert!(rt; fails::<(u8, String, char, bool, i64)>(&six, &types));
+    assert!(rt; passes::<(u8, String, char, bool, i64, u16)>(&six, &types));
+    assert!(rt; fails::<(u8, String, char, bool, u16, i64)>(&six, &types));
+    assert!(rt; fails::<(u8, String, char, bool, i64, u16)>(&five, &types));
+    Ok(())
+}
+
 #[test]
 fn handles_are_those_of_their_resource_types(rt: HostRuntime) -> Result<(), Fail> {
     let alloc = rt.alloc();
@@ -239,6 +365,12 @@ fn handles_are_those_of_their_resource_types(rt: HostRuntime) -> Result<(), Fail
     );
     assert!(rt; passes::<ResourceAny>(&own, &types) && passes::<ResourceAny>(&other, &types));
     assert!(rt; fails::<ResourceAny>(&InterfaceType::U32, &types));
+    assert!(rt;
+        passes::<HostResource<Doors, ()>>(&own, &types)
+            && passes::<HostResource<Doors, ()>>(&borrow, &types)
+    );
+    assert!(rt; fails::<HostResource<Doors, ()>>(&other, &types));
+    assert!(rt; fails::<HostResource<Doors, ()>>(&InterfaceType::U32, &types));
     Ok(())
 }
 
@@ -263,5 +395,41 @@ fn a_list_of_fixed_length_has_as_many_items(rt: HostRuntime) -> Result<(), Fail>
         Some(items) => assert!(rt; items.as_slice() == [1, 9, 3].as_slice()),
         None => assert!(rt; false),
     }
+    Ok(())
+}
+
+/// Whether a type is a `u8`: a test that asks for a type of the table, as `ComponentType::typecheck` does.
+fn is_u8(ty: &InterfaceType, types: &InstanceType) -> Result<(), TypecheckFailed>
+    requires { Knows types.now.types ty.now }
+{
+    u8::typecheck(ty, types)
+}
+
+/// Whether it is a list of `u8`.
+fn is_bytes(ty: &InterfaceType, types: &InstanceType) -> Result<(), TypecheckFailed>
+    requires { Knows types.now.types ty.now }
+{
+    Vec::<u8>::typecheck(ty, types)
+}
+
+#[test]
+fn a_records_parts_may_ask_for_a_type_of_the_table(rt: HostRuntime) -> Result<(), Fail> {
+    let alloc = rt.alloc();
+    let mut builder = TypeBuilder::new(alloc);
+    let bytes = builder.add_list(InterfaceType::U8)?;
+    let id = RecordField {
+        name: String::from_str(alloc, "id")?,
+        ty: InterfaceType::U8,
+    };
+    let content = RecordField {
+        name: String::from_str(alloc, "content")?,
+        ty: bytes,
+    };
+    let ty = builder.add_record(vec![in alloc; id, content]?)?;
+    let types = InstanceType::new(builder.finish(), StoreId::from_u64(1));
+    assert!(rt; types.types().contains(&ty));
+    let names = [String::from_str(alloc, "id")?, String::from_str(alloc, "content")?];
+    assert!(rt; typecheck_record(&ty, &types, &names, &[is_u8, is_bytes]) == Ok(()));
+    assert!(rt; typecheck_record(&ty, &types, &names, &[is_u8, is_u8]) == Err(TypecheckFailed));
     Ok(())
 }
