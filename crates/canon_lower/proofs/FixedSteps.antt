@@ -72,7 +72,7 @@ module _ {D G : Type 0} (L : GuestLaws G) (options : ℕ) {A : Type 0} (Walks : 
         ending = h.ending;
         ends = h.ends;
         attempt = aimed.fixed_stored false (moment_of L.seen a) (moment_of L.seen c) (encoding_by a options) n s at (EachMeans Walks xs) (RowMeans Walks xs) h.ending (omega (arith, room, ap (size false) of.shape, h.attempt.lowering.goes.no_shorter))
-            (λ ts each. ((ts, refl, each), each_count Walks xs ts each ∙ is)) row_trees h.attempt;
+            (λ ts each. ((ts, refl, each), each_count Walks xs ts each ∙ is)) (row_trees Walks xs) h.attempt;
         passed = h.passed;
         moved = h.moved;
         same = h.same;

@@ -119,6 +119,9 @@ module _ {D G : Type 0} (L : GuestLaws G) (options : ℕ) (a b : Parts D G) (own
   pub handle_room : (at : ℕ) → at + size false s ≤ length a.memory → at + 4 ≤ length a.memory
   handle_room at room = omega (arith, room, ap (size false) shape, handle_size owned r)
 
+  pub number_room : (at : ℕ) (gives : List (List Part)) (q : Result ℕ Fault) → at + size false s ≤ length a.memory → GivesNumber a b gives q → at + 4 ≤ length b.memory
+  number_room at gives q room given = omega (arith, handle_room at room, ap (λ (x : Parts D G). length x.memory) given.only_ledger)
+
   -- the number that was given stands at its address
   pub handle_stores : (c : Parts D G) (at : ℕ) (gives : List (List Part)) (h : ℕ) → at + size false s ≤ length a.memory → GivesNumber a b gives (Ok h) → IsPut b c at h 4 → Stored c at gives (Ok tt)
   handle_stores c at gives h room given put =

@@ -6,6 +6,7 @@ pub mod FixedSteps
 pub mod HandleSteps
 pub mod Items
 pub mod ListSteps
+pub mod MapSteps
 pub mod MemberSteps
 pub mod OptionSteps
 pub mod PairSteps

@@ -93,13 +93,14 @@ fn store_pairs<K: LowerShared + Eq + Hash, V: LowerShared, D, G: Guest>(
     ensures same_reference { cx.new.core.ghost_name ≡ cx.old.core.ghost_name }
     ensures same_options { cx.new.options ≡ cx.old.options }
 {
+    let size = u64::from(pair.abi.size32);
     let mut at = offset;
     for (key, value) in map.iter() {
         match store_pair(key, value, cx, pair, at) {
             Ok(()) => {}
             Err(fault) => return Err(fault),
         }
-        at += u64::from(pair.abi.size32);
+        at += size;
     }
     Ok(())
 }

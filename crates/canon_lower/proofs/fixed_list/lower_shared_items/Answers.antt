@@ -5,6 +5,7 @@ use Rattle.canon_plan.proofs.Lookups.{drop_at}
 use Rattle.canon_types.specs.Instance.{Instance}
 use Rattle.canon_types.specs.Table.{Knows}
 use Rattle.canon_value.proofs.Passing.{handles_instance, handles_types}
+use Rattle.canon_typed.specs.Typed.{walked_shaped}
 use Rattle.canon_lower.proofs.fixed_list.lower_shared_items.Goals as goal
 
 pub loop-k-init : goal.loop-k-init
@@ -51,7 +52,7 @@ loop-k-preserved g c =
     let x = c.index-items-k.result in
     let here = drop_at a.items.now c.loop-k.k c.index-items-k.result x c.index-items-k.is (omega (arith, c.loop-k-test.true, c.loop-k.auto.k-end)) in
     record {
-      row = row_more L a.cx.now.options core a.ty.now W f a.items.now c.loop-k.cx.core.now c.loop-k.cx.options c.loop-k.dst c.loop-k.at (drop c.loop-k.k a.items.now) (drop (c.loop-k.k + 1) a.items.now) x here c.loop-k.invariant.row c.lower_at.new.cx.core.now c.lower_at.new.cx.options c.lower_at.new.dst c.lower_at.new.at (λ t has. g.met.T.ComponentType.shaped x core.component.types a.ty.now t c.requires.fits has)
+      row = row_more L a.cx.now.options core a.ty.now W f a.items.now c.loop-k.cx.core.now c.loop-k.cx.options c.loop-k.dst c.loop-k.at (drop c.loop-k.k a.items.now) (drop (c.loop-k.k + 1) a.items.now) x here c.loop-k.invariant.row c.lower_at.new.cx.core.now c.lower_at.new.cx.options c.lower_at.new.dst c.lower_at.new.at (λ t has. walked_shaped g.T.ComponentType.fits g.T.ComponentType.walks g.T.ComponentType.means g.met.T.ComponentType.typed g.met.T.ComponentType.walked x core.component.types a.ty.now t c.requires.fits has)
           c.in-Ok.ensures.stays c.in-Ok.ensures.end c.in-Ok.ensures.same_options c.in-Ok.ensures.lowers;
       count = c.in-Ok.ensures.stays.same_length ∙ c.loop-k.invariant.count;
       options = c.in-Ok.ensures.same_options ∙ c.loop-k.invariant.options;

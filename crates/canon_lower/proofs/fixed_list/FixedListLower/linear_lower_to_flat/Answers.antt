@@ -17,7 +17,7 @@ pub lower_items-requires-clause-room : goal.lower_items-requires-clause-room
 lower_items-requires-clause-room g c =
     let t = types_of c.args.cx.now.core.now in
     let of = subst (λ (i : Instance). IsElementOf (λ s. fixed g.row.N s) g.T.ComponentType.fits i c.args.ty c.fixed_element-element.result) c.instance_type.ensures c.fixed_element-element.ensures in
-    fixed_room (shape_of t c.args.ty) (shape_of t c.fixed_element-element.result) _ (length c.items_mut.result.now) c.args.dst.now of.shape (ap length c.items_mut.ensures.now ∙ c.args.self.now.count) c.requires.words
+    fixed_room (shape_of t c.args.ty) (shape_of t c.fixed_element-element.result) _ (length c.items_mut.result.now) c.args.dst.now of.shape (ap length c.items_mut.ensures.items ∙ c.args.self.now.count) c.requires.words
 
 pub returns-clause-lowers : goal.returns-clause-lowers
 returns-clause-lowers g c =
@@ -31,6 +31,6 @@ returns-clause-lowers g c =
     let f = g.T.Lower.gives in
     let low = c.lower_items in
     let of = subst (λ (i : Instance). IsElementOf (λ s. fixed g.row.N s) g.T.ComponentType.fits i a.ty c.fixed_element-element.result) c.instance_type.ensures c.fixed_element-element.ensures in
-    let here = subst (λ xs. TypedMembersLower L.seen L.moves a.cx.now.options core low.new.cx.core.now (copies (length xs) u) low.new.dst 0 (EachMeans W xs) (flat_map (f i u) xs) low.result) c.items_mut.ensures.now low.ensures.lowers in
+    let here = subst (λ xs. TypedMembersLower L.seen L.moves a.cx.now.options core low.new.cx.core.now (copies (length xs) u) low.new.dst 0 (EachMeans W xs) (flat_map (f i u) xs) low.result) c.items_mut.ensures.items low.ensures.lowers in
     subst (λ (z : Shape). TypedLowers L.seen L.moves a.cx.now.options core low.new.cx.core.now s low.new.dst 0 (RowMeans W a.self.now.items.items) (flat_map (f i z) a.self.now.items.items) low.result) (sym (ap item_shape of.shape))
     (fixed_lowers L a.cx.now.options core low.new.cx.core.now s u _ W a.self.now.items.items low.new.dst (flat_map (f i u) a.self.now.items.items) low.result of.shape a.self.now.count here)

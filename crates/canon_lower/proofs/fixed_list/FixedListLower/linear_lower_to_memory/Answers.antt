@@ -21,7 +21,7 @@ linear_store_list_to_memory-requires-clause-room g c =
     let xs = a.self.now.items.items in
     let element = c.fixed_element-element.result in
     let of = subst (λ (i : Instance). IsElementOf (λ s. fixed g.row.N s) g.T.ComponentType.fits i a.ty element) c.instance_type.ensures c.fixed_element-element.ensures in
-    subst (λ (ys : List g.row.T.Denot). a.offset + length ys * size false (shape_of (types_of core) element) ≤ length core.memory) (sym c.items_mut.ensures.now)
+    subst (λ (ys : List g.row.T.Denot). a.offset + length ys * size false (shape_of (types_of core) element) ≤ length core.memory) (sym c.items_mut.ensures.items)
     (fixed_room L a.cx.now.options g.T.ComponentType.walks g.T.Lower.gives g.T.ComponentType.fits core a.ty element xs g.row.N of a.self.now.count a.offset c.requires.room)
 
 pub returns-clause-stores : goal.returns-clause-stores
@@ -36,5 +36,5 @@ returns-clause-stores g c =
     let r = c.linear_store_list_to_memory.result in
     let of = subst (λ (i : Instance). IsElementOf (λ s. fixed g.row.N s) g.T.ComponentType.fits i a.ty element) c.instance_type.ensures c.fixed_element-element.ensures in
     fixed_stores L a.cx.now.options g.T.ComponentType.walks g.T.Lower.gives g.T.ComponentType.fits core a.ty element xs g.row.N of a.self.now.count a.offset c.requires.room b r
-    (subst (λ (ys : List g.row.T.Denot). TypedMembersStore L.seen L.moves a.cx.now.options core b (copies (length ys) s) 0 a.offset (EachMeans g.T.ComponentType.walks ys) (flat_map (g.T.Lower.gives core.component.types s) ys) r) c.items_mut.ensures.now
+    (subst (λ (ys : List g.row.T.Denot). TypedMembersStore L.seen L.moves a.cx.now.options core b (copies (length ys) s) 0 a.offset (EachMeans g.T.ComponentType.walks ys) (flat_map (g.T.Lower.gives core.component.types s) ys) r) c.items_mut.ensures.items
     c.linear_store_list_to_memory.ensures.stores)

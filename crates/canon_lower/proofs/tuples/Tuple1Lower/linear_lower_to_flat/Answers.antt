@@ -5,6 +5,7 @@ use Rattle.canon_lower.specs.Gives.{row_gives}
 use Rattle.canon_types.specs.Table.{members_of, shape_of}
 use Rattle.canon_types.specs.declared.types.InterfaceType.{InterfaceType}
 use Rattle.canon_typed.specs.Meaning.{FirstAnd, NoTrees}
+use Rattle.canon_typed.specs.Typed.{walked_shaped}
 use Rattle.canon_lower.proofs.tuples.Tuple1Lower.linear_lower_to_flat.Goals as goal
 
 pub lower_at-requires-clause-room : goal.lower_at-requires-clause-room
@@ -55,4 +56,4 @@ returns-clause-lowers g c =
     let done = done_none L a.cx.now.options core (members_of core.component.types.types (c.index-first.result.now ∷ [])) (FirstAnd (g.A.ComponentType.walks v.0) NoTrees) (row_gives (members_of core.component.types.types (c.index-first.result.now ∷ [])) ((λ u. g.A.Lower.gives core.component.types u v.0) ∷ [])) a.dst.now c.requires.small (tuple_room (shape_of core.component.types.types a.ty) (members_of core.component.types.types (c.index-first.result.now ∷ [])) a.dst.now shape c.requires.words) in
     let low = c.lower_at in
     tuple_lowers L a.cx.now.options core low.new.cx.core.now (shape_of core.component.types.types a.ty) (members_of core.component.types.types (c.index-first.result.now ∷ [])) low.new.dst (FirstAnd (g.A.ComponentType.walks v.0) NoTrees) ((λ u. g.A.Lower.gives core.component.types u v.0) ∷ []) low.result shape
-    (done_last L a.cx.now.options core (members_of core.component.types.types (c.index-first.result.now ∷ [])) (FirstAnd (g.A.ComponentType.walks v.0) NoTrees) (row_gives (members_of core.component.types.types (c.index-first.result.now ∷ [])) ((λ u. g.A.Lower.gives core.component.types u v.0) ∷ [])) core low.new.cx.core.now a.cx.now.options a.dst.now low.new.dst 0 c.index-first.result.now (g.A.ComponentType.walks v.0) (λ i u. g.A.Lower.gives i u v.0) low.result done (λ t has. g.met.A.ComponentType.shaped v.0 core.component.types c.index-first.result.now t (fit.0) has) low.ensures.stays low.ensures.lowers)
+    (done_last L a.cx.now.options core (members_of core.component.types.types (c.index-first.result.now ∷ [])) (FirstAnd (g.A.ComponentType.walks v.0) NoTrees) (row_gives (members_of core.component.types.types (c.index-first.result.now ∷ [])) ((λ u. g.A.Lower.gives core.component.types u v.0) ∷ [])) core low.new.cx.core.now a.cx.now.options a.dst.now low.new.dst 0 c.index-first.result.now (g.A.ComponentType.walks v.0) (λ i u. g.A.Lower.gives i u v.0) low.result done (λ t has. walked_shaped g.A.ComponentType.fits g.A.ComponentType.walks g.A.ComponentType.means g.met.A.ComponentType.typed g.met.A.ComponentType.walked v.0 core.component.types c.index-first.result.now t (fit.0) has) low.ensures.stays low.ensures.lowers)
