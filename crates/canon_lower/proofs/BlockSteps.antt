@@ -1,5 +1,5 @@
 -- Blocks that are asked for, and what stands in them.
-use Rattle.std.proofs.Common.{◌≡◌, ◌≤◌, ◌<◌, ◌+◌, ◌*◌, ◌^◌, ◌∙◌, ◌∷◌, Err, List, None, Ok, Result, [], ap, ap₂, arith, false, inl, inr, length, refl, subst, sym, true, ℕ}
+use Rattle.std.proofs.Common.{◌≡◌, ◌≤◌, ◌<◌, ◌+◌, ◌*◌, ◌^◌, ◌∙◌, ◌∷◌, Err, List, Ok, Result, [], ap, ap₂, arith, false, inl, inr, length, refl, subst, sym, true, ℕ}
 use Rattle.canon_context.proofs.Cores.{not_done, same_encoding}
 use Rattle.canon_context.proofs.Moves.{GuestLaws, moves_none, moves_then, moves_written}
 use Rattle.canon_context.specs.Asks.{AsksFor}
@@ -9,8 +9,7 @@ use Rattle.canon_context.specs.Moves.{Moves}
 use Rattle.canon_context.specs.Quiet.{has_block}
 use Rattle.canon_context.specs.declared.fault.Fault.{Fault}
 use Rattle.canon_context.specs.declared.fault.Fault.TheVariants as fault
-use Rattle.canon_leaves.proofs.Leaves.{stops_at_once}
-use Rattle.canon_leaves.specs.Parts.{LeavesStop, Part}
+use Rattle.canon_leaves.specs.Parts.{Part}
 use Rattle.canon_ledger.specs.Ledger.{LedgerState}
 use Rattle.canon_lowering.proofs.AimedPairs as pairs
 use Rattle.canon_lowering.proofs.AimedPairs.{MakesRow}
@@ -27,12 +26,11 @@ use Rattle.canon_model.specs.Shape.{ListKind, Members, Shape, list, string}
 use Rattle.canon_model.specs.Text.{Encoding}
 use Rattle.canon_model.specs.Tree.{Tree, Trees, items, tree_count, trees_of}
 use Rattle.canon_lower.proofs.Attempts.{cross_stopped, ends_done, ends_early, not_false}
-use Rattle.canon_value.proofs.Passing.{handles_then, no_stop, same_handles, same_ledger, ungiven_elsewhere}
+use Rattle.canon_value.proofs.Passing.{handles_then, same_handles, same_ledger, ungiven_elsewhere}
 use Rattle.canon_lower.specs.Blames.{Blamed, BlamedMember, IsElsewhere}
 use Rattle.canon_lower.specs.Lowers.{HandlesCross}
 use Rattle.canon_lower.specs.Places.{BlockAsked, IsGivenBlock, IsNoBlock, IsPairPut, TypedPlaces}
 use Rattle.canon_lower.specs.Stores.{TypedMembersStore, TypedStores}
-use Rattle.canon_value.specs.Resources.{ledger_fault}
 use Rattle.canon_lower.specs.declared.blocks.Placed.{Placed}
 
 -- ---- what is asked for

@@ -1,9 +1,8 @@
 -- Lists of fixed length.
-use Rattle.std.proofs.Common.{◌≡◌, ◌≤◌, ◌+◌, ◌*◌, ◌∙◌, ◌||◌, Bool, List, Result, Some, ap, arith, false, inl, inr, length, refl, subst, suc, sym, zero, ℕ}
+use Rattle.std.proofs.Common.{◌≡◌, ◌≤◌, ◌+◌, ◌*◌, ◌∙◌, List, Result, Some, ap, arith, false, inl, inr, length, refl, subst, sym, ℕ}
 use Rattle.std.specs.Prelude.{flat_map}
 use Rattle.canon_context.proofs.Moves.{GuestLaws}
 use Rattle.canon_context.specs.Core.{Parts, encoding_by, moment_of, types_of}
-use Rattle.canon_context.specs.Quiet.{has_block, have_block}
 use Rattle.canon_context.specs.declared.fault.Fault.{Fault}
 use Rattle.canon_leaves.specs.Parts.{Part}
 use Rattle.canon_lowering.proofs.AimedAt as aimed

@@ -1,5 +1,5 @@
 -- A handle in words and in memory, or refused by the ledger.
-use Rattle.std.proofs.Common.{◌≡◌, ◌≤◌, ◌<◌, ◌+◌, ◌%◌, ◌^◌, ◌∙◌, ◌∷◌, [], Err, List, None, Ok, Result, ap, arith, inl, inr, length, refl, set, subst, sym, ℕ, false, true, Bool}
+use Rattle.std.proofs.Common.{◌≡◌, ◌≤◌, ◌<◌, ◌+◌, ◌^◌, ◌∙◌, ◌∷◌, [], Err, List, None, Ok, Result, ap, arith, inl, inr, length, refl, set, subst, sym, ℕ, false, true, Bool}
 use Rattle.std.proofs.Math.Nat.{mod-eq_of_lt}
 use Rattle.std.proofs.lemmas.List.{get_or-set_same}
 use Rattle.std.specs.Prelude.{slice_index}

@@ -25,6 +25,16 @@ next_same xs ys k e = drop_next xs k ∙ (ap (λ zs. drop 1 zs) e ∙ sym (drop_
 pub here_at : {A : Type 0} (xs ys : List A) (k : ℕ) (d x : A) → drop k xs ≡ drop k ys → x ≡ get_or xs k d → k < length xs → drop k ys ≡ x ∷ drop (k + 1) ys
 here_at xs ys k d x e is lt = sym e ∙ (drop_at xs k d x is lt ∙ ap (λ zs. x ∷ zs) (next_same xs ys k e))
 
+-- where some are left
+pub left_next : {A : Type 0} (xs rest : List A) (k : ℕ) (x : A) → drop k xs ≡ x ∷ rest → drop (k + 1) xs ≡ rest
+left_next xs rest k x e = drop_next xs k ∙ ap (λ zs. drop 1 zs) e
+
+pub left_below : {A : Type 0} (xs rest : List A) (k : ℕ) (x : A) → drop k xs ≡ x ∷ rest → k < length xs
+left_below [] rest zero x e = cc
+left_below [] rest (suc k) x e = cc
+left_below (y ∷ xs) rest zero x e = omega arith
+left_below (y ∷ xs) rest (suc k) x e = omega (arith, left_below xs rest k x e)
+
 -- ---- each has a tree
 
 pub each_count : {A : Type 0} (Walks : A → Tree → Type 0) (xs : List A) (ts : Trees) → EachMeans Walks xs ts → tree_count ts ≡ length xs

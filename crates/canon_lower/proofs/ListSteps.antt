@@ -1,5 +1,5 @@
 -- Lists of typed values.
-use Rattle.std.proofs.Common.{◌≡◌, ◌≤◌, ◌+◌, ◌*◌, ◌^◌, ◌∙◌, Err, List, Ok, Result, Some, [], ◌∷◌, ap, arith, false, inl, inr, length, refl, subst, suc, sym, true, zero, ℕ}
+use Rattle.std.proofs.Common.{◌≡◌, ◌≤◌, ◌+◌, ◌*◌, ◌^◌, ◌∙◌, Err, List, Ok, Result, Some, ap, arith, false, inl, inr, length, refl, subst, sym, true, ℕ}
 use Rattle.std.specs.Prelude.{flat_map}
 use Rattle.canon_context.proofs.Moves.{GuestLaws}
 use Rattle.canon_context.specs.Core.{Parts, types_of}
@@ -11,7 +11,7 @@ use Rattle.canon_lowering.specs.Copies.{copies}
 use Rattle.canon_model.specs.Layout.{size}
 use Rattle.canon_model.specs.Shape.{ListKind, Shape, list, of_items}
 use Rattle.canon_model.specs.Text.{Encoding}
-use Rattle.canon_model.specs.Tree.{Tree, Trees, no_trees, tree, tree_count, trees_of}
+use Rattle.canon_model.specs.Tree.{Tree, tree_count, trees_of}
 use Rattle.canon_types.specs.Instance.{Instance}
 use Rattle.canon_types.specs.Table.{IsDefined, Knows, ListType, Table, shape_of}
 use Rattle.canon_types.specs.declared.types.InterfaceType.{InterfaceType}
@@ -21,7 +21,7 @@ use Rattle.canon_typed.specs.Types.{IsListOf}
 use Rattle.canon_lower.proofs.Items.{each_count, list_trees, row_some}
 use Rattle.canon_lower.proofs.BlockSteps.{list_broken, list_placed, list_refused, list_told, placed_stops}
 use Rattle.canon_value.proofs.Passing.{handles_instance, same_handles}
-use Rattle.canon_lower.specs.Blames.{Blamed, BlamedMember, IsTooLarge, SomeMember, SomePart, SomeTree}
+use Rattle.canon_lower.specs.Blames.{Blamed, BlamedMember, IsTooLarge}
 use Rattle.canon_lower.specs.Gives.{item_shape}
 use Rattle.canon_lower.specs.Lists.{IsElementOf}
 use Rattle.canon_lower.specs.Places.{IsGivenBlock, IsNoBlock, IsPairPut, TypedPlaces}

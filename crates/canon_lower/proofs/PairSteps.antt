@@ -1,11 +1,11 @@
 -- The pairs of a map, each stored as a tuple of key and value.
-use Rattle.std.proofs.Common.{◌≡◌, ◌≤◌, ◌+◌, ◌++◌, ◌^◌, ◌∙◌, Err, List, Ok, Result, [], ◌∷◌, ap, arith, false, length, refl, subst, ℕ}
+use Rattle.std.proofs.Common.{◌≡◌, ◌≤◌, ◌+◌, ◌++◌, Err, List, Ok, Result, [], ◌∷◌, arith, false, length, refl, subst, ℕ}
 use Rattle.canon_context.proofs.Moves.{GuestLaws}
 use Rattle.canon_context.specs.Core.{Parts}
 use Rattle.canon_context.specs.declared.fault.Fault.{Fault}
 use Rattle.canon_leaves.specs.Parts.{Part}
 use Rattle.canon_model.proofs.Layouts.{members_end-le, members_end-le-size}
-use Rattle.canon_model.specs.Layout.{begins, ends, members_end, offset, size}
+use Rattle.canon_model.specs.Layout.{begins, ends, offset, size}
 use Rattle.canon_model.specs.Shape.{Members, Shape, member, no_members, of_places, tuple, tuple_members}
 use Rattle.canon_model.specs.Tree.{Tree}
 use Rattle.canon_typed.specs.Meaning.{FirstAnd, NoTrees, ProductMeans}

@@ -1,5 +1,5 @@
 -- Typed values stored in a row, as members of one shape.
-use Rattle.std.proofs.Common.{◌≡◌, ◌≤◌, ◌<◌, ◌+◌, ◌*◌, ◌^◌, ◌∙◌, Err, List, Ok, Result, [], ◌∷◌, add-mul, ap, arith, drop, false, get_or, length, one-mul, refl, subst, suc, suc-mul, sym, zero, ℕ}
+use Rattle.std.proofs.Common.{◌≡◌, ◌≤◌, ◌+◌, ◌*◌, ◌^◌, Err, List, Ok, Result, [], ◌∷◌, add-mul, arith, drop, false, length, one-mul, refl, subst, suc, suc-mul, sym, zero, ℕ}
 use Rattle.std.proofs.Math.Nat.{dvd-add, zero-mod}
 use Rattle.std.proofs.lemmas.Nat.Gcd.{dvd_of_mod-eq-zero}
 use Rattle.std.specs.Int.{◌∣◌}
@@ -17,7 +17,7 @@ use Rattle.canon_model.proofs.Layouts.{multiple}
 use Rattle.canon_model.specs.Layout.{align, begins, ends, size}
 use Rattle.canon_model.specs.Shape.{Shape}
 use Rattle.canon_model.specs.Tree.{Tree}
-use Rattle.canon_plan.proofs.Lookups.{drop_all, drop_at}
+use Rattle.canon_plan.proofs.Lookups.{drop_all}
 use Rattle.canon_types.specs.Instance.{Instance}
 use Rattle.canon_types.specs.Table.{shape_of}
 use Rattle.canon_types.specs.declared.types.InterfaceType.{InterfaceType}
@@ -81,8 +81,11 @@ module _ {D G : Type 0} (L : GuestLaws G) (options : ℕ) {A : Type 0} (Walks : 
     pub row_broken : (now now2 : Parts D G) (i : ℕ) (x : A) (e : Fault) → drop i xs ≡ x ∷ drop (i + 1) xs → TypedStores L.seen L.moves options now now2 s (at + i * size false s) (Walks x) (gives x) (Err e) → RowIsStored now i → Row start now2 xs (Err e)
     row_broken now now2 i x e here one h = h.rest now2 (Err e) (subst (λ (ys : List A). RowFrom now now2 i ys (Err e)) (sym here) (row_stops now now2 i x (drop (i + 1) xs) e one))
 
+    pub row_ended : (now : Parts D G) (i : ℕ) → drop i xs ≡ [] → RowIsStored now i → Row start now xs (Ok tt)
+    row_ended now i none h = h.rest now (Ok tt) (subst (λ (ys : List A). RowFrom now now i ys (Ok tt)) (sym none) (row_nothing now i h.small))
+
     pub row_end : (now : Parts D G) (i : ℕ) → i ≡ length xs → RowIsStored now i → Row start now xs (Ok tt)
-    row_end now i all h = h.rest now (Ok tt) (subst (λ (ys : List A). RowFrom now now i ys (Ok tt)) (sym (drop_all xs i all)) (row_nothing now i h.small))
+    row_end now i all h = row_ended now i (drop_all xs i all) h
 
 -- ---- what was stored, said of the types of the start
 

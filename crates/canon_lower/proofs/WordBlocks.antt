@@ -1,36 +1,22 @@
 -- Texts and lists in blocks of their own, told in two words.
-use Rattle.std.proofs.Common.{◌≡◌, ◌∙◌, ◌∷◌, Err, List, None, Ok, String, [], ap, false, inl, inr, refl, string_bytes, subst, sym, true, ℕ}
-use Rattle.std.specs.declared.alloc.Global.{Global}
+use Rattle.std.proofs.Common.{◌≡◌, ◌∙◌, ◌∷◌, Err, List, Ok, [], ap, false, refl, subst, sym, true, ℕ}
 use Rattle.canon_context.proofs.Moves.{GuestLaws}
 use Rattle.canon_context.specs.Core.{Parts, encoding_by, moment_of}
-use Rattle.canon_context.specs.Lowers.{fault_ending}
 use Rattle.canon_context.specs.Quiet.{has_block}
 use Rattle.canon_context.specs.declared.fault.Fault.{Fault}
-use Rattle.canon_context.specs.declared.fault.Fault.TheVariants as fault
-use Rattle.canon_leaves.proofs.Leaves.{stops_at_once}
-use Rattle.canon_leaves.specs.Parts.{LeavesStop, Part}
-use Rattle.canon_ledger.specs.Ledger.{LedgerState}
+use Rattle.canon_leaves.specs.Parts.{Part}
 use Rattle.canon_lower.proofs.Attempts.{ends_early, not_false}
-use Rattle.canon_lower.specs.Blames.{Blamed}
-use Rattle.canon_lower.specs.Lowers.{HandlesCross}
 use Rattle.canon_lower.specs.Places.{TypedPlaces}
 use Rattle.canon_lower.specs.Words.{TypedLowers}
 use Rattle.canon_lower.specs.declared.blocks.Placed.{Placed}
 use Rattle.canon_lowering.proofs.AimedWords.{words_moved}
-use Rattle.canon_lowering.proofs.Attempts.{attempt_as, attempt_other}
-use Rattle.canon_lowering.specs.Attempt.{LowersValue, value_words}
-use Rattle.canon_lowering.specs.Lowering.{Ending, done, refused}
+use Rattle.canon_lowering.proofs.Attempts.{attempt_other}
+use Rattle.canon_lowering.specs.Attempt.{value_words}
 use Rattle.canon_model.specs.Fits.{Fits}
 use Rattle.canon_model.specs.Flat.{SameWords}
 use Rattle.canon_model.specs.Layout.{flat}
 use Rattle.canon_model.specs.Shape.{ListKind, Shape, list, string}
-use Rattle.canon_model.specs.Text.{Encoding}
 use Rattle.canon_model.specs.Tree.{Tree}
-use Rattle.canon_string.specs.Limits.{IsTooLong}
-use Rattle.canon_string.specs.Texts.{IsTextOf, PutsText}
-use Rattle.canon_typed.specs.Meaning.{TextMeans}
-use Rattle.canon_value.proofs.Passing.{ledger_unless, no_stop, same_handles, same_ledger}
-use Rattle.canon_value.specs.Resources.{ledger_fault}
 
 pub text_flat : flat string ≡ 2
 unfolding flat

@@ -1,5 +1,5 @@
 -- Typed values in a row, as members of one shape, in words.
-use Rattle.std.proofs.Common.{◌≡◌, ◌≤◌, ◌<◌, ◌+◌, ◌*◌, ◌^◌, ◌∙◌, Err, List, Ok, Result, Some, [], ◌∷◌, ap, arith, drop, false, get_or, inl, inr, length, refl, subst, suc, sym, zero, ⊎_elim, ℕ}
+use Rattle.std.proofs.Common.{◌≡◌, ◌≤◌, ◌+◌, ◌*◌, ◌^◌, ◌∙◌, Err, List, Ok, Result, [], ◌∷◌, ap, arith, drop, false, length, refl, subst, sym, ℕ}
 use Rattle.std.specs.Prelude.{flat_map}
 use Rattle.canon_context.proofs.Moves.{GuestLaws}
 use Rattle.canon_context.specs.Core.{Parts, encoding_by, moment_of, types_of}
@@ -10,7 +10,7 @@ use Rattle.canon_lower.proofs.Attempts.{Kept, typed_map}
 use Rattle.canon_lower.proofs.FixedSteps.{fixed_blamed}
 use Rattle.canon_lower.proofs.Items.{each_count, row_trees}
 use Rattle.canon_lower.proofs.WordTuples.{MembersDone, done_end, done_more, done_none, done_room, done_stop}
-use Rattle.canon_lower.specs.Blames.{Blamed, BlamedMember, SomeMember, SomePart, SomeTree}
+use Rattle.canon_lower.specs.Blames.{Blamed, BlamedMember}
 use Rattle.canon_lower.specs.Words.{Stays, TypedLowers, TypedMembersLower}
 use Rattle.canon_lowering.proofs.AimedWords.{fixed_words}
 use Rattle.canon_lowering.proofs.Copying.{copies_flat}
@@ -22,14 +22,12 @@ use Rattle.canon_model.specs.Fits.{Fits}
 use Rattle.canon_model.specs.Layout.{flat, members_flat}
 use Rattle.canon_model.specs.Shape.{Shape, fixed}
 use Rattle.canon_model.specs.Text.{Encoding}
-use Rattle.canon_model.specs.Tree.{Tree, Trees, no_trees, tree, tree_count, trees_of}
-use Rattle.canon_plan.proofs.Lookups.{drop_all, drop_at}
+use Rattle.canon_model.specs.Tree.{Tree, trees_of}
+use Rattle.canon_plan.proofs.Lookups.{drop_all}
 use Rattle.canon_types.specs.Instance.{Instance}
-use Rattle.canon_types.specs.Table.{FixedListType, IsDefined, Knows, Table, shape_of}
+use Rattle.canon_types.specs.Table.{shape_of}
 use Rattle.canon_types.specs.declared.types.InterfaceType.{InterfaceType}
-use Rattle.canon_types.specs.declared.types.InterfaceType.TheVariants as ty
 use Rattle.canon_typed.specs.Meaning.{EachMeans, RowMeans}
-use Rattle.canon_typed.specs.Types.{IsFixedOf}
 use Rattle.canon_value.proofs.Walks.{copies_quiet}
 
 -- ---- a row

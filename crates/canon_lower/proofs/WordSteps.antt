@@ -1,9 +1,9 @@
 -- Typed values as words: scalars, parts of more words, and members in a row.
-use Rattle.std.proofs.Common.{◌≡◌, ◌≤◌, ◌<◌, ◌+◌, ◌++◌, ◌^◌, ◌%◌, ◌∙◌, Bool, Err, List, Ok, Result, [], ap, arith, false, inl, inr, length, refl, rules, set, subst, sym, ⊎_elim, ℕ}
+use Rattle.std.proofs.Common.{◌≡◌, ◌≤◌, ◌<◌, ◌+◌, ◌++◌, ◌^◌, ◌%◌, ◌∙◌, Err, List, Ok, Result, [], ap, arith, false, inl, inr, length, refl, set, subst, sym, ⊎_elim, ℕ}
 use Rattle.std.proofs.lemmas.List.{get_or-set_same}
 use Rattle.std.proofs.lemmas.List.Edits.{get_or-between}
 use Rattle.std.proofs.lemmas.Slice.{between-put_mid}
-use Rattle.std.specs.Prelude.{slice_index, ◌||◌}
+use Rattle.std.specs.Prelude.{slice_index}
 use borrow.Rule.Slice.PartMut.{put_mid}
 use Rattle.canon_context.proofs.Moves.{GuestLaws}
 use Rattle.canon_context.specs.Core.{Parts, encoding_by, moment_of}

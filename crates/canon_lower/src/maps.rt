@@ -60,14 +60,14 @@ fn store_pair<K: LowerShared, V: LowerShared, D, G: Guest>(
     key: &K,
     value: &V,
     cx: &mut LowerContext<'_, D, G>,
-    pair: PairType,
+    pair: &PairType,
     at: u64,
 ) -> Result<(), Fault>
-    requires pair { IsPairType K.fits V.fits cx.old.core.now.component.types pair }
+    requires pair { IsPairType K.fits V.fits cx.old.core.now.component.types pair.now }
     requires small { length cx.old.core.now.memory ≤ 2 ^ 32 }
-    requires room { at + size false (pair_in (types_of cx.old.core.now) pair) ≤ length cx.old.core.now.memory }
-    ensures stores { TypedStores G.seen G.moves cx.old.options cx.old.core.now cx.new.core.now (pair_in (types_of cx.old.core.now) pair) at (PairMeans K.walks V.walks (key.now, value.now))
-        (pair_gives K.gives V.gives cx.old.core.now.component.types (pair_in (types_of cx.old.core.now) pair) (key.now, value.now)) result }
+    requires room { at + size false (pair_in (types_of cx.old.core.now) pair.now) ≤ length cx.old.core.now.memory }
+    ensures stores { TypedStores G.seen G.moves cx.old.options cx.old.core.now cx.new.core.now (pair_in (types_of cx.old.core.now) pair.now) at (PairMeans K.walks V.walks (key.now, value.now))
+        (pair_gives K.gives V.gives cx.old.core.now.component.types (pair_in (types_of cx.old.core.now) pair.now) (key.now, value.now)) result }
     ensures same_reference { cx.new.core.ghost_name ≡ cx.old.core.ghost_name }
     ensures same_options { cx.new.options ≡ cx.old.options }
 {
@@ -82,14 +82,14 @@ fn store_pair<K: LowerShared, V: LowerShared, D, G: Guest>(
 fn store_pairs<K: LowerShared + Eq + Hash, V: LowerShared, D, G: Guest>(
     map: &HashMap<K, V>,
     cx: &mut LowerContext<'_, D, G>,
-    pair: PairType,
+    pair: &PairType,
     offset: u64,
 ) -> Result<(), Fault>
-    requires pair { IsPairType K.fits V.fits cx.old.core.now.component.types pair }
+    requires pair { IsPairType K.fits V.fits cx.old.core.now.component.types pair.now }
     requires small { length cx.old.core.now.memory ≤ 2 ^ 32 }
-    requires room { offset + length map.now.entries * size false (pair_in (types_of cx.old.core.now) pair) ≤ length cx.old.core.now.memory }
-    ensures stores { TypedMembersStore G.seen G.moves cx.old.options cx.old.core.now cx.new.core.now (copies (length map.now.entries) (pair_in (types_of cx.old.core.now) pair)) 0 offset (EachMeans (PairMeans K.walks V.walks) map.now.entries)
-        (flat_map (pair_gives K.gives V.gives cx.old.core.now.component.types (pair_in (types_of cx.old.core.now) pair)) map.now.entries) result }
+    requires room { offset + length map.now.entries * size false (pair_in (types_of cx.old.core.now) pair.now) ≤ length cx.old.core.now.memory }
+    ensures stores { TypedMembersStore G.seen G.moves cx.old.options cx.old.core.now cx.new.core.now (copies (length map.now.entries) (pair_in (types_of cx.old.core.now) pair.now)) 0 offset (EachMeans (PairMeans K.walks V.walks) map.now.entries)
+        (flat_map (pair_gives K.gives V.gives cx.old.core.now.component.types (pair_in (types_of cx.old.core.now) pair.now)) map.now.entries) result }
     ensures same_reference { cx.new.core.ghost_name ≡ cx.old.core.ghost_name }
     ensures same_options { cx.new.options ≡ cx.old.options }
 {
@@ -125,7 +125,7 @@ fn place_map<K: LowerShared + Eq + Hash, V: LowerShared, D, G: Guest>(
         Ok(pointer) => pointer,
         Err(fault) => return Err(fault),
     };
-    match store_pairs(map, cx, pair, pointer) {
+    match store_pairs(map, cx, &pair, pointer) {
         Ok(()) => Ok(Placed { pointer, length }),
         Err(fault) => Err(fault),
     }
