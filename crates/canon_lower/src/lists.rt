@@ -18,10 +18,7 @@ use canon_typed::ComponentType;
 use canon_types::{InstanceType, InterfaceType};
 
 /// The type of a list's items.
-fn list_element<T: ComponentType>(
-    types: &InstanceType,
-    ty: &InterfaceType,
-) -> InterfaceType
+fn list_element<T: ComponentType>(types: &InstanceType, ty: &InterfaceType) -> InterfaceType
     requires known { Knows types.now.types ty.now }
     requires fits { IsListOf T.fits types.now ty.now }
     ensures { IsElementOf (λ s. list of_items s) T.fits types.now ty.now result }

@@ -371,7 +371,9 @@ impl<A: Lower, B: Lower, C: Lower, E: Lower, F: Lower> Lower for (A, B, C, E, F)
             unreachable!()
         };
         let types = &cx.types().tuple(i).types;
-        let (first, second, third, fourth, fifth) = (types[0], types[1], types[2], types[3], types[4]);
+        let (first, second, third, fourth, fifth) = (
+            types[0], types[1], types[2], types[3], types[4],
+        );
         let mut at = 0;
         match lower_at(&mut self.0, cx, first, dst, &mut at) {
             Ok(()) => {}
@@ -419,7 +421,8 @@ impl<A: Lower, B: Lower, C: Lower, E: Lower, F: Lower> Lower for (A, B, C, E, F)
     }
 }
 
-impl<A: LowerShared, B: LowerShared, C: LowerShared, E: LowerShared, F: LowerShared> LowerShared for (A, B, C, E, F) {
+impl<A: LowerShared, B: LowerShared, C: LowerShared, E: LowerShared, F: LowerShared> LowerShared
+    for (A, B, C, E, F) {
     ghost gives = { λ i s p. product_gives ((λ u. A.gives i u p.0) ∷ (λ u. B.gives i u p.1) ∷ (λ u. C.gives i u p.2) ∷ (λ u. E.gives i u p.3) ∷ (λ u. F.gives i u p.4) ∷ []) s };
 
     fn linear_lower_to_flat<D, G: Guest>(
@@ -428,7 +431,12 @@ impl<A: LowerShared, B: LowerShared, C: LowerShared, E: LowerShared, F: LowerSha
         ty: InterfaceType,
         dst: &mut [ValRaw],
     ) -> Result<(), Fault> {
-        Lower::linear_lower_to_flat(&mut (&self.0, &self.1, &self.2, &self.3, &self.4), cx, ty, dst)
+        Lower::linear_lower_to_flat(
+            &mut (&self.0, &self.1, &self.2, &self.3, &self.4),
+            cx,
+            ty,
+            dst,
+        )
     }
 
     fn linear_lower_to_memory<D, G: Guest>(
@@ -437,7 +445,12 @@ impl<A: LowerShared, B: LowerShared, C: LowerShared, E: LowerShared, F: LowerSha
         ty: InterfaceType,
         offset: u64,
     ) -> Result<(), Fault> {
-        Lower::linear_lower_to_memory(&mut (&self.0, &self.1, &self.2, &self.3, &self.4), cx, ty, offset)
+        Lower::linear_lower_to_memory(
+            &mut (&self.0, &self.1, &self.2, &self.3, &self.4),
+            cx,
+            ty,
+            offset,
+        )
     }
 }
 
@@ -454,7 +467,9 @@ impl<A: Lower, B: Lower, C: Lower, E: Lower, F: Lower, H: Lower> Lower for (A, B
             unreachable!()
         };
         let types = &cx.types().tuple(i).types;
-        let (first, second, third, fourth, fifth, sixth) = (types[0], types[1], types[2], types[3], types[4], types[5]);
+        let (first, second, third, fourth, fifth, sixth) = (
+            types[0], types[1], types[2], types[3], types[4], types[5],
+        );
         let mut at = 0;
         match lower_at(&mut self.0, cx, first, dst, &mut at) {
             Ok(()) => {}
@@ -510,7 +525,14 @@ impl<A: Lower, B: Lower, C: Lower, E: Lower, F: Lower, H: Lower> Lower for (A, B
     }
 }
 
-impl<A: LowerShared, B: LowerShared, C: LowerShared, E: LowerShared, F: LowerShared, H: LowerShared> LowerShared for (A, B, C, E, F, H) {
+impl<
+    A: LowerShared,
+    B: LowerShared,
+    C: LowerShared,
+    E: LowerShared,
+    F: LowerShared,
+    H: LowerShared,
+> LowerShared for (A, B, C, E, F, H) {
     ghost gives = { λ i s p. product_gives ((λ u. A.gives i u p.0) ∷ (λ u. B.gives i u p.1) ∷ (λ u. C.gives i u p.2) ∷ (λ u. E.gives i u p.3) ∷ (λ u. F.gives i u p.4) ∷ (λ u. H.gives i u p.5) ∷ []) s };
 
     fn linear_lower_to_flat<D, G: Guest>(
@@ -519,7 +541,12 @@ impl<A: LowerShared, B: LowerShared, C: LowerShared, E: LowerShared, F: LowerSha
         ty: InterfaceType,
         dst: &mut [ValRaw],
     ) -> Result<(), Fault> {
-        Lower::linear_lower_to_flat(&mut (&self.0, &self.1, &self.2, &self.3, &self.4, &self.5), cx, ty, dst)
+        Lower::linear_lower_to_flat(
+            &mut (&self.0, &self.1, &self.2, &self.3, &self.4, &self.5),
+            cx,
+            ty,
+            dst,
+        )
     }
 
     fn linear_lower_to_memory<D, G: Guest>(
@@ -528,6 +555,11 @@ impl<A: LowerShared, B: LowerShared, C: LowerShared, E: LowerShared, F: LowerSha
         ty: InterfaceType,
         offset: u64,
     ) -> Result<(), Fault> {
-        Lower::linear_lower_to_memory(&mut (&self.0, &self.1, &self.2, &self.3, &self.4, &self.5), cx, ty, offset)
+        Lower::linear_lower_to_memory(
+            &mut (&self.0, &self.1, &self.2, &self.3, &self.4, &self.5),
+            cx,
+            ty,
+            offset,
+        )
     }
 }
