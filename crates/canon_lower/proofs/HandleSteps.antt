@@ -1,13 +1,13 @@
 -- A handle in words and in memory, or refused by the ledger.
-use Rattle.std.proofs.Common.{◌≡◌, ◌≤◌, ◌<◌, ◌+◌, ◌^◌, ◌∙◌, ◌∷◌, [], Err, List, None, Ok, Result, ap, arith, inl, inr, length, refl, set, subst, sym, ℕ, false, true, Bool}
+use Rattle.std.proofs.Common.{◌≡◌, ◌≤◌, ◌<◌, ◌+◌, ◌^◌, ◌∙◌, ◌∷◌, [], Err, IfOk, List, None, Ok, Result, ap, arith, inl, inr, length, refl, set, subst, sym, ℕ, false, true, Bool}
 use Rattle.std.proofs.Math.Nat.{mod-eq_of_lt}
 use Rattle.std.proofs.lemmas.List.{get_or-set_same}
 use Rattle.std.specs.Prelude.{slice_index}
 use Rattle.canon_context.proofs.Moves.{GuestLaws, moves_none, moves_written}
 use Rattle.canon_context.specs.Core.{Parts, encoding_by, guest_of, moment_of}
-use Rattle.canon_context.specs.Faults.{resource_fault}
+use Rattle.canon_context.specs.Faults.{faulted, resource_fault}
 use Rattle.canon_context.specs.declared.fault.Fault.{Fault}
-use Rattle.canon_leaves.proofs.Leaves.{leaves_stop_one}
+use Rattle.canon_leaves.proofs.Leaves.{leaves_one, leaves_stop_one}
 use Rattle.canon_leaves.specs.Parts.{LeafMoves, Part, refusal_of}
 use Rattle.canon_ledger.specs.declared.fault.ResourceFault.{ResourceFault}
 use Rattle.canon_ledger.specs.declared.fault.ResourceFault.TheVariants as resource
@@ -53,11 +53,15 @@ refused_one a b parts e only moves = record {
   refusal = (inl refl, tt);
 }
 
-pub refused_given : {D G : Type 0} (a b : Parts D G) (parts : List Part) (gives : List (List Part)) (r : Result ℕ ResourceFault) (e : ResourceFault) (x : Fault) → b ≡ record a { ledger = b.ledger } → LeafMoves a.ledger b.ledger parts r
-    → r ≡ Err e → x ≡ resource_fault e → gives ≡ parts ∷ [] → GivesNumber a b gives (Err x)
-refused_given a b parts gives r e x only moves is ex eg =
-    subst (λ (gs : List (List Part)). GivesNumber a b gs (Err x)) (sym eg) (subst (λ (y : Fault). GivesNumber a b (parts ∷ []) (Err y)) (sym ex)
-    (refused_one a b parts e only (subst (λ (q : Result ℕ ResourceFault). LeafMoves a.ledger b.ledger parts q) is moves)))
+given_by : {D G : Type 0} (a b : Parts D G) (parts : List Part) (r : Result ℕ ResourceFault) → b ≡ record a { ledger = b.ledger } → IfOk (faulted r) (λ h. h < 2 ^ 32) → LeafMoves a.ledger b.ledger parts r → GivesNumber a b (parts ∷ []) (faulted r)
+given_by a b parts (Ok h) only few moves = record { passed = leaves_one a.ledger b.ledger parts h moves; only_ledger = only; narrow = few; refusal = tt }
+given_by a b parts (Err e) only few moves = refused_one a b parts e only moves
+
+-- what the ledger answered is the guest's number, or a fault
+pub given_number : {D G : Type 0} (a b : Parts D G) (parts : List Part) (gives : List (List Part)) (r : Result ℕ ResourceFault) (q : Result ℕ Fault) → b ≡ record a { ledger = b.ledger } → gives ≡ parts ∷ [] → q ≡ faulted r → IfOk q (λ h. h < 2 ^ 32)
+    → LeafMoves a.ledger b.ledger parts r → GivesNumber a b gives q
+given_number a b parts gives r q only eg eq few moves = subst (λ (gs : List (List Part)). GivesNumber a b gs q) (sym eg) (subst (λ (x : Result ℕ Fault). GivesNumber a b (parts ∷ []) x) (sym eq)
+    (given_by a b parts r only (subst (λ (x : Result ℕ Fault). IfOk x (λ h. h < 2 ^ 32)) eq few) moves))
 
 -- the types of handles
 pub handle_shape : (i : Instance) (type : InterfaceType) → IsHandleType i type → (owned : Bool) × (r : ℕ) × (shape_of i.types type ≡ shaped_handle owned r)

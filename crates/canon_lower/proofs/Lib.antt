@@ -4,6 +4,7 @@ pub mod CaseSteps
 pub mod Clearing
 pub mod FixedSteps
 pub mod HandleSteps
+pub mod HeldSteps
 pub mod Items
 pub mod ListSteps
 pub mod MapSteps

@@ -5,6 +5,7 @@ mod blocks;
 mod cases;
 mod compounds;
 mod fixed_list;
+mod host_resources;
 mod lists;
 mod lower;
 mod maps;

@@ -1,7 +1,8 @@
 //! Resources, for which the guest is given handles.
 
-ghost use Rattle.std.specs.Prelude.{◌≡◌, ◌≤◌, ◌+◌, ◌^◌, false, length};
+ghost use Rattle.std.specs.Prelude.{◌≡◌, ◌≤◌, ◌<◌, ◌+◌, ◌^◌, IfOk, false, length};
 ghost use Rattle.canon_context.specs.Core.{types_of};
+ghost use Rattle.canon_context.specs.Faults.{faulted as as_fault};
 ghost use Rattle.canon_lower.specs.Handles.{GivesNumber, handle_gives};
 ghost use Rattle.canon_lower.specs.Stores.{TypedStores};
 ghost use Rattle.canon_lower.specs.Words.{TypedLowers};
@@ -14,8 +15,19 @@ use crate::put::put;
 use crate::{Lower, LowerShared};
 use canon_context::{Fault, LowerContext};
 use canon_memory::{Guest, ValRaw};
-use canon_resources::ResourceAny;
+use canon_resources::{ResourceAny, ResourceFault};
 use canon_types::InterfaceType;
+
+/// A refusal of the ledger as a fault.
+pub(crate) fn faulted(answer: Result<u32, ResourceFault>) -> Result<u32, Fault>
+    ensures fault { result ≡ as_fault answer }
+    ensures narrow { IfOk result (λ h. h < 2 ^ 32) }
+{
+    match answer {
+        Ok(number) => Ok(number),
+        Err(refusal) => Err(Fault::from(refusal)),
+    }
+}
 
 /// Passes a resource through the ledger (CanonicalABI.md, "lower_own" and "lower_borrow"), and answers the number that the guest is
 /// given.
@@ -31,14 +43,8 @@ fn give_handle<D, G: Guest>(
     ensures same_options { cx.new.options ≡ cx.old.options }
 {
     match ty {
-        InterfaceType::Own(t) => match cx.core.lower_own(resource, t) {
-            Ok(number) => Ok(number),
-            Err(refusal) => Err(Fault::from(refusal)),
-        },
-        InterfaceType::Borrow(t) => match cx.core.lower_borrow(resource, t) {
-            Ok(number) => Ok(number),
-            Err(refusal) => Err(Fault::from(refusal)),
-        },
+        InterfaceType::Own(t) => faulted(cx.core.lower_own(resource, t)),
+        InterfaceType::Borrow(t) => faulted(cx.core.lower_borrow(resource, t)),
         _ => unreachable!(),
     }
 }
