@@ -1,5 +1,5 @@
 -- Blocks that are asked for, and what stands in them.
-use Rattle.std.proofs.Common.{◌≡◌, ◌≤◌, ◌<◌, ◌+◌, ◌*◌, ◌^◌, ◌∙◌, ◌∷◌, Err, List, Ok, Result, [], ap, ap₂, arith, false, inl, inr, length, refl, subst, sym, true, ℕ}
+use Rattle.std.proofs.Common.{◌≡◌, ◌≤◌, ◌<◌, ◌+◌, ◌*◌, ◌^◌, ◌∙◌, ◌∷◌, Err, List, Ok, Result, [], ap, ap₂, arith, false, inl, inr, length, refl, subst, sym, true, ⊎_elim, ℕ}
 use Rattle.canon_context.proofs.Cores.{not_done, same_encoding}
 use Rattle.canon_context.proofs.Moves.{GuestLaws, moves_none, moves_then, moves_written}
 use Rattle.canon_context.specs.Asks.{AsksFor}
@@ -25,9 +25,10 @@ use Rattle.canon_model.specs.Requests.{Call}
 use Rattle.canon_model.specs.Shape.{ListKind, Members, Shape, list, string}
 use Rattle.canon_model.specs.Text.{Encoding}
 use Rattle.canon_model.specs.Tree.{Tree, Trees, items, tree_count, trees_of}
-use Rattle.canon_lower.proofs.Attempts.{cross_stopped, ends_done, ends_early, not_false}
+use Rattle.canon_lower.proofs.Attempts.{Cause, cause_of, cross_stopped, ends_done, ends_early, not_false}
+use Rattle.canon_lower.proofs.TooLarge.{block_small}
 use Rattle.canon_value.proofs.Passing.{handles_then, same_handles, same_ledger, ungiven_elsewhere}
-use Rattle.canon_lower.specs.Blames.{Blamed, BlamedMember, IsElsewhere}
+use Rattle.canon_lower.specs.Blames.{HasLarge, HaveLarge, IsElsewhere, SomeTree}
 use Rattle.canon_lower.specs.Lowers.{HandlesCross}
 use Rattle.canon_lower.specs.Places.{BlockAsked, IsGivenBlock, IsNoBlock, IsPairPut, TypedPlaces}
 use Rattle.canon_lower.specs.Stores.{TypedMembersStore, TypedStores}
@@ -83,13 +84,17 @@ stop_at a b enc s at Has ws e not h = record {
   shown = when_not e _ not;
 }
 
+-- one of the trees that are stored has a part that is too large exactly where an item has one
+abbrev pub AsItems : Encoding → Shape → Members → (Tree → Type 0) → (Tree → Trees) → Type 0
+AsItems enc s ms Has back = (t : Tree) → Has t → (e : Fault) → (HaveLarge enc ms e (back t) → SomeTree (λ u. HasLarge enc s e u) (trees_of t)) × (SomeTree (λ u. HasLarge enc s e u) (trees_of t) → HaveLarge enc ms e (back t))
+
 module _ {D G : Type 0} (L : GuestLaws G) (options : ℕ) where
   -- ---- a list in a block of its own
 
   module _ (z s : Shape) (k : ListKind) (n : ℕ) (Has : Tree → Type 0) (gs : List (List Part)) (shape : z ≡ list k s) (counts : (t : Tree) → Has t → tree_count (trees_of t) ≡ n) where
     -- its block isn't given
-    pub list_refused : (a b : Parts D G) (e : Fault) → length a.memory ≤ 2 ^ 32 → IsNoBlock L.seen L.moves a b s n e → TypedPlaces L.seen L.moves options a b z Has gs (Err e)
-    list_refused a b e small (inl (is, same, many)) = subst (λ (y : Shape). TypedPlaces L.seen L.moves options a b y Has gs (Err e)) (sym shape)
+    pub list_refused : (a b : Parts D G) (e : Fault) → IsNoBlock L.seen L.moves a b s n e → TypedPlaces L.seen L.moves options a b z Has gs (Err e)
+    list_refused a b e (inl (is, same, small, many)) = subst (λ (y : Shape). TypedPlaces L.seen L.moves options a b y Has gs (Err e)) (sym shape)
         (subst (λ (x : Parts D G). TypedPlaces L.seen L.moves options a x (list k s) Has gs (Err e)) (sym same)
         (subst (λ (x : Fault). TypedPlaces L.seen L.moves options a a (list k s) Has gs (Err x)) (sym is) (record {
           placed = record {
@@ -102,10 +107,11 @@ module _ {D G : Type 0} (L : GuestLaws G) (options : ℕ) where
             same = refl;
             quiet = λ none. absurd (not_false none);
             cause = λ t has. inr (inl (sym (counts t has), many));
+            small = tt;
           };
           narrow = tt;
         })))
-    list_refused a b e small (inr h) = subst (λ (y : Shape). TypedPlaces L.seen L.moves options a b y Has gs (Err e)) (sym shape) (record {
+    list_refused a b e (inr h) = subst (λ (y : Shape). TypedPlaces L.seen L.moves options a b y Has gs (Err e)) (sym shape) (record {
       placed = record {
         handles = [];
         ending = fault_ending e;
@@ -116,6 +122,7 @@ module _ {D G : Type 0} (L : GuestLaws G) (options : ℕ) where
         same = same_handles a b h.same;
         quiet = λ none. absurd (not_false none);
         cause = λ t has. inl (elsewhere_asked (moment_of L.seen a) (moment_of L.seen b) (items_call false s n) e 0 h.does);
+        small = tt;
       };
       narrow = tt;
     })
@@ -123,7 +130,7 @@ module _ {D G : Type 0} (L : GuestLaws G) (options : ℕ) where
     -- its block is given, and its items are stored there as these members
     module _ (all : ℕ) (ms : Members) (group : Trees → Trees) (back : Tree → Trees) (row : (enc : Encoding) → MakesRow false enc s n ms all group) (Have : Trees → Type 0)
         (to : (ts : Trees) → Have ts → Has (items (group ts)) × (tree_count ts ≡ all)) (from : (t : Tree) → Has t → Have (back t) × (trees_of t ≡ group (back t)))
-        (blames : (enc : Encoding) (e : Fault) (t : Tree) → Has t → BlamedMember enc ms (back t) e → Blamed enc (list k s) t e) (a b c : Parts D G) (p : ℕ) (g : IsGivenBlock L.seen L.moves a b s n p) where
+        (items_large : (enc : Encoding) → AsItems enc s ms Has back) (a b c : Parts D G) (p : ℕ) (g : IsGivenBlock L.seen L.moves a b s n p) where
       words : (r : Result (Unit {0}) Fault) (h : TypedMembersStore L.seen L.moves options b c ms 0 p Have gs r) → LowersValue false (moment_of L.seen a) (moment_of L.seen c) (encoding_by a options) (list k s) (p ∷ n ∷ []) 0 Has h.handles h.ending
       words r h = pairs.rows_words false (moment_of L.seen a) (moment_of L.seen b) (moment_of L.seen c) (encoding_by a options) k s n p all ms group back (row (encoding_by a options)) Have Has h.ending g.asked.small g.asked.does (λ _. g.few) to from
           (subst (λ (x : Encoding). StoresMembers false (moment_of L.seen b) (moment_of L.seen c) x ms 0 p Have h.handles h.ending) (same_encoding a b options g.asked.same) h.attempt)
@@ -133,6 +140,9 @@ module _ {D G : Type 0} (L : GuestLaws G) (options : ℕ) where
 
       moved : (r : Result (Unit {0}) Fault) (h : TypedMembersStore L.seen L.moves options b c ms 0 p Have gs r) → Moves L.seen L.moves (guest_of a) (guest_of c) h.ending
       moved r h = moves_then L (guest_of a) (guest_of b) (guest_of c) h.ending _ _ g.asked.does.answered.goes.events h.attempt.lowering.goes.events g.asked.moved h.moved
+
+      all_small : (h : TypedMembersStore L.seen L.moves options b c ms 0 p Have gs (Ok tt)) (t : Tree) → Has t → (e : Fault) → ¬ HaveLarge (encoding_by a options) ms e (back t)
+      all_small h t has e some = h.small (back t) (from t has).0 e (subst (λ (x : Encoding). HaveLarge x ms e (back t)) (sym (same_encoding a b options g.asked.same)) some)
 
       pub list_placed : TypedMembersStore L.seen L.moves options b c ms 0 p Have gs (Ok tt) → TypedPlaces L.seen L.moves options a c z Has gs (Ok (record { pointer = p; length = n }))
       list_placed h = subst (λ (y : Shape). TypedPlaces L.seen L.moves options a c y Has gs (Ok (record { pointer = p; length = n }))) (sym shape) (record {
@@ -146,6 +156,7 @@ module _ {D G : Type 0} (L : GuestLaws G) (options : ℕ) where
           same = handles_then a b c (same_handles a b g.asked.same) h.same;
           quiet = λ none. absurd (not_false none);
           cause = tt;
+          small = λ t has e some. ⊎_elim (block_small (encoding_by a options) k s t n (counts t has) g.few g.fit e) (λ items. all_small h t has e ((items_large (encoding_by a options) t has e).1 items)) some;
         };
         narrow = (g.asked.does.narrow, g.few);
       })
@@ -161,8 +172,9 @@ module _ {D G : Type 0} (L : GuestLaws G) (options : ℕ) where
           moved = moved (Err e) h;
           same = handles_then a b c (same_handles a b g.asked.same) h.same;
           quiet = λ none. absurd (not_false none);
-          cause = λ t has. blames (encoding_by a options) e t has
-              (subst (λ (x : Encoding). BlamedMember x ms (back t) e) (same_encoding a b options g.asked.same) (h.cause (back t) (from t has).0));
+          cause = cause_of Have Has (HaveLarge (encoding_by a options) ms) (HasLarge (encoding_by a options) (list k s)) e (λ t has. (back t, (from t has).0, λ some. inr ((items_large (encoding_by a options) t has e).0 some)))
+              (subst (λ (x : Encoding). Cause Have (HaveLarge x ms) e) (same_encoding a b options g.asked.same) h.cause);
+          small = tt;
         };
         narrow = tt;
       })
@@ -180,6 +192,7 @@ module _ {D G : Type 0} (L : GuestLaws G) (options : ℕ) where
     same = h.placed.same;
     quiet = λ none. absurd (not_false (sym block ∙ none));
     cause = h.placed.cause;
+    small = tt;
   }
 
   module _ (a b c : Parts D G) (at : ℕ) (Has : Tree → Type 0) (gs : List (List Part)) (x : Placed) (room : at + 8 ≤ length b.memory) (w : IsPairPut b c at x.pointer x.length) where
@@ -208,6 +221,7 @@ module _ {D G : Type 0} (L : GuestLaws G) (options : ℕ) where
           same = ap (λ (y : Parts D G). record y { memory = c.memory }) h.placed.same;
           quiet = λ none. absurd (not_false (sym block ∙ none));
           cause = tt;
+          small = h.placed.small;
         })
 
     pub list_told : (z s : Shape) (k : ListKind) → z ≡ list k s → TypedPlaces L.seen L.moves options a b z Has gs (Ok x) → told z

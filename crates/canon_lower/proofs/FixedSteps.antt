@@ -17,10 +17,11 @@ use Rattle.canon_types.specs.declared.types.InterfaceType.{InterfaceType}
 use Rattle.canon_types.specs.declared.types.InterfaceType.TheVariants as ty
 use Rattle.canon_typed.specs.Meaning.{EachMeans, RowMeans}
 use Rattle.canon_typed.specs.Types.{IsFixedOf}
-use Rattle.canon_lower.proofs.Items.{each_count, row_some, row_trees}
+use Rattle.canon_lower.proofs.Items.{each_count, row_trees}
 use Rattle.canon_value.proofs.Walks.{copies_quiet}
-use Rattle.canon_lower.proofs.MemberSteps.{by_fault}
-use Rattle.canon_lower.specs.Blames.{Blamed, BlamedMember, IsTooLarge}
+use Rattle.canon_lower.proofs.Attempts.{cause_as, small_as}
+use Rattle.canon_lower.proofs.TooLarge.{fixed_large}
+use Rattle.canon_lower.specs.Blames.{HasLarge, HaveLarge}
 use Rattle.canon_lower.specs.Gives.{item_shape}
 use Rattle.canon_lower.specs.Lists.{IsElementOf}
 use Rattle.canon_lower.specs.Stores.{TypedMembersStore, TypedStores}
@@ -42,10 +43,6 @@ fixed_found count Fits i t2 type j element n e is fits defined =
       known = here.known 0 element (omega arith);
       fits = subst (Fits i) (same_item other element count n both) f;
     })
-
-pub fixed_blamed : (enc : Encoding) (e : Fault) (n : ℕ) (s : Shape) (t : Tree) → BlamedMember enc (copies n s) (trees_of t) e → Blamed enc (fixed n s) t e
-fixed_blamed enc e n s t (inl elsewhere) = inl elsewhere
-fixed_blamed enc e n s t (inr large) = inr (row_some (IsTooLarge enc e) n s (trees_of t) large)
 
 module _ {D G : Type 0} (L : GuestLaws G) (options : ℕ) {A : Type 0} (Walks : A → Tree → Type 0) (gives : Instance → Shape → A → List (List Part)) (Fits : Instance → InterfaceType → Type 0) (a : Parts D G) (type element : InterfaceType) (xs : List A) (n : ℕ)
     (of : IsElementOf (λ s. fixed n s) Fits a.component.types type element) (is : length xs ≡ n) (at : ℕ) (room : at + size false (shape_of (types_of a) type) ≤ length a.memory) where
@@ -76,5 +73,6 @@ module _ {D G : Type 0} (L : GuestLaws G) (options : ℕ) {A : Type 0} (Walks : 
         moved = h.moved;
         same = h.same;
         quiet = λ none. h.quiet (copies_quiet n s none);
-        cause = by_fault r _ _ (λ e blames t has. fixed_blamed (encoding_by a options) e n s t (blames (trees_of t) (row_trees Walks xs t has))) h.cause;
+        cause = cause_as (EachMeans Walks xs) (RowMeans Walks xs) (HaveLarge (encoding_by a options) (copies n s)) (HasLarge (encoding_by a options) (fixed n s)) r (fixed_large (encoding_by a options) n s Walks xs is) h.cause;
+        small = small_as (EachMeans Walks xs) (RowMeans Walks xs) (HaveLarge (encoding_by a options) (copies n s)) (HasLarge (encoding_by a options) (fixed n s)) r (fixed_large (encoding_by a options) n s Walks xs is) h.small;
       })

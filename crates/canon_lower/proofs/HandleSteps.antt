@@ -11,6 +11,7 @@ use Rattle.canon_leaves.proofs.Leaves.{leaves_one, leaves_stop_one}
 use Rattle.canon_leaves.specs.Parts.{LeafMoves, Part, refusal_of}
 use Rattle.canon_ledger.specs.declared.fault.ResourceFault.{ResourceFault}
 use Rattle.canon_ledger.specs.declared.fault.ResourceFault.TheVariants as resource
+use Rattle.canon_lower.proofs.TooLarge.{handle_small}
 use Rattle.canon_lower.specs.Handles.{GivesNumber}
 use Rattle.canon_lower.specs.Lowers.{HandlesCross}
 use Rattle.canon_lower.specs.Stores.{IsPut, TypedStores}
@@ -93,6 +94,7 @@ module _ {D G : Type 0} (L : GuestLaws G) (options : ℕ) (a b : Parts D G) (own
         same = refl;
         quiet = λ none. (refl, tt);
         cause = tt;
+        small = handle_small (encoding_by a options) owned r IsHandle;
       }))
     where
       words : (owns : Bool) (ws : List ℕ) → slice_index ws 0 < 2 ^ 32
@@ -113,6 +115,7 @@ module _ {D G : Type 0} (L : GuestLaws G) (options : ℕ) (a b : Parts D G) (own
         same = refl;
         quiet = λ none. (refl, refl);
         cause = λ t has. inl given.refusal.1;
+        small = tt;
       })
 
   -- ---- in memory
@@ -144,6 +147,7 @@ module _ {D G : Type 0} (L : GuestLaws G) (options : ℕ) (a b : Parts D G) (own
         same = refl;
         quiet = λ none. (refl, tt);
         cause = tt;
+        small = handle_small (encoding_by a options) owned r IsHandle;
       }))
     where
       bytes : (owns : Bool) → Writes (block at 4) a.memory c.memory
@@ -164,4 +168,5 @@ module _ {D G : Type 0} (L : GuestLaws G) (options : ℕ) (a b : Parts D G) (own
         same = refl;
         quiet = λ none. (refl, refl);
         cause = λ t has. inl given.refusal.1;
+        small = tt;
       })

@@ -47,7 +47,7 @@ list_trees Walks xs t (ts, is, each) = subst (EachMeans Walks xs) (sym (ap trees
 pub row_trees : {A : Type 0} (Walks : A → Tree → Type 0) (xs : List A) (t : Tree) → RowMeans Walks xs t → EachMeans Walks xs (trees_of t)
 row_trees Walks xs t (ts, is, each) = subst (EachMeans Walks xs) (sym (ap trees_of is)) each
 
--- ---- one of them is to blame
+-- ---- one of them is so
 
 pub row_some : (P : Shape → Tree → Type 0) (n : ℕ) (s : Shape) (ts : Trees) → SomeMember P (copies n s) ts → SomeTree (λ u. SomePart P s u) ts
 row_some P zero s no_trees h = absurd h
@@ -55,3 +55,9 @@ row_some P zero s (tree t ts) h = absurd h
 row_some P (suc n) s no_trees h = absurd h
 row_some P (suc n) s (tree t ts) (inl h) = inl h
 row_some P (suc n) s (tree t ts) (inr h) = inr (row_some P n s ts h)
+
+pub some_row : (P : Shape → Tree → Type 0) (n : ℕ) (s : Shape) (ts : Trees) → tree_count ts ≡ n → SomeTree (λ u. SomePart P s u) ts → SomeMember P (copies n s) ts
+some_row P n s no_trees count h = absurd h
+some_row P zero s (tree t ts) count h = absurd (omega (arith, count))
+some_row P (suc n) s (tree t ts) count (inl h) = inl h
+some_row P (suc n) s (tree t ts) count (inr h) = inr (some_row P n s ts (omega (arith, count)) h)

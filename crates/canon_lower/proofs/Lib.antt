@@ -17,6 +17,7 @@ pub mod ScalarSteps
 pub mod Seen
 pub mod Stood
 pub mod TextSteps
+pub mod TooLarge
 pub mod TupleSteps
 pub mod Types
 pub mod WordBlocks

@@ -18,10 +18,10 @@ use Rattle.canon_types.specs.declared.types.InterfaceType.{InterfaceType}
 use Rattle.canon_types.specs.declared.types.InterfaceType.TheVariants as ty
 use Rattle.canon_typed.specs.Meaning.{EachMeans, ListMeans}
 use Rattle.canon_typed.specs.Types.{IsListOf}
-use Rattle.canon_lower.proofs.Items.{each_count, list_trees, row_some}
-use Rattle.canon_lower.proofs.BlockSteps.{list_broken, list_placed, list_refused, list_told, placed_stops}
+use Rattle.canon_lower.proofs.Items.{each_count, list_trees, row_some, some_row}
+use Rattle.canon_lower.proofs.BlockSteps.{AsItems, list_broken, list_placed, list_refused, list_told, placed_stops}
 use Rattle.canon_value.proofs.Passing.{handles_instance, same_handles}
-use Rattle.canon_lower.specs.Blames.{Blamed, BlamedMember, IsTooLarge}
+use Rattle.canon_lower.specs.Blames.{IsTooLarge}
 use Rattle.canon_lower.specs.Gives.{item_shape}
 use Rattle.canon_lower.specs.Lists.{IsElementOf}
 use Rattle.canon_lower.specs.Places.{IsGivenBlock, IsNoBlock, IsPairPut, TypedPlaces}
@@ -42,10 +42,6 @@ list_found Fits i t2 type j element e is fits defined =
       fits = subst (Fits i) (same_list other element (sym d.definition ∙ here.definition)) f;
     })
 
-list_blamed : (enc : Encoding) (e : Fault) (k : ListKind) (n : ℕ) (s : Shape) (t : Tree) → BlamedMember enc (copies n s) (trees_of t) e → Blamed enc (list k s) t e
-list_blamed enc e k n s t (inl elsewhere) = inl elsewhere
-list_blamed enc e k n s t (inr large) = inr (inr (row_some (IsTooLarge enc e) n s (trees_of t) large))
-
 -- ---- in a block
 
 -- values in a row, in a block that is a list's
@@ -53,8 +49,11 @@ module _ {D G : Type 0} (L : GuestLaws G) (options : ℕ) {A : Type 0} (Walks : 
   counts : (t : Tree) → ListMeans Walks xs t → tree_count (trees_of t) ≡ n
   counts t has = each_count Walks xs (trees_of t) (list_trees Walks xs t has) ∙ sym is
 
-  pub list_ungiven : (e : Fault) → length a.memory ≤ 2 ^ 32 → IsNoBlock L.seen L.moves a b s n e → TypedPlaces L.seen L.moves options a b z (ListMeans Walks xs) (flat_map give xs) (Err e)
-  list_ungiven e small h = list_refused L options z s k n (ListMeans Walks xs) (flat_map give xs) shape counts a b e small h
+  items_large : (enc : Encoding) → AsItems enc s (copies n s) (ListMeans Walks xs) (λ t. trees_of t)
+  items_large enc t has e = (row_some (IsTooLarge enc e) n s (trees_of t), some_row (IsTooLarge enc e) n s (trees_of t) (counts t has))
+
+  pub list_ungiven : (e : Fault) → IsNoBlock L.seen L.moves a b s n e → TypedPlaces L.seen L.moves options a b z (ListMeans Walks xs) (flat_map give xs) (Err e)
+  list_ungiven e h = list_refused L options z s k n (ListMeans Walks xs) (flat_map give xs) shape counts a b e h
 
   module _ (c : Parts D G) (p : ℕ) (g : IsGivenBlock L.seen L.moves a b s n p) where
     abbrev pub Filled : Result (Unit {0}) Fault → Type 0
@@ -65,11 +64,11 @@ module _ {D G : Type 0} (L : GuestLaws G) (options : ℕ) {A : Type 0} (Walks : 
 
     pub list_filled : Filled (Ok tt) → TypedPlaces L.seen L.moves options a c z (ListMeans Walks xs) (flat_map give xs) (Ok (record { pointer = p; length = n }))
     list_filled h = list_placed L options z s k n (ListMeans Walks xs) (flat_map give xs) shape counts n (copies n s) (λ ts. ts) (λ t. trees_of t) (λ enc. copies_row false enc s n) (EachMeans Walks xs)
-        (λ ts each. ((ts, refl, each), each_count Walks xs ts each ∙ sym is)) (λ t has. (list_trees Walks xs t has, refl)) (λ enc e t has blamed. list_blamed enc e k n s t blamed) a b c p g (as_many (Ok tt) h)
+        (λ ts each. ((ts, refl, each), each_count Walks xs ts each ∙ sym is)) (λ t has. (list_trees Walks xs t has, refl)) items_large a b c p g (as_many (Ok tt) h)
 
     pub list_stopped : (e : Fault) → Filled (Err e) → TypedPlaces L.seen L.moves options a c z (ListMeans Walks xs) (flat_map give xs) (Err e)
     list_stopped e h = list_broken L options z s k n (ListMeans Walks xs) (flat_map give xs) shape counts n (copies n s) (λ ts. ts) (λ t. trees_of t) (λ enc. copies_row false enc s n) (EachMeans Walks xs)
-        (λ ts each. ((ts, refl, each), each_count Walks xs ts each ∙ sym is)) (λ t has. (list_trees Walks xs t has, refl)) (λ enc e2 t has blamed. list_blamed enc e2 k n s t blamed) a b c p g e (as_many (Err e) h)
+        (λ ts each. ((ts, refl, each), each_count Walks xs ts each ∙ sym is)) (λ t has. (list_trees Walks xs t has, refl)) items_large a b c p g e (as_many (Err e) h)
 
 -- the same of the items that a list's type has, said of the types of the start
 module _ {D G : Type 0} (L : GuestLaws G) (options : ℕ) {A : Type 0} (Walks : A → Tree → Type 0) (gives : Instance → Shape → A → List (List Part)) (Fits : Instance → InterfaceType → Type 0) (a b : Parts D G) (type element : InterfaceType) (xs : List A) (n : ℕ)
@@ -83,8 +82,8 @@ module _ {D G : Type 0} (L : GuestLaws G) (options : ℕ) {A : Type 0} (Walks : 
   abbrev all_gives : List (List Part)
   all_gives = flat_map (gives a.component.types (item_shape z)) xs
 
-  pub items_ungiven : (e : Fault) → length a.memory ≤ 2 ^ 32 → IsNoBlock L.seen L.moves a b s n e → TypedPlaces L.seen L.moves options a b z (ListMeans Walks xs) all_gives (Err e)
-  items_ungiven e small h = list_ungiven L options Walks (gives a.component.types (item_shape z)) a b z s of_items of.shape xs n is e small h
+  pub items_ungiven : (e : Fault) → IsNoBlock L.seen L.moves a b s n e → TypedPlaces L.seen L.moves options a b z (ListMeans Walks xs) all_gives (Err e)
+  items_ungiven e h = list_ungiven L options Walks (gives a.component.types (item_shape z)) a b z s of_items of.shape xs n is e h
 
   module _ (c : Parts D G) (p options2 : ℕ) (eo : options2 ≡ options) (g : IsGivenBlock L.seen L.moves a b s n p) where
     instance : b.component.types ≡ a.component.types

@@ -83,8 +83,8 @@ module _ {D G : Type 0} (L : GuestLaws G) (options : ℕ) {K V : Type 0} (Walks 
   abbrev all_gives : List (List Part)
   all_gives = flat_map (gives a.component.types (item_shape z)) xs
 
-  pub pairs_ungiven : (e : Fault) → length a.memory ≤ 2 ^ 32 → IsNoBlock L.seen L.moves a b s n e → TypedPlaces L.seen L.moves options a b z (ListMeans Walks xs) all_gives (Err e)
-  pairs_ungiven e small h = list_ungiven L options Walks (gives a.component.types (item_shape z)) a b z s of_pairs shape xs n is e small h
+  pub pairs_ungiven : (e : Fault) → IsNoBlock L.seen L.moves a b s n e → TypedPlaces L.seen L.moves options a b z (ListMeans Walks xs) all_gives (Err e)
+  pairs_ungiven e h = list_ungiven L options Walks (gives a.component.types (item_shape z)) a b z s of_pairs shape xs n is e h
 
   module _ (c : Parts D G) (p options2 : ℕ) (eo : options2 ≡ options) (g : IsGivenBlock L.seen L.moves a b s n p) where
     instance : b.component.types ≡ a.component.types

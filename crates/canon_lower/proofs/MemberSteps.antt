@@ -1,4 +1,5 @@
 -- Typed values stored as members in a row, and what they are members of.
+use Rattle.std.specs.Prelude.{OnOk}
 use Rattle.std.proofs.Common.{◌≡◌, ◌≤◌, ◌+◌, ◌++◌, ◌^◌, ◌∙◌, Err, IfErr, List, Ok, Result, [], ◌∷◌, ap, append-nil, arith, false, inl, inr, length, refl, subst, sym, ℕ}
 use Rattle.std.proofs.Math.Nat.{zero-mod}
 use Rattle.std.proofs.lemmas.Nat.Gcd.{dvd_of_mod-eq-zero}
@@ -20,35 +21,16 @@ use Rattle.canon_model.specs.Shape.{Members, ProductKind, Shape, member, no_memb
 use Rattle.canon_model.specs.Text.{Encoding}
 use Rattle.canon_model.specs.Tree.{Tree, Trees, no_trees, tree, trees_of}
 use Rattle.canon_typed.specs.Meaning.{FirstAnd, NoTrees, ProductMeans}
-use Rattle.canon_lower.proofs.Attempts.{cross_stop, cross_then, ends_done, ends_early, ends_more, none_first, none_later}
+use Rattle.canon_lower.proofs.Attempts.{Cause, IsSmall, cause_as, cause_first, cause_then, cross_stop, cross_then, ends_done, ends_early, ends_more, none_first, none_later, small_as, small_then}
+use Rattle.canon_lower.proofs.TooLarge.{first_large, product_large}
 use Rattle.canon_value.proofs.Passing.{handles_encoding, handles_then}
 use Rattle.canon_value.proofs.Steps.{no_first, no_later}
-use Rattle.canon_lower.specs.Blames.{Blamed, BlamedMember}
+use Rattle.canon_lower.specs.Blames.{HasLarge, HaveLarge}
 use Rattle.canon_lower.specs.Stores.{TypedMembersStore, TypedStores}
 
 -- a first member begins at once
 pub begins_zero : (s : Shape) → begins false 0 s ≡ 0
 begins_zero s = begins-same false 0 s (dvd_of_mod-eq-zero (align false s) (zero-mod _))
-
--- the first tree is to blame, or one of the others
-first_blamed : (enc : Encoding) (e : Fault) (s : Shape) (ms : Members) (Has : Tree → Type 0) (Have : Trees → Type 0) → ((t : Tree) → Has t → Blamed enc s t e) → (ts : Trees) → FirstAnd Has Have ts → BlamedMember enc (member [] s ms) ts e
-first_blamed enc e s ms Has Have h ts (t, rest, is, has, have) = subst (λ us. BlamedMember enc (member [] s ms) us e) (sym is) (of_first (h t has))
-  where
-    of_first : Blamed enc s t e → BlamedMember enc (member [] s ms) (tree t rest) e
-    of_first (inl elsewhere) = inl elsewhere
-    of_first (inr large) = inr (inl large)
-
-others_blamed : (enc : Encoding) (e : Fault) (s : Shape) (ms : Members) (Has : Tree → Type 0) (Have : Trees → Type 0) → ((ts : Trees) → Have ts → BlamedMember enc ms ts e) → (ts : Trees) → FirstAnd Has Have ts → BlamedMember enc (member [] s ms) ts e
-others_blamed enc e s ms Has Have h ts (t, rest, is, has, have) = subst (λ us. BlamedMember enc (member [] s ms) us e) (sym is) (of_others (h rest have))
-  where
-    of_others : BlamedMember enc ms rest e → BlamedMember enc (member [] s ms) (tree t rest) e
-    of_others (inl elsewhere) = inl elsewhere
-    of_others (inr large) = inr (inr large)
-
--- what is said of each fault
-pub by_fault : (r : Result (Unit {0}) Fault) (P Q : Fault → Type 0) → ((e : Fault) → P e → Q e) → IfErr r P → IfErr r Q
-by_fault (Ok tt) P Q f h = tt
-by_fault (Err e) P Q f h = f e h
 
 module _ {D G : Type 0} (L : GuestLaws G) (options : ℕ) where
   -- what a value that was stored did
@@ -69,6 +51,7 @@ module _ {D G : Type 0} (L : GuestLaws G) (options : ℕ) where
     same = refl;
     quiet = λ none. (refl, tt);
     cause = tt;
+    small = λ ts none e some. some;
   }
 
   pub members_more : (a b c : Parts D G) (s : Shape) (ms : Members) (o at : ℕ) (Has : Tree → Type 0) (Have : Trees → Type 0) (gs ks : List (List Part)) (r : Result (Unit {0}) Fault)
@@ -89,7 +72,8 @@ module _ {D G : Type 0} (L : GuestLaws G) (options : ℕ) where
         moved = moves_then L (guest_of a) (guest_of b) (guest_of c) k.ending _ _ h.attempt.lowering.goes.events k.attempt.lowering.goes.events moved k.moved;
         same = handles_then a b c h.same k.same;
         quiet = λ none. ((k.quiet (no_later (has_block s) (have_block ms) none)).0 ∙ (h.quiet (no_first (has_block s) (have_block ms) none)).0, (k.quiet (no_later (has_block s) (have_block ms) none)).1);
-        cause = by_fault r _ _ (λ e blames. others_blamed enc e s ms Has Have blames) (subst (λ (z : Encoding). IfErr r (λ e. (ts : Trees) → Have ts → BlamedMember z ms ts e)) same_enc k.cause);
+        cause = cause_then Has Have (FirstAnd Has Have) (HasLarge enc s) (HaveLarge enc ms) (HaveLarge enc (member [] s ms)) (first_large enc s ms Has Have) r (subst (λ (z : Encoding). IfErr r (Cause Have (HaveLarge z ms))) same_enc k.cause);
+        small = small_then Has Have (FirstAnd Has Have) (HasLarge enc s) (HaveLarge enc ms) (HaveLarge enc (member [] s ms)) (first_large enc s ms Has Have) r h.small (subst (λ (z : Encoding). OnOk r (IsSmall Have (HaveLarge z ms))) same_enc k.small);
       }
 
   -- the first one ends it
@@ -106,7 +90,8 @@ module _ {D G : Type 0} (L : GuestLaws G) (options : ℕ) where
         moved = h.moved;
         same = h.same;
         quiet = λ none. h.quiet (no_first (has_block s) (have_block ms) none);
-        cause = first_blamed enc e s ms Has Have h.cause;
+        cause = cause_first Has Have (FirstAnd Has Have) (HasLarge enc s) (HaveLarge enc ms) (HaveLarge enc (member [] s ms)) (first_large enc s ms Has Have) e h.cause;
+        small = tt;
       }
 
   pub members_last : (a b : Parts D G) (s : Shape) (o at : ℕ) (Has : Tree → Type 0) (gs : List (List Part)) (r : Result (Unit {0}) Fault) → TypedStores L.seen L.moves options a b s (at + begins false o s) Has gs r
@@ -136,5 +121,6 @@ module _ {D G : Type 0} (L : GuestLaws G) (options : ℕ) where
     moved = h.moved;
     same = h.same;
     quiet = h.quiet;
-    cause = by_fault r _ _ (λ e blames t (ts, is, have). subst (λ u. Blamed (encoding_by a options) (product k ms) u e) (sym is) (blames ts have)) h.cause;
+    cause = cause_as Have (ProductMeans Have) (HaveLarge (encoding_by a options) ms) (HasLarge (encoding_by a options) (product k ms)) r (product_large (encoding_by a options) k ms Have) h.cause;
+    small = small_as Have (ProductMeans Have) (HaveLarge (encoding_by a options) ms) (HasLarge (encoding_by a options) (product k ms)) r (product_large (encoding_by a options) k ms Have) h.small;
   })

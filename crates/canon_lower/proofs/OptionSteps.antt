@@ -38,7 +38,7 @@ module _ {D G : Type 0} (Fits : Instance → InterfaceType → Type 0) (a b : Pa
       let same : size false (shape_of (types_of b) some) ≡ size false u = ap (λ (i : Instance). size false (shape_of i.types some)) (put_types a b at _ _ put.put) in
       omega (arith, room, ap (size false) h.shape, same, put.inner, put.put.writes.same_length, (payloads_fit false of_option (cases_of u)).inside 1 (omega arith))
 
-  module _ (L : GuestLaws G) (options : ℕ) {A : Type 0} (Walks : A → Tree → Type 0) (gives : Instance → Shape → A → List (List Part)) (v : Option A) (small : length a.memory ≤ 2 ^ 32) (room : at + size false (shape_of (types_of a) type) ≤ length a.memory) where
+  module _ (L : GuestLaws G) (options : ℕ) {A : Type 0} (Walks : A → Tree → Type 0) (gives : Instance → Shape → A → List (List Part)) (v : Option A) (room : at + size false (shape_of (types_of a) type) ≤ length a.memory) where
     abbrev Stored : Parts D G → Option A → Result (Unit {0}) Fault → Type 0
     Stored c w r = TypedStores L.seen L.moves options a c (shape_of (types_of a) type) at (OptionMeans Walks w) (option_gives gives a.component.types (shape_of (types_of a) type) w) r
 
@@ -47,8 +47,8 @@ module _ {D G : Type 0} (Fits : Instance → InterfaceType → Type 0) (a b : Pa
         let u = shape_of (types_of a) some in
         let put = cases_put 0 h in
         subst (λ (w : Option A). Stored b w (Ok tt)) (sym is)
-        (case_stores L options (λ (x : Unit {0}) (t : Tree). Unit {0}) tt true a b b (shape_of (types_of a) type) u of_option (cases_of u) at 0 place [] (Ok tt) small h.shape room (omega arith) (omega arith) refl put
-        (members_nothing L options b 0 place (omega (arith, small, put.put.writes.same_length))))
+        (case_stores L options (λ (x : Unit {0}) (t : Tree). Unit {0}) tt true a b b (shape_of (types_of a) type) u of_option (cases_of u) at 0 place [] (Ok tt) h.shape room (omega arith) (omega arith) refl put
+        (members_nothing L options b 0 place (omega (arith, put.small, put.put.writes.same_length))))
 
     pub some_stores : (x : A) (c : Parts D G) (options2 : ℕ) (r : Result (Unit {0}) Fault) → v ≡ Some x → IsOptionPut Fits a b type at 1 some place → options2 ≡ options
         → TypedStores L.seen L.moves options2 b c (shape_of (types_of b) some) place (Walks x) (gives b.component.types (shape_of (types_of b) some) x) r → Stored c v r
@@ -61,5 +61,5 @@ module _ {D G : Type 0} (Fits : Instance → InterfaceType → Type 0) (a b : Pa
         let part : u ≡ case_shape 1 s = sym (ap (case_shape 1) h.shape) in
         let here : TypedStores L.seen L.moves options b c u place (Walks x) (gives i (case_shape 1 s) x) r = subst (λ (z : Shape). TypedStores L.seen L.moves options b c u place (Walks x) (gives i z x) r) part one in
         subst (λ (w : Option A). Stored c w r) (sym is)
-        (case_stores L options Walks x false a b c s u of_option (cases_of u) at 1 place (gives i (case_shape 1 s) x) r small h.shape room (omega arith) (omega arith) refl put
+        (case_stores L options Walks x false a b c s u of_option (cases_of u) at 1 place (gives i (case_shape 1 s) x) r h.shape room (omega arith) (omega arith) refl put
         (members_one L options b c u place (Walks x) (gives i (case_shape 1 s) x) r here))

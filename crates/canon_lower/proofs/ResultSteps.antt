@@ -163,7 +163,7 @@ module _ {D G : Type 0} (unit : Bool) (F : Instance → InterfaceType → Type 0
       let same : size false (payload_type (types_of b) part) ≡ size false (payload_type (types_of a) part) = ap (λ (i : Instance). size false (payload_type i.types part)) instance_put in
       omega (arith, room, ap (size false) whole, same, ap (size false) u, cases_put.inner, cases_put.put.writes.same_length, (payloads_fit false of_result cases).inside d (few lt))
 
-  module _ (L : GuestLaws G) (options : ℕ) (small : length a.memory ≤ 2 ^ 32) (room : at + size false s ≤ length a.memory) {A : Type 0} (Walks : A → Tree → Type 0) (gives : Instance → Shape → A → List (List Part)) (alone : Bool) (x : A) (c : Parts D G) (options2 : ℕ) (r : Result (Unit {0}) Fault) (eo : options2 ≡ options)
+  module _ (L : GuestLaws G) (options : ℕ) (room : at + size false s ≤ length a.memory) {A : Type 0} (Walks : A → Tree → Type 0) (gives : Instance → Shape → A → List (List Part)) (alone : Bool) (x : A) (c : Parts D G) (options2 : ℕ) (r : Result (Unit {0}) Fault) (eo : options2 ≡ options)
       (stored : TypedMembersStore L.seen L.moves options2 b c (payload_members (unless_unit alone (payload_type (types_of b) part))) 0 place (PayloadTrees alone (Walks x)) (part_gives alone (gives b.component.types (payload_type (types_of b) part) x)) r) where
     payload_stores : d < 2 → payload_shape cases d ≡ payload_type (types_of a) part → case_members cases d ≡ payload_members (unless_unit alone (payload_type (types_of a) part))
         → TypedStores L.seen L.moves options a c s at (CaseMeans alone Walks d x) (payload_gives alone gives d a.component.types s x) r
@@ -174,7 +174,7 @@ module _ {D G : Type 0} (unit : Bool) (F : Instance → InterfaceType → Type 0
         subst (λ (j : Instance). TypedMembersStore L.seen L.moves options b c (payload_members (unless_unit alone (payload_type j.types part))) 0 place (PayloadTrees alone (Walks x)) (part_gives alone (gives j (payload_type j.types part) x)) r) instance_put
         (subst (λ (o : ℕ). TypedMembersStore L.seen L.moves o b c (payload_members (unless_unit alone (payload_type (types_of b) part))) 0 place (PayloadTrees alone (Walks x)) (part_gives alone (gives b.component.types (payload_type (types_of b) part) x)) r) eo stored) in
         let given : part_gives alone (gives i (payload_type (types_of a) part) x) ≡ payload_gives alone gives d i s x = ap (λ (v : Shape). part_gives alone (gives i v x)) part_is ∙ sym (gives_as alone gives d i s x) in
-        case_stores L options Walks x alone a b c s (payload_type (types_of a) part) of_result cases at d place (payload_gives alone gives d i s x) r small whole room (few lt) (omega (arith, lt)) members cases_put
+        case_stores L options Walks x alone a b c s (payload_type (types_of a) part) of_result cases at d place (payload_gives alone gives d i s x) r whole room (few lt) (omega (arith, lt)) members cases_put
         (subst (λ (gs : List (List Part)). TypedMembersStore L.seen L.moves options b c (payload_members (unless_unit alone (payload_type (types_of a) part))) 0 place (PayloadTrees alone (Walks x)) gs r) given here)
 
     pub ok_stores : d ≡ 0 → alone ≡ unit → TypedStores L.seen L.moves options a c s at (CaseMeans alone Walks 0 x) (payload_gives alone gives 0 a.component.types s x) r

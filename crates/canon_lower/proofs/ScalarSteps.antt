@@ -41,4 +41,5 @@ module _ {D G : Type 0} (L : GuestLaws G) (options : ℕ) where
         same = refl;
         quiet = λ none. (refl, tt);
         cause = tt;
+        small = λ u is e some. some;
       }))

@@ -23,7 +23,8 @@ use Rattle.canon_typed.specs.Meaning.{TextMeans}
 use Rattle.canon_lower.proofs.Attempts.{cross_stopped, not_false}
 use Rattle.canon_lower.proofs.BlockSteps.{placed_stops, text_told}
 use Rattle.canon_value.proofs.Passing.{ledger_unless, same_handles, same_ledger}
-use Rattle.canon_lower.specs.Blames.{Blamed, IsElsewhere}
+use Rattle.canon_lower.proofs.TooLarge.{text_small}
+use Rattle.canon_lower.specs.Blames.{HasLarge, IsElsewhere}
 use Rattle.canon_lower.specs.Places.{IsPairPut, TypedPlaces}
 use Rattle.canon_lower.specs.Stores.{TypedStores}
 use Rattle.canon_lower.specs.declared.blocks.Placed.{Placed}
@@ -52,8 +53,8 @@ own_or_elsewhere (fault.InvalidChar k) = inl refl
 own_or_elsewhere (fault.BadDiscriminant k n) = inl refl
 own_or_elsewhere fault.HostcallFuelExhausted = inl refl
 
-text_blamed : (enc : Encoding) (s : String Global) (e : Fault) (n : ℕ) → e ≡ fault.StringTooLong n → IsTooLong enc (string_bytes s) n → (t : Tree) → TextMeans s t → Blamed enc string t e
-text_blamed enc s e n is long t (cs, k, same, spelled) = subst (λ (x : Fault). Blamed enc string t x) (sym is) (subst (λ (u : Tree). Blamed enc string u (fault.StringTooLong n)) (sym same) (inr (string_bytes s, spelled, long)))
+text_large : (enc : Encoding) (s : String Global) (e : Fault) (n : ℕ) → e ≡ fault.StringTooLong n → IsTooLong enc (string_bytes s) n → (t : Tree) → TextMeans s t → HasLarge enc string e t
+text_large enc s e n is long t (cs, k, same, spelled) = subst (λ (x : Fault). HasLarge enc string x t) (sym is) (subst (λ (u : Tree). HasLarge enc string (fault.StringTooLong n) u) (sym same) (string_bytes s, spelled, long))
 
 module _ {D G : Type 0} (L : GuestLaws G) (options : ℕ) (a b : Parts D G) (s : String Global) where
   -- a text's trees are the string's
@@ -83,6 +84,7 @@ module _ {D G : Type 0} (L : GuestLaws G) (options : ℕ) (a b : Parts D G) (s :
       same = same_handles a b h.same;
       quiet = λ none. absurd (not_false none);
       cause = tt;
+      small = text_small (encoding_by a options) s h.fits;
     };
     narrow = h.narrow;
   }
@@ -99,13 +101,14 @@ module _ {D G : Type 0} (L : GuestLaws G) (options : ℕ) (a b : Parts D G) (s :
       same = same_handles a b h.same;
       quiet = λ none. absurd (not_false none);
       cause = λ t has. blamed t has (own_or_elsewhere e);
+      small = tt;
     };
     narrow = tt;
   }
     where
-      blamed : (t : Tree) → TextMeans s t → (fault_ending e ≡ refused) ⊎ IsElsewhere e → Blamed (encoding_by a options) string t e
+      blamed : (t : Tree) → TextMeans s t → (fault_ending e ≡ refused) ⊎ IsElsewhere e → IsElsewhere e ⊎ HasLarge (encoding_by a options) string e t
       blamed t has (inr elsewhere) = inl elsewhere
-      blamed t has (inl own) = let (still, n, is, long) = h.blames own in text_blamed (encoding_by a options) s e n is long t has
+      blamed t has (inl own) = let (still, n, is, long) = h.blames own in inr (text_large (encoding_by a options) s e n is long t has)
 
 -- ---- in memory: a pointer and a length
 

@@ -78,19 +78,17 @@ module _ {D G : Type 0} (L : GuestLaws G) (options : ℕ) (start : Parts D G) (t
   -- the members before the one of number k were stored, and end at offset o; those from it on have these trees
   pub record IsOnWay (now : Parts D G) (k o : ℕ) (Have : Trees → Type 0) (gives : List (Shape → List (List Part))) : Type 0 where
     pub instance : now.component.types ≡ start.component.types
-    pub small : length now.memory ≤ 2 ^ 32
     pub room : at + members_end false o (members_from k members) ≤ length now.memory
     pub rest : (z : Parts D G) (r : Result (Unit {0}) Fault) → TypedMembersStore L.seen L.moves options now z (members_from k members) o at Have (row_gives (members_from k members) gives) r → Tuple z r
 
   gives_here : product_gives all_gives s ≡ row_gives members all_gives
   gives_here = ap (product_gives all_gives) (tuple_seen all start.component.types type of).shape
 
-  pub way_begins : length start.memory ≤ 2 ^ 32 → at + size false s ≤ length start.memory → IsOnWay start 0 0 Whole all_gives
-  way_begins small room =
+  pub way_begins : at + size false s ≤ length start.memory → IsOnWay start 0 0 Whole all_gives
+  way_begins room =
       let shape = (tuple_seen all start.component.types type of).shape in
       record {
         instance = refl;
-        small = small;
         room = omega (arith, room, ap (size false) shape, members_end-le-size false of_places members);
         rest = λ z r h. product_stores L options start z s of_places members at Whole (product_gives all_gives s) r shape room
             (subst (λ (gs : List (List Part)). TypedMembersStore L.seen L.moves options start z members 0 at Whole gs r) (sym gives_here) h);
@@ -136,7 +134,6 @@ module _ {D G : Type 0} (L : GuestLaws G) (options : ℕ) (start : Parts D G) (t
         let over : o2 ≡ ends false o part = end ∙ ap (ends false o) part_now in
         record {
           instance = handles_instance now now2 one.same ∙ h.instance;
-          small = one.attempt.lowering.small;
           room = omega (arith, h.room, ap (members_end false o) here, ap (λ (n : ℕ). members_end false n (members_from (k + 1) members)) over, one.attempt.lowering.goes.no_shorter);
           rest = λ z r more. way_on z r (members_more L options now now2 z part (members_from (k + 1) members) o at Has Have (give part) (row_gives (members_from (k + 1) members) gives) r one
               (subst (λ (n : ℕ). TypedMembersStore L.seen L.moves options now2 z (members_from (k + 1) members) n at Have (row_gives (members_from (k + 1) members) gives) r) over more));
@@ -148,10 +145,10 @@ module _ {D G : Type 0} (L : GuestLaws G) (options : ℕ) (start : Parts D G) (t
         → Tuple z (Err e)
     way_stops z options2 e giving same eo g = way_on z (Err e) (members_stop L options now z part (members_from (k + 1) members) o at Has Have (give part) (row_gives (members_from (k + 1) members) gives) e (member_stood z options2 (Err e) giving same eo g))
 
-  pub way_ends : (now : Parts D G) (k o : ℕ) → k ≡ length (types_in (types_of start) type) → IsOnWay now k o NoTrees [] → Tuple now (Ok tt)
-  way_ends now k o all_of h =
+  pub way_ends : (now : Parts D G) (k o : ℕ) → length now.memory ≤ 2 ^ 32 → k ≡ length (types_in (types_of start) type) → IsOnWay now k o NoTrees [] → Tuple now (Ok tt)
+  way_ends now k o small all_of h =
       let none : members_from k members ≡ no_members = members_from-all members k (all_of ∙ sym (count_members (types_of start) (types_in (types_of start) type))) in
-      h.rest now (Ok tt) (subst (λ (ms : Members). TypedMembersStore L.seen L.moves options now now ms o at NoTrees (row_gives ms []) (Ok tt)) (sym none) (members_nothing L options now o at h.small))
+      h.rest now (Ok tt) (subst (λ (ms : Members). TypedMembersStore L.seen L.moves options now now ms o at NoTrees (row_gives ms []) (Ok tt)) (sym none) (members_nothing L options now o at small))
 
   -- the last one
   pub way_last : (now z : Parts D G) (k o options2 : ℕ) (Has : Tree → Type 0) (give : Shape → List (List Part)) (r : Result (Unit {0}) Fault) → (lt : k < length (types_in (types_of start) type)) → k + 1 ≡ length (types_in (types_of start) type) → IsOnWay now k o (FirstAnd Has NoTrees) (give ∷ [])
@@ -159,7 +156,7 @@ module _ {D G : Type 0} (L : GuestLaws G) (options : ℕ) (start : Parts D G) (t
       → TypedStores L.seen L.moves options2 now z (shape_of (types_of now) (member_type (types_of now) type k)) (at + begins false o (shape_of (types_of now) (member_type (types_of now) type k))) Has
       (giving now.component.types (shape_of (types_of now) (member_type (types_of now) type k))) r
       → Tuple z r
-  way_last now z k o options2 Has give (Ok tt) lt last h giving same eo g = way_ends z (k + 1) (ends false o (shape_of (types_of now) (member_type (types_of now) type k))) last
+  way_last now z k o options2 Has give (Ok tt) lt last h giving same eo g = way_ends z (k + 1) (ends false o (shape_of (types_of now) (member_type (types_of now) type k))) g.attempt.lowering.small last
       (way_goes now k o Has NoTrees give [] lt h z (ends false o (shape_of (types_of now) (member_type (types_of now) type k))) options2 giving same eo g refl)
   way_last now z k o options2 Has give (Err e) lt last h giving same eo g = way_stops now k o Has NoTrees give [] lt h z options2 e giving same eo g
 
@@ -170,7 +167,7 @@ unit_stores L options start type at small room of =
     let count = tuple_count [] start.component.types start.component.types type refl of in
     let none : product_gives [] (shape_of (types_of start) type) ≡ [] = ap (product_gives []) (tuple_seen [] start.component.types type of).shape ∙ no_gives (members_of (types_of start) (types_in (types_of start) type)) in
     subst (λ (gs : List (List Part)). TypedStores L.seen L.moves options start start (shape_of (types_of start) type) at (ProductMeans NoTrees) gs (Ok tt)) none
-    (way_ends L options start type at [] NoTrees [] of start 0 0 (sym count) (way_begins L options start type at [] NoTrees [] of small room))
+    (way_ends L options start type at [] NoTrees [] of start 0 0 small (sym count) (way_begins L options start type at [] NoTrees [] of room))
   where
     no_gives : (ms : Members) → row_gives ms [] ≡ []
     no_gives no_members = refl

@@ -45,6 +45,7 @@ module _ {D G : Type 0} (L : GuestLaws G) (options : ℕ) (a b : Parts D G) (s :
     same = h.placed.same;
     quiet = λ none. absurd (not_false (sym block ∙ none));
     cause = tt;
+    small = h.placed.small;
   }
 
   -- or none are told
@@ -59,4 +60,5 @@ module _ {D G : Type 0} (L : GuestLaws G) (options : ℕ) (a b : Parts D G) (s :
     same = h.placed.same;
     quiet = λ none. absurd (not_false (sym block ∙ none));
     cause = h.placed.cause;
+    small = tt;
   }

@@ -9,7 +9,8 @@ use Rattle.canon_context.specs.declared.fault.Fault.{Fault}
 use Rattle.canon_leaves.specs.Parts.{Part}
 use Rattle.canon_lower.proofs.Attempts.{Kept, typed_map, typed_none, typed_other}
 use Rattle.canon_value.proofs.Steps.{no_first, no_later}
-use Rattle.canon_lower.specs.Blames.{Blamed, SomeCase, SomePart}
+use Rattle.canon_lower.proofs.TooLarge.{bare_small, case_large}
+use Rattle.canon_lower.specs.Blames.{HasLarge}
 use Rattle.canon_lower.specs.Cases.{HasCase}
 use Rattle.canon_lower.specs.Gives.{case_shape, payload_gives}
 use Rattle.canon_lower.specs.Words.{CaseOf, IsCaseWords, TypedLowers}
@@ -48,13 +49,6 @@ case_quiet (bare name cs) (suc d) u is e = case_quiet cs d u is e
 case_quiet (payload name s cs) zero u is e = ap has_block (sym (same_only s u is)) ∙ no_first (has_block s) (cases_have_block cs) e
 case_quiet (payload name s cs) (suc d) u is e = case_quiet cs d u is (no_later (has_block s) (cases_have_block cs) e)
 
-some_case : (P : Shape → Tree → Type 0) (cs : Cases) (d : ℕ) (u : Shape) (v : Tree) → case_members cs d ≡ only u → SomePart P u v → SomeCase P cs d v
-some_case P no_cases d u v is h = absurd (no_only u is)
-some_case P (bare name cs) zero u v is h = absurd (no_only u is)
-some_case P (bare name cs) (suc d) u v is h = some_case P cs d u v is h
-some_case P (payload name s cs) zero u v is h = subst (λ (z : Shape). SomePart P z v) (sym (same_only s u is)) h
-some_case P (payload name s cs) (suc d) u v is h = some_case P cs d u v is h
-
 pub variant_flat : (k : VariantKind) (cs : Cases) → flat (variant k cs) ≡ 1 + cases_flat cs
 unfolding flat
 variant_flat k cs = refl
@@ -91,11 +85,12 @@ module _ {D G : Type 0} (L : GuestLaws G) (options : ℕ) (a c : Parts D G) (s :
       subst (λ (ms : Members). LowersMembers false (moment_of L.seen a) (moment_of L.seen a) enc ms ws 1 NoTrees [] done) (sym none)
       (attempt_none false (moment_of L.seen a) [] (members_words false enc no_members ws 1 NoTrees) no_trees small refl (λ ts h. refl) refl (λ pointer rest. refl)) in
       subst (λ (z : Shape). TypedLowers L.seen L.moves options a a z ws 0 (λ t. t ≡ case d) [] (Ok tt)) (sym shape)
-      (typed_none L a [] (value_words false enc (variant k cs) ws 0 (λ t. t ≡ case d)) (has_block (variant k cs)) (Blamed enc (variant k cs))
+      (typed_none L a [] (value_words false enc (variant k cs) ws 0 (λ t. t ≡ case d)) (has_block (variant k cs)) (HasLarge enc (variant k cs))
       (variant_words false (moment_of L.seen a) (moment_of L.seen a) enc k cs ws 0 d NoTrees (λ t. t ≡ case d) done inside tag few
       (λ j l u. zeros j (omega (arith, l)) (omega (arith, u, room, ap flat shape)))
       (λ ts h. (ap (λ us. case_tree d us) h, subst (λ ms. CaseIs false enc ms d (case_tree d ts)) (sym none) (ap (λ us. case_tree d us) h)))
-      (λ t e. (ap case_number e, ap payload_trees e, subst (λ ms. CaseIs false enc ms d t) (sym none) e)) members))
+      (λ t e. (ap case_number e, ap payload_trees e, subst (λ ms. CaseIs false enc ms d t) (sym none) e)) members)
+      (bare_small enc k cs d none))
 
   -- with one
   module _ (u : Shape) (Has : Tree → Type 0) (gives : List (List Part)) (one : case_members cs d ≡ only u) where
@@ -112,8 +107,8 @@ module _ {D G : Type 0} (L : GuestLaws G) (options : ℕ) (a c : Parts D G) (s :
     whole : (ws : List ℕ) (r : Result (Unit {0}) Fault) → slice_index ws 0 ≡ d → AreZero ws (1 + flat u) (1 + cases_flat cs) → TypedLowers L.seen L.moves options a c u ws 1 Has gives r
         → TypedLowers L.seen L.moves options a c (variant k cs) ws 0 (CaseOf d Has) gives r
     whole ws r tag zeros h = typed_map L a c [] [] (value_words false enc u ws 1 Has) (value_words false enc (variant k cs) ws 0 (CaseOf d Has)) gives (has_block u) (has_block (variant k cs)) (Kept a c)
-        (Blamed enc u) (Blamed enc (variant k cs)) r (λ hs e g. with_payload ws e tag zeros g) (case_quiet cs d u one)
-        (λ t (v, e, has). (v, has, λ x f. subst (λ (z : Tree). Blamed enc (variant k cs) z x) (sym e) (⊎_elim (λ out. inl out) (λ some. inr (some_case _ cs d u v one some)) f))) h
+        (HasLarge enc u) (HasLarge enc (variant k cs)) r (λ hs e g. with_payload ws e tag zeros g) (case_quiet cs d u one)
+        (case_large enc k cs d u Has one) h
 
     pub case_lowers : (ws : List ℕ) (r : Result (Unit {0}) Fault) → length ws ≡ flat s → TypedLowers L.seen L.moves options a c u ws 1 Has gives r → IfOk r (λ x. IsCaseWords d (1 + flat u) ws)
         → TypedLowers L.seen L.moves options a c s ws 0 (CaseOf d Has) gives r
@@ -122,9 +117,9 @@ module _ {D G : Type 0} (L : GuestLaws G) (options : ℕ) (a c : Parts D G) (s :
     case_lowers ws (Err e) room h none =
         let zeros : AreZero (d ∷ []) (1 + flat u) (1 + cases_flat cs) = λ j l v. omega (arith, get_or_past (d ∷ []) j 0 (omega (arith, l))) in
         let there : TypedLowers L.seen L.moves options a c u (d ∷ []) 1 Has gives (Err e) =
-        typed_other L a c [] (value_words false enc u ws 1 Has) (value_words false enc u (d ∷ []) 1 Has) gives (has_block u) (Kept a c) (Blamed enc u) e (λ t has. (has, refl)) h in
+        typed_other L a c [] (value_words false enc u ws 1 Has) (value_words false enc u (d ∷ []) 1 Has) gives (has_block u) (Kept a c) (HasLarge enc u) e (λ t has. (has, refl)) h in
         subst (λ (z : Shape). TypedLowers L.seen L.moves options a c z ws 0 (CaseOf d Has) gives (Err e)) (sym shape)
-        (typed_other L a c [] (value_words false enc (variant k cs) (d ∷ []) 0 (CaseOf d Has)) (value_words false enc (variant k cs) ws 0 (CaseOf d Has)) gives (has_block (variant k cs)) (Kept a c) (Blamed enc (variant k cs)) e
+        (typed_other L a c [] (value_words false enc (variant k cs) (d ∷ []) 0 (CaseOf d Has)) (value_words false enc (variant k cs) ws 0 (CaseOf d Has)) gives (has_block (variant k cs)) (Kept a c) (HasLarge enc (variant k cs)) e
         (λ t has. (has, refl)) (whole (d ∷ []) (Err e) refl zeros there))
 
 -- ---- by the types' cases

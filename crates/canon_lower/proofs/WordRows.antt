@@ -7,10 +7,10 @@ use Rattle.canon_context.specs.Quiet.{has_block, have_block}
 use Rattle.canon_context.specs.declared.fault.Fault.{Fault}
 use Rattle.canon_leaves.specs.Parts.{Part}
 use Rattle.canon_lower.proofs.Attempts.{Kept, typed_map}
-use Rattle.canon_lower.proofs.FixedSteps.{fixed_blamed}
+use Rattle.canon_lower.proofs.TooLarge.{fixed_large}
 use Rattle.canon_lower.proofs.Items.{each_count, row_trees}
 use Rattle.canon_lower.proofs.WordTuples.{MembersDone, done_end, done_more, done_none, done_room, done_stop}
-use Rattle.canon_lower.specs.Blames.{Blamed, BlamedMember}
+use Rattle.canon_lower.specs.Blames.{HasLarge, HaveLarge}
 use Rattle.canon_lower.specs.Words.{Stays, TypedLowers, TypedMembersLower}
 use Rattle.canon_lowering.proofs.AimedWords.{fixed_words}
 use Rattle.canon_lowering.proofs.Copying.{copies_flat}
@@ -60,13 +60,13 @@ module _ {D G A : Type 0} (L : GuestLaws G) (options : ℕ) (start : Parts D G) 
   abbrev Whole : Parts D G → List ℕ → Result (Unit {0}) Fault → Type 0
   Whole now ws r = RowLowered L.seen L.moves options start type Walks f xs now ws r
 
-  pub row_begin : (ws : List ℕ) → length start.memory ≤ 2 ^ 32 → members_flat (copies (length xs) one) ≤ length ws → Row start options ws 0 xs
-  row_begin ws small room = done_none L options start (copies (length xs) one) (EachMeans Walks xs) (gives xs) ws small room
+  pub row_begin : (ws : List ℕ) → members_flat (copies (length xs) one) ≤ length ws → Row start options ws 0 xs
+  row_begin ws room = done_none L options start (copies (length xs) one) (EachMeans Walks xs) (gives xs) ws room
 
-  pub row_end : (now : Parts D G) (opts : ℕ) (ws : List ℕ) (at k : ℕ) → k ≡ length xs → Row now opts ws at (drop k xs) → Whole now ws (Ok tt)
-  row_end now opts ws at k all h =
+  pub row_end : (now : Parts D G) (opts : ℕ) (ws : List ℕ) (at k : ℕ) → length now.memory ≤ 2 ^ 32 → k ≡ length xs → Row now opts ws at (drop k xs) → Whole now ws (Ok tt)
+  row_end now opts ws at k small all h =
       let here : Row now opts ws at [] = subst (λ (ys : List A). Row now opts ws at ys) (drop_all xs k all) h in
-      done_end L options start (copies (length xs) one) (EachMeans Walks xs) (gives xs) now opts ws at here.small here
+      done_end L options start (copies (length xs) one) (EachMeans Walks xs) (gives xs) now opts ws at small here
 
   module _ (now : Parts D G) (opts : ℕ) (ws : List ℕ) (at : ℕ) (ys zs : List A) (x : A) (is : ys ≡ x ∷ zs) (h : Row now opts ws at ys) where
     next : Row now opts ws at (x ∷ zs)
@@ -95,10 +95,10 @@ fixed_lowers L options a c s u n Walks xs ws gs r shape count h =
     let here : TypedMembersLower L.seen L.moves options a c (copies n u) ws 0 (EachMeans Walks xs) gs r = subst (λ (k : ℕ). TypedMembersLower L.seen L.moves options a c (copies k u) ws 0 (EachMeans Walks xs) gs r) count h in
     subst (λ (z : Shape). TypedLowers L.seen L.moves options a c z ws 0 (RowMeans Walks xs) gs r) (sym shape)
     (typed_map L a c [] [] (members_words false enc (copies n u) ws 0 (EachMeans Walks xs)) (value_words false enc (fixed n u) ws 0 (RowMeans Walks xs)) gs (have_block (copies n u)) (has_block (fixed n u)) (Kept a c)
-    (BlamedMember enc (copies n u)) (Blamed enc (fixed n u)) r
+    (HaveLarge enc (copies n u)) (HasLarge enc (fixed n u)) r
     (λ hs e m. fixed_words false (moment_of L.seen a) (moment_of L.seen c) enc n u ws 0 (EachMeans Walks xs) (RowMeans Walks xs) e
     (λ ts each. ((ts, refl, each), each_count Walks xs ts each ∙ count)) (row_trees Walks xs) m)
-    (copies_quiet n u) (λ t has. (trees_of t, row_trees Walks xs t has, λ x b. fixed_blamed enc x n u t b)) here)
+    (copies_quiet n u) (fixed_large enc n u Walks xs count) here)
 
 pub fixed_room : (s u : Shape) (n k : ℕ) (dst : List ℕ) → s ≡ fixed n u → k ≡ n → length dst ≡ flat s → members_flat (copies k u) ≤ length dst
 unfolding flat

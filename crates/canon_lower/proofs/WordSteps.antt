@@ -13,7 +13,8 @@ use Rattle.canon_leaves.specs.Parts.{Part}
 use Rattle.canon_lower.proofs.Attempts.{Kept, typed_map, typed_none, typed_stop, typed_then}
 use Rattle.canon_value.proofs.Passing.{handles_encoding}
 use Rattle.canon_value.proofs.Steps.{no_first, no_later}
-use Rattle.canon_lower.specs.Blames.{Blamed, BlamedMember}
+use Rattle.canon_lower.proofs.TooLarge.{first_large, product_large}
+use Rattle.canon_lower.specs.Blames.{HasLarge, HaveLarge}
 use Rattle.canon_lower.specs.Lowers.{TypedAttempt}
 use Rattle.canon_lower.specs.Scalars.{IsScalarWord}
 use Rattle.canon_lower.specs.Words.{Stays, TypedLowers, TypedMembersLower}
@@ -63,9 +64,9 @@ module _ {D G : Type 0} (L : GuestLaws G) (options : ℕ) where
   scalar_lowers a dst s k Has w small shape room (t, has, is, least) =
       let here : w ≡ slice_index (set dst 0 w) 0 = sym (get_or-set_same dst 0 w 0 (omega (arith, room, ap flat shape))) in
       subst (λ (z : Shape). Low a a z (set dst 0 w) 0 Has [] (Ok tt)) (sym shape)
-      (typed_none L a [] (value_words false (encoding_by a options) (scalar k) (set dst 0 w) 0 Has) (has_block (scalar k)) (Blamed (encoding_by a options) (scalar k))
+      (typed_none L a [] (value_words false (encoding_by a options) (scalar k) (set dst 0 w) 0 Has) (has_block (scalar k)) (HasLarge (encoding_by a options) (scalar k))
       (scalar_words false (moment_of L.seen a) (encoding_by a options) (set dst 0 w) 0 Has small k t
-      (subst (λ (x : ℕ). ScalarIs k (x % 2 ^ flat_bits k) t) here is) (subst (λ (x : ℕ). IsLeastWord k x) here least) has))
+      (subst (λ (x : ℕ). ScalarIs k (x % 2 ^ flat_bits k) t) here is) (subst (λ (x : ℕ). IsLeastWord k x) here least) has) (λ u is e some. some))
 
   -- ---- a value whose words are a part of more
 
@@ -73,8 +74,8 @@ module _ {D G : Type 0} (L : GuestLaws G) (options : ℕ) where
       → Low a c s ws i Has gives r → Low a c s vs j Has gives r
   moved_lowers a c s ws vs i j Has gives r fits same h =
       typed_map L a c [] [] (value_words false (encoding_by a options) s ws i Has) (value_words false (encoding_by a options) s vs j Has) gives (has_block s) (has_block s) (Kept a c)
-      (Blamed (encoding_by a options) s) (Blamed (encoding_by a options) s) r
-      (λ hs e k. words_moved false (moment_of L.seen a) (moment_of L.seen c) (encoding_by a options) s ws vs i j Has e fits same k) (λ e. e) (λ t has. (t, has, λ e b. b)) h
+      (HasLarge (encoding_by a options) s) (HasLarge (encoding_by a options) s) r
+      (λ hs e k. words_moved false (moment_of L.seen a) (moment_of L.seen c) (encoding_by a options) s ws vs i j Has e fits same k) (λ e. e) (λ t has. (t, has, λ e b. b, λ e b. b)) h
 
   pub at_lowers : (a c : Parts D G) (s : Shape) (dst vs : List ℕ) (i k : ℕ) (Has : Tree → Type 0) (gives : List (List Part)) (r : Result (Unit {0}) Fault) → ((t : Tree) → Has t → Fits s t) → k ≡ flat s → i + flat s ≤ length dst
       → length vs ≡ flat s → Low a c s vs 0 Has gives r → Low a c s (put_mid i k dst vs) i Has gives r
@@ -85,31 +86,31 @@ module _ {D G : Type 0} (L : GuestLaws G) (options : ℕ) where
 
   pub members_none : (a : Parts D G) (ws : List ℕ) (i : ℕ) → length a.memory ≤ 2 ^ 32 → Lows a a no_members ws i NoTrees [] (Ok tt)
   unfolding flat requests leaves
-  members_none a ws i small = typed_none L a [] (members_words false (encoding_by a options) no_members ws i NoTrees) (have_block no_members) (BlamedMember (encoding_by a options) no_members)
-      (attempt_none false (moment_of L.seen a) [] (members_words false (encoding_by a options) no_members ws i NoTrees) no_trees small refl (λ ts h. refl) refl (λ pointer rest. refl))
+  members_none a ws i small = typed_none L a [] (members_words false (encoding_by a options) no_members ws i NoTrees) (have_block no_members) (HaveLarge (encoding_by a options) no_members)
+      (attempt_none false (moment_of L.seen a) [] (members_words false (encoding_by a options) no_members ws i NoTrees) no_trees small refl (λ ts h. refl) refl (λ pointer rest. refl)) (λ ts none e some. some)
 
   -- the first member's words are there at the end too
   pub members_more : (a b c : Parts D G) (s : Shape) (ms : Members) (ws vs : List ℕ) (i : ℕ) (Has : Tree → Type 0) (Have : Trees → Type 0) (gs fs : List (List Part)) (r : Result (Unit {0}) Fault)
       → ((t : Tree) → Has t → Fits s t) → SameWords ws i vs i (flat s) → Low a b s ws i Has gs (Ok tt) → Lows b c ms vs (i + flat s) Have fs r → Lows a c (member [] s ms) vs i (FirstAnd Has Have) (gs ++ fs) r
   members_more a b c s ms ws vs i Has Have gs fs r fits same h k =
       let enc : Encoding = encoding_by a options in
-      let rest : TypedAttempt L.seen L.moves b c [] (members_words false enc ms vs (i + flat s) Have) fs (have_block ms) (Kept b c) (BlamedMember enc ms) r =
-      subst (λ (x : Encoding). TypedAttempt L.seen L.moves b c [] (members_words false x ms vs (i + flat s) Have) fs (have_block ms) (Kept b c) (BlamedMember x ms) r) (handles_encoding a b options h.same) k in
+      let rest : TypedAttempt L.seen L.moves b c [] (members_words false enc ms vs (i + flat s) Have) fs (have_block ms) (Kept b c) (HaveLarge enc ms) r =
+      subst (λ (x : Encoding). TypedAttempt L.seen L.moves b c [] (members_words false x ms vs (i + flat s) Have) fs (have_block ms) (Kept b c) (HaveLarge x ms) r) (handles_encoding a b options h.same) k in
       typed_then L a b c [] [] [] (value_words false enc s ws i Has) (members_words false enc ms vs (i + flat s) Have) (members_words false enc (member [] s ms) vs i (FirstAnd Has Have)) gs fs
-      (has_block s) (have_block ms) (have_block (member [] s ms)) (Kept a b) (Kept b c) (Kept a c) (Blamed enc s) (BlamedMember enc ms) (BlamedMember enc (member [] s ms)) r
+      (has_block s) (have_block ms) (have_block (member [] s ms)) (Kept a b) (Kept b c) (Kept a c) (HasLarge enc s) (HaveLarge enc ms) (HaveLarge enc (member [] s ms)) r
       (λ hs ks e first second. members_words_cons false enc [] s ms i Has Have vs (moment_of L.seen a) (moment_of L.seen b) (moment_of L.seen c) ws e fits same first second)
       (λ none. (no_first (has_block s) (have_block ms) none, no_later (has_block s) (have_block ms) none)) (λ one two. two ∙ ap (λ (x : Parts D G). record x { ledger = c.ledger }) one)
-      (λ ts (t, us, e, has, have). (us, have, λ x f. subst (λ (zs : Trees). BlamedMember enc (member [] s ms) zs x) (sym e) (⊎_elim (λ out. inl out) (λ some. inr (inr some)) f))) h rest
+      (first_large enc s ms Has Have) h rest
 
   -- a first one fails
   pub members_stop : (a b : Parts D G) (s : Shape) (ms : Members) (ws : List ℕ) (i : ℕ) (Has : Tree → Type 0) (Have : Trees → Type 0) (gs fs : List (List Part)) (e : Fault) → Low a b s ws i Has gs (Err e)
       → Lows a b (member [] s ms) ws i (FirstAnd Has Have) (gs ++ fs) (Err e)
   members_stop a b s ms ws i Has Have gs fs e h =
       let enc : Encoding = encoding_by a options in
-      typed_stop L a b [] [] (value_words false enc s ws i Has) (members_words false enc (member [] s ms) ws i (FirstAnd Has Have)) gs fs (has_block s) (have_block (member [] s ms)) (Kept a b)
-      (Blamed enc s) (BlamedMember enc (member [] s ms)) e
+      typed_stop L a b [] [] (value_words false enc s ws i Has) Have (members_words false enc (member [] s ms) ws i (FirstAnd Has Have)) gs fs (has_block s) (have_block (member [] s ms)) (Kept a b)
+      (HasLarge enc s) (HaveLarge enc ms) (HaveLarge enc (member [] s ms)) e
       (λ hs d not first. members_words_stop false enc [] s ms i Has Have ws (moment_of L.seen a) (moment_of L.seen b) ws d not first) (no_first (has_block s) (have_block ms))
-      (λ ts (t, us, same, has, have). (t, has, λ f. subst (λ (zs : Trees). BlamedMember enc (member [] s ms) zs e) (sym same) (⊎_elim (λ out. inl out) (λ some. inr (inl some)) f))) h
+      (first_large enc s ms Has Have) h
 
   pub product_lowers : (a c : Parts D G) (s : Shape) (k : ProductKind) (ms : Members) (ws : List ℕ) (Have : Trees → Type 0) (gives : List (List Part)) (r : Result (Unit {0}) Fault) → s ≡ product k ms
       → Lows a c ms ws 0 Have gives r → Low a c s ws 0 (ProductMeans Have) gives r
@@ -117,9 +118,9 @@ module _ {D G : Type 0} (L : GuestLaws G) (options : ℕ) where
       let enc : Encoding = encoding_by a options in
       subst (λ (z : Shape). Low a c z ws 0 (ProductMeans Have) gives r) (sym shape)
       (typed_map L a c [] [] (members_words false enc ms ws 0 Have) (value_words false enc (product k ms) ws 0 (ProductMeans Have)) gives (have_block ms) (has_block (product k ms)) (Kept a c)
-      (BlamedMember enc ms) (Blamed enc (product k ms)) r
+      (HaveLarge enc ms) (HasLarge enc (product k ms)) r
       (λ hs e m. product_words false (moment_of L.seen a) (moment_of L.seen c) enc k ms ws 0 Have (ProductMeans Have) e (λ ts have. (ts, refl, have)) (λ t (ts, e2, have). subst Have (sym (ap trees_of e2)) have) m) (λ e. e)
-      (λ t (ts, e, have). (ts, have, λ x f. subst (λ (u : Tree). Blamed enc (product k ms) u x) (sym e) f)) h)
+      (product_large enc k ms Have) h)
 
 pub scalar_room : (s : Shape) (k : Scalar) (dst : List ℕ) → s ≡ scalar k → length dst ≡ flat s → 0 < length dst
 unfolding flat

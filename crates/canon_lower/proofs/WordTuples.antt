@@ -36,7 +36,6 @@ module _ {D G : Type 0} (seen : G → Seen) (moves : GuestIn G → List Event �
   pub record MembersDone (now : Parts D G) (opts : ℕ) (ws : List ℕ) (at : ℕ) (rest : Members) (HaveRest : Trees → Type 0) (left : List (List Part)) : Type 0 where
     pub same : SameButHandles start now
     pub same_options : opts ≡ options
-    pub small : length now.memory ≤ 2 ^ 32
     pub room : at + members_flat rest ≤ length ws
     pub completes : (c : Parts D G) (vs : List ℕ) (r : Result (Unit {0}) Fault) → Stays at ws vs → TypedMembersLower seen moves options now c rest vs at HaveRest left r
         → TypedMembersLower seen moves options start c whole vs 0 Have gives r
@@ -45,8 +44,8 @@ module _ {D G : Type 0} (L : GuestLaws G) (options : ℕ) (start : Parts D G) (w
   abbrev Done : Parts D G → ℕ → List ℕ → ℕ → Members → (Trees → Type 0) → List (List Part) → Type 0
   Done now opts ws at rest HaveRest left = MembersDone L.seen L.moves options start whole Have gives now opts ws at rest HaveRest left
 
-  pub done_none : (ws : List ℕ) → length start.memory ≤ 2 ^ 32 → members_flat whole ≤ length ws → Done start options ws 0 whole Have gives
-  done_none ws small room = record { same = refl; same_options = refl; small = small; room = omega (arith, room); completes = λ c vs r stays h. h }
+  pub done_none : (ws : List ℕ) → members_flat whole ≤ length ws → Done start options ws 0 whole Have gives
+  done_none ws room = record { same = refl; same_options = refl; room = omega (arith, room); completes = λ c vs r stays h. h }
 
   module _ (now : Parts D G) (opts : ℕ) (ws : List ℕ) (at : ℕ) (type : InterfaceType) (ms : Members) (Has : Tree → Type 0) (HaveRest : Trees → Type 0) (f : Instance → Shape → List (List Part)) (left : List (List Part))
       (h : Done now opts ws at (member [] (shape_of (types_of start) type) ms) (FirstAnd Has HaveRest) (f start.component.types (shape_of (types_of start) type) ++ left)) where
@@ -81,7 +80,6 @@ module _ {D G : Type 0} (L : GuestLaws G) (options : ℕ) (start : Parts D G) (w
         record {
           same = handles_then start now c h.same here.same;
           same_options = eo ∙ h.same_options;
-          small = low.attempt.lowering.small;
           room = omega (arith, h.room, members_words s ms, to, stays.same_length);
           completes = λ d us r more k. h.completes d us r (stays_then at at2 ws vs us (omega (arith, to)) stays more)
               (members_more L options now c d s ms vs us at Has HaveRest (f start.component.types s) left r fits (first_stay at (flat s) vs us (subst (λ (n : ℕ). Stays n vs us) to more)) here

@@ -52,8 +52,9 @@ IsElsewhere fault.OutOfMemory = ⊤
 IsElsewhere (fault.Resource r) = ⊤
 IsElsewhere _ = ⊥
 
-abbrev pub Blamed : Encoding → Shape → Tree → Fault → Type 0
-Blamed enc s t e = IsElsewhere e ⊎ SomePart (IsTooLarge enc e) s t
+-- a part of a tree, or of one of the members' trees, is too large in the way of the fault
+abbrev pub HasLarge : Encoding → Shape → Fault → Tree → Type 0
+HasLarge enc s e t = SomePart (IsTooLarge enc e) s t
 
-abbrev pub BlamedMember : Encoding → Members → Trees → Fault → Type 0
-BlamedMember enc ms ts e = IsElsewhere e ⊎ SomeMember (IsTooLarge enc e) ms ts
+abbrev pub HaveLarge : Encoding → Members → Fault → Trees → Type 0
+HaveLarge enc ms e ts = SomeMember (IsTooLarge enc e) ms ts

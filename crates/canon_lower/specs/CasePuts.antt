@@ -1,5 +1,5 @@
 -- The payload of a case: none where its Rust type is the unit.
-use Rattle.std.specs.Prelude.{◌≡◌, ◌+◌, Bool, List, None, Option, Some, [], false, suc, true, zero, ℕ}
+use Rattle.std.specs.Prelude.{◌≡◌, ◌≤◌, ◌+◌, ◌^◌, Bool, List, None, Option, Some, [], false, length, suc, true, zero, ℕ}
 use Rattle.canon_context.specs.Core.{Parts, types_of}
 use Rattle.canon_model.specs.Layout.{payload_offset, tag_size}
 use Rattle.canon_model.specs.Shape.{Cases, Shape, VariantKind, case_count, no_members, of_places, option_of, product, result_of, variant}
@@ -46,6 +46,7 @@ HasCases s = (k : VariantKind) × (s ≡ variant k (variant_cases s))
 pub record IsCasePut {D G : Type 0} (before after : Parts D G) (cs : Cases) (at d place : ℕ) : Type 0 where
   pub put : IsPut before after at d (tag_size (case_count cs))
   pub inner : place ≡ at + payload_offset false cs
+  pub small : length before.memory ≤ 2 ^ 32
 
 -- the number of an option's case was written, and this is the type of its payload
 pub record IsOptionPut {D G : Type 0} (Fits : Instance → InterfaceType → Type 0) (before after : Parts D G) (type : InterfaceType) (at d : ℕ) (some : InterfaceType) (place : ℕ) : Type 0 where

@@ -1,5 +1,5 @@
 -- Texts and lists in blocks of their own: a pointer and a length tell one.
-use Rattle.std.specs.Prelude.{◌≡◌, ◌≤◌, ◌<◌, ◌*◌, ◌^◌, ◌⊎◌, ◌∷◌, Err, IfOk, List, Ok, Result, [], false, true, ℕ, ⊤}
+use Rattle.std.specs.Prelude.{◌≡◌, ◌≤◌, ◌<◌, ◌*◌, ◌^◌, ◌⊎◌, ◌∷◌, Err, IfOk, List, Ok, Result, [], false, length, true, ℕ, ⊤}
 use Rattle.canon_context.specs.Asks.{AsksFor}
 use Rattle.canon_context.specs.Core.{Parts, encoding_by}
 use Rattle.canon_context.specs.declared.fault.Fault.{Fault}
@@ -12,7 +12,7 @@ use Rattle.canon_memory.specs.declared.event.Event.{Event}
 use Rattle.canon_model.specs.Layout.{size}
 use Rattle.canon_model.specs.Shape.{Shape}
 use Rattle.canon_model.specs.Tree.{Tree}
-use Rattle.canon_lower.specs.Blames.{Blamed}
+use Rattle.canon_lower.specs.Blames.{HasLarge}
 use Rattle.canon_lower.specs.Lowers.{TypedAttempt}
 use Rattle.canon_lower.specs.declared.blocks.Placed.{Placed}
 
@@ -30,7 +30,7 @@ module _ {D G : Type 0} (seen : G → Seen) (moves : GuestIn G → List Event �
   module _ (options : ℕ) (before after : Parts D G) where
     -- a text or a list of the shape s, in a block of its own
     pub record TypedPlaces (s : Shape) (Has : Tree → Type 0) (gives : List (List Part)) (result : Result Placed Fault) : Type 0 where
-      pub placed : TypedAttempt seen moves before after [] (value_words false (encoding_by before options) s (placed_words result) 0 Has) gives true ⊤ (Blamed (encoding_by before options) s) (without result)
+      pub placed : TypedAttempt seen moves before after [] (value_words false (encoding_by before options) s (placed_words result) 0 Has) gives true ⊤ (HasLarge (encoding_by before options) s) (without result)
       pub narrow : IfOk result (λ b. (b.pointer < 2 ^ 32) × (b.length < 2 ^ 32))
 
   module _ (before after : Parts D G) (s : Shape) (n : ℕ) where
@@ -42,7 +42,7 @@ module _ {D G : Type 0} (seen : G → Seen) (moves : GuestIn G → List Event �
 
     -- the block isn't: it would be too large, or the guest doesn't give it
     abbrev pub IsNoBlock : Fault → Type 0
-    IsNoBlock e = ((e ≡ fault.SizeOverflow n) × (after ≡ before) × ((2 ^ 32 ≤ n) ⊎ (2 ^ 32 ≤ n * size false s))) ⊎ AsksFor seen moves before after (items_call false s n) (Err e)
+    IsNoBlock e = ((e ≡ fault.SizeOverflow n) × (after ≡ before) × (length before.memory ≤ 2 ^ 32) × ((2 ^ 32 ≤ n) ⊎ (2 ^ 32 ≤ n * size false s))) ⊎ AsksFor seen moves before after (items_call false s n) (Err e)
 
     abbrev pub BlockAsked : Result ℕ Fault → Type 0
     BlockAsked (Ok p) = IsGivenBlock p

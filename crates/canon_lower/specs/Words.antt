@@ -4,7 +4,7 @@ use Rattle.canon_context.specs.Core.{Parts, encoding_by}
 use Rattle.canon_context.specs.Quiet.{has_block, have_block}
 use Rattle.canon_context.specs.declared.fault.Fault.{Fault}
 use Rattle.canon_leaves.specs.Parts.{Part}
-use Rattle.canon_lower.specs.Blames.{Blamed, BlamedMember}
+use Rattle.canon_lower.specs.Blames.{HasLarge, HaveLarge}
 use Rattle.canon_lower.specs.Lowers.{TypedAttempt}
 use Rattle.canon_lowering.specs.Attempt.{members_words, value_words}
 use Rattle.canon_memory.specs.Guest.{GuestIn, Seen}
@@ -17,12 +17,12 @@ module _ {D G : Type 0} (seen : G → Seen) (moves : GuestIn G → List Event �
   -- a value of the shape s, into the words from word i on
   abbrev pub TypedLowers : Shape → List ℕ → ℕ → (Tree → Type 0) → List (List Part) → Result (Unit {0}) Fault → Type 0
   TypedLowers s ws i Has gives result = TypedAttempt seen moves before after [] (value_words false (encoding_by before options) s ws i Has) gives (has_block s) (after ≡ record before { ledger = after.ledger })
-      (Blamed (encoding_by before options) s) result
+      (HasLarge (encoding_by before options) s) result
 
   -- members in a row
   abbrev pub TypedMembersLower : Members → List ℕ → ℕ → (Trees → Type 0) → List (List Part) → Result (Unit {0}) Fault → Type 0
   TypedMembersLower ms ws i Have gives result = TypedAttempt seen moves before after [] (members_words false (encoding_by before options) ms ws i Have) gives (have_block ms) (after ≡ record before { ledger = after.ledger })
-      (BlamedMember (encoding_by before options) ms) result
+      (HaveLarge (encoding_by before options) ms) result
 
 -- the words before word i stay, and how many there are
 pub record Stays (i : ℕ) (ws vs : List ℕ) : Type 0 where

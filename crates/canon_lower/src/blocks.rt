@@ -54,6 +54,7 @@ pub(crate) fn ask_items<D, G: Guest>(
     ensures same_options { cx.new.options ≡ cx.old.options }
 {
     let Some(bytes) = block_size(count, abi.size32) else {
+        let _memory = cx.core.memory(); // memory has at most 2^32 bytes
         return Err(Fault::SizeOverflow(count));
     };
     ask(cx, abi.align32, bytes)

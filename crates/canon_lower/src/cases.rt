@@ -1,6 +1,6 @@
 //! Cases, stored: a number, and a payload behind it.
 
-ghost use Rattle.std.specs.Prelude.{◌≡◌, ◌≤◌, ◌<◌, ◌+◌, ◌^◌, false, length};
+ghost use Rattle.std.specs.Prelude.{◌≡◌, ◌≤◌, ◌<◌, ◌+◌, false, length};
 ghost use Rattle.canon_abi.specs.Abi.{HasInfo};
 ghost use Rattle.canon_context.specs.Core.{types_of};
 ghost use Rattle.canon_lower.specs.CasePuts.{HasCases, IsCasePut, IsOptionPut, IsResultPut, PayloadTrees, part_gives, payload_type, pick, unless_unit};
@@ -31,12 +31,12 @@ pub(crate) fn put_case<D, G: Guest>(
     requires cases { HasCases (shape_of (types_of cx.old.core.now) ty) }
     requires info { HasInfo info (variant_cases (shape_of (types_of cx.old.core.now) ty)) }
     requires tag { tag < case_count (variant_cases (shape_of (types_of cx.old.core.now) ty)) }
-    requires small { length cx.old.core.now.memory ≤ 2 ^ 32 }
     requires room { offset + size false (shape_of (types_of cx.old.core.now) ty) ≤ length cx.old.core.now.memory }
     ensures put { IsCasePut cx.old.core.now cx.new.core.now (variant_cases (shape_of (types_of cx.old.core.now) ty)) offset tag result }
     ensures same_reference { cx.new.core.ghost_name ≡ cx.old.core.ghost_name }
     ensures same_options { cx.new.options ≡ cx.old.options }
 {
+    let _memory = cx.core.memory(); // memory has at most 2^32 bytes
     let _ = ty;
     put(cx, offset, u64::from(tag), info.size.byte_size());
     offset + u64::from(info.payload_offset32)
@@ -52,7 +52,6 @@ pub(crate) fn put_option<T: ComponentType, D, G: Guest>(
     requires known { Knows (types_of cx.old.core.now) ty }
     requires fits { IsOptionOf T.fits cx.old.core.now.component.types ty }
     requires tag { tag < 2 }
-    requires small { length cx.old.core.now.memory ≤ 2 ^ 32 }
     requires room { offset + size false (shape_of (types_of cx.old.core.now) ty) ≤ length cx.old.core.now.memory }
     ensures put { IsOptionPut T.fits cx.old.core.now cx.new.core.now ty offset tag result.0 result.1 }
     ensures same_reference { cx.new.core.ghost_name ≡ cx.old.core.ghost_name }
@@ -84,7 +83,6 @@ pub(crate) fn put_result<T: ComponentType, E: ComponentType, D, G: Guest>(
     requires known { Knows (types_of cx.old.core.now) ty }
     requires fits { IsResultOf T.is_unit T.fits E.is_unit E.fits cx.old.core.now.component.types ty }
     requires tag { tag < 2 }
-    requires small { length cx.old.core.now.memory ≤ 2 ^ 32 }
     requires room { offset + size false (shape_of (types_of cx.old.core.now) ty) ≤ length cx.old.core.now.memory }
     ensures put { IsResultPut T.is_unit T.fits E.is_unit E.fits cx.old.core.now cx.new.core.now ty offset tag result.0 result.1 }
     ensures same_reference { cx.new.core.ghost_name ≡ cx.old.core.ghost_name }
@@ -108,13 +106,13 @@ pub(crate) fn store_payload<T: Lower, D, G: Guest>(
 ) -> Result<(), Fault>
     requires known { KnowsPayload (types_of cx.old.core.now) ty }
     requires fits { IsPayloadOf T.is_unit T.fits cx.old.core.now.component.types ty }
-    requires small { length cx.old.core.now.memory ≤ 2 ^ 32 }
     requires room { at + size false (payload_type (types_of cx.old.core.now) ty) ≤ length cx.old.core.now.memory }
     ensures stores { TypedMembersStore G.seen G.moves cx.old.options cx.old.core.now cx.new.core.now (payload_members (unless_unit T.is_unit (payload_type (types_of cx.old.core.now) ty))) 0 at (PayloadTrees T.is_unit (T.walks value.old))
         (part_gives T.is_unit (T.gives cx.old.core.now.component.types (payload_type (types_of cx.old.core.now) ty) value.old)) result }
     ensures same_reference { cx.new.core.ghost_name ≡ cx.old.core.ghost_name }
     ensures same_options { cx.new.options ≡ cx.old.options }
 {
+    let _memory = cx.core.memory(); // memory has at most 2^32 bytes
     match ty {
         None => Ok(()),
         Some(ty) => value.linear_lower_to_memory(cx, ty, at),
@@ -130,13 +128,13 @@ pub(crate) fn store_shared_payload<T: LowerShared, D, G: Guest>(
 ) -> Result<(), Fault>
     requires known { KnowsPayload (types_of cx.old.core.now) ty }
     requires fits { IsPayloadOf T.is_unit T.fits cx.old.core.now.component.types ty }
-    requires small { length cx.old.core.now.memory ≤ 2 ^ 32 }
     requires room { at + size false (payload_type (types_of cx.old.core.now) ty) ≤ length cx.old.core.now.memory }
     ensures stores { TypedMembersStore G.seen G.moves cx.old.options cx.old.core.now cx.new.core.now (payload_members (unless_unit T.is_unit (payload_type (types_of cx.old.core.now) ty))) 0 at (PayloadTrees T.is_unit (T.walks value.now))
         (part_gives T.is_unit (T.gives cx.old.core.now.component.types (payload_type (types_of cx.old.core.now) ty) value.now)) result }
     ensures same_reference { cx.new.core.ghost_name ≡ cx.old.core.ghost_name }
     ensures same_options { cx.new.options ≡ cx.old.options }
 {
+    let _memory = cx.core.memory(); // memory has at most 2^32 bytes
     match ty {
         None => Ok(()),
         Some(ty) => value.linear_lower_to_memory(cx, ty, at),

@@ -24,6 +24,7 @@ impl<T: Lower> Lower for Option<T> {
         let some = cx.types().option(i).ty;
         match self {
             None => {
+                let _memory = cx.core.memory(); // memory has at most 2^32 bytes
                 lower_bare(dst, 0);
                 Ok(())
             }

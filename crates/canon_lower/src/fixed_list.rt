@@ -1,6 +1,6 @@
 //! Lists of fixed length: their items stand in a row.
 
-ghost use Rattle.std.specs.Prelude.{◌≡◌, ◌≤◌, ◌^◌, flat_map, length};
+ghost use Rattle.std.specs.Prelude.{◌≡◌, ◌≤◌, flat_map, length};
 ghost use Rattle.canon_context.specs.Core.{types_of};
 ghost use Rattle.canon_lower.specs.Gives.{item_shape};
 ghost use Rattle.canon_lower.specs.Lists.{IsElementOf};
@@ -43,7 +43,6 @@ fn lower_items<T: Lower, D, G: Guest>(
 ) -> Result<(), Fault>
     requires known { Knows (types_of cx.old.core.now) ty.now }
     requires fits { T.fits cx.old.core.now.component.types ty.now }
-    requires small { length cx.old.core.now.memory ≤ 2 ^ 32 }
     requires room { members_flat (copies (length items.old) (shape_of (types_of cx.old.core.now) ty.now)) ≤ length dst.old }
     ensures lowers { TypedMembersLower G.seen G.moves cx.old.options cx.old.core.now cx.new.core.now (copies (length items.old) (shape_of (types_of cx.old.core.now) ty.now)) dst.new 0
         (EachMeans T.walks items.old) (flat_map (T.gives cx.old.core.now.component.types (shape_of (types_of cx.old.core.now) ty.now)) items.old) result }
@@ -51,6 +50,7 @@ fn lower_items<T: Lower, D, G: Guest>(
     ensures same_reference { cx.new.core.ghost_name ≡ cx.old.core.ghost_name }
     ensures same_options { cx.new.options ≡ cx.old.options }
 {
+    let _memory = cx.core.memory(); // memory has at most 2^32 bytes
     let mut at = 0;
     for k in 0..items.len() {
         match lower_at(&mut items[k], cx, *ty, dst, &mut at) {
@@ -70,7 +70,6 @@ fn lower_shared_items<T: LowerShared, D, G: Guest>(
 ) -> Result<(), Fault>
     requires known { Knows (types_of cx.old.core.now) ty.now }
     requires fits { T.fits cx.old.core.now.component.types ty.now }
-    requires small { length cx.old.core.now.memory ≤ 2 ^ 32 }
     requires room { members_flat (copies (length items.now) (shape_of (types_of cx.old.core.now) ty.now)) ≤ length dst.old }
     ensures lowers { TypedMembersLower G.seen G.moves cx.old.options cx.old.core.now cx.new.core.now (copies (length items.now) (shape_of (types_of cx.old.core.now) ty.now)) dst.new 0
         (EachMeans T.walks items.now) (flat_map (T.gives cx.old.core.now.component.types (shape_of (types_of cx.old.core.now) ty.now)) items.now) result }
@@ -78,6 +77,7 @@ fn lower_shared_items<T: LowerShared, D, G: Guest>(
     ensures same_reference { cx.new.core.ghost_name ≡ cx.old.core.ghost_name }
     ensures same_options { cx.new.options ≡ cx.old.options }
 {
+    let _memory = cx.core.memory(); // memory has at most 2^32 bytes
     let mut at = 0;
     for k in 0..items.len() {
         match lower_at(&mut &items[k], cx, *ty, dst, &mut at) {

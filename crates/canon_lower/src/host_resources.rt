@@ -1,6 +1,6 @@
 //! Resources of the host: an own one that is given away is taken, and one that is lent stands in the host's table.
 
-ghost use Rattle.std.specs.Prelude.{◌≡◌, ◌≤◌, ◌+◌, ◌^◌, false, length, true, ℕ};
+ghost use Rattle.std.specs.Prelude.{◌≡◌, ◌≤◌, ◌+◌, false, length, true, ℕ};
 ghost use Rattle.canon_context.specs.Core.{SameButLedger, types_of};
 ghost use Rattle.canon_leaves.specs.Parts as parts;
 ghost use Rattle.canon_leaves.specs.Parts.{LeafMoves};
@@ -235,7 +235,6 @@ fn lower_held<R: HeldResource, D, G: Guest>(
 ) -> Result<(), Fault>
     requires known { Knows (types_of cx.old.core.now) ty }
     requires fits { IsHandleType cx.old.core.now.component.types ty }
-    requires small { length cx.old.core.now.memory ≤ 2 ^ 32 }
     requires words { length dst.old ≡ flat (shape_of (types_of cx.old.core.now) ty) }
     ensures lowers { TypedLowers G.seen G.moves cx.old.options cx.old.core.now cx.new.core.now (shape_of (types_of cx.old.core.now) ty) dst.new 0 IsHandle
         (held_gives (R.kind resource.old) (R.state resource.old) (R.rep resource.old) cx.old.core.now.component.types (shape_of (types_of cx.old.core.now) ty)) result }
@@ -243,6 +242,7 @@ fn lower_held<R: HeldResource, D, G: Guest>(
     ensures same_reference { cx.new.core.ghost_name ≡ cx.old.core.ghost_name }
     ensures same_options { cx.new.options ≡ cx.old.options }
 {
+    let _memory = cx.core.memory(); // memory has at most 2^32 bytes
     match give_held(resource, cx, ty) {
         Ok(number) => {
             dst[0] = ValRaw::u32(number);
@@ -261,13 +261,13 @@ fn store_held<R: HeldResource, D, G: Guest>(
 ) -> Result<(), Fault>
     requires known { Knows (types_of cx.old.core.now) ty }
     requires fits { IsHandleType cx.old.core.now.component.types ty }
-    requires small { length cx.old.core.now.memory ≤ 2 ^ 32 }
     requires room { offset + size false (shape_of (types_of cx.old.core.now) ty) ≤ length cx.old.core.now.memory }
     ensures stores { TypedStores G.seen G.moves cx.old.options cx.old.core.now cx.new.core.now (shape_of (types_of cx.old.core.now) ty) offset IsHandle
         (held_gives (R.kind resource.old) (R.state resource.old) (R.rep resource.old) cx.old.core.now.component.types (shape_of (types_of cx.old.core.now) ty)) result }
     ensures same_reference { cx.new.core.ghost_name ≡ cx.old.core.ghost_name }
     ensures same_options { cx.new.options ≡ cx.old.options }
 {
+    let _memory = cx.core.memory(); // memory has at most 2^32 bytes
     match give_held(resource, cx, ty) {
         Ok(number) => {
             put(cx, offset, u64::from(number), 4);

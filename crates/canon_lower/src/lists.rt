@@ -1,6 +1,6 @@
 //! Lists: their items stand in a row in a block of their own.
 
-ghost use Rattle.std.specs.Prelude.{◌≡◌, ◌≤◌, ◌+◌, ◌^◌, false, flat_map, length};
+ghost use Rattle.std.specs.Prelude.{◌≡◌, ◌≤◌, ◌+◌, false, flat_map, length};
 ghost use Rattle.canon_context.specs.Core.{types_of};
 ghost use Rattle.canon_lower.specs.Gives.{item_shape};
 ghost use Rattle.canon_lower.specs.Lists.{IsElementOf};
@@ -37,7 +37,6 @@ fn place_list<T: Lower, D, G: Guest>(
 ) -> Result<Placed, Fault>
     requires known { Knows (types_of cx.old.core.now) ty.now }
     requires fits { IsListOf T.fits cx.old.core.now.component.types ty.now }
-    requires small { length cx.old.core.now.memory ≤ 2 ^ 32 }
     ensures places { TypedPlaces G.seen G.moves cx.old.options cx.old.core.now cx.new.core.now (shape_of (types_of cx.old.core.now) ty.now) (ListMeans T.walks items.old)
         (flat_map (T.gives cx.old.core.now.component.types (item_shape (shape_of (types_of cx.old.core.now) ty.now))) items.old) result }
     ensures same_reference { cx.new.core.ghost_name ≡ cx.old.core.ghost_name }
@@ -64,7 +63,6 @@ fn place_shared_list<T: LowerShared, D, G: Guest>(
 ) -> Result<Placed, Fault>
     requires known { Knows (types_of cx.old.core.now) ty.now }
     requires fits { IsListOf T.fits cx.old.core.now.component.types ty.now }
-    requires small { length cx.old.core.now.memory ≤ 2 ^ 32 }
     ensures places { TypedPlaces G.seen G.moves cx.old.options cx.old.core.now cx.new.core.now (shape_of (types_of cx.old.core.now) ty.now) (ListMeans T.walks items.now)
         (flat_map (T.gives cx.old.core.now.component.types (item_shape (shape_of (types_of cx.old.core.now) ty.now))) items.now) result }
     ensures same_reference { cx.new.core.ghost_name ≡ cx.old.core.ghost_name }

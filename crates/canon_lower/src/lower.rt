@@ -1,6 +1,6 @@
 //! The traits of Rust types whose values are lowered.
 
-ghost use Rattle.std.specs.Prelude.{◌≡◌, ◌≤◌, ◌+◌, ◌*◌, ◌^◌, List, false, flat_map, length};
+ghost use Rattle.std.specs.Prelude.{◌≡◌, ◌≤◌, ◌+◌, ◌*◌, List, false, flat_map, length};
 ghost use Rattle.canon_context.specs.Core.{types_of};
 ghost use Rattle.canon_leaves.specs.Parts.{Part};
 ghost use Rattle.canon_lower.specs.Stores.{TypedMembersStore, TypedStores};
@@ -36,7 +36,6 @@ pub trait Lower: ComponentType {
     ) -> Result<(), Fault>
         requires known { Knows (types_of cx.old.core.now) ty }
         requires fits { Self.fits cx.old.core.now.component.types ty }
-        requires small { length cx.old.core.now.memory ≤ 2 ^ 32 }
         requires words { length dst.old ≡ flat (shape_of (types_of cx.old.core.now) ty) }
         ensures lowers { TypedLowers G.seen G.moves cx.old.options cx.old.core.now cx.new.core.now (shape_of (types_of cx.old.core.now) ty) dst.new 0 (Self.walks self.old)
             (gives cx.old.core.now.component.types (shape_of (types_of cx.old.core.now) ty) self.old) result }
@@ -53,7 +52,6 @@ pub trait Lower: ComponentType {
     ) -> Result<(), Fault>
         requires known { Knows (types_of cx.old.core.now) ty }
         requires fits { Self.fits cx.old.core.now.component.types ty }
-        requires small { length cx.old.core.now.memory ≤ 2 ^ 32 }
         requires room { offset + size false (shape_of (types_of cx.old.core.now) ty) ≤ length cx.old.core.now.memory }
         ensures stores { TypedStores G.seen G.moves cx.old.options cx.old.core.now cx.new.core.now (shape_of (types_of cx.old.core.now) ty) offset (Self.walks self.old)
             (gives cx.old.core.now.component.types (shape_of (types_of cx.old.core.now) ty) self.old) result }
@@ -72,13 +70,13 @@ pub trait Lower: ComponentType {
         Self: Sized,
         requires known { Knows (types_of cx.old.core.now) ty }
         requires fits { Self.fits cx.old.core.now.component.types ty }
-        requires small { length cx.old.core.now.memory ≤ 2 ^ 32 }
         requires room { offset + length items.old * size false (shape_of (types_of cx.old.core.now) ty) ≤ length cx.old.core.now.memory }
         ensures stores { TypedMembersStore G.seen G.moves cx.old.options cx.old.core.now cx.new.core.now (copies (length items.old) (shape_of (types_of cx.old.core.now) ty)) 0 offset (EachMeans Self.walks items.old)
             (flat_map (gives cx.old.core.now.component.types (shape_of (types_of cx.old.core.now) ty)) items.old) result }
         ensures same_reference { cx.new.core.ghost_name ≡ cx.old.core.ghost_name }
         ensures same_options { cx.new.options ≡ cx.old.options }
     {
+        let _memory = cx.core.memory(); // memory has at most 2^32 bytes
         let size = u64::from(cx.types().canonical_abi(&ty).size32);
         for k in 0..items.len() {
             match items[k].linear_lower_to_memory(cx, ty, offset + k as u64 * size) {
@@ -105,7 +103,6 @@ pub trait LowerShared: ComponentType {
     ) -> Result<(), Fault>
         requires known { Knows (types_of cx.old.core.now) ty }
         requires fits { Self.fits cx.old.core.now.component.types ty }
-        requires small { length cx.old.core.now.memory ≤ 2 ^ 32 }
         requires words { length dst.old ≡ flat (shape_of (types_of cx.old.core.now) ty) }
         ensures lowers { TypedLowers G.seen G.moves cx.old.options cx.old.core.now cx.new.core.now (shape_of (types_of cx.old.core.now) ty) dst.new 0 (Self.walks self.now)
             (gives cx.old.core.now.component.types (shape_of (types_of cx.old.core.now) ty) self.now) result }
@@ -122,7 +119,6 @@ pub trait LowerShared: ComponentType {
     ) -> Result<(), Fault>
         requires known { Knows (types_of cx.old.core.now) ty }
         requires fits { Self.fits cx.old.core.now.component.types ty }
-        requires small { length cx.old.core.now.memory ≤ 2 ^ 32 }
         requires room { offset + size false (shape_of (types_of cx.old.core.now) ty) ≤ length cx.old.core.now.memory }
         ensures stores { TypedStores G.seen G.moves cx.old.options cx.old.core.now cx.new.core.now (shape_of (types_of cx.old.core.now) ty) offset (Self.walks self.now)
             (gives cx.old.core.now.component.types (shape_of (types_of cx.old.core.now) ty) self.now) result }
@@ -141,13 +137,13 @@ pub trait LowerShared: ComponentType {
         Self: Sized,
         requires known { Knows (types_of cx.old.core.now) ty }
         requires fits { Self.fits cx.old.core.now.component.types ty }
-        requires small { length cx.old.core.now.memory ≤ 2 ^ 32 }
         requires room { offset + length items.now * size false (shape_of (types_of cx.old.core.now) ty) ≤ length cx.old.core.now.memory }
         ensures stores { TypedMembersStore G.seen G.moves cx.old.options cx.old.core.now cx.new.core.now (copies (length items.now) (shape_of (types_of cx.old.core.now) ty)) 0 offset (EachMeans Self.walks items.now)
             (flat_map (gives cx.old.core.now.component.types (shape_of (types_of cx.old.core.now) ty)) items.now) result }
         ensures same_reference { cx.new.core.ghost_name ≡ cx.old.core.ghost_name }
         ensures same_options { cx.new.options ≡ cx.old.options }
     {
+        let _memory = cx.core.memory(); // memory has at most 2^32 bytes
         let size = u64::from(cx.types().canonical_abi(&ty).size32);
         for k in 0..items.len() {
             match items[k].linear_lower_to_memory(cx, ty, offset + k as u64 * size) {

@@ -1,6 +1,6 @@
 //! Maps: their pairs stand in a row in a block of their own, each with its key and then its value.
 
-ghost use Rattle.std.specs.Prelude.{◌≡◌, ◌≤◌, ◌+◌, ◌*◌, ◌^◌, false, flat_map, length};
+ghost use Rattle.std.specs.Prelude.{◌≡◌, ◌≤◌, ◌+◌, ◌*◌, false, flat_map, length};
 ghost use Rattle.canon_context.specs.Core.{types_of};
 ghost use Rattle.canon_lower.specs.Gives.{map_gives, pair_gives};
 ghost use Rattle.canon_lower.specs.Pairs.{IsPairType, pair_in};
@@ -64,13 +64,13 @@ fn store_pair<K: LowerShared, V: LowerShared, D, G: Guest>(
     at: u64,
 ) -> Result<(), Fault>
     requires pair { IsPairType K.fits V.fits cx.old.core.now.component.types pair.now }
-    requires small { length cx.old.core.now.memory ≤ 2 ^ 32 }
     requires room { at + size false (pair_in (types_of cx.old.core.now) pair.now) ≤ length cx.old.core.now.memory }
     ensures stores { TypedStores G.seen G.moves cx.old.options cx.old.core.now cx.new.core.now (pair_in (types_of cx.old.core.now) pair.now) at (PairMeans K.walks V.walks (key.now, value.now))
         (pair_gives K.gives V.gives cx.old.core.now.component.types (pair_in (types_of cx.old.core.now) pair.now) (key.now, value.now)) result }
     ensures same_reference { cx.new.core.ghost_name ≡ cx.old.core.ghost_name }
     ensures same_options { cx.new.options ≡ cx.old.options }
 {
+    let _memory = cx.core.memory(); // memory has at most 2^32 bytes
     match key.linear_lower_to_memory(cx, pair.key, at) {
         Ok(()) => {}
         Err(fault) => return Err(fault),
@@ -86,13 +86,13 @@ fn store_pairs<K: LowerShared + Eq + Hash, V: LowerShared, D, G: Guest>(
     offset: u64,
 ) -> Result<(), Fault>
     requires pair { IsPairType K.fits V.fits cx.old.core.now.component.types pair.now }
-    requires small { length cx.old.core.now.memory ≤ 2 ^ 32 }
     requires room { offset + length map.now.entries * size false (pair_in (types_of cx.old.core.now) pair.now) ≤ length cx.old.core.now.memory }
     ensures stores { TypedMembersStore G.seen G.moves cx.old.options cx.old.core.now cx.new.core.now (copies (length map.now.entries) (pair_in (types_of cx.old.core.now) pair.now)) 0 offset (EachMeans (PairMeans K.walks V.walks) map.now.entries)
         (flat_map (pair_gives K.gives V.gives cx.old.core.now.component.types (pair_in (types_of cx.old.core.now) pair.now)) map.now.entries) result }
     ensures same_reference { cx.new.core.ghost_name ≡ cx.old.core.ghost_name }
     ensures same_options { cx.new.options ≡ cx.old.options }
 {
+    let _memory = cx.core.memory(); // memory has at most 2^32 bytes
     let size = u64::from(pair.abi.size32);
     let mut at = offset;
     for (key, value) in map.iter() {
@@ -113,7 +113,6 @@ fn place_map<K: LowerShared + Eq + Hash, V: LowerShared, D, G: Guest>(
 ) -> Result<Placed, Fault>
     requires known { Knows (types_of cx.old.core.now) ty.now }
     requires fits { IsMapOf K.fits V.fits cx.old.core.now.component.types ty.now }
-    requires small { length cx.old.core.now.memory ≤ 2 ^ 32 }
     ensures places { TypedPlaces G.seen G.moves cx.old.options cx.old.core.now cx.new.core.now (shape_of (types_of cx.old.core.now) ty.now) (MapWalks K.walks V.walks map.now)
         (map_gives K.gives V.gives cx.old.core.now.component.types (shape_of (types_of cx.old.core.now) ty.now) map.now) result }
     ensures same_reference { cx.new.core.ghost_name ≡ cx.old.core.ghost_name }
@@ -140,7 +139,6 @@ fn lower_map<K: LowerShared + Eq + Hash, V: LowerShared, D, G: Guest>(
 ) -> Result<(), Fault>
     requires known { Knows (types_of cx.old.core.now) ty }
     requires fits { IsMapOf K.fits V.fits cx.old.core.now.component.types ty }
-    requires small { length cx.old.core.now.memory ≤ 2 ^ 32 }
     requires words { length dst.old ≡ flat (shape_of (types_of cx.old.core.now) ty) }
     ensures lowers { TypedLowers G.seen G.moves cx.old.options cx.old.core.now cx.new.core.now (shape_of (types_of cx.old.core.now) ty) dst.new 0 (MapWalks K.walks V.walks map.now)
         (map_gives K.gives V.gives cx.old.core.now.component.types (shape_of (types_of cx.old.core.now) ty) map.now) result }
@@ -166,7 +164,6 @@ fn store_map<K: LowerShared + Eq + Hash, V: LowerShared, D, G: Guest>(
 ) -> Result<(), Fault>
     requires known { Knows (types_of cx.old.core.now) ty }
     requires fits { IsMapOf K.fits V.fits cx.old.core.now.component.types ty }
-    requires small { length cx.old.core.now.memory ≤ 2 ^ 32 }
     requires room { offset + size false (shape_of (types_of cx.old.core.now) ty) ≤ length cx.old.core.now.memory }
     ensures stores { TypedStores G.seen G.moves cx.old.options cx.old.core.now cx.new.core.now (shape_of (types_of cx.old.core.now) ty) offset (MapWalks K.walks V.walks map.now)
         (map_gives K.gives V.gives cx.old.core.now.component.types (shape_of (types_of cx.old.core.now) ty) map.now) result }

@@ -58,7 +58,6 @@ fn lower_resource<D, G: Guest>(
 ) -> Result<(), Fault>
     requires known { Knows (types_of cx.old.core.now) ty }
     requires fits { IsHandleType cx.old.core.now.component.types ty }
-    requires small { length cx.old.core.now.memory ≤ 2 ^ 32 }
     requires words { length dst.old ≡ flat (shape_of (types_of cx.old.core.now) ty) }
     ensures lowers { TypedLowers G.seen G.moves cx.old.options cx.old.core.now cx.new.core.now (shape_of (types_of cx.old.core.now) ty) dst.new 0 IsHandle
         (handle_gives cx.old.core.now.component.types (shape_of (types_of cx.old.core.now) ty) resource) result }
@@ -66,6 +65,7 @@ fn lower_resource<D, G: Guest>(
     ensures same_reference { cx.new.core.ghost_name ≡ cx.old.core.ghost_name }
     ensures same_options { cx.new.options ≡ cx.old.options }
 {
+    let _memory = cx.core.memory(); // memory has at most 2^32 bytes
     match give_handle(cx, ty, resource) {
         Ok(number) => {
             dst[0] = ValRaw::u32(number);
@@ -84,13 +84,13 @@ fn store_resource<D, G: Guest>(
 ) -> Result<(), Fault>
     requires known { Knows (types_of cx.old.core.now) ty }
     requires fits { IsHandleType cx.old.core.now.component.types ty }
-    requires small { length cx.old.core.now.memory ≤ 2 ^ 32 }
     requires room { offset + size false (shape_of (types_of cx.old.core.now) ty) ≤ length cx.old.core.now.memory }
     ensures stores { TypedStores G.seen G.moves cx.old.options cx.old.core.now cx.new.core.now (shape_of (types_of cx.old.core.now) ty) offset IsHandle
         (handle_gives cx.old.core.now.component.types (shape_of (types_of cx.old.core.now) ty) resource) result }
     ensures same_reference { cx.new.core.ghost_name ≡ cx.old.core.ghost_name }
     ensures same_options { cx.new.options ≡ cx.old.options }
 {
+    let _memory = cx.core.memory(); // memory has at most 2^32 bytes
     match give_handle(cx, ty, resource) {
         Ok(number) => {
             put(cx, offset, u64::from(number), 4);

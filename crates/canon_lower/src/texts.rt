@@ -1,6 +1,6 @@
 //! Texts.
 
-ghost use Rattle.std.specs.Prelude.{◌≡◌, ◌≤◌, ◌+◌, ◌^◌, [], false, length};
+ghost use Rattle.std.specs.Prelude.{◌≡◌, ◌≤◌, ◌+◌, [], false, length};
 ghost use Rattle.canon_context.specs.Core.{types_of};
 ghost use Rattle.canon_lower.specs.Gives.{no_handles};
 ghost use Rattle.canon_lower.specs.Places.{TypedPlaces};
@@ -21,11 +21,11 @@ use canon_types::InterfaceType;
 
 /// Puts a text into a block of its own (CanonicalABI.md, "store_string_into_range").
 fn place_text<D, G: Guest>(cx: &mut LowerContext<'_, D, G>, text: &String) -> Result<Placed, Fault>
-    requires small { length cx.old.core.now.memory ≤ 2 ^ 32 }
     ensures places { TypedPlaces G.seen G.moves cx.old.options cx.old.core.now cx.new.core.now string (TextMeans text.now) [] result }
     ensures same_reference { cx.new.core.ghost_name ≡ cx.old.core.ghost_name }
     ensures same_options { cx.new.options ≡ cx.old.options }
 {
+    let _memory = cx.core.memory(); // memory has at most 2^32 bytes
     match put_text(cx, text.as_bytes()) {
         Ok(block) => Ok(Placed {
             pointer: block.pointer,
@@ -43,7 +43,6 @@ fn lower_text<D, G: Guest>(
     dst: &mut [ValRaw],
 ) -> Result<(), Fault>
     requires fits { ty ≡ StringType }
-    requires small { length cx.old.core.now.memory ≤ 2 ^ 32 }
     requires words { length dst.old ≡ flat (shape_of (types_of cx.old.core.now) ty) }
     ensures lowers { TypedLowers G.seen G.moves cx.old.options cx.old.core.now cx.new.core.now (shape_of (types_of cx.old.core.now) ty) dst.new 0 (TextMeans text.now) [] result }
     ensures count { length dst.new ≡ length dst.old }
@@ -68,7 +67,6 @@ fn store_text<D, G: Guest>(
     offset: u64,
 ) -> Result<(), Fault>
     requires fits { ty ≡ StringType }
-    requires small { length cx.old.core.now.memory ≤ 2 ^ 32 }
     requires room { offset + size false (shape_of (types_of cx.old.core.now) ty) ≤ length cx.old.core.now.memory }
     ensures stores { TypedStores G.seen G.moves cx.old.options cx.old.core.now cx.new.core.now (shape_of (types_of cx.old.core.now) ty) offset (TextMeans text.now) [] result }
     ensures same_reference { cx.new.core.ghost_name ≡ cx.old.core.ghost_name }

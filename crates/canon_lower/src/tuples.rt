@@ -49,7 +49,6 @@ fn store_member<A: Lower, D, G: Guest>(
     requires known { Knows (types_of cx.old.core.now) ty.now }
     requires member { k < length (types_in (types_of cx.old.core.now) ty.now) }
     requires fits { A.fits cx.old.core.now.component.types (member_type (types_of cx.old.core.now) ty.now k) }
-    requires small { length cx.old.core.now.memory ≤ 2 ^ 32 }
     requires room { at + ends false end.old (shape_of (types_of cx.old.core.now) (member_type (types_of cx.old.core.now) ty.now k)) ≤ length cx.old.core.now.memory }
     ensures stores { TypedStores G.seen G.moves cx.old.options cx.old.core.now cx.new.core.now (shape_of (types_of cx.old.core.now) (member_type (types_of cx.old.core.now) ty.now k))
         (at + begins false end.old (shape_of (types_of cx.old.core.now) (member_type (types_of cx.old.core.now) ty.now k))) (A.walks value.old)
@@ -58,6 +57,7 @@ fn store_member<A: Lower, D, G: Guest>(
     ensures same_reference { cx.new.core.ghost_name ≡ cx.old.core.ghost_name }
     ensures same_options { cx.new.options ≡ cx.old.options }
 {
+    let _memory = cx.core.memory(); // memory has at most 2^32 bytes
     let (part, start) = next_place(cx.types(), ty, k, end);
     value.linear_lower_to_memory(cx, part, at + start)
 }
@@ -67,19 +67,21 @@ impl Lower for () {
 
     fn linear_lower_to_flat<D, G: Guest>(
         &mut self,
-        _cx: &mut LowerContext<'_, D, G>,
+        cx: &mut LowerContext<'_, D, G>,
         _ty: InterfaceType,
         _dst: &mut [ValRaw],
     ) -> Result<(), Fault> {
+        let _memory = cx.core.memory(); // memory has at most 2^32 bytes
         Ok(())
     }
 
     fn linear_lower_to_memory<D, G: Guest>(
         &mut self,
-        _cx: &mut LowerContext<'_, D, G>,
+        cx: &mut LowerContext<'_, D, G>,
         _ty: InterfaceType,
         _offset: u64,
     ) -> Result<(), Fault> {
+        let _memory = cx.core.memory(); // memory has at most 2^32 bytes
         Ok(())
     }
 }
@@ -89,19 +91,21 @@ impl LowerShared for () {
 
     fn linear_lower_to_flat<D, G: Guest>(
         &self,
-        _cx: &mut LowerContext<'_, D, G>,
+        cx: &mut LowerContext<'_, D, G>,
         _ty: InterfaceType,
         _dst: &mut [ValRaw],
     ) -> Result<(), Fault> {
+        let _memory = cx.core.memory(); // memory has at most 2^32 bytes
         Ok(())
     }
 
     fn linear_lower_to_memory<D, G: Guest>(
         &self,
-        _cx: &mut LowerContext<'_, D, G>,
+        cx: &mut LowerContext<'_, D, G>,
         _ty: InterfaceType,
         _offset: u64,
     ) -> Result<(), Fault> {
+        let _memory = cx.core.memory(); // memory has at most 2^32 bytes
         Ok(())
     }
 }

@@ -1,6 +1,6 @@
 //! Words of scalars, of parts, and of cases.
 
-ghost use Rattle.std.specs.Prelude.{◌≡◌, ◌≤◌, ◌^◌, ◌+◌, IfOk, Ok, [], false, length};
+ghost use Rattle.std.specs.Prelude.{◌≡◌, ◌≤◌, ◌+◌, IfOk, Ok, [], false, length};
 ghost use Rattle.canon_context.specs.Core.{types_of};
 ghost use Rattle.canon_lower.specs.Cases.{HasCase, payload_members};
 ghost use Rattle.canon_lower.specs.Gives.{payload_gives};
@@ -43,13 +43,13 @@ pub(crate) fn lower_scalar<S: WordScalar, D, G: Guest>(
     dst: &mut [ValRaw],
 )
     requires fits { S.fits cx.old.core.now.component.types ty }
-    requires small { length cx.old.core.now.memory ≤ 2 ^ 32 }
     requires words { length dst.old ≡ flat (shape_of (types_of cx.old.core.now) ty) }
     ensures lowers { TypedLowers G.seen G.moves cx.old.options cx.old.core.now cx.new.core.now (shape_of (types_of cx.old.core.now) ty) dst.new 0 (S.walks value.now) [] (Ok tt) }
     ensures count { length dst.new ≡ length dst.old }
     ensures same_reference { cx.new.core.ghost_name ≡ cx.old.core.ghost_name }
     ensures same_options { cx.new.options ≡ cx.old.options }
 {
+    let _memory = cx.core.memory(); // memory has at most 2^32 bytes
     dst[0] = value.word();
 }
 
@@ -62,12 +62,12 @@ pub(crate) fn store_scalar<S: WordScalar, D, G: Guest>(
 )
     requires known { Knows (types_of cx.old.core.now) ty }
     requires fits { S.fits cx.old.core.now.component.types ty }
-    requires small { length cx.old.core.now.memory ≤ 2 ^ 32 }
     requires room { offset + size false (shape_of (types_of cx.old.core.now) ty) ≤ length cx.old.core.now.memory }
     ensures stores { TypedStores G.seen G.moves cx.old.options cx.old.core.now cx.new.core.now (shape_of (types_of cx.old.core.now) ty) offset (S.walks value.now) [] (Ok tt) }
     ensures same_reference { cx.new.core.ghost_name ≡ cx.old.core.ghost_name }
     ensures same_options { cx.new.options ≡ cx.old.options }
 {
+    let _memory = cx.core.memory(); // memory has at most 2^32 bytes
     let size = cx.types().canonical_abi(&ty).size32;
     put(cx, offset, value.word().get_u64(), size);
 }
@@ -82,7 +82,6 @@ pub(crate) fn lower_at<T: Lower, D, G: Guest>(
 ) -> Result<(), Fault>
     requires known { Knows (types_of cx.old.core.now) ty }
     requires fits { T.fits cx.old.core.now.component.types ty }
-    requires small { length cx.old.core.now.memory ≤ 2 ^ 32 }
     requires room { at.old + flat (shape_of (types_of cx.old.core.now) ty) ≤ length dst.old }
     ensures lowers { TypedLowers G.seen G.moves cx.old.options cx.old.core.now cx.new.core.now (shape_of (types_of cx.old.core.now) ty) dst.new at.old (T.walks value.old)
         (T.gives cx.old.core.now.component.types (shape_of (types_of cx.old.core.now) ty) value.old) result }
@@ -127,7 +126,6 @@ pub(crate) fn lower_case<T: Lower, D, G: Guest>(
 ) -> Result<(), Fault>
     requires known { Knows (types_of cx.old.core.now) ty }
     requires fits { T.fits cx.old.core.now.component.types ty }
-    requires small { length cx.old.core.now.memory ≤ 2 ^ 32 }
     requires room { 1 + flat (shape_of (types_of cx.old.core.now) ty) ≤ length dst.old }
     ensures lowers { TypedLowers G.seen G.moves cx.old.options cx.old.core.now cx.new.core.now (shape_of (types_of cx.old.core.now) ty) dst.new 1 (T.walks value.old)
         (T.gives cx.old.core.now.component.types (shape_of (types_of cx.old.core.now) ty) value.old) result }
@@ -157,7 +155,6 @@ pub(crate) fn lower_payload<T: Lower, D, G: Guest>(
 ) -> Result<(), Fault>
     requires known { KnowsPayload (types_of cx.old.core.now) ty }
     requires fits { IsPayloadOf T.is_unit T.fits cx.old.core.now.component.types ty }
-    requires small { length cx.old.core.now.memory ≤ 2 ^ 32 }
     requires room { 1 + members_flat (payload_members (payload_in (all_shapes (types_of cx.old.core.now)) ty)) ≤ length dst.old }
     ensures lowers { (s : Shape) → HasCase s case (payload_in (all_shapes (types_of cx.old.core.now)) ty) → length dst.old ≡ flat s
         → TypedLowers G.seen G.moves cx.old.options cx.old.core.now cx.new.core.now s dst.new 0 (CaseMeans T.is_unit T.walks case value.old)
@@ -166,6 +163,7 @@ pub(crate) fn lower_payload<T: Lower, D, G: Guest>(
     ensures same_reference { cx.new.core.ghost_name ≡ cx.old.core.ghost_name }
     ensures same_options { cx.new.options ≡ cx.old.options }
 {
+    let _memory = cx.core.memory(); // memory has at most 2^32 bytes
     match ty {
         None => {
             lower_bare(dst, case);
@@ -185,7 +183,6 @@ pub(crate) fn lower_shared_payload<T: LowerShared, D, G: Guest>(
 ) -> Result<(), Fault>
     requires known { KnowsPayload (types_of cx.old.core.now) ty }
     requires fits { IsPayloadOf T.is_unit T.fits cx.old.core.now.component.types ty }
-    requires small { length cx.old.core.now.memory ≤ 2 ^ 32 }
     requires room { 1 + members_flat (payload_members (payload_in (all_shapes (types_of cx.old.core.now)) ty)) ≤ length dst.old }
     ensures lowers { (s : Shape) → HasCase s case (payload_in (all_shapes (types_of cx.old.core.now)) ty) → length dst.old ≡ flat s
         → TypedLowers G.seen G.moves cx.old.options cx.old.core.now cx.new.core.now s dst.new 0 (CaseMeans T.is_unit T.walks case value.now)
@@ -194,6 +191,7 @@ pub(crate) fn lower_shared_payload<T: LowerShared, D, G: Guest>(
     ensures same_reference { cx.new.core.ghost_name ≡ cx.old.core.ghost_name }
     ensures same_options { cx.new.options ≡ cx.old.options }
 {
+    let _memory = cx.core.memory(); // memory has at most 2^32 bytes
     match ty {
         None => {
             lower_bare(dst, case);

@@ -4,7 +4,7 @@ use Rattle.canon_lower.proofs.blocks.ask_items.Goals as goal
 
 pub returns-in_default-clause-asked : goal.returns-in_default-clause-asked
 returns-in_default-clause-asked g c s layout =
-    inl (refl, refl, subst (λ (k : ℕ). (2 ^ 32 ≤ c.args.count) ⊎ (2 ^ 32 ≤ c.args.count * k)) layout.size (c.in_default.ensures.none refl))
+    inl (refl, refl, c.memory-memory.ensures.small, subst (λ (k : ℕ). (2 ^ 32 ≤ c.args.count) ⊎ (2 ^ 32 ≤ c.args.count * k)) layout.size (c.in_default.ensures.none refl))
 
 pub returns-clause-asked : goal.returns-clause-asked
 returns-clause-asked g c s layout =

@@ -16,7 +16,8 @@ loop-k-init g c =
     let f = g.T.LowerShared.gives in
     let W = g.T.ComponentType.walks in
     record {
-      row = row_begin L a.cx.now.options core a.ty.now W f a.items.now a.dst.now c.requires.small c.requires.room;
+      row = row_begin L a.cx.now.options core a.ty.now W f a.items.now a.dst.now c.requires.room;
+      small = c.memory-memory.ensures.small;
       count = refl {a = length c.args.dst.now};
       options = refl;
       reference = refl;
@@ -27,9 +28,6 @@ lower_at-requires-clause-known g c = subst (λ t. Knows t c.args.ty.now) (sym (h
 
 pub lower_at-requires-clause-fits : goal.lower_at-requires-clause-fits
 lower_at-requires-clause-fits g c = subst (λ (i : Instance). g.T.ComponentType.fits i c.args.ty.now) (sym (handles_instance c.args.cx.now.core.now c.loop-k.cx.core.now c.loop-k.invariant.row.same)) c.requires.fits
-
-pub lower_at-requires-clause-small : goal.lower_at-requires-clause-small
-lower_at-requires-clause-small g c = c.loop-k.invariant.row.small
 
 pub lower_at-requires-clause-room : goal.lower_at-requires-clause-room
 lower_at-requires-clause-room g c =
@@ -54,6 +52,7 @@ loop-k-preserved g c =
     record {
       row = row_more L a.cx.now.options core a.ty.now W f a.items.now c.loop-k.cx.core.now c.loop-k.cx.options c.loop-k.dst c.loop-k.at (drop c.loop-k.k a.items.now) (drop (c.loop-k.k + 1) a.items.now) x here c.loop-k.invariant.row c.lower_at.new.cx.core.now c.lower_at.new.cx.options c.lower_at.new.dst c.lower_at.new.at (λ t has. walked_shaped g.T.ComponentType.fits g.T.ComponentType.walks g.T.ComponentType.means g.met.T.ComponentType.typed g.met.T.ComponentType.walked x core.component.types a.ty.now t c.requires.fits has)
           c.in-Ok.ensures.stays c.in-Ok.ensures.end c.in-Ok.ensures.same_options c.in-Ok.ensures.lowers;
+      small = c.in-Ok.ensures.lowers.attempt.lowering.small;
       count = c.in-Ok.ensures.stays.same_length ∙ c.loop-k.invariant.count;
       options = c.in-Ok.ensures.same_options ∙ c.loop-k.invariant.options;
       reference = c.in-Ok.ensures.same_reference ∙ c.loop-k.invariant.reference;
@@ -77,4 +76,4 @@ returns-clause-lowers g c =
     let core = a.cx.now.core.now in
     let f = g.T.LowerShared.gives in
     let W = g.T.ComponentType.walks in
-    row_end L a.cx.now.options core a.ty.now W f a.items.now c.loop-k.cx.core.now c.loop-k.cx.options c.loop-k.dst c.loop-k.at c.loop-k.k (omega (arith, c.loop-k-test.false, c.loop-k.auto.k-end)) c.loop-k.invariant.row
+    row_end L a.cx.now.options core a.ty.now W f a.items.now c.loop-k.cx.core.now c.loop-k.cx.options c.loop-k.dst c.loop-k.at c.loop-k.k c.loop-k.invariant.small (omega (arith, c.loop-k-test.false, c.loop-k.auto.k-end)) c.loop-k.invariant.row

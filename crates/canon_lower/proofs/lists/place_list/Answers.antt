@@ -15,7 +15,7 @@ returns-in-Err-clause-places g c =
     let a = c.args in
     let of = subst (λ (i : Instance). IsElementOf (λ s. list of_items s) g.T.ComponentType.fits i a.ty.now c.list_element-element.result) c.instance_type.ensures c.list_element-element.ensures in
     items_ungiven L a.cx.now.options g.T.ComponentType.walks g.T.Lower.gives g.T.ComponentType.fits a.cx.now.core.now c.ask_items.new.cx.core.now a.ty.now c.list_element-element.result a.items.now (length a.items.now) of refl
-    c.in-Err.fault c.requires.small (c.in-Err.ensures.asked (shape_of (types_of a.cx.now.core.now) c.list_element-element.result) (layout_here (types_of a.cx.now.core.now) c.types.result.now c.list_element-element.result c.canonical_abi.result.now c.types.ensures c.canonical_abi.ensures))
+    c.in-Err.fault (c.in-Err.ensures.asked (shape_of (types_of a.cx.now.core.now) c.list_element-element.result) (layout_here (types_of a.cx.now.core.now) c.types.result.now c.list_element-element.result c.canonical_abi.result.now c.types.ensures c.canonical_abi.ensures))
 
 pub returns-in-Ok-linear_store_list_to_memory-clause-places : goal.returns-in-Ok-linear_store_list_to_memory-clause-places
 returns-in-Ok-linear_store_list_to_memory-clause-places g c =

@@ -22,7 +22,7 @@ returns-in-Err-clause-places g c =
     let gives = pair_gives g.K.LowerShared.gives g.V.LowerShared.gives in
     let xs = a.map.now.entries in
     let s = pair_in (types_of core) pair in
-    pairs_ungiven L a.cx.now.options W gives g.K.ComponentType.fits g.V.ComponentType.fits core c.ask_items.new.cx.core.now a.ty.now pair xs c.len-length.result found.0 c.len-length.ensures.len c.in-Err.fault c.requires.small (c.in-Err.ensures.asked s found.1.layout)
+    pairs_ungiven L a.cx.now.options W gives g.K.ComponentType.fits g.V.ComponentType.fits core c.ask_items.new.cx.core.now a.ty.now pair xs c.len-length.result found.0 c.len-length.ensures.len c.in-Err.fault (c.in-Err.ensures.asked s found.1.layout)
 
 pub store_pairs-requires-clause-pair : goal.store_pairs-requires-clause-pair
 store_pairs-requires-clause-pair g c =

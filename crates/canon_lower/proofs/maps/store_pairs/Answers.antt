@@ -23,7 +23,7 @@ loop-key-init g c =
     let gives = pair_gives g.K.LowerShared.gives g.V.LowerShared.gives in
     let xs = a.map.now.entries in
     record {
-      stored = row_begin L a.cx.now.options W (gives core.component.types s) s a.offset xs core c.requires.small;
+      stored = row_begin L a.cx.now.options W (gives core.component.types s) s a.offset xs core c.memory-memory.ensures.small;
       left = c.into_iter-key-iterator.ensures.into_iter_gives ∙ c.iter-key-items.ensures.rest;
       place = omega arith;
       options = refl;
@@ -33,9 +33,6 @@ loop-key-init g c =
 pub store_pair-requires-clause-pair : goal.store_pair-requires-clause-pair
 store_pair-requires-clause-pair g c =
     subst (λ (i : Instance). IsPairType g.K.ComponentType.fits g.V.ComponentType.fits i c.args.pair.now) (sym (handles_instance c.args.cx.now.core.now c.loop-key.cx.core.now c.loop-key.invariant.stored.same)) c.requires.pair
-
-pub store_pair-requires-clause-small : goal.store_pair-requires-clause-small
-store_pair-requires-clause-small g c = c.loop-key.invariant.stored.small
 
 pub store_pair-requires-clause-room : goal.store_pair-requires-clause-room
 store_pair-requires-clause-room g c =

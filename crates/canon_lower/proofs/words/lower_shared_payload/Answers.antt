@@ -22,7 +22,7 @@ returns-in-None-clause-lowers g c =
     let core = a.cx.now.core.now in
     let C = g.T.ComponentType in
     let unit = no_payload C.is_unit C.fits core.component.types (subst (λ (p : Option InterfaceType). IsPayloadOf C.is_unit C.fits core.component.types p) c.in-None.is c.requires.fits) in
-    λ s h room. bare_case L a.cx.now.options core core s a.case C.is_unit C.walks g.T.LowerShared.gives core.component.types a.value.now c.lower_bare.new.dst unit c.ranges.case.fits c.requires.small
+    λ s h room. bare_case L a.cx.now.options core core s a.case C.is_unit C.walks g.T.LowerShared.gives core.component.types a.value.now c.lower_bare.new.dst unit c.ranges.case.fits c.memory-memory.ensures.small
     (omega (arith, c.lower_bare.ensures.count, room)) (subst (λ (p : Option InterfaceType). HasCase s a.case (payload_in (all_shapes (types_of core)) p)) c.in-None.is h) c.lower_bare.ensures.words
 
 pub returns-in-Some-clause-lowers : goal.returns-in-Some-clause-lowers

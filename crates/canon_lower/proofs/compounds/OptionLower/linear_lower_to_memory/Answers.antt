@@ -9,7 +9,7 @@ pub returns-in-None-clause-stores : goal.returns-in-None-clause-stores
 returns-in-None-clause-stores g c =
     let L : GuestLaws _ = record { seen = g.G.Guest.seen; moves = g.G.Guest.moves; stays = g.met.G.Guest.stays; goes_on = g.met.G.Guest.goes_on } in
     let a = c.args in
-    none_stores g.T.ComponentType.fits a.cx.now.core.now c.put_option.new.cx.core.now a.ty a.offset c.put_option.result.0 c.put_option.result.1 L a.cx.now.options g.T.ComponentType.walks g.T.Lower.gives a.self.now c.requires.small c.requires.room
+    none_stores g.T.ComponentType.fits a.cx.now.core.now c.put_option.new.cx.core.now a.ty a.offset c.put_option.result.0 c.put_option.result.1 L a.cx.now.options g.T.ComponentType.walks g.T.Lower.gives a.self.now c.requires.room
     c.in-None.is c.put_option.ensures.put
 
 pub returns-in-Some-clause-stores : goal.returns-in-Some-clause-stores
@@ -17,5 +17,5 @@ returns-in-Some-clause-stores g c =
     let L : GuestLaws _ = record { seen = g.G.Guest.seen; moves = g.G.Guest.moves; stays = g.met.G.Guest.stays; goes_on = g.met.G.Guest.goes_on } in
     let a = c.args in
     let p = c.put_option-some in
-    some_stores g.T.ComponentType.fits a.cx.now.core.now p.new.cx.core.now a.ty a.offset p.result.0 p.result.1 L a.cx.now.options g.T.ComponentType.walks g.T.Lower.gives a.self.now c.requires.small c.requires.room
+    some_stores g.T.ComponentType.fits a.cx.now.core.now p.new.cx.core.now a.ty a.offset p.result.0 p.result.1 L a.cx.now.options g.T.ComponentType.walks g.T.Lower.gives a.self.now c.requires.room
     _ c.linear_lower_to_memory.new.cx.core.now p.new.cx.options c.linear_lower_to_memory.result c.in-Some.is p.ensures.put p.ensures.same_options c.linear_lower_to_memory.ensures.stores

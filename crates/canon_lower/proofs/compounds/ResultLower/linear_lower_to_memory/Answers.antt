@@ -28,7 +28,7 @@ returns-in-Ok-clause-stores g c =
     let s = c.store_payload in
     let gives = result_gives g.T.ComponentType.is_unit g.T.Lower.gives g.E.ComponentType.is_unit g.E.Lower.gives core.component.types z in
     subst (λ (v : Result g.row.T.Denot g.row.E.Denot). TypedStores L.seen L.moves a.cx.now.options core s.new.cx.core.now z a.offset (ResultMeans g.T.ComponentType.is_unit g.T.ComponentType.walks g.E.ComponentType.is_unit g.E.ComponentType.walks v) (gives v) s.result) (sym c.in-Ok.is)
-    (ok_stores g.T.ComponentType.is_unit g.T.ComponentType.fits g.E.ComponentType.is_unit g.E.ComponentType.fits core p.new.cx.core.now a.ty a.offset 0 p.result.0 p.result.1 p.ensures.put L a.cx.now.options c.requires.small c.requires.room
+    (ok_stores g.T.ComponentType.is_unit g.T.ComponentType.fits g.E.ComponentType.is_unit g.E.ComponentType.fits core p.new.cx.core.now a.ty a.offset 0 p.result.0 p.result.1 p.ensures.put L a.cx.now.options c.requires.room
     g.T.ComponentType.walks g.T.Lower.gives g.T.ComponentType.is_unit _ s.new.cx.core.now p.new.cx.options s.result p.ensures.same_options s.ensures.stores refl refl)
 
 pub returns-in-Err-clause-stores : goal.returns-in-Err-clause-stores
@@ -41,5 +41,5 @@ returns-in-Err-clause-stores g c =
     let s = c.store_payload-in-Err in
     let gives = result_gives g.T.ComponentType.is_unit g.T.Lower.gives g.E.ComponentType.is_unit g.E.Lower.gives core.component.types z in
     subst (λ (v : Result g.row.T.Denot g.row.E.Denot). TypedStores L.seen L.moves a.cx.now.options core s.new.cx.core.now z a.offset (ResultMeans g.T.ComponentType.is_unit g.T.ComponentType.walks g.E.ComponentType.is_unit g.E.ComponentType.walks v) (gives v) s.result) (sym c.in-Err.is)
-    (error_stores g.T.ComponentType.is_unit g.T.ComponentType.fits g.E.ComponentType.is_unit g.E.ComponentType.fits core p.new.cx.core.now a.ty a.offset 1 p.result.0 p.result.1 p.ensures.put L a.cx.now.options c.requires.small c.requires.room
+    (error_stores g.T.ComponentType.is_unit g.T.ComponentType.fits g.E.ComponentType.is_unit g.E.ComponentType.fits core p.new.cx.core.now a.ty a.offset 1 p.result.0 p.result.1 p.ensures.put L a.cx.now.options c.requires.room
     g.E.ComponentType.walks g.E.Lower.gives g.E.ComponentType.is_unit _ s.new.cx.core.now p.new.cx.options s.result p.ensures.same_options s.ensures.stores refl refl)

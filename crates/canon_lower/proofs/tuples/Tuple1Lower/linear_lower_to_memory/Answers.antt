@@ -10,7 +10,7 @@ store_member-requires-clause-room g c =
     let core = c.args.cx.now.core.now in
     let v = c.args.self.now in
     let count = tuple_count (g.A.ComponentType.fits ∷ []) core.component.types core.component.types c.args.ty refl c.requires.fits in
-    let w0 = way_begins L c.args.cx.now.options core c.args.ty c.args.offset (g.A.ComponentType.fits ∷ []) (FirstAnd (g.A.ComponentType.walks v.0) NoTrees) ((λ u. g.A.Lower.gives core.component.types u v.0) ∷ []) c.requires.fits c.requires.small c.requires.room in
+    let w0 = way_begins L c.args.cx.now.options core c.args.ty c.args.offset (g.A.ComponentType.fits ∷ []) (FirstAnd (g.A.ComponentType.walks v.0) NoTrees) ((λ u. g.A.Lower.gives core.component.types u v.0) ∷ []) c.requires.fits c.requires.room in
     way_room L c.args.cx.now.options core c.args.ty c.args.offset (g.A.ComponentType.fits ∷ []) (FirstAnd (g.A.ComponentType.walks v.0) NoTrees) ((λ u. g.A.Lower.gives core.component.types u v.0) ∷ []) c.requires.fits core 0 0 (g.A.ComponentType.walks v.0) NoTrees (λ u. g.A.Lower.gives core.component.types u v.0) [] (omega (arith, count)) w0
 
 pub returns-clause-stores : goal.returns-clause-stores
@@ -19,5 +19,5 @@ returns-clause-stores g c =
     let core = c.args.cx.now.core.now in
     let v = c.args.self.now in
     let count = tuple_count (g.A.ComponentType.fits ∷ []) core.component.types core.component.types c.args.ty refl c.requires.fits in
-    let w0 = way_begins L c.args.cx.now.options core c.args.ty c.args.offset (g.A.ComponentType.fits ∷ []) (FirstAnd (g.A.ComponentType.walks v.0) NoTrees) ((λ u. g.A.Lower.gives core.component.types u v.0) ∷ []) c.requires.fits c.requires.small c.requires.room in
+    let w0 = way_begins L c.args.cx.now.options core c.args.ty c.args.offset (g.A.ComponentType.fits ∷ []) (FirstAnd (g.A.ComponentType.walks v.0) NoTrees) ((λ u. g.A.Lower.gives core.component.types u v.0) ∷ []) c.requires.fits c.requires.room in
     way_last L c.args.cx.now.options core c.args.ty c.args.offset (g.A.ComponentType.fits ∷ []) (FirstAnd (g.A.ComponentType.walks v.0) NoTrees) ((λ u. g.A.Lower.gives core.component.types u v.0) ∷ []) c.requires.fits core c.store_member.new.cx.core.now 0 0 c.args.cx.now.options (g.A.ComponentType.walks v.0) (λ u. g.A.Lower.gives core.component.types u v.0) c.store_member.result (omega (arith, count)) (omega (arith, count)) w0 (λ i u. g.A.Lower.gives i u v.0) (λ u. refl) refl c.store_member.ensures.stores

@@ -10,7 +10,7 @@ store_member-requires-clause-room g c =
     let core = c.args.cx.now.core.now in
     let v = c.args.self.now in
     let count = tuple_count (g.A.ComponentType.fits ∷ g.B.ComponentType.fits ∷ g.C.ComponentType.fits ∷ g.E.ComponentType.fits ∷ []) core.component.types core.component.types c.args.ty refl c.requires.fits in
-    let w0 = way_begins L c.args.cx.now.options core c.args.ty c.args.offset (g.A.ComponentType.fits ∷ g.B.ComponentType.fits ∷ g.C.ComponentType.fits ∷ g.E.ComponentType.fits ∷ []) (FirstAnd (g.A.ComponentType.walks v.0) (FirstAnd (g.B.ComponentType.walks v.1) (FirstAnd (g.C.ComponentType.walks v.2) (FirstAnd (g.E.ComponentType.walks v.3) NoTrees)))) ((λ u. g.A.Lower.gives core.component.types u v.0) ∷ (λ u. g.B.Lower.gives core.component.types u v.1) ∷ (λ u. g.C.Lower.gives core.component.types u v.2) ∷ (λ u. g.E.Lower.gives core.component.types u v.3) ∷ []) c.requires.fits c.requires.small c.requires.room in
+    let w0 = way_begins L c.args.cx.now.options core c.args.ty c.args.offset (g.A.ComponentType.fits ∷ g.B.ComponentType.fits ∷ g.C.ComponentType.fits ∷ g.E.ComponentType.fits ∷ []) (FirstAnd (g.A.ComponentType.walks v.0) (FirstAnd (g.B.ComponentType.walks v.1) (FirstAnd (g.C.ComponentType.walks v.2) (FirstAnd (g.E.ComponentType.walks v.3) NoTrees)))) ((λ u. g.A.Lower.gives core.component.types u v.0) ∷ (λ u. g.B.Lower.gives core.component.types u v.1) ∷ (λ u. g.C.Lower.gives core.component.types u v.2) ∷ (λ u. g.E.Lower.gives core.component.types u v.3) ∷ []) c.requires.fits c.requires.room in
     way_room L c.args.cx.now.options core c.args.ty c.args.offset (g.A.ComponentType.fits ∷ g.B.ComponentType.fits ∷ g.C.ComponentType.fits ∷ g.E.ComponentType.fits ∷ []) (FirstAnd (g.A.ComponentType.walks v.0) (FirstAnd (g.B.ComponentType.walks v.1) (FirstAnd (g.C.ComponentType.walks v.2) (FirstAnd (g.E.ComponentType.walks v.3) NoTrees)))) ((λ u. g.A.Lower.gives core.component.types u v.0) ∷ (λ u. g.B.Lower.gives core.component.types u v.1) ∷ (λ u. g.C.Lower.gives core.component.types u v.2) ∷ (λ u. g.E.Lower.gives core.component.types u v.3) ∷ []) c.requires.fits core 0 0 (g.A.ComponentType.walks v.0) (FirstAnd (g.B.ComponentType.walks v.1) (FirstAnd (g.C.ComponentType.walks v.2) (FirstAnd (g.E.ComponentType.walks v.3) NoTrees))) (λ u. g.A.Lower.gives core.component.types u v.0) ((λ u. g.B.Lower.gives core.component.types u v.1) ∷ (λ u. g.C.Lower.gives core.component.types u v.2) ∷ (λ u. g.E.Lower.gives core.component.types u v.3) ∷ []) (omega (arith, count)) w0
 
 pub returns-in-Err-clause-stores : goal.returns-in-Err-clause-stores
@@ -19,7 +19,7 @@ returns-in-Err-clause-stores g c =
     let core = c.args.cx.now.core.now in
     let v = c.args.self.now in
     let count = tuple_count (g.A.ComponentType.fits ∷ g.B.ComponentType.fits ∷ g.C.ComponentType.fits ∷ g.E.ComponentType.fits ∷ []) core.component.types core.component.types c.args.ty refl c.requires.fits in
-    let w0 = way_begins L c.args.cx.now.options core c.args.ty c.args.offset (g.A.ComponentType.fits ∷ g.B.ComponentType.fits ∷ g.C.ComponentType.fits ∷ g.E.ComponentType.fits ∷ []) (FirstAnd (g.A.ComponentType.walks v.0) (FirstAnd (g.B.ComponentType.walks v.1) (FirstAnd (g.C.ComponentType.walks v.2) (FirstAnd (g.E.ComponentType.walks v.3) NoTrees)))) ((λ u. g.A.Lower.gives core.component.types u v.0) ∷ (λ u. g.B.Lower.gives core.component.types u v.1) ∷ (λ u. g.C.Lower.gives core.component.types u v.2) ∷ (λ u. g.E.Lower.gives core.component.types u v.3) ∷ []) c.requires.fits c.requires.small c.requires.room in
+    let w0 = way_begins L c.args.cx.now.options core c.args.ty c.args.offset (g.A.ComponentType.fits ∷ g.B.ComponentType.fits ∷ g.C.ComponentType.fits ∷ g.E.ComponentType.fits ∷ []) (FirstAnd (g.A.ComponentType.walks v.0) (FirstAnd (g.B.ComponentType.walks v.1) (FirstAnd (g.C.ComponentType.walks v.2) (FirstAnd (g.E.ComponentType.walks v.3) NoTrees)))) ((λ u. g.A.Lower.gives core.component.types u v.0) ∷ (λ u. g.B.Lower.gives core.component.types u v.1) ∷ (λ u. g.C.Lower.gives core.component.types u v.2) ∷ (λ u. g.E.Lower.gives core.component.types u v.3) ∷ []) c.requires.fits c.requires.room in
     way_stops L c.args.cx.now.options core c.args.ty c.args.offset (g.A.ComponentType.fits ∷ g.B.ComponentType.fits ∷ g.C.ComponentType.fits ∷ g.E.ComponentType.fits ∷ []) (FirstAnd (g.A.ComponentType.walks v.0) (FirstAnd (g.B.ComponentType.walks v.1) (FirstAnd (g.C.ComponentType.walks v.2) (FirstAnd (g.E.ComponentType.walks v.3) NoTrees)))) ((λ u. g.A.Lower.gives core.component.types u v.0) ∷ (λ u. g.B.Lower.gives core.component.types u v.1) ∷ (λ u. g.C.Lower.gives core.component.types u v.2) ∷ (λ u. g.E.Lower.gives core.component.types u v.3) ∷ []) c.requires.fits core 0 0 (g.A.ComponentType.walks v.0) (FirstAnd (g.B.ComponentType.walks v.1) (FirstAnd (g.C.ComponentType.walks v.2) (FirstAnd (g.E.ComponentType.walks v.3) NoTrees))) (λ u. g.A.Lower.gives core.component.types u v.0) ((λ u. g.B.Lower.gives core.component.types u v.1) ∷ (λ u. g.C.Lower.gives core.component.types u v.2) ∷ (λ u. g.E.Lower.gives core.component.types u v.3) ∷ []) (omega (arith, count)) w0 c.store_member.new.cx.core.now c.args.cx.now.options c.in-Err.fault (λ i u. g.A.Lower.gives i u v.0) (λ u. refl) refl c.in-Err.ensures.stores
 
 pub store_member-requires-2-clause-room : goal.store_member-requires-2-clause-room
@@ -28,7 +28,7 @@ store_member-requires-2-clause-room g c =
     let core = c.args.cx.now.core.now in
     let v = c.args.self.now in
     let count = tuple_count (g.A.ComponentType.fits ∷ g.B.ComponentType.fits ∷ g.C.ComponentType.fits ∷ g.E.ComponentType.fits ∷ []) core.component.types core.component.types c.args.ty refl c.requires.fits in
-    let w0 = way_begins L c.args.cx.now.options core c.args.ty c.args.offset (g.A.ComponentType.fits ∷ g.B.ComponentType.fits ∷ g.C.ComponentType.fits ∷ g.E.ComponentType.fits ∷ []) (FirstAnd (g.A.ComponentType.walks v.0) (FirstAnd (g.B.ComponentType.walks v.1) (FirstAnd (g.C.ComponentType.walks v.2) (FirstAnd (g.E.ComponentType.walks v.3) NoTrees)))) ((λ u. g.A.Lower.gives core.component.types u v.0) ∷ (λ u. g.B.Lower.gives core.component.types u v.1) ∷ (λ u. g.C.Lower.gives core.component.types u v.2) ∷ (λ u. g.E.Lower.gives core.component.types u v.3) ∷ []) c.requires.fits c.requires.small c.requires.room in
+    let w0 = way_begins L c.args.cx.now.options core c.args.ty c.args.offset (g.A.ComponentType.fits ∷ g.B.ComponentType.fits ∷ g.C.ComponentType.fits ∷ g.E.ComponentType.fits ∷ []) (FirstAnd (g.A.ComponentType.walks v.0) (FirstAnd (g.B.ComponentType.walks v.1) (FirstAnd (g.C.ComponentType.walks v.2) (FirstAnd (g.E.ComponentType.walks v.3) NoTrees)))) ((λ u. g.A.Lower.gives core.component.types u v.0) ∷ (λ u. g.B.Lower.gives core.component.types u v.1) ∷ (λ u. g.C.Lower.gives core.component.types u v.2) ∷ (λ u. g.E.Lower.gives core.component.types u v.3) ∷ []) c.requires.fits c.requires.room in
     let w1 = way_goes L c.args.cx.now.options core c.args.ty c.args.offset (g.A.ComponentType.fits ∷ g.B.ComponentType.fits ∷ g.C.ComponentType.fits ∷ g.E.ComponentType.fits ∷ []) (FirstAnd (g.A.ComponentType.walks v.0) (FirstAnd (g.B.ComponentType.walks v.1) (FirstAnd (g.C.ComponentType.walks v.2) (FirstAnd (g.E.ComponentType.walks v.3) NoTrees)))) ((λ u. g.A.Lower.gives core.component.types u v.0) ∷ (λ u. g.B.Lower.gives core.component.types u v.1) ∷ (λ u. g.C.Lower.gives core.component.types u v.2) ∷ (λ u. g.E.Lower.gives core.component.types u v.3) ∷ []) c.requires.fits core 0 0 (g.A.ComponentType.walks v.0) (FirstAnd (g.B.ComponentType.walks v.1) (FirstAnd (g.C.ComponentType.walks v.2) (FirstAnd (g.E.ComponentType.walks v.3) NoTrees))) (λ u. g.A.Lower.gives core.component.types u v.0) ((λ u. g.B.Lower.gives core.component.types u v.1) ∷ (λ u. g.C.Lower.gives core.component.types u v.2) ∷ (λ u. g.E.Lower.gives core.component.types u v.3) ∷ []) (omega (arith, count)) w0 c.store_member.new.cx.core.now c.store_member.new.end c.args.cx.now.options (λ i u. g.A.Lower.gives i u v.0) (λ u. refl) refl c.in-Ok.ensures.stores c.in-Ok.ensures.end in
     way_room L c.args.cx.now.options core c.args.ty c.args.offset (g.A.ComponentType.fits ∷ g.B.ComponentType.fits ∷ g.C.ComponentType.fits ∷ g.E.ComponentType.fits ∷ []) (FirstAnd (g.A.ComponentType.walks v.0) (FirstAnd (g.B.ComponentType.walks v.1) (FirstAnd (g.C.ComponentType.walks v.2) (FirstAnd (g.E.ComponentType.walks v.3) NoTrees)))) ((λ u. g.A.Lower.gives core.component.types u v.0) ∷ (λ u. g.B.Lower.gives core.component.types u v.1) ∷ (λ u. g.C.Lower.gives core.component.types u v.2) ∷ (λ u. g.E.Lower.gives core.component.types u v.3) ∷ []) c.requires.fits c.store_member.new.cx.core.now 1 c.store_member.new.end (g.B.ComponentType.walks v.1) (FirstAnd (g.C.ComponentType.walks v.2) (FirstAnd (g.E.ComponentType.walks v.3) NoTrees)) (λ u. g.B.Lower.gives core.component.types u v.1) ((λ u. g.C.Lower.gives core.component.types u v.2) ∷ (λ u. g.E.Lower.gives core.component.types u v.3) ∷ []) (omega (arith, count)) w1
 
@@ -38,7 +38,7 @@ returns-in-Err-store_member-clause-stores g c =
     let core = c.args.cx.now.core.now in
     let v = c.args.self.now in
     let count = tuple_count (g.A.ComponentType.fits ∷ g.B.ComponentType.fits ∷ g.C.ComponentType.fits ∷ g.E.ComponentType.fits ∷ []) core.component.types core.component.types c.args.ty refl c.requires.fits in
-    let w0 = way_begins L c.args.cx.now.options core c.args.ty c.args.offset (g.A.ComponentType.fits ∷ g.B.ComponentType.fits ∷ g.C.ComponentType.fits ∷ g.E.ComponentType.fits ∷ []) (FirstAnd (g.A.ComponentType.walks v.0) (FirstAnd (g.B.ComponentType.walks v.1) (FirstAnd (g.C.ComponentType.walks v.2) (FirstAnd (g.E.ComponentType.walks v.3) NoTrees)))) ((λ u. g.A.Lower.gives core.component.types u v.0) ∷ (λ u. g.B.Lower.gives core.component.types u v.1) ∷ (λ u. g.C.Lower.gives core.component.types u v.2) ∷ (λ u. g.E.Lower.gives core.component.types u v.3) ∷ []) c.requires.fits c.requires.small c.requires.room in
+    let w0 = way_begins L c.args.cx.now.options core c.args.ty c.args.offset (g.A.ComponentType.fits ∷ g.B.ComponentType.fits ∷ g.C.ComponentType.fits ∷ g.E.ComponentType.fits ∷ []) (FirstAnd (g.A.ComponentType.walks v.0) (FirstAnd (g.B.ComponentType.walks v.1) (FirstAnd (g.C.ComponentType.walks v.2) (FirstAnd (g.E.ComponentType.walks v.3) NoTrees)))) ((λ u. g.A.Lower.gives core.component.types u v.0) ∷ (λ u. g.B.Lower.gives core.component.types u v.1) ∷ (λ u. g.C.Lower.gives core.component.types u v.2) ∷ (λ u. g.E.Lower.gives core.component.types u v.3) ∷ []) c.requires.fits c.requires.room in
     let w1 = way_goes L c.args.cx.now.options core c.args.ty c.args.offset (g.A.ComponentType.fits ∷ g.B.ComponentType.fits ∷ g.C.ComponentType.fits ∷ g.E.ComponentType.fits ∷ []) (FirstAnd (g.A.ComponentType.walks v.0) (FirstAnd (g.B.ComponentType.walks v.1) (FirstAnd (g.C.ComponentType.walks v.2) (FirstAnd (g.E.ComponentType.walks v.3) NoTrees)))) ((λ u. g.A.Lower.gives core.component.types u v.0) ∷ (λ u. g.B.Lower.gives core.component.types u v.1) ∷ (λ u. g.C.Lower.gives core.component.types u v.2) ∷ (λ u. g.E.Lower.gives core.component.types u v.3) ∷ []) c.requires.fits core 0 0 (g.A.ComponentType.walks v.0) (FirstAnd (g.B.ComponentType.walks v.1) (FirstAnd (g.C.ComponentType.walks v.2) (FirstAnd (g.E.ComponentType.walks v.3) NoTrees))) (λ u. g.A.Lower.gives core.component.types u v.0) ((λ u. g.B.Lower.gives core.component.types u v.1) ∷ (λ u. g.C.Lower.gives core.component.types u v.2) ∷ (λ u. g.E.Lower.gives core.component.types u v.3) ∷ []) (omega (arith, count)) w0 c.store_member.new.cx.core.now c.store_member.new.end c.args.cx.now.options (λ i u. g.A.Lower.gives i u v.0) (λ u. refl) refl c.in-Ok.ensures.stores c.in-Ok.ensures.end in
     way_stops L c.args.cx.now.options core c.args.ty c.args.offset (g.A.ComponentType.fits ∷ g.B.ComponentType.fits ∷ g.C.ComponentType.fits ∷ g.E.ComponentType.fits ∷ []) (FirstAnd (g.A.ComponentType.walks v.0) (FirstAnd (g.B.ComponentType.walks v.1) (FirstAnd (g.C.ComponentType.walks v.2) (FirstAnd (g.E.ComponentType.walks v.3) NoTrees)))) ((λ u. g.A.Lower.gives core.component.types u v.0) ∷ (λ u. g.B.Lower.gives core.component.types u v.1) ∷ (λ u. g.C.Lower.gives core.component.types u v.2) ∷ (λ u. g.E.Lower.gives core.component.types u v.3) ∷ []) c.requires.fits c.store_member.new.cx.core.now 1 c.store_member.new.end (g.B.ComponentType.walks v.1) (FirstAnd (g.C.ComponentType.walks v.2) (FirstAnd (g.E.ComponentType.walks v.3) NoTrees)) (λ u. g.B.Lower.gives core.component.types u v.1) ((λ u. g.C.Lower.gives core.component.types u v.2) ∷ (λ u. g.E.Lower.gives core.component.types u v.3) ∷ []) (omega (arith, count)) w1 c.store_member-2.new.cx.core.now c.store_member.new.cx.options c.in-Err-store_member.fault (λ i u. g.B.Lower.gives i u v.1) (λ u. refl) c.in-Ok.ensures.same_options c.in-Err-store_member.ensures.stores
 
@@ -48,7 +48,7 @@ store_member-requires-3-clause-room g c =
     let core = c.args.cx.now.core.now in
     let v = c.args.self.now in
     let count = tuple_count (g.A.ComponentType.fits ∷ g.B.ComponentType.fits ∷ g.C.ComponentType.fits ∷ g.E.ComponentType.fits ∷ []) core.component.types core.component.types c.args.ty refl c.requires.fits in
-    let w0 = way_begins L c.args.cx.now.options core c.args.ty c.args.offset (g.A.ComponentType.fits ∷ g.B.ComponentType.fits ∷ g.C.ComponentType.fits ∷ g.E.ComponentType.fits ∷ []) (FirstAnd (g.A.ComponentType.walks v.0) (FirstAnd (g.B.ComponentType.walks v.1) (FirstAnd (g.C.ComponentType.walks v.2) (FirstAnd (g.E.ComponentType.walks v.3) NoTrees)))) ((λ u. g.A.Lower.gives core.component.types u v.0) ∷ (λ u. g.B.Lower.gives core.component.types u v.1) ∷ (λ u. g.C.Lower.gives core.component.types u v.2) ∷ (λ u. g.E.Lower.gives core.component.types u v.3) ∷ []) c.requires.fits c.requires.small c.requires.room in
+    let w0 = way_begins L c.args.cx.now.options core c.args.ty c.args.offset (g.A.ComponentType.fits ∷ g.B.ComponentType.fits ∷ g.C.ComponentType.fits ∷ g.E.ComponentType.fits ∷ []) (FirstAnd (g.A.ComponentType.walks v.0) (FirstAnd (g.B.ComponentType.walks v.1) (FirstAnd (g.C.ComponentType.walks v.2) (FirstAnd (g.E.ComponentType.walks v.3) NoTrees)))) ((λ u. g.A.Lower.gives core.component.types u v.0) ∷ (λ u. g.B.Lower.gives core.component.types u v.1) ∷ (λ u. g.C.Lower.gives core.component.types u v.2) ∷ (λ u. g.E.Lower.gives core.component.types u v.3) ∷ []) c.requires.fits c.requires.room in
     let w1 = way_goes L c.args.cx.now.options core c.args.ty c.args.offset (g.A.ComponentType.fits ∷ g.B.ComponentType.fits ∷ g.C.ComponentType.fits ∷ g.E.ComponentType.fits ∷ []) (FirstAnd (g.A.ComponentType.walks v.0) (FirstAnd (g.B.ComponentType.walks v.1) (FirstAnd (g.C.ComponentType.walks v.2) (FirstAnd (g.E.ComponentType.walks v.3) NoTrees)))) ((λ u. g.A.Lower.gives core.component.types u v.0) ∷ (λ u. g.B.Lower.gives core.component.types u v.1) ∷ (λ u. g.C.Lower.gives core.component.types u v.2) ∷ (λ u. g.E.Lower.gives core.component.types u v.3) ∷ []) c.requires.fits core 0 0 (g.A.ComponentType.walks v.0) (FirstAnd (g.B.ComponentType.walks v.1) (FirstAnd (g.C.ComponentType.walks v.2) (FirstAnd (g.E.ComponentType.walks v.3) NoTrees))) (λ u. g.A.Lower.gives core.component.types u v.0) ((λ u. g.B.Lower.gives core.component.types u v.1) ∷ (λ u. g.C.Lower.gives core.component.types u v.2) ∷ (λ u. g.E.Lower.gives core.component.types u v.3) ∷ []) (omega (arith, count)) w0 c.store_member.new.cx.core.now c.store_member.new.end c.args.cx.now.options (λ i u. g.A.Lower.gives i u v.0) (λ u. refl) refl c.in-Ok.ensures.stores c.in-Ok.ensures.end in
     let w2 = way_goes L c.args.cx.now.options core c.args.ty c.args.offset (g.A.ComponentType.fits ∷ g.B.ComponentType.fits ∷ g.C.ComponentType.fits ∷ g.E.ComponentType.fits ∷ []) (FirstAnd (g.A.ComponentType.walks v.0) (FirstAnd (g.B.ComponentType.walks v.1) (FirstAnd (g.C.ComponentType.walks v.2) (FirstAnd (g.E.ComponentType.walks v.3) NoTrees)))) ((λ u. g.A.Lower.gives core.component.types u v.0) ∷ (λ u. g.B.Lower.gives core.component.types u v.1) ∷ (λ u. g.C.Lower.gives core.component.types u v.2) ∷ (λ u. g.E.Lower.gives core.component.types u v.3) ∷ []) c.requires.fits c.store_member.new.cx.core.now 1 c.store_member.new.end (g.B.ComponentType.walks v.1) (FirstAnd (g.C.ComponentType.walks v.2) (FirstAnd (g.E.ComponentType.walks v.3) NoTrees)) (λ u. g.B.Lower.gives core.component.types u v.1) ((λ u. g.C.Lower.gives core.component.types u v.2) ∷ (λ u. g.E.Lower.gives core.component.types u v.3) ∷ []) (omega (arith, count)) w1 c.store_member-2.new.cx.core.now c.store_member-2.new.end c.store_member.new.cx.options (λ i u. g.B.Lower.gives i u v.1) (λ u. refl) c.in-Ok.ensures.same_options c.in-Ok-store_member.ensures.stores c.in-Ok-store_member.ensures.end in
     way_room L c.args.cx.now.options core c.args.ty c.args.offset (g.A.ComponentType.fits ∷ g.B.ComponentType.fits ∷ g.C.ComponentType.fits ∷ g.E.ComponentType.fits ∷ []) (FirstAnd (g.A.ComponentType.walks v.0) (FirstAnd (g.B.ComponentType.walks v.1) (FirstAnd (g.C.ComponentType.walks v.2) (FirstAnd (g.E.ComponentType.walks v.3) NoTrees)))) ((λ u. g.A.Lower.gives core.component.types u v.0) ∷ (λ u. g.B.Lower.gives core.component.types u v.1) ∷ (λ u. g.C.Lower.gives core.component.types u v.2) ∷ (λ u. g.E.Lower.gives core.component.types u v.3) ∷ []) c.requires.fits c.store_member-2.new.cx.core.now 2 c.store_member-2.new.end (g.C.ComponentType.walks v.2) (FirstAnd (g.E.ComponentType.walks v.3) NoTrees) (λ u. g.C.Lower.gives core.component.types u v.2) ((λ u. g.E.Lower.gives core.component.types u v.3) ∷ []) (omega (arith, count)) w2
@@ -59,7 +59,7 @@ returns-in-Err-store_member-2-clause-stores g c =
     let core = c.args.cx.now.core.now in
     let v = c.args.self.now in
     let count = tuple_count (g.A.ComponentType.fits ∷ g.B.ComponentType.fits ∷ g.C.ComponentType.fits ∷ g.E.ComponentType.fits ∷ []) core.component.types core.component.types c.args.ty refl c.requires.fits in
-    let w0 = way_begins L c.args.cx.now.options core c.args.ty c.args.offset (g.A.ComponentType.fits ∷ g.B.ComponentType.fits ∷ g.C.ComponentType.fits ∷ g.E.ComponentType.fits ∷ []) (FirstAnd (g.A.ComponentType.walks v.0) (FirstAnd (g.B.ComponentType.walks v.1) (FirstAnd (g.C.ComponentType.walks v.2) (FirstAnd (g.E.ComponentType.walks v.3) NoTrees)))) ((λ u. g.A.Lower.gives core.component.types u v.0) ∷ (λ u. g.B.Lower.gives core.component.types u v.1) ∷ (λ u. g.C.Lower.gives core.component.types u v.2) ∷ (λ u. g.E.Lower.gives core.component.types u v.3) ∷ []) c.requires.fits c.requires.small c.requires.room in
+    let w0 = way_begins L c.args.cx.now.options core c.args.ty c.args.offset (g.A.ComponentType.fits ∷ g.B.ComponentType.fits ∷ g.C.ComponentType.fits ∷ g.E.ComponentType.fits ∷ []) (FirstAnd (g.A.ComponentType.walks v.0) (FirstAnd (g.B.ComponentType.walks v.1) (FirstAnd (g.C.ComponentType.walks v.2) (FirstAnd (g.E.ComponentType.walks v.3) NoTrees)))) ((λ u. g.A.Lower.gives core.component.types u v.0) ∷ (λ u. g.B.Lower.gives core.component.types u v.1) ∷ (λ u. g.C.Lower.gives core.component.types u v.2) ∷ (λ u. g.E.Lower.gives core.component.types u v.3) ∷ []) c.requires.fits c.requires.room in
     let w1 = way_goes L c.args.cx.now.options core c.args.ty c.args.offset (g.A.ComponentType.fits ∷ g.B.ComponentType.fits ∷ g.C.ComponentType.fits ∷ g.E.ComponentType.fits ∷ []) (FirstAnd (g.A.ComponentType.walks v.0) (FirstAnd (g.B.ComponentType.walks v.1) (FirstAnd (g.C.ComponentType.walks v.2) (FirstAnd (g.E.ComponentType.walks v.3) NoTrees)))) ((λ u. g.A.Lower.gives core.component.types u v.0) ∷ (λ u. g.B.Lower.gives core.component.types u v.1) ∷ (λ u. g.C.Lower.gives core.component.types u v.2) ∷ (λ u. g.E.Lower.gives core.component.types u v.3) ∷ []) c.requires.fits core 0 0 (g.A.ComponentType.walks v.0) (FirstAnd (g.B.ComponentType.walks v.1) (FirstAnd (g.C.ComponentType.walks v.2) (FirstAnd (g.E.ComponentType.walks v.3) NoTrees))) (λ u. g.A.Lower.gives core.component.types u v.0) ((λ u. g.B.Lower.gives core.component.types u v.1) ∷ (λ u. g.C.Lower.gives core.component.types u v.2) ∷ (λ u. g.E.Lower.gives core.component.types u v.3) ∷ []) (omega (arith, count)) w0 c.store_member.new.cx.core.now c.store_member.new.end c.args.cx.now.options (λ i u. g.A.Lower.gives i u v.0) (λ u. refl) refl c.in-Ok.ensures.stores c.in-Ok.ensures.end in
     let w2 = way_goes L c.args.cx.now.options core c.args.ty c.args.offset (g.A.ComponentType.fits ∷ g.B.ComponentType.fits ∷ g.C.ComponentType.fits ∷ g.E.ComponentType.fits ∷ []) (FirstAnd (g.A.ComponentType.walks v.0) (FirstAnd (g.B.ComponentType.walks v.1) (FirstAnd (g.C.ComponentType.walks v.2) (FirstAnd (g.E.ComponentType.walks v.3) NoTrees)))) ((λ u. g.A.Lower.gives core.component.types u v.0) ∷ (λ u. g.B.Lower.gives core.component.types u v.1) ∷ (λ u. g.C.Lower.gives core.component.types u v.2) ∷ (λ u. g.E.Lower.gives core.component.types u v.3) ∷ []) c.requires.fits c.store_member.new.cx.core.now 1 c.store_member.new.end (g.B.ComponentType.walks v.1) (FirstAnd (g.C.ComponentType.walks v.2) (FirstAnd (g.E.ComponentType.walks v.3) NoTrees)) (λ u. g.B.Lower.gives core.component.types u v.1) ((λ u. g.C.Lower.gives core.component.types u v.2) ∷ (λ u. g.E.Lower.gives core.component.types u v.3) ∷ []) (omega (arith, count)) w1 c.store_member-2.new.cx.core.now c.store_member-2.new.end c.store_member.new.cx.options (λ i u. g.B.Lower.gives i u v.1) (λ u. refl) c.in-Ok.ensures.same_options c.in-Ok-store_member.ensures.stores c.in-Ok-store_member.ensures.end in
     way_stops L c.args.cx.now.options core c.args.ty c.args.offset (g.A.ComponentType.fits ∷ g.B.ComponentType.fits ∷ g.C.ComponentType.fits ∷ g.E.ComponentType.fits ∷ []) (FirstAnd (g.A.ComponentType.walks v.0) (FirstAnd (g.B.ComponentType.walks v.1) (FirstAnd (g.C.ComponentType.walks v.2) (FirstAnd (g.E.ComponentType.walks v.3) NoTrees)))) ((λ u. g.A.Lower.gives core.component.types u v.0) ∷ (λ u. g.B.Lower.gives core.component.types u v.1) ∷ (λ u. g.C.Lower.gives core.component.types u v.2) ∷ (λ u. g.E.Lower.gives core.component.types u v.3) ∷ []) c.requires.fits c.store_member-2.new.cx.core.now 2 c.store_member-2.new.end (g.C.ComponentType.walks v.2) (FirstAnd (g.E.ComponentType.walks v.3) NoTrees) (λ u. g.C.Lower.gives core.component.types u v.2) ((λ u. g.E.Lower.gives core.component.types u v.3) ∷ []) (omega (arith, count)) w2 c.store_member-3.new.cx.core.now c.store_member-2.new.cx.options c.in-Err-store_member-2.fault (λ i u. g.C.Lower.gives i u v.2) (λ u. refl) (c.in-Ok-store_member.ensures.same_options ∙ c.in-Ok.ensures.same_options) c.in-Err-store_member-2.ensures.stores
@@ -70,7 +70,7 @@ store_member-requires-4-clause-room g c =
     let core = c.args.cx.now.core.now in
     let v = c.args.self.now in
     let count = tuple_count (g.A.ComponentType.fits ∷ g.B.ComponentType.fits ∷ g.C.ComponentType.fits ∷ g.E.ComponentType.fits ∷ []) core.component.types core.component.types c.args.ty refl c.requires.fits in
-    let w0 = way_begins L c.args.cx.now.options core c.args.ty c.args.offset (g.A.ComponentType.fits ∷ g.B.ComponentType.fits ∷ g.C.ComponentType.fits ∷ g.E.ComponentType.fits ∷ []) (FirstAnd (g.A.ComponentType.walks v.0) (FirstAnd (g.B.ComponentType.walks v.1) (FirstAnd (g.C.ComponentType.walks v.2) (FirstAnd (g.E.ComponentType.walks v.3) NoTrees)))) ((λ u. g.A.Lower.gives core.component.types u v.0) ∷ (λ u. g.B.Lower.gives core.component.types u v.1) ∷ (λ u. g.C.Lower.gives core.component.types u v.2) ∷ (λ u. g.E.Lower.gives core.component.types u v.3) ∷ []) c.requires.fits c.requires.small c.requires.room in
+    let w0 = way_begins L c.args.cx.now.options core c.args.ty c.args.offset (g.A.ComponentType.fits ∷ g.B.ComponentType.fits ∷ g.C.ComponentType.fits ∷ g.E.ComponentType.fits ∷ []) (FirstAnd (g.A.ComponentType.walks v.0) (FirstAnd (g.B.ComponentType.walks v.1) (FirstAnd (g.C.ComponentType.walks v.2) (FirstAnd (g.E.ComponentType.walks v.3) NoTrees)))) ((λ u. g.A.Lower.gives core.component.types u v.0) ∷ (λ u. g.B.Lower.gives core.component.types u v.1) ∷ (λ u. g.C.Lower.gives core.component.types u v.2) ∷ (λ u. g.E.Lower.gives core.component.types u v.3) ∷ []) c.requires.fits c.requires.room in
     let w1 = way_goes L c.args.cx.now.options core c.args.ty c.args.offset (g.A.ComponentType.fits ∷ g.B.ComponentType.fits ∷ g.C.ComponentType.fits ∷ g.E.ComponentType.fits ∷ []) (FirstAnd (g.A.ComponentType.walks v.0) (FirstAnd (g.B.ComponentType.walks v.1) (FirstAnd (g.C.ComponentType.walks v.2) (FirstAnd (g.E.ComponentType.walks v.3) NoTrees)))) ((λ u. g.A.Lower.gives core.component.types u v.0) ∷ (λ u. g.B.Lower.gives core.component.types u v.1) ∷ (λ u. g.C.Lower.gives core.component.types u v.2) ∷ (λ u. g.E.Lower.gives core.component.types u v.3) ∷ []) c.requires.fits core 0 0 (g.A.ComponentType.walks v.0) (FirstAnd (g.B.ComponentType.walks v.1) (FirstAnd (g.C.ComponentType.walks v.2) (FirstAnd (g.E.ComponentType.walks v.3) NoTrees))) (λ u. g.A.Lower.gives core.component.types u v.0) ((λ u. g.B.Lower.gives core.component.types u v.1) ∷ (λ u. g.C.Lower.gives core.component.types u v.2) ∷ (λ u. g.E.Lower.gives core.component.types u v.3) ∷ []) (omega (arith, count)) w0 c.store_member.new.cx.core.now c.store_member.new.end c.args.cx.now.options (λ i u. g.A.Lower.gives i u v.0) (λ u. refl) refl c.in-Ok.ensures.stores c.in-Ok.ensures.end in
     let w2 = way_goes L c.args.cx.now.options core c.args.ty c.args.offset (g.A.ComponentType.fits ∷ g.B.ComponentType.fits ∷ g.C.ComponentType.fits ∷ g.E.ComponentType.fits ∷ []) (FirstAnd (g.A.ComponentType.walks v.0) (FirstAnd (g.B.ComponentType.walks v.1) (FirstAnd (g.C.ComponentType.walks v.2) (FirstAnd (g.E.ComponentType.walks v.3) NoTrees)))) ((λ u. g.A.Lower.gives core.component.types u v.0) ∷ (λ u. g.B.Lower.gives core.component.types u v.1) ∷ (λ u. g.C.Lower.gives core.component.types u v.2) ∷ (λ u. g.E.Lower.gives core.component.types u v.3) ∷ []) c.requires.fits c.store_member.new.cx.core.now 1 c.store_member.new.end (g.B.ComponentType.walks v.1) (FirstAnd (g.C.ComponentType.walks v.2) (FirstAnd (g.E.ComponentType.walks v.3) NoTrees)) (λ u. g.B.Lower.gives core.component.types u v.1) ((λ u. g.C.Lower.gives core.component.types u v.2) ∷ (λ u. g.E.Lower.gives core.component.types u v.3) ∷ []) (omega (arith, count)) w1 c.store_member-2.new.cx.core.now c.store_member-2.new.end c.store_member.new.cx.options (λ i u. g.B.Lower.gives i u v.1) (λ u. refl) c.in-Ok.ensures.same_options c.in-Ok-store_member.ensures.stores c.in-Ok-store_member.ensures.end in
     let w3 = way_goes L c.args.cx.now.options core c.args.ty c.args.offset (g.A.ComponentType.fits ∷ g.B.ComponentType.fits ∷ g.C.ComponentType.fits ∷ g.E.ComponentType.fits ∷ []) (FirstAnd (g.A.ComponentType.walks v.0) (FirstAnd (g.B.ComponentType.walks v.1) (FirstAnd (g.C.ComponentType.walks v.2) (FirstAnd (g.E.ComponentType.walks v.3) NoTrees)))) ((λ u. g.A.Lower.gives core.component.types u v.0) ∷ (λ u. g.B.Lower.gives core.component.types u v.1) ∷ (λ u. g.C.Lower.gives core.component.types u v.2) ∷ (λ u. g.E.Lower.gives core.component.types u v.3) ∷ []) c.requires.fits c.store_member-2.new.cx.core.now 2 c.store_member-2.new.end (g.C.ComponentType.walks v.2) (FirstAnd (g.E.ComponentType.walks v.3) NoTrees) (λ u. g.C.Lower.gives core.component.types u v.2) ((λ u. g.E.Lower.gives core.component.types u v.3) ∷ []) (omega (arith, count)) w2 c.store_member-3.new.cx.core.now c.store_member-3.new.end c.store_member-2.new.cx.options (λ i u. g.C.Lower.gives i u v.2) (λ u. refl) (c.in-Ok-store_member.ensures.same_options ∙ c.in-Ok.ensures.same_options) c.in-Ok-store_member-2.ensures.stores c.in-Ok-store_member-2.ensures.end in
@@ -82,7 +82,7 @@ returns-clause-stores g c =
     let core = c.args.cx.now.core.now in
     let v = c.args.self.now in
     let count = tuple_count (g.A.ComponentType.fits ∷ g.B.ComponentType.fits ∷ g.C.ComponentType.fits ∷ g.E.ComponentType.fits ∷ []) core.component.types core.component.types c.args.ty refl c.requires.fits in
-    let w0 = way_begins L c.args.cx.now.options core c.args.ty c.args.offset (g.A.ComponentType.fits ∷ g.B.ComponentType.fits ∷ g.C.ComponentType.fits ∷ g.E.ComponentType.fits ∷ []) (FirstAnd (g.A.ComponentType.walks v.0) (FirstAnd (g.B.ComponentType.walks v.1) (FirstAnd (g.C.ComponentType.walks v.2) (FirstAnd (g.E.ComponentType.walks v.3) NoTrees)))) ((λ u. g.A.Lower.gives core.component.types u v.0) ∷ (λ u. g.B.Lower.gives core.component.types u v.1) ∷ (λ u. g.C.Lower.gives core.component.types u v.2) ∷ (λ u. g.E.Lower.gives core.component.types u v.3) ∷ []) c.requires.fits c.requires.small c.requires.room in
+    let w0 = way_begins L c.args.cx.now.options core c.args.ty c.args.offset (g.A.ComponentType.fits ∷ g.B.ComponentType.fits ∷ g.C.ComponentType.fits ∷ g.E.ComponentType.fits ∷ []) (FirstAnd (g.A.ComponentType.walks v.0) (FirstAnd (g.B.ComponentType.walks v.1) (FirstAnd (g.C.ComponentType.walks v.2) (FirstAnd (g.E.ComponentType.walks v.3) NoTrees)))) ((λ u. g.A.Lower.gives core.component.types u v.0) ∷ (λ u. g.B.Lower.gives core.component.types u v.1) ∷ (λ u. g.C.Lower.gives core.component.types u v.2) ∷ (λ u. g.E.Lower.gives core.component.types u v.3) ∷ []) c.requires.fits c.requires.room in
     let w1 = way_goes L c.args.cx.now.options core c.args.ty c.args.offset (g.A.ComponentType.fits ∷ g.B.ComponentType.fits ∷ g.C.ComponentType.fits ∷ g.E.ComponentType.fits ∷ []) (FirstAnd (g.A.ComponentType.walks v.0) (FirstAnd (g.B.ComponentType.walks v.1) (FirstAnd (g.C.ComponentType.walks v.2) (FirstAnd (g.E.ComponentType.walks v.3) NoTrees)))) ((λ u. g.A.Lower.gives core.component.types u v.0) ∷ (λ u. g.B.Lower.gives core.component.types u v.1) ∷ (λ u. g.C.Lower.gives core.component.types u v.2) ∷ (λ u. g.E.Lower.gives core.component.types u v.3) ∷ []) c.requires.fits core 0 0 (g.A.ComponentType.walks v.0) (FirstAnd (g.B.ComponentType.walks v.1) (FirstAnd (g.C.ComponentType.walks v.2) (FirstAnd (g.E.ComponentType.walks v.3) NoTrees))) (λ u. g.A.Lower.gives core.component.types u v.0) ((λ u. g.B.Lower.gives core.component.types u v.1) ∷ (λ u. g.C.Lower.gives core.component.types u v.2) ∷ (λ u. g.E.Lower.gives core.component.types u v.3) ∷ []) (omega (arith, count)) w0 c.store_member.new.cx.core.now c.store_member.new.end c.args.cx.now.options (λ i u. g.A.Lower.gives i u v.0) (λ u. refl) refl c.in-Ok.ensures.stores c.in-Ok.ensures.end in
     let w2 = way_goes L c.args.cx.now.options core c.args.ty c.args.offset (g.A.ComponentType.fits ∷ g.B.ComponentType.fits ∷ g.C.ComponentType.fits ∷ g.E.ComponentType.fits ∷ []) (FirstAnd (g.A.ComponentType.walks v.0) (FirstAnd (g.B.ComponentType.walks v.1) (FirstAnd (g.C.ComponentType.walks v.2) (FirstAnd (g.E.ComponentType.walks v.3) NoTrees)))) ((λ u. g.A.Lower.gives core.component.types u v.0) ∷ (λ u. g.B.Lower.gives core.component.types u v.1) ∷ (λ u. g.C.Lower.gives core.component.types u v.2) ∷ (λ u. g.E.Lower.gives core.component.types u v.3) ∷ []) c.requires.fits c.store_member.new.cx.core.now 1 c.store_member.new.end (g.B.ComponentType.walks v.1) (FirstAnd (g.C.ComponentType.walks v.2) (FirstAnd (g.E.ComponentType.walks v.3) NoTrees)) (λ u. g.B.Lower.gives core.component.types u v.1) ((λ u. g.C.Lower.gives core.component.types u v.2) ∷ (λ u. g.E.Lower.gives core.component.types u v.3) ∷ []) (omega (arith, count)) w1 c.store_member-2.new.cx.core.now c.store_member-2.new.end c.store_member.new.cx.options (λ i u. g.B.Lower.gives i u v.1) (λ u. refl) c.in-Ok.ensures.same_options c.in-Ok-store_member.ensures.stores c.in-Ok-store_member.ensures.end in
     let w3 = way_goes L c.args.cx.now.options core c.args.ty c.args.offset (g.A.ComponentType.fits ∷ g.B.ComponentType.fits ∷ g.C.ComponentType.fits ∷ g.E.ComponentType.fits ∷ []) (FirstAnd (g.A.ComponentType.walks v.0) (FirstAnd (g.B.ComponentType.walks v.1) (FirstAnd (g.C.ComponentType.walks v.2) (FirstAnd (g.E.ComponentType.walks v.3) NoTrees)))) ((λ u. g.A.Lower.gives core.component.types u v.0) ∷ (λ u. g.B.Lower.gives core.component.types u v.1) ∷ (λ u. g.C.Lower.gives core.component.types u v.2) ∷ (λ u. g.E.Lower.gives core.component.types u v.3) ∷ []) c.requires.fits c.store_member-2.new.cx.core.now 2 c.store_member-2.new.end (g.C.ComponentType.walks v.2) (FirstAnd (g.E.ComponentType.walks v.3) NoTrees) (λ u. g.C.Lower.gives core.component.types u v.2) ((λ u. g.E.Lower.gives core.component.types u v.3) ∷ []) (omega (arith, count)) w2 c.store_member-3.new.cx.core.now c.store_member-3.new.end c.store_member-2.new.cx.options (λ i u. g.C.Lower.gives i u v.2) (λ u. refl) (c.in-Ok-store_member.ensures.same_options ∙ c.in-Ok.ensures.same_options) c.in-Ok-store_member-2.ensures.stores c.in-Ok-store_member-2.ensures.end in
