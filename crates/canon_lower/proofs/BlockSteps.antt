@@ -70,7 +70,7 @@ elsewhere_asked a b c (fault.InvalidChar k) p h = absurd h
 elsewhere_asked a b c (fault.BadDiscriminant k n) p h = absurd h
 elsewhere_asked a b c fault.HostcallFuelExhausted p h = absurd h
 elsewhere_asked a b c fault.OutOfMemory p h = tt
-elsewhere_asked a b c (fault.Resource r) p h = tt
+elsewhere_asked a b c (fault.Resource r) p h = absurd h
 
 -- ---- a value that was lowered to words, and not to its end
 

@@ -1,5 +1,5 @@
 -- A case of a typed value: its number, and its payload behind it.
-use Rattle.std.proofs.Common.{◌≡◌, ◌≤◌, ◌<◌, ◌+◌, ◌^◌, ◌∙◌, Bool, List, Result, ap, arith, false, inl, inr, length, refl, subst, suc, sym, true, zero, ℕ, []}
+use Rattle.std.proofs.Common.{◌≡◌, ◌≤◌, ◌<◌, ◌+◌, ◌^◌, ◌∙◌, Bool, List, Result, ap, arith, false, length, refl, subst, suc, sym, true, zero, ℕ}
 use Rattle.std.proofs.Math.Nat.{mod-eq_of_lt}
 use Rattle.canon_context.proofs.Moves.{GuestLaws}
 use Rattle.canon_context.specs.Core.{Parts, encoding_by, guest_of, moment_of}
@@ -11,9 +11,9 @@ use Rattle.canon_lowering.proofs.AimedCases.{CaseIs, tag_written, variant_stored
 use Rattle.canon_lowering.specs.Copies.{case_members, case_tree, payload_trees}
 use Rattle.canon_model.proofs.Layouts.{tag-le-size}
 use Rattle.canon_model.specs.Layout.{payload_offset, size, tag_size}
-use Rattle.canon_model.specs.Shape.{Cases, Members, Shape, VariantKind, bare, case_count, member, no_cases, no_members, payload, variant}
+use Rattle.canon_model.specs.Shape.{Cases, Members, Shape, VariantKind, bare, case_count, no_cases, payload, variant}
 use Rattle.canon_model.specs.Text.{Encoding}
-use Rattle.canon_model.specs.Tree.{Tree, Trees, case_number, case_of, no_trees, payload_of, tree}
+use Rattle.canon_model.specs.Tree.{Tree, Trees, case_number, no_trees}
 use Rattle.canon_typed.specs.Meaning.{CaseMeans}
 use Rattle.canon_lower.proofs.Attempts.{cause_as, small_as}
 use Rattle.canon_lower.proofs.TooLarge.{variant_large}

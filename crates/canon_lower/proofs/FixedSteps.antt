@@ -1,5 +1,5 @@
 -- Lists of fixed length.
-use Rattle.std.proofs.Common.{◌≡◌, ◌≤◌, ◌+◌, ◌*◌, ◌∙◌, List, Result, Some, ap, arith, false, inl, inr, length, refl, subst, sym, ℕ}
+use Rattle.std.proofs.Common.{◌≡◌, ◌≤◌, ◌+◌, ◌*◌, ◌∙◌, List, Result, Some, ap, arith, false, length, refl, subst, sym, ℕ}
 use Rattle.std.specs.Prelude.{flat_map}
 use Rattle.canon_context.proofs.Moves.{GuestLaws}
 use Rattle.canon_context.specs.Core.{Parts, encoding_by, moment_of, types_of}
@@ -9,8 +9,7 @@ use Rattle.canon_lowering.proofs.AimedAt as aimed
 use Rattle.canon_lowering.specs.Copies.{copies}
 use Rattle.canon_model.specs.Layout.{size}
 use Rattle.canon_model.specs.Shape.{Shape, fixed}
-use Rattle.canon_model.specs.Text.{Encoding}
-use Rattle.canon_model.specs.Tree.{Tree, trees_of}
+use Rattle.canon_model.specs.Tree.{Tree}
 use Rattle.canon_types.specs.Instance.{Instance}
 use Rattle.canon_types.specs.Table.{FixedListType, IsDefined, Table, shape_of}
 use Rattle.canon_types.specs.declared.types.InterfaceType.{InterfaceType}

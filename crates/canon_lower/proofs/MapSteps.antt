@@ -1,5 +1,5 @@
 -- Maps: the types of their pairs, and these one after another.
-use Rattle.std.proofs.Common.{◌≡◌, ◌≤◌, ◌<◌, ◌+◌, ◌*◌, ◌^◌, ◌∙◌, Err, List, Ok, Result, Some, ap, arith, false, length, subst, suc, suc-mul, sym, zero, ℕ}
+use Rattle.std.proofs.Common.{◌≡◌, ◌≤◌, ◌<◌, ◌+◌, ◌*◌, ◌∙◌, Err, List, Ok, Result, Some, ap, arith, false, length, subst, suc, suc-mul, sym, zero, ℕ}
 use Rattle.std.specs.Prelude.{flat_map}
 use Rattle.canon_context.proofs.Moves.{GuestLaws}
 use Rattle.canon_context.specs.Core.{Parts, types_of}

@@ -1,6 +1,6 @@
 -- Typed values stored as members in a row, and what they are members of.
 use Rattle.std.specs.Prelude.{OnOk}
-use Rattle.std.proofs.Common.{◌≡◌, ◌≤◌, ◌+◌, ◌++◌, ◌^◌, ◌∙◌, Err, IfErr, List, Ok, Result, [], ◌∷◌, ap, append-nil, arith, false, inl, inr, length, refl, subst, sym, ℕ}
+use Rattle.std.proofs.Common.{◌≡◌, ◌≤◌, ◌+◌, ◌++◌, ◌^◌, ◌∙◌, Err, IfErr, List, Ok, Result, [], ◌∷◌, ap, append-nil, arith, false, inl, length, refl, subst, sym, ℕ}
 use Rattle.std.proofs.Math.Nat.{zero-mod}
 use Rattle.std.proofs.lemmas.Nat.Gcd.{dvd_of_mod-eq-zero}
 use Rattle.canon_context.proofs.Moves.{GuestLaws, moves_none, moves_then}
@@ -19,7 +19,7 @@ use Rattle.canon_model.specs.Leaves.{leaves}
 use Rattle.canon_model.specs.Requests.{requests}
 use Rattle.canon_model.specs.Shape.{Members, ProductKind, Shape, member, no_members, product}
 use Rattle.canon_model.specs.Text.{Encoding}
-use Rattle.canon_model.specs.Tree.{Tree, Trees, no_trees, tree, trees_of}
+use Rattle.canon_model.specs.Tree.{Tree, Trees, no_trees, trees_of}
 use Rattle.canon_typed.specs.Meaning.{FirstAnd, NoTrees, ProductMeans}
 use Rattle.canon_lower.proofs.Attempts.{Cause, IsSmall, cause_as, cause_first, cause_then, cross_stop, cross_then, ends_done, ends_early, ends_more, none_first, none_later, small_as, small_then}
 use Rattle.canon_lower.proofs.TooLarge.{first_large, product_large}

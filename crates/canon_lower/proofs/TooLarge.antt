@@ -1,5 +1,5 @@
 -- Which trees have a part that is too large: where their parts do.
-use Rattle.std.proofs.Common.{String, List, [], ap, arith, false, true, inl, inr, length, refl, string_bytes, subst, suc, sym, zero, ⊎_elim, ℕ, Bool, ◌≡◌, ◌<◌, ◌*◌, ◌^◌, ◌∙◌, ◌⊎◌}
+use Rattle.std.proofs.Common.{String, List, [], ap, arith, false, true, inl, inr, length, refl, string_bytes, subst, suc, sym, zero, ℕ, Bool, ◌≡◌, ◌<◌, ◌*◌, ◌^◌, ◌∙◌}
 use Rattle.std.specs.declared.alloc.Global.{Global}
 use Rattle.canon_context.specs.declared.fault.Fault.{Fault}
 use Rattle.canon_context.specs.declared.fault.Fault.TheVariants as fault
@@ -60,9 +60,12 @@ module _ (enc : Encoding) where
   pub variant_large : (k : VariantKind) (cs : Cases) (d : ℕ) (Have : Trees → Type 0) (Has : Tree → Type 0) → ((t : Tree) → Has t → (case_number t ≡ d) × Have (payload_trees t) × CaseIs false enc (case_members cs d) d t)
       → AsLarge Have Has (HaveLarge enc (case_members cs d)) (HasLarge enc (variant k cs))
   variant_large k cs d Have Has from t has =
-      let (number, have, is) = from t has in
-      (payload_trees t, have, λ e some. subst (λ (i : ℕ). SomeCase (IsTooLarge enc e) cs i (payload_of t)) (sym number) (case_some (IsTooLarge enc e) cs d t some),
-      λ e some. some_case (IsTooLarge enc e) cs d d t is (subst (λ (i : ℕ). SomeCase (IsTooLarge enc e) cs i (payload_of t)) number some))
+      let (number, have, is) = from t has in (
+        payload_trees t,
+        have,
+        λ e some. subst (λ (i : ℕ). SomeCase (IsTooLarge enc e) cs i (payload_of t)) (sym number) (case_some (IsTooLarge enc e) cs d t some),
+        λ e some. some_case (IsTooLarge enc e) cs d d t is (subst (λ (i : ℕ). SomeCase (IsTooLarge enc e) cs i (payload_of t)) number some),
+      )
 
   -- with a payload, and without one
   pub case_large : (k : VariantKind) (cs : Cases) (d : ℕ) (u : Shape) (Has : Tree → Type 0) → case_members cs d ≡ member [] u no_members → AsLarge Has (CaseOf d Has) (HasLarge enc u) (HasLarge enc (variant k cs))

@@ -1,5 +1,5 @@
 -- A case in words: its number, its payload's words, and zeros behind them.
-use Rattle.std.proofs.Common.{◌≡◌, ◌≤◌, ◌<◌, ◌+◌, ◌^◌, ◌∙◌, Bool, Err, List, None, Ok, Result, Some, [], ◌∷◌, ap, append-nil, arith, false, inl, inr, length, refl, subst, suc, sym, true, zero, ⊎_elim, ℕ}
+use Rattle.std.proofs.Common.{◌≡◌, ◌≤◌, ◌<◌, ◌+◌, ◌^◌, ◌∙◌, Bool, Err, List, None, Ok, Result, Some, [], ◌∷◌, ap, append-nil, arith, false, length, refl, subst, suc, sym, true, zero, ℕ}
 use Rattle.std.proofs.lemmas.List.{get_or_past}
 use Rattle.std.specs.Prelude.{IfOk, slice_index}
 use Rattle.canon_context.proofs.Moves.{GuestLaws}

@@ -22,7 +22,7 @@ use Rattle.canon_model.specs.Fits.{Fits}
 use Rattle.canon_model.specs.Layout.{flat, members_flat}
 use Rattle.canon_model.specs.Shape.{Shape, fixed}
 use Rattle.canon_model.specs.Text.{Encoding}
-use Rattle.canon_model.specs.Tree.{Tree, trees_of}
+use Rattle.canon_model.specs.Tree.{Tree}
 use Rattle.canon_plan.proofs.Lookups.{drop_all}
 use Rattle.canon_types.specs.Instance.{Instance}
 use Rattle.canon_types.specs.Table.{shape_of}

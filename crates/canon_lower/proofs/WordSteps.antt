@@ -1,5 +1,5 @@
 -- Typed values as words: scalars, parts of more words, and members in a row.
-use Rattle.std.proofs.Common.{◌≡◌, ◌≤◌, ◌<◌, ◌+◌, ◌++◌, ◌^◌, ◌%◌, ◌∙◌, Err, List, Ok, Result, [], ap, arith, false, inl, inr, length, refl, set, subst, sym, ⊎_elim, ℕ}
+use Rattle.std.proofs.Common.{◌≡◌, ◌≤◌, ◌<◌, ◌+◌, ◌++◌, ◌^◌, ◌%◌, ◌∙◌, Err, List, Ok, Result, [], ap, arith, false, length, refl, set, subst, sym, ℕ}
 use Rattle.std.proofs.lemmas.List.{get_or-set_same}
 use Rattle.std.proofs.lemmas.List.Edits.{get_or-between}
 use Rattle.std.proofs.lemmas.Slice.{between-put_mid}

@@ -2,6 +2,7 @@
 use Rattle.std.specs.Prelude.{List, false, suc, zero, ⊤, ℕ, ◌*◌, ◌^◌, ◌≡◌, ◌≤◌, ◌⊎◌}
 use Rattle.canon_context.specs.declared.fault.Fault.{Fault}
 use Rattle.canon_context.specs.declared.fault.Fault.TheVariants as fault
+use Rattle.canon_ledger.specs.declared.fault.ResourceFault.TheVariants as resource
 use Rattle.canon_model.specs.Layout.{size}
 use Rattle.canon_model.specs.Shape.{Cases, Members, Shape, bare, borrow, fixed, flags, list, member, no_cases, no_members, own, payload, product, scalar, string, variant}
 use Rattle.canon_model.specs.Text.{Encoding, Spells, in_utf8}
@@ -43,12 +44,13 @@ IsTooLarge enc (fault.SizeOverflow n) (list k s) t = (n ≡ tree_count (trees_of
 IsTooLarge enc (fault.StringTooLong n) string (text cs k) = (bytes : List ℕ) × Spells in_utf8 bytes cs × IsTextTooLong enc bytes n
 IsTooLarge enc _ s t = ⊥
 
--- the guest, memory or the ledger
+-- the guest, memory or the ledger; where the ledger lacks memory, that is OutOfMemory too
 abbrev pub IsElsewhere : Fault → Type 0
 IsElsewhere (fault.ReallocMisaligned a) = ⊤
 IsElsewhere (fault.ReallocOutOfBounds a) = ⊤
 IsElsewhere fault.GuestTrap = ⊤
 IsElsewhere fault.OutOfMemory = ⊤
+IsElsewhere (fault.Resource resource.OutOfMemory) = ⊥
 IsElsewhere (fault.Resource r) = ⊤
 IsElsewhere _ = ⊥
 

@@ -19,10 +19,10 @@ use canon_types::InterfaceType;
 
 /// A Rust type whose values are lowered (wasmtime's trait of this name).
 ///
-/// Texts and lists are put into blocks that the guest is asked for, resources become handles of the guest. A call answers
-/// `StringTooLong` or `SizeOverflow`, before it asks, where a block would pass 2^32 - 1 bytes or items; the faults of
-/// `LowerContext::realloc`; and the ledger's refusals. After an error the place, the blocks and the handles may have been
-/// changed in part.
+/// Texts and lists are put into blocks that the guest is asked for, resources become handles of the guest. A call is Ok only
+/// where no part is too large: `StringTooLong` says that a text's block might need 2^31 bytes or more, `SizeOverflow` that a
+/// list's items, or their bytes, pass 2^32 - 1. The other errors are the faults of `LowerContext::realloc` and the ledger's
+/// refusals. After an error the place, the blocks and the handles may have been changed in part.
 pub trait Lower: ComponentType {
     // what a value's handles do to the ledger, in order, where a type of this shape is wanted
     ghost gives: { Instance → Shape → Self → List (List Part) };
