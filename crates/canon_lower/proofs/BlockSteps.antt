@@ -179,7 +179,7 @@ module _ {D G : Type 0} (L : GuestLaws G) (options : ℕ) where
         narrow = tt;
       })
 
-  -- ---- a pointer and a length that tell it, in memory
+  -- ---- its pointer and its length, in memory
 
   pub placed_stops : (a b : Parts D G) (s : Shape) (at : ℕ) (Has : Tree → Type 0) (gs : List (List Part)) (e : Fault) → has_block s ≡ true → TypedPlaces L.seen L.moves options a b s Has gs (Err e) → TypedStores L.seen L.moves options a b s at Has gs (Err e)
   placed_stops a b s at Has gs e block h = record {
@@ -196,15 +196,15 @@ module _ {D G : Type 0} (L : GuestLaws G) (options : ℕ) where
   }
 
   module _ (a b c : Parts D G) (at : ℕ) (Has : Tree → Type 0) (gs : List (List Part)) (x : Placed) (room : at + 8 ≤ length b.memory) (w : IsPairPut b c at x.pointer x.length) where
-    abbrev told : Shape → Type 0
-    told s = TypedStores L.seen L.moves options a c s at Has gs (Ok tt)
+    abbrev Stored : Shape → Type 0
+    Stored s = TypedStores L.seen L.moves options a c s at Has gs (Ok tt)
 
-    block_told : (s : Shape) → has_block s ≡ true → (h : TypedPlaces L.seen L.moves options a b s Has gs (Ok x))
+    block_put : (s : Shape) → has_block s ≡ true → (h : TypedPlaces L.seen L.moves options a b s Has gs (Ok x))
         → (LowersValue false (moment_of L.seen a) (moment (L.seen b.guest) b.memory) (encoding_by a options) s (x.pointer ∷ x.length ∷ []) 0 Has h.placed.handles done
         → Attempt false (moment (L.seen b.guest) b.memory) (moment (L.seen b.guest) c.memory) (pairs.pair_place false at ∷ []) (pairs.pair_aim false at x.pointer x.length) [] done
         → StoresValue false (moment_of L.seen a) (moment (L.seen b.guest) c.memory) (encoding_by a options) s at Has h.placed.handles done)
-        → told s
-    block_told s block h store =
+        → Stored s
+    block_put s block h store =
         let is_done = ends_done gs tt h.placed.ending h.placed.ends in
         let lowered : LowersValue false (moment_of L.seen a) (moment_of L.seen b) (encoding_by a options) s (x.pointer ∷ x.length ∷ []) 0 Has h.placed.handles done =
         subst (λ (e : Ending). LowersValue false (moment_of L.seen a) (moment_of L.seen b) (encoding_by a options) s (x.pointer ∷ x.length ∷ []) 0 Has h.placed.handles e) is_done h.placed.attempt in
@@ -224,11 +224,11 @@ module _ {D G : Type 0} (L : GuestLaws G) (options : ℕ) where
           small = h.placed.small;
         })
 
-    pub list_told : (z s : Shape) (k : ListKind) → z ≡ list k s → TypedPlaces L.seen L.moves options a b z Has gs (Ok x) → told z
-    list_told z s k shape h = subst told (sym shape) (
+    pub list_put : (z s : Shape) (k : ListKind) → z ≡ list k s → TypedPlaces L.seen L.moves options a b z Has gs (Ok x) → Stored z
+    list_put z s k shape h = subst Stored (sym shape) (
         let here : TypedPlaces L.seen L.moves options a b (list k s) Has gs (Ok x) = subst (λ (y : Shape). TypedPlaces L.seen L.moves options a b y Has gs (Ok x)) shape h in
-        block_told (list k s) refl here (λ lowered written. pairs.list_stored false (encoding_by a options) at x.pointer x.length Has (λ _. here.narrow.0) (λ _. here.narrow.1) (moment_of L.seen a) (L.seen b.guest) b.memory c.memory written k s lowered)
+        block_put (list k s) refl here (λ lowered written. pairs.list_stored false (encoding_by a options) at x.pointer x.length Has (λ _. here.narrow.0) (λ _. here.narrow.1) (moment_of L.seen a) (L.seen b.guest) b.memory c.memory written k s lowered)
         )
 
-    pub text_told : TypedPlaces L.seen L.moves options a b string Has gs (Ok x) → told string
-    text_told h = block_told string refl h (λ lowered written. pairs.string_stored false (encoding_by a options) at x.pointer x.length Has (λ _. h.narrow.0) (λ _. h.narrow.1) (moment_of L.seen a) (L.seen b.guest) b.memory c.memory written lowered)
+    pub text_put : TypedPlaces L.seen L.moves options a b string Has gs (Ok x) → Stored string
+    text_put h = block_put string refl h (λ lowered written. pairs.string_stored false (encoding_by a options) at x.pointer x.length Has (λ _. h.narrow.0) (λ _. h.narrow.1) (moment_of L.seen a) (L.seen b.guest) b.memory c.memory written lowered)

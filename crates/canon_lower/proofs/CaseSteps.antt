@@ -87,6 +87,6 @@ module _ {D G : Type 0} (L : GuestLaws G) (options : ℕ) where
   case_stores Walks x unit a b c s u k cs at d inner gs r shape room lt few members w h =
       let enc : Encoding = encoding_by a options in
       variant_stores a b c s k cs at d inner (PayloadTrees unit (Walks x)) (CaseMeans unit Walks d x) gs r shape room lt few w
-      (λ ts have. let (told, is) = case_to enc Walks x u d unit ts have in (told, subst (λ (ms : Members). CaseIs false enc ms d (case_tree d ts)) (sym members) is))
+      (λ ts have. let (means, is) = case_to enc Walks x u d unit ts have in (means, subst (λ (ms : Members). CaseIs false enc ms d (case_tree d ts)) (sym members) is))
       (λ t has. let (number, have, is) = case_from enc Walks x u d unit t has in (number, have, subst (λ (ms : Members). CaseIs false enc ms d t) (sym members) is))
       (subst (λ (ms : Members). TypedMembersStore L.seen L.moves options b c ms 0 inner (PayloadTrees unit (Walks x)) gs r) (sym members) h)

@@ -19,7 +19,7 @@ use Rattle.canon_types.specs.declared.types.InterfaceType.TheVariants as ty
 use Rattle.canon_typed.specs.Meaning.{EachMeans, ListMeans}
 use Rattle.canon_typed.specs.Types.{IsListOf}
 use Rattle.canon_lower.proofs.Items.{each_count, list_trees, row_some, some_row}
-use Rattle.canon_lower.proofs.BlockSteps.{AsItems, list_broken, list_placed, list_refused, list_told, placed_stops}
+use Rattle.canon_lower.proofs.BlockSteps.{AsItems, list_broken, list_placed, list_refused, list_put, placed_stops}
 use Rattle.canon_value.proofs.Passing.{handles_instance, same_handles}
 use Rattle.canon_lower.specs.Blames.{IsTooLarge}
 use Rattle.canon_lower.specs.Gives.{item_shape}
@@ -134,7 +134,7 @@ module _ {D G : Type 0} (L : GuestLaws G) (options : ℕ) (a b : Parts D G) (z s
   pair_room r h = omega (arith, room, list_bytes z s k shape, h.placed.attempt.lowering.goes.no_shorter)
 
   pub list_stores : (c : Parts D G) (x : Placed) → TypedPlaces L.seen L.moves options a b z Has gs (Ok x) → IsPairPut b c at x.pointer x.length → TypedStores L.seen L.moves options a c z at Has gs (Ok tt)
-  list_stores c x h w = list_told L options a b c at Has gs x (pair_room (Ok x) h) w z s k shape h
+  list_stores c x h w = list_put L options a b c at Has gs x (pair_room (Ok x) h) w z s k shape h
 
   pub list_stops : (e : Fault) → TypedPlaces L.seen L.moves options a b z Has gs (Err e) → TypedStores L.seen L.moves options a b z at Has gs (Err e)
   list_stops e h = placed_stops L options a b z at Has gs e (list_blocks z s k shape) h

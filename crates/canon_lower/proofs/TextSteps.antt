@@ -21,7 +21,7 @@ use Rattle.canon_types.specs.declared.types.InterfaceType.{InterfaceType}
 use Rattle.canon_types.specs.declared.types.InterfaceType.TheVariants as ty
 use Rattle.canon_typed.specs.Meaning.{TextMeans}
 use Rattle.canon_lower.proofs.Attempts.{cross_stopped, not_false}
-use Rattle.canon_lower.proofs.BlockSteps.{placed_stops, text_told}
+use Rattle.canon_lower.proofs.BlockSteps.{placed_stops, text_put}
 use Rattle.canon_value.proofs.Passing.{ledger_unless, same_handles, same_ledger}
 use Rattle.canon_lower.proofs.TooLarge.{text_small}
 use Rattle.canon_lower.specs.Blames.{HasLarge, IsElsewhere}
@@ -121,7 +121,7 @@ module _ {D G : Type 0} (L : GuestLaws G) (options : ℕ) (a b : Parts D G) (typ
   text_room r h = omega (arith, room, ap (size false) shape, h.placed.attempt.lowering.goes.no_shorter)
 
   pub text_stores : (c : Parts D G) (x : Placed) → TypedPlaces L.seen L.moves options a b string Has gs (Ok x) → IsPairPut b c at x.pointer x.length → TypedStores L.seen L.moves options a c (shape_of (types_of a) type) at Has gs (Ok tt)
-  text_stores c x h w = subst (λ (s : Shape). TypedStores L.seen L.moves options a c s at Has gs (Ok tt)) (sym shape) (text_told L options a b c at Has gs x (text_room (Ok x) h) w h)
+  text_stores c x h w = subst (λ (s : Shape). TypedStores L.seen L.moves options a c s at Has gs (Ok tt)) (sym shape) (text_put L options a b c at Has gs x (text_room (Ok x) h) w h)
 
   pub text_stops : (e : Fault) → TypedPlaces L.seen L.moves options a b string Has gs (Err e) → TypedStores L.seen L.moves options a b (shape_of (types_of a) type) at Has gs (Err e)
   text_stops e h = subst (λ (s : Shape). TypedStores L.seen L.moves options a b s at Has gs (Err e)) (sym shape) (placed_stops L options a b string at Has gs e refl h)

@@ -24,7 +24,7 @@ use Rattle.canon_lower.specs.Gives.{product_gives, row_gives}
 use Rattle.canon_lower.specs.Stores.{TypedMembersStore, TypedStores}
 use Rattle.canon_lower.specs.Tuples.{member_type, types_in}
 
--- ---- what the type of a tuple tells
+-- ---- what is known of a tuple's type
 
 pub record IsTuple (all : List (Instance → InterfaceType → Type 0)) (i : Instance) (type : InterfaceType) : Type 0 where
   pub shape : shape_of i.types type ≡ product of_places (members_of i.types (types_in i.types type))

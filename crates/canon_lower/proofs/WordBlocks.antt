@@ -1,4 +1,4 @@
--- Texts and lists in blocks of their own, told in two words.
+-- Texts and lists in blocks of their own, in two words.
 use Rattle.std.proofs.Common.{◌≡◌, ◌∙◌, ◌∷◌, Err, List, Ok, [], ap, false, refl, subst, sym, true, ℕ}
 use Rattle.canon_context.proofs.Moves.{GuestLaws}
 use Rattle.canon_context.specs.Core.{Parts, encoding_by, moment_of}
@@ -48,7 +48,7 @@ module _ {D G : Type 0} (L : GuestLaws G) (options : ℕ) (a b : Parts D G) (s :
     small = h.placed.small;
   }
 
-  -- or none are told
+  -- or it isn't placed
   pub placed_refused : (e : Fault) (ws : List ℕ) → TypedPlaces L.seen L.moves options a b s Has gs (Err e) → TypedLowers L.seen L.moves options a b s ws 0 Has gs (Err e)
   placed_refused e ws h = record {
     handles = h.placed.handles;

@@ -64,18 +64,18 @@ module _ {D G : Type 0} (L : GuestLaws G) (options : ℕ) (start : Parts D G) (w
     pub done_fits : (Fit : Instance → InterfaceType → Type 0) → Fit start.component.types type → Fit now.component.types type
     done_fits Fit k = subst (λ (i : Instance). Fit i type) (sym (handles_instance start now h.same)) k
 
-    -- of the core now, as lowering the next one tells it
+    -- lowering the next one, said of the core now
     abbrev pub Next : Parts D G → List ℕ → Result (Unit {0}) Fault → Type 0
     Next c vs r = TypedLowers L.seen L.moves opts now c (shape_of (types_of now) type) vs at Has (f now.component.types (shape_of (types_of now) type)) r
 
-    told : (c : Parts D G) (vs : List ℕ) (r : Result (Unit {0}) Fault) → Next c vs r → TypedLowers L.seen L.moves options now c s vs at Has (f start.component.types s) r
-    told c vs r low = subst (λ (n : ℕ). TypedLowers L.seen L.moves n now c s vs at Has (f start.component.types s) r) h.same_options
+    of_start : (c : Parts D G) (vs : List ℕ) (r : Result (Unit {0}) Fault) → Next c vs r → TypedLowers L.seen L.moves options now c s vs at Has (f start.component.types s) r
+    of_start c vs r low = subst (λ (n : ℕ). TypedLowers L.seen L.moves n now c s vs at Has (f start.component.types s) r) h.same_options
         (subst (λ (i : Instance). TypedLowers L.seen L.moves opts now c (shape_of i.types type) vs at Has (f i (shape_of i.types type)) r) (handles_instance start now h.same) low)
 
     pub done_more : (c : Parts D G) (opts2 : ℕ) (vs : List ℕ) (at2 : ℕ) → ((t : Tree) → Has t → Fits s t) → Stays at ws vs → at2 ≡ at + flat (shape_of (types_of now) type) → opts2 ≡ opts → Next c vs (Ok tt)
         → Done c opts2 vs at2 ms HaveRest left
     done_more c opts2 vs at2 fits stays end eo low =
-        let here : TypedLowers L.seen L.moves options now c s vs at Has (f start.component.types s) (Ok tt) = told c vs (Ok tt) low in
+        let here : TypedLowers L.seen L.moves options now c s vs at Has (f start.component.types s) (Ok tt) = of_start c vs (Ok tt) low in
         let to : at2 ≡ at + flat s = end ∙ ap (λ (n : ℕ). at + n) (ap flat same_shape) in
         record {
           same = handles_then start now c h.same here.same;
@@ -87,7 +87,7 @@ module _ {D G : Type 0} (L : GuestLaws G) (options : ℕ) (start : Parts D G) (w
         }
 
     pub done_stop : (c : Parts D G) (vs : List ℕ) (e : Fault) → Stays at ws vs → Next c vs (Err e) → TypedMembersLower L.seen L.moves options start c whole vs 0 Have gives (Err e)
-    done_stop c vs e stays low = h.completes c vs (Err e) stays (members_stop L options now c s ms vs at Has HaveRest (f start.component.types s) left e (told c vs (Err e) low))
+    done_stop c vs e stays low = h.completes c vs (Err e) stays (members_stop L options now c s ms vs at Has HaveRest (f start.component.types s) left e (of_start c vs (Err e) low))
 
   pub done_end : (now : Parts D G) (opts : ℕ) (ws : List ℕ) (at : ℕ) → length now.memory ≤ 2 ^ 32 → Done now opts ws at no_members NoTrees [] → TypedMembersLower L.seen L.moves options start now whole ws 0 Have gives (Ok tt)
   done_end now opts ws at small h = h.completes now ws (Ok tt) (record { same_length = refl; before = λ p l. refl }) (members_none L options now ws at small)

@@ -17,7 +17,7 @@ use Rattle.canon_types.specs.Resource.{resource_type_at}
 use Rattle.canon_types.specs.declared.resource.ResourceType.{ResourceType}
 use Rattle.canon_value.specs.Resources.{number_given}
 
--- of a resource where a handle of the shape is wanted
+-- of a resource, where its type is a handle's
 abbrev pub handle_gives : Instance → Shape → Any → List (List Part)
 handle_gives i (own r) x = lower_parts i (passed true r x) ∷ []
 handle_gives i (borrow r) x = lower_parts i (passed false r x) ∷ []

@@ -16,8 +16,8 @@ use Rattle.canon_memory.specs.Guest.{GuestIn, Seen}
 use Rattle.canon_memory.specs.declared.event.Event.{Event}
 use Rattle.canon_model.specs.Memory.{Block}
 
--- How it ended with this answer. Memory that the ledger wanted ended it as a fault of the value does; it is wanted only where handles
--- are given.
+-- How it ended with this answer. Where the ledger ran out of memory, it ended as at a fault of the value; that happens only where
+-- handles are given.
 abbrev pub EndsBy : {T : Type 0} → List (List Part) → Result T Fault → Ending → Type 0
 EndsBy gives result ending = (ending ≡ ending_of result) ⊎ ((result ≡ Err fault.OutOfMemory) × ¬ (gives ≡ []) × (ending ≡ refused))
 

@@ -1,4 +1,4 @@
--- Texts and lists in blocks of their own: a pointer and a length tell one.
+-- Texts and lists in blocks of their own, each given by a pointer and a length.
 use Rattle.std.specs.Prelude.{◌≡◌, ◌≤◌, ◌<◌, ◌*◌, ◌^◌, ◌⊎◌, ◌∷◌, Err, IfOk, List, Ok, Result, [], false, length, true, ℕ, ⊤}
 use Rattle.canon_context.specs.Asks.{AsksFor}
 use Rattle.canon_context.specs.Core.{Parts, encoding_by}

@@ -24,7 +24,7 @@ use canon_types::InterfaceType;
 /// list's items, or their bytes, pass 2^32 - 1. The other errors are the faults of `LowerContext::realloc` and the ledger's
 /// refusals. After an error the place, the blocks and the handles may have been changed in part.
 pub trait Lower: ComponentType {
-    // what a value's handles do to the ledger, in order, where a type of this shape is wanted
+    // what a value's handles do to the ledger, in order, where its type has this shape
     ghost gives: { Instance → Shape → Self → List (List Part) };
 
     /// Lowers the value into `dst`, the words of its type (CanonicalABI.md, "lower_flat").
