@@ -1,0 +1,19 @@
+use Rattle.std.proofs.Common.{Option, subst}
+use Rattle.canon_context.specs.Core.{types_of}
+use Rattle.canon_types.specs.Table.{shape_of}
+use Rattle.canon_typed.specs.Meaning.{OptionMeans}
+use Rattle.canon_lower.proofs.Seen.{option_seen}
+use Rattle.canon_lower.specs.Gives.{option_gives}
+use Rattle.canon_lower.specs.Words.{TypedLowers}
+use Rattle.canon_lower.proofs.compounds.OptionLowerShared.linear_lower_to_flat.Goals as goal
+
+pub returns-clause-lowers : goal.returns-clause-lowers
+returns-clause-lowers g c =
+    let a = c.args in
+    let core = a.cx.now.core.now in
+    let s = shape_of (types_of core) a.ty in
+    let low = c.linear_lower_to_flat in
+    let W = g.T.ComponentType.walks in
+    let f = g.T.LowerShared.gives in
+    subst (λ (v : Option g.row.T.Denot). TypedLowers g.G.Guest.seen g.G.Guest.moves a.cx.now.options core low.new.cx.core.now s low.new.dst 0 (OptionMeans W v) (option_gives f core.component.types s v) low.result) c.as_ref.ensures.value
+    (option_seen W f core.component.types s (λ Has gs. TypedLowers g.G.Guest.seen g.G.Guest.moves a.cx.now.options core low.new.cx.core.now s low.new.dst 0 Has gs low.result) c.as_ref.result low.ensures.lowers)

@@ -1,0 +1,295 @@
+use Rattle.std.proofs.Common.{[], ◌∷◌, Err, List, refl}
+use Rattle.canon_context.proofs.Moves.{GuestLaws}
+use Rattle.canon_lower.proofs.WordTuples.{done_fits, done_known, done_last, done_more, done_none, done_room, done_stop, tuple_facts, tuple_lowers, tuple_room}
+use Rattle.canon_lower.specs.Gives.{row_gives}
+use Rattle.canon_types.specs.Table.{members_of, shape_of}
+use Rattle.canon_types.specs.declared.types.InterfaceType.{InterfaceType}
+use Rattle.canon_typed.specs.Meaning.{FirstAnd, NoTrees}
+use Rattle.canon_typed.specs.Typed.{walked_shaped}
+use Rattle.canon_lower.proofs.tuples.Tuple5Lower.linear_lower_to_flat.Goals as goal
+
+pub lower_at-requires-clause-room : goal.lower_at-requires-clause-room
+lower_at-requires-clause-room g c =
+    let L : GuestLaws _ = record { seen = g.G.Guest.seen; moves = g.G.Guest.moves; stays = g.met.G.Guest.stays; goes_on = g.met.G.Guest.goes_on } in
+    let a = c.args in
+    let core = a.cx.now.core.now in
+    let v = a.self.now in
+    let xs : List InterfaceType = c.index.result.now ∷ c.index-2.result.now ∷ c.index-3.result.now ∷ c.index-4.result.now ∷ c.index-5.result.now ∷ [] in
+    let (shape, fit, known) = tuple_facts (g.A.ComponentType.fits ∷ g.B.ComponentType.fits ∷ g.C.ComponentType.fits ∷ g.E.ComponentType.fits ∷ g.F.ComponentType.fits ∷ []) core.component.types c.types.result.now c.in-Tuple.i c.tuple.result.now.types.items xs a.ty c.types.ensures c.in-Tuple.is c.tuple.ensures.entry c.requires.fits refl
+    (c.index.ensures, (c.index-2.ensures, (c.index-3.ensures, (c.index-4.ensures, (c.index-5.ensures, tt))))) in
+    let done = done_none L a.cx.now.options core (members_of core.component.types.types (c.index.result.now ∷ c.index-2.result.now ∷ c.index-3.result.now ∷ c.index-4.result.now ∷ c.index-5.result.now ∷ [])) (FirstAnd (g.A.ComponentType.walks v.0) (FirstAnd (g.B.ComponentType.walks v.1) (FirstAnd (g.C.ComponentType.walks v.2) (FirstAnd (g.E.ComponentType.walks v.3) (FirstAnd (g.F.ComponentType.walks v.4) NoTrees))))) (row_gives (members_of core.component.types.types (c.index.result.now ∷ c.index-2.result.now ∷ c.index-3.result.now ∷ c.index-4.result.now ∷ c.index-5.result.now ∷ [])) ((λ u. g.A.Lower.gives core.component.types u v.0) ∷ (λ u. g.B.Lower.gives core.component.types u v.1) ∷ (λ u. g.C.Lower.gives core.component.types u v.2) ∷ (λ u. g.E.Lower.gives core.component.types u v.3) ∷ (λ u. g.F.Lower.gives core.component.types u v.4) ∷ [])) a.dst.now (tuple_room (shape_of core.component.types.types a.ty) (members_of core.component.types.types (c.index.result.now ∷ c.index-2.result.now ∷ c.index-3.result.now ∷ c.index-4.result.now ∷ c.index-5.result.now ∷ [])) a.dst.now shape c.requires.words) in
+    done_room L a.cx.now.options core (members_of core.component.types.types (c.index.result.now ∷ c.index-2.result.now ∷ c.index-3.result.now ∷ c.index-4.result.now ∷ c.index-5.result.now ∷ [])) (FirstAnd (g.A.ComponentType.walks v.0) (FirstAnd (g.B.ComponentType.walks v.1) (FirstAnd (g.C.ComponentType.walks v.2) (FirstAnd (g.E.ComponentType.walks v.3) (FirstAnd (g.F.ComponentType.walks v.4) NoTrees))))) (row_gives (members_of core.component.types.types (c.index.result.now ∷ c.index-2.result.now ∷ c.index-3.result.now ∷ c.index-4.result.now ∷ c.index-5.result.now ∷ [])) ((λ u. g.A.Lower.gives core.component.types u v.0) ∷ (λ u. g.B.Lower.gives core.component.types u v.1) ∷ (λ u. g.C.Lower.gives core.component.types u v.2) ∷ (λ u. g.E.Lower.gives core.component.types u v.3) ∷ (λ u. g.F.Lower.gives core.component.types u v.4) ∷ [])) core a.cx.now.options a.dst.now 0 c.index.result.now (members_of core.component.types.types (c.index-2.result.now ∷ c.index-3.result.now ∷ c.index-4.result.now ∷ c.index-5.result.now ∷ [])) (g.A.ComponentType.walks v.0) (FirstAnd (g.B.ComponentType.walks v.1) (FirstAnd (g.C.ComponentType.walks v.2) (FirstAnd (g.E.ComponentType.walks v.3) (FirstAnd (g.F.ComponentType.walks v.4) NoTrees)))) (λ i u. g.A.Lower.gives i u v.0) (row_gives (members_of core.component.types.types (c.index-2.result.now ∷ c.index-3.result.now ∷ c.index-4.result.now ∷ c.index-5.result.now ∷ [])) ((λ u. g.B.Lower.gives core.component.types u v.1) ∷ (λ u. g.C.Lower.gives core.component.types u v.2) ∷ (λ u. g.E.Lower.gives core.component.types u v.3) ∷ (λ u. g.F.Lower.gives core.component.types u v.4) ∷ [])) done
+
+pub lower_at-requires-clause-known : goal.lower_at-requires-clause-known
+lower_at-requires-clause-known g c =
+    let L : GuestLaws _ = record { seen = g.G.Guest.seen; moves = g.G.Guest.moves; stays = g.met.G.Guest.stays; goes_on = g.met.G.Guest.goes_on } in
+    let a = c.args in
+    let core = a.cx.now.core.now in
+    let v = a.self.now in
+    let xs : List InterfaceType = c.index.result.now ∷ c.index-2.result.now ∷ c.index-3.result.now ∷ c.index-4.result.now ∷ c.index-5.result.now ∷ [] in
+    let (shape, fit, known) = tuple_facts (g.A.ComponentType.fits ∷ g.B.ComponentType.fits ∷ g.C.ComponentType.fits ∷ g.E.ComponentType.fits ∷ g.F.ComponentType.fits ∷ []) core.component.types c.types.result.now c.in-Tuple.i c.tuple.result.now.types.items xs a.ty c.types.ensures c.in-Tuple.is c.tuple.ensures.entry c.requires.fits refl
+    (c.index.ensures, (c.index-2.ensures, (c.index-3.ensures, (c.index-4.ensures, (c.index-5.ensures, tt))))) in
+    let done = done_none L a.cx.now.options core (members_of core.component.types.types (c.index.result.now ∷ c.index-2.result.now ∷ c.index-3.result.now ∷ c.index-4.result.now ∷ c.index-5.result.now ∷ [])) (FirstAnd (g.A.ComponentType.walks v.0) (FirstAnd (g.B.ComponentType.walks v.1) (FirstAnd (g.C.ComponentType.walks v.2) (FirstAnd (g.E.ComponentType.walks v.3) (FirstAnd (g.F.ComponentType.walks v.4) NoTrees))))) (row_gives (members_of core.component.types.types (c.index.result.now ∷ c.index-2.result.now ∷ c.index-3.result.now ∷ c.index-4.result.now ∷ c.index-5.result.now ∷ [])) ((λ u. g.A.Lower.gives core.component.types u v.0) ∷ (λ u. g.B.Lower.gives core.component.types u v.1) ∷ (λ u. g.C.Lower.gives core.component.types u v.2) ∷ (λ u. g.E.Lower.gives core.component.types u v.3) ∷ (λ u. g.F.Lower.gives core.component.types u v.4) ∷ [])) a.dst.now (tuple_room (shape_of core.component.types.types a.ty) (members_of core.component.types.types (c.index.result.now ∷ c.index-2.result.now ∷ c.index-3.result.now ∷ c.index-4.result.now ∷ c.index-5.result.now ∷ [])) a.dst.now shape c.requires.words) in
+    done_known L a.cx.now.options core (members_of core.component.types.types (c.index.result.now ∷ c.index-2.result.now ∷ c.index-3.result.now ∷ c.index-4.result.now ∷ c.index-5.result.now ∷ [])) (FirstAnd (g.A.ComponentType.walks v.0) (FirstAnd (g.B.ComponentType.walks v.1) (FirstAnd (g.C.ComponentType.walks v.2) (FirstAnd (g.E.ComponentType.walks v.3) (FirstAnd (g.F.ComponentType.walks v.4) NoTrees))))) (row_gives (members_of core.component.types.types (c.index.result.now ∷ c.index-2.result.now ∷ c.index-3.result.now ∷ c.index-4.result.now ∷ c.index-5.result.now ∷ [])) ((λ u. g.A.Lower.gives core.component.types u v.0) ∷ (λ u. g.B.Lower.gives core.component.types u v.1) ∷ (λ u. g.C.Lower.gives core.component.types u v.2) ∷ (λ u. g.E.Lower.gives core.component.types u v.3) ∷ (λ u. g.F.Lower.gives core.component.types u v.4) ∷ [])) core a.cx.now.options a.dst.now 0 c.index.result.now (members_of core.component.types.types (c.index-2.result.now ∷ c.index-3.result.now ∷ c.index-4.result.now ∷ c.index-5.result.now ∷ [])) (g.A.ComponentType.walks v.0) (FirstAnd (g.B.ComponentType.walks v.1) (FirstAnd (g.C.ComponentType.walks v.2) (FirstAnd (g.E.ComponentType.walks v.3) (FirstAnd (g.F.ComponentType.walks v.4) NoTrees)))) (λ i u. g.A.Lower.gives i u v.0) (row_gives (members_of core.component.types.types (c.index-2.result.now ∷ c.index-3.result.now ∷ c.index-4.result.now ∷ c.index-5.result.now ∷ [])) ((λ u. g.B.Lower.gives core.component.types u v.1) ∷ (λ u. g.C.Lower.gives core.component.types u v.2) ∷ (λ u. g.E.Lower.gives core.component.types u v.3) ∷ (λ u. g.F.Lower.gives core.component.types u v.4) ∷ [])) done known.0
+
+pub lower_at-requires-clause-fits : goal.lower_at-requires-clause-fits
+lower_at-requires-clause-fits g c =
+    let L : GuestLaws _ = record { seen = g.G.Guest.seen; moves = g.G.Guest.moves; stays = g.met.G.Guest.stays; goes_on = g.met.G.Guest.goes_on } in
+    let a = c.args in
+    let core = a.cx.now.core.now in
+    let v = a.self.now in
+    let xs : List InterfaceType = c.index.result.now ∷ c.index-2.result.now ∷ c.index-3.result.now ∷ c.index-4.result.now ∷ c.index-5.result.now ∷ [] in
+    let (shape, fit, known) = tuple_facts (g.A.ComponentType.fits ∷ g.B.ComponentType.fits ∷ g.C.ComponentType.fits ∷ g.E.ComponentType.fits ∷ g.F.ComponentType.fits ∷ []) core.component.types c.types.result.now c.in-Tuple.i c.tuple.result.now.types.items xs a.ty c.types.ensures c.in-Tuple.is c.tuple.ensures.entry c.requires.fits refl
+    (c.index.ensures, (c.index-2.ensures, (c.index-3.ensures, (c.index-4.ensures, (c.index-5.ensures, tt))))) in
+    let done = done_none L a.cx.now.options core (members_of core.component.types.types (c.index.result.now ∷ c.index-2.result.now ∷ c.index-3.result.now ∷ c.index-4.result.now ∷ c.index-5.result.now ∷ [])) (FirstAnd (g.A.ComponentType.walks v.0) (FirstAnd (g.B.ComponentType.walks v.1) (FirstAnd (g.C.ComponentType.walks v.2) (FirstAnd (g.E.ComponentType.walks v.3) (FirstAnd (g.F.ComponentType.walks v.4) NoTrees))))) (row_gives (members_of core.component.types.types (c.index.result.now ∷ c.index-2.result.now ∷ c.index-3.result.now ∷ c.index-4.result.now ∷ c.index-5.result.now ∷ [])) ((λ u. g.A.Lower.gives core.component.types u v.0) ∷ (λ u. g.B.Lower.gives core.component.types u v.1) ∷ (λ u. g.C.Lower.gives core.component.types u v.2) ∷ (λ u. g.E.Lower.gives core.component.types u v.3) ∷ (λ u. g.F.Lower.gives core.component.types u v.4) ∷ [])) a.dst.now (tuple_room (shape_of core.component.types.types a.ty) (members_of core.component.types.types (c.index.result.now ∷ c.index-2.result.now ∷ c.index-3.result.now ∷ c.index-4.result.now ∷ c.index-5.result.now ∷ [])) a.dst.now shape c.requires.words) in
+    done_fits L a.cx.now.options core (members_of core.component.types.types (c.index.result.now ∷ c.index-2.result.now ∷ c.index-3.result.now ∷ c.index-4.result.now ∷ c.index-5.result.now ∷ [])) (FirstAnd (g.A.ComponentType.walks v.0) (FirstAnd (g.B.ComponentType.walks v.1) (FirstAnd (g.C.ComponentType.walks v.2) (FirstAnd (g.E.ComponentType.walks v.3) (FirstAnd (g.F.ComponentType.walks v.4) NoTrees))))) (row_gives (members_of core.component.types.types (c.index.result.now ∷ c.index-2.result.now ∷ c.index-3.result.now ∷ c.index-4.result.now ∷ c.index-5.result.now ∷ [])) ((λ u. g.A.Lower.gives core.component.types u v.0) ∷ (λ u. g.B.Lower.gives core.component.types u v.1) ∷ (λ u. g.C.Lower.gives core.component.types u v.2) ∷ (λ u. g.E.Lower.gives core.component.types u v.3) ∷ (λ u. g.F.Lower.gives core.component.types u v.4) ∷ [])) core a.cx.now.options a.dst.now 0 c.index.result.now (members_of core.component.types.types (c.index-2.result.now ∷ c.index-3.result.now ∷ c.index-4.result.now ∷ c.index-5.result.now ∷ [])) (g.A.ComponentType.walks v.0) (FirstAnd (g.B.ComponentType.walks v.1) (FirstAnd (g.C.ComponentType.walks v.2) (FirstAnd (g.E.ComponentType.walks v.3) (FirstAnd (g.F.ComponentType.walks v.4) NoTrees)))) (λ i u. g.A.Lower.gives i u v.0) (row_gives (members_of core.component.types.types (c.index-2.result.now ∷ c.index-3.result.now ∷ c.index-4.result.now ∷ c.index-5.result.now ∷ [])) ((λ u. g.B.Lower.gives core.component.types u v.1) ∷ (λ u. g.C.Lower.gives core.component.types u v.2) ∷ (λ u. g.E.Lower.gives core.component.types u v.3) ∷ (λ u. g.F.Lower.gives core.component.types u v.4) ∷ [])) done g.A.ComponentType.fits fit.0
+
+pub returns-in-Err-clause-lowers : goal.returns-in-Err-clause-lowers
+returns-in-Err-clause-lowers g c =
+    let L : GuestLaws _ = record { seen = g.G.Guest.seen; moves = g.G.Guest.moves; stays = g.met.G.Guest.stays; goes_on = g.met.G.Guest.goes_on } in
+    let a = c.args in
+    let core = a.cx.now.core.now in
+    let v = a.self.now in
+    let xs : List InterfaceType = c.index.result.now ∷ c.index-2.result.now ∷ c.index-3.result.now ∷ c.index-4.result.now ∷ c.index-5.result.now ∷ [] in
+    let (shape, fit, known) = tuple_facts (g.A.ComponentType.fits ∷ g.B.ComponentType.fits ∷ g.C.ComponentType.fits ∷ g.E.ComponentType.fits ∷ g.F.ComponentType.fits ∷ []) core.component.types c.types.result.now c.in-Tuple.i c.tuple.result.now.types.items xs a.ty c.types.ensures c.in-Tuple.is c.tuple.ensures.entry c.requires.fits refl
+    (c.index.ensures, (c.index-2.ensures, (c.index-3.ensures, (c.index-4.ensures, (c.index-5.ensures, tt))))) in
+    let done = done_none L a.cx.now.options core (members_of core.component.types.types (c.index.result.now ∷ c.index-2.result.now ∷ c.index-3.result.now ∷ c.index-4.result.now ∷ c.index-5.result.now ∷ [])) (FirstAnd (g.A.ComponentType.walks v.0) (FirstAnd (g.B.ComponentType.walks v.1) (FirstAnd (g.C.ComponentType.walks v.2) (FirstAnd (g.E.ComponentType.walks v.3) (FirstAnd (g.F.ComponentType.walks v.4) NoTrees))))) (row_gives (members_of core.component.types.types (c.index.result.now ∷ c.index-2.result.now ∷ c.index-3.result.now ∷ c.index-4.result.now ∷ c.index-5.result.now ∷ [])) ((λ u. g.A.Lower.gives core.component.types u v.0) ∷ (λ u. g.B.Lower.gives core.component.types u v.1) ∷ (λ u. g.C.Lower.gives core.component.types u v.2) ∷ (λ u. g.E.Lower.gives core.component.types u v.3) ∷ (λ u. g.F.Lower.gives core.component.types u v.4) ∷ [])) a.dst.now (tuple_room (shape_of core.component.types.types a.ty) (members_of core.component.types.types (c.index.result.now ∷ c.index-2.result.now ∷ c.index-3.result.now ∷ c.index-4.result.now ∷ c.index-5.result.now ∷ [])) a.dst.now shape c.requires.words) in
+    tuple_lowers L a.cx.now.options core c.lower_at.new.cx.core.now (shape_of core.component.types.types a.ty) (members_of core.component.types.types (c.index.result.now ∷ c.index-2.result.now ∷ c.index-3.result.now ∷ c.index-4.result.now ∷ c.index-5.result.now ∷ [])) c.lower_at.new.dst (FirstAnd (g.A.ComponentType.walks v.0) (FirstAnd (g.B.ComponentType.walks v.1) (FirstAnd (g.C.ComponentType.walks v.2) (FirstAnd (g.E.ComponentType.walks v.3) (FirstAnd (g.F.ComponentType.walks v.4) NoTrees))))) ((λ u. g.A.Lower.gives core.component.types u v.0) ∷ (λ u. g.B.Lower.gives core.component.types u v.1) ∷ (λ u. g.C.Lower.gives core.component.types u v.2) ∷ (λ u. g.E.Lower.gives core.component.types u v.3) ∷ (λ u. g.F.Lower.gives core.component.types u v.4) ∷ []) (Err c.in-Err.fault) shape
+    (done_stop L a.cx.now.options core (members_of core.component.types.types (c.index.result.now ∷ c.index-2.result.now ∷ c.index-3.result.now ∷ c.index-4.result.now ∷ c.index-5.result.now ∷ [])) (FirstAnd (g.A.ComponentType.walks v.0) (FirstAnd (g.B.ComponentType.walks v.1) (FirstAnd (g.C.ComponentType.walks v.2) (FirstAnd (g.E.ComponentType.walks v.3) (FirstAnd (g.F.ComponentType.walks v.4) NoTrees))))) (row_gives (members_of core.component.types.types (c.index.result.now ∷ c.index-2.result.now ∷ c.index-3.result.now ∷ c.index-4.result.now ∷ c.index-5.result.now ∷ [])) ((λ u. g.A.Lower.gives core.component.types u v.0) ∷ (λ u. g.B.Lower.gives core.component.types u v.1) ∷ (λ u. g.C.Lower.gives core.component.types u v.2) ∷ (λ u. g.E.Lower.gives core.component.types u v.3) ∷ (λ u. g.F.Lower.gives core.component.types u v.4) ∷ [])) core a.cx.now.options a.dst.now 0 c.index.result.now (members_of core.component.types.types (c.index-2.result.now ∷ c.index-3.result.now ∷ c.index-4.result.now ∷ c.index-5.result.now ∷ [])) (g.A.ComponentType.walks v.0) (FirstAnd (g.B.ComponentType.walks v.1) (FirstAnd (g.C.ComponentType.walks v.2) (FirstAnd (g.E.ComponentType.walks v.3) (FirstAnd (g.F.ComponentType.walks v.4) NoTrees)))) (λ i u. g.A.Lower.gives i u v.0) (row_gives (members_of core.component.types.types (c.index-2.result.now ∷ c.index-3.result.now ∷ c.index-4.result.now ∷ c.index-5.result.now ∷ [])) ((λ u. g.B.Lower.gives core.component.types u v.1) ∷ (λ u. g.C.Lower.gives core.component.types u v.2) ∷ (λ u. g.E.Lower.gives core.component.types u v.3) ∷ (λ u. g.F.Lower.gives core.component.types u v.4) ∷ [])) done c.lower_at.new.cx.core.now c.lower_at.new.dst c.in-Err.fault c.in-Err.ensures.stays c.in-Err.ensures.lowers)
+
+pub lower_at-requires-2-clause-room : goal.lower_at-requires-2-clause-room
+lower_at-requires-2-clause-room g c =
+    let L : GuestLaws _ = record { seen = g.G.Guest.seen; moves = g.G.Guest.moves; stays = g.met.G.Guest.stays; goes_on = g.met.G.Guest.goes_on } in
+    let a = c.args in
+    let core = a.cx.now.core.now in
+    let v = a.self.now in
+    let xs : List InterfaceType = c.index.result.now ∷ c.index-2.result.now ∷ c.index-3.result.now ∷ c.index-4.result.now ∷ c.index-5.result.now ∷ [] in
+    let (shape, fit, known) = tuple_facts (g.A.ComponentType.fits ∷ g.B.ComponentType.fits ∷ g.C.ComponentType.fits ∷ g.E.ComponentType.fits ∷ g.F.ComponentType.fits ∷ []) core.component.types c.types.result.now c.in-Tuple.i c.tuple.result.now.types.items xs a.ty c.types.ensures c.in-Tuple.is c.tuple.ensures.entry c.requires.fits refl
+    (c.index.ensures, (c.index-2.ensures, (c.index-3.ensures, (c.index-4.ensures, (c.index-5.ensures, tt))))) in
+    let done = done_none L a.cx.now.options core (members_of core.component.types.types (c.index.result.now ∷ c.index-2.result.now ∷ c.index-3.result.now ∷ c.index-4.result.now ∷ c.index-5.result.now ∷ [])) (FirstAnd (g.A.ComponentType.walks v.0) (FirstAnd (g.B.ComponentType.walks v.1) (FirstAnd (g.C.ComponentType.walks v.2) (FirstAnd (g.E.ComponentType.walks v.3) (FirstAnd (g.F.ComponentType.walks v.4) NoTrees))))) (row_gives (members_of core.component.types.types (c.index.result.now ∷ c.index-2.result.now ∷ c.index-3.result.now ∷ c.index-4.result.now ∷ c.index-5.result.now ∷ [])) ((λ u. g.A.Lower.gives core.component.types u v.0) ∷ (λ u. g.B.Lower.gives core.component.types u v.1) ∷ (λ u. g.C.Lower.gives core.component.types u v.2) ∷ (λ u. g.E.Lower.gives core.component.types u v.3) ∷ (λ u. g.F.Lower.gives core.component.types u v.4) ∷ [])) a.dst.now (tuple_room (shape_of core.component.types.types a.ty) (members_of core.component.types.types (c.index.result.now ∷ c.index-2.result.now ∷ c.index-3.result.now ∷ c.index-4.result.now ∷ c.index-5.result.now ∷ [])) a.dst.now shape c.requires.words) in
+    let done2 = done_more L a.cx.now.options core (members_of core.component.types.types (c.index.result.now ∷ c.index-2.result.now ∷ c.index-3.result.now ∷ c.index-4.result.now ∷ c.index-5.result.now ∷ [])) (FirstAnd (g.A.ComponentType.walks v.0) (FirstAnd (g.B.ComponentType.walks v.1) (FirstAnd (g.C.ComponentType.walks v.2) (FirstAnd (g.E.ComponentType.walks v.3) (FirstAnd (g.F.ComponentType.walks v.4) NoTrees))))) (row_gives (members_of core.component.types.types (c.index.result.now ∷ c.index-2.result.now ∷ c.index-3.result.now ∷ c.index-4.result.now ∷ c.index-5.result.now ∷ [])) ((λ u. g.A.Lower.gives core.component.types u v.0) ∷ (λ u. g.B.Lower.gives core.component.types u v.1) ∷ (λ u. g.C.Lower.gives core.component.types u v.2) ∷ (λ u. g.E.Lower.gives core.component.types u v.3) ∷ (λ u. g.F.Lower.gives core.component.types u v.4) ∷ [])) core a.cx.now.options a.dst.now 0 c.index.result.now (members_of core.component.types.types (c.index-2.result.now ∷ c.index-3.result.now ∷ c.index-4.result.now ∷ c.index-5.result.now ∷ [])) (g.A.ComponentType.walks v.0) (FirstAnd (g.B.ComponentType.walks v.1) (FirstAnd (g.C.ComponentType.walks v.2) (FirstAnd (g.E.ComponentType.walks v.3) (FirstAnd (g.F.ComponentType.walks v.4) NoTrees)))) (λ i u. g.A.Lower.gives i u v.0) (row_gives (members_of core.component.types.types (c.index-2.result.now ∷ c.index-3.result.now ∷ c.index-4.result.now ∷ c.index-5.result.now ∷ [])) ((λ u. g.B.Lower.gives core.component.types u v.1) ∷ (λ u. g.C.Lower.gives core.component.types u v.2) ∷ (λ u. g.E.Lower.gives core.component.types u v.3) ∷ (λ u. g.F.Lower.gives core.component.types u v.4) ∷ [])) done c.lower_at.new.cx.core.now c.lower_at.new.cx.options c.lower_at.new.dst c.lower_at.new.at (λ t has. walked_shaped g.A.ComponentType.fits g.A.ComponentType.walks g.A.ComponentType.means g.met.A.ComponentType.typed g.met.A.ComponentType.walked v.0 core.component.types c.index.result.now t (fit.0) has) c.in-Ok.ensures.stays c.in-Ok.ensures.end c.in-Ok.ensures.same_options c.in-Ok.ensures.lowers in
+    done_room L a.cx.now.options core (members_of core.component.types.types (c.index.result.now ∷ c.index-2.result.now ∷ c.index-3.result.now ∷ c.index-4.result.now ∷ c.index-5.result.now ∷ [])) (FirstAnd (g.A.ComponentType.walks v.0) (FirstAnd (g.B.ComponentType.walks v.1) (FirstAnd (g.C.ComponentType.walks v.2) (FirstAnd (g.E.ComponentType.walks v.3) (FirstAnd (g.F.ComponentType.walks v.4) NoTrees))))) (row_gives (members_of core.component.types.types (c.index.result.now ∷ c.index-2.result.now ∷ c.index-3.result.now ∷ c.index-4.result.now ∷ c.index-5.result.now ∷ [])) ((λ u. g.A.Lower.gives core.component.types u v.0) ∷ (λ u. g.B.Lower.gives core.component.types u v.1) ∷ (λ u. g.C.Lower.gives core.component.types u v.2) ∷ (λ u. g.E.Lower.gives core.component.types u v.3) ∷ (λ u. g.F.Lower.gives core.component.types u v.4) ∷ [])) c.lower_at.new.cx.core.now c.lower_at.new.cx.options c.lower_at.new.dst c.lower_at.new.at c.index-2.result.now (members_of core.component.types.types (c.index-3.result.now ∷ c.index-4.result.now ∷ c.index-5.result.now ∷ [])) (g.B.ComponentType.walks v.1) (FirstAnd (g.C.ComponentType.walks v.2) (FirstAnd (g.E.ComponentType.walks v.3) (FirstAnd (g.F.ComponentType.walks v.4) NoTrees))) (λ i u. g.B.Lower.gives i u v.1) (row_gives (members_of core.component.types.types (c.index-3.result.now ∷ c.index-4.result.now ∷ c.index-5.result.now ∷ [])) ((λ u. g.C.Lower.gives core.component.types u v.2) ∷ (λ u. g.E.Lower.gives core.component.types u v.3) ∷ (λ u. g.F.Lower.gives core.component.types u v.4) ∷ [])) done2
+
+pub lower_at-requires-2-clause-known : goal.lower_at-requires-2-clause-known
+lower_at-requires-2-clause-known g c =
+    let L : GuestLaws _ = record { seen = g.G.Guest.seen; moves = g.G.Guest.moves; stays = g.met.G.Guest.stays; goes_on = g.met.G.Guest.goes_on } in
+    let a = c.args in
+    let core = a.cx.now.core.now in
+    let v = a.self.now in
+    let xs : List InterfaceType = c.index.result.now ∷ c.index-2.result.now ∷ c.index-3.result.now ∷ c.index-4.result.now ∷ c.index-5.result.now ∷ [] in
+    let (shape, fit, known) = tuple_facts (g.A.ComponentType.fits ∷ g.B.ComponentType.fits ∷ g.C.ComponentType.fits ∷ g.E.ComponentType.fits ∷ g.F.ComponentType.fits ∷ []) core.component.types c.types.result.now c.in-Tuple.i c.tuple.result.now.types.items xs a.ty c.types.ensures c.in-Tuple.is c.tuple.ensures.entry c.requires.fits refl
+    (c.index.ensures, (c.index-2.ensures, (c.index-3.ensures, (c.index-4.ensures, (c.index-5.ensures, tt))))) in
+    let done = done_none L a.cx.now.options core (members_of core.component.types.types (c.index.result.now ∷ c.index-2.result.now ∷ c.index-3.result.now ∷ c.index-4.result.now ∷ c.index-5.result.now ∷ [])) (FirstAnd (g.A.ComponentType.walks v.0) (FirstAnd (g.B.ComponentType.walks v.1) (FirstAnd (g.C.ComponentType.walks v.2) (FirstAnd (g.E.ComponentType.walks v.3) (FirstAnd (g.F.ComponentType.walks v.4) NoTrees))))) (row_gives (members_of core.component.types.types (c.index.result.now ∷ c.index-2.result.now ∷ c.index-3.result.now ∷ c.index-4.result.now ∷ c.index-5.result.now ∷ [])) ((λ u. g.A.Lower.gives core.component.types u v.0) ∷ (λ u. g.B.Lower.gives core.component.types u v.1) ∷ (λ u. g.C.Lower.gives core.component.types u v.2) ∷ (λ u. g.E.Lower.gives core.component.types u v.3) ∷ (λ u. g.F.Lower.gives core.component.types u v.4) ∷ [])) a.dst.now (tuple_room (shape_of core.component.types.types a.ty) (members_of core.component.types.types (c.index.result.now ∷ c.index-2.result.now ∷ c.index-3.result.now ∷ c.index-4.result.now ∷ c.index-5.result.now ∷ [])) a.dst.now shape c.requires.words) in
+    let done2 = done_more L a.cx.now.options core (members_of core.component.types.types (c.index.result.now ∷ c.index-2.result.now ∷ c.index-3.result.now ∷ c.index-4.result.now ∷ c.index-5.result.now ∷ [])) (FirstAnd (g.A.ComponentType.walks v.0) (FirstAnd (g.B.ComponentType.walks v.1) (FirstAnd (g.C.ComponentType.walks v.2) (FirstAnd (g.E.ComponentType.walks v.3) (FirstAnd (g.F.ComponentType.walks v.4) NoTrees))))) (row_gives (members_of core.component.types.types (c.index.result.now ∷ c.index-2.result.now ∷ c.index-3.result.now ∷ c.index-4.result.now ∷ c.index-5.result.now ∷ [])) ((λ u. g.A.Lower.gives core.component.types u v.0) ∷ (λ u. g.B.Lower.gives core.component.types u v.1) ∷ (λ u. g.C.Lower.gives core.component.types u v.2) ∷ (λ u. g.E.Lower.gives core.component.types u v.3) ∷ (λ u. g.F.Lower.gives core.component.types u v.4) ∷ [])) core a.cx.now.options a.dst.now 0 c.index.result.now (members_of core.component.types.types (c.index-2.result.now ∷ c.index-3.result.now ∷ c.index-4.result.now ∷ c.index-5.result.now ∷ [])) (g.A.ComponentType.walks v.0) (FirstAnd (g.B.ComponentType.walks v.1) (FirstAnd (g.C.ComponentType.walks v.2) (FirstAnd (g.E.ComponentType.walks v.3) (FirstAnd (g.F.ComponentType.walks v.4) NoTrees)))) (λ i u. g.A.Lower.gives i u v.0) (row_gives (members_of core.component.types.types (c.index-2.result.now ∷ c.index-3.result.now ∷ c.index-4.result.now ∷ c.index-5.result.now ∷ [])) ((λ u. g.B.Lower.gives core.component.types u v.1) ∷ (λ u. g.C.Lower.gives core.component.types u v.2) ∷ (λ u. g.E.Lower.gives core.component.types u v.3) ∷ (λ u. g.F.Lower.gives core.component.types u v.4) ∷ [])) done c.lower_at.new.cx.core.now c.lower_at.new.cx.options c.lower_at.new.dst c.lower_at.new.at (λ t has. walked_shaped g.A.ComponentType.fits g.A.ComponentType.walks g.A.ComponentType.means g.met.A.ComponentType.typed g.met.A.ComponentType.walked v.0 core.component.types c.index.result.now t (fit.0) has) c.in-Ok.ensures.stays c.in-Ok.ensures.end c.in-Ok.ensures.same_options c.in-Ok.ensures.lowers in
+    done_known L a.cx.now.options core (members_of core.component.types.types (c.index.result.now ∷ c.index-2.result.now ∷ c.index-3.result.now ∷ c.index-4.result.now ∷ c.index-5.result.now ∷ [])) (FirstAnd (g.A.ComponentType.walks v.0) (FirstAnd (g.B.ComponentType.walks v.1) (FirstAnd (g.C.ComponentType.walks v.2) (FirstAnd (g.E.ComponentType.walks v.3) (FirstAnd (g.F.ComponentType.walks v.4) NoTrees))))) (row_gives (members_of core.component.types.types (c.index.result.now ∷ c.index-2.result.now ∷ c.index-3.result.now ∷ c.index-4.result.now ∷ c.index-5.result.now ∷ [])) ((λ u. g.A.Lower.gives core.component.types u v.0) ∷ (λ u. g.B.Lower.gives core.component.types u v.1) ∷ (λ u. g.C.Lower.gives core.component.types u v.2) ∷ (λ u. g.E.Lower.gives core.component.types u v.3) ∷ (λ u. g.F.Lower.gives core.component.types u v.4) ∷ [])) c.lower_at.new.cx.core.now c.lower_at.new.cx.options c.lower_at.new.dst c.lower_at.new.at c.index-2.result.now (members_of core.component.types.types (c.index-3.result.now ∷ c.index-4.result.now ∷ c.index-5.result.now ∷ [])) (g.B.ComponentType.walks v.1) (FirstAnd (g.C.ComponentType.walks v.2) (FirstAnd (g.E.ComponentType.walks v.3) (FirstAnd (g.F.ComponentType.walks v.4) NoTrees))) (λ i u. g.B.Lower.gives i u v.1) (row_gives (members_of core.component.types.types (c.index-3.result.now ∷ c.index-4.result.now ∷ c.index-5.result.now ∷ [])) ((λ u. g.C.Lower.gives core.component.types u v.2) ∷ (λ u. g.E.Lower.gives core.component.types u v.3) ∷ (λ u. g.F.Lower.gives core.component.types u v.4) ∷ [])) done2 known.1.0
+
+pub lower_at-requires-2-clause-fits : goal.lower_at-requires-2-clause-fits
+lower_at-requires-2-clause-fits g c =
+    let L : GuestLaws _ = record { seen = g.G.Guest.seen; moves = g.G.Guest.moves; stays = g.met.G.Guest.stays; goes_on = g.met.G.Guest.goes_on } in
+    let a = c.args in
+    let core = a.cx.now.core.now in
+    let v = a.self.now in
+    let xs : List InterfaceType = c.index.result.now ∷ c.index-2.result.now ∷ c.index-3.result.now ∷ c.index-4.result.now ∷ c.index-5.result.now ∷ [] in
+    let (shape, fit, known) = tuple_facts (g.A.ComponentType.fits ∷ g.B.ComponentType.fits ∷ g.C.ComponentType.fits ∷ g.E.ComponentType.fits ∷ g.F.ComponentType.fits ∷ []) core.component.types c.types.result.now c.in-Tuple.i c.tuple.result.now.types.items xs a.ty c.types.ensures c.in-Tuple.is c.tuple.ensures.entry c.requires.fits refl
+    (c.index.ensures, (c.index-2.ensures, (c.index-3.ensures, (c.index-4.ensures, (c.index-5.ensures, tt))))) in
+    let done = done_none L a.cx.now.options core (members_of core.component.types.types (c.index.result.now ∷ c.index-2.result.now ∷ c.index-3.result.now ∷ c.index-4.result.now ∷ c.index-5.result.now ∷ [])) (FirstAnd (g.A.ComponentType.walks v.0) (FirstAnd (g.B.ComponentType.walks v.1) (FirstAnd (g.C.ComponentType.walks v.2) (FirstAnd (g.E.ComponentType.walks v.3) (FirstAnd (g.F.ComponentType.walks v.4) NoTrees))))) (row_gives (members_of core.component.types.types (c.index.result.now ∷ c.index-2.result.now ∷ c.index-3.result.now ∷ c.index-4.result.now ∷ c.index-5.result.now ∷ [])) ((λ u. g.A.Lower.gives core.component.types u v.0) ∷ (λ u. g.B.Lower.gives core.component.types u v.1) ∷ (λ u. g.C.Lower.gives core.component.types u v.2) ∷ (λ u. g.E.Lower.gives core.component.types u v.3) ∷ (λ u. g.F.Lower.gives core.component.types u v.4) ∷ [])) a.dst.now (tuple_room (shape_of core.component.types.types a.ty) (members_of core.component.types.types (c.index.result.now ∷ c.index-2.result.now ∷ c.index-3.result.now ∷ c.index-4.result.now ∷ c.index-5.result.now ∷ [])) a.dst.now shape c.requires.words) in
+    let done2 = done_more L a.cx.now.options core (members_of core.component.types.types (c.index.result.now ∷ c.index-2.result.now ∷ c.index-3.result.now ∷ c.index-4.result.now ∷ c.index-5.result.now ∷ [])) (FirstAnd (g.A.ComponentType.walks v.0) (FirstAnd (g.B.ComponentType.walks v.1) (FirstAnd (g.C.ComponentType.walks v.2) (FirstAnd (g.E.ComponentType.walks v.3) (FirstAnd (g.F.ComponentType.walks v.4) NoTrees))))) (row_gives (members_of core.component.types.types (c.index.result.now ∷ c.index-2.result.now ∷ c.index-3.result.now ∷ c.index-4.result.now ∷ c.index-5.result.now ∷ [])) ((λ u. g.A.Lower.gives core.component.types u v.0) ∷ (λ u. g.B.Lower.gives core.component.types u v.1) ∷ (λ u. g.C.Lower.gives core.component.types u v.2) ∷ (λ u. g.E.Lower.gives core.component.types u v.3) ∷ (λ u. g.F.Lower.gives core.component.types u v.4) ∷ [])) core a.cx.now.options a.dst.now 0 c.index.result.now (members_of core.component.types.types (c.index-2.result.now ∷ c.index-3.result.now ∷ c.index-4.result.now ∷ c.index-5.result.now ∷ [])) (g.A.ComponentType.walks v.0) (FirstAnd (g.B.ComponentType.walks v.1) (FirstAnd (g.C.ComponentType.walks v.2) (FirstAnd (g.E.ComponentType.walks v.3) (FirstAnd (g.F.ComponentType.walks v.4) NoTrees)))) (λ i u. g.A.Lower.gives i u v.0) (row_gives (members_of core.component.types.types (c.index-2.result.now ∷ c.index-3.result.now ∷ c.index-4.result.now ∷ c.index-5.result.now ∷ [])) ((λ u. g.B.Lower.gives core.component.types u v.1) ∷ (λ u. g.C.Lower.gives core.component.types u v.2) ∷ (λ u. g.E.Lower.gives core.component.types u v.3) ∷ (λ u. g.F.Lower.gives core.component.types u v.4) ∷ [])) done c.lower_at.new.cx.core.now c.lower_at.new.cx.options c.lower_at.new.dst c.lower_at.new.at (λ t has. walked_shaped g.A.ComponentType.fits g.A.ComponentType.walks g.A.ComponentType.means g.met.A.ComponentType.typed g.met.A.ComponentType.walked v.0 core.component.types c.index.result.now t (fit.0) has) c.in-Ok.ensures.stays c.in-Ok.ensures.end c.in-Ok.ensures.same_options c.in-Ok.ensures.lowers in
+    done_fits L a.cx.now.options core (members_of core.component.types.types (c.index.result.now ∷ c.index-2.result.now ∷ c.index-3.result.now ∷ c.index-4.result.now ∷ c.index-5.result.now ∷ [])) (FirstAnd (g.A.ComponentType.walks v.0) (FirstAnd (g.B.ComponentType.walks v.1) (FirstAnd (g.C.ComponentType.walks v.2) (FirstAnd (g.E.ComponentType.walks v.3) (FirstAnd (g.F.ComponentType.walks v.4) NoTrees))))) (row_gives (members_of core.component.types.types (c.index.result.now ∷ c.index-2.result.now ∷ c.index-3.result.now ∷ c.index-4.result.now ∷ c.index-5.result.now ∷ [])) ((λ u. g.A.Lower.gives core.component.types u v.0) ∷ (λ u. g.B.Lower.gives core.component.types u v.1) ∷ (λ u. g.C.Lower.gives core.component.types u v.2) ∷ (λ u. g.E.Lower.gives core.component.types u v.3) ∷ (λ u. g.F.Lower.gives core.component.types u v.4) ∷ [])) c.lower_at.new.cx.core.now c.lower_at.new.cx.options c.lower_at.new.dst c.lower_at.new.at c.index-2.result.now (members_of core.component.types.types (c.index-3.result.now ∷ c.index-4.result.now ∷ c.index-5.result.now ∷ [])) (g.B.ComponentType.walks v.1) (FirstAnd (g.C.ComponentType.walks v.2) (FirstAnd (g.E.ComponentType.walks v.3) (FirstAnd (g.F.ComponentType.walks v.4) NoTrees))) (λ i u. g.B.Lower.gives i u v.1) (row_gives (members_of core.component.types.types (c.index-3.result.now ∷ c.index-4.result.now ∷ c.index-5.result.now ∷ [])) ((λ u. g.C.Lower.gives core.component.types u v.2) ∷ (λ u. g.E.Lower.gives core.component.types u v.3) ∷ (λ u. g.F.Lower.gives core.component.types u v.4) ∷ [])) done2 g.B.ComponentType.fits fit.1.0
+
+pub returns-in-Err-lower_at-clause-lowers : goal.returns-in-Err-lower_at-clause-lowers
+returns-in-Err-lower_at-clause-lowers g c =
+    let L : GuestLaws _ = record { seen = g.G.Guest.seen; moves = g.G.Guest.moves; stays = g.met.G.Guest.stays; goes_on = g.met.G.Guest.goes_on } in
+    let a = c.args in
+    let core = a.cx.now.core.now in
+    let v = a.self.now in
+    let xs : List InterfaceType = c.index.result.now ∷ c.index-2.result.now ∷ c.index-3.result.now ∷ c.index-4.result.now ∷ c.index-5.result.now ∷ [] in
+    let (shape, fit, known) = tuple_facts (g.A.ComponentType.fits ∷ g.B.ComponentType.fits ∷ g.C.ComponentType.fits ∷ g.E.ComponentType.fits ∷ g.F.ComponentType.fits ∷ []) core.component.types c.types.result.now c.in-Tuple.i c.tuple.result.now.types.items xs a.ty c.types.ensures c.in-Tuple.is c.tuple.ensures.entry c.requires.fits refl
+    (c.index.ensures, (c.index-2.ensures, (c.index-3.ensures, (c.index-4.ensures, (c.index-5.ensures, tt))))) in
+    let done = done_none L a.cx.now.options core (members_of core.component.types.types (c.index.result.now ∷ c.index-2.result.now ∷ c.index-3.result.now ∷ c.index-4.result.now ∷ c.index-5.result.now ∷ [])) (FirstAnd (g.A.ComponentType.walks v.0) (FirstAnd (g.B.ComponentType.walks v.1) (FirstAnd (g.C.ComponentType.walks v.2) (FirstAnd (g.E.ComponentType.walks v.3) (FirstAnd (g.F.ComponentType.walks v.4) NoTrees))))) (row_gives (members_of core.component.types.types (c.index.result.now ∷ c.index-2.result.now ∷ c.index-3.result.now ∷ c.index-4.result.now ∷ c.index-5.result.now ∷ [])) ((λ u. g.A.Lower.gives core.component.types u v.0) ∷ (λ u. g.B.Lower.gives core.component.types u v.1) ∷ (λ u. g.C.Lower.gives core.component.types u v.2) ∷ (λ u. g.E.Lower.gives core.component.types u v.3) ∷ (λ u. g.F.Lower.gives core.component.types u v.4) ∷ [])) a.dst.now (tuple_room (shape_of core.component.types.types a.ty) (members_of core.component.types.types (c.index.result.now ∷ c.index-2.result.now ∷ c.index-3.result.now ∷ c.index-4.result.now ∷ c.index-5.result.now ∷ [])) a.dst.now shape c.requires.words) in
+    let done2 = done_more L a.cx.now.options core (members_of core.component.types.types (c.index.result.now ∷ c.index-2.result.now ∷ c.index-3.result.now ∷ c.index-4.result.now ∷ c.index-5.result.now ∷ [])) (FirstAnd (g.A.ComponentType.walks v.0) (FirstAnd (g.B.ComponentType.walks v.1) (FirstAnd (g.C.ComponentType.walks v.2) (FirstAnd (g.E.ComponentType.walks v.3) (FirstAnd (g.F.ComponentType.walks v.4) NoTrees))))) (row_gives (members_of core.component.types.types (c.index.result.now ∷ c.index-2.result.now ∷ c.index-3.result.now ∷ c.index-4.result.now ∷ c.index-5.result.now ∷ [])) ((λ u. g.A.Lower.gives core.component.types u v.0) ∷ (λ u. g.B.Lower.gives core.component.types u v.1) ∷ (λ u. g.C.Lower.gives core.component.types u v.2) ∷ (λ u. g.E.Lower.gives core.component.types u v.3) ∷ (λ u. g.F.Lower.gives core.component.types u v.4) ∷ [])) core a.cx.now.options a.dst.now 0 c.index.result.now (members_of core.component.types.types (c.index-2.result.now ∷ c.index-3.result.now ∷ c.index-4.result.now ∷ c.index-5.result.now ∷ [])) (g.A.ComponentType.walks v.0) (FirstAnd (g.B.ComponentType.walks v.1) (FirstAnd (g.C.ComponentType.walks v.2) (FirstAnd (g.E.ComponentType.walks v.3) (FirstAnd (g.F.ComponentType.walks v.4) NoTrees)))) (λ i u. g.A.Lower.gives i u v.0) (row_gives (members_of core.component.types.types (c.index-2.result.now ∷ c.index-3.result.now ∷ c.index-4.result.now ∷ c.index-5.result.now ∷ [])) ((λ u. g.B.Lower.gives core.component.types u v.1) ∷ (λ u. g.C.Lower.gives core.component.types u v.2) ∷ (λ u. g.E.Lower.gives core.component.types u v.3) ∷ (λ u. g.F.Lower.gives core.component.types u v.4) ∷ [])) done c.lower_at.new.cx.core.now c.lower_at.new.cx.options c.lower_at.new.dst c.lower_at.new.at (λ t has. walked_shaped g.A.ComponentType.fits g.A.ComponentType.walks g.A.ComponentType.means g.met.A.ComponentType.typed g.met.A.ComponentType.walked v.0 core.component.types c.index.result.now t (fit.0) has) c.in-Ok.ensures.stays c.in-Ok.ensures.end c.in-Ok.ensures.same_options c.in-Ok.ensures.lowers in
+    tuple_lowers L a.cx.now.options core c.lower_at-2.new.cx.core.now (shape_of core.component.types.types a.ty) (members_of core.component.types.types (c.index.result.now ∷ c.index-2.result.now ∷ c.index-3.result.now ∷ c.index-4.result.now ∷ c.index-5.result.now ∷ [])) c.lower_at-2.new.dst (FirstAnd (g.A.ComponentType.walks v.0) (FirstAnd (g.B.ComponentType.walks v.1) (FirstAnd (g.C.ComponentType.walks v.2) (FirstAnd (g.E.ComponentType.walks v.3) (FirstAnd (g.F.ComponentType.walks v.4) NoTrees))))) ((λ u. g.A.Lower.gives core.component.types u v.0) ∷ (λ u. g.B.Lower.gives core.component.types u v.1) ∷ (λ u. g.C.Lower.gives core.component.types u v.2) ∷ (λ u. g.E.Lower.gives core.component.types u v.3) ∷ (λ u. g.F.Lower.gives core.component.types u v.4) ∷ []) (Err c.in-Err-lower_at.fault) shape
+    (done_stop L a.cx.now.options core (members_of core.component.types.types (c.index.result.now ∷ c.index-2.result.now ∷ c.index-3.result.now ∷ c.index-4.result.now ∷ c.index-5.result.now ∷ [])) (FirstAnd (g.A.ComponentType.walks v.0) (FirstAnd (g.B.ComponentType.walks v.1) (FirstAnd (g.C.ComponentType.walks v.2) (FirstAnd (g.E.ComponentType.walks v.3) (FirstAnd (g.F.ComponentType.walks v.4) NoTrees))))) (row_gives (members_of core.component.types.types (c.index.result.now ∷ c.index-2.result.now ∷ c.index-3.result.now ∷ c.index-4.result.now ∷ c.index-5.result.now ∷ [])) ((λ u. g.A.Lower.gives core.component.types u v.0) ∷ (λ u. g.B.Lower.gives core.component.types u v.1) ∷ (λ u. g.C.Lower.gives core.component.types u v.2) ∷ (λ u. g.E.Lower.gives core.component.types u v.3) ∷ (λ u. g.F.Lower.gives core.component.types u v.4) ∷ [])) c.lower_at.new.cx.core.now c.lower_at.new.cx.options c.lower_at.new.dst c.lower_at.new.at c.index-2.result.now (members_of core.component.types.types (c.index-3.result.now ∷ c.index-4.result.now ∷ c.index-5.result.now ∷ [])) (g.B.ComponentType.walks v.1) (FirstAnd (g.C.ComponentType.walks v.2) (FirstAnd (g.E.ComponentType.walks v.3) (FirstAnd (g.F.ComponentType.walks v.4) NoTrees))) (λ i u. g.B.Lower.gives i u v.1) (row_gives (members_of core.component.types.types (c.index-3.result.now ∷ c.index-4.result.now ∷ c.index-5.result.now ∷ [])) ((λ u. g.C.Lower.gives core.component.types u v.2) ∷ (λ u. g.E.Lower.gives core.component.types u v.3) ∷ (λ u. g.F.Lower.gives core.component.types u v.4) ∷ [])) done2 c.lower_at-2.new.cx.core.now c.lower_at-2.new.dst c.in-Err-lower_at.fault c.in-Err-lower_at.ensures.stays c.in-Err-lower_at.ensures.lowers)
+
+pub lower_at-requires-3-clause-room : goal.lower_at-requires-3-clause-room
+lower_at-requires-3-clause-room g c =
+    let L : GuestLaws _ = record { seen = g.G.Guest.seen; moves = g.G.Guest.moves; stays = g.met.G.Guest.stays; goes_on = g.met.G.Guest.goes_on } in
+    let a = c.args in
+    let core = a.cx.now.core.now in
+    let v = a.self.now in
+    let xs : List InterfaceType = c.index.result.now ∷ c.index-2.result.now ∷ c.index-3.result.now ∷ c.index-4.result.now ∷ c.index-5.result.now ∷ [] in
+    let (shape, fit, known) = tuple_facts (g.A.ComponentType.fits ∷ g.B.ComponentType.fits ∷ g.C.ComponentType.fits ∷ g.E.ComponentType.fits ∷ g.F.ComponentType.fits ∷ []) core.component.types c.types.result.now c.in-Tuple.i c.tuple.result.now.types.items xs a.ty c.types.ensures c.in-Tuple.is c.tuple.ensures.entry c.requires.fits refl
+    (c.index.ensures, (c.index-2.ensures, (c.index-3.ensures, (c.index-4.ensures, (c.index-5.ensures, tt))))) in
+    let done = done_none L a.cx.now.options core (members_of core.component.types.types (c.index.result.now ∷ c.index-2.result.now ∷ c.index-3.result.now ∷ c.index-4.result.now ∷ c.index-5.result.now ∷ [])) (FirstAnd (g.A.ComponentType.walks v.0) (FirstAnd (g.B.ComponentType.walks v.1) (FirstAnd (g.C.ComponentType.walks v.2) (FirstAnd (g.E.ComponentType.walks v.3) (FirstAnd (g.F.ComponentType.walks v.4) NoTrees))))) (row_gives (members_of core.component.types.types (c.index.result.now ∷ c.index-2.result.now ∷ c.index-3.result.now ∷ c.index-4.result.now ∷ c.index-5.result.now ∷ [])) ((λ u. g.A.Lower.gives core.component.types u v.0) ∷ (λ u. g.B.Lower.gives core.component.types u v.1) ∷ (λ u. g.C.Lower.gives core.component.types u v.2) ∷ (λ u. g.E.Lower.gives core.component.types u v.3) ∷ (λ u. g.F.Lower.gives core.component.types u v.4) ∷ [])) a.dst.now (tuple_room (shape_of core.component.types.types a.ty) (members_of core.component.types.types (c.index.result.now ∷ c.index-2.result.now ∷ c.index-3.result.now ∷ c.index-4.result.now ∷ c.index-5.result.now ∷ [])) a.dst.now shape c.requires.words) in
+    let done2 = done_more L a.cx.now.options core (members_of core.component.types.types (c.index.result.now ∷ c.index-2.result.now ∷ c.index-3.result.now ∷ c.index-4.result.now ∷ c.index-5.result.now ∷ [])) (FirstAnd (g.A.ComponentType.walks v.0) (FirstAnd (g.B.ComponentType.walks v.1) (FirstAnd (g.C.ComponentType.walks v.2) (FirstAnd (g.E.ComponentType.walks v.3) (FirstAnd (g.F.ComponentType.walks v.4) NoTrees))))) (row_gives (members_of core.component.types.types (c.index.result.now ∷ c.index-2.result.now ∷ c.index-3.result.now ∷ c.index-4.result.now ∷ c.index-5.result.now ∷ [])) ((λ u. g.A.Lower.gives core.component.types u v.0) ∷ (λ u. g.B.Lower.gives core.component.types u v.1) ∷ (λ u. g.C.Lower.gives core.component.types u v.2) ∷ (λ u. g.E.Lower.gives core.component.types u v.3) ∷ (λ u. g.F.Lower.gives core.component.types u v.4) ∷ [])) core a.cx.now.options a.dst.now 0 c.index.result.now (members_of core.component.types.types (c.index-2.result.now ∷ c.index-3.result.now ∷ c.index-4.result.now ∷ c.index-5.result.now ∷ [])) (g.A.ComponentType.walks v.0) (FirstAnd (g.B.ComponentType.walks v.1) (FirstAnd (g.C.ComponentType.walks v.2) (FirstAnd (g.E.ComponentType.walks v.3) (FirstAnd (g.F.ComponentType.walks v.4) NoTrees)))) (λ i u. g.A.Lower.gives i u v.0) (row_gives (members_of core.component.types.types (c.index-2.result.now ∷ c.index-3.result.now ∷ c.index-4.result.now ∷ c.index-5.result.now ∷ [])) ((λ u. g.B.Lower.gives core.component.types u v.1) ∷ (λ u. g.C.Lower.gives core.component.types u v.2) ∷ (λ u. g.E.Lower.gives core.component.types u v.3) ∷ (λ u. g.F.Lower.gives core.component.types u v.4) ∷ [])) done c.lower_at.new.cx.core.now c.lower_at.new.cx.options c.lower_at.new.dst c.lower_at.new.at (λ t has. walked_shaped g.A.ComponentType.fits g.A.ComponentType.walks g.A.ComponentType.means g.met.A.ComponentType.typed g.met.A.ComponentType.walked v.0 core.component.types c.index.result.now t (fit.0) has) c.in-Ok.ensures.stays c.in-Ok.ensures.end c.in-Ok.ensures.same_options c.in-Ok.ensures.lowers in
+    let done3 = done_more L a.cx.now.options core (members_of core.component.types.types (c.index.result.now ∷ c.index-2.result.now ∷ c.index-3.result.now ∷ c.index-4.result.now ∷ c.index-5.result.now ∷ [])) (FirstAnd (g.A.ComponentType.walks v.0) (FirstAnd (g.B.ComponentType.walks v.1) (FirstAnd (g.C.ComponentType.walks v.2) (FirstAnd (g.E.ComponentType.walks v.3) (FirstAnd (g.F.ComponentType.walks v.4) NoTrees))))) (row_gives (members_of core.component.types.types (c.index.result.now ∷ c.index-2.result.now ∷ c.index-3.result.now ∷ c.index-4.result.now ∷ c.index-5.result.now ∷ [])) ((λ u. g.A.Lower.gives core.component.types u v.0) ∷ (λ u. g.B.Lower.gives core.component.types u v.1) ∷ (λ u. g.C.Lower.gives core.component.types u v.2) ∷ (λ u. g.E.Lower.gives core.component.types u v.3) ∷ (λ u. g.F.Lower.gives core.component.types u v.4) ∷ [])) c.lower_at.new.cx.core.now c.lower_at.new.cx.options c.lower_at.new.dst c.lower_at.new.at c.index-2.result.now (members_of core.component.types.types (c.index-3.result.now ∷ c.index-4.result.now ∷ c.index-5.result.now ∷ [])) (g.B.ComponentType.walks v.1) (FirstAnd (g.C.ComponentType.walks v.2) (FirstAnd (g.E.ComponentType.walks v.3) (FirstAnd (g.F.ComponentType.walks v.4) NoTrees))) (λ i u. g.B.Lower.gives i u v.1) (row_gives (members_of core.component.types.types (c.index-3.result.now ∷ c.index-4.result.now ∷ c.index-5.result.now ∷ [])) ((λ u. g.C.Lower.gives core.component.types u v.2) ∷ (λ u. g.E.Lower.gives core.component.types u v.3) ∷ (λ u. g.F.Lower.gives core.component.types u v.4) ∷ [])) done2 c.lower_at-2.new.cx.core.now c.lower_at-2.new.cx.options c.lower_at-2.new.dst c.lower_at-2.new.at (λ t has. walked_shaped g.B.ComponentType.fits g.B.ComponentType.walks g.B.ComponentType.means g.met.B.ComponentType.typed g.met.B.ComponentType.walked v.1 core.component.types c.index-2.result.now t (fit.1.0) has) c.in-Ok-lower_at.ensures.stays c.in-Ok-lower_at.ensures.end c.in-Ok-lower_at.ensures.same_options c.in-Ok-lower_at.ensures.lowers in
+    done_room L a.cx.now.options core (members_of core.component.types.types (c.index.result.now ∷ c.index-2.result.now ∷ c.index-3.result.now ∷ c.index-4.result.now ∷ c.index-5.result.now ∷ [])) (FirstAnd (g.A.ComponentType.walks v.0) (FirstAnd (g.B.ComponentType.walks v.1) (FirstAnd (g.C.ComponentType.walks v.2) (FirstAnd (g.E.ComponentType.walks v.3) (FirstAnd (g.F.ComponentType.walks v.4) NoTrees))))) (row_gives (members_of core.component.types.types (c.index.result.now ∷ c.index-2.result.now ∷ c.index-3.result.now ∷ c.index-4.result.now ∷ c.index-5.result.now ∷ [])) ((λ u. g.A.Lower.gives core.component.types u v.0) ∷ (λ u. g.B.Lower.gives core.component.types u v.1) ∷ (λ u. g.C.Lower.gives core.component.types u v.2) ∷ (λ u. g.E.Lower.gives core.component.types u v.3) ∷ (λ u. g.F.Lower.gives core.component.types u v.4) ∷ [])) c.lower_at-2.new.cx.core.now c.lower_at-2.new.cx.options c.lower_at-2.new.dst c.lower_at-2.new.at c.index-3.result.now (members_of core.component.types.types (c.index-4.result.now ∷ c.index-5.result.now ∷ [])) (g.C.ComponentType.walks v.2) (FirstAnd (g.E.ComponentType.walks v.3) (FirstAnd (g.F.ComponentType.walks v.4) NoTrees)) (λ i u. g.C.Lower.gives i u v.2) (row_gives (members_of core.component.types.types (c.index-4.result.now ∷ c.index-5.result.now ∷ [])) ((λ u. g.E.Lower.gives core.component.types u v.3) ∷ (λ u. g.F.Lower.gives core.component.types u v.4) ∷ [])) done3
+
+pub lower_at-requires-3-clause-known : goal.lower_at-requires-3-clause-known
+lower_at-requires-3-clause-known g c =
+    let L : GuestLaws _ = record { seen = g.G.Guest.seen; moves = g.G.Guest.moves; stays = g.met.G.Guest.stays; goes_on = g.met.G.Guest.goes_on } in
+    let a = c.args in
+    let core = a.cx.now.core.now in
+    let v = a.self.now in
+    let xs : List InterfaceType = c.index.result.now ∷ c.index-2.result.now ∷ c.index-3.result.now ∷ c.index-4.result.now ∷ c.index-5.result.now ∷ [] in
+    let (shape, fit, known) = tuple_facts (g.A.ComponentType.fits ∷ g.B.ComponentType.fits ∷ g.C.ComponentType.fits ∷ g.E.ComponentType.fits ∷ g.F.ComponentType.fits ∷ []) core.component.types c.types.result.now c.in-Tuple.i c.tuple.result.now.types.items xs a.ty c.types.ensures c.in-Tuple.is c.tuple.ensures.entry c.requires.fits refl
+    (c.index.ensures, (c.index-2.ensures, (c.index-3.ensures, (c.index-4.ensures, (c.index-5.ensures, tt))))) in
+    let done = done_none L a.cx.now.options core (members_of core.component.types.types (c.index.result.now ∷ c.index-2.result.now ∷ c.index-3.result.now ∷ c.index-4.result.now ∷ c.index-5.result.now ∷ [])) (FirstAnd (g.A.ComponentType.walks v.0) (FirstAnd (g.B.ComponentType.walks v.1) (FirstAnd (g.C.ComponentType.walks v.2) (FirstAnd (g.E.ComponentType.walks v.3) (FirstAnd (g.F.ComponentType.walks v.4) NoTrees))))) (row_gives (members_of core.component.types.types (c.index.result.now ∷ c.index-2.result.now ∷ c.index-3.result.now ∷ c.index-4.result.now ∷ c.index-5.result.now ∷ [])) ((λ u. g.A.Lower.gives core.component.types u v.0) ∷ (λ u. g.B.Lower.gives core.component.types u v.1) ∷ (λ u. g.C.Lower.gives core.component.types u v.2) ∷ (λ u. g.E.Lower.gives core.component.types u v.3) ∷ (λ u. g.F.Lower.gives core.component.types u v.4) ∷ [])) a.dst.now (tuple_room (shape_of core.component.types.types a.ty) (members_of core.component.types.types (c.index.result.now ∷ c.index-2.result.now ∷ c.index-3.result.now ∷ c.index-4.result.now ∷ c.index-5.result.now ∷ [])) a.dst.now shape c.requires.words) in
+    let done2 = done_more L a.cx.now.options core (members_of core.component.types.types (c.index.result.now ∷ c.index-2.result.now ∷ c.index-3.result.now ∷ c.index-4.result.now ∷ c.index-5.result.now ∷ [])) (FirstAnd (g.A.ComponentType.walks v.0) (FirstAnd (g.B.ComponentType.walks v.1) (FirstAnd (g.C.ComponentType.walks v.2) (FirstAnd (g.E.ComponentType.walks v.3) (FirstAnd (g.F.ComponentType.walks v.4) NoTrees))))) (row_gives (members_of core.component.types.types (c.index.result.now ∷ c.index-2.result.now ∷ c.index-3.result.now ∷ c.index-4.result.now ∷ c.index-5.result.now ∷ [])) ((λ u. g.A.Lower.gives core.component.types u v.0) ∷ (λ u. g.B.Lower.gives core.component.types u v.1) ∷ (λ u. g.C.Lower.gives core.component.types u v.2) ∷ (λ u. g.E.Lower.gives core.component.types u v.3) ∷ (λ u. g.F.Lower.gives core.component.types u v.4) ∷ [])) core a.cx.now.options a.dst.now 0 c.index.result.now (members_of core.component.types.types (c.index-2.result.now ∷ c.index-3.result.now ∷ c.index-4.result.now ∷ c.index-5.result.now ∷ [])) (g.A.ComponentType.walks v.0) (FirstAnd (g.B.ComponentType.walks v.1) (FirstAnd (g.C.ComponentType.walks v.2) (FirstAnd (g.E.ComponentType.walks v.3) (FirstAnd (g.F.ComponentType.walks v.4) NoTrees)))) (λ i u. g.A.Lower.gives i u v.0) (row_gives (members_of core.component.types.types (c.index-2.result.now ∷ c.index-3.result.now ∷ c.index-4.result.now ∷ c.index-5.result.now ∷ [])) ((λ u. g.B.Lower.gives core.component.types u v.1) ∷ (λ u. g.C.Lower.gives core.component.types u v.2) ∷ (λ u. g.E.Lower.gives core.component.types u v.3) ∷ (λ u. g.F.Lower.gives core.component.types u v.4) ∷ [])) done c.lower_at.new.cx.core.now c.lower_at.new.cx.options c.lower_at.new.dst c.lower_at.new.at (λ t has. walked_shaped g.A.ComponentType.fits g.A.ComponentType.walks g.A.ComponentType.means g.met.A.ComponentType.typed g.met.A.ComponentType.walked v.0 core.component.types c.index.result.now t (fit.0) has) c.in-Ok.ensures.stays c.in-Ok.ensures.end c.in-Ok.ensures.same_options c.in-Ok.ensures.lowers in
+    let done3 = done_more L a.cx.now.options core (members_of core.component.types.types (c.index.result.now ∷ c.index-2.result.now ∷ c.index-3.result.now ∷ c.index-4.result.now ∷ c.index-5.result.now ∷ [])) (FirstAnd (g.A.ComponentType.walks v.0) (FirstAnd (g.B.ComponentType.walks v.1) (FirstAnd (g.C.ComponentType.walks v.2) (FirstAnd (g.E.ComponentType.walks v.3) (FirstAnd (g.F.ComponentType.walks v.4) NoTrees))))) (row_gives (members_of core.component.types.types (c.index.result.now ∷ c.index-2.result.now ∷ c.index-3.result.now ∷ c.index-4.result.now ∷ c.index-5.result.now ∷ [])) ((λ u. g.A.Lower.gives core.component.types u v.0) ∷ (λ u. g.B.Lower.gives core.component.types u v.1) ∷ (λ u. g.C.Lower.gives core.component.types u v.2) ∷ (λ u. g.E.Lower.gives core.component.types u v.3) ∷ (λ u. g.F.Lower.gives core.component.types u v.4) ∷ [])) c.lower_at.new.cx.core.now c.lower_at.new.cx.options c.lower_at.new.dst c.lower_at.new.at c.index-2.result.now (members_of core.component.types.types (c.index-3.result.now ∷ c.index-4.result.now ∷ c.index-5.result.now ∷ [])) (g.B.ComponentType.walks v.1) (FirstAnd (g.C.ComponentType.walks v.2) (FirstAnd (g.E.ComponentType.walks v.3) (FirstAnd (g.F.ComponentType.walks v.4) NoTrees))) (λ i u. g.B.Lower.gives i u v.1) (row_gives (members_of core.component.types.types (c.index-3.result.now ∷ c.index-4.result.now ∷ c.index-5.result.now ∷ [])) ((λ u. g.C.Lower.gives core.component.types u v.2) ∷ (λ u. g.E.Lower.gives core.component.types u v.3) ∷ (λ u. g.F.Lower.gives core.component.types u v.4) ∷ [])) done2 c.lower_at-2.new.cx.core.now c.lower_at-2.new.cx.options c.lower_at-2.new.dst c.lower_at-2.new.at (λ t has. walked_shaped g.B.ComponentType.fits g.B.ComponentType.walks g.B.ComponentType.means g.met.B.ComponentType.typed g.met.B.ComponentType.walked v.1 core.component.types c.index-2.result.now t (fit.1.0) has) c.in-Ok-lower_at.ensures.stays c.in-Ok-lower_at.ensures.end c.in-Ok-lower_at.ensures.same_options c.in-Ok-lower_at.ensures.lowers in
+    done_known L a.cx.now.options core (members_of core.component.types.types (c.index.result.now ∷ c.index-2.result.now ∷ c.index-3.result.now ∷ c.index-4.result.now ∷ c.index-5.result.now ∷ [])) (FirstAnd (g.A.ComponentType.walks v.0) (FirstAnd (g.B.ComponentType.walks v.1) (FirstAnd (g.C.ComponentType.walks v.2) (FirstAnd (g.E.ComponentType.walks v.3) (FirstAnd (g.F.ComponentType.walks v.4) NoTrees))))) (row_gives (members_of core.component.types.types (c.index.result.now ∷ c.index-2.result.now ∷ c.index-3.result.now ∷ c.index-4.result.now ∷ c.index-5.result.now ∷ [])) ((λ u. g.A.Lower.gives core.component.types u v.0) ∷ (λ u. g.B.Lower.gives core.component.types u v.1) ∷ (λ u. g.C.Lower.gives core.component.types u v.2) ∷ (λ u. g.E.Lower.gives core.component.types u v.3) ∷ (λ u. g.F.Lower.gives core.component.types u v.4) ∷ [])) c.lower_at-2.new.cx.core.now c.lower_at-2.new.cx.options c.lower_at-2.new.dst c.lower_at-2.new.at c.index-3.result.now (members_of core.component.types.types (c.index-4.result.now ∷ c.index-5.result.now ∷ [])) (g.C.ComponentType.walks v.2) (FirstAnd (g.E.ComponentType.walks v.3) (FirstAnd (g.F.ComponentType.walks v.4) NoTrees)) (λ i u. g.C.Lower.gives i u v.2) (row_gives (members_of core.component.types.types (c.index-4.result.now ∷ c.index-5.result.now ∷ [])) ((λ u. g.E.Lower.gives core.component.types u v.3) ∷ (λ u. g.F.Lower.gives core.component.types u v.4) ∷ [])) done3 known.1.1.0
+
+pub lower_at-requires-3-clause-fits : goal.lower_at-requires-3-clause-fits
+lower_at-requires-3-clause-fits g c =
+    let L : GuestLaws _ = record { seen = g.G.Guest.seen; moves = g.G.Guest.moves; stays = g.met.G.Guest.stays; goes_on = g.met.G.Guest.goes_on } in
+    let a = c.args in
+    let core = a.cx.now.core.now in
+    let v = a.self.now in
+    let xs : List InterfaceType = c.index.result.now ∷ c.index-2.result.now ∷ c.index-3.result.now ∷ c.index-4.result.now ∷ c.index-5.result.now ∷ [] in
+    let (shape, fit, known) = tuple_facts (g.A.ComponentType.fits ∷ g.B.ComponentType.fits ∷ g.C.ComponentType.fits ∷ g.E.ComponentType.fits ∷ g.F.ComponentType.fits ∷ []) core.component.types c.types.result.now c.in-Tuple.i c.tuple.result.now.types.items xs a.ty c.types.ensures c.in-Tuple.is c.tuple.ensures.entry c.requires.fits refl
+    (c.index.ensures, (c.index-2.ensures, (c.index-3.ensures, (c.index-4.ensures, (c.index-5.ensures, tt))))) in
+    let done = done_none L a.cx.now.options core (members_of core.component.types.types (c.index.result.now ∷ c.index-2.result.now ∷ c.index-3.result.now ∷ c.index-4.result.now ∷ c.index-5.result.now ∷ [])) (FirstAnd (g.A.ComponentType.walks v.0) (FirstAnd (g.B.ComponentType.walks v.1) (FirstAnd (g.C.ComponentType.walks v.2) (FirstAnd (g.E.ComponentType.walks v.3) (FirstAnd (g.F.ComponentType.walks v.4) NoTrees))))) (row_gives (members_of core.component.types.types (c.index.result.now ∷ c.index-2.result.now ∷ c.index-3.result.now ∷ c.index-4.result.now ∷ c.index-5.result.now ∷ [])) ((λ u. g.A.Lower.gives core.component.types u v.0) ∷ (λ u. g.B.Lower.gives core.component.types u v.1) ∷ (λ u. g.C.Lower.gives core.component.types u v.2) ∷ (λ u. g.E.Lower.gives core.component.types u v.3) ∷ (λ u. g.F.Lower.gives core.component.types u v.4) ∷ [])) a.dst.now (tuple_room (shape_of core.component.types.types a.ty) (members_of core.component.types.types (c.index.result.now ∷ c.index-2.result.now ∷ c.index-3.result.now ∷ c.index-4.result.now ∷ c.index-5.result.now ∷ [])) a.dst.now shape c.requires.words) in
+    let done2 = done_more L a.cx.now.options core (members_of core.component.types.types (c.index.result.now ∷ c.index-2.result.now ∷ c.index-3.result.now ∷ c.index-4.result.now ∷ c.index-5.result.now ∷ [])) (FirstAnd (g.A.ComponentType.walks v.0) (FirstAnd (g.B.ComponentType.walks v.1) (FirstAnd (g.C.ComponentType.walks v.2) (FirstAnd (g.E.ComponentType.walks v.3) (FirstAnd (g.F.ComponentType.walks v.4) NoTrees))))) (row_gives (members_of core.component.types.types (c.index.result.now ∷ c.index-2.result.now ∷ c.index-3.result.now ∷ c.index-4.result.now ∷ c.index-5.result.now ∷ [])) ((λ u. g.A.Lower.gives core.component.types u v.0) ∷ (λ u. g.B.Lower.gives core.component.types u v.1) ∷ (λ u. g.C.Lower.gives core.component.types u v.2) ∷ (λ u. g.E.Lower.gives core.component.types u v.3) ∷ (λ u. g.F.Lower.gives core.component.types u v.4) ∷ [])) core a.cx.now.options a.dst.now 0 c.index.result.now (members_of core.component.types.types (c.index-2.result.now ∷ c.index-3.result.now ∷ c.index-4.result.now ∷ c.index-5.result.now ∷ [])) (g.A.ComponentType.walks v.0) (FirstAnd (g.B.ComponentType.walks v.1) (FirstAnd (g.C.ComponentType.walks v.2) (FirstAnd (g.E.ComponentType.walks v.3) (FirstAnd (g.F.ComponentType.walks v.4) NoTrees)))) (λ i u. g.A.Lower.gives i u v.0) (row_gives (members_of core.component.types.types (c.index-2.result.now ∷ c.index-3.result.now ∷ c.index-4.result.now ∷ c.index-5.result.now ∷ [])) ((λ u. g.B.Lower.gives core.component.types u v.1) ∷ (λ u. g.C.Lower.gives core.component.types u v.2) ∷ (λ u. g.E.Lower.gives core.component.types u v.3) ∷ (λ u. g.F.Lower.gives core.component.types u v.4) ∷ [])) done c.lower_at.new.cx.core.now c.lower_at.new.cx.options c.lower_at.new.dst c.lower_at.new.at (λ t has. walked_shaped g.A.ComponentType.fits g.A.ComponentType.walks g.A.ComponentType.means g.met.A.ComponentType.typed g.met.A.ComponentType.walked v.0 core.component.types c.index.result.now t (fit.0) has) c.in-Ok.ensures.stays c.in-Ok.ensures.end c.in-Ok.ensures.same_options c.in-Ok.ensures.lowers in
+    let done3 = done_more L a.cx.now.options core (members_of core.component.types.types (c.index.result.now ∷ c.index-2.result.now ∷ c.index-3.result.now ∷ c.index-4.result.now ∷ c.index-5.result.now ∷ [])) (FirstAnd (g.A.ComponentType.walks v.0) (FirstAnd (g.B.ComponentType.walks v.1) (FirstAnd (g.C.ComponentType.walks v.2) (FirstAnd (g.E.ComponentType.walks v.3) (FirstAnd (g.F.ComponentType.walks v.4) NoTrees))))) (row_gives (members_of core.component.types.types (c.index.result.now ∷ c.index-2.result.now ∷ c.index-3.result.now ∷ c.index-4.result.now ∷ c.index-5.result.now ∷ [])) ((λ u. g.A.Lower.gives core.component.types u v.0) ∷ (λ u. g.B.Lower.gives core.component.types u v.1) ∷ (λ u. g.C.Lower.gives core.component.types u v.2) ∷ (λ u. g.E.Lower.gives core.component.types u v.3) ∷ (λ u. g.F.Lower.gives core.component.types u v.4) ∷ [])) c.lower_at.new.cx.core.now c.lower_at.new.cx.options c.lower_at.new.dst c.lower_at.new.at c.index-2.result.now (members_of core.component.types.types (c.index-3.result.now ∷ c.index-4.result.now ∷ c.index-5.result.now ∷ [])) (g.B.ComponentType.walks v.1) (FirstAnd (g.C.ComponentType.walks v.2) (FirstAnd (g.E.ComponentType.walks v.3) (FirstAnd (g.F.ComponentType.walks v.4) NoTrees))) (λ i u. g.B.Lower.gives i u v.1) (row_gives (members_of core.component.types.types (c.index-3.result.now ∷ c.index-4.result.now ∷ c.index-5.result.now ∷ [])) ((λ u. g.C.Lower.gives core.component.types u v.2) ∷ (λ u. g.E.Lower.gives core.component.types u v.3) ∷ (λ u. g.F.Lower.gives core.component.types u v.4) ∷ [])) done2 c.lower_at-2.new.cx.core.now c.lower_at-2.new.cx.options c.lower_at-2.new.dst c.lower_at-2.new.at (λ t has. walked_shaped g.B.ComponentType.fits g.B.ComponentType.walks g.B.ComponentType.means g.met.B.ComponentType.typed g.met.B.ComponentType.walked v.1 core.component.types c.index-2.result.now t (fit.1.0) has) c.in-Ok-lower_at.ensures.stays c.in-Ok-lower_at.ensures.end c.in-Ok-lower_at.ensures.same_options c.in-Ok-lower_at.ensures.lowers in
+    done_fits L a.cx.now.options core (members_of core.component.types.types (c.index.result.now ∷ c.index-2.result.now ∷ c.index-3.result.now ∷ c.index-4.result.now ∷ c.index-5.result.now ∷ [])) (FirstAnd (g.A.ComponentType.walks v.0) (FirstAnd (g.B.ComponentType.walks v.1) (FirstAnd (g.C.ComponentType.walks v.2) (FirstAnd (g.E.ComponentType.walks v.3) (FirstAnd (g.F.ComponentType.walks v.4) NoTrees))))) (row_gives (members_of core.component.types.types (c.index.result.now ∷ c.index-2.result.now ∷ c.index-3.result.now ∷ c.index-4.result.now ∷ c.index-5.result.now ∷ [])) ((λ u. g.A.Lower.gives core.component.types u v.0) ∷ (λ u. g.B.Lower.gives core.component.types u v.1) ∷ (λ u. g.C.Lower.gives core.component.types u v.2) ∷ (λ u. g.E.Lower.gives core.component.types u v.3) ∷ (λ u. g.F.Lower.gives core.component.types u v.4) ∷ [])) c.lower_at-2.new.cx.core.now c.lower_at-2.new.cx.options c.lower_at-2.new.dst c.lower_at-2.new.at c.index-3.result.now (members_of core.component.types.types (c.index-4.result.now ∷ c.index-5.result.now ∷ [])) (g.C.ComponentType.walks v.2) (FirstAnd (g.E.ComponentType.walks v.3) (FirstAnd (g.F.ComponentType.walks v.4) NoTrees)) (λ i u. g.C.Lower.gives i u v.2) (row_gives (members_of core.component.types.types (c.index-4.result.now ∷ c.index-5.result.now ∷ [])) ((λ u. g.E.Lower.gives core.component.types u v.3) ∷ (λ u. g.F.Lower.gives core.component.types u v.4) ∷ [])) done3 g.C.ComponentType.fits fit.1.1.0
+
+pub returns-in-Err-lower_at-2-clause-lowers : goal.returns-in-Err-lower_at-2-clause-lowers
+returns-in-Err-lower_at-2-clause-lowers g c =
+    let L : GuestLaws _ = record { seen = g.G.Guest.seen; moves = g.G.Guest.moves; stays = g.met.G.Guest.stays; goes_on = g.met.G.Guest.goes_on } in
+    let a = c.args in
+    let core = a.cx.now.core.now in
+    let v = a.self.now in
+    let xs : List InterfaceType = c.index.result.now ∷ c.index-2.result.now ∷ c.index-3.result.now ∷ c.index-4.result.now ∷ c.index-5.result.now ∷ [] in
+    let (shape, fit, known) = tuple_facts (g.A.ComponentType.fits ∷ g.B.ComponentType.fits ∷ g.C.ComponentType.fits ∷ g.E.ComponentType.fits ∷ g.F.ComponentType.fits ∷ []) core.component.types c.types.result.now c.in-Tuple.i c.tuple.result.now.types.items xs a.ty c.types.ensures c.in-Tuple.is c.tuple.ensures.entry c.requires.fits refl
+    (c.index.ensures, (c.index-2.ensures, (c.index-3.ensures, (c.index-4.ensures, (c.index-5.ensures, tt))))) in
+    let done = done_none L a.cx.now.options core (members_of core.component.types.types (c.index.result.now ∷ c.index-2.result.now ∷ c.index-3.result.now ∷ c.index-4.result.now ∷ c.index-5.result.now ∷ [])) (FirstAnd (g.A.ComponentType.walks v.0) (FirstAnd (g.B.ComponentType.walks v.1) (FirstAnd (g.C.ComponentType.walks v.2) (FirstAnd (g.E.ComponentType.walks v.3) (FirstAnd (g.F.ComponentType.walks v.4) NoTrees))))) (row_gives (members_of core.component.types.types (c.index.result.now ∷ c.index-2.result.now ∷ c.index-3.result.now ∷ c.index-4.result.now ∷ c.index-5.result.now ∷ [])) ((λ u. g.A.Lower.gives core.component.types u v.0) ∷ (λ u. g.B.Lower.gives core.component.types u v.1) ∷ (λ u. g.C.Lower.gives core.component.types u v.2) ∷ (λ u. g.E.Lower.gives core.component.types u v.3) ∷ (λ u. g.F.Lower.gives core.component.types u v.4) ∷ [])) a.dst.now (tuple_room (shape_of core.component.types.types a.ty) (members_of core.component.types.types (c.index.result.now ∷ c.index-2.result.now ∷ c.index-3.result.now ∷ c.index-4.result.now ∷ c.index-5.result.now ∷ [])) a.dst.now shape c.requires.words) in
+    let done2 = done_more L a.cx.now.options core (members_of core.component.types.types (c.index.result.now ∷ c.index-2.result.now ∷ c.index-3.result.now ∷ c.index-4.result.now ∷ c.index-5.result.now ∷ [])) (FirstAnd (g.A.ComponentType.walks v.0) (FirstAnd (g.B.ComponentType.walks v.1) (FirstAnd (g.C.ComponentType.walks v.2) (FirstAnd (g.E.ComponentType.walks v.3) (FirstAnd (g.F.ComponentType.walks v.4) NoTrees))))) (row_gives (members_of core.component.types.types (c.index.result.now ∷ c.index-2.result.now ∷ c.index-3.result.now ∷ c.index-4.result.now ∷ c.index-5.result.now ∷ [])) ((λ u. g.A.Lower.gives core.component.types u v.0) ∷ (λ u. g.B.Lower.gives core.component.types u v.1) ∷ (λ u. g.C.Lower.gives core.component.types u v.2) ∷ (λ u. g.E.Lower.gives core.component.types u v.3) ∷ (λ u. g.F.Lower.gives core.component.types u v.4) ∷ [])) core a.cx.now.options a.dst.now 0 c.index.result.now (members_of core.component.types.types (c.index-2.result.now ∷ c.index-3.result.now ∷ c.index-4.result.now ∷ c.index-5.result.now ∷ [])) (g.A.ComponentType.walks v.0) (FirstAnd (g.B.ComponentType.walks v.1) (FirstAnd (g.C.ComponentType.walks v.2) (FirstAnd (g.E.ComponentType.walks v.3) (FirstAnd (g.F.ComponentType.walks v.4) NoTrees)))) (λ i u. g.A.Lower.gives i u v.0) (row_gives (members_of core.component.types.types (c.index-2.result.now ∷ c.index-3.result.now ∷ c.index-4.result.now ∷ c.index-5.result.now ∷ [])) ((λ u. g.B.Lower.gives core.component.types u v.1) ∷ (λ u. g.C.Lower.gives core.component.types u v.2) ∷ (λ u. g.E.Lower.gives core.component.types u v.3) ∷ (λ u. g.F.Lower.gives core.component.types u v.4) ∷ [])) done c.lower_at.new.cx.core.now c.lower_at.new.cx.options c.lower_at.new.dst c.lower_at.new.at (λ t has. walked_shaped g.A.ComponentType.fits g.A.ComponentType.walks g.A.ComponentType.means g.met.A.ComponentType.typed g.met.A.ComponentType.walked v.0 core.component.types c.index.result.now t (fit.0) has) c.in-Ok.ensures.stays c.in-Ok.ensures.end c.in-Ok.ensures.same_options c.in-Ok.ensures.lowers in
+    let done3 = done_more L a.cx.now.options core (members_of core.component.types.types (c.index.result.now ∷ c.index-2.result.now ∷ c.index-3.result.now ∷ c.index-4.result.now ∷ c.index-5.result.now ∷ [])) (FirstAnd (g.A.ComponentType.walks v.0) (FirstAnd (g.B.ComponentType.walks v.1) (FirstAnd (g.C.ComponentType.walks v.2) (FirstAnd (g.E.ComponentType.walks v.3) (FirstAnd (g.F.ComponentType.walks v.4) NoTrees))))) (row_gives (members_of core.component.types.types (c.index.result.now ∷ c.index-2.result.now ∷ c.index-3.result.now ∷ c.index-4.result.now ∷ c.index-5.result.now ∷ [])) ((λ u. g.A.Lower.gives core.component.types u v.0) ∷ (λ u. g.B.Lower.gives core.component.types u v.1) ∷ (λ u. g.C.Lower.gives core.component.types u v.2) ∷ (λ u. g.E.Lower.gives core.component.types u v.3) ∷ (λ u. g.F.Lower.gives core.component.types u v.4) ∷ [])) c.lower_at.new.cx.core.now c.lower_at.new.cx.options c.lower_at.new.dst c.lower_at.new.at c.index-2.result.now (members_of core.component.types.types (c.index-3.result.now ∷ c.index-4.result.now ∷ c.index-5.result.now ∷ [])) (g.B.ComponentType.walks v.1) (FirstAnd (g.C.ComponentType.walks v.2) (FirstAnd (g.E.ComponentType.walks v.3) (FirstAnd (g.F.ComponentType.walks v.4) NoTrees))) (λ i u. g.B.Lower.gives i u v.1) (row_gives (members_of core.component.types.types (c.index-3.result.now ∷ c.index-4.result.now ∷ c.index-5.result.now ∷ [])) ((λ u. g.C.Lower.gives core.component.types u v.2) ∷ (λ u. g.E.Lower.gives core.component.types u v.3) ∷ (λ u. g.F.Lower.gives core.component.types u v.4) ∷ [])) done2 c.lower_at-2.new.cx.core.now c.lower_at-2.new.cx.options c.lower_at-2.new.dst c.lower_at-2.new.at (λ t has. walked_shaped g.B.ComponentType.fits g.B.ComponentType.walks g.B.ComponentType.means g.met.B.ComponentType.typed g.met.B.ComponentType.walked v.1 core.component.types c.index-2.result.now t (fit.1.0) has) c.in-Ok-lower_at.ensures.stays c.in-Ok-lower_at.ensures.end c.in-Ok-lower_at.ensures.same_options c.in-Ok-lower_at.ensures.lowers in
+    tuple_lowers L a.cx.now.options core c.lower_at-3.new.cx.core.now (shape_of core.component.types.types a.ty) (members_of core.component.types.types (c.index.result.now ∷ c.index-2.result.now ∷ c.index-3.result.now ∷ c.index-4.result.now ∷ c.index-5.result.now ∷ [])) c.lower_at-3.new.dst (FirstAnd (g.A.ComponentType.walks v.0) (FirstAnd (g.B.ComponentType.walks v.1) (FirstAnd (g.C.ComponentType.walks v.2) (FirstAnd (g.E.ComponentType.walks v.3) (FirstAnd (g.F.ComponentType.walks v.4) NoTrees))))) ((λ u. g.A.Lower.gives core.component.types u v.0) ∷ (λ u. g.B.Lower.gives core.component.types u v.1) ∷ (λ u. g.C.Lower.gives core.component.types u v.2) ∷ (λ u. g.E.Lower.gives core.component.types u v.3) ∷ (λ u. g.F.Lower.gives core.component.types u v.4) ∷ []) (Err c.in-Err-lower_at-2.fault) shape
+    (done_stop L a.cx.now.options core (members_of core.component.types.types (c.index.result.now ∷ c.index-2.result.now ∷ c.index-3.result.now ∷ c.index-4.result.now ∷ c.index-5.result.now ∷ [])) (FirstAnd (g.A.ComponentType.walks v.0) (FirstAnd (g.B.ComponentType.walks v.1) (FirstAnd (g.C.ComponentType.walks v.2) (FirstAnd (g.E.ComponentType.walks v.3) (FirstAnd (g.F.ComponentType.walks v.4) NoTrees))))) (row_gives (members_of core.component.types.types (c.index.result.now ∷ c.index-2.result.now ∷ c.index-3.result.now ∷ c.index-4.result.now ∷ c.index-5.result.now ∷ [])) ((λ u. g.A.Lower.gives core.component.types u v.0) ∷ (λ u. g.B.Lower.gives core.component.types u v.1) ∷ (λ u. g.C.Lower.gives core.component.types u v.2) ∷ (λ u. g.E.Lower.gives core.component.types u v.3) ∷ (λ u. g.F.Lower.gives core.component.types u v.4) ∷ [])) c.lower_at-2.new.cx.core.now c.lower_at-2.new.cx.options c.lower_at-2.new.dst c.lower_at-2.new.at c.index-3.result.now (members_of core.component.types.types (c.index-4.result.now ∷ c.index-5.result.now ∷ [])) (g.C.ComponentType.walks v.2) (FirstAnd (g.E.ComponentType.walks v.3) (FirstAnd (g.F.ComponentType.walks v.4) NoTrees)) (λ i u. g.C.Lower.gives i u v.2) (row_gives (members_of core.component.types.types (c.index-4.result.now ∷ c.index-5.result.now ∷ [])) ((λ u. g.E.Lower.gives core.component.types u v.3) ∷ (λ u. g.F.Lower.gives core.component.types u v.4) ∷ [])) done3 c.lower_at-3.new.cx.core.now c.lower_at-3.new.dst c.in-Err-lower_at-2.fault c.in-Err-lower_at-2.ensures.stays c.in-Err-lower_at-2.ensures.lowers)
+
+pub lower_at-requires-4-clause-room : goal.lower_at-requires-4-clause-room
+lower_at-requires-4-clause-room g c =
+    let L : GuestLaws _ = record { seen = g.G.Guest.seen; moves = g.G.Guest.moves; stays = g.met.G.Guest.stays; goes_on = g.met.G.Guest.goes_on } in
+    let a = c.args in
+    let core = a.cx.now.core.now in
+    let v = a.self.now in
+    let xs : List InterfaceType = c.index.result.now ∷ c.index-2.result.now ∷ c.index-3.result.now ∷ c.index-4.result.now ∷ c.index-5.result.now ∷ [] in
+    let (shape, fit, known) = tuple_facts (g.A.ComponentType.fits ∷ g.B.ComponentType.fits ∷ g.C.ComponentType.fits ∷ g.E.ComponentType.fits ∷ g.F.ComponentType.fits ∷ []) core.component.types c.types.result.now c.in-Tuple.i c.tuple.result.now.types.items xs a.ty c.types.ensures c.in-Tuple.is c.tuple.ensures.entry c.requires.fits refl
+    (c.index.ensures, (c.index-2.ensures, (c.index-3.ensures, (c.index-4.ensures, (c.index-5.ensures, tt))))) in
+    let done = done_none L a.cx.now.options core (members_of core.component.types.types (c.index.result.now ∷ c.index-2.result.now ∷ c.index-3.result.now ∷ c.index-4.result.now ∷ c.index-5.result.now ∷ [])) (FirstAnd (g.A.ComponentType.walks v.0) (FirstAnd (g.B.ComponentType.walks v.1) (FirstAnd (g.C.ComponentType.walks v.2) (FirstAnd (g.E.ComponentType.walks v.3) (FirstAnd (g.F.ComponentType.walks v.4) NoTrees))))) (row_gives (members_of core.component.types.types (c.index.result.now ∷ c.index-2.result.now ∷ c.index-3.result.now ∷ c.index-4.result.now ∷ c.index-5.result.now ∷ [])) ((λ u. g.A.Lower.gives core.component.types u v.0) ∷ (λ u. g.B.Lower.gives core.component.types u v.1) ∷ (λ u. g.C.Lower.gives core.component.types u v.2) ∷ (λ u. g.E.Lower.gives core.component.types u v.3) ∷ (λ u. g.F.Lower.gives core.component.types u v.4) ∷ [])) a.dst.now (tuple_room (shape_of core.component.types.types a.ty) (members_of core.component.types.types (c.index.result.now ∷ c.index-2.result.now ∷ c.index-3.result.now ∷ c.index-4.result.now ∷ c.index-5.result.now ∷ [])) a.dst.now shape c.requires.words) in
+    let done2 = done_more L a.cx.now.options core (members_of core.component.types.types (c.index.result.now ∷ c.index-2.result.now ∷ c.index-3.result.now ∷ c.index-4.result.now ∷ c.index-5.result.now ∷ [])) (FirstAnd (g.A.ComponentType.walks v.0) (FirstAnd (g.B.ComponentType.walks v.1) (FirstAnd (g.C.ComponentType.walks v.2) (FirstAnd (g.E.ComponentType.walks v.3) (FirstAnd (g.F.ComponentType.walks v.4) NoTrees))))) (row_gives (members_of core.component.types.types (c.index.result.now ∷ c.index-2.result.now ∷ c.index-3.result.now ∷ c.index-4.result.now ∷ c.index-5.result.now ∷ [])) ((λ u. g.A.Lower.gives core.component.types u v.0) ∷ (λ u. g.B.Lower.gives core.component.types u v.1) ∷ (λ u. g.C.Lower.gives core.component.types u v.2) ∷ (λ u. g.E.Lower.gives core.component.types u v.3) ∷ (λ u. g.F.Lower.gives core.component.types u v.4) ∷ [])) core a.cx.now.options a.dst.now 0 c.index.result.now (members_of core.component.types.types (c.index-2.result.now ∷ c.index-3.result.now ∷ c.index-4.result.now ∷ c.index-5.result.now ∷ [])) (g.A.ComponentType.walks v.0) (FirstAnd (g.B.ComponentType.walks v.1) (FirstAnd (g.C.ComponentType.walks v.2) (FirstAnd (g.E.ComponentType.walks v.3) (FirstAnd (g.F.ComponentType.walks v.4) NoTrees)))) (λ i u. g.A.Lower.gives i u v.0) (row_gives (members_of core.component.types.types (c.index-2.result.now ∷ c.index-3.result.now ∷ c.index-4.result.now ∷ c.index-5.result.now ∷ [])) ((λ u. g.B.Lower.gives core.component.types u v.1) ∷ (λ u. g.C.Lower.gives core.component.types u v.2) ∷ (λ u. g.E.Lower.gives core.component.types u v.3) ∷ (λ u. g.F.Lower.gives core.component.types u v.4) ∷ [])) done c.lower_at.new.cx.core.now c.lower_at.new.cx.options c.lower_at.new.dst c.lower_at.new.at (λ t has. walked_shaped g.A.ComponentType.fits g.A.ComponentType.walks g.A.ComponentType.means g.met.A.ComponentType.typed g.met.A.ComponentType.walked v.0 core.component.types c.index.result.now t (fit.0) has) c.in-Ok.ensures.stays c.in-Ok.ensures.end c.in-Ok.ensures.same_options c.in-Ok.ensures.lowers in
+    let done3 = done_more L a.cx.now.options core (members_of core.component.types.types (c.index.result.now ∷ c.index-2.result.now ∷ c.index-3.result.now ∷ c.index-4.result.now ∷ c.index-5.result.now ∷ [])) (FirstAnd (g.A.ComponentType.walks v.0) (FirstAnd (g.B.ComponentType.walks v.1) (FirstAnd (g.C.ComponentType.walks v.2) (FirstAnd (g.E.ComponentType.walks v.3) (FirstAnd (g.F.ComponentType.walks v.4) NoTrees))))) (row_gives (members_of core.component.types.types (c.index.result.now ∷ c.index-2.result.now ∷ c.index-3.result.now ∷ c.index-4.result.now ∷ c.index-5.result.now ∷ [])) ((λ u. g.A.Lower.gives core.component.types u v.0) ∷ (λ u. g.B.Lower.gives core.component.types u v.1) ∷ (λ u. g.C.Lower.gives core.component.types u v.2) ∷ (λ u. g.E.Lower.gives core.component.types u v.3) ∷ (λ u. g.F.Lower.gives core.component.types u v.4) ∷ [])) c.lower_at.new.cx.core.now c.lower_at.new.cx.options c.lower_at.new.dst c.lower_at.new.at c.index-2.result.now (members_of core.component.types.types (c.index-3.result.now ∷ c.index-4.result.now ∷ c.index-5.result.now ∷ [])) (g.B.ComponentType.walks v.1) (FirstAnd (g.C.ComponentType.walks v.2) (FirstAnd (g.E.ComponentType.walks v.3) (FirstAnd (g.F.ComponentType.walks v.4) NoTrees))) (λ i u. g.B.Lower.gives i u v.1) (row_gives (members_of core.component.types.types (c.index-3.result.now ∷ c.index-4.result.now ∷ c.index-5.result.now ∷ [])) ((λ u. g.C.Lower.gives core.component.types u v.2) ∷ (λ u. g.E.Lower.gives core.component.types u v.3) ∷ (λ u. g.F.Lower.gives core.component.types u v.4) ∷ [])) done2 c.lower_at-2.new.cx.core.now c.lower_at-2.new.cx.options c.lower_at-2.new.dst c.lower_at-2.new.at (λ t has. walked_shaped g.B.ComponentType.fits g.B.ComponentType.walks g.B.ComponentType.means g.met.B.ComponentType.typed g.met.B.ComponentType.walked v.1 core.component.types c.index-2.result.now t (fit.1.0) has) c.in-Ok-lower_at.ensures.stays c.in-Ok-lower_at.ensures.end c.in-Ok-lower_at.ensures.same_options c.in-Ok-lower_at.ensures.lowers in
+    let done4 = done_more L a.cx.now.options core (members_of core.component.types.types (c.index.result.now ∷ c.index-2.result.now ∷ c.index-3.result.now ∷ c.index-4.result.now ∷ c.index-5.result.now ∷ [])) (FirstAnd (g.A.ComponentType.walks v.0) (FirstAnd (g.B.ComponentType.walks v.1) (FirstAnd (g.C.ComponentType.walks v.2) (FirstAnd (g.E.ComponentType.walks v.3) (FirstAnd (g.F.ComponentType.walks v.4) NoTrees))))) (row_gives (members_of core.component.types.types (c.index.result.now ∷ c.index-2.result.now ∷ c.index-3.result.now ∷ c.index-4.result.now ∷ c.index-5.result.now ∷ [])) ((λ u. g.A.Lower.gives core.component.types u v.0) ∷ (λ u. g.B.Lower.gives core.component.types u v.1) ∷ (λ u. g.C.Lower.gives core.component.types u v.2) ∷ (λ u. g.E.Lower.gives core.component.types u v.3) ∷ (λ u. g.F.Lower.gives core.component.types u v.4) ∷ [])) c.lower_at-2.new.cx.core.now c.lower_at-2.new.cx.options c.lower_at-2.new.dst c.lower_at-2.new.at c.index-3.result.now (members_of core.component.types.types (c.index-4.result.now ∷ c.index-5.result.now ∷ [])) (g.C.ComponentType.walks v.2) (FirstAnd (g.E.ComponentType.walks v.3) (FirstAnd (g.F.ComponentType.walks v.4) NoTrees)) (λ i u. g.C.Lower.gives i u v.2) (row_gives (members_of core.component.types.types (c.index-4.result.now ∷ c.index-5.result.now ∷ [])) ((λ u. g.E.Lower.gives core.component.types u v.3) ∷ (λ u. g.F.Lower.gives core.component.types u v.4) ∷ [])) done3 c.lower_at-3.new.cx.core.now c.lower_at-3.new.cx.options c.lower_at-3.new.dst c.lower_at-3.new.at (λ t has. walked_shaped g.C.ComponentType.fits g.C.ComponentType.walks g.C.ComponentType.means g.met.C.ComponentType.typed g.met.C.ComponentType.walked v.2 core.component.types c.index-3.result.now t (fit.1.1.0) has) c.in-Ok-lower_at-2.ensures.stays c.in-Ok-lower_at-2.ensures.end c.in-Ok-lower_at-2.ensures.same_options c.in-Ok-lower_at-2.ensures.lowers in
+    done_room L a.cx.now.options core (members_of core.component.types.types (c.index.result.now ∷ c.index-2.result.now ∷ c.index-3.result.now ∷ c.index-4.result.now ∷ c.index-5.result.now ∷ [])) (FirstAnd (g.A.ComponentType.walks v.0) (FirstAnd (g.B.ComponentType.walks v.1) (FirstAnd (g.C.ComponentType.walks v.2) (FirstAnd (g.E.ComponentType.walks v.3) (FirstAnd (g.F.ComponentType.walks v.4) NoTrees))))) (row_gives (members_of core.component.types.types (c.index.result.now ∷ c.index-2.result.now ∷ c.index-3.result.now ∷ c.index-4.result.now ∷ c.index-5.result.now ∷ [])) ((λ u. g.A.Lower.gives core.component.types u v.0) ∷ (λ u. g.B.Lower.gives core.component.types u v.1) ∷ (λ u. g.C.Lower.gives core.component.types u v.2) ∷ (λ u. g.E.Lower.gives core.component.types u v.3) ∷ (λ u. g.F.Lower.gives core.component.types u v.4) ∷ [])) c.lower_at-3.new.cx.core.now c.lower_at-3.new.cx.options c.lower_at-3.new.dst c.lower_at-3.new.at c.index-4.result.now (members_of core.component.types.types (c.index-5.result.now ∷ [])) (g.E.ComponentType.walks v.3) (FirstAnd (g.F.ComponentType.walks v.4) NoTrees) (λ i u. g.E.Lower.gives i u v.3) (row_gives (members_of core.component.types.types (c.index-5.result.now ∷ [])) ((λ u. g.F.Lower.gives core.component.types u v.4) ∷ [])) done4
+
+pub lower_at-requires-4-clause-known : goal.lower_at-requires-4-clause-known
+lower_at-requires-4-clause-known g c =
+    let L : GuestLaws _ = record { seen = g.G.Guest.seen; moves = g.G.Guest.moves; stays = g.met.G.Guest.stays; goes_on = g.met.G.Guest.goes_on } in
+    let a = c.args in
+    let core = a.cx.now.core.now in
+    let v = a.self.now in
+    let xs : List InterfaceType = c.index.result.now ∷ c.index-2.result.now ∷ c.index-3.result.now ∷ c.index-4.result.now ∷ c.index-5.result.now ∷ [] in
+    let (shape, fit, known) = tuple_facts (g.A.ComponentType.fits ∷ g.B.ComponentType.fits ∷ g.C.ComponentType.fits ∷ g.E.ComponentType.fits ∷ g.F.ComponentType.fits ∷ []) core.component.types c.types.result.now c.in-Tuple.i c.tuple.result.now.types.items xs a.ty c.types.ensures c.in-Tuple.is c.tuple.ensures.entry c.requires.fits refl
+    (c.index.ensures, (c.index-2.ensures, (c.index-3.ensures, (c.index-4.ensures, (c.index-5.ensures, tt))))) in
+    let done = done_none L a.cx.now.options core (members_of core.component.types.types (c.index.result.now ∷ c.index-2.result.now ∷ c.index-3.result.now ∷ c.index-4.result.now ∷ c.index-5.result.now ∷ [])) (FirstAnd (g.A.ComponentType.walks v.0) (FirstAnd (g.B.ComponentType.walks v.1) (FirstAnd (g.C.ComponentType.walks v.2) (FirstAnd (g.E.ComponentType.walks v.3) (FirstAnd (g.F.ComponentType.walks v.4) NoTrees))))) (row_gives (members_of core.component.types.types (c.index.result.now ∷ c.index-2.result.now ∷ c.index-3.result.now ∷ c.index-4.result.now ∷ c.index-5.result.now ∷ [])) ((λ u. g.A.Lower.gives core.component.types u v.0) ∷ (λ u. g.B.Lower.gives core.component.types u v.1) ∷ (λ u. g.C.Lower.gives core.component.types u v.2) ∷ (λ u. g.E.Lower.gives core.component.types u v.3) ∷ (λ u. g.F.Lower.gives core.component.types u v.4) ∷ [])) a.dst.now (tuple_room (shape_of core.component.types.types a.ty) (members_of core.component.types.types (c.index.result.now ∷ c.index-2.result.now ∷ c.index-3.result.now ∷ c.index-4.result.now ∷ c.index-5.result.now ∷ [])) a.dst.now shape c.requires.words) in
+    let done2 = done_more L a.cx.now.options core (members_of core.component.types.types (c.index.result.now ∷ c.index-2.result.now ∷ c.index-3.result.now ∷ c.index-4.result.now ∷ c.index-5.result.now ∷ [])) (FirstAnd (g.A.ComponentType.walks v.0) (FirstAnd (g.B.ComponentType.walks v.1) (FirstAnd (g.C.ComponentType.walks v.2) (FirstAnd (g.E.ComponentType.walks v.3) (FirstAnd (g.F.ComponentType.walks v.4) NoTrees))))) (row_gives (members_of core.component.types.types (c.index.result.now ∷ c.index-2.result.now ∷ c.index-3.result.now ∷ c.index-4.result.now ∷ c.index-5.result.now ∷ [])) ((λ u. g.A.Lower.gives core.component.types u v.0) ∷ (λ u. g.B.Lower.gives core.component.types u v.1) ∷ (λ u. g.C.Lower.gives core.component.types u v.2) ∷ (λ u. g.E.Lower.gives core.component.types u v.3) ∷ (λ u. g.F.Lower.gives core.component.types u v.4) ∷ [])) core a.cx.now.options a.dst.now 0 c.index.result.now (members_of core.component.types.types (c.index-2.result.now ∷ c.index-3.result.now ∷ c.index-4.result.now ∷ c.index-5.result.now ∷ [])) (g.A.ComponentType.walks v.0) (FirstAnd (g.B.ComponentType.walks v.1) (FirstAnd (g.C.ComponentType.walks v.2) (FirstAnd (g.E.ComponentType.walks v.3) (FirstAnd (g.F.ComponentType.walks v.4) NoTrees)))) (λ i u. g.A.Lower.gives i u v.0) (row_gives (members_of core.component.types.types (c.index-2.result.now ∷ c.index-3.result.now ∷ c.index-4.result.now ∷ c.index-5.result.now ∷ [])) ((λ u. g.B.Lower.gives core.component.types u v.1) ∷ (λ u. g.C.Lower.gives core.component.types u v.2) ∷ (λ u. g.E.Lower.gives core.component.types u v.3) ∷ (λ u. g.F.Lower.gives core.component.types u v.4) ∷ [])) done c.lower_at.new.cx.core.now c.lower_at.new.cx.options c.lower_at.new.dst c.lower_at.new.at (λ t has. walked_shaped g.A.ComponentType.fits g.A.ComponentType.walks g.A.ComponentType.means g.met.A.ComponentType.typed g.met.A.ComponentType.walked v.0 core.component.types c.index.result.now t (fit.0) has) c.in-Ok.ensures.stays c.in-Ok.ensures.end c.in-Ok.ensures.same_options c.in-Ok.ensures.lowers in
+    let done3 = done_more L a.cx.now.options core (members_of core.component.types.types (c.index.result.now ∷ c.index-2.result.now ∷ c.index-3.result.now ∷ c.index-4.result.now ∷ c.index-5.result.now ∷ [])) (FirstAnd (g.A.ComponentType.walks v.0) (FirstAnd (g.B.ComponentType.walks v.1) (FirstAnd (g.C.ComponentType.walks v.2) (FirstAnd (g.E.ComponentType.walks v.3) (FirstAnd (g.F.ComponentType.walks v.4) NoTrees))))) (row_gives (members_of core.component.types.types (c.index.result.now ∷ c.index-2.result.now ∷ c.index-3.result.now ∷ c.index-4.result.now ∷ c.index-5.result.now ∷ [])) ((λ u. g.A.Lower.gives core.component.types u v.0) ∷ (λ u. g.B.Lower.gives core.component.types u v.1) ∷ (λ u. g.C.Lower.gives core.component.types u v.2) ∷ (λ u. g.E.Lower.gives core.component.types u v.3) ∷ (λ u. g.F.Lower.gives core.component.types u v.4) ∷ [])) c.lower_at.new.cx.core.now c.lower_at.new.cx.options c.lower_at.new.dst c.lower_at.new.at c.index-2.result.now (members_of core.component.types.types (c.index-3.result.now ∷ c.index-4.result.now ∷ c.index-5.result.now ∷ [])) (g.B.ComponentType.walks v.1) (FirstAnd (g.C.ComponentType.walks v.2) (FirstAnd (g.E.ComponentType.walks v.3) (FirstAnd (g.F.ComponentType.walks v.4) NoTrees))) (λ i u. g.B.Lower.gives i u v.1) (row_gives (members_of core.component.types.types (c.index-3.result.now ∷ c.index-4.result.now ∷ c.index-5.result.now ∷ [])) ((λ u. g.C.Lower.gives core.component.types u v.2) ∷ (λ u. g.E.Lower.gives core.component.types u v.3) ∷ (λ u. g.F.Lower.gives core.component.types u v.4) ∷ [])) done2 c.lower_at-2.new.cx.core.now c.lower_at-2.new.cx.options c.lower_at-2.new.dst c.lower_at-2.new.at (λ t has. walked_shaped g.B.ComponentType.fits g.B.ComponentType.walks g.B.ComponentType.means g.met.B.ComponentType.typed g.met.B.ComponentType.walked v.1 core.component.types c.index-2.result.now t (fit.1.0) has) c.in-Ok-lower_at.ensures.stays c.in-Ok-lower_at.ensures.end c.in-Ok-lower_at.ensures.same_options c.in-Ok-lower_at.ensures.lowers in
+    let done4 = done_more L a.cx.now.options core (members_of core.component.types.types (c.index.result.now ∷ c.index-2.result.now ∷ c.index-3.result.now ∷ c.index-4.result.now ∷ c.index-5.result.now ∷ [])) (FirstAnd (g.A.ComponentType.walks v.0) (FirstAnd (g.B.ComponentType.walks v.1) (FirstAnd (g.C.ComponentType.walks v.2) (FirstAnd (g.E.ComponentType.walks v.3) (FirstAnd (g.F.ComponentType.walks v.4) NoTrees))))) (row_gives (members_of core.component.types.types (c.index.result.now ∷ c.index-2.result.now ∷ c.index-3.result.now ∷ c.index-4.result.now ∷ c.index-5.result.now ∷ [])) ((λ u. g.A.Lower.gives core.component.types u v.0) ∷ (λ u. g.B.Lower.gives core.component.types u v.1) ∷ (λ u. g.C.Lower.gives core.component.types u v.2) ∷ (λ u. g.E.Lower.gives core.component.types u v.3) ∷ (λ u. g.F.Lower.gives core.component.types u v.4) ∷ [])) c.lower_at-2.new.cx.core.now c.lower_at-2.new.cx.options c.lower_at-2.new.dst c.lower_at-2.new.at c.index-3.result.now (members_of core.component.types.types (c.index-4.result.now ∷ c.index-5.result.now ∷ [])) (g.C.ComponentType.walks v.2) (FirstAnd (g.E.ComponentType.walks v.3) (FirstAnd (g.F.ComponentType.walks v.4) NoTrees)) (λ i u. g.C.Lower.gives i u v.2) (row_gives (members_of core.component.types.types (c.index-4.result.now ∷ c.index-5.result.now ∷ [])) ((λ u. g.E.Lower.gives core.component.types u v.3) ∷ (λ u. g.F.Lower.gives core.component.types u v.4) ∷ [])) done3 c.lower_at-3.new.cx.core.now c.lower_at-3.new.cx.options c.lower_at-3.new.dst c.lower_at-3.new.at (λ t has. walked_shaped g.C.ComponentType.fits g.C.ComponentType.walks g.C.ComponentType.means g.met.C.ComponentType.typed g.met.C.ComponentType.walked v.2 core.component.types c.index-3.result.now t (fit.1.1.0) has) c.in-Ok-lower_at-2.ensures.stays c.in-Ok-lower_at-2.ensures.end c.in-Ok-lower_at-2.ensures.same_options c.in-Ok-lower_at-2.ensures.lowers in
+    done_known L a.cx.now.options core (members_of core.component.types.types (c.index.result.now ∷ c.index-2.result.now ∷ c.index-3.result.now ∷ c.index-4.result.now ∷ c.index-5.result.now ∷ [])) (FirstAnd (g.A.ComponentType.walks v.0) (FirstAnd (g.B.ComponentType.walks v.1) (FirstAnd (g.C.ComponentType.walks v.2) (FirstAnd (g.E.ComponentType.walks v.3) (FirstAnd (g.F.ComponentType.walks v.4) NoTrees))))) (row_gives (members_of core.component.types.types (c.index.result.now ∷ c.index-2.result.now ∷ c.index-3.result.now ∷ c.index-4.result.now ∷ c.index-5.result.now ∷ [])) ((λ u. g.A.Lower.gives core.component.types u v.0) ∷ (λ u. g.B.Lower.gives core.component.types u v.1) ∷ (λ u. g.C.Lower.gives core.component.types u v.2) ∷ (λ u. g.E.Lower.gives core.component.types u v.3) ∷ (λ u. g.F.Lower.gives core.component.types u v.4) ∷ [])) c.lower_at-3.new.cx.core.now c.lower_at-3.new.cx.options c.lower_at-3.new.dst c.lower_at-3.new.at c.index-4.result.now (members_of core.component.types.types (c.index-5.result.now ∷ [])) (g.E.ComponentType.walks v.3) (FirstAnd (g.F.ComponentType.walks v.4) NoTrees) (λ i u. g.E.Lower.gives i u v.3) (row_gives (members_of core.component.types.types (c.index-5.result.now ∷ [])) ((λ u. g.F.Lower.gives core.component.types u v.4) ∷ [])) done4 known.1.1.1.0
+
+pub lower_at-requires-4-clause-fits : goal.lower_at-requires-4-clause-fits
+lower_at-requires-4-clause-fits g c =
+    let L : GuestLaws _ = record { seen = g.G.Guest.seen; moves = g.G.Guest.moves; stays = g.met.G.Guest.stays; goes_on = g.met.G.Guest.goes_on } in
+    let a = c.args in
+    let core = a.cx.now.core.now in
+    let v = a.self.now in
+    let xs : List InterfaceType = c.index.result.now ∷ c.index-2.result.now ∷ c.index-3.result.now ∷ c.index-4.result.now ∷ c.index-5.result.now ∷ [] in
+    let (shape, fit, known) = tuple_facts (g.A.ComponentType.fits ∷ g.B.ComponentType.fits ∷ g.C.ComponentType.fits ∷ g.E.ComponentType.fits ∷ g.F.ComponentType.fits ∷ []) core.component.types c.types.result.now c.in-Tuple.i c.tuple.result.now.types.items xs a.ty c.types.ensures c.in-Tuple.is c.tuple.ensures.entry c.requires.fits refl
+    (c.index.ensures, (c.index-2.ensures, (c.index-3.ensures, (c.index-4.ensures, (c.index-5.ensures, tt))))) in
+    let done = done_none L a.cx.now.options core (members_of core.component.types.types (c.index.result.now ∷ c.index-2.result.now ∷ c.index-3.result.now ∷ c.index-4.result.now ∷ c.index-5.result.now ∷ [])) (FirstAnd (g.A.ComponentType.walks v.0) (FirstAnd (g.B.ComponentType.walks v.1) (FirstAnd (g.C.ComponentType.walks v.2) (FirstAnd (g.E.ComponentType.walks v.3) (FirstAnd (g.F.ComponentType.walks v.4) NoTrees))))) (row_gives (members_of core.component.types.types (c.index.result.now ∷ c.index-2.result.now ∷ c.index-3.result.now ∷ c.index-4.result.now ∷ c.index-5.result.now ∷ [])) ((λ u. g.A.Lower.gives core.component.types u v.0) ∷ (λ u. g.B.Lower.gives core.component.types u v.1) ∷ (λ u. g.C.Lower.gives core.component.types u v.2) ∷ (λ u. g.E.Lower.gives core.component.types u v.3) ∷ (λ u. g.F.Lower.gives core.component.types u v.4) ∷ [])) a.dst.now (tuple_room (shape_of core.component.types.types a.ty) (members_of core.component.types.types (c.index.result.now ∷ c.index-2.result.now ∷ c.index-3.result.now ∷ c.index-4.result.now ∷ c.index-5.result.now ∷ [])) a.dst.now shape c.requires.words) in
+    let done2 = done_more L a.cx.now.options core (members_of core.component.types.types (c.index.result.now ∷ c.index-2.result.now ∷ c.index-3.result.now ∷ c.index-4.result.now ∷ c.index-5.result.now ∷ [])) (FirstAnd (g.A.ComponentType.walks v.0) (FirstAnd (g.B.ComponentType.walks v.1) (FirstAnd (g.C.ComponentType.walks v.2) (FirstAnd (g.E.ComponentType.walks v.3) (FirstAnd (g.F.ComponentType.walks v.4) NoTrees))))) (row_gives (members_of core.component.types.types (c.index.result.now ∷ c.index-2.result.now ∷ c.index-3.result.now ∷ c.index-4.result.now ∷ c.index-5.result.now ∷ [])) ((λ u. g.A.Lower.gives core.component.types u v.0) ∷ (λ u. g.B.Lower.gives core.component.types u v.1) ∷ (λ u. g.C.Lower.gives core.component.types u v.2) ∷ (λ u. g.E.Lower.gives core.component.types u v.3) ∷ (λ u. g.F.Lower.gives core.component.types u v.4) ∷ [])) core a.cx.now.options a.dst.now 0 c.index.result.now (members_of core.component.types.types (c.index-2.result.now ∷ c.index-3.result.now ∷ c.index-4.result.now ∷ c.index-5.result.now ∷ [])) (g.A.ComponentType.walks v.0) (FirstAnd (g.B.ComponentType.walks v.1) (FirstAnd (g.C.ComponentType.walks v.2) (FirstAnd (g.E.ComponentType.walks v.3) (FirstAnd (g.F.ComponentType.walks v.4) NoTrees)))) (λ i u. g.A.Lower.gives i u v.0) (row_gives (members_of core.component.types.types (c.index-2.result.now ∷ c.index-3.result.now ∷ c.index-4.result.now ∷ c.index-5.result.now ∷ [])) ((λ u. g.B.Lower.gives core.component.types u v.1) ∷ (λ u. g.C.Lower.gives core.component.types u v.2) ∷ (λ u. g.E.Lower.gives core.component.types u v.3) ∷ (λ u. g.F.Lower.gives core.component.types u v.4) ∷ [])) done c.lower_at.new.cx.core.now c.lower_at.new.cx.options c.lower_at.new.dst c.lower_at.new.at (λ t has. walked_shaped g.A.ComponentType.fits g.A.ComponentType.walks g.A.ComponentType.means g.met.A.ComponentType.typed g.met.A.ComponentType.walked v.0 core.component.types c.index.result.now t (fit.0) has) c.in-Ok.ensures.stays c.in-Ok.ensures.end c.in-Ok.ensures.same_options c.in-Ok.ensures.lowers in
+    let done3 = done_more L a.cx.now.options core (members_of core.component.types.types (c.index.result.now ∷ c.index-2.result.now ∷ c.index-3.result.now ∷ c.index-4.result.now ∷ c.index-5.result.now ∷ [])) (FirstAnd (g.A.ComponentType.walks v.0) (FirstAnd (g.B.ComponentType.walks v.1) (FirstAnd (g.C.ComponentType.walks v.2) (FirstAnd (g.E.ComponentType.walks v.3) (FirstAnd (g.F.ComponentType.walks v.4) NoTrees))))) (row_gives (members_of core.component.types.types (c.index.result.now ∷ c.index-2.result.now ∷ c.index-3.result.now ∷ c.index-4.result.now ∷ c.index-5.result.now ∷ [])) ((λ u. g.A.Lower.gives core.component.types u v.0) ∷ (λ u. g.B.Lower.gives core.component.types u v.1) ∷ (λ u. g.C.Lower.gives core.component.types u v.2) ∷ (λ u. g.E.Lower.gives core.component.types u v.3) ∷ (λ u. g.F.Lower.gives core.component.types u v.4) ∷ [])) c.lower_at.new.cx.core.now c.lower_at.new.cx.options c.lower_at.new.dst c.lower_at.new.at c.index-2.result.now (members_of core.component.types.types (c.index-3.result.now ∷ c.index-4.result.now ∷ c.index-5.result.now ∷ [])) (g.B.ComponentType.walks v.1) (FirstAnd (g.C.ComponentType.walks v.2) (FirstAnd (g.E.ComponentType.walks v.3) (FirstAnd (g.F.ComponentType.walks v.4) NoTrees))) (λ i u. g.B.Lower.gives i u v.1) (row_gives (members_of core.component.types.types (c.index-3.result.now ∷ c.index-4.result.now ∷ c.index-5.result.now ∷ [])) ((λ u. g.C.Lower.gives core.component.types u v.2) ∷ (λ u. g.E.Lower.gives core.component.types u v.3) ∷ (λ u. g.F.Lower.gives core.component.types u v.4) ∷ [])) done2 c.lower_at-2.new.cx.core.now c.lower_at-2.new.cx.options c.lower_at-2.new.dst c.lower_at-2.new.at (λ t has. walked_shaped g.B.ComponentType.fits g.B.ComponentType.walks g.B.ComponentType.means g.met.B.ComponentType.typed g.met.B.ComponentType.walked v.1 core.component.types c.index-2.result.now t (fit.1.0) has) c.in-Ok-lower_at.ensures.stays c.in-Ok-lower_at.ensures.end c.in-Ok-lower_at.ensures.same_options c.in-Ok-lower_at.ensures.lowers in
+    let done4 = done_more L a.cx.now.options core (members_of core.component.types.types (c.index.result.now ∷ c.index-2.result.now ∷ c.index-3.result.now ∷ c.index-4.result.now ∷ c.index-5.result.now ∷ [])) (FirstAnd (g.A.ComponentType.walks v.0) (FirstAnd (g.B.ComponentType.walks v.1) (FirstAnd (g.C.ComponentType.walks v.2) (FirstAnd (g.E.ComponentType.walks v.3) (FirstAnd (g.F.ComponentType.walks v.4) NoTrees))))) (row_gives (members_of core.component.types.types (c.index.result.now ∷ c.index-2.result.now ∷ c.index-3.result.now ∷ c.index-4.result.now ∷ c.index-5.result.now ∷ [])) ((λ u. g.A.Lower.gives core.component.types u v.0) ∷ (λ u. g.B.Lower.gives core.component.types u v.1) ∷ (λ u. g.C.Lower.gives core.component.types u v.2) ∷ (λ u. g.E.Lower.gives core.component.types u v.3) ∷ (λ u. g.F.Lower.gives core.component.types u v.4) ∷ [])) c.lower_at-2.new.cx.core.now c.lower_at-2.new.cx.options c.lower_at-2.new.dst c.lower_at-2.new.at c.index-3.result.now (members_of core.component.types.types (c.index-4.result.now ∷ c.index-5.result.now ∷ [])) (g.C.ComponentType.walks v.2) (FirstAnd (g.E.ComponentType.walks v.3) (FirstAnd (g.F.ComponentType.walks v.4) NoTrees)) (λ i u. g.C.Lower.gives i u v.2) (row_gives (members_of core.component.types.types (c.index-4.result.now ∷ c.index-5.result.now ∷ [])) ((λ u. g.E.Lower.gives core.component.types u v.3) ∷ (λ u. g.F.Lower.gives core.component.types u v.4) ∷ [])) done3 c.lower_at-3.new.cx.core.now c.lower_at-3.new.cx.options c.lower_at-3.new.dst c.lower_at-3.new.at (λ t has. walked_shaped g.C.ComponentType.fits g.C.ComponentType.walks g.C.ComponentType.means g.met.C.ComponentType.typed g.met.C.ComponentType.walked v.2 core.component.types c.index-3.result.now t (fit.1.1.0) has) c.in-Ok-lower_at-2.ensures.stays c.in-Ok-lower_at-2.ensures.end c.in-Ok-lower_at-2.ensures.same_options c.in-Ok-lower_at-2.ensures.lowers in
+    done_fits L a.cx.now.options core (members_of core.component.types.types (c.index.result.now ∷ c.index-2.result.now ∷ c.index-3.result.now ∷ c.index-4.result.now ∷ c.index-5.result.now ∷ [])) (FirstAnd (g.A.ComponentType.walks v.0) (FirstAnd (g.B.ComponentType.walks v.1) (FirstAnd (g.C.ComponentType.walks v.2) (FirstAnd (g.E.ComponentType.walks v.3) (FirstAnd (g.F.ComponentType.walks v.4) NoTrees))))) (row_gives (members_of core.component.types.types (c.index.result.now ∷ c.index-2.result.now ∷ c.index-3.result.now ∷ c.index-4.result.now ∷ c.index-5.result.now ∷ [])) ((λ u. g.A.Lower.gives core.component.types u v.0) ∷ (λ u. g.B.Lower.gives core.component.types u v.1) ∷ (λ u. g.C.Lower.gives core.component.types u v.2) ∷ (λ u. g.E.Lower.gives core.component.types u v.3) ∷ (λ u. g.F.Lower.gives core.component.types u v.4) ∷ [])) c.lower_at-3.new.cx.core.now c.lower_at-3.new.cx.options c.lower_at-3.new.dst c.lower_at-3.new.at c.index-4.result.now (members_of core.component.types.types (c.index-5.result.now ∷ [])) (g.E.ComponentType.walks v.3) (FirstAnd (g.F.ComponentType.walks v.4) NoTrees) (λ i u. g.E.Lower.gives i u v.3) (row_gives (members_of core.component.types.types (c.index-5.result.now ∷ [])) ((λ u. g.F.Lower.gives core.component.types u v.4) ∷ [])) done4 g.E.ComponentType.fits fit.1.1.1.0
+
+pub returns-in-Err-lower_at-3-clause-lowers : goal.returns-in-Err-lower_at-3-clause-lowers
+returns-in-Err-lower_at-3-clause-lowers g c =
+    let L : GuestLaws _ = record { seen = g.G.Guest.seen; moves = g.G.Guest.moves; stays = g.met.G.Guest.stays; goes_on = g.met.G.Guest.goes_on } in
+    let a = c.args in
+    let core = a.cx.now.core.now in
+    let v = a.self.now in
+    let xs : List InterfaceType = c.index.result.now ∷ c.index-2.result.now ∷ c.index-3.result.now ∷ c.index-4.result.now ∷ c.index-5.result.now ∷ [] in
+    let (shape, fit, known) = tuple_facts (g.A.ComponentType.fits ∷ g.B.ComponentType.fits ∷ g.C.ComponentType.fits ∷ g.E.ComponentType.fits ∷ g.F.ComponentType.fits ∷ []) core.component.types c.types.result.now c.in-Tuple.i c.tuple.result.now.types.items xs a.ty c.types.ensures c.in-Tuple.is c.tuple.ensures.entry c.requires.fits refl
+    (c.index.ensures, (c.index-2.ensures, (c.index-3.ensures, (c.index-4.ensures, (c.index-5.ensures, tt))))) in
+    let done = done_none L a.cx.now.options core (members_of core.component.types.types (c.index.result.now ∷ c.index-2.result.now ∷ c.index-3.result.now ∷ c.index-4.result.now ∷ c.index-5.result.now ∷ [])) (FirstAnd (g.A.ComponentType.walks v.0) (FirstAnd (g.B.ComponentType.walks v.1) (FirstAnd (g.C.ComponentType.walks v.2) (FirstAnd (g.E.ComponentType.walks v.3) (FirstAnd (g.F.ComponentType.walks v.4) NoTrees))))) (row_gives (members_of core.component.types.types (c.index.result.now ∷ c.index-2.result.now ∷ c.index-3.result.now ∷ c.index-4.result.now ∷ c.index-5.result.now ∷ [])) ((λ u. g.A.Lower.gives core.component.types u v.0) ∷ (λ u. g.B.Lower.gives core.component.types u v.1) ∷ (λ u. g.C.Lower.gives core.component.types u v.2) ∷ (λ u. g.E.Lower.gives core.component.types u v.3) ∷ (λ u. g.F.Lower.gives core.component.types u v.4) ∷ [])) a.dst.now (tuple_room (shape_of core.component.types.types a.ty) (members_of core.component.types.types (c.index.result.now ∷ c.index-2.result.now ∷ c.index-3.result.now ∷ c.index-4.result.now ∷ c.index-5.result.now ∷ [])) a.dst.now shape c.requires.words) in
+    let done2 = done_more L a.cx.now.options core (members_of core.component.types.types (c.index.result.now ∷ c.index-2.result.now ∷ c.index-3.result.now ∷ c.index-4.result.now ∷ c.index-5.result.now ∷ [])) (FirstAnd (g.A.ComponentType.walks v.0) (FirstAnd (g.B.ComponentType.walks v.1) (FirstAnd (g.C.ComponentType.walks v.2) (FirstAnd (g.E.ComponentType.walks v.3) (FirstAnd (g.F.ComponentType.walks v.4) NoTrees))))) (row_gives (members_of core.component.types.types (c.index.result.now ∷ c.index-2.result.now ∷ c.index-3.result.now ∷ c.index-4.result.now ∷ c.index-5.result.now ∷ [])) ((λ u. g.A.Lower.gives core.component.types u v.0) ∷ (λ u. g.B.Lower.gives core.component.types u v.1) ∷ (λ u. g.C.Lower.gives core.component.types u v.2) ∷ (λ u. g.E.Lower.gives core.component.types u v.3) ∷ (λ u. g.F.Lower.gives core.component.types u v.4) ∷ [])) core a.cx.now.options a.dst.now 0 c.index.result.now (members_of core.component.types.types (c.index-2.result.now ∷ c.index-3.result.now ∷ c.index-4.result.now ∷ c.index-5.result.now ∷ [])) (g.A.ComponentType.walks v.0) (FirstAnd (g.B.ComponentType.walks v.1) (FirstAnd (g.C.ComponentType.walks v.2) (FirstAnd (g.E.ComponentType.walks v.3) (FirstAnd (g.F.ComponentType.walks v.4) NoTrees)))) (λ i u. g.A.Lower.gives i u v.0) (row_gives (members_of core.component.types.types (c.index-2.result.now ∷ c.index-3.result.now ∷ c.index-4.result.now ∷ c.index-5.result.now ∷ [])) ((λ u. g.B.Lower.gives core.component.types u v.1) ∷ (λ u. g.C.Lower.gives core.component.types u v.2) ∷ (λ u. g.E.Lower.gives core.component.types u v.3) ∷ (λ u. g.F.Lower.gives core.component.types u v.4) ∷ [])) done c.lower_at.new.cx.core.now c.lower_at.new.cx.options c.lower_at.new.dst c.lower_at.new.at (λ t has. walked_shaped g.A.ComponentType.fits g.A.ComponentType.walks g.A.ComponentType.means g.met.A.ComponentType.typed g.met.A.ComponentType.walked v.0 core.component.types c.index.result.now t (fit.0) has) c.in-Ok.ensures.stays c.in-Ok.ensures.end c.in-Ok.ensures.same_options c.in-Ok.ensures.lowers in
+    let done3 = done_more L a.cx.now.options core (members_of core.component.types.types (c.index.result.now ∷ c.index-2.result.now ∷ c.index-3.result.now ∷ c.index-4.result.now ∷ c.index-5.result.now ∷ [])) (FirstAnd (g.A.ComponentType.walks v.0) (FirstAnd (g.B.ComponentType.walks v.1) (FirstAnd (g.C.ComponentType.walks v.2) (FirstAnd (g.E.ComponentType.walks v.3) (FirstAnd (g.F.ComponentType.walks v.4) NoTrees))))) (row_gives (members_of core.component.types.types (c.index.result.now ∷ c.index-2.result.now ∷ c.index-3.result.now ∷ c.index-4.result.now ∷ c.index-5.result.now ∷ [])) ((λ u. g.A.Lower.gives core.component.types u v.0) ∷ (λ u. g.B.Lower.gives core.component.types u v.1) ∷ (λ u. g.C.Lower.gives core.component.types u v.2) ∷ (λ u. g.E.Lower.gives core.component.types u v.3) ∷ (λ u. g.F.Lower.gives core.component.types u v.4) ∷ [])) c.lower_at.new.cx.core.now c.lower_at.new.cx.options c.lower_at.new.dst c.lower_at.new.at c.index-2.result.now (members_of core.component.types.types (c.index-3.result.now ∷ c.index-4.result.now ∷ c.index-5.result.now ∷ [])) (g.B.ComponentType.walks v.1) (FirstAnd (g.C.ComponentType.walks v.2) (FirstAnd (g.E.ComponentType.walks v.3) (FirstAnd (g.F.ComponentType.walks v.4) NoTrees))) (λ i u. g.B.Lower.gives i u v.1) (row_gives (members_of core.component.types.types (c.index-3.result.now ∷ c.index-4.result.now ∷ c.index-5.result.now ∷ [])) ((λ u. g.C.Lower.gives core.component.types u v.2) ∷ (λ u. g.E.Lower.gives core.component.types u v.3) ∷ (λ u. g.F.Lower.gives core.component.types u v.4) ∷ [])) done2 c.lower_at-2.new.cx.core.now c.lower_at-2.new.cx.options c.lower_at-2.new.dst c.lower_at-2.new.at (λ t has. walked_shaped g.B.ComponentType.fits g.B.ComponentType.walks g.B.ComponentType.means g.met.B.ComponentType.typed g.met.B.ComponentType.walked v.1 core.component.types c.index-2.result.now t (fit.1.0) has) c.in-Ok-lower_at.ensures.stays c.in-Ok-lower_at.ensures.end c.in-Ok-lower_at.ensures.same_options c.in-Ok-lower_at.ensures.lowers in
+    let done4 = done_more L a.cx.now.options core (members_of core.component.types.types (c.index.result.now ∷ c.index-2.result.now ∷ c.index-3.result.now ∷ c.index-4.result.now ∷ c.index-5.result.now ∷ [])) (FirstAnd (g.A.ComponentType.walks v.0) (FirstAnd (g.B.ComponentType.walks v.1) (FirstAnd (g.C.ComponentType.walks v.2) (FirstAnd (g.E.ComponentType.walks v.3) (FirstAnd (g.F.ComponentType.walks v.4) NoTrees))))) (row_gives (members_of core.component.types.types (c.index.result.now ∷ c.index-2.result.now ∷ c.index-3.result.now ∷ c.index-4.result.now ∷ c.index-5.result.now ∷ [])) ((λ u. g.A.Lower.gives core.component.types u v.0) ∷ (λ u. g.B.Lower.gives core.component.types u v.1) ∷ (λ u. g.C.Lower.gives core.component.types u v.2) ∷ (λ u. g.E.Lower.gives core.component.types u v.3) ∷ (λ u. g.F.Lower.gives core.component.types u v.4) ∷ [])) c.lower_at-2.new.cx.core.now c.lower_at-2.new.cx.options c.lower_at-2.new.dst c.lower_at-2.new.at c.index-3.result.now (members_of core.component.types.types (c.index-4.result.now ∷ c.index-5.result.now ∷ [])) (g.C.ComponentType.walks v.2) (FirstAnd (g.E.ComponentType.walks v.3) (FirstAnd (g.F.ComponentType.walks v.4) NoTrees)) (λ i u. g.C.Lower.gives i u v.2) (row_gives (members_of core.component.types.types (c.index-4.result.now ∷ c.index-5.result.now ∷ [])) ((λ u. g.E.Lower.gives core.component.types u v.3) ∷ (λ u. g.F.Lower.gives core.component.types u v.4) ∷ [])) done3 c.lower_at-3.new.cx.core.now c.lower_at-3.new.cx.options c.lower_at-3.new.dst c.lower_at-3.new.at (λ t has. walked_shaped g.C.ComponentType.fits g.C.ComponentType.walks g.C.ComponentType.means g.met.C.ComponentType.typed g.met.C.ComponentType.walked v.2 core.component.types c.index-3.result.now t (fit.1.1.0) has) c.in-Ok-lower_at-2.ensures.stays c.in-Ok-lower_at-2.ensures.end c.in-Ok-lower_at-2.ensures.same_options c.in-Ok-lower_at-2.ensures.lowers in
+    tuple_lowers L a.cx.now.options core c.lower_at-4.new.cx.core.now (shape_of core.component.types.types a.ty) (members_of core.component.types.types (c.index.result.now ∷ c.index-2.result.now ∷ c.index-3.result.now ∷ c.index-4.result.now ∷ c.index-5.result.now ∷ [])) c.lower_at-4.new.dst (FirstAnd (g.A.ComponentType.walks v.0) (FirstAnd (g.B.ComponentType.walks v.1) (FirstAnd (g.C.ComponentType.walks v.2) (FirstAnd (g.E.ComponentType.walks v.3) (FirstAnd (g.F.ComponentType.walks v.4) NoTrees))))) ((λ u. g.A.Lower.gives core.component.types u v.0) ∷ (λ u. g.B.Lower.gives core.component.types u v.1) ∷ (λ u. g.C.Lower.gives core.component.types u v.2) ∷ (λ u. g.E.Lower.gives core.component.types u v.3) ∷ (λ u. g.F.Lower.gives core.component.types u v.4) ∷ []) (Err c.in-Err-lower_at-3.fault) shape
+    (done_stop L a.cx.now.options core (members_of core.component.types.types (c.index.result.now ∷ c.index-2.result.now ∷ c.index-3.result.now ∷ c.index-4.result.now ∷ c.index-5.result.now ∷ [])) (FirstAnd (g.A.ComponentType.walks v.0) (FirstAnd (g.B.ComponentType.walks v.1) (FirstAnd (g.C.ComponentType.walks v.2) (FirstAnd (g.E.ComponentType.walks v.3) (FirstAnd (g.F.ComponentType.walks v.4) NoTrees))))) (row_gives (members_of core.component.types.types (c.index.result.now ∷ c.index-2.result.now ∷ c.index-3.result.now ∷ c.index-4.result.now ∷ c.index-5.result.now ∷ [])) ((λ u. g.A.Lower.gives core.component.types u v.0) ∷ (λ u. g.B.Lower.gives core.component.types u v.1) ∷ (λ u. g.C.Lower.gives core.component.types u v.2) ∷ (λ u. g.E.Lower.gives core.component.types u v.3) ∷ (λ u. g.F.Lower.gives core.component.types u v.4) ∷ [])) c.lower_at-3.new.cx.core.now c.lower_at-3.new.cx.options c.lower_at-3.new.dst c.lower_at-3.new.at c.index-4.result.now (members_of core.component.types.types (c.index-5.result.now ∷ [])) (g.E.ComponentType.walks v.3) (FirstAnd (g.F.ComponentType.walks v.4) NoTrees) (λ i u. g.E.Lower.gives i u v.3) (row_gives (members_of core.component.types.types (c.index-5.result.now ∷ [])) ((λ u. g.F.Lower.gives core.component.types u v.4) ∷ [])) done4 c.lower_at-4.new.cx.core.now c.lower_at-4.new.dst c.in-Err-lower_at-3.fault c.in-Err-lower_at-3.ensures.stays c.in-Err-lower_at-3.ensures.lowers)
+
+pub lower_at-requires-5-clause-room : goal.lower_at-requires-5-clause-room
+lower_at-requires-5-clause-room g c =
+    let L : GuestLaws _ = record { seen = g.G.Guest.seen; moves = g.G.Guest.moves; stays = g.met.G.Guest.stays; goes_on = g.met.G.Guest.goes_on } in
+    let a = c.args in
+    let core = a.cx.now.core.now in
+    let v = a.self.now in
+    let xs : List InterfaceType = c.index.result.now ∷ c.index-2.result.now ∷ c.index-3.result.now ∷ c.index-4.result.now ∷ c.index-5.result.now ∷ [] in
+    let (shape, fit, known) = tuple_facts (g.A.ComponentType.fits ∷ g.B.ComponentType.fits ∷ g.C.ComponentType.fits ∷ g.E.ComponentType.fits ∷ g.F.ComponentType.fits ∷ []) core.component.types c.types.result.now c.in-Tuple.i c.tuple.result.now.types.items xs a.ty c.types.ensures c.in-Tuple.is c.tuple.ensures.entry c.requires.fits refl
+    (c.index.ensures, (c.index-2.ensures, (c.index-3.ensures, (c.index-4.ensures, (c.index-5.ensures, tt))))) in
+    let done = done_none L a.cx.now.options core (members_of core.component.types.types (c.index.result.now ∷ c.index-2.result.now ∷ c.index-3.result.now ∷ c.index-4.result.now ∷ c.index-5.result.now ∷ [])) (FirstAnd (g.A.ComponentType.walks v.0) (FirstAnd (g.B.ComponentType.walks v.1) (FirstAnd (g.C.ComponentType.walks v.2) (FirstAnd (g.E.ComponentType.walks v.3) (FirstAnd (g.F.ComponentType.walks v.4) NoTrees))))) (row_gives (members_of core.component.types.types (c.index.result.now ∷ c.index-2.result.now ∷ c.index-3.result.now ∷ c.index-4.result.now ∷ c.index-5.result.now ∷ [])) ((λ u. g.A.Lower.gives core.component.types u v.0) ∷ (λ u. g.B.Lower.gives core.component.types u v.1) ∷ (λ u. g.C.Lower.gives core.component.types u v.2) ∷ (λ u. g.E.Lower.gives core.component.types u v.3) ∷ (λ u. g.F.Lower.gives core.component.types u v.4) ∷ [])) a.dst.now (tuple_room (shape_of core.component.types.types a.ty) (members_of core.component.types.types (c.index.result.now ∷ c.index-2.result.now ∷ c.index-3.result.now ∷ c.index-4.result.now ∷ c.index-5.result.now ∷ [])) a.dst.now shape c.requires.words) in
+    let done2 = done_more L a.cx.now.options core (members_of core.component.types.types (c.index.result.now ∷ c.index-2.result.now ∷ c.index-3.result.now ∷ c.index-4.result.now ∷ c.index-5.result.now ∷ [])) (FirstAnd (g.A.ComponentType.walks v.0) (FirstAnd (g.B.ComponentType.walks v.1) (FirstAnd (g.C.ComponentType.walks v.2) (FirstAnd (g.E.ComponentType.walks v.3) (FirstAnd (g.F.ComponentType.walks v.4) NoTrees))))) (row_gives (members_of core.component.types.types (c.index.result.now ∷ c.index-2.result.now ∷ c.index-3.result.now ∷ c.index-4.result.now ∷ c.index-5.result.now ∷ [])) ((λ u. g.A.Lower.gives core.component.types u v.0) ∷ (λ u. g.B.Lower.gives core.component.types u v.1) ∷ (λ u. g.C.Lower.gives core.component.types u v.2) ∷ (λ u. g.E.Lower.gives core.component.types u v.3) ∷ (λ u. g.F.Lower.gives core.component.types u v.4) ∷ [])) core a.cx.now.options a.dst.now 0 c.index.result.now (members_of core.component.types.types (c.index-2.result.now ∷ c.index-3.result.now ∷ c.index-4.result.now ∷ c.index-5.result.now ∷ [])) (g.A.ComponentType.walks v.0) (FirstAnd (g.B.ComponentType.walks v.1) (FirstAnd (g.C.ComponentType.walks v.2) (FirstAnd (g.E.ComponentType.walks v.3) (FirstAnd (g.F.ComponentType.walks v.4) NoTrees)))) (λ i u. g.A.Lower.gives i u v.0) (row_gives (members_of core.component.types.types (c.index-2.result.now ∷ c.index-3.result.now ∷ c.index-4.result.now ∷ c.index-5.result.now ∷ [])) ((λ u. g.B.Lower.gives core.component.types u v.1) ∷ (λ u. g.C.Lower.gives core.component.types u v.2) ∷ (λ u. g.E.Lower.gives core.component.types u v.3) ∷ (λ u. g.F.Lower.gives core.component.types u v.4) ∷ [])) done c.lower_at.new.cx.core.now c.lower_at.new.cx.options c.lower_at.new.dst c.lower_at.new.at (λ t has. walked_shaped g.A.ComponentType.fits g.A.ComponentType.walks g.A.ComponentType.means g.met.A.ComponentType.typed g.met.A.ComponentType.walked v.0 core.component.types c.index.result.now t (fit.0) has) c.in-Ok.ensures.stays c.in-Ok.ensures.end c.in-Ok.ensures.same_options c.in-Ok.ensures.lowers in
+    let done3 = done_more L a.cx.now.options core (members_of core.component.types.types (c.index.result.now ∷ c.index-2.result.now ∷ c.index-3.result.now ∷ c.index-4.result.now ∷ c.index-5.result.now ∷ [])) (FirstAnd (g.A.ComponentType.walks v.0) (FirstAnd (g.B.ComponentType.walks v.1) (FirstAnd (g.C.ComponentType.walks v.2) (FirstAnd (g.E.ComponentType.walks v.3) (FirstAnd (g.F.ComponentType.walks v.4) NoTrees))))) (row_gives (members_of core.component.types.types (c.index.result.now ∷ c.index-2.result.now ∷ c.index-3.result.now ∷ c.index-4.result.now ∷ c.index-5.result.now ∷ [])) ((λ u. g.A.Lower.gives core.component.types u v.0) ∷ (λ u. g.B.Lower.gives core.component.types u v.1) ∷ (λ u. g.C.Lower.gives core.component.types u v.2) ∷ (λ u. g.E.Lower.gives core.component.types u v.3) ∷ (λ u. g.F.Lower.gives core.component.types u v.4) ∷ [])) c.lower_at.new.cx.core.now c.lower_at.new.cx.options c.lower_at.new.dst c.lower_at.new.at c.index-2.result.now (members_of core.component.types.types (c.index-3.result.now ∷ c.index-4.result.now ∷ c.index-5.result.now ∷ [])) (g.B.ComponentType.walks v.1) (FirstAnd (g.C.ComponentType.walks v.2) (FirstAnd (g.E.ComponentType.walks v.3) (FirstAnd (g.F.ComponentType.walks v.4) NoTrees))) (λ i u. g.B.Lower.gives i u v.1) (row_gives (members_of core.component.types.types (c.index-3.result.now ∷ c.index-4.result.now ∷ c.index-5.result.now ∷ [])) ((λ u. g.C.Lower.gives core.component.types u v.2) ∷ (λ u. g.E.Lower.gives core.component.types u v.3) ∷ (λ u. g.F.Lower.gives core.component.types u v.4) ∷ [])) done2 c.lower_at-2.new.cx.core.now c.lower_at-2.new.cx.options c.lower_at-2.new.dst c.lower_at-2.new.at (λ t has. walked_shaped g.B.ComponentType.fits g.B.ComponentType.walks g.B.ComponentType.means g.met.B.ComponentType.typed g.met.B.ComponentType.walked v.1 core.component.types c.index-2.result.now t (fit.1.0) has) c.in-Ok-lower_at.ensures.stays c.in-Ok-lower_at.ensures.end c.in-Ok-lower_at.ensures.same_options c.in-Ok-lower_at.ensures.lowers in
+    let done4 = done_more L a.cx.now.options core (members_of core.component.types.types (c.index.result.now ∷ c.index-2.result.now ∷ c.index-3.result.now ∷ c.index-4.result.now ∷ c.index-5.result.now ∷ [])) (FirstAnd (g.A.ComponentType.walks v.0) (FirstAnd (g.B.ComponentType.walks v.1) (FirstAnd (g.C.ComponentType.walks v.2) (FirstAnd (g.E.ComponentType.walks v.3) (FirstAnd (g.F.ComponentType.walks v.4) NoTrees))))) (row_gives (members_of core.component.types.types (c.index.result.now ∷ c.index-2.result.now ∷ c.index-3.result.now ∷ c.index-4.result.now ∷ c.index-5.result.now ∷ [])) ((λ u. g.A.Lower.gives core.component.types u v.0) ∷ (λ u. g.B.Lower.gives core.component.types u v.1) ∷ (λ u. g.C.Lower.gives core.component.types u v.2) ∷ (λ u. g.E.Lower.gives core.component.types u v.3) ∷ (λ u. g.F.Lower.gives core.component.types u v.4) ∷ [])) c.lower_at-2.new.cx.core.now c.lower_at-2.new.cx.options c.lower_at-2.new.dst c.lower_at-2.new.at c.index-3.result.now (members_of core.component.types.types (c.index-4.result.now ∷ c.index-5.result.now ∷ [])) (g.C.ComponentType.walks v.2) (FirstAnd (g.E.ComponentType.walks v.3) (FirstAnd (g.F.ComponentType.walks v.4) NoTrees)) (λ i u. g.C.Lower.gives i u v.2) (row_gives (members_of core.component.types.types (c.index-4.result.now ∷ c.index-5.result.now ∷ [])) ((λ u. g.E.Lower.gives core.component.types u v.3) ∷ (λ u. g.F.Lower.gives core.component.types u v.4) ∷ [])) done3 c.lower_at-3.new.cx.core.now c.lower_at-3.new.cx.options c.lower_at-3.new.dst c.lower_at-3.new.at (λ t has. walked_shaped g.C.ComponentType.fits g.C.ComponentType.walks g.C.ComponentType.means g.met.C.ComponentType.typed g.met.C.ComponentType.walked v.2 core.component.types c.index-3.result.now t (fit.1.1.0) has) c.in-Ok-lower_at-2.ensures.stays c.in-Ok-lower_at-2.ensures.end c.in-Ok-lower_at-2.ensures.same_options c.in-Ok-lower_at-2.ensures.lowers in
+    let done5 = done_more L a.cx.now.options core (members_of core.component.types.types (c.index.result.now ∷ c.index-2.result.now ∷ c.index-3.result.now ∷ c.index-4.result.now ∷ c.index-5.result.now ∷ [])) (FirstAnd (g.A.ComponentType.walks v.0) (FirstAnd (g.B.ComponentType.walks v.1) (FirstAnd (g.C.ComponentType.walks v.2) (FirstAnd (g.E.ComponentType.walks v.3) (FirstAnd (g.F.ComponentType.walks v.4) NoTrees))))) (row_gives (members_of core.component.types.types (c.index.result.now ∷ c.index-2.result.now ∷ c.index-3.result.now ∷ c.index-4.result.now ∷ c.index-5.result.now ∷ [])) ((λ u. g.A.Lower.gives core.component.types u v.0) ∷ (λ u. g.B.Lower.gives core.component.types u v.1) ∷ (λ u. g.C.Lower.gives core.component.types u v.2) ∷ (λ u. g.E.Lower.gives core.component.types u v.3) ∷ (λ u. g.F.Lower.gives core.component.types u v.4) ∷ [])) c.lower_at-3.new.cx.core.now c.lower_at-3.new.cx.options c.lower_at-3.new.dst c.lower_at-3.new.at c.index-4.result.now (members_of core.component.types.types (c.index-5.result.now ∷ [])) (g.E.ComponentType.walks v.3) (FirstAnd (g.F.ComponentType.walks v.4) NoTrees) (λ i u. g.E.Lower.gives i u v.3) (row_gives (members_of core.component.types.types (c.index-5.result.now ∷ [])) ((λ u. g.F.Lower.gives core.component.types u v.4) ∷ [])) done4 c.lower_at-4.new.cx.core.now c.lower_at-4.new.cx.options c.lower_at-4.new.dst c.lower_at-4.new.at (λ t has. walked_shaped g.E.ComponentType.fits g.E.ComponentType.walks g.E.ComponentType.means g.met.E.ComponentType.typed g.met.E.ComponentType.walked v.3 core.component.types c.index-4.result.now t (fit.1.1.1.0) has) c.in-Ok-lower_at-3.ensures.stays c.in-Ok-lower_at-3.ensures.end c.in-Ok-lower_at-3.ensures.same_options c.in-Ok-lower_at-3.ensures.lowers in
+    done_room L a.cx.now.options core (members_of core.component.types.types (c.index.result.now ∷ c.index-2.result.now ∷ c.index-3.result.now ∷ c.index-4.result.now ∷ c.index-5.result.now ∷ [])) (FirstAnd (g.A.ComponentType.walks v.0) (FirstAnd (g.B.ComponentType.walks v.1) (FirstAnd (g.C.ComponentType.walks v.2) (FirstAnd (g.E.ComponentType.walks v.3) (FirstAnd (g.F.ComponentType.walks v.4) NoTrees))))) (row_gives (members_of core.component.types.types (c.index.result.now ∷ c.index-2.result.now ∷ c.index-3.result.now ∷ c.index-4.result.now ∷ c.index-5.result.now ∷ [])) ((λ u. g.A.Lower.gives core.component.types u v.0) ∷ (λ u. g.B.Lower.gives core.component.types u v.1) ∷ (λ u. g.C.Lower.gives core.component.types u v.2) ∷ (λ u. g.E.Lower.gives core.component.types u v.3) ∷ (λ u. g.F.Lower.gives core.component.types u v.4) ∷ [])) c.lower_at-4.new.cx.core.now c.lower_at-4.new.cx.options c.lower_at-4.new.dst c.lower_at-4.new.at c.index-5.result.now (members_of core.component.types.types ([])) (g.F.ComponentType.walks v.4) NoTrees (λ i u. g.F.Lower.gives i u v.4) (row_gives (members_of core.component.types.types ([])) ([])) done5
+
+pub lower_at-requires-5-clause-known : goal.lower_at-requires-5-clause-known
+lower_at-requires-5-clause-known g c =
+    let L : GuestLaws _ = record { seen = g.G.Guest.seen; moves = g.G.Guest.moves; stays = g.met.G.Guest.stays; goes_on = g.met.G.Guest.goes_on } in
+    let a = c.args in
+    let core = a.cx.now.core.now in
+    let v = a.self.now in
+    let xs : List InterfaceType = c.index.result.now ∷ c.index-2.result.now ∷ c.index-3.result.now ∷ c.index-4.result.now ∷ c.index-5.result.now ∷ [] in
+    let (shape, fit, known) = tuple_facts (g.A.ComponentType.fits ∷ g.B.ComponentType.fits ∷ g.C.ComponentType.fits ∷ g.E.ComponentType.fits ∷ g.F.ComponentType.fits ∷ []) core.component.types c.types.result.now c.in-Tuple.i c.tuple.result.now.types.items xs a.ty c.types.ensures c.in-Tuple.is c.tuple.ensures.entry c.requires.fits refl
+    (c.index.ensures, (c.index-2.ensures, (c.index-3.ensures, (c.index-4.ensures, (c.index-5.ensures, tt))))) in
+    let done = done_none L a.cx.now.options core (members_of core.component.types.types (c.index.result.now ∷ c.index-2.result.now ∷ c.index-3.result.now ∷ c.index-4.result.now ∷ c.index-5.result.now ∷ [])) (FirstAnd (g.A.ComponentType.walks v.0) (FirstAnd (g.B.ComponentType.walks v.1) (FirstAnd (g.C.ComponentType.walks v.2) (FirstAnd (g.E.ComponentType.walks v.3) (FirstAnd (g.F.ComponentType.walks v.4) NoTrees))))) (row_gives (members_of core.component.types.types (c.index.result.now ∷ c.index-2.result.now ∷ c.index-3.result.now ∷ c.index-4.result.now ∷ c.index-5.result.now ∷ [])) ((λ u. g.A.Lower.gives core.component.types u v.0) ∷ (λ u. g.B.Lower.gives core.component.types u v.1) ∷ (λ u. g.C.Lower.gives core.component.types u v.2) ∷ (λ u. g.E.Lower.gives core.component.types u v.3) ∷ (λ u. g.F.Lower.gives core.component.types u v.4) ∷ [])) a.dst.now (tuple_room (shape_of core.component.types.types a.ty) (members_of core.component.types.types (c.index.result.now ∷ c.index-2.result.now ∷ c.index-3.result.now ∷ c.index-4.result.now ∷ c.index-5.result.now ∷ [])) a.dst.now shape c.requires.words) in
+    let done2 = done_more L a.cx.now.options core (members_of core.component.types.types (c.index.result.now ∷ c.index-2.result.now ∷ c.index-3.result.now ∷ c.index-4.result.now ∷ c.index-5.result.now ∷ [])) (FirstAnd (g.A.ComponentType.walks v.0) (FirstAnd (g.B.ComponentType.walks v.1) (FirstAnd (g.C.ComponentType.walks v.2) (FirstAnd (g.E.ComponentType.walks v.3) (FirstAnd (g.F.ComponentType.walks v.4) NoTrees))))) (row_gives (members_of core.component.types.types (c.index.result.now ∷ c.index-2.result.now ∷ c.index-3.result.now ∷ c.index-4.result.now ∷ c.index-5.result.now ∷ [])) ((λ u. g.A.Lower.gives core.component.types u v.0) ∷ (λ u. g.B.Lower.gives core.component.types u v.1) ∷ (λ u. g.C.Lower.gives core.component.types u v.2) ∷ (λ u. g.E.Lower.gives core.component.types u v.3) ∷ (λ u. g.F.Lower.gives core.component.types u v.4) ∷ [])) core a.cx.now.options a.dst.now 0 c.index.result.now (members_of core.component.types.types (c.index-2.result.now ∷ c.index-3.result.now ∷ c.index-4.result.now ∷ c.index-5.result.now ∷ [])) (g.A.ComponentType.walks v.0) (FirstAnd (g.B.ComponentType.walks v.1) (FirstAnd (g.C.ComponentType.walks v.2) (FirstAnd (g.E.ComponentType.walks v.3) (FirstAnd (g.F.ComponentType.walks v.4) NoTrees)))) (λ i u. g.A.Lower.gives i u v.0) (row_gives (members_of core.component.types.types (c.index-2.result.now ∷ c.index-3.result.now ∷ c.index-4.result.now ∷ c.index-5.result.now ∷ [])) ((λ u. g.B.Lower.gives core.component.types u v.1) ∷ (λ u. g.C.Lower.gives core.component.types u v.2) ∷ (λ u. g.E.Lower.gives core.component.types u v.3) ∷ (λ u. g.F.Lower.gives core.component.types u v.4) ∷ [])) done c.lower_at.new.cx.core.now c.lower_at.new.cx.options c.lower_at.new.dst c.lower_at.new.at (λ t has. walked_shaped g.A.ComponentType.fits g.A.ComponentType.walks g.A.ComponentType.means g.met.A.ComponentType.typed g.met.A.ComponentType.walked v.0 core.component.types c.index.result.now t (fit.0) has) c.in-Ok.ensures.stays c.in-Ok.ensures.end c.in-Ok.ensures.same_options c.in-Ok.ensures.lowers in
+    let done3 = done_more L a.cx.now.options core (members_of core.component.types.types (c.index.result.now ∷ c.index-2.result.now ∷ c.index-3.result.now ∷ c.index-4.result.now ∷ c.index-5.result.now ∷ [])) (FirstAnd (g.A.ComponentType.walks v.0) (FirstAnd (g.B.ComponentType.walks v.1) (FirstAnd (g.C.ComponentType.walks v.2) (FirstAnd (g.E.ComponentType.walks v.3) (FirstAnd (g.F.ComponentType.walks v.4) NoTrees))))) (row_gives (members_of core.component.types.types (c.index.result.now ∷ c.index-2.result.now ∷ c.index-3.result.now ∷ c.index-4.result.now ∷ c.index-5.result.now ∷ [])) ((λ u. g.A.Lower.gives core.component.types u v.0) ∷ (λ u. g.B.Lower.gives core.component.types u v.1) ∷ (λ u. g.C.Lower.gives core.component.types u v.2) ∷ (λ u. g.E.Lower.gives core.component.types u v.3) ∷ (λ u. g.F.Lower.gives core.component.types u v.4) ∷ [])) c.lower_at.new.cx.core.now c.lower_at.new.cx.options c.lower_at.new.dst c.lower_at.new.at c.index-2.result.now (members_of core.component.types.types (c.index-3.result.now ∷ c.index-4.result.now ∷ c.index-5.result.now ∷ [])) (g.B.ComponentType.walks v.1) (FirstAnd (g.C.ComponentType.walks v.2) (FirstAnd (g.E.ComponentType.walks v.3) (FirstAnd (g.F.ComponentType.walks v.4) NoTrees))) (λ i u. g.B.Lower.gives i u v.1) (row_gives (members_of core.component.types.types (c.index-3.result.now ∷ c.index-4.result.now ∷ c.index-5.result.now ∷ [])) ((λ u. g.C.Lower.gives core.component.types u v.2) ∷ (λ u. g.E.Lower.gives core.component.types u v.3) ∷ (λ u. g.F.Lower.gives core.component.types u v.4) ∷ [])) done2 c.lower_at-2.new.cx.core.now c.lower_at-2.new.cx.options c.lower_at-2.new.dst c.lower_at-2.new.at (λ t has. walked_shaped g.B.ComponentType.fits g.B.ComponentType.walks g.B.ComponentType.means g.met.B.ComponentType.typed g.met.B.ComponentType.walked v.1 core.component.types c.index-2.result.now t (fit.1.0) has) c.in-Ok-lower_at.ensures.stays c.in-Ok-lower_at.ensures.end c.in-Ok-lower_at.ensures.same_options c.in-Ok-lower_at.ensures.lowers in
+    let done4 = done_more L a.cx.now.options core (members_of core.component.types.types (c.index.result.now ∷ c.index-2.result.now ∷ c.index-3.result.now ∷ c.index-4.result.now ∷ c.index-5.result.now ∷ [])) (FirstAnd (g.A.ComponentType.walks v.0) (FirstAnd (g.B.ComponentType.walks v.1) (FirstAnd (g.C.ComponentType.walks v.2) (FirstAnd (g.E.ComponentType.walks v.3) (FirstAnd (g.F.ComponentType.walks v.4) NoTrees))))) (row_gives (members_of core.component.types.types (c.index.result.now ∷ c.index-2.result.now ∷ c.index-3.result.now ∷ c.index-4.result.now ∷ c.index-5.result.now ∷ [])) ((λ u. g.A.Lower.gives core.component.types u v.0) ∷ (λ u. g.B.Lower.gives core.component.types u v.1) ∷ (λ u. g.C.Lower.gives core.component.types u v.2) ∷ (λ u. g.E.Lower.gives core.component.types u v.3) ∷ (λ u. g.F.Lower.gives core.component.types u v.4) ∷ [])) c.lower_at-2.new.cx.core.now c.lower_at-2.new.cx.options c.lower_at-2.new.dst c.lower_at-2.new.at c.index-3.result.now (members_of core.component.types.types (c.index-4.result.now ∷ c.index-5.result.now ∷ [])) (g.C.ComponentType.walks v.2) (FirstAnd (g.E.ComponentType.walks v.3) (FirstAnd (g.F.ComponentType.walks v.4) NoTrees)) (λ i u. g.C.Lower.gives i u v.2) (row_gives (members_of core.component.types.types (c.index-4.result.now ∷ c.index-5.result.now ∷ [])) ((λ u. g.E.Lower.gives core.component.types u v.3) ∷ (λ u. g.F.Lower.gives core.component.types u v.4) ∷ [])) done3 c.lower_at-3.new.cx.core.now c.lower_at-3.new.cx.options c.lower_at-3.new.dst c.lower_at-3.new.at (λ t has. walked_shaped g.C.ComponentType.fits g.C.ComponentType.walks g.C.ComponentType.means g.met.C.ComponentType.typed g.met.C.ComponentType.walked v.2 core.component.types c.index-3.result.now t (fit.1.1.0) has) c.in-Ok-lower_at-2.ensures.stays c.in-Ok-lower_at-2.ensures.end c.in-Ok-lower_at-2.ensures.same_options c.in-Ok-lower_at-2.ensures.lowers in
+    let done5 = done_more L a.cx.now.options core (members_of core.component.types.types (c.index.result.now ∷ c.index-2.result.now ∷ c.index-3.result.now ∷ c.index-4.result.now ∷ c.index-5.result.now ∷ [])) (FirstAnd (g.A.ComponentType.walks v.0) (FirstAnd (g.B.ComponentType.walks v.1) (FirstAnd (g.C.ComponentType.walks v.2) (FirstAnd (g.E.ComponentType.walks v.3) (FirstAnd (g.F.ComponentType.walks v.4) NoTrees))))) (row_gives (members_of core.component.types.types (c.index.result.now ∷ c.index-2.result.now ∷ c.index-3.result.now ∷ c.index-4.result.now ∷ c.index-5.result.now ∷ [])) ((λ u. g.A.Lower.gives core.component.types u v.0) ∷ (λ u. g.B.Lower.gives core.component.types u v.1) ∷ (λ u. g.C.Lower.gives core.component.types u v.2) ∷ (λ u. g.E.Lower.gives core.component.types u v.3) ∷ (λ u. g.F.Lower.gives core.component.types u v.4) ∷ [])) c.lower_at-3.new.cx.core.now c.lower_at-3.new.cx.options c.lower_at-3.new.dst c.lower_at-3.new.at c.index-4.result.now (members_of core.component.types.types (c.index-5.result.now ∷ [])) (g.E.ComponentType.walks v.3) (FirstAnd (g.F.ComponentType.walks v.4) NoTrees) (λ i u. g.E.Lower.gives i u v.3) (row_gives (members_of core.component.types.types (c.index-5.result.now ∷ [])) ((λ u. g.F.Lower.gives core.component.types u v.4) ∷ [])) done4 c.lower_at-4.new.cx.core.now c.lower_at-4.new.cx.options c.lower_at-4.new.dst c.lower_at-4.new.at (λ t has. walked_shaped g.E.ComponentType.fits g.E.ComponentType.walks g.E.ComponentType.means g.met.E.ComponentType.typed g.met.E.ComponentType.walked v.3 core.component.types c.index-4.result.now t (fit.1.1.1.0) has) c.in-Ok-lower_at-3.ensures.stays c.in-Ok-lower_at-3.ensures.end c.in-Ok-lower_at-3.ensures.same_options c.in-Ok-lower_at-3.ensures.lowers in
+    done_known L a.cx.now.options core (members_of core.component.types.types (c.index.result.now ∷ c.index-2.result.now ∷ c.index-3.result.now ∷ c.index-4.result.now ∷ c.index-5.result.now ∷ [])) (FirstAnd (g.A.ComponentType.walks v.0) (FirstAnd (g.B.ComponentType.walks v.1) (FirstAnd (g.C.ComponentType.walks v.2) (FirstAnd (g.E.ComponentType.walks v.3) (FirstAnd (g.F.ComponentType.walks v.4) NoTrees))))) (row_gives (members_of core.component.types.types (c.index.result.now ∷ c.index-2.result.now ∷ c.index-3.result.now ∷ c.index-4.result.now ∷ c.index-5.result.now ∷ [])) ((λ u. g.A.Lower.gives core.component.types u v.0) ∷ (λ u. g.B.Lower.gives core.component.types u v.1) ∷ (λ u. g.C.Lower.gives core.component.types u v.2) ∷ (λ u. g.E.Lower.gives core.component.types u v.3) ∷ (λ u. g.F.Lower.gives core.component.types u v.4) ∷ [])) c.lower_at-4.new.cx.core.now c.lower_at-4.new.cx.options c.lower_at-4.new.dst c.lower_at-4.new.at c.index-5.result.now (members_of core.component.types.types ([])) (g.F.ComponentType.walks v.4) NoTrees (λ i u. g.F.Lower.gives i u v.4) (row_gives (members_of core.component.types.types ([])) ([])) done5 known.1.1.1.1.0
+
+pub lower_at-requires-5-clause-fits : goal.lower_at-requires-5-clause-fits
+lower_at-requires-5-clause-fits g c =
+    let L : GuestLaws _ = record { seen = g.G.Guest.seen; moves = g.G.Guest.moves; stays = g.met.G.Guest.stays; goes_on = g.met.G.Guest.goes_on } in
+    let a = c.args in
+    let core = a.cx.now.core.now in
+    let v = a.self.now in
+    let xs : List InterfaceType = c.index.result.now ∷ c.index-2.result.now ∷ c.index-3.result.now ∷ c.index-4.result.now ∷ c.index-5.result.now ∷ [] in
+    let (shape, fit, known) = tuple_facts (g.A.ComponentType.fits ∷ g.B.ComponentType.fits ∷ g.C.ComponentType.fits ∷ g.E.ComponentType.fits ∷ g.F.ComponentType.fits ∷ []) core.component.types c.types.result.now c.in-Tuple.i c.tuple.result.now.types.items xs a.ty c.types.ensures c.in-Tuple.is c.tuple.ensures.entry c.requires.fits refl
+    (c.index.ensures, (c.index-2.ensures, (c.index-3.ensures, (c.index-4.ensures, (c.index-5.ensures, tt))))) in
+    let done = done_none L a.cx.now.options core (members_of core.component.types.types (c.index.result.now ∷ c.index-2.result.now ∷ c.index-3.result.now ∷ c.index-4.result.now ∷ c.index-5.result.now ∷ [])) (FirstAnd (g.A.ComponentType.walks v.0) (FirstAnd (g.B.ComponentType.walks v.1) (FirstAnd (g.C.ComponentType.walks v.2) (FirstAnd (g.E.ComponentType.walks v.3) (FirstAnd (g.F.ComponentType.walks v.4) NoTrees))))) (row_gives (members_of core.component.types.types (c.index.result.now ∷ c.index-2.result.now ∷ c.index-3.result.now ∷ c.index-4.result.now ∷ c.index-5.result.now ∷ [])) ((λ u. g.A.Lower.gives core.component.types u v.0) ∷ (λ u. g.B.Lower.gives core.component.types u v.1) ∷ (λ u. g.C.Lower.gives core.component.types u v.2) ∷ (λ u. g.E.Lower.gives core.component.types u v.3) ∷ (λ u. g.F.Lower.gives core.component.types u v.4) ∷ [])) a.dst.now (tuple_room (shape_of core.component.types.types a.ty) (members_of core.component.types.types (c.index.result.now ∷ c.index-2.result.now ∷ c.index-3.result.now ∷ c.index-4.result.now ∷ c.index-5.result.now ∷ [])) a.dst.now shape c.requires.words) in
+    let done2 = done_more L a.cx.now.options core (members_of core.component.types.types (c.index.result.now ∷ c.index-2.result.now ∷ c.index-3.result.now ∷ c.index-4.result.now ∷ c.index-5.result.now ∷ [])) (FirstAnd (g.A.ComponentType.walks v.0) (FirstAnd (g.B.ComponentType.walks v.1) (FirstAnd (g.C.ComponentType.walks v.2) (FirstAnd (g.E.ComponentType.walks v.3) (FirstAnd (g.F.ComponentType.walks v.4) NoTrees))))) (row_gives (members_of core.component.types.types (c.index.result.now ∷ c.index-2.result.now ∷ c.index-3.result.now ∷ c.index-4.result.now ∷ c.index-5.result.now ∷ [])) ((λ u. g.A.Lower.gives core.component.types u v.0) ∷ (λ u. g.B.Lower.gives core.component.types u v.1) ∷ (λ u. g.C.Lower.gives core.component.types u v.2) ∷ (λ u. g.E.Lower.gives core.component.types u v.3) ∷ (λ u. g.F.Lower.gives core.component.types u v.4) ∷ [])) core a.cx.now.options a.dst.now 0 c.index.result.now (members_of core.component.types.types (c.index-2.result.now ∷ c.index-3.result.now ∷ c.index-4.result.now ∷ c.index-5.result.now ∷ [])) (g.A.ComponentType.walks v.0) (FirstAnd (g.B.ComponentType.walks v.1) (FirstAnd (g.C.ComponentType.walks v.2) (FirstAnd (g.E.ComponentType.walks v.3) (FirstAnd (g.F.ComponentType.walks v.4) NoTrees)))) (λ i u. g.A.Lower.gives i u v.0) (row_gives (members_of core.component.types.types (c.index-2.result.now ∷ c.index-3.result.now ∷ c.index-4.result.now ∷ c.index-5.result.now ∷ [])) ((λ u. g.B.Lower.gives core.component.types u v.1) ∷ (λ u. g.C.Lower.gives core.component.types u v.2) ∷ (λ u. g.E.Lower.gives core.component.types u v.3) ∷ (λ u. g.F.Lower.gives core.component.types u v.4) ∷ [])) done c.lower_at.new.cx.core.now c.lower_at.new.cx.options c.lower_at.new.dst c.lower_at.new.at (λ t has. walked_shaped g.A.ComponentType.fits g.A.ComponentType.walks g.A.ComponentType.means g.met.A.ComponentType.typed g.met.A.ComponentType.walked v.0 core.component.types c.index.result.now t (fit.0) has) c.in-Ok.ensures.stays c.in-Ok.ensures.end c.in-Ok.ensures.same_options c.in-Ok.ensures.lowers in
+    let done3 = done_more L a.cx.now.options core (members_of core.component.types.types (c.index.result.now ∷ c.index-2.result.now ∷ c.index-3.result.now ∷ c.index-4.result.now ∷ c.index-5.result.now ∷ [])) (FirstAnd (g.A.ComponentType.walks v.0) (FirstAnd (g.B.ComponentType.walks v.1) (FirstAnd (g.C.ComponentType.walks v.2) (FirstAnd (g.E.ComponentType.walks v.3) (FirstAnd (g.F.ComponentType.walks v.4) NoTrees))))) (row_gives (members_of core.component.types.types (c.index.result.now ∷ c.index-2.result.now ∷ c.index-3.result.now ∷ c.index-4.result.now ∷ c.index-5.result.now ∷ [])) ((λ u. g.A.Lower.gives core.component.types u v.0) ∷ (λ u. g.B.Lower.gives core.component.types u v.1) ∷ (λ u. g.C.Lower.gives core.component.types u v.2) ∷ (λ u. g.E.Lower.gives core.component.types u v.3) ∷ (λ u. g.F.Lower.gives core.component.types u v.4) ∷ [])) c.lower_at.new.cx.core.now c.lower_at.new.cx.options c.lower_at.new.dst c.lower_at.new.at c.index-2.result.now (members_of core.component.types.types (c.index-3.result.now ∷ c.index-4.result.now ∷ c.index-5.result.now ∷ [])) (g.B.ComponentType.walks v.1) (FirstAnd (g.C.ComponentType.walks v.2) (FirstAnd (g.E.ComponentType.walks v.3) (FirstAnd (g.F.ComponentType.walks v.4) NoTrees))) (λ i u. g.B.Lower.gives i u v.1) (row_gives (members_of core.component.types.types (c.index-3.result.now ∷ c.index-4.result.now ∷ c.index-5.result.now ∷ [])) ((λ u. g.C.Lower.gives core.component.types u v.2) ∷ (λ u. g.E.Lower.gives core.component.types u v.3) ∷ (λ u. g.F.Lower.gives core.component.types u v.4) ∷ [])) done2 c.lower_at-2.new.cx.core.now c.lower_at-2.new.cx.options c.lower_at-2.new.dst c.lower_at-2.new.at (λ t has. walked_shaped g.B.ComponentType.fits g.B.ComponentType.walks g.B.ComponentType.means g.met.B.ComponentType.typed g.met.B.ComponentType.walked v.1 core.component.types c.index-2.result.now t (fit.1.0) has) c.in-Ok-lower_at.ensures.stays c.in-Ok-lower_at.ensures.end c.in-Ok-lower_at.ensures.same_options c.in-Ok-lower_at.ensures.lowers in
+    let done4 = done_more L a.cx.now.options core (members_of core.component.types.types (c.index.result.now ∷ c.index-2.result.now ∷ c.index-3.result.now ∷ c.index-4.result.now ∷ c.index-5.result.now ∷ [])) (FirstAnd (g.A.ComponentType.walks v.0) (FirstAnd (g.B.ComponentType.walks v.1) (FirstAnd (g.C.ComponentType.walks v.2) (FirstAnd (g.E.ComponentType.walks v.3) (FirstAnd (g.F.ComponentType.walks v.4) NoTrees))))) (row_gives (members_of core.component.types.types (c.index.result.now ∷ c.index-2.result.now ∷ c.index-3.result.now ∷ c.index-4.result.now ∷ c.index-5.result.now ∷ [])) ((λ u. g.A.Lower.gives core.component.types u v.0) ∷ (λ u. g.B.Lower.gives core.component.types u v.1) ∷ (λ u. g.C.Lower.gives core.component.types u v.2) ∷ (λ u. g.E.Lower.gives core.component.types u v.3) ∷ (λ u. g.F.Lower.gives core.component.types u v.4) ∷ [])) c.lower_at-2.new.cx.core.now c.lower_at-2.new.cx.options c.lower_at-2.new.dst c.lower_at-2.new.at c.index-3.result.now (members_of core.component.types.types (c.index-4.result.now ∷ c.index-5.result.now ∷ [])) (g.C.ComponentType.walks v.2) (FirstAnd (g.E.ComponentType.walks v.3) (FirstAnd (g.F.ComponentType.walks v.4) NoTrees)) (λ i u. g.C.Lower.gives i u v.2) (row_gives (members_of core.component.types.types (c.index-4.result.now ∷ c.index-5.result.now ∷ [])) ((λ u. g.E.Lower.gives core.component.types u v.3) ∷ (λ u. g.F.Lower.gives core.component.types u v.4) ∷ [])) done3 c.lower_at-3.new.cx.core.now c.lower_at-3.new.cx.options c.lower_at-3.new.dst c.lower_at-3.new.at (λ t has. walked_shaped g.C.ComponentType.fits g.C.ComponentType.walks g.C.ComponentType.means g.met.C.ComponentType.typed g.met.C.ComponentType.walked v.2 core.component.types c.index-3.result.now t (fit.1.1.0) has) c.in-Ok-lower_at-2.ensures.stays c.in-Ok-lower_at-2.ensures.end c.in-Ok-lower_at-2.ensures.same_options c.in-Ok-lower_at-2.ensures.lowers in
+    let done5 = done_more L a.cx.now.options core (members_of core.component.types.types (c.index.result.now ∷ c.index-2.result.now ∷ c.index-3.result.now ∷ c.index-4.result.now ∷ c.index-5.result.now ∷ [])) (FirstAnd (g.A.ComponentType.walks v.0) (FirstAnd (g.B.ComponentType.walks v.1) (FirstAnd (g.C.ComponentType.walks v.2) (FirstAnd (g.E.ComponentType.walks v.3) (FirstAnd (g.F.ComponentType.walks v.4) NoTrees))))) (row_gives (members_of core.component.types.types (c.index.result.now ∷ c.index-2.result.now ∷ c.index-3.result.now ∷ c.index-4.result.now ∷ c.index-5.result.now ∷ [])) ((λ u. g.A.Lower.gives core.component.types u v.0) ∷ (λ u. g.B.Lower.gives core.component.types u v.1) ∷ (λ u. g.C.Lower.gives core.component.types u v.2) ∷ (λ u. g.E.Lower.gives core.component.types u v.3) ∷ (λ u. g.F.Lower.gives core.component.types u v.4) ∷ [])) c.lower_at-3.new.cx.core.now c.lower_at-3.new.cx.options c.lower_at-3.new.dst c.lower_at-3.new.at c.index-4.result.now (members_of core.component.types.types (c.index-5.result.now ∷ [])) (g.E.ComponentType.walks v.3) (FirstAnd (g.F.ComponentType.walks v.4) NoTrees) (λ i u. g.E.Lower.gives i u v.3) (row_gives (members_of core.component.types.types (c.index-5.result.now ∷ [])) ((λ u. g.F.Lower.gives core.component.types u v.4) ∷ [])) done4 c.lower_at-4.new.cx.core.now c.lower_at-4.new.cx.options c.lower_at-4.new.dst c.lower_at-4.new.at (λ t has. walked_shaped g.E.ComponentType.fits g.E.ComponentType.walks g.E.ComponentType.means g.met.E.ComponentType.typed g.met.E.ComponentType.walked v.3 core.component.types c.index-4.result.now t (fit.1.1.1.0) has) c.in-Ok-lower_at-3.ensures.stays c.in-Ok-lower_at-3.ensures.end c.in-Ok-lower_at-3.ensures.same_options c.in-Ok-lower_at-3.ensures.lowers in
+    done_fits L a.cx.now.options core (members_of core.component.types.types (c.index.result.now ∷ c.index-2.result.now ∷ c.index-3.result.now ∷ c.index-4.result.now ∷ c.index-5.result.now ∷ [])) (FirstAnd (g.A.ComponentType.walks v.0) (FirstAnd (g.B.ComponentType.walks v.1) (FirstAnd (g.C.ComponentType.walks v.2) (FirstAnd (g.E.ComponentType.walks v.3) (FirstAnd (g.F.ComponentType.walks v.4) NoTrees))))) (row_gives (members_of core.component.types.types (c.index.result.now ∷ c.index-2.result.now ∷ c.index-3.result.now ∷ c.index-4.result.now ∷ c.index-5.result.now ∷ [])) ((λ u. g.A.Lower.gives core.component.types u v.0) ∷ (λ u. g.B.Lower.gives core.component.types u v.1) ∷ (λ u. g.C.Lower.gives core.component.types u v.2) ∷ (λ u. g.E.Lower.gives core.component.types u v.3) ∷ (λ u. g.F.Lower.gives core.component.types u v.4) ∷ [])) c.lower_at-4.new.cx.core.now c.lower_at-4.new.cx.options c.lower_at-4.new.dst c.lower_at-4.new.at c.index-5.result.now (members_of core.component.types.types ([])) (g.F.ComponentType.walks v.4) NoTrees (λ i u. g.F.Lower.gives i u v.4) (row_gives (members_of core.component.types.types ([])) ([])) done5 g.F.ComponentType.fits fit.1.1.1.1.0
+
+pub returns-clause-lowers : goal.returns-clause-lowers
+returns-clause-lowers g c =
+    let L : GuestLaws _ = record { seen = g.G.Guest.seen; moves = g.G.Guest.moves; stays = g.met.G.Guest.stays; goes_on = g.met.G.Guest.goes_on } in
+    let a = c.args in
+    let core = a.cx.now.core.now in
+    let v = a.self.now in
+    let xs : List InterfaceType = c.index.result.now ∷ c.index-2.result.now ∷ c.index-3.result.now ∷ c.index-4.result.now ∷ c.index-5.result.now ∷ [] in
+    let (shape, fit, known) = tuple_facts (g.A.ComponentType.fits ∷ g.B.ComponentType.fits ∷ g.C.ComponentType.fits ∷ g.E.ComponentType.fits ∷ g.F.ComponentType.fits ∷ []) core.component.types c.types.result.now c.in-Tuple.i c.tuple.result.now.types.items xs a.ty c.types.ensures c.in-Tuple.is c.tuple.ensures.entry c.requires.fits refl
+    (c.index.ensures, (c.index-2.ensures, (c.index-3.ensures, (c.index-4.ensures, (c.index-5.ensures, tt))))) in
+    let done = done_none L a.cx.now.options core (members_of core.component.types.types (c.index.result.now ∷ c.index-2.result.now ∷ c.index-3.result.now ∷ c.index-4.result.now ∷ c.index-5.result.now ∷ [])) (FirstAnd (g.A.ComponentType.walks v.0) (FirstAnd (g.B.ComponentType.walks v.1) (FirstAnd (g.C.ComponentType.walks v.2) (FirstAnd (g.E.ComponentType.walks v.3) (FirstAnd (g.F.ComponentType.walks v.4) NoTrees))))) (row_gives (members_of core.component.types.types (c.index.result.now ∷ c.index-2.result.now ∷ c.index-3.result.now ∷ c.index-4.result.now ∷ c.index-5.result.now ∷ [])) ((λ u. g.A.Lower.gives core.component.types u v.0) ∷ (λ u. g.B.Lower.gives core.component.types u v.1) ∷ (λ u. g.C.Lower.gives core.component.types u v.2) ∷ (λ u. g.E.Lower.gives core.component.types u v.3) ∷ (λ u. g.F.Lower.gives core.component.types u v.4) ∷ [])) a.dst.now (tuple_room (shape_of core.component.types.types a.ty) (members_of core.component.types.types (c.index.result.now ∷ c.index-2.result.now ∷ c.index-3.result.now ∷ c.index-4.result.now ∷ c.index-5.result.now ∷ [])) a.dst.now shape c.requires.words) in
+    let done2 = done_more L a.cx.now.options core (members_of core.component.types.types (c.index.result.now ∷ c.index-2.result.now ∷ c.index-3.result.now ∷ c.index-4.result.now ∷ c.index-5.result.now ∷ [])) (FirstAnd (g.A.ComponentType.walks v.0) (FirstAnd (g.B.ComponentType.walks v.1) (FirstAnd (g.C.ComponentType.walks v.2) (FirstAnd (g.E.ComponentType.walks v.3) (FirstAnd (g.F.ComponentType.walks v.4) NoTrees))))) (row_gives (members_of core.component.types.types (c.index.result.now ∷ c.index-2.result.now ∷ c.index-3.result.now ∷ c.index-4.result.now ∷ c.index-5.result.now ∷ [])) ((λ u. g.A.Lower.gives core.component.types u v.0) ∷ (λ u. g.B.Lower.gives core.component.types u v.1) ∷ (λ u. g.C.Lower.gives core.component.types u v.2) ∷ (λ u. g.E.Lower.gives core.component.types u v.3) ∷ (λ u. g.F.Lower.gives core.component.types u v.4) ∷ [])) core a.cx.now.options a.dst.now 0 c.index.result.now (members_of core.component.types.types (c.index-2.result.now ∷ c.index-3.result.now ∷ c.index-4.result.now ∷ c.index-5.result.now ∷ [])) (g.A.ComponentType.walks v.0) (FirstAnd (g.B.ComponentType.walks v.1) (FirstAnd (g.C.ComponentType.walks v.2) (FirstAnd (g.E.ComponentType.walks v.3) (FirstAnd (g.F.ComponentType.walks v.4) NoTrees)))) (λ i u. g.A.Lower.gives i u v.0) (row_gives (members_of core.component.types.types (c.index-2.result.now ∷ c.index-3.result.now ∷ c.index-4.result.now ∷ c.index-5.result.now ∷ [])) ((λ u. g.B.Lower.gives core.component.types u v.1) ∷ (λ u. g.C.Lower.gives core.component.types u v.2) ∷ (λ u. g.E.Lower.gives core.component.types u v.3) ∷ (λ u. g.F.Lower.gives core.component.types u v.4) ∷ [])) done c.lower_at.new.cx.core.now c.lower_at.new.cx.options c.lower_at.new.dst c.lower_at.new.at (λ t has. walked_shaped g.A.ComponentType.fits g.A.ComponentType.walks g.A.ComponentType.means g.met.A.ComponentType.typed g.met.A.ComponentType.walked v.0 core.component.types c.index.result.now t (fit.0) has) c.in-Ok.ensures.stays c.in-Ok.ensures.end c.in-Ok.ensures.same_options c.in-Ok.ensures.lowers in
+    let done3 = done_more L a.cx.now.options core (members_of core.component.types.types (c.index.result.now ∷ c.index-2.result.now ∷ c.index-3.result.now ∷ c.index-4.result.now ∷ c.index-5.result.now ∷ [])) (FirstAnd (g.A.ComponentType.walks v.0) (FirstAnd (g.B.ComponentType.walks v.1) (FirstAnd (g.C.ComponentType.walks v.2) (FirstAnd (g.E.ComponentType.walks v.3) (FirstAnd (g.F.ComponentType.walks v.4) NoTrees))))) (row_gives (members_of core.component.types.types (c.index.result.now ∷ c.index-2.result.now ∷ c.index-3.result.now ∷ c.index-4.result.now ∷ c.index-5.result.now ∷ [])) ((λ u. g.A.Lower.gives core.component.types u v.0) ∷ (λ u. g.B.Lower.gives core.component.types u v.1) ∷ (λ u. g.C.Lower.gives core.component.types u v.2) ∷ (λ u. g.E.Lower.gives core.component.types u v.3) ∷ (λ u. g.F.Lower.gives core.component.types u v.4) ∷ [])) c.lower_at.new.cx.core.now c.lower_at.new.cx.options c.lower_at.new.dst c.lower_at.new.at c.index-2.result.now (members_of core.component.types.types (c.index-3.result.now ∷ c.index-4.result.now ∷ c.index-5.result.now ∷ [])) (g.B.ComponentType.walks v.1) (FirstAnd (g.C.ComponentType.walks v.2) (FirstAnd (g.E.ComponentType.walks v.3) (FirstAnd (g.F.ComponentType.walks v.4) NoTrees))) (λ i u. g.B.Lower.gives i u v.1) (row_gives (members_of core.component.types.types (c.index-3.result.now ∷ c.index-4.result.now ∷ c.index-5.result.now ∷ [])) ((λ u. g.C.Lower.gives core.component.types u v.2) ∷ (λ u. g.E.Lower.gives core.component.types u v.3) ∷ (λ u. g.F.Lower.gives core.component.types u v.4) ∷ [])) done2 c.lower_at-2.new.cx.core.now c.lower_at-2.new.cx.options c.lower_at-2.new.dst c.lower_at-2.new.at (λ t has. walked_shaped g.B.ComponentType.fits g.B.ComponentType.walks g.B.ComponentType.means g.met.B.ComponentType.typed g.met.B.ComponentType.walked v.1 core.component.types c.index-2.result.now t (fit.1.0) has) c.in-Ok-lower_at.ensures.stays c.in-Ok-lower_at.ensures.end c.in-Ok-lower_at.ensures.same_options c.in-Ok-lower_at.ensures.lowers in
+    let done4 = done_more L a.cx.now.options core (members_of core.component.types.types (c.index.result.now ∷ c.index-2.result.now ∷ c.index-3.result.now ∷ c.index-4.result.now ∷ c.index-5.result.now ∷ [])) (FirstAnd (g.A.ComponentType.walks v.0) (FirstAnd (g.B.ComponentType.walks v.1) (FirstAnd (g.C.ComponentType.walks v.2) (FirstAnd (g.E.ComponentType.walks v.3) (FirstAnd (g.F.ComponentType.walks v.4) NoTrees))))) (row_gives (members_of core.component.types.types (c.index.result.now ∷ c.index-2.result.now ∷ c.index-3.result.now ∷ c.index-4.result.now ∷ c.index-5.result.now ∷ [])) ((λ u. g.A.Lower.gives core.component.types u v.0) ∷ (λ u. g.B.Lower.gives core.component.types u v.1) ∷ (λ u. g.C.Lower.gives core.component.types u v.2) ∷ (λ u. g.E.Lower.gives core.component.types u v.3) ∷ (λ u. g.F.Lower.gives core.component.types u v.4) ∷ [])) c.lower_at-2.new.cx.core.now c.lower_at-2.new.cx.options c.lower_at-2.new.dst c.lower_at-2.new.at c.index-3.result.now (members_of core.component.types.types (c.index-4.result.now ∷ c.index-5.result.now ∷ [])) (g.C.ComponentType.walks v.2) (FirstAnd (g.E.ComponentType.walks v.3) (FirstAnd (g.F.ComponentType.walks v.4) NoTrees)) (λ i u. g.C.Lower.gives i u v.2) (row_gives (members_of core.component.types.types (c.index-4.result.now ∷ c.index-5.result.now ∷ [])) ((λ u. g.E.Lower.gives core.component.types u v.3) ∷ (λ u. g.F.Lower.gives core.component.types u v.4) ∷ [])) done3 c.lower_at-3.new.cx.core.now c.lower_at-3.new.cx.options c.lower_at-3.new.dst c.lower_at-3.new.at (λ t has. walked_shaped g.C.ComponentType.fits g.C.ComponentType.walks g.C.ComponentType.means g.met.C.ComponentType.typed g.met.C.ComponentType.walked v.2 core.component.types c.index-3.result.now t (fit.1.1.0) has) c.in-Ok-lower_at-2.ensures.stays c.in-Ok-lower_at-2.ensures.end c.in-Ok-lower_at-2.ensures.same_options c.in-Ok-lower_at-2.ensures.lowers in
+    let done5 = done_more L a.cx.now.options core (members_of core.component.types.types (c.index.result.now ∷ c.index-2.result.now ∷ c.index-3.result.now ∷ c.index-4.result.now ∷ c.index-5.result.now ∷ [])) (FirstAnd (g.A.ComponentType.walks v.0) (FirstAnd (g.B.ComponentType.walks v.1) (FirstAnd (g.C.ComponentType.walks v.2) (FirstAnd (g.E.ComponentType.walks v.3) (FirstAnd (g.F.ComponentType.walks v.4) NoTrees))))) (row_gives (members_of core.component.types.types (c.index.result.now ∷ c.index-2.result.now ∷ c.index-3.result.now ∷ c.index-4.result.now ∷ c.index-5.result.now ∷ [])) ((λ u. g.A.Lower.gives core.component.types u v.0) ∷ (λ u. g.B.Lower.gives core.component.types u v.1) ∷ (λ u. g.C.Lower.gives core.component.types u v.2) ∷ (λ u. g.E.Lower.gives core.component.types u v.3) ∷ (λ u. g.F.Lower.gives core.component.types u v.4) ∷ [])) c.lower_at-3.new.cx.core.now c.lower_at-3.new.cx.options c.lower_at-3.new.dst c.lower_at-3.new.at c.index-4.result.now (members_of core.component.types.types (c.index-5.result.now ∷ [])) (g.E.ComponentType.walks v.3) (FirstAnd (g.F.ComponentType.walks v.4) NoTrees) (λ i u. g.E.Lower.gives i u v.3) (row_gives (members_of core.component.types.types (c.index-5.result.now ∷ [])) ((λ u. g.F.Lower.gives core.component.types u v.4) ∷ [])) done4 c.lower_at-4.new.cx.core.now c.lower_at-4.new.cx.options c.lower_at-4.new.dst c.lower_at-4.new.at (λ t has. walked_shaped g.E.ComponentType.fits g.E.ComponentType.walks g.E.ComponentType.means g.met.E.ComponentType.typed g.met.E.ComponentType.walked v.3 core.component.types c.index-4.result.now t (fit.1.1.1.0) has) c.in-Ok-lower_at-3.ensures.stays c.in-Ok-lower_at-3.ensures.end c.in-Ok-lower_at-3.ensures.same_options c.in-Ok-lower_at-3.ensures.lowers in
+    let low = c.lower_at-5 in
+    tuple_lowers L a.cx.now.options core low.new.cx.core.now (shape_of core.component.types.types a.ty) (members_of core.component.types.types (c.index.result.now ∷ c.index-2.result.now ∷ c.index-3.result.now ∷ c.index-4.result.now ∷ c.index-5.result.now ∷ [])) low.new.dst (FirstAnd (g.A.ComponentType.walks v.0) (FirstAnd (g.B.ComponentType.walks v.1) (FirstAnd (g.C.ComponentType.walks v.2) (FirstAnd (g.E.ComponentType.walks v.3) (FirstAnd (g.F.ComponentType.walks v.4) NoTrees))))) ((λ u. g.A.Lower.gives core.component.types u v.0) ∷ (λ u. g.B.Lower.gives core.component.types u v.1) ∷ (λ u. g.C.Lower.gives core.component.types u v.2) ∷ (λ u. g.E.Lower.gives core.component.types u v.3) ∷ (λ u. g.F.Lower.gives core.component.types u v.4) ∷ []) low.result shape
+    (done_last L a.cx.now.options core (members_of core.component.types.types (c.index.result.now ∷ c.index-2.result.now ∷ c.index-3.result.now ∷ c.index-4.result.now ∷ c.index-5.result.now ∷ [])) (FirstAnd (g.A.ComponentType.walks v.0) (FirstAnd (g.B.ComponentType.walks v.1) (FirstAnd (g.C.ComponentType.walks v.2) (FirstAnd (g.E.ComponentType.walks v.3) (FirstAnd (g.F.ComponentType.walks v.4) NoTrees))))) (row_gives (members_of core.component.types.types (c.index.result.now ∷ c.index-2.result.now ∷ c.index-3.result.now ∷ c.index-4.result.now ∷ c.index-5.result.now ∷ [])) ((λ u. g.A.Lower.gives core.component.types u v.0) ∷ (λ u. g.B.Lower.gives core.component.types u v.1) ∷ (λ u. g.C.Lower.gives core.component.types u v.2) ∷ (λ u. g.E.Lower.gives core.component.types u v.3) ∷ (λ u. g.F.Lower.gives core.component.types u v.4) ∷ [])) c.lower_at-4.new.cx.core.now low.new.cx.core.now c.lower_at-4.new.cx.options c.lower_at-4.new.dst low.new.dst c.lower_at-4.new.at c.index-5.result.now (g.F.ComponentType.walks v.4) (λ i u. g.F.Lower.gives i u v.4) low.result done5 (λ t has. walked_shaped g.F.ComponentType.fits g.F.ComponentType.walks g.F.ComponentType.means g.met.F.ComponentType.typed g.met.F.ComponentType.walked v.4 core.component.types c.index-5.result.now t (fit.1.1.1.1.0) has) low.ensures.stays low.ensures.lowers)

@@ -1,0 +1,13 @@
+pub mod Blames
+pub mod CasePuts
+pub mod Cases
+pub mod Gives
+pub mod Handles
+pub mod Lists
+pub mod Lowers
+pub mod Pairs
+pub mod Places
+pub mod Scalars
+pub mod Stores
+pub mod Tuples
+pub mod Words

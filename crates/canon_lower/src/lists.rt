@@ -1,0 +1,150 @@
+//! Lists: their items stand in a row in a block of their own.
+
+ghost use Rattle.std.specs.Prelude.{◌≡◌, ◌≤◌, ◌+◌, false, flat_map, length};
+ghost use Rattle.canon_context.specs.Core.{types_of};
+ghost use Rattle.canon_lower.specs.Gives.{item_shape};
+ghost use Rattle.canon_lower.specs.Lists.{IsElementOf};
+ghost use Rattle.canon_lower.specs.Places.{TypedPlaces};
+ghost use Rattle.canon_model.specs.Shape.{list, of_items};
+ghost use Rattle.canon_types.specs.Table.{Knows, shape_of};
+ghost use Rattle.canon_typed.specs.Meaning.{ListMeans};
+ghost use Rattle.canon_typed.specs.Types.{IsListOf};
+
+use crate::blocks::{Placed, ask_items, put_placed, put_words};
+use crate::{Lower, LowerShared};
+use canon_context::{Fault, LowerContext};
+use canon_memory::{Guest, ValRaw};
+use canon_typed::ComponentType;
+use canon_types::{InstanceType, InterfaceType};
+
+/// The type of a list's items.
+fn list_element<T: ComponentType>(types: &InstanceType, ty: &InterfaceType) -> InterfaceType
+    requires known { Knows types.now.types ty.now }
+    requires fits { IsListOf T.fits types.now ty.now }
+    ensures { IsElementOf (λ s. list of_items s) T.fits types.now ty.now result }
+{
+    let InterfaceType::List(i) = *ty else {
+        unreachable!()
+    };
+    types.types().list(i).element
+}
+
+/// Puts values into a block of their own, as the items of a list (CanonicalABI.md, "store_list_into_range").
+fn place_list<T: Lower, D, G: Guest>(
+    cx: &mut LowerContext<'_, D, G>,
+    ty: &InterfaceType,
+    items: &mut [T],
+) -> Result<Placed, Fault>
+    requires known { Knows (types_of cx.old.core.now) ty.now }
+    requires fits { IsListOf T.fits cx.old.core.now.component.types ty.now }
+    ensures places { TypedPlaces G.seen G.moves cx.old.options cx.old.core.now cx.new.core.now (shape_of (types_of cx.old.core.now) ty.now) (ListMeans T.walks items.old)
+        (flat_map (T.gives cx.old.core.now.component.types (item_shape (shape_of (types_of cx.old.core.now) ty.now))) items.old) result }
+    ensures same_reference { cx.new.core.ghost_name ≡ cx.old.core.ghost_name }
+    ensures same_options { cx.new.options ≡ cx.old.options }
+{
+    let element = list_element::<T>(cx.instance_type(), ty);
+    let abi = *cx.types().canonical_abi(&element);
+    let length = items.len() as u64;
+    let pointer = match ask_items(cx, &abi, length) {
+        Ok(pointer) => pointer,
+        Err(fault) => return Err(fault),
+    };
+    match T::linear_store_list_to_memory(cx, element, pointer, items) {
+        Ok(()) => Ok(Placed { pointer, length }),
+        Err(fault) => Err(fault),
+    }
+}
+
+/// The same from a shared reference.
+fn place_shared_list<T: LowerShared, D, G: Guest>(
+    cx: &mut LowerContext<'_, D, G>,
+    ty: &InterfaceType,
+    items: &[T],
+) -> Result<Placed, Fault>
+    requires known { Knows (types_of cx.old.core.now) ty.now }
+    requires fits { IsListOf T.fits cx.old.core.now.component.types ty.now }
+    ensures places { TypedPlaces G.seen G.moves cx.old.options cx.old.core.now cx.new.core.now (shape_of (types_of cx.old.core.now) ty.now) (ListMeans T.walks items.now)
+        (flat_map (T.gives cx.old.core.now.component.types (item_shape (shape_of (types_of cx.old.core.now) ty.now))) items.now) result }
+    ensures same_reference { cx.new.core.ghost_name ≡ cx.old.core.ghost_name }
+    ensures same_options { cx.new.options ≡ cx.old.options }
+{
+    let element = list_element::<T>(cx.instance_type(), ty);
+    let abi = *cx.types().canonical_abi(&element);
+    let length = items.len() as u64;
+    let pointer = match ask_items(cx, &abi, length) {
+        Ok(pointer) => pointer,
+        Err(fault) => return Err(fault),
+    };
+    match T::linear_store_list_to_memory(cx, element, pointer, items) {
+        Ok(()) => Ok(Placed { pointer, length }),
+        Err(fault) => Err(fault),
+    }
+}
+
+impl<T: Lower> Lower for Vec<T> {
+    ghost gives = { λ i s v. flat_map (T.gives i (item_shape s)) v.items };
+
+    fn linear_lower_to_flat<D, G: Guest>(
+        &mut self,
+        cx: &mut LowerContext<'_, D, G>,
+        ty: InterfaceType,
+        dst: &mut [ValRaw],
+    ) -> Result<(), Fault> {
+        match place_list(cx, &ty, self.as_mut_slice()) {
+            Ok(block) => {
+                put_words(dst, block);
+                Ok(())
+            }
+            Err(fault) => Err(fault),
+        }
+    }
+
+    fn linear_lower_to_memory<D, G: Guest>(
+        &mut self,
+        cx: &mut LowerContext<'_, D, G>,
+        ty: InterfaceType,
+        offset: u64,
+    ) -> Result<(), Fault> {
+        match place_list(cx, &ty, self.as_mut_slice()) {
+            Ok(block) => {
+                put_placed(cx, offset, block);
+                Ok(())
+            }
+            Err(fault) => Err(fault),
+        }
+    }
+}
+
+impl<T: LowerShared> LowerShared for Vec<T> {
+    ghost gives = { λ i s v. flat_map (T.gives i (item_shape s)) v.items };
+
+    fn linear_lower_to_flat<D, G: Guest>(
+        &self,
+        cx: &mut LowerContext<'_, D, G>,
+        ty: InterfaceType,
+        dst: &mut [ValRaw],
+    ) -> Result<(), Fault> {
+        match place_shared_list(cx, &ty, self.as_slice()) {
+            Ok(block) => {
+                put_words(dst, block);
+                Ok(())
+            }
+            Err(fault) => Err(fault),
+        }
+    }
+
+    fn linear_lower_to_memory<D, G: Guest>(
+        &self,
+        cx: &mut LowerContext<'_, D, G>,
+        ty: InterfaceType,
+        offset: u64,
+    ) -> Result<(), Fault> {
+        match place_shared_list(cx, &ty, self.as_slice()) {
+            Ok(block) => {
+                put_placed(cx, offset, block);
+                Ok(())
+            }
+            Err(fault) => Err(fault),
+        }
+    }
+}
