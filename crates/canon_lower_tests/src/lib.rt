@@ -1,0 +1,5 @@
+//! Tests of typed lowering.
+#![tactic(auto)]
+
+#[cfg(test)]
+mod tests;
