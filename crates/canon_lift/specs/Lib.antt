@@ -1,0 +1,5 @@
+pub mod Spots
+pub mod Reading
+pub mod Readings
+pub mod Taken
+pub mod OfTrees
