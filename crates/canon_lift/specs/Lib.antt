@@ -3,3 +3,4 @@ pub mod Reading
 pub mod Readings
 pub mod Taken
 pub mod OfTrees
+pub mod RowsOfTrees

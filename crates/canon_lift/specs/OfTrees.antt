@@ -195,3 +195,142 @@ module _ {A : Type 0} (Fit : Instance → InterfaceType → Type 0) (R : Reading
 
   pub option_told : IsOfTrees (IsOptionOf Fit) (option_reading R) (OptionMeans Lifts) (option_cost price)
   option_told = record { reads = option_reads; reach = option_reached; faults = option_faults }
+
+-- ---- results
+
+-- a payload, or none where its type is the unit
+module _ {A : Type 0} (Fit : Instance → InterfaceType → Type 0) (R : Reading A) (Lifts : A → Tree → Type 0) (price : Tree → ℕ) (law : IsOfTrees Fit R Lifts price) (w : Setting) (cs : Cases) (e d : ℕ) (p : Spot) where
+  abbrev with_payload : Option InterfaceType → Cases
+  with_payload type = case_for (payload_in (all_shapes w.types.types) type) cs
+
+  payload_lifts : (unit : Bool) (type : Option InterfaceType) (before after : LedgerState) (x : A) → IsPayloadOf unit Fit w.types type → (payload_reading unit R).reads w p (payload_shape (with_payload type) 0) before x after
+      → (t : Tree) × CaseIn w.memory w.encoding e p (with_payload type) 0 d t × CaseMeans unit Lifts d x t
+  payload_lifts true None before after x f h = (case d, bare_in w.memory w.encoding e p [] cs d, refl)
+  payload_lifts true (Some type) before after x f h = absurd f
+  payload_lifts false None before after x f h = absurd f
+  payload_lifts false (Some type) before after x f h =
+      let (t, rep, lifts) = law.reads w p type before after x f h in
+      (case_of d t, payload_there w.memory w.encoding e p [] (shape_of w.types.types type) cs d t rep, (t, refl, lifts))
+
+  payload_faulty : (unit : Bool) (type : Option InterfaceType) (k : Kind) (x : At) → IsPayloadOf unit Fit w.types type → (payload_reading unit R).faults w p (payload_shape (with_payload type) 0) k x
+      → CaseFaulty w.memory w.encoding e p (with_payload type) 0 k x
+  payload_faulty true type k x f h = absurd h
+  payload_faulty false None k x f h = absurd f
+  payload_faulty false (Some type) k x f h = fault_here w.memory w.encoding e p [] (shape_of w.types.types type) cs k x (law.faults w p type k x f h)
+
+-- the charges of the first case, and of the second
+module _ {A : Type 0} (Fit : Instance → InterfaceType → Type 0) (R : Reading A) (Lifts : A → Tree → Type 0) (price : Tree → ℕ) (law : IsOfTrees Fit R Lifts price) (w : Setting) (cs : Cases) (e : ℕ) where
+  abbrev first_cases : Option InterfaceType → Cases
+  first_cases type = case_for (payload_in (all_shapes w.types.types) type) cs
+
+  first_priced : (other : Tree → ℕ) (unit : Bool) (type : Option InterfaceType) (p : Spot) (t : Tree) → IsPayloadOf unit Fit w.types type → CaseIn w.memory w.encoding e p (first_cases type) 0 0 t
+      → (payload_reading unit R).reach w p (payload_shape (first_cases type) 0) ≡ result_cost price other t
+  first_priced other true None (stored a) t f h = sym (ap (result_cost price other) h)
+  first_priced other true None (flat_in ws i) t f h = sym (ap (result_cost price other) h.0)
+  first_priced other true (Some type) p t f h = absurd f
+  first_priced other false None p t f h = absurd f
+  first_priced other false (Some type) (stored a) t f (u, is, h) = law.reach w (stored a) type u f h ∙ sym (ap (result_cost price other) is)
+  first_priced other false (Some type) (flat_in ws i) t f (u, is, h, z) = law.reach w (flat_in ws i) type u f h ∙ sym (ap (result_cost price other) is)
+
+  second_priced : (other : Tree → ℕ) (unit : Bool) (type : Option InterfaceType) (p : Spot) (t : Tree) → IsPayloadOf unit Fit w.types type → CaseIn w.memory w.encoding e p (first_cases type) 0 1 t
+      → (payload_reading unit R).reach w p (payload_shape (first_cases type) 0) ≡ result_cost other price t
+  second_priced other true None (stored a) t f h = sym (ap (result_cost other price) h)
+  second_priced other true None (flat_in ws i) t f h = sym (ap (result_cost other price) h.0)
+  second_priced other true (Some type) p t f h = absurd f
+  second_priced other false None p t f h = absurd f
+  second_priced other false (Some type) (stored a) t f (u, is, h) = law.reach w (stored a) type u f h ∙ sym (ap (result_cost other price) is)
+  second_priced other false (Some type) (flat_in ws i) t f (u, is, h, z) = law.reach w (flat_in ws i) type u f h ∙ sym (ap (result_cost other price) is)
+
+-- past the first case stands the second
+module _ (m : Memory) (enc : Encoding) (e : ℕ) where
+  past_first : (p : Spot) (o : Option Shape) (cs : Cases) (n d : ℕ) (t : Tree) → CaseIn m enc e p (case_for o cs) (suc n) d t → CaseIn m enc e p cs n d t
+  past_first (stored a) None cs n d t h = h
+  past_first (stored a) (Some s) cs n d t h = h
+  past_first (flat_in ws j) None cs n d t h = h
+  past_first (flat_in ws j) (Some s) cs n d t h = h
+
+  -- and no other
+  past_last : {A : Type 0} (p : Spot) (o : Option Shape) (n d : ℕ) (t : Tree) → CaseIn m enc e p (case_for o no_cases) (suc n) d t → A
+  past_last (stored a) None n d t h = absurd h
+  past_last (stored a) (Some s) n d t h = absurd h
+  past_last (flat_in ws j) None n d t h = absurd h
+  past_last (flat_in ws j) (Some s) n d t h = absurd h
+
+second_shape : (o : Option Shape) (cs : Cases) → payload_shape (case_for o cs) 1 ≡ payload_shape cs 0
+second_shape None cs = refl
+second_shape (Some s) cs = refl
+
+two_cases : (o v : Option Shape) → case_count (case_for o (case_for v no_cases)) ≡ 2
+two_cases None None = refl
+two_cases None (Some s) = refl
+two_cases (Some s) None = refl
+two_cases (Some s) (Some u) = refl
+
+module _ {A B : Type 0} (unit : Bool) (Fit : Instance → InterfaceType → Type 0) (R : Reading A) (Lifts : A → Tree → Type 0) (price : Tree → ℕ)
+    (unit2 : Bool) (Fit2 : Instance → InterfaceType → Type 0) (S : Reading B) (Lifts2 : B → Tree → Type 0) (price2 : Tree → ℕ)
+    (law : IsOfTrees Fit R Lifts price) (law2 : IsOfTrees Fit2 S Lifts2 price2) where
+  module _ (w : Setting) (ok error : Option InterfaceType) (f : IsPayloadOf unit Fit w.types ok) (g : IsPayloadOf unit2 Fit2 w.types error) where
+    abbrev good : Option Shape
+    good = payload_in (all_shapes w.types.types) ok
+
+    abbrev bad : Cases
+    bad = case_for (payload_in (all_shapes w.types.types) error) no_cases
+
+    abbrev both : Cases
+    both = case_for good bad
+
+    result_lifts : (at : Spot) (before after : LedgerState) (v : Result A B) → ResultReads (payload_reading unit R) (payload_reading unit2 S) w at (variant of_result both) before v after
+        → (t : Tree) × Represents w.memory w.encoding at (variant of_result both) t × ResultMeans unit Lifts unit2 Lifts2 v t
+    result_lifts at before after (Ok x) (room, is, h) =
+        let p : Spot = payload_spot w.memory at both in
+        let (t, there, lifts) = payload_lifts Fit R Lifts price law w bad (end_of at both) 0 p unit ok before after x f h in
+        (t, variant_represents w.memory w.encoding of_result both at 0 t room is there, lifts)
+    result_lifts at before after (Err y) (room, is, h) =
+        let p : Spot = payload_spot w.memory at both in
+        let (t, there, lifts) = payload_lifts Fit2 S Lifts2 price2 law2 w no_cases (end_of at both) 1 p unit2 error before after y g
+        (subst (λ (s : Shape). (payload_reading unit2 S).reads w p s before y after) (second_shape good bad) h) in
+        (t, variant_represents w.memory w.encoding of_result both at 1 t room is (behind_first w.memory w.encoding (end_of at both) p good bad 1 t there), lifts)
+
+    result_priced : (p : Spot) (e n : ℕ) (t : Tree) → CaseIn w.memory w.encoding e p both n n t
+        → (if n == 0 then (payload_reading unit R).reach w p (payload_shape both 0) else if n == 1 then (payload_reading unit2 S).reach w p (payload_shape both 1) else 0) ≡ result_cost price price2 t
+    result_priced p e zero t h = first_priced Fit R Lifts price law w bad e price2 unit ok p t f h
+    result_priced p e (suc zero) t h = ap (λ (s : Shape). (payload_reading unit2 S).reach w p s) (second_shape good bad)
+        ∙ second_priced Fit2 S Lifts2 price2 law2 w no_cases e price unit2 error p t g (past_first w.memory w.encoding e p good bad 0 1 t h)
+    result_priced p e (suc (suc n)) t h = past_last w.memory w.encoding e p _ n _ t (past_first w.memory w.encoding e p good bad (suc n) (suc (suc n)) t h)
+
+    result_faulty : (at : Spot) (k : Kind) (x : At) → CasesFault (payload_reading unit R) (payload_reading unit2 S) w at (variant of_result both) k x → Faulty w.memory w.encoding at (variant of_result both) k x
+    result_faulty at k x (inl (h, many)) = no_such_case w.memory w.encoding of_result both at _ 0 k x refl h (subst (λ n. n ≤ tag_in w.memory at both) (sym (two_cases good _)) many)
+    result_faulty at k x (inr (inl (is, h))) =
+        let p : Spot = payload_spot w.memory at both in
+        fault_of_case w.memory w.encoding of_result both at 0 k x is (payload_faulty Fit R Lifts price law w bad (end_of at both) 0 p unit ok k x f h)
+    result_faulty at k x (inr (inr (is, h))) =
+        let p : Spot = payload_spot w.memory at both in
+        fault_of_case w.memory w.encoding of_result both at 1 k x is (fault_behind w.memory w.encoding (end_of at both) p good bad k x
+        (payload_faulty Fit2 S Lifts2 price2 law2 w no_cases (end_of at both) 1 p unit2 error k x g (subst (λ (s : Shape). (payload_reading unit2 S).faults w p s k x) (second_shape good bad) h)))
+
+  abbrev whole : Reading (Result A B)
+  whole = result_reading unit R unit2 S
+
+  result_reads : (w : Setting) (at : Spot) (type : InterfaceType) (before after : LedgerState) (v : Result A B) → IsResultOf unit Fit unit2 Fit2 w.types type → whole.reads w at (shape_of w.types.types type) before v after
+      → (t : Tree) × Represents w.memory w.encoding at (shape_of w.types.types type) t × ResultMeans unit Lifts unit2 Lifts2 v t
+  result_reads w at (ty.Result i) before after v (ok, error, d, f, g) h =
+      subst (λ (s : Shape). (t : Tree) × Represents w.memory w.encoding at s t × ResultMeans unit Lifts unit2 Lifts2 v t) (sym d.shape)
+      (result_lifts w ok error f g at before after v (subst (λ (s : Shape). whole.reads w at s before v after) d.shape h))
+  result_reads w at _ before after v f h = absurd f
+
+  result_reached : (w : Setting) (at : Spot) (type : InterfaceType) (t : Tree) → IsResultOf unit Fit unit2 Fit2 w.types type → Represents w.memory w.encoding at (shape_of w.types.types type) t
+      → whole.reach w at (shape_of w.types.types type) ≡ result_cost price price2 t
+  result_reached w at (ty.Result i) t (ok, error, d, f, g) rep =
+      let cs : Cases = both w ok error f g in
+      subst (λ (s : Shape). whole.reach w at s ≡ result_cost price price2 t) (sym d.shape)
+      (result_priced w ok error f g (payload_spot w.memory at cs) (end_of at cs) (tag_in w.memory at cs) t
+      (represented_case w.memory w.encoding of_result cs at t (subst (λ (s : Shape). Represents w.memory w.encoding at s t) d.shape rep)))
+  result_reached w at _ t f rep = absurd f
+
+  result_faults : (w : Setting) (at : Spot) (type : InterfaceType) (k : Kind) (x : At) → IsResultOf unit Fit unit2 Fit2 w.types type → whole.faults w at (shape_of w.types.types type) k x → Faulty w.memory w.encoding at (shape_of w.types.types type) k x
+  result_faults w at (ty.Result i) k x (ok, error, d, f, g) h =
+      subst (λ (s : Shape). Faulty w.memory w.encoding at s k x) (sym d.shape) (result_faulty w ok error f g at k x (subst (λ (s : Shape). whole.faults w at s k x) d.shape h))
+  result_faults w at _ k x f h = absurd f
+
+  pub result_told : IsOfTrees (IsResultOf unit Fit unit2 Fit2) (result_reading unit R unit2 S) (ResultMeans unit Lifts unit2 Lifts2) (result_cost price price2)
+  result_told = record { reads = result_reads; reach = result_reached; faults = result_faults }
