@@ -1,6 +1,9 @@
 pub mod Spots
 pub mod Reading
 pub mod Readings
+pub mod Items
+pub mod Rests
 pub mod Taken
 pub mod OfTrees
 pub mod RowsOfTrees
+pub mod Ranges

@@ -17,11 +17,11 @@ use Rattle.canon_types.specs.Instance.{Instance}
 use Rattle.canon_types.specs.Table.{all_shapes, members_of, payload_in, shape_of}
 use Rattle.canon_types.specs.declared.types.InterfaceType.{InterfaceType}
 use Rattle.canon_types.specs.declared.types.InterfaceType.TheVariants as ty
-use Rattle.canon_typed.specs.Charges.{each_cost, list_cost, option_cost, product_cost, result_cost, row_cost}
+use Rattle.canon_typed.specs.Charges.{each_cost, free, list_cost, option_cost, product_cost, result_cost, row_cost}
 use Rattle.canon_typed.specs.Meaning.{CaseMeans, EachMeans, FirstAnd, ListMeans, NoTrees, OptionMeans, ProductMeans, ResultMeans, RowMeans}
 use Rattle.canon_typed.specs.Types.{AreOf, IsFixedOf, IsListOf, IsOptionOf, IsPayloadOf, IsResultOf, IsTupleOf}
 use Rattle.canon_lift.specs.Reading.{Reading, Setting}
-use Rattle.canon_lift.specs.Readings.{CaseReads, CasesFault, EachFault, EachReads, OptionReads, RestReading, ResultReads, cases_reach, each_reach, first_reading, fixed_reading, list_reading, none_reading, nothing_reading, option_reading, payload_reading, product_reading, read_as, result_reading, text_charge, tree_reading}
+use Rattle.canon_lift.specs.Readings.{CaseReads, CasesFault, EachFault, EachReads, OptionReads, RestReading, ResultReads, boxed_reading, cases_reach, each_reach, first_reading, fixed_reading, list_reading, none_reading, nothing_reading, option_reading, payload_reading, product_reading, read_as, result_reading, scalar_reading, text_charge, tree_reading}
 use Rattle.canon_lift.specs.Spots.{Faulty, HasRoom, Represents, Rest, Spot, at_of, behind, first_spot, flat_from, flat_in, length_in, members_in, others, payload_spot, pointer_in, stored, stored_from, tag_in}
 
 -- Over each type that fits.
@@ -54,6 +54,9 @@ tree_told Fit Lifts charge allocates price priced = record {
   faults = λ w at type k x f h. h;
 }
 
+pub scalar_told : {A : Type 0} (type : InterfaceType) (Lifts : A → Tree → Type 0) → IsOfTrees (λ i t. t ≡ type) (scalar_reading Lifts) Lifts free
+scalar_told type Lifts = tree_told (λ i t. t ≡ type) Lifts (λ w at. 0) false free (λ w at t u f rep. refl)
+
 text_priced : (w : Setting) (at : Spot) (t : Tree) → Represents w.memory w.encoding at string t → text_charge w at ≡ text_length t
 unfolding reach_cost flat_reach cost
 text_priced w (stored a) t rep = reach_is_the_cost.memory false w.encoding w.memory a string t rep
@@ -67,6 +70,14 @@ text_told Lifts = tree_told (λ i t. t ≡ ty.String) Lifts text_charge true tex
 pub as_told : {A B : Type 0} (Fit : Instance → InterfaceType → Type 0) (f : B → A) (R : Reading A) (Lifts : A → Tree → Type 0) (price : Tree → ℕ) → IsOfTrees Fit R Lifts price
     → IsOfTrees Fit (read_as f R) (λ v. Lifts (f v)) price
 as_told Fit f R Lifts price law = record {
+  reads = λ w at type before after v. law.reads w at type before after (f v);
+  reach = law.reach;
+  faults = law.faults;
+}
+
+pub boxed_told : {A B : Type 0} (Fit : Instance → InterfaceType → Type 0) (f : B → A) (R : Reading A) (Lifts : A → Tree → Type 0) (price : Tree → ℕ) → IsOfTrees Fit R Lifts price
+    → IsOfTrees Fit (boxed_reading f R) (λ v. Lifts (f v)) price
+boxed_told Fit f R Lifts price law = record {
   reads = λ w at type before after v. law.reads w at type before after (f v);
   reach = law.reach;
   faults = law.faults;

@@ -115,6 +115,16 @@ read_as f R = record {
   allocates = R.allocates;
 }
 
+-- the same, in a block of the host's memory
+abbrev pub boxed_reading : {A B : Type 0} → (B → A) → Reading A → Reading B
+boxed_reading f R = record {
+  reads = λ w at s before v after. R.reads w at s before (f v) after;
+  faults = R.faults;
+  reach = R.reach;
+  steps = R.steps;
+  allocates = true;
+}
+
 -- ---- values of one type in a row
 
 module _ {A : Type 0} (R : Reading A) (w : Setting) (s : Shape) where

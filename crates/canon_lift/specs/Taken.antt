@@ -9,7 +9,7 @@ use Rattle.canon_model.specs.Shape.{Members, Shape, member, no_members}
 use Rattle.canon_model.specs.Tree.{Tree}
 use Rattle.canon_types.specs.Depth.{element_shape, variant_cases}
 use Rattle.canon_lift.specs.Reading.{AreTaken, Reading, Setting}
-use Rattle.canon_lift.specs.Readings.{CaseReads, EachReads, FirstReads, IsGoodList, NoneReads, OptionReads, RestReading, ResultReads, cases_steps, each_steps, first_reading, first_steps, fixed_reading, list_reading, none_reading, nothing_reading, option_reading, payload_reading, product_reading, read_as, result_reading, tree_reading}
+use Rattle.canon_lift.specs.Readings.{CaseReads, EachReads, FirstReads, IsGoodList, NoneReads, OptionReads, RestReading, ResultReads, boxed_reading, cases_steps, each_steps, first_reading, first_steps, fixed_reading, list_reading, none_reading, nothing_reading, option_reading, payload_reading, product_reading, read_as, result_reading, scalar_reading, tree_reading}
 use Rattle.canon_lift.specs.Spots.{Rest, Spot, behind, first_spot, length_in, others, payload_spot, pointer_in, stored, tag_in}
 
 -- nothing is taken
@@ -26,8 +26,14 @@ taken_by before after ps qs e h = subst (λ xs. (hs : List ℕ) × LeavesTake be
 pub tree_taken : {A : Type 0} (Lifts : A → Tree → Type 0) (charge : Setting → Spot → ℕ) (allocates : Bool) → AreTaken (tree_reading Lifts charge allocates)
 tree_taken Lifts charge allocates w at s before after v (t, rep, lifts, same) = none_taken before after same
 
+pub scalar_taken : {A : Type 0} (Lifts : A → Tree → Type 0) → AreTaken (scalar_reading Lifts)
+scalar_taken Lifts = tree_taken Lifts (λ w at. 0) false
+
 pub as_taken : {A B : Type 0} (f : B → A) (R : Reading A) → AreTaken R → AreTaken (read_as f R)
 as_taken f R law w at s before after v h = law w at s before after (f v) h
+
+pub boxed_taken : {A B : Type 0} (f : B → A) (R : Reading A) → AreTaken R → AreTaken (boxed_reading f R)
+boxed_taken f R law w at s before after v h = law w at s before after (f v) h
 
 -- ---- cases
 

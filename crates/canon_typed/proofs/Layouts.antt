@@ -12,7 +12,7 @@ use Rattle.canon_types.specs.Table.{IsDefined, KnowsPayload, ResultType, Table, 
 use Rattle.canon_types.specs.declared.resource.ResourceType.{ResourceType}
 use Rattle.canon_types.specs.declared.types.InterfaceType.{InterfaceType}
 use Rattle.canon_types.specs.declared.types.InterfaceType.TheVariants as ty
-use Rattle.canon_typed.specs.Numbers.{TellsPayload}
+use Rattle.canon_typed.specs.Numbers.{IsVariant, TellsInfo, TellsPayload}
 use Rattle.canon_typed.specs.Types.{AreOf, IsTupleOf, IsHandleOf, IsHandleType, IsListOf, IsMapOf, IsOptionOf, IsPayloadOf, IsResultOf}
 
 -- a type without parts
@@ -54,13 +54,20 @@ is_handle checked i _ (kind, d, none, e) = absurd (cc)
 
 -- the numbers of a type of these cases, and its discriminant's
 abbrev pub LiesAsCases : CanonicalAbiInfo → VariantInfo → Shape → Type 0
-LiesAsCases abi info s = HasLayout abi s × HasInfo info (variant_cases s)
+LiesAsCases abi info s = HasLayout abi s × IsVariant s × HasInfo info (variant_cases s)
+
+cases_lie : (abi : CanonicalAbiInfo) (info : VariantInfo) (k : VariantKind) (cs : Cases) → HasLayout abi (variant k cs) × HasInfo info cs → LiesAsCases abi info (variant k cs)
+cases_lie abi info k cs h = (h.0, tt, h.1)
+
+-- a discriminant is told of a type of cases whose size has 32 bits
+pub info_told : (abi : CanonicalAbiInfo) (info : VariantInfo) (s : Shape) → LiesAsCases abi info s → TellsInfo (Some info) s
+info_told abi info s h = (omega (arith, h.0.size, abi.in_range), h.1, h.2)
 
 pub option_abi : (Fit : Instance → InterfaceType → Type 0) (some abi : CanonicalAbiInfo) (info : VariantInfo) → ((i : Instance) (type : InterfaceType) → Fit i type → HasLayout some (shape_of i.types type))
     → ((k : VariantKind) (cs : Cases) → AreOfCases (None ∷ Some some ∷ []) cs → HasLayout abi (variant k cs) × HasInfo info cs)
     → (i : Instance) (type : InterfaceType) → IsOptionOf Fit i type → LiesAsCases abi info (shape_of i.types type)
 option_abi Fit some abi info part lay i (ty.Option x) (type, d, f) =
-    subst (λ (s : Shape). LiesAsCases abi info s) (sym d.shape) (lay of_option (bare [] (payload [] (shape_of i.types type) no_cases)) (part i type f, tt))
+    subst (λ (s : Shape). LiesAsCases abi info s) (sym d.shape) (cases_lie abi info of_option (bare [] (payload [] (shape_of i.types type) no_cases)) (lay of_option (bare [] (payload [] (shape_of i.types type) no_cases)) (part i type f, tt)))
 option_abi Fit some abi info part lay i _ f = absurd f
 
 -- a payload's numbers are those of the case that it makes
@@ -82,7 +89,7 @@ pub result_abi : (unit : Bool) (Fit : Instance → InterfaceType → Type 0) (un
 result_abi unit Fit unit2 Fit2 p q abi info one two lay i (ty.Result x) (ok, error, d, f, g) =
     let s : Option Shape = payload_in (all_shapes i.types) ok in
     let z : Option Shape = payload_in (all_shapes i.types) error in
-    subst (λ (s : Shape). LiesAsCases abi info s) (sym d.shape) (lay of_result (case_for s (case_for z no_cases)) (cases_of p q s z (one i ok f) (two i error g)))
+    subst (λ (s : Shape). LiesAsCases abi info s) (sym d.shape) (cases_lie abi info of_result (case_for s (case_for z no_cases)) (lay of_result (case_for s (case_for z no_cases)) (cases_of p q s z (one i ok f) (two i error g))))
 result_abi unit Fit unit2 Fit2 p q abi info one two lay i _ f = absurd f
 
 -- ---- tuples

@@ -24,6 +24,10 @@ result_cost c d _ = 0
 abbrev pub list_cost : ℕ → (Tree → ℕ) → Tree → ℕ
 list_cost bytes c t = tree_count (trees_of t) * bytes + sum_of c (trees_of t)
 
+-- the items of a list of fixed length, which is free itself
+abbrev pub row_cost : (Tree → ℕ) → Tree → ℕ
+row_cost c t = sum_of c (trees_of t)
+
 -- of the trees in order, each by its own charge
 abbrev pub each_cost : List (Tree → ℕ) → Trees → ℕ
 each_cost [] ts = 0

@@ -1,7 +1,9 @@
 pub mod Charges
+pub mod Lending
 pub mod Maps
 pub mod Meaning
 pub mod Numbers
-pub mod Shaped
+pub mod Trees
+pub mod Typed
 pub mod Types
 pub mod Walked

@@ -5,16 +5,22 @@ use Rattle.canon_abi.specs.Numbers.{flat_within}
 use Rattle.canon_abi.specs.declared.abi.CanonicalAbiInfo.{CanonicalAbiInfo}
 use Rattle.canon_abi.specs.declared.abi.VariantInfo.{VariantInfo}
 use Rattle.canon_model.specs.Layout.{flat, size}
-use Rattle.canon_model.specs.Shape.{Shape}
+use Rattle.canon_model.specs.Shape.{Shape, variant}
 use Rattle.canon_types.specs.Depth.{variant_cases}
 
--- the number of words up to 16, of a type whose size is told
-abbrev pub TellsFlat : Option ℕ → Shape → Type 0
-TellsFlat told s = size false s < 2 ^ 32 → told ≡ flat_within (flat s)
+-- the number of words up to 16, and none where the size passes 2^32 - 1
+pub record TellsFlat (told : Option ℕ) (s : Shape) : Type 0 where
+  pub words : size false s < 2 ^ 32 → told ≡ flat_within (flat s)
+  pub none : 2 ^ 32 ≤ size false s → told ≡ None
 
--- the discriminant and the payload's place, unless the size passes 2^32 - 1
+-- a type of cases
+abbrev pub IsVariant : Shape → Type 0
+IsVariant (variant k cs) = ⊤
+IsVariant _ = ⊥
+
+-- the discriminant and the payload's place of a type of cases, unless the size passes 2^32 - 1
 abbrev pub TellsInfo : Option VariantInfo → Shape → Type 0
-TellsInfo told s = MatchOption told (2 ^ 32 ≤ size false s) (λ info. HasInfo info (variant_cases s))
+TellsInfo told s = MatchOption told (2 ^ 32 ≤ size false s) (λ info. (size false s < 2 ^ 32) × IsVariant s × HasInfo info (variant_cases s))
 
 -- the numbers of a case's payload, if it has one, unless the payload's size passes 2^32 - 1
 abbrev pub TellsPayload : Option (Option CanonicalAbiInfo) → Option Shape → Type 0

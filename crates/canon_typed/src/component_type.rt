@@ -8,7 +8,7 @@ ghost use Rattle.canon_types.specs.Table.{Knows, shape_of};
 ghost use Rattle.canon_types.specs.declared.types.InterfaceType.{InterfaceType};
 ghost use Rattle.canon_typed.specs.Charges.{cap};
 ghost use Rattle.canon_typed.specs.Numbers.{TellsFlat, TellsInfo};
-ghost use Rattle.canon_typed.specs.Shaped.{IsShaped};
+ghost use Rattle.canon_typed.specs.Typed.{IsTyped};
 
 use crate::TypecheckFailed;
 use canon_types::{CanonicalAbiInfo, InstanceType, InterfaceType, VariantInfo};
@@ -58,7 +58,7 @@ pub trait ComponentType: Drop {
     fn abi() -> Option<CanonicalAbiInfo>
         ensures { (i : Instance) (type : InterfaceType) → fits i type → TellsLayout result (shape_of i.types type) };
 
-    /// The number of words, where it is at most 16 and the size is at most 2^32 - 1.
+    /// The number of words, or none where there are more than 16 or the size passes 2^32 - 1.
     fn flatten_count() -> Option<u8>
         ensures { (i : Instance) (type : InterfaceType) → fits i type → TellsFlat result (shape_of i.types type) }
     {
@@ -71,8 +71,8 @@ pub trait ComponentType: Drop {
         ensures ok { OnOk result (fits types.now ty.now) }
         ensures err { OnErr result (fits types.now ty.now → ⊥) };
 
-    // a tree that a lowering makes has the shape of each type that fits
-    ghost shaped: { IsShaped fits walks };
+    // a value's trees are trees of each type that fits
+    ghost typed: { IsTyped fits means };
 
     // a tree that a lowering makes is one of the value's
     ghost walked: { (v : Self) (t : Tree) → walks v t → means v t };

@@ -7,7 +7,7 @@ ghost use Rattle.canon_types.specs.declared.types.InterfaceType.{InterfaceType};
 ghost use Rattle.canon_typed.specs.Charges.{cap, list_cost, option_cost, result_cost};
 ghost use Rattle.canon_typed.specs.Meaning.{ListMeans, OptionMeans, ResultMeans};
 ghost use Rattle.canon_typed.specs.Numbers.{TellsPayload};
-ghost use Rattle.canon_typed.specs.Shaped.{list_shaped, option_shaped, result_shaped};
+ghost use Rattle.canon_typed.specs.Typed.{list_typed, option_typed, result_typed};
 ghost use Rattle.canon_typed.specs.Types.{IsListOf, IsOptionOf, IsPayloadOf, IsResultOf};
 ghost use Rattle.canon_typed.specs.Walked.{list_walked, option_walked, result_walked};
 
@@ -55,7 +55,7 @@ impl<T: ComponentType> ComponentType for Option<T> {
         }
     }
 
-    ghost shaped = { option_shaped T.fits T.walks T.shaped };
+    ghost typed = { option_typed T.fits T.means T.typed };
 
     ghost walked = { option_walked T.walks T.means T.walked };
 }
@@ -138,7 +138,7 @@ impl<T: ComponentType, E: ComponentType> ComponentType for Result<T, E> {
         typecheck_payload::<E>(&result.err, types)
     }
 
-    ghost shaped = { result_shaped T.is_unit T.fits T.walks E.is_unit E.fits E.walks T.shaped E.shaped };
+    ghost typed = { result_typed T.is_unit T.fits T.means E.is_unit E.fits E.means T.typed E.typed };
 
     ghost walked = { result_walked T.is_unit T.walks T.means E.is_unit E.walks E.means T.walked E.walked };
 }
@@ -191,7 +191,7 @@ impl<T: ComponentType> ComponentType for Vec<T> {
         }
     }
 
-    ghost shaped = { list_shaped T.fits (λ v. ListMeans T.walks v.items) };
+    ghost typed = { λ v. list_typed T.fits T.means T.typed v.items };
 
     ghost walked = { λ v. list_walked T.walks T.means T.walked v.items };
 }

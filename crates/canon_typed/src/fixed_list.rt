@@ -1,9 +1,9 @@
 //! Lists of fixed length.
 
 ghost use Rattle.std.specs.Prelude.{◌≡◌, IsNone, IfSome, Some, length, ◌≢◌, false};
-ghost use Rattle.canon_typed.specs.Charges.{cap, list_cost};
+ghost use Rattle.canon_typed.specs.Charges.{row_cost};
 ghost use Rattle.canon_typed.specs.Meaning.{RowMeans};
-ghost use Rattle.canon_typed.specs.Shaped.{fixed_shaped};
+ghost use Rattle.canon_typed.specs.Typed.{fixed_typed};
 ghost use Rattle.canon_typed.specs.Types.{IsFixedOf};
 ghost use Rattle.canon_typed.specs.Walked.{row_walked};
 
@@ -18,6 +18,9 @@ pub struct FixedList<T, const N: usize> {
 }
 
 impl<T, const N: usize> FixedList<T, N> {
+    ghost use Rattle.std.specs.Borrow.{sem};
+    ghost use Rattle.canon_typed.specs.Lending.{LendsRow};
+
     /// The list of these items, or none where they are not `N`.
     pub fn new(items: Vec<T>) -> Option<Self>
     where
@@ -40,9 +43,11 @@ impl<T, const N: usize> FixedList<T, N> {
         self.items.as_slice()
     }
 
-    /// The items, to be changed.
+    /// The items, to be changed: what is written to them is what the list holds afterwards.
     pub fn items_mut(&mut self) -> &mut [T]
-        ensures now { result.now ≡ self.old.items.items }
+        ensures* writes_back { sem 𝓛 (LendsRow T.row N.row self.entry result) }
+        ensures items { result.now ≡ self.old.items.items }
+        ensures count { length result.now ≡ N }
     {
         self.items.as_mut_slice()
     }
@@ -73,7 +78,7 @@ impl<T: ComponentType, const N: usize> ComponentType for FixedList<T, N> {
 
     ghost lifts = { λ v. RowMeans T.lifts v.items.items };
 
-    ghost cost = { list_cost (cap T.host_bytes) T.cost };
+    ghost cost = { row_cost T.cost };
 
     ghost host_bytes = { 24 };
 
@@ -100,7 +105,7 @@ impl<T: ComponentType, const N: usize> ComponentType for FixedList<T, N> {
         T::typecheck(&list.element, types)
     }
 
-    ghost shaped = { λ v. fixed_shaped N T.fits T.walks T.shaped v.items.items v.count };
+    ghost typed = { λ v. fixed_typed N T.fits T.means T.typed v.items.items v.count };
 
     ghost walked = { λ v. row_walked T.walks T.means T.walked v.items.items };
 }

@@ -2,8 +2,7 @@
 
 ghost use Rattle.std.specs.Prelude.{◌+◌, ◌&&◌, ◌∷◌, [], false};
 ghost use Rattle.canon_typed.specs.Charges.{cap, list_cost, product_cost};
-ghost use Rattle.canon_typed.specs.Maps.{MapLifts, MapMeans, MapWalks, map_walked};
-ghost use Rattle.canon_typed.specs.Shaped.{map_shaped};
+ghost use Rattle.canon_typed.specs.Maps.{MapLifts, MapMeans, MapWalks, map_typed, map_walked};
 ghost use Rattle.canon_typed.specs.Types.{IsMapOf};
 
 use crate::{ComponentType, TypecheckFailed};
@@ -53,7 +52,7 @@ impl<K: ComponentType + Eq + Hash, V: ComponentType> ComponentType for HashMap<K
         V::typecheck(&map.value, types)
     }
 
-    ghost shaped = { map_shaped K.fits V.fits (MapWalks K.walks V.walks) };
+    ghost typed = { map_typed K.fits V.fits K.means V.means K.typed V.typed };
 
     ghost walked = { map_walked K.walks K.means V.walks V.means K.walked V.walked };
 }

@@ -42,7 +42,7 @@ impl<T: ComponentType> ComponentType for Box<T> {
         T::typecheck(ty, types)
     }
 
-    ghost shaped = { λ r. T.shaped r.value };
+    ghost typed = { λ r. T.typed r.value };
 
     ghost walked = { λ r. T.walked r.value };
 }
@@ -84,7 +84,7 @@ impl<'a, T: ComponentType> ComponentType for &'a T {
         T::typecheck(ty, types)
     }
 
-    ghost shaped = { λ r. T.shaped r.now };
+    ghost typed = { λ r. T.typed r.now };
 
     ghost walked = { λ r. T.walked r.now };
 }

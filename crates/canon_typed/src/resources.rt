@@ -6,7 +6,7 @@ ghost use Rattle.canon_types.specs.Table.{Knows};
 ghost use Rattle.canon_types.specs.Resource.{as_host_dynamic};
 ghost use Rattle.canon_typed.specs.Charges.{free};
 ghost use Rattle.canon_typed.specs.Meaning.{IsHandle};
-ghost use Rattle.canon_typed.specs.Shaped.{handle_shaped, kind_shaped};
+ghost use Rattle.canon_typed.specs.Typed.{handle_typed, kind_typed};
 ghost use Rattle.canon_typed.specs.Types.{IsHandleOf, IsHandleType, handle_type};
 
 use crate::{ComponentType, TypecheckFailed};
@@ -48,7 +48,7 @@ impl ComponentType for ResourceAny {
     ghost host_bytes = { 24 };
 
     fn is_unit_type() -> bool {
-        false
+        Self::IS_RUST_UNIT_TYPE
     }
 
     fn host_size() -> u64 {
@@ -66,7 +66,7 @@ impl ComponentType for ResourceAny {
         }
     }
 
-    ghost shaped = { handle_shaped (λ v. IsHandle) };
+    ghost typed = { λ v. handle_typed };
 
     ghost walked = { λ v t h. h };
 }
@@ -111,7 +111,7 @@ impl<T: HostResourceType<D>, D: Copy> ComponentType for HostResource<T, D> {
         }
     }
 
-    ghost shaped = { kind_shaped T.checked (λ v. IsHandle) };
+    ghost typed = { λ v. kind_typed T.checked };
 
     ghost walked = { λ v t h. h };
 }
@@ -160,7 +160,7 @@ impl<T: HostType> ComponentType for Resource<T> {
         }
     }
 
-    ghost shaped = { kind_shaped (as_host T.ID) (λ v. IsHandle) };
+    ghost typed = { λ v. kind_typed (as_host T.ID) };
 
     ghost walked = { λ v t h. h };
 }
@@ -187,7 +187,7 @@ impl ComponentType for ResourceDynamic {
     ghost host_bytes = { 24 };
 
     fn is_unit_type() -> bool {
-        false
+        Self::IS_RUST_UNIT_TYPE
     }
 
     fn host_size() -> u64 {
@@ -208,7 +208,7 @@ impl ComponentType for ResourceDynamic {
         }
     }
 
-    ghost shaped = { kind_shaped as_host_dynamic (λ v. IsHandle) };
+    ghost typed = { λ v. kind_typed as_host_dynamic };
 
     ghost walked = { λ v t h. h };
 }

@@ -4,7 +4,7 @@ ghost use Rattle.std.specs.Prelude.{◌≡◌, false, pos, true};
 ghost use Rattle.canon_model.specs.Tree.{code_point, number, truth};
 ghost use Rattle.canon_types.specs.declared.types.InterfaceType.TheVariants as ty;
 ghost use Rattle.canon_typed.specs.Charges.{free};
-ghost use Rattle.canon_typed.specs.Shaped.{scalar_shaped};
+ghost use Rattle.canon_typed.specs.Typed.{scalar_typed};
 
 use crate::{ComponentType, TypecheckFailed};
 use canon_types::{CanonicalAbiInfo, InstanceType, InterfaceType};
@@ -39,7 +39,7 @@ impl ComponentType for i8 {
     ghost host_bytes = { 1 };
 
     fn is_unit_type() -> bool {
-        false
+        Self::IS_RUST_UNIT_TYPE
     }
 
     fn host_size() -> u64 {
@@ -57,7 +57,7 @@ impl ComponentType for i8 {
         }
     }
 
-    ghost shaped = { scalar_shaped ty.S8 (λ n t. t ≡ number n) (λ i u. tt) };
+    ghost typed = { scalar_typed ty.S8 (λ n t. t ≡ number n) (λ i n u e. (n, e)) };
 
     ghost walked = { λ v t h. h };
 }
@@ -84,7 +84,7 @@ impl ComponentType for u8 {
     ghost host_bytes = { 1 };
 
     fn is_unit_type() -> bool {
-        false
+        Self::IS_RUST_UNIT_TYPE
     }
 
     fn host_size() -> u64 {
@@ -102,7 +102,7 @@ impl ComponentType for u8 {
         }
     }
 
-    ghost shaped = { scalar_shaped ty.U8 (λ n t. t ≡ number (pos n)) (λ i u. tt) };
+    ghost typed = { scalar_typed ty.U8 (λ n t. t ≡ number (pos n)) (λ i n u e. (n, e)) };
 
     ghost walked = { λ v t h. h };
 }
@@ -129,7 +129,7 @@ impl ComponentType for i16 {
     ghost host_bytes = { 2 };
 
     fn is_unit_type() -> bool {
-        false
+        Self::IS_RUST_UNIT_TYPE
     }
 
     fn host_size() -> u64 {
@@ -147,7 +147,7 @@ impl ComponentType for i16 {
         }
     }
 
-    ghost shaped = { scalar_shaped ty.S16 (λ n t. t ≡ number n) (λ i u. tt) };
+    ghost typed = { scalar_typed ty.S16 (λ n t. t ≡ number n) (λ i n u e. (n, e)) };
 
     ghost walked = { λ v t h. h };
 }
@@ -174,7 +174,7 @@ impl ComponentType for u16 {
     ghost host_bytes = { 2 };
 
     fn is_unit_type() -> bool {
-        false
+        Self::IS_RUST_UNIT_TYPE
     }
 
     fn host_size() -> u64 {
@@ -192,7 +192,7 @@ impl ComponentType for u16 {
         }
     }
 
-    ghost shaped = { scalar_shaped ty.U16 (λ n t. t ≡ number (pos n)) (λ i u. tt) };
+    ghost typed = { scalar_typed ty.U16 (λ n t. t ≡ number (pos n)) (λ i n u e. (n, e)) };
 
     ghost walked = { λ v t h. h };
 }
@@ -219,7 +219,7 @@ impl ComponentType for i32 {
     ghost host_bytes = { 4 };
 
     fn is_unit_type() -> bool {
-        false
+        Self::IS_RUST_UNIT_TYPE
     }
 
     fn host_size() -> u64 {
@@ -237,7 +237,7 @@ impl ComponentType for i32 {
         }
     }
 
-    ghost shaped = { scalar_shaped ty.S32 (λ n t. t ≡ number n) (λ i u. tt) };
+    ghost typed = { scalar_typed ty.S32 (λ n t. t ≡ number n) (λ i n u e. (n, e)) };
 
     ghost walked = { λ v t h. h };
 }
@@ -264,7 +264,7 @@ impl ComponentType for u32 {
     ghost host_bytes = { 4 };
 
     fn is_unit_type() -> bool {
-        false
+        Self::IS_RUST_UNIT_TYPE
     }
 
     fn host_size() -> u64 {
@@ -282,7 +282,7 @@ impl ComponentType for u32 {
         }
     }
 
-    ghost shaped = { scalar_shaped ty.U32 (λ n t. t ≡ number (pos n)) (λ i u. tt) };
+    ghost typed = { scalar_typed ty.U32 (λ n t. t ≡ number (pos n)) (λ i n u e. (n, e)) };
 
     ghost walked = { λ v t h. h };
 }
@@ -309,7 +309,7 @@ impl ComponentType for i64 {
     ghost host_bytes = { 8 };
 
     fn is_unit_type() -> bool {
-        false
+        Self::IS_RUST_UNIT_TYPE
     }
 
     fn host_size() -> u64 {
@@ -327,7 +327,7 @@ impl ComponentType for i64 {
         }
     }
 
-    ghost shaped = { scalar_shaped ty.S64 (λ n t. t ≡ number n) (λ i u. tt) };
+    ghost typed = { scalar_typed ty.S64 (λ n t. t ≡ number n) (λ i n u e. (n, e)) };
 
     ghost walked = { λ v t h. h };
 }
@@ -354,7 +354,7 @@ impl ComponentType for u64 {
     ghost host_bytes = { 8 };
 
     fn is_unit_type() -> bool {
-        false
+        Self::IS_RUST_UNIT_TYPE
     }
 
     fn host_size() -> u64 {
@@ -372,7 +372,7 @@ impl ComponentType for u64 {
         }
     }
 
-    ghost shaped = { scalar_shaped ty.U64 (λ n t. t ≡ number (pos n)) (λ i u. tt) };
+    ghost typed = { scalar_typed ty.U64 (λ n t. t ≡ number (pos n)) (λ i n u e. (n, e)) };
 
     ghost walked = { λ v t h. h };
 }
@@ -399,7 +399,7 @@ impl ComponentType for bool {
     ghost host_bytes = { 1 };
 
     fn is_unit_type() -> bool {
-        false
+        Self::IS_RUST_UNIT_TYPE
     }
 
     fn host_size() -> u64 {
@@ -417,7 +417,7 @@ impl ComponentType for bool {
         }
     }
 
-    ghost shaped = { scalar_shaped ty.Bool (λ n t. t ≡ truth n) (λ i u. tt) };
+    ghost typed = { scalar_typed ty.Bool (λ n t. t ≡ truth n) (λ i n u e. (n, e)) };
 
     ghost walked = { λ v t h. h };
 }
@@ -444,7 +444,7 @@ impl ComponentType for char {
     ghost host_bytes = { 4 };
 
     fn is_unit_type() -> bool {
-        false
+        Self::IS_RUST_UNIT_TYPE
     }
 
     fn host_size() -> u64 {
@@ -462,7 +462,7 @@ impl ComponentType for char {
         }
     }
 
-    ghost shaped = { scalar_shaped ty.Char (λ n t. t ≡ code_point n) (λ i u. tt) };
+    ghost typed = { scalar_typed ty.Char (λ n t. t ≡ code_point n) (λ i n u e. (n, e)) };
 
     ghost walked = { λ v t h. h };
 }
@@ -489,7 +489,7 @@ impl ComponentType for Float32Bits {
     ghost host_bytes = { 4 };
 
     fn is_unit_type() -> bool {
-        false
+        Self::IS_RUST_UNIT_TYPE
     }
 
     fn host_size() -> u64 {
@@ -507,7 +507,7 @@ impl ComponentType for Float32Bits {
         }
     }
 
-    ghost shaped = { scalar_shaped ty.Float32 (λ n t. t ≡ number (pos n.0)) (λ i u. tt) };
+    ghost typed = { scalar_typed ty.Float32 (λ n t. t ≡ number (pos n.0)) (λ i n u e. (n.0, e)) };
 
     ghost walked = { λ v t h. h };
 }
@@ -534,7 +534,7 @@ impl ComponentType for Float64Bits {
     ghost host_bytes = { 8 };
 
     fn is_unit_type() -> bool {
-        false
+        Self::IS_RUST_UNIT_TYPE
     }
 
     fn host_size() -> u64 {
@@ -552,7 +552,7 @@ impl ComponentType for Float64Bits {
         }
     }
 
-    ghost shaped = { scalar_shaped ty.Float64 (λ n t. t ≡ number (pos n.0)) (λ i u. tt) };
+    ghost typed = { scalar_typed ty.Float64 (λ n t. t ≡ number (pos n.0)) (λ i n u e. (n.0, e)) };
 
     ghost walked = { λ v t h. h };
 }

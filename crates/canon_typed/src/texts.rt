@@ -4,7 +4,7 @@ ghost use Rattle.std.specs.Prelude.{◌≡◌, false, true};
 ghost use Rattle.canon_model.specs.Tree.{text_length};
 ghost use Rattle.canon_types.specs.declared.types.InterfaceType.TheVariants as ty;
 ghost use Rattle.canon_typed.specs.Meaning.{TextMeans};
-ghost use Rattle.canon_typed.specs.Shaped.{scalar_shaped};
+ghost use Rattle.canon_typed.specs.Typed.{scalar_typed};
 
 use crate::{ComponentType, TypecheckFailed};
 use canon_types::{CanonicalAbiInfo, InstanceType, InterfaceType};
@@ -31,7 +31,7 @@ impl ComponentType for String {
     ghost host_bytes = { 24 };
 
     fn is_unit_type() -> bool {
-        false
+        Self::IS_RUST_UNIT_TYPE
     }
 
     fn host_size() -> u64 {
@@ -49,7 +49,7 @@ impl ComponentType for String {
         }
     }
 
-    ghost shaped = { scalar_shaped ty.String TextMeans (λ i u. tt) };
+    ghost typed = { scalar_typed ty.String TextMeans (λ i s u h. (h.0, h.1, h.2, h.3.can)) };
 
     ghost walked = { λ v t h. h };
 }

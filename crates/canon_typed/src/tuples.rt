@@ -3,7 +3,7 @@
 ghost use Rattle.std.specs.Prelude.{◌+◌, ◌&&◌, ◌||◌, ◌∷◌, [], false, true};
 ghost use Rattle.canon_typed.specs.Charges.{product_cost};
 ghost use Rattle.canon_typed.specs.Meaning.{FirstAnd, NoTrees, ProductMeans};
-ghost use Rattle.canon_typed.specs.Shaped.{first_shaped, none_shaped, tuple_shaped};
+ghost use Rattle.canon_typed.specs.Typed.{first_typed, none_typed, tuple_typed};
 ghost use Rattle.canon_typed.specs.Types.{IsTupleOf};
 ghost use Rattle.canon_typed.specs.Walked.{first_walked, none_walked, product_walked};
 
@@ -32,7 +32,7 @@ impl ComponentType for () {
     ghost host_bytes = { 0 };
 
     fn is_unit_type() -> bool {
-        true
+        Self::IS_RUST_UNIT_TYPE
     }
 
     fn host_size() -> u64 {
@@ -53,7 +53,7 @@ impl ComponentType for () {
         }
     }
 
-    ghost shaped = { tuple_shaped [] (λ p. NoTrees) (λ p. none_shaped) };
+    ghost typed = { tuple_typed [] (λ p. NoTrees) (λ p. none_typed) };
 
     ghost walked = { λ p. product_walked NoTrees NoTrees none_walked };
 }
@@ -104,7 +104,7 @@ impl<A: ComponentType> ComponentType for (A,) {
         }
     }
 
-    ghost shaped = { tuple_shaped (A.fits ∷ []) (λ p. FirstAnd (A.walks p.0) NoTrees) (λ p. first_shaped A.fits [] (A.walks p.0) NoTrees (A.shaped p.0) none_shaped) };
+    ghost typed = { tuple_typed (A.fits ∷ []) (λ p. FirstAnd (A.means p.0) NoTrees) (λ p. first_typed A.fits [] (A.means p.0) NoTrees (A.typed p.0) none_typed) };
 
     ghost walked = { λ p. product_walked (FirstAnd (A.walks p.0) NoTrees) (FirstAnd (A.means p.0) NoTrees) (first_walked (A.walks p.0) (A.means p.0) NoTrees NoTrees (A.walked p.0) none_walked) };
 }
@@ -159,7 +159,7 @@ impl<A: ComponentType, B: ComponentType> ComponentType for (A, B) {
         }
     }
 
-    ghost shaped = { tuple_shaped (A.fits ∷ B.fits ∷ []) (λ p. FirstAnd (A.walks p.0) (FirstAnd (B.walks p.1) NoTrees)) (λ p. first_shaped A.fits (B.fits ∷ []) (A.walks p.0) (FirstAnd (B.walks p.1) NoTrees) (A.shaped p.0) (first_shaped B.fits [] (B.walks p.1) NoTrees (B.shaped p.1) none_shaped)) };
+    ghost typed = { tuple_typed (A.fits ∷ B.fits ∷ []) (λ p. FirstAnd (A.means p.0) (FirstAnd (B.means p.1) NoTrees)) (λ p. first_typed A.fits (B.fits ∷ []) (A.means p.0) (FirstAnd (B.means p.1) NoTrees) (A.typed p.0) (first_typed B.fits [] (B.means p.1) NoTrees (B.typed p.1) none_typed)) };
 
     ghost walked = { λ p. product_walked (FirstAnd (A.walks p.0) (FirstAnd (B.walks p.1) NoTrees)) (FirstAnd (A.means p.0) (FirstAnd (B.means p.1) NoTrees)) (first_walked (A.walks p.0) (A.means p.0) (FirstAnd (B.walks p.1) NoTrees) (FirstAnd (B.means p.1) NoTrees) (A.walked p.0) (first_walked (B.walks p.1) (B.means p.1) NoTrees NoTrees (B.walked p.1) none_walked)) };
 }
@@ -220,7 +220,7 @@ impl<A: ComponentType, B: ComponentType, C: ComponentType> ComponentType for (A,
         }
     }
 
-    ghost shaped = { tuple_shaped (A.fits ∷ B.fits ∷ C.fits ∷ []) (λ p. FirstAnd (A.walks p.0) (FirstAnd (B.walks p.1) (FirstAnd (C.walks p.2) NoTrees))) (λ p. first_shaped A.fits (B.fits ∷ C.fits ∷ []) (A.walks p.0) (FirstAnd (B.walks p.1) (FirstAnd (C.walks p.2) NoTrees)) (A.shaped p.0) (first_shaped B.fits (C.fits ∷ []) (B.walks p.1) (FirstAnd (C.walks p.2) NoTrees) (B.shaped p.1) (first_shaped C.fits [] (C.walks p.2) NoTrees (C.shaped p.2) none_shaped))) };
+    ghost typed = { tuple_typed (A.fits ∷ B.fits ∷ C.fits ∷ []) (λ p. FirstAnd (A.means p.0) (FirstAnd (B.means p.1) (FirstAnd (C.means p.2) NoTrees))) (λ p. first_typed A.fits (B.fits ∷ C.fits ∷ []) (A.means p.0) (FirstAnd (B.means p.1) (FirstAnd (C.means p.2) NoTrees)) (A.typed p.0) (first_typed B.fits (C.fits ∷ []) (B.means p.1) (FirstAnd (C.means p.2) NoTrees) (B.typed p.1) (first_typed C.fits [] (C.means p.2) NoTrees (C.typed p.2) none_typed))) };
 
     ghost walked = { λ p. product_walked (FirstAnd (A.walks p.0) (FirstAnd (B.walks p.1) (FirstAnd (C.walks p.2) NoTrees))) (FirstAnd (A.means p.0) (FirstAnd (B.means p.1) (FirstAnd (C.means p.2) NoTrees))) (first_walked (A.walks p.0) (A.means p.0) (FirstAnd (B.walks p.1) (FirstAnd (C.walks p.2) NoTrees)) (FirstAnd (B.means p.1) (FirstAnd (C.means p.2) NoTrees)) (A.walked p.0) (first_walked (B.walks p.1) (B.means p.1) (FirstAnd (C.walks p.2) NoTrees) (FirstAnd (C.means p.2) NoTrees) (B.walked p.1) (first_walked (C.walks p.2) (C.means p.2) NoTrees NoTrees (C.walked p.2) none_walked))) };
 }
@@ -286,7 +286,7 @@ impl<A: ComponentType, B: ComponentType, C: ComponentType, D: ComponentType> Com
         }
     }
 
-    ghost shaped = { tuple_shaped (A.fits ∷ B.fits ∷ C.fits ∷ D.fits ∷ []) (λ p. FirstAnd (A.walks p.0) (FirstAnd (B.walks p.1) (FirstAnd (C.walks p.2) (FirstAnd (D.walks p.3) NoTrees)))) (λ p. first_shaped A.fits (B.fits ∷ C.fits ∷ D.fits ∷ []) (A.walks p.0) (FirstAnd (B.walks p.1) (FirstAnd (C.walks p.2) (FirstAnd (D.walks p.3) NoTrees))) (A.shaped p.0) (first_shaped B.fits (C.fits ∷ D.fits ∷ []) (B.walks p.1) (FirstAnd (C.walks p.2) (FirstAnd (D.walks p.3) NoTrees)) (B.shaped p.1) (first_shaped C.fits (D.fits ∷ []) (C.walks p.2) (FirstAnd (D.walks p.3) NoTrees) (C.shaped p.2) (first_shaped D.fits [] (D.walks p.3) NoTrees (D.shaped p.3) none_shaped)))) };
+    ghost typed = { tuple_typed (A.fits ∷ B.fits ∷ C.fits ∷ D.fits ∷ []) (λ p. FirstAnd (A.means p.0) (FirstAnd (B.means p.1) (FirstAnd (C.means p.2) (FirstAnd (D.means p.3) NoTrees)))) (λ p. first_typed A.fits (B.fits ∷ C.fits ∷ D.fits ∷ []) (A.means p.0) (FirstAnd (B.means p.1) (FirstAnd (C.means p.2) (FirstAnd (D.means p.3) NoTrees))) (A.typed p.0) (first_typed B.fits (C.fits ∷ D.fits ∷ []) (B.means p.1) (FirstAnd (C.means p.2) (FirstAnd (D.means p.3) NoTrees)) (B.typed p.1) (first_typed C.fits (D.fits ∷ []) (C.means p.2) (FirstAnd (D.means p.3) NoTrees) (C.typed p.2) (first_typed D.fits [] (D.means p.3) NoTrees (D.typed p.3) none_typed)))) };
 
     ghost walked = { λ p. product_walked (FirstAnd (A.walks p.0) (FirstAnd (B.walks p.1) (FirstAnd (C.walks p.2) (FirstAnd (D.walks p.3) NoTrees)))) (FirstAnd (A.means p.0) (FirstAnd (B.means p.1) (FirstAnd (C.means p.2) (FirstAnd (D.means p.3) NoTrees)))) (first_walked (A.walks p.0) (A.means p.0) (FirstAnd (B.walks p.1) (FirstAnd (C.walks p.2) (FirstAnd (D.walks p.3) NoTrees))) (FirstAnd (B.means p.1) (FirstAnd (C.means p.2) (FirstAnd (D.means p.3) NoTrees))) (A.walked p.0) (first_walked (B.walks p.1) (B.means p.1) (FirstAnd (C.walks p.2) (FirstAnd (D.walks p.3) NoTrees)) (FirstAnd (C.means p.2) (FirstAnd (D.means p.3) NoTrees)) (B.walked p.1) (first_walked (C.walks p.2) (C.means p.2) (FirstAnd (D.walks p.3) NoTrees) (FirstAnd (D.means p.3) NoTrees) (C.walked p.2) (first_walked (D.walks p.3) (D.means p.3) NoTrees NoTrees (D.walked p.3) none_walked)))) };
 }
@@ -362,7 +362,7 @@ impl<
         }
     }
 
-    ghost shaped = { tuple_shaped (A.fits ∷ B.fits ∷ C.fits ∷ D.fits ∷ E.fits ∷ []) (λ p. FirstAnd (A.walks p.0) (FirstAnd (B.walks p.1) (FirstAnd (C.walks p.2) (FirstAnd (D.walks p.3) (FirstAnd (E.walks p.4) NoTrees))))) (λ p. first_shaped A.fits (B.fits ∷ C.fits ∷ D.fits ∷ E.fits ∷ []) (A.walks p.0) (FirstAnd (B.walks p.1) (FirstAnd (C.walks p.2) (FirstAnd (D.walks p.3) (FirstAnd (E.walks p.4) NoTrees)))) (A.shaped p.0) (first_shaped B.fits (C.fits ∷ D.fits ∷ E.fits ∷ []) (B.walks p.1) (FirstAnd (C.walks p.2) (FirstAnd (D.walks p.3) (FirstAnd (E.walks p.4) NoTrees))) (B.shaped p.1) (first_shaped C.fits (D.fits ∷ E.fits ∷ []) (C.walks p.2) (FirstAnd (D.walks p.3) (FirstAnd (E.walks p.4) NoTrees)) (C.shaped p.2) (first_shaped D.fits (E.fits ∷ []) (D.walks p.3) (FirstAnd (E.walks p.4) NoTrees) (D.shaped p.3) (first_shaped E.fits [] (E.walks p.4) NoTrees (E.shaped p.4) none_shaped))))) };
+    ghost typed = { tuple_typed (A.fits ∷ B.fits ∷ C.fits ∷ D.fits ∷ E.fits ∷ []) (λ p. FirstAnd (A.means p.0) (FirstAnd (B.means p.1) (FirstAnd (C.means p.2) (FirstAnd (D.means p.3) (FirstAnd (E.means p.4) NoTrees))))) (λ p. first_typed A.fits (B.fits ∷ C.fits ∷ D.fits ∷ E.fits ∷ []) (A.means p.0) (FirstAnd (B.means p.1) (FirstAnd (C.means p.2) (FirstAnd (D.means p.3) (FirstAnd (E.means p.4) NoTrees)))) (A.typed p.0) (first_typed B.fits (C.fits ∷ D.fits ∷ E.fits ∷ []) (B.means p.1) (FirstAnd (C.means p.2) (FirstAnd (D.means p.3) (FirstAnd (E.means p.4) NoTrees))) (B.typed p.1) (first_typed C.fits (D.fits ∷ E.fits ∷ []) (C.means p.2) (FirstAnd (D.means p.3) (FirstAnd (E.means p.4) NoTrees)) (C.typed p.2) (first_typed D.fits (E.fits ∷ []) (D.means p.3) (FirstAnd (E.means p.4) NoTrees) (D.typed p.3) (first_typed E.fits [] (E.means p.4) NoTrees (E.typed p.4) none_typed))))) };
 
     ghost walked = { λ p. product_walked (FirstAnd (A.walks p.0) (FirstAnd (B.walks p.1) (FirstAnd (C.walks p.2) (FirstAnd (D.walks p.3) (FirstAnd (E.walks p.4) NoTrees))))) (FirstAnd (A.means p.0) (FirstAnd (B.means p.1) (FirstAnd (C.means p.2) (FirstAnd (D.means p.3) (FirstAnd (E.means p.4) NoTrees))))) (first_walked (A.walks p.0) (A.means p.0) (FirstAnd (B.walks p.1) (FirstAnd (C.walks p.2) (FirstAnd (D.walks p.3) (FirstAnd (E.walks p.4) NoTrees)))) (FirstAnd (B.means p.1) (FirstAnd (C.means p.2) (FirstAnd (D.means p.3) (FirstAnd (E.means p.4) NoTrees)))) (A.walked p.0) (first_walked (B.walks p.1) (B.means p.1) (FirstAnd (C.walks p.2) (FirstAnd (D.walks p.3) (FirstAnd (E.walks p.4) NoTrees))) (FirstAnd (C.means p.2) (FirstAnd (D.means p.3) (FirstAnd (E.means p.4) NoTrees))) (B.walked p.1) (first_walked (C.walks p.2) (C.means p.2) (FirstAnd (D.walks p.3) (FirstAnd (E.walks p.4) NoTrees)) (FirstAnd (D.means p.3) (FirstAnd (E.means p.4) NoTrees)) (C.walked p.2) (first_walked (D.walks p.3) (D.means p.3) (FirstAnd (E.walks p.4) NoTrees) (FirstAnd (E.means p.4) NoTrees) (D.walked p.3) (first_walked (E.walks p.4) (E.means p.4) NoTrees NoTrees (E.walked p.4) none_walked))))) };
 }
@@ -448,7 +448,7 @@ impl<
         }
     }
 
-    ghost shaped = { tuple_shaped (A.fits ∷ B.fits ∷ C.fits ∷ D.fits ∷ E.fits ∷ F.fits ∷ []) (λ p. FirstAnd (A.walks p.0) (FirstAnd (B.walks p.1) (FirstAnd (C.walks p.2) (FirstAnd (D.walks p.3) (FirstAnd (E.walks p.4) (FirstAnd (F.walks p.5) NoTrees)))))) (λ p. first_shaped A.fits (B.fits ∷ C.fits ∷ D.fits ∷ E.fits ∷ F.fits ∷ []) (A.walks p.0) (FirstAnd (B.walks p.1) (FirstAnd (C.walks p.2) (FirstAnd (D.walks p.3) (FirstAnd (E.walks p.4) (FirstAnd (F.walks p.5) NoTrees))))) (A.shaped p.0) (first_shaped B.fits (C.fits ∷ D.fits ∷ E.fits ∷ F.fits ∷ []) (B.walks p.1) (FirstAnd (C.walks p.2) (FirstAnd (D.walks p.3) (FirstAnd (E.walks p.4) (FirstAnd (F.walks p.5) NoTrees)))) (B.shaped p.1) (first_shaped C.fits (D.fits ∷ E.fits ∷ F.fits ∷ []) (C.walks p.2) (FirstAnd (D.walks p.3) (FirstAnd (E.walks p.4) (FirstAnd (F.walks p.5) NoTrees))) (C.shaped p.2) (first_shaped D.fits (E.fits ∷ F.fits ∷ []) (D.walks p.3) (FirstAnd (E.walks p.4) (FirstAnd (F.walks p.5) NoTrees)) (D.shaped p.3) (first_shaped E.fits (F.fits ∷ []) (E.walks p.4) (FirstAnd (F.walks p.5) NoTrees) (E.shaped p.4) (first_shaped F.fits [] (F.walks p.5) NoTrees (F.shaped p.5) none_shaped)))))) };
+    ghost typed = { tuple_typed (A.fits ∷ B.fits ∷ C.fits ∷ D.fits ∷ E.fits ∷ F.fits ∷ []) (λ p. FirstAnd (A.means p.0) (FirstAnd (B.means p.1) (FirstAnd (C.means p.2) (FirstAnd (D.means p.3) (FirstAnd (E.means p.4) (FirstAnd (F.means p.5) NoTrees)))))) (λ p. first_typed A.fits (B.fits ∷ C.fits ∷ D.fits ∷ E.fits ∷ F.fits ∷ []) (A.means p.0) (FirstAnd (B.means p.1) (FirstAnd (C.means p.2) (FirstAnd (D.means p.3) (FirstAnd (E.means p.4) (FirstAnd (F.means p.5) NoTrees))))) (A.typed p.0) (first_typed B.fits (C.fits ∷ D.fits ∷ E.fits ∷ F.fits ∷ []) (B.means p.1) (FirstAnd (C.means p.2) (FirstAnd (D.means p.3) (FirstAnd (E.means p.4) (FirstAnd (F.means p.5) NoTrees)))) (B.typed p.1) (first_typed C.fits (D.fits ∷ E.fits ∷ F.fits ∷ []) (C.means p.2) (FirstAnd (D.means p.3) (FirstAnd (E.means p.4) (FirstAnd (F.means p.5) NoTrees))) (C.typed p.2) (first_typed D.fits (E.fits ∷ F.fits ∷ []) (D.means p.3) (FirstAnd (E.means p.4) (FirstAnd (F.means p.5) NoTrees)) (D.typed p.3) (first_typed E.fits (F.fits ∷ []) (E.means p.4) (FirstAnd (F.means p.5) NoTrees) (E.typed p.4) (first_typed F.fits [] (F.means p.5) NoTrees (F.typed p.5) none_typed)))))) };
 
     ghost walked = { λ p. product_walked (FirstAnd (A.walks p.0) (FirstAnd (B.walks p.1) (FirstAnd (C.walks p.2) (FirstAnd (D.walks p.3) (FirstAnd (E.walks p.4) (FirstAnd (F.walks p.5) NoTrees)))))) (FirstAnd (A.means p.0) (FirstAnd (B.means p.1) (FirstAnd (C.means p.2) (FirstAnd (D.means p.3) (FirstAnd (E.means p.4) (FirstAnd (F.means p.5) NoTrees)))))) (first_walked (A.walks p.0) (A.means p.0) (FirstAnd (B.walks p.1) (FirstAnd (C.walks p.2) (FirstAnd (D.walks p.3) (FirstAnd (E.walks p.4) (FirstAnd (F.walks p.5) NoTrees))))) (FirstAnd (B.means p.1) (FirstAnd (C.means p.2) (FirstAnd (D.means p.3) (FirstAnd (E.means p.4) (FirstAnd (F.means p.5) NoTrees))))) (A.walked p.0) (first_walked (B.walks p.1) (B.means p.1) (FirstAnd (C.walks p.2) (FirstAnd (D.walks p.3) (FirstAnd (E.walks p.4) (FirstAnd (F.walks p.5) NoTrees)))) (FirstAnd (C.means p.2) (FirstAnd (D.means p.3) (FirstAnd (E.means p.4) (FirstAnd (F.means p.5) NoTrees)))) (B.walked p.1) (first_walked (C.walks p.2) (C.means p.2) (FirstAnd (D.walks p.3) (FirstAnd (E.walks p.4) (FirstAnd (F.walks p.5) NoTrees))) (FirstAnd (D.means p.3) (FirstAnd (E.means p.4) (FirstAnd (F.means p.5) NoTrees))) (C.walked p.2) (first_walked (D.walks p.3) (D.means p.3) (FirstAnd (E.walks p.4) (FirstAnd (F.walks p.5) NoTrees)) (FirstAnd (E.means p.4) (FirstAnd (F.means p.5) NoTrees)) (D.walked p.3) (first_walked (E.walks p.4) (E.means p.4) (FirstAnd (F.walks p.5) NoTrees) (FirstAnd (F.means p.5) NoTrees) (E.walked p.4) (first_walked (F.walks p.5) (F.means p.5) NoTrees NoTrees (F.walked p.5) none_walked)))))) };
 }
