@@ -69,7 +69,7 @@ each_taken R law w s at before after (x ∷ xs) (mid, first, rest) =
     taken_then before mid after _ _ (law w at s before mid x first) (each_taken R law w s (behind w.memory s at) mid after xs rest)
 
 -- as many as there are
-each_counted : {A : Type 0} (R : Reading A) → AreTaken R → (w : Setting) (s : Shape) (at : Spot) (n : ℕ) (before after : LedgerState) (xs : List A) → length xs ≡ n → EachReads R w s at before xs after
+pub each_counted : {A : Type 0} (R : Reading A) → AreTaken R → (w : Setting) (s : Shape) (at : Spot) (n : ℕ) (before after : LedgerState) (xs : List A) → length xs ≡ n → EachReads R w s at before xs after
     → (hs : List ℕ) × LeavesTake before (each_steps R w s at n) hs after
 each_counted R law w s at n before after xs count h = taken_by before after _ _ (ap (λ k. each_steps R w s at k) (sym count)) (each_taken R law w s at before after xs h)
 
