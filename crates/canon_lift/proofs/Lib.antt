@@ -2,3 +2,5 @@ pub mod Refusals
 pub mod Rows
 pub mod Settings
 pub mod ScalarBytes
+pub mod Pairs
+pub mod Lookups

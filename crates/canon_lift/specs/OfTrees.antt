@@ -57,7 +57,7 @@ tree_told Fit Lifts charge allocates price priced = record {
 pub scalar_told : {A : Type 0} (type : InterfaceType) (Lifts : A → Tree → Type 0) → IsOfTrees (λ i t. t ≡ type) (scalar_reading Lifts) Lifts free
 scalar_told type Lifts = tree_told (λ i t. t ≡ type) Lifts (λ w at. 0) false free (λ w at t u f rep. refl)
 
-text_priced : (w : Setting) (at : Spot) (t : Tree) → Represents w.memory w.encoding at string t → text_charge w at ≡ text_length t
+pub text_priced : (w : Setting) (at : Spot) (t : Tree) → Represents w.memory w.encoding at string t → text_charge w at ≡ text_length t
 unfolding reach_cost flat_reach cost
 text_priced w (stored a) t rep = reach_is_the_cost.memory false w.encoding w.memory a string t rep
 text_priced w (flat_in ws i) t rep = reach_is_the_cost.flat false w.encoding w.memory ws i string t rep

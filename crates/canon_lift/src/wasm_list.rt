@@ -101,7 +101,7 @@ impl<T: ComponentType> ComponentType for WasmList<T> {
     ghost host_bytes = { 32 };
 
     fn is_unit_type() -> bool {
-        Self::IS_RUST_UNIT_TYPE
+        false
     }
 
     fn host_size() -> u64 {

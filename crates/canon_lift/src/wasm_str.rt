@@ -97,7 +97,7 @@ impl ComponentType for WasmStr {
     ghost host_bytes = { 32 };
 
     fn is_unit_type() -> bool {
-        Self::IS_RUST_UNIT_TYPE
+        false
     }
 
     fn host_size() -> u64 {
