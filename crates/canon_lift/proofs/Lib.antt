@@ -4,3 +4,4 @@ pub mod Settings
 pub mod ScalarBytes
 pub mod Pairs
 pub mod Lookups
+pub mod CaseLifting
