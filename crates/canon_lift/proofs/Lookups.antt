@@ -1,15 +1,17 @@
 -- What a look-up gave of a type, where the table is that of the start.
-use Rattle.std.proofs.Common.{◌≡◌, ◌≤◌, ◌<◌, ◌+◌, ◌%◌, ◌∙◌, All, List, None, Option, Some, [], ◌∷◌, ap, arith, false, length, refl, subst, sym, ℕ}
+use Rattle.std.proofs.Common.{◌≡◌, ◌≤◌, ◌<◌, ◌+◌, ◌*◌, ◌++◌, ◌%◌, ◌∙◌, All, List, None, Option, Some, [], ◌∷◌, ap, arith, false, length, option_to_list, refl, subst, sym, ℕ}
 use Rattle.canon_abi.specs.Abi.{HasInfo}
 use Rattle.canon_abi.specs.declared.abi.VariantInfo.{VariantInfo}
 use Rattle.canon_model.specs.Layout.{align, payload_shape, size}
-use Rattle.canon_model.specs.Shape.{Shape, case_count, list_of, of_option, option_of, variant}
+use Rattle.canon_model.specs.Shape.{Cases, Shape, case_count, case_for, fixed, list_of, no_cases, of_option, of_result, option_of, result_of, variant}
 use Rattle.canon_types.specs.Depth.{element_shape, variant_cases}
 use Rattle.canon_types.specs.Instance.{Instance}
-use Rattle.canon_types.specs.Table.{IsDefined, Knows, ListType, OptionType, Table, shape_of}
+use Rattle.canon_types.specs.Table.{FixedListType, IsDefined, Knows, KnowsPayload, ListType, OptionType, ResultType, Table, all_shapes, payload_in, shape_of}
 use Rattle.canon_types.specs.declared.types.InterfaceType.{InterfaceType}
 use Rattle.canon_types.specs.declared.types.InterfaceType.TheVariants as ty
-use Rattle.canon_typed.specs.Types.{IsListOf, IsOptionOf}
+use Rattle.canon_typed.specs.Types.{IsFixedOf, IsListOf, IsOptionOf}
+use Rattle.canon_lift.specs.OfTrees.{second_shape, two_cases}
+use Rattle.canon_lift.specs.Readings.{fixed_element}
 use Rattle.canon_lift.proofs.CaseLifting.{IsOfCases}
 
 -- ---- lists
@@ -34,6 +36,19 @@ list_fits Fit i t2 j type element same is d f =
     subst (λ x. Fit i x) one fits
 
 -- ---- options and results
+
+first_shape : (o : Option Shape) (cs : Cases) → payload_shape (case_for o no_cases) 0 ≡ payload_shape (case_for o cs) 0
+first_shape None cs = refl
+first_shape (Some s) cs = refl
+
+known_first : (t : Table) (ok error : Option InterfaceType) → All (Knows t) (option_to_list ok ++ option_to_list error) → KnowsPayload t ok
+known_first t None error h = tt
+known_first t (Some x) error h = h 0 x (omega arith)
+
+known_second : (t : Table) (ok error : Option InterfaceType) → All (Knows t) (option_to_list ok ++ option_to_list error) → KnowsPayload t error
+known_second t ok None h = tt
+known_second t None (Some y) h = h 0 y (omega arith)
+known_second t (Some x) (Some y) h = h 1 y (omega arith)
 
 module _ (t t2 : Table) (j : ℕ) (type some : InterfaceType) (info : VariantInfo) (memory : List ℕ) (at : ℕ) (same : t2 ≡ t) (is : type ≡ ty.Option j) (d : IsDefined t2 (ty.Option j) (OptionType some)) where
   option_shape : shape_of t type ≡ option_of (shape_of t some)
@@ -64,3 +79,73 @@ option_fits Fit i t2 j type some same is d f =
     let both : Some (OptionType other) ≡ Some (OptionType some) = sym d2.definition ∙ here.definition in
     let one : other ≡ some = cc in
     subst (λ x. Fit i x) one fits
+
+-- ---- lists of fixed length
+
+-- the element that a look-up gave fits, and makes up the shape
+pub record IsFixedElement (Fit : Instance → InterfaceType → Type 0) (i : Instance) (n : ℕ) (type element : InterfaceType) : Type 0 where
+  pub shape : shape_of i.types type ≡ fixed n (shape_of i.types element)
+  pub known : Knows i.types element
+  pub fits : Fit i element
+
+pub fixed_there : (Fit : Instance → InterfaceType → Type 0) (i : Instance) (t2 : Table) (j n count : ℕ) (type element : InterfaceType) → t2 ≡ i.types → type ≡ ty.FixedLengthList j
+    → IsDefined t2 (ty.FixedLengthList j) (FixedListType element count) → IsFixedOf n Fit i type → IsFixedElement Fit i n type element
+fixed_there Fit i t2 j n count type element same is d f =
+    let (some, (other, d2, fits)) = subst (λ x. IsFixedOf n Fit i x) is f in
+    let here = subst (λ (x : Table). IsDefined x (ty.FixedLengthList j) (FixedListType element count)) same d in
+    let both : Some (FixedListType other n) ≡ Some (FixedListType element count) = sym d2.definition ∙ here.definition in
+    let one : other ≡ element = cc in
+    record {
+      shape = subst (λ x. shape_of i.types type ≡ fixed n (shape_of i.types x)) one (ap (shape_of i.types) is ∙ d2.shape);
+      known = here.known 0 element (omega arith);
+      fits = subst (λ x. Fit i x) one fits;
+    }
+
+module _ (s u : Shape) (n at : ℕ) (is : s ≡ fixed n u) where
+  pub fixed_part : u ≡ fixed_element s
+  fixed_part = sym (ap fixed_element is)
+
+  pub fixed_aligned : at % align false s ≡ 0 → at % align false u ≡ 0
+  unfolding align
+  fixed_aligned h = subst (λ (z : Shape). at % align false z ≡ 0) is h
+
+  pub fixed_inside : (memory : List ℕ) → at + size false s ≤ length memory → at + n * size false u ≤ length memory
+  unfolding size
+  fixed_inside memory h = subst (λ (z : Shape). at + size false z ≤ length memory) is h
+
+-- ---- results
+
+module _ (t t2 : Table) (j : ℕ) (type : InterfaceType) (ok error : Option InterfaceType) (same : t2 ≡ t) (is : type ≡ ty.Result j) (d : IsDefined t2 (ty.Result j) (ResultType ok error)) where
+  abbrev good : Option Shape
+  good = payload_in (all_shapes t) ok
+
+  abbrev bad : Option Shape
+  bad = payload_in (all_shapes t) error
+
+  result_shape : shape_of t type ≡ result_of good bad
+  result_shape = ap (shape_of t) is ∙ subst (λ (x : Table). shape_of x (ty.Result j) ≡ result_of (payload_in (all_shapes x) ok) (payload_in (all_shapes x) error)) same d.shape
+
+  pub result_cases : (info : VariantInfo) (memory : List ℕ) (at : ℕ) → HasInfo info (variant_cases (shape_of t2 (ty.Result j))) → at % align false (shape_of t type) ≡ 0 → at + size false (shape_of t type) ≤ length memory
+      → IsOfCases (shape_of t type) info memory at
+  result_cases info memory at numbers aligned inside = record {
+    kind = of_result;
+    is = result_shape ∙ ap (λ cs. variant of_result cs) (sym (ap variant_cases result_shape));
+    numbers = subst (λ x. HasInfo info (variant_cases (shape_of t x))) (sym is) (subst (λ (x : Table). HasInfo info (variant_cases (shape_of x (ty.Result j)))) same numbers);
+    aligned = aligned;
+    inside = inside;
+  }
+
+  pub result_few : (k : ℕ) → k < 2 → k < case_count (variant_cases (shape_of t type))
+  result_few k few = subst (λ (z : Shape). k < case_count (variant_cases z)) (sym result_shape) (subst (λ n. k < n) (sym (two_cases good bad)) few)
+
+  pub ok_payload : payload_shape (case_for good no_cases) 0 ≡ payload_shape (variant_cases (shape_of t type)) 0
+  ok_payload = first_shape good (case_for bad no_cases) ∙ sym (ap (λ (z : Shape). payload_shape (variant_cases z) 0) result_shape)
+
+  pub error_payload : payload_shape (case_for bad no_cases) 0 ≡ payload_shape (variant_cases (shape_of t type)) 1
+  error_payload = sym (second_shape good (case_for bad no_cases)) ∙ sym (ap (λ (z : Shape). payload_shape (variant_cases z) 1) result_shape)
+
+  pub ok_known : KnowsPayload t ok
+  ok_known = known_first t ok error (subst (λ (x : Table). All (Knows x) (option_to_list ok ++ option_to_list error)) same d.known)
+
+  pub error_known : KnowsPayload t error
+  error_known = known_second t ok error (subst (λ (x : Table). All (Knows x) (option_to_list ok ++ option_to_list error)) same d.known)

@@ -1,5 +1,5 @@
 -- The pointers and lengths of texts and lists, and what they point to.
-use Rattle.std.proofs.Common.{◌≡◌, ◌≤◌, ◌<◌, ◌+◌, ◌*◌, ◌%◌, ◌∙◌, Err, IfErr, IfOk, List, None, Ok, Result, String, [], ap, ap₂, arith, eq-eqb, false, inl, inr, le-leb, length, refl, subst, sym, true, ℕ}
+use Rattle.std.proofs.Common.{◌≡◌, ◌≤◌, ◌<◌, ◌+◌, ◌*◌, ◌%◌, ◌==◌, ◌∙◌, Bool, Err, IfErr, IfOk, List, None, Ok, Result, String, [], ap, ap₂, arith, eq-eqb, false, if◌then◌else◌, inl, inr, le-leb, length, refl, subst, sym, true, ℕ}
 use Rattle.std.proofs.lemmas.Bool.{and_from, cond-true}
 use Rattle.std.specs.declared.alloc.Global.{Global}
 use Rattle.canon_context.proofs.Told.{blamed_by}
@@ -12,7 +12,7 @@ use Rattle.canon_lowering.specs.Storing.{narrow}
 use Rattle.canon_model.specs.Layout.{align, size}
 use Rattle.canon_model.specs.Memory.{Inside, Memory}
 use Rattle.canon_model.specs.Reach as reach
-use Rattle.canon_model.specs.Reach.{Kind, TextFault, misaligned, out_of_bounds, text_reach}
+use Rattle.canon_model.specs.Reach.{Kind, TextFault, is_inside, misaligned, out_of_bounds, text_reach}
 use Rattle.canon_model.specs.Rep.{IsText}
 use Rattle.canon_model.specs.Shape.{Shape, list_of, string}
 use Rattle.canon_model.specs.Text.{Encoding}
@@ -27,10 +27,10 @@ use Rattle.canon_types.specs.declared.types.InterfaceType.{InterfaceType}
 use Rattle.canon_lift.specs.OfTrees.{text_priced}
 use Rattle.canon_lift.specs.Ranges.{IsListThere, ListRefused, ListTested, list_range_reach, wasm_list_reading}
 use Rattle.canon_lift.specs.Reading.{Lifts, NamedBy, Reading, Refused, Setting, stop_of}
-use Rattle.canon_lift.specs.Readings.{IsGoodList, text_charge, text_reading}
+use Rattle.canon_lift.specs.Readings.{IsGoodList, ListPointerFault, each_reach, list_reading, read_as, text_charge, text_reading}
 use Rattle.canon_lift.specs.Spots.{Faulty, HasRoom, Represents, Spot, at_of, flat_in, length_in, pointer_in, stored}
 use Rattle.canon_lift.specs.declared.wasm_list.WasmList.{WasmList}
-use Rattle.canon_lift.proofs.Refusals.{named_by, refused_before}
+use Rattle.canon_lift.proofs.Refusals.{named_by, refused_before, refused_by, stops_nowhere}
 
 -- ---- their bytes
 
@@ -112,6 +112,20 @@ module _ (bytes : ℕ) (w : Setting) (element : InterfaceType) (at : Spot) (s : 
           omega (arith, spent, range_inside good.1),
         )
     list_lifts (Err f) left h = refused_list f left h
+
+-- a vector of it isn't lifted where its range isn't good
+cond_le : (b : Bool) (x y : ℕ) → x ≤ y → (if b then x else 0) ≤ (if b then y else 0)
+cond_le true x y h = h
+cond_le false x y h = omega arith
+
+pub range_refused : {A B : Type 0} (Fit : Instance → InterfaceType → Type 0) (bytes : ℕ) (R : Reading A) (f : B → List A) (w : Setting) (at : Spot) (s : Shape) (before after : LedgerState) (fuel left : ℕ) (e : Fault)
+    → Refused (wasm_list_reading {A = A} Fit bytes) w at s before fuel e after left → Refused (read_as f (list_reading bytes R)) w at s before fuel e after left
+range_refused {A} Fit bytes R f w at s before after fuel left e r =
+    let whole = read_as f (list_reading bytes R) in
+    refused_by (wasm_list_reading {A = A} Fit bytes) whole w at at s s before before after fuel fuel left e
+    (named_by at (ListPointerFault w.memory (element_shape s) at) (whole.faults w at s) (λ k x h. inl h))
+    (λ low. omega (arith, low, cond_le (is_inside w.memory (pointer_in w.memory at) (length_in w.memory at * size w.memory.wide (element_shape s))) (length_in w.memory at * bytes)
+    (length_in w.memory at * bytes + (if pointer_in w.memory at % align w.memory.wide (element_shape s) == 0 then each_reach R w (element_shape s) (stored (pointer_in w.memory at)) (length_in w.memory at) else 0)) (omega arith))) (λ all. refl) (stops_nowhere before after (whole.steps w at s) (stop_of e)) (omega arith) r
 
 -- ---- a text that is owned
 

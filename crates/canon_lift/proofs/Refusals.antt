@@ -37,6 +37,11 @@ pub stops_after : (l n : LedgerState) (ps : List (List Part)) (why : Option Reso
 stops_after l n ps why none (hs, took) = subst (λ (z : Option ResourceFault). LeavesStop z l ps n) (sym none)
     (subst (λ (qs : List (List Part)). LeavesStop None l qs n) (append-nil ps) (leaves_stop_then None l n n ps [] hs took refl))
 
+-- where there were none
+pub stops_nowhere : (l n : LedgerState) (ps : List (List Part)) (why : Option ResourceFault) → LeavesStop why l [] n → LeavesStop why l ps n
+stops_nowhere l n ps None h = stops_at_once l n ps h
+stops_nowhere l n ps (Some e) h = absurd h
+
 -- in the first part, or in the second
 pub stops_first : (why : Option ResourceFault) (l n : LedgerState) (ps qs : List (List Part)) → LeavesStop why l ps n → LeavesStop why l (ps ++ qs) n
 stops_first why l n ps qs h = leaves_stop_first why l n ps qs h

@@ -11,13 +11,16 @@ use Rattle.canon_model.specs.Memory.{Memory}
 use Rattle.canon_model.specs.Reach as reach
 use Rattle.canon_model.specs.Reach.{Kind}
 use Rattle.canon_model.specs.Shape.{Shape}
-use Rattle.canon_types.specs.Table.{shape_of}
+use Rattle.canon_types.specs.Instance.{Instance}
+use Rattle.canon_types.specs.Table.{Knows, shape_of}
 use Rattle.canon_types.specs.declared.types.InterfaceType.{InterfaceType}
 use Rattle.canon_lift.specs.Items.{items_reading, vec_reading}
+use Rattle.canon_lift.specs.Ranges.{HasItems, IsListFrom}
 use Rattle.canon_lift.specs.Reading.{AreTaken, Lifts, NamedBy, Reading, Refused, Setting, setting_in, stop_of}
-use Rattle.canon_lift.specs.Readings.{EachFault, EachReads, each_reach, each_steps, item_spot}
+use Rattle.canon_lift.specs.Readings.{EachFault, EachReads, IsGoodList, each_reach, each_steps, fixed_element, fixed_reading, item_spot, read_as}
 use Rattle.canon_lift.specs.Spots.{Spot, behind, flat_in, stored}
 use Rattle.canon_lift.specs.Taken.{each_counted, each_taken}
+use Rattle.canon_lift.specs.declared.wasm_list.WasmList.{WasmList}
 use Rattle.canon_lift.proofs.Refusals.{named_by, refused_by, stops_after, stops_first, stops_second}
 use Rattle.canon_lift.proofs.Settings.{same_setting, same_shape}
 
@@ -102,6 +105,14 @@ module _ {A : Type 0} (R : Reading A) (w : Setting) (s : Shape) where
     falls = omega (arith, spent, cost);
   }
 
+-- ---- as a list of fixed length
+
+pub fixed_refused : {A B : Type 0} (n : ℕ) (R : Reading A) (f : B → List A) (w : Setting) (at : Spot) (s u : Shape) (before after : LedgerState) (fuel left : ℕ) (e : Fault) → u ≡ fixed_element s
+    → Refused (vec_reading n R) w at u before fuel e after left → Refused (read_as f (fixed_reading n R)) w at s before fuel e after left
+fixed_refused n R f w at s u before after fuel left e is r =
+    let h = subst (λ (z : Shape). Refused (vec_reading n R) w at z before fuel e after left) is r in
+    record { cause = h.cause; memory = h.memory; stops = h.stops; falls = h.falls }
+
 -- ---- items of a list in memory
 
 module _ {D G A : Type 0} (R : Reading A) (core : Parts D G) (o : ℕ) (type : InterfaceType) where
@@ -119,3 +130,21 @@ module _ {D G A : Type 0} (R : Reading A) (core : Parts D G) (o : ℕ) (type : I
       subst (λ x. Lifts R w x s before fuel r after left) there
       (subst (λ (z : Shape). Lifts R w (stored at) z before fuel r after left) (same_shape core now same type)
       (subst (λ (v : Setting). Lifts R v (stored at) (shape_of (types_of now) type) before fuel r after left) (same_setting core now same o o2 eo) h))
+
+-- ---- a row that was made of its parts
+
+module _ {A : Type 0} (w : Setting) (element : InterfaceType) (p n : ℕ) (v : WasmList A) (is : IsListFrom w element p n v) where
+  pub row_items : (Fit : Instance → InterfaceType → Type 0) → Knows w.types.types element → Fit w.types element → IsGoodList w.memory (shape_of w.types.types element) p n → HasItems Fit w v
+  row_items Fit known fits good = record {
+    known = subst (λ t. Knows w.types.types t) (sym is.element_is) known;
+    fits = subst (λ t. Fit w.types t) (sym is.element_is) fits;
+    good = subst (λ t. IsGoodList w.memory (shape_of w.types.types t) v.pointer v.count) (sym is.element_is)
+        (subst (λ k. IsGoodList w.memory (shape_of w.types.types element) k v.count) (sym is.pointer) (subst (λ k. IsGoodList w.memory (shape_of w.types.types element) p k) (sym is.count) good));
+  }
+
+  pub row_refused : (R : Reading A) (before after : LedgerState) (fuel left : ℕ) (e : Fault) → Refused (vec_reading v.count R) w (stored v.pointer) (shape_of w.types.types v.element) before fuel e after left
+      → Refused (vec_reading n R) w (stored p) (shape_of w.types.types element) before fuel e after left
+  row_refused R before after fuel left e r =
+      subst (λ k. Refused (vec_reading k R) w (stored p) (shape_of w.types.types element) before fuel e after left) is.count
+      (subst (λ k. Refused (vec_reading v.count R) w (stored k) (shape_of w.types.types element) before fuel e after left) is.pointer
+      (subst (λ t. Refused (vec_reading v.count R) w (stored v.pointer) (shape_of w.types.types t) before fuel e after left) is.element_is r))

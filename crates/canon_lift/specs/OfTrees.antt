@@ -267,11 +267,11 @@ module _ (m : Memory) (enc : Encoding) (e : ℕ) where
   past_last (flat_in ws j) None n d t h = absurd h
   past_last (flat_in ws j) (Some s) n d t h = absurd h
 
-second_shape : (o : Option Shape) (cs : Cases) → payload_shape (case_for o cs) 1 ≡ payload_shape cs 0
+pub second_shape : (o : Option Shape) (cs : Cases) → payload_shape (case_for o cs) 1 ≡ payload_shape cs 0
 second_shape None cs = refl
 second_shape (Some s) cs = refl
 
-two_cases : (o v : Option Shape) → case_count (case_for o (case_for v no_cases)) ≡ 2
+pub two_cases : (o v : Option Shape) → case_count (case_for o (case_for v no_cases)) ≡ 2
 two_cases None None = refl
 two_cases None (Some s) = refl
 two_cases (Some s) None = refl
