@@ -5,3 +5,4 @@ pub mod ScalarBytes
 pub mod Pairs
 pub mod Lookups
 pub mod CaseLifting
+pub mod MemberSteps

@@ -3,6 +3,7 @@ pub mod Reading
 pub mod Readings
 pub mod Items
 pub mod Rests
+pub mod Firsts
 pub mod Taken
 pub mod OfTrees
 pub mod RowsOfTrees

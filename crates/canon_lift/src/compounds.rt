@@ -25,9 +25,9 @@ impl<T: Lift> Lift for Option<T> {
         None
     }
 
-    fn linear_lift_from_memory<D, G>(
+    fn linear_lift_from_memory<U, G>(
         alloc: Global,
-        cx: &mut LiftContext<'_, D, G>,
+        cx: &mut LiftContext<'_, U, G>,
         ty: InterfaceType,
         at: u64,
     ) -> Result<Option<T>, Fault> {
@@ -54,9 +54,9 @@ impl<T: Lift> Lift for Option<T> {
 }
 
 /// Lifts the payload of a case at an address: the unit stands for none.
-fn lift_payload<T: Lift, D, G>(
+fn lift_payload<T: Lift, U, G>(
     alloc: Global,
-    cx: &mut LiftContext<'_, D, G>,
+    cx: &mut LiftContext<'_, U, G>,
     ty: Option<InterfaceType>,
     at: u64,
 ) -> Result<T, Fault>
@@ -86,9 +86,9 @@ impl<T: Lift, E: Lift> Lift for Result<T, E> {
         None
     }
 
-    fn linear_lift_from_memory<D, G>(
+    fn linear_lift_from_memory<U, G>(
         alloc: Global,
-        cx: &mut LiftContext<'_, D, G>,
+        cx: &mut LiftContext<'_, U, G>,
         ty: InterfaceType,
         at: u64,
     ) -> Result<Result<T, E>, Fault> {
@@ -124,9 +124,9 @@ impl<T: Lift> Lift for Box<T> {
         None
     }
 
-    fn linear_lift_from_memory<D, G>(
+    fn linear_lift_from_memory<U, G>(
         alloc: Global,
-        cx: &mut LiftContext<'_, D, G>,
+        cx: &mut LiftContext<'_, U, G>,
         ty: InterfaceType,
         at: u64,
     ) -> Result<Box<T>, Fault> {

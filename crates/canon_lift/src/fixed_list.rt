@@ -22,9 +22,9 @@ impl<T: Lift, const N: usize> Lift for FixedList<T, N> {
         None
     }
 
-    fn linear_lift_from_memory<D, G>(
+    fn linear_lift_from_memory<U, G>(
         alloc: Global,
-        cx: &mut LiftContext<'_, D, G>,
+        cx: &mut LiftContext<'_, U, G>,
         ty: InterfaceType,
         at: u64,
     ) -> Result<FixedList<T, N>, Fault> {

@@ -8,7 +8,7 @@ mod lists;
 mod members;
 mod scalars;
 mod texts;
-// mod tuples;
+mod tuples;
 mod wasm_list;
 mod wasm_str;
 

@@ -30,9 +30,9 @@ pub trait Lift: ComponentType {
     /// Lifts the value of a type at an address, where it is aligned and inside memory (CanonicalABI.md, "load"), and takes what it
     /// costs from the fuel. Handles go through the ledger, in order. Answers the fault of a pointer, a text, a char or a discriminant
     /// that was reached, `Resource` where the ledger refused a handle, or `HostcallFuelExhausted`; the fuel is then what was left.
-    fn linear_lift_from_memory<D, G>(
+    fn linear_lift_from_memory<U, G>(
         alloc: Global,
-        cx: &mut LiftContext<'_, D, G>,
+        cx: &mut LiftContext<'_, U, G>,
         ty: InterfaceType,
         at: u64,
     ) -> Result<Self, Fault>
@@ -48,9 +48,9 @@ pub trait Lift: ComponentType {
         ensures same_options { cx.new.options ≡ cx.old.options };
 
     /// Lifts the items of a list.
-    fn linear_lift_list_from_memory<D, G>(
+    fn linear_lift_list_from_memory<U, G>(
         alloc: Global,
-        cx: &mut LiftContext<'_, D, G>,
+        cx: &mut LiftContext<'_, U, G>,
         list: &WasmList<Self>,
     ) -> Result<Vec<Self>, Fault>
     where
@@ -79,9 +79,9 @@ pub trait Lift: ComponentType {
     }
 
     /// Lifts the items of a list to the end of a vector, which a refusal leaves as it was.
-    fn linear_lift_into_from_memory<D, G>(
+    fn linear_lift_into_from_memory<U, G>(
         alloc: Global,
-        cx: &mut LiftContext<'_, D, G>,
+        cx: &mut LiftContext<'_, U, G>,
         list: &WasmList<Self>,
         dst: &mut Vec<Self>,
     ) -> Result<(), Fault>

@@ -21,9 +21,9 @@ impl<T: Lift> Lift for Vec<T> {
         None
     }
 
-    fn linear_lift_from_memory<D, G>(
+    fn linear_lift_from_memory<U, G>(
         alloc: Global,
-        cx: &mut LiftContext<'_, D, G>,
+        cx: &mut LiftContext<'_, U, G>,
         ty: InterfaceType,
         at: u64,
     ) -> Result<Vec<T>, Fault> {

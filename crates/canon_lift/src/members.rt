@@ -35,9 +35,9 @@ pub(crate) trait LiftMembers: Drop {
     ghost rest: { RestReading Self };
 
     /// Lifts the members of a tuple from member `k` on, of which the one before ends at an offset.
-    fn lift_members<D, G>(
+    fn lift_members<U, G>(
         alloc: Global,
-        cx: &mut LiftContext<'_, D, G>,
+        cx: &mut LiftContext<'_, U, G>,
         i: TypeTupleIndex,
         k: usize,
         at: u64,
@@ -61,9 +61,9 @@ impl LiftMembers for () {
 
     ghost rest = { none_reading };
 
-    fn lift_members<D, G>(
+    fn lift_members<U, G>(
         _alloc: Global,
-        _cx: &mut LiftContext<'_, D, G>,
+        _cx: &mut LiftContext<'_, U, G>,
         _i: TypeTupleIndex,
         _k: usize,
         _at: u64,
@@ -78,9 +78,9 @@ impl<A: Lift, R: LiftMembers> LiftMembers for First<A, R> {
 
     ghost rest = { first_reading (λ m. m.first) (λ m. m.rest) A.reading R.rest };
 
-    fn lift_members<D, G>(
+    fn lift_members<U, G>(
         alloc: Global,
-        cx: &mut LiftContext<'_, D, G>,
+        cx: &mut LiftContext<'_, U, G>,
         i: TypeTupleIndex,
         k: usize,
         at: u64,

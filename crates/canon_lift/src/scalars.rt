@@ -22,9 +22,9 @@ impl Lift for i8 {
         None
     }
 
-    fn linear_lift_from_memory<D, G>(
+    fn linear_lift_from_memory<U, G>(
         _alloc: Global,
-        cx: &mut LiftContext<'_, D, G>,
+        cx: &mut LiftContext<'_, U, G>,
         _ty: InterfaceType,
         at: u64,
     ) -> Result<i8, Fault> {
@@ -43,9 +43,9 @@ impl Lift for u8 {
         None
     }
 
-    fn linear_lift_from_memory<D, G>(
+    fn linear_lift_from_memory<U, G>(
         _alloc: Global,
-        cx: &mut LiftContext<'_, D, G>,
+        cx: &mut LiftContext<'_, U, G>,
         _ty: InterfaceType,
         at: u64,
     ) -> Result<u8, Fault> {
@@ -64,9 +64,9 @@ impl Lift for i16 {
         None
     }
 
-    fn linear_lift_from_memory<D, G>(
+    fn linear_lift_from_memory<U, G>(
         _alloc: Global,
-        cx: &mut LiftContext<'_, D, G>,
+        cx: &mut LiftContext<'_, U, G>,
         _ty: InterfaceType,
         at: u64,
     ) -> Result<i16, Fault> {
@@ -85,9 +85,9 @@ impl Lift for u16 {
         None
     }
 
-    fn linear_lift_from_memory<D, G>(
+    fn linear_lift_from_memory<U, G>(
         _alloc: Global,
-        cx: &mut LiftContext<'_, D, G>,
+        cx: &mut LiftContext<'_, U, G>,
         _ty: InterfaceType,
         at: u64,
     ) -> Result<u16, Fault> {
@@ -106,9 +106,9 @@ impl Lift for i32 {
         None
     }
 
-    fn linear_lift_from_memory<D, G>(
+    fn linear_lift_from_memory<U, G>(
         _alloc: Global,
-        cx: &mut LiftContext<'_, D, G>,
+        cx: &mut LiftContext<'_, U, G>,
         _ty: InterfaceType,
         at: u64,
     ) -> Result<i32, Fault> {
@@ -127,9 +127,9 @@ impl Lift for u32 {
         None
     }
 
-    fn linear_lift_from_memory<D, G>(
+    fn linear_lift_from_memory<U, G>(
         _alloc: Global,
-        cx: &mut LiftContext<'_, D, G>,
+        cx: &mut LiftContext<'_, U, G>,
         _ty: InterfaceType,
         at: u64,
     ) -> Result<u32, Fault> {
@@ -148,9 +148,9 @@ impl Lift for i64 {
         None
     }
 
-    fn linear_lift_from_memory<D, G>(
+    fn linear_lift_from_memory<U, G>(
         _alloc: Global,
-        cx: &mut LiftContext<'_, D, G>,
+        cx: &mut LiftContext<'_, U, G>,
         _ty: InterfaceType,
         at: u64,
     ) -> Result<i64, Fault> {
@@ -169,9 +169,9 @@ impl Lift for u64 {
         None
     }
 
-    fn linear_lift_from_memory<D, G>(
+    fn linear_lift_from_memory<U, G>(
         _alloc: Global,
-        cx: &mut LiftContext<'_, D, G>,
+        cx: &mut LiftContext<'_, U, G>,
         _ty: InterfaceType,
         at: u64,
     ) -> Result<u64, Fault> {
@@ -190,9 +190,9 @@ impl Lift for Float32Bits {
         None
     }
 
-    fn linear_lift_from_memory<D, G>(
+    fn linear_lift_from_memory<U, G>(
         _alloc: Global,
-        cx: &mut LiftContext<'_, D, G>,
+        cx: &mut LiftContext<'_, U, G>,
         _ty: InterfaceType,
         at: u64,
     ) -> Result<Float32Bits, Fault> {
@@ -211,9 +211,9 @@ impl Lift for Float64Bits {
         None
     }
 
-    fn linear_lift_from_memory<D, G>(
+    fn linear_lift_from_memory<U, G>(
         _alloc: Global,
-        cx: &mut LiftContext<'_, D, G>,
+        cx: &mut LiftContext<'_, U, G>,
         _ty: InterfaceType,
         at: u64,
     ) -> Result<Float64Bits, Fault> {
@@ -232,9 +232,9 @@ impl Lift for bool {
         None
     }
 
-    fn linear_lift_from_memory<D, G>(
+    fn linear_lift_from_memory<U, G>(
         _alloc: Global,
-        cx: &mut LiftContext<'_, D, G>,
+        cx: &mut LiftContext<'_, U, G>,
         _ty: InterfaceType,
         at: u64,
     ) -> Result<bool, Fault> {
@@ -253,9 +253,9 @@ impl Lift for char {
         None
     }
 
-    fn linear_lift_from_memory<D, G>(
+    fn linear_lift_from_memory<U, G>(
         _alloc: Global,
-        cx: &mut LiftContext<'_, D, G>,
+        cx: &mut LiftContext<'_, U, G>,
         _ty: InterfaceType,
         at: u64,
     ) -> Result<char, Fault> {

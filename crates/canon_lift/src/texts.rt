@@ -19,9 +19,9 @@ use canon_types::InterfaceType;
 use std::alloc::Global;
 
 /// The text of this length at this pointer, which stands at `at` (CanonicalABI.md, "load_string_from_range").
-fn text_of<D, G>(
+fn text_of<U, G>(
     alloc: Global,
-    cx: &mut LiftContext<'_, D, G>,
+    cx: &mut LiftContext<'_, U, G>,
     pointer: u64,
     length: u64,
     at: At,
@@ -55,9 +55,9 @@ impl Lift for String {
         None
     }
 
-    fn linear_lift_from_memory<D, G>(
+    fn linear_lift_from_memory<U, G>(
         alloc: Global,
-        cx: &mut LiftContext<'_, D, G>,
+        cx: &mut LiftContext<'_, U, G>,
         _ty: InterfaceType,
         at: u64,
     ) -> Result<String, Fault> {

@@ -31,8 +31,8 @@ pub struct WasmList<T> {
 
 /// The list of so many items of a type at a pointer that stands at `at`: it is tested that they end inside memory, then they are
 /// charged, and then the alignment is tested.
-pub(crate) fn list_from<T: ComponentType, D, G>(
-    cx: &mut LiftContext<'_, D, G>,
+pub(crate) fn list_from<T: ComponentType, U, G>(
+    cx: &mut LiftContext<'_, U, G>,
     element: InterfaceType,
     pointer: u64,
     count: u64,
@@ -60,8 +60,8 @@ pub(crate) fn list_from<T: ComponentType, D, G>(
 
 impl<T> WasmList<T> {
     /// So many items of a type that stand in a row from an address on.
-    pub(crate) fn row<D, G>(
-        cx: &LiftContext<'_, D, G>,
+    pub(crate) fn row<U, G>(
+        cx: &LiftContext<'_, U, G>,
         element: InterfaceType,
         pointer: u64,
         count: u64,
@@ -131,9 +131,9 @@ impl<T: ComponentType> Lift for WasmList<T> {
         None
     }
 
-    fn linear_lift_from_memory<D, G>(
+    fn linear_lift_from_memory<U, G>(
         _alloc: Global,
-        cx: &mut LiftContext<'_, D, G>,
+        cx: &mut LiftContext<'_, U, G>,
         ty: InterfaceType,
         at: u64,
     ) -> Result<WasmList<T>, Fault> {

@@ -45,8 +45,8 @@ pub(crate) fn text_range(encoding: StringEncoding, length: u64) -> (u64, u64)
 
 /// The text of this length at a pointer that stands at `at`: it is tested that the pointer is aligned and that the text ends inside
 /// memory, then its bytes are charged.
-fn text_from<D, G>(
-    cx: &mut LiftContext<'_, D, G>,
+fn text_from<U, G>(
+    cx: &mut LiftContext<'_, U, G>,
     pointer: u64,
     length: u64,
     at: At,
@@ -127,9 +127,9 @@ impl Lift for WasmStr {
         None
     }
 
-    fn linear_lift_from_memory<D, G>(
+    fn linear_lift_from_memory<U, G>(
         _alloc: Global,
-        cx: &mut LiftContext<'_, D, G>,
+        cx: &mut LiftContext<'_, U, G>,
         _ty: InterfaceType,
         at: u64,
     ) -> Result<WasmStr, Fault> {

@@ -79,7 +79,7 @@ loop-k-preserved g c =
       count = search rules;
       read = subst (λ xs. EachReads R w s p core.ledger xs after.core.now.ledger) (sym c.in-Ok-push.ensures.items) (each_more R w s p core.ledger mid after.core.now.ledger c.loop-k.items.items c.in-Ok.item i.read there);
       spent = omega (arith, i.spent, spent, reach_more R w s c.loop-k.k p);
-      same_core = c.in-Ok.ensures.same_core ∙ ap (λ (z : Parts g.row.D.Denot g.row.G.Denot). record z { ledger = after.core.now.ledger }) i.same_core;
+      same_core = c.in-Ok.ensures.same_core ∙ ap (λ (z : Parts g.row.U.Denot g.row.G.Denot). record z { ledger = after.core.now.ledger }) i.same_core;
       same_reference = c.in-Ok.ensures.same_reference ∙ i.same_reference;
       same_options = c.in-Ok.ensures.same_options ∙ i.same_options;
     }
