@@ -10,7 +10,7 @@ use Rattle.canon_context.specs.declared.fault.At.{At as Place}
 use Rattle.canon_context.specs.declared.fault.Fault.{Fault}
 use Rattle.canon_leaves.specs.Parts.{LeavesStop, Part}
 use Rattle.canon_ledger.specs.Ledger.{LedgerState}
-use Rattle.canon_model.proofs.Layouts.{align-dvd-align, align_to-dvd, alignment, members_alignment, members_end-le}
+use Rattle.canon_model.proofs.Layouts.{align-dvd-align, align_to-dvd, alignment, members_alignment, members_end-le, members_end-le-size}
 use Rattle.canon_model.specs.Laws.{IsAlignment}
 use Rattle.canon_model.specs.Layout.{align, align_to, begins, ends, members_align, members_end, size}
 use Rattle.canon_model.specs.Memory.{Memory}
@@ -21,7 +21,9 @@ use Rattle.canon_types.specs.Instance.{Instance}
 use Rattle.canon_types.specs.Table as table
 use Rattle.canon_types.specs.Table.{Table, members_of, shape_of}
 use Rattle.canon_types.specs.declared.types.InterfaceType.{InterfaceType}
-use Rattle.canon_typed.specs.Types.{AreOf}
+use Rattle.canon_types.specs.declared.types.InterfaceType.TheVariants as ty
+use Rattle.std.specs.Option.{option_map_or}
+use Rattle.canon_typed.specs.Types.{AreOf, IsTupleOf}
 use Rattle.canon_lift.specs.Reading.{AreTaken, Lifts, NamedBy, Reading, Refused, Setting, setting_in, stop_of}
 use Rattle.canon_lift.specs.Readings.{RestReading, first_reading}
 use Rattle.canon_lift.specs.Rests.{rest_reading}
@@ -163,3 +165,21 @@ module _ {D G B : Type 0} (S : RestReading B) (core now : Parts D G) (same : now
   others_here before after fuel left r h =
       subst (λ n. Lifts (rest_reading S (stored_from at end) (left_of core)) (setting_in core n) (stored at) (product of_places (left_of core)) before fuel r after left) eo
       (subst (λ (z : Parts D G). Lifts (rest_reading S (stored_from at end) (left_of z)) (setting_in z o2) (stored at) (product of_places (left_of z)) before fuel r after left) same h)
+
+-- ---- the whole tuple
+
+tuple_shape : (all : List (Instance → InterfaceType → Type 0)) (j : Instance) (i : ℕ) (type : InterfaceType) → type ≡ ty.Tuple i → IsTupleOf all j type → shape_of j.types type ≡ product of_places (members_of j.types (table.types_of j.types i))
+tuple_shape all j i type is f =
+    let (types, d, fits) = subst (λ x. IsTupleOf all j x) is f in
+    let these : table.types_of j.types i ≡ types = ap (λ x. option_map_or table.tuple_types x []) d.definition in
+    ap (shape_of j.types) is ∙ d.shape ∙ ap (λ xs. product of_places (members_of j.types xs)) (sym these)
+
+module _ (all : List (Instance → InterfaceType → Type 0)) (j : Instance) (i : ℕ) (type : InterfaceType) (is : type ≡ ty.Tuple i) (f : IsTupleOf all j type) (at : ℕ) where
+  pub tuple_aligned : at % align false (shape_of j.types type) ≡ 0 → at % members_align false (members_of j.types (table.types_of j.types i)) ≡ 0
+  unfolding align
+  tuple_aligned h = subst (λ (z : Shape). at % align false z ≡ 0) (tuple_shape all j i type is f) h
+
+  pub tuple_inside : (memory : List ℕ) → at + size false (shape_of j.types type) ≤ length memory → at + members_end false 0 (members_of j.types (table.types_of j.types i)) ≤ length memory
+  tuple_inside memory h =
+      let whole : at + size false (product of_places (members_of j.types (table.types_of j.types i))) ≤ length memory = subst (λ (z : Shape). at + size false z ≤ length memory) (tuple_shape all j i type is f) h in
+      omega (arith, whole, members_end-le-size false of_places (members_of j.types (table.types_of j.types i)))
