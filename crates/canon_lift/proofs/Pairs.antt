@@ -48,10 +48,7 @@ text_room bytes memory s at is inside same =
 
 -- ---- a list
 
-module _ (bytes : ℕ) (w : Setting) (element : InterfaceType) (at : Spot) (s : Shape) (p n : ℕ) (shape : shape_of w.types.types element ≡ element_shape s) (pointer : p ≡ pointer_in w.memory at) (count : n ≡ length_in w.memory at) where
-  abbrev e : Shape
-  e = shape_of w.types.types element
-
+module _ (bytes : ℕ) (w : Setting) (e : Shape) (at : Spot) (s : Shape) (p n : ℕ) (shape : e ≡ element_shape s) (pointer : p ≡ pointer_in w.memory at) (count : n ≡ length_in w.memory at) where
   -- its items lie there
   there : IsGoodList w.memory e p n → IsGoodList w.memory (element_shape s) (pointer_in w.memory at) (length_in w.memory at)
   there h = subst (λ (z : Shape). IsGoodList w.memory z (pointer_in w.memory at) (length_in w.memory at)) shape
@@ -71,12 +68,11 @@ module _ (bytes : ℕ) (w : Setting) (element : InterfaceType) (at : Spot) (s : 
   not_aligned : ¬ (p % align w.memory.wide e ≡ 0) → ¬ (pointer_in w.memory at % align w.memory.wide (element_shape s) ≡ 0)
   not_aligned wrong h = wrong (subst (λ k. k % align w.memory.wide e ≡ 0) (sym pointer) (subst (λ (z : Shape). pointer_in w.memory at % align w.memory.wide z ≡ 0) (sym shape) h))
 
-  module _ {A : Type 0} (Fit : Instance → InterfaceType → Type 0) (known : Knows w.types.types element) (fits : Fit w.types element) (place : Place) (fuel : ℕ)
-      (named : (F : Kind → reach.At → Type 0) (k : Kind) → F k (at_of at) → NamedBy at F k place) (before after : LedgerState) (kept : after ≡ before) where
+  module _ {A : Type 0} (Fit : Instance → InterfaceType → Type 0) (place : Place) (fuel : ℕ) (named : (F : Kind → reach.At → Type 0) (k : Kind) → F k (at_of at) → NamedBy at F k place) (before after : LedgerState) (kept : after ≡ before) where
     abbrev whole : Reading (WasmList A)
     whole = wasm_list_reading Fit bytes
 
-    refused_list : (f : Fault) (left : ℕ) → ListRefused w e bytes p n place fuel f left → Refused whole w at s before fuel f after left
+    pub refused_list : (f : Fault) (left : ℕ) → ListRefused w e bytes p n place fuel f left → Refused whole w at s before fuel f after left
     refused_list (fault.PointerOutOfBounds x) left (is, wrong, same) =
         refused_before whole w at s before after fuel left (fault.PointerOutOfBounds x)
         (subst (λ y. NamedBy at (whole.faults w at s) out_of_bounds y) (sym is) (named (whole.faults w at s) out_of_bounds (inr (record { kind_is = refl; at_is = refl }, not_inside wrong))))
@@ -89,9 +85,12 @@ module _ (bytes : ℕ) (w : Setting) (element : InterfaceType) (at : Spot) (s : 
         (λ oom. cc) refl kept (omega (arith, same))
     refused_list _ left h = absurd h
 
-    pub list_lifts : (r : Result (WasmList A) Fault) (left : ℕ) → ListTested w e bytes p n place fuel element r left → Lifts (wasm_list_reading {A = A} Fit bytes) w at s before fuel r after left
-    list_lifts (Ok v) left (is, good, spent) =
+    pub list_lifts : (element : InterfaceType) → shape_of w.types.types element ≡ e → Knows w.types.types element → Fit w.types element → (r : Result (WasmList A) Fault) (left : ℕ) → ListTested w e bytes p n place fuel element r left
+        → Lifts (wasm_list_reading {A = A} Fit bytes) w at s before fuel r after left
+    list_lifts element its known fits (Ok v) left (is, good, spent) =
         let same : v.element ≡ element = is.element_is in
+        let there : IsGoodList w.memory (shape_of w.types.types element) v.pointer v.count =
+            subst (λ (z : Shape). IsGoodList w.memory z v.pointer v.count) (sym its) (subst (λ k. IsGoodList w.memory e k v.count) (sym is.pointer) (subst (λ k. IsGoodList w.memory e p k) (sym is.count) good)) in
         (
           (
             record {
@@ -99,19 +98,18 @@ module _ (bytes : ℕ) (w : Setting) (element : InterfaceType) (at : Spot) (s : 
               count = is.count ∙ count;
               options = is.options;
               store = is.store;
-              shape = ap (λ t. shape_of w.types.types t) same ∙ shape;
+              shape = ap (λ t. shape_of w.types.types t) same ∙ its ∙ shape;
               items = record {
                   known = subst (λ t. Knows w.types.types t) (sym same) known;
                   fits = subst (λ t. Fit w.types t) (sym same) fits;
-                  good = subst (λ t. IsGoodList w.memory (shape_of w.types.types t) v.pointer v.count) (sym same)
-                      (subst (λ k. IsGoodList w.memory e k v.count) (sym is.pointer) (subst (λ k. IsGoodList w.memory e p k) (sym is.count) good));
+                  good = subst (λ t. IsGoodList w.memory (shape_of w.types.types t) v.pointer v.count) (sym same) there;
               };
             },
             kept,
           ),
           omega (arith, spent, range_inside good.1),
         )
-    list_lifts (Err f) left h = refused_list f left h
+    list_lifts element its known fits (Err f) left h = refused_list f left h
 
 -- a vector of it isn't lifted where its range isn't good
 cond_le : (b : Bool) (x y : ℕ) → x ≤ y → (if b then x else 0) ≤ (if b then y else 0)

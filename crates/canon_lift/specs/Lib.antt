@@ -8,3 +8,4 @@ pub mod Taken
 pub mod OfTrees
 pub mod RowsOfTrees
 pub mod Ranges
+pub mod MapsOfTrees

@@ -31,6 +31,20 @@ pub record IsOfTrees {A : Type 0} (Fit : Instance → InterfaceType → Type 0) 
   pub reach : (w : Setting) (at : Spot) (type : InterfaceType) (t : Tree) → Fit w.types type → Represents w.memory w.encoding at (shape_of w.types.types type) t → R.reach w at (shape_of w.types.types type) ≡ price t
   pub faults : (w : Setting) (at : Spot) (type : InterfaceType) (k : Kind) (x : At) → Fit w.types type → R.faults w at (shape_of w.types.types type) k x → Faulty w.memory w.encoding at (shape_of w.types.types type) k x
 
+-- The same over one shape.
+pub record IsOfTreesAt {A : Type 0} (w : Setting) (s : Shape) (R : Reading A) (Lifts : A → Tree → Type 0) (price : Tree → ℕ) : Type 0 where
+  pub reads : (at : Spot) (before after : LedgerState) (v : A) → R.reads w at s before v after → (t : Tree) × Represents w.memory w.encoding at s t × Lifts v t
+  pub reach : (at : Spot) (t : Tree) → Represents w.memory w.encoding at s t → R.reach w at s ≡ price t
+  pub faults : (at : Spot) (k : Kind) (x : At) → R.faults w at s k x → Faulty w.memory w.encoding at s k x
+
+pub at_type : {A : Type 0} (Fit : Instance → InterfaceType → Type 0) (R : Reading A) (Lifts : A → Tree → Type 0) (price : Tree → ℕ) → IsOfTrees Fit R Lifts price → (w : Setting) (type : InterfaceType) → Fit w.types type
+    → IsOfTreesAt w (shape_of w.types.types type) R Lifts price
+at_type Fit R Lifts price law w type f = record {
+  reads = λ at before after v h. law.reads w at type before after v f h;
+  reach = λ at t rep. law.reach w at type t f rep;
+  faults = λ at k x h. law.faults w at type k x f h;
+}
+
 -- nothing is said of a value that has no tree
 pub untrue : {A : Type 0} → IsTrue false → A
 untrue h = absurd (subst (λ b. elim b as (λ x. Type 0) [ true ↦ ⊥ | false ↦ ⊤ ]) h tt)

@@ -41,6 +41,10 @@ module _ (w : Setting) (s : Shape) (bytes p n : ℕ) (at : Place) (fuel : ℕ) w
   ListTested element (Ok v) left = IsListFrom w element p n v × IsGoodList w.memory s p n × (fuel ≡ left + n * bytes)
   ListTested element (Err e) left = ListRefused e left
 
+  abbrev pub RangeTested : Result (Unit {0}) Fault → ℕ → Type 0
+  RangeTested (Ok v) left = IsGoodList w.memory s p n × (fuel ≡ left + n * bytes)
+  RangeTested (Err e) left = ListRefused e left
+
 -- the items of the list can be lifted: their type is known and fits, and they are aligned and inside memory
 pub record HasItems {A : Type 0} (Fit : Instance → InterfaceType → Type 0) (w : Setting) (v : WasmList A) : Type 0 where
   pub known : Knows w.types.types v.element

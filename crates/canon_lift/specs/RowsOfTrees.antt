@@ -7,7 +7,7 @@ use Rattle.canon_model.specs.Layout.{align, flat, size}
 use Rattle.canon_model.specs.Memory.{Inside, Memory}
 use Rattle.canon_model.specs.Reach.{At, FlatFault, Kind, MemberFault, MemberFlatFault, SomeElement, StoredFault, is_inside}
 use Rattle.canon_model.specs.Rep.{IsList, IsRow, MembersStored, Stored}
-use Rattle.canon_model.specs.Shape.{Members, Shape, fixed, list_of, member, no_members, of_places, product}
+use Rattle.canon_model.specs.Shape.{ListKind, Members, Shape, fixed, list, member, no_members, of_items, of_places, product}
 use Rattle.canon_model.specs.Text.{Encoding}
 use Rattle.canon_model.specs.Tree.{EachAt, Tree, Trees, items, no_trees, parts, sum_of, tree, tree_count, trees_of}
 use Rattle.canon_types.specs.Instance.{Instance}
@@ -17,7 +17,7 @@ use Rattle.canon_types.specs.declared.types.InterfaceType.TheVariants as ty
 use Rattle.canon_typed.specs.Charges.{each_cost, list_cost, product_cost, row_cost}
 use Rattle.canon_typed.specs.Meaning.{EachMeans, FirstAnd, ListMeans, NoTrees, ProductMeans, RowMeans}
 use Rattle.canon_typed.specs.Types.{AreOf, IsFixedOf, IsListOf, IsTupleOf}
-use Rattle.canon_lift.specs.OfTrees.{IsOfTrees, untrue}
+use Rattle.canon_lift.specs.OfTrees.{IsOfTrees, IsOfTreesAt, at_type, untrue}
 use Rattle.canon_lift.specs.Reading.{Reading, Setting}
 use Rattle.canon_lift.specs.Readings.{EachFault, EachReads, ListReads, RestReading, each_reach, first_reading, fixed_reading, list_reading, none_reading, product_reading}
 use Rattle.canon_lift.specs.Spots.{Faulty, HasRoom, Represents, Rest, Spot, behind, first_spot, flat_from, flat_in, length_in, members_in, others, pointer_in, stored, stored_from}
@@ -45,15 +45,12 @@ module _ (m : Memory) (enc : Encoding) (s : Shape) where
   first_of_each (stored a) t ts h = h
   first_of_each (flat_in ws i) t ts h = h
 
-module _ {A : Type 0} (Fit : Instance → InterfaceType → Type 0) (R : Reading A) (Lifts : A → Tree → Type 0) (price : Tree → ℕ) (law : IsOfTrees Fit R Lifts price) (w : Setting) (type : InterfaceType) (f : Fit w.types type) where
-  abbrev s : Shape
-  s = shape_of w.types.types type
-
+module _ {A : Type 0} (R : Reading A) (Lifts : A → Tree → Type 0) (price : Tree → ℕ) (w : Setting) (s : Shape) (law : IsOfTreesAt w s R Lifts price) where
   pub each_lifts : (at : Spot) (before after : LedgerState) (xs : List A) → EachReads R w s at before xs after
       → (ts : Trees) × EachIn w.memory w.encoding s at ts × (tree_count ts ≡ length xs) × EachMeans Lifts xs ts
   each_lifts at before after [] h = (no_trees, each_none w.memory w.encoding s at, refl, refl)
   each_lifts at before after (x ∷ xs) (mid, first, rest) =
-      let (t, rep, lifts) = law.reads w at type before mid x f first in
+      let (t, rep, lifts) = law.reads at before mid x first in
       let (ts, each, count, have) = each_lifts (behind w.memory s at) mid after xs rest in
       (tree t ts, each_first w.memory w.encoding s at t ts rep each, ap suc count, (t, ts, refl, lifts, have))
 
@@ -61,78 +58,80 @@ module _ {A : Type 0} (Fit : Instance → InterfaceType → Type 0) (R : Reading
   each_priced at no_trees h = refl
   each_priced at (tree t ts) h =
       let (rep, rest) = first_of_each w.memory w.encoding s at t ts h in
-      ap₂ ◌+◌ (law.reach w at type t f rep) (each_priced (behind w.memory s at) ts rest)
+      ap₂ ◌+◌ (law.reach at t rep) (each_priced (behind w.memory s at) ts rest)
 
   pub some_faulty : (at : Spot) (n : ℕ) (k : Kind) (x : At) → EachFault R w s at n k x → SomeFaulty w.memory w.encoding s at n k x
-  some_faulty (stored a) n k x (i, few, h) = (i, few, law.faults w (stored (a + i * size w.memory.wide s)) type k x f h)
-  some_faulty (flat_in ws j) n k x (i, few, h) = (i, few, law.faults w (flat_in ws (j + i * flat s)) type k x f h)
+  some_faulty (stored a) n k x (i, few, h) = (i, few, law.faults (stored (a + i * size w.memory.wide s)) k x h)
+  some_faulty (flat_in ws j) n k x (i, few, h) = (i, few, law.faults (flat_in ws (j + i * flat s)) k x h)
 
 -- ---- lists
 
-module _ (m : Memory) (enc : Encoding) (s : Shape) where
-  list_represents : (at : Spot) (t : Tree) → HasRoom m at (list_of s) → IsList (Inside m) false enc m (λ b u. Stored (Inside m) false enc m s b u) s (pointer_in m at) (length_in m at) t → Represents m enc at (list_of s) t
+module _ (m : Memory) (enc : Encoding) (l : ListKind) (s : Shape) where
+  list_represents : (at : Spot) (t : Tree) → HasRoom m at (list l s) → IsList (Inside m) false enc m (λ b u. Stored (Inside m) false enc m s b u) s (pointer_in m at) (length_in m at) t → Represents m enc at (list l s) t
   unfolding size
   list_represents (stored a) t room h = (room, h)
   list_represents (flat_in ws i) t room h = (h, λ g. untrue g)
 
-  represented_list : (at : Spot) (t : Tree) → Represents m enc at (list_of s) t → IsList (Inside m) false enc m (λ b u. Stored (Inside m) false enc m s b u) s (pointer_in m at) (length_in m at) t
+  represented_list : (at : Spot) (t : Tree) → Represents m enc at (list l s) t → IsList (Inside m) false enc m (λ b u. Stored (Inside m) false enc m s b u) s (pointer_in m at) (length_in m at) t
   represented_list (stored a) t h = h.1
   represented_list (flat_in ws i) t h = h.0
 
-module _ {A : Type 0} (bytes : ℕ) (Fit : Instance → InterfaceType → Type 0) (R : Reading A) (Lifts : A → Tree → Type 0) (price : Tree → ℕ) (law : IsOfTrees Fit R Lifts price) where
+-- a list or a map, by its elements
+module _ {A : Type 0} (bytes : ℕ) (l : ListKind) (R : Reading A) (Lifts : A → Tree → Type 0) (price : Tree → ℕ) (w : Setting) (s : Shape) (law : IsOfTreesAt w s R Lifts price) where
   abbrev whole : Reading (List A)
   whole = list_reading bytes R
 
-  list_lifts : (w : Setting) (at : Spot) (type : InterfaceType) (f : Fit w.types type) (before after : LedgerState) (xs : List A) → ListReads bytes R w at (list_of (shape_of w.types.types type)) before xs after
-      → (t : Tree) × Represents w.memory w.encoding at (list_of (shape_of w.types.types type)) t × ListMeans Lifts xs t
-  list_lifts w at type f before after xs (room, (aligned, inside), count, each) =
-      let (ts, there, same, have) = each_lifts Fit R Lifts price law w type f (stored (pointer_in w.memory at)) before after xs each in
+  pub list_lifts : (at : Spot) (before after : LedgerState) (xs : List A) → ListReads bytes R w at (list l s) before xs after → (t : Tree) × Represents w.memory w.encoding at (list l s) t × ListMeans Lifts xs t
+  list_lifts at before after xs (room, (aligned, inside), count, each) =
+      let (ts, there, same, have) = each_lifts R Lifts price w s law (stored (pointer_in w.memory at)) before after xs each in
       (
         items ts,
-        list_represents w.memory w.encoding (shape_of w.types.types type) at (items ts) room
+        list_represents w.memory w.encoding l s at (items ts) room
             (record { trees = ts; is = refl; count = same ∙ count; aligned = aligned; inside = inside; each = there }),
         (ts, refl, have),
       )
 
-  list_priced : (w : Setting) (at : Spot) (type : InterfaceType) (f : Fit w.types type) (t : Tree) → Represents w.memory w.encoding at (list_of (shape_of w.types.types type)) t
-      → whole.reach w at (list_of (shape_of w.types.types type)) ≡ list_cost bytes price t
-  list_priced w at type f t rep =
+  pub list_priced : (at : Spot) (t : Tree) → Represents w.memory w.encoding at (list l s) t → whole.reach w at (list l s) ≡ list_cost bytes price t
+  list_priced at t rep =
       let m = w.memory in
-      let s : Shape = shape_of w.types.types type in
       let p : ℕ = pointer_in m at in
       let n : ℕ = length_in m at in
-      let h = represented_list m w.encoding s at t rep in
+      let h = represented_list m w.encoding l s at t rep in
       let all : ℕ = each_reach R w s (stored p) n in
       let outer = cond-true (is_inside m p (n * size m.wide s)) (n * bytes + (if p % align m.wide s == 0 then all else 0)) 0 (le-leb _ _ h.inside) in
       let inner = ap (λ k. n * bytes + k) (cond-true (p % align m.wide s == 0) all 0 (eq-eqb _ _ h.aligned)) in
       let counted = subst (λ k. n * bytes + each_reach R w s (stored p) n ≡ k * bytes + each_reach R w s (stored p) k) (sym h.count) refl in
-      outer ∙ inner ∙ counted ∙ ap (λ k. tree_count h.trees * bytes + k) (each_priced Fit R Lifts price law w type f (stored p) h.trees h.each)
+      outer ∙ inner ∙ counted ∙ ap (λ k. tree_count h.trees * bytes + k) (each_priced R Lifts price w s law (stored p) h.trees h.each)
       ∙ ap (λ (u : Tree). list_cost bytes price u) (sym h.is)
 
-  list_faulty : (w : Setting) (at : Spot) (type : InterfaceType) (f : Fit w.types type) (k : Kind) (x : At) → whole.faults w at (list_of (shape_of w.types.types type)) k x
-      → Faulty w.memory w.encoding at (list_of (shape_of w.types.types type)) k x
-  list_faulty w (stored a) type f k x (inl h) = inl h
-  list_faulty w (stored a) type f k x (inr (good, h)) = inr (good, some_faulty Fit R Lifts price law w type f (stored (pointer_in w.memory (stored a))) _ k x h)
-  list_faulty w (flat_in ws i) type f k x (inl h) = inl h
-  list_faulty w (flat_in ws i) type f k x (inr (good, h)) = inr (good, some_faulty Fit R Lifts price law w type f (stored (pointer_in w.memory (flat_in ws i))) _ k x h)
+  pub list_faulty : (at : Spot) (k : Kind) (x : At) → whole.faults w at (list l s) k x → Faulty w.memory w.encoding at (list l s) k x
+  list_faulty (stored a) k x (inl h) = inl h
+  list_faulty (stored a) k x (inr (good, h)) = inr (good, some_faulty R Lifts price w s law (stored (pointer_in w.memory (stored a))) _ k x h)
+  list_faulty (flat_in ws i) k x (inl h) = inl h
+  list_faulty (flat_in ws i) k x (inr (good, h)) = inr (good, some_faulty R Lifts price w s law (stored (pointer_in w.memory (flat_in ws i))) _ k x h)
 
-  list_reads : (w : Setting) (at : Spot) (type : InterfaceType) (before after : LedgerState) (xs : List A) → IsListOf Fit w.types type → whole.reads w at (shape_of w.types.types type) before xs after
+module _ {A : Type 0} (bytes : ℕ) (Fit : Instance → InterfaceType → Type 0) (R : Reading A) (Lifts : A → Tree → Type 0) (price : Tree → ℕ) (law : IsOfTrees Fit R Lifts price) where
+  abbrev of_items_of : Reading (List A)
+  of_items_of = list_reading bytes R
+
+  list_reads : (w : Setting) (at : Spot) (type : InterfaceType) (before after : LedgerState) (xs : List A) → IsListOf Fit w.types type → of_items_of.reads w at (shape_of w.types.types type) before xs after
       → (t : Tree) × Represents w.memory w.encoding at (shape_of w.types.types type) t × ListMeans Lifts xs t
   list_reads w at (ty.List i) before after xs (element, d, f) h =
       subst (λ (z : Shape). (t : Tree) × Represents w.memory w.encoding at z t × ListMeans Lifts xs t) (sym d.shape)
-      (list_lifts w at element f before after xs (subst (λ (z : Shape). whole.reads w at z before xs after) d.shape h))
+      (list_lifts bytes of_items R Lifts price w _ (at_type Fit R Lifts price law w element f) at before after xs (subst (λ (z : Shape). of_items_of.reads w at z before xs after) d.shape h))
   list_reads w at _ before after xs f h = absurd f
 
   list_reached : (w : Setting) (at : Spot) (type : InterfaceType) (t : Tree) → IsListOf Fit w.types type → Represents w.memory w.encoding at (shape_of w.types.types type) t
-      → whole.reach w at (shape_of w.types.types type) ≡ list_cost bytes price t
+      → of_items_of.reach w at (shape_of w.types.types type) ≡ list_cost bytes price t
   list_reached w at (ty.List i) t (element, d, f) rep =
-      subst (λ (z : Shape). whole.reach w at z ≡ list_cost bytes price t) (sym d.shape)
-      (list_priced w at element f t (subst (λ (z : Shape). Represents w.memory w.encoding at z t) d.shape rep))
+      subst (λ (z : Shape). of_items_of.reach w at z ≡ list_cost bytes price t) (sym d.shape)
+      (list_priced bytes of_items R Lifts price w _ (at_type Fit R Lifts price law w element f) at t (subst (λ (z : Shape). Represents w.memory w.encoding at z t) d.shape rep))
   list_reached w at _ t f rep = absurd f
 
-  list_faults : (w : Setting) (at : Spot) (type : InterfaceType) (k : Kind) (x : At) → IsListOf Fit w.types type → whole.faults w at (shape_of w.types.types type) k x → Faulty w.memory w.encoding at (shape_of w.types.types type) k x
+  list_faults : (w : Setting) (at : Spot) (type : InterfaceType) (k : Kind) (x : At) → IsListOf Fit w.types type → of_items_of.faults w at (shape_of w.types.types type) k x → Faulty w.memory w.encoding at (shape_of w.types.types type) k x
   list_faults w at (ty.List i) k x (element, d, f) h =
-      subst (λ (z : Shape). Faulty w.memory w.encoding at z k x) (sym d.shape) (list_faulty w at element f k x (subst (λ (z : Shape). whole.faults w at z k x) d.shape h))
+      subst (λ (z : Shape). Faulty w.memory w.encoding at z k x) (sym d.shape)
+      (list_faulty bytes of_items R Lifts price w _ (at_type Fit R Lifts price law w element f) at k x (subst (λ (z : Shape). of_items_of.faults w at z k x) d.shape h))
   list_faults w at _ k x f h = absurd f
 
   pub list_told : IsOfTrees (IsListOf Fit) (list_reading bytes R) (ListMeans Lifts) (list_cost bytes price)
@@ -163,7 +162,7 @@ module _ {A : Type 0} (n : ℕ) (Fit : Instance → InterfaceType → Type 0) (R
   fixed_reads w at (ty.FixedLengthList i) before after xs (some, (element, d, f)) h =
       let s : Shape = shape_of w.types.types element in
       let (room, count, each) = subst (λ (z : Shape). row.reads w at z before xs after) d.shape h in
-      let (ts, there, same, have) = each_lifts Fit R Lifts price law w element f at before after xs each in
+      let (ts, there, same, have) = each_lifts R Lifts price w s (at_type Fit R Lifts price law w element f) at before after xs each in
       subst (λ (z : Shape). (t : Tree) × Represents w.memory w.encoding at z t × RowMeans Lifts xs t) (sym d.shape)
       (parts ts, row_represents w.memory w.encoding n s at ts room (same ∙ count) there, (ts, refl, have))
   fixed_reads w at _ before after xs f h = absurd f
@@ -174,14 +173,14 @@ module _ {A : Type 0} (n : ℕ) (Fit : Instance → InterfaceType → Type 0) (R
       let s : Shape = shape_of w.types.types element in
       let (ts, is, count, each) = represented_row w.memory w.encoding n s at t (subst (λ (z : Shape). Represents w.memory w.encoding at z t) d.shape rep) in
       subst (λ (z : Shape). row.reach w at z ≡ row_cost price t) (sym d.shape)
-      (ap (λ k. each_reach R w s at k) (sym count) ∙ each_priced Fit R Lifts price law w element f at ts each ∙ ap (λ (u : Tree). row_cost price u) (sym is))
+      (ap (λ k. each_reach R w s at k) (sym count) ∙ each_priced R Lifts price w s (at_type Fit R Lifts price law w element f) at ts each ∙ ap (λ (u : Tree). row_cost price u) (sym is))
   fixed_reached w at _ t f rep = absurd f
 
   fixed_faults : (w : Setting) (at : Spot) (type : InterfaceType) (k : Kind) (x : At) → IsFixedOf n Fit w.types type → row.faults w at (shape_of w.types.types type) k x → Faulty w.memory w.encoding at (shape_of w.types.types type) k x
   fixed_faults w at (ty.FixedLengthList i) k x (some, (element, d, f)) h =
       let s : Shape = shape_of w.types.types element in
       subst (λ (z : Shape). Faulty w.memory w.encoding at z k x) (sym d.shape)
-      (row_faulty w.memory w.encoding n s at k x (some_faulty Fit R Lifts price law w element f at n k x (subst (λ (z : Shape). row.faults w at z k x) d.shape h)))
+      (row_faulty w.memory w.encoding n s at k x (some_faulty R Lifts price w s (at_type Fit R Lifts price law w element f) at n k x (subst (λ (z : Shape). row.faults w at z k x) d.shape h)))
   fixed_faults w at _ k x f h = absurd f
 
   pub fixed_told : IsOfTrees (IsFixedOf n Fit) (fixed_reading n R) (RowMeans Lifts) (row_cost price)

@@ -5,6 +5,7 @@ mod compounds;
 mod fixed_list;
 mod lift;
 mod lists;
+mod maps;
 mod members;
 mod scalars;
 mod texts;

@@ -33,8 +33,9 @@ returns-clause-lifts g c =
     let element = c.list.result.now.element in
     let p = c.from-pointer.ensures ∙ c.load_u32.ensures ∙ ap (λ xs. num (narrow xs) c.args.at 4) c.memory.ensures in
     let n = c.from-count.ensures ∙ c.load_u32-2.ensures ∙ ap (λ xs. num (narrow xs) (c.args.at + 4) 4) c.memory-2.ensures in
-    list_lifts (cap g.T.ComponentType.host_bytes) (setting_in core cx.options) element (stored c.args.at) (shape_of t c.args.ty) c.from-pointer.result c.from-count.result
+    list_lifts (cap g.T.ComponentType.host_bytes) (setting_in core cx.options) (shape_of t element) (stored c.args.at) (shape_of t c.args.ty) c.from-pointer.result c.from-count.result
     (list_element t c.types.result.now c.in-List.i c.args.ty element c.types.ensures c.in-List.is c.list.ensures.entry) p n
-    g.T.ComponentType.fits (list_known t c.types.result.now c.in-List.i c.args.ty element c.types.ensures c.in-List.is c.list.ensures.entry)
+    g.T.ComponentType.fits (place.Address c.args.at) cx.fuel (λ F k f. f) core.ledger c.list_from.new.cx.core.now.ledger (ap (λ z. z.core.now.ledger) c.list_from.ensures.same)
+    element refl (list_known t c.types.result.now c.in-List.i c.args.ty element c.types.ensures c.in-List.is c.list.ensures.entry)
     (list_fits g.T.ComponentType.fits core.component.types c.types.result.now c.in-List.i c.args.ty element c.types.ensures c.in-List.is c.list.ensures.entry c.requires.fits)
-    (place.Address c.args.at) cx.fuel (λ F k f. f) core.ledger c.list_from.new.cx.core.now.ledger (ap (λ z. z.core.now.ledger) c.list_from.ensures.same) c.list_from.result c.list_from.new.cx.fuel c.list_from.ensures.tested
+    c.list_from.result c.list_from.new.cx.fuel c.list_from.ensures.tested
