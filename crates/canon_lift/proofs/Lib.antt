@@ -6,3 +6,4 @@ pub mod Pairs
 pub mod Lookups
 pub mod CaseLifting
 pub mod MemberSteps
+pub mod PairLifting

@@ -1,15 +1,17 @@
 -- What a look-up gave of a type, where the table is that of the start.
 use Rattle.std.proofs.Common.{◌≡◌, ◌≤◌, ◌<◌, ◌+◌, ◌*◌, ◌++◌, ◌%◌, ◌∙◌, All, List, None, Option, Some, [], ◌∷◌, ap, arith, false, length, option_to_list, refl, subst, sym, ℕ}
-use Rattle.canon_abi.specs.Abi.{HasInfo}
+use Rattle.canon_abi.specs.Abi.{HasInfo, HasLayout}
 use Rattle.canon_abi.specs.declared.abi.VariantInfo.{VariantInfo}
-use Rattle.canon_model.specs.Layout.{align, payload_shape, size}
-use Rattle.canon_model.specs.Shape.{Cases, Shape, case_count, case_for, fixed, list_of, no_cases, of_option, of_result, option_of, result_of, variant}
+use Rattle.canon_model.specs.Layout.{align, begins, ends, payload_shape, size}
+use Rattle.canon_model.specs.Shape.{Cases, Shape, case_count, case_for, fixed, list_of, map_of, no_cases, tuple, of_option, of_result, option_of, result_of, variant}
 use Rattle.canon_types.specs.Depth.{element_shape, variant_cases}
 use Rattle.canon_types.specs.Instance.{Instance}
-use Rattle.canon_types.specs.Table.{FixedListType, IsDefined, Knows, KnowsPayload, ListType, OptionType, ResultType, Table, all_shapes, payload_in, shape_of}
+use Rattle.canon_types.specs.Table.{FixedListType, IsDefined, Knows, KnowsPayload, ListType, MapType, OptionType, ResultType, Table, all_shapes, payload_in, shape_of}
+use Rattle.canon_types.specs.Keeps.{HasPair}
+use Rattle.canon_types.specs.declared.types.TypeMap.{TypeMap}
 use Rattle.canon_types.specs.declared.types.InterfaceType.{InterfaceType}
 use Rattle.canon_types.specs.declared.types.InterfaceType.TheVariants as ty
-use Rattle.canon_typed.specs.Types.{IsFixedOf, IsListOf, IsOptionOf}
+use Rattle.canon_typed.specs.Types.{IsFixedOf, IsListOf, IsMapOf, IsOptionOf}
 use Rattle.canon_lift.specs.OfTrees.{second_shape, two_cases}
 use Rattle.canon_lift.specs.Readings.{fixed_element}
 use Rattle.canon_lift.proofs.CaseLifting.{IsOfCases}
@@ -149,3 +151,43 @@ module _ (t t2 : Table) (j : ℕ) (type : InterfaceType) (ok error : Option Inte
 
   pub error_known : KnowsPayload t error
   error_known = known_second t ok error (subst (λ (x : Table). All (Knows x) (option_to_list ok ++ option_to_list error)) same d.known)
+
+-- ---- maps
+
+-- what a look-up gave of a map's keys and values
+pub record IsPairThere (Key Value : Instance → InterfaceType → Type 0) (i : Instance) (type key value : InterfaceType) : Type 0 where
+  pub shape : shape_of i.types type ≡ map_of (shape_of i.types key) (shape_of i.types value)
+  pub key_known : Knows i.types key
+  pub value_known : Knows i.types value
+  pub key_fits : Key i key
+  pub value_fits : Value i value
+
+pub map_there : (Key Value : Instance → InterfaceType → Type 0) (i : Instance) (t2 : Table) (j : ℕ) (type key value : InterfaceType) → t2 ≡ i.types → type ≡ ty.Map j → IsDefined t2 (ty.Map j) (MapType key value) → IsMapOf Key Value i type
+    → IsPairThere Key Value i type key value
+map_there Key Value i t2 j type key value same is d f =
+    let (k, v, d2, fits, fits2) = subst (λ x. IsMapOf Key Value i x) is f in
+    let here = subst (λ (x : Table). IsDefined x (ty.Map j) (MapType key value)) same d in
+    let both : Some (MapType k v) ≡ Some (MapType key value) = sym d2.definition ∙ here.definition in
+    let one : k ≡ key = cc in
+    let two : v ≡ value = cc in
+    record {
+      shape = ap (shape_of i.types) is ∙ here.shape;
+      key_known = here.known 0 key (omega arith);
+      value_known = here.known 1 value (omega arith);
+      key_fits = subst (λ x. Key i x) one fits;
+      value_fits = subst (λ x. Value i x) two fits2;
+    }
+
+-- its numbers
+module _ (t t2 : Table) (j : ℕ) (type key value : InterfaceType) (m : TypeMap) (same : t2 ≡ t) (is : type ≡ ty.Map j) (shape : shape_of t type ≡ map_of (shape_of t key) (shape_of t value)) (h : HasPair m (shape_of t2 (ty.Map j))) where
+  numbers : HasPair m (map_of (shape_of t key) (shape_of t value))
+  numbers = subst (λ (z : Shape). HasPair m z) shape (subst (λ x. HasPair m (shape_of t x)) (sym is) (subst (λ (x : Table). HasPair m (shape_of x (ty.Map j))) same h))
+
+  pub map_layout : HasLayout m.entry_abi (tuple (shape_of t key ∷ shape_of t value ∷ []))
+  map_layout = numbers.abi
+
+  pub map_offset : m.value_offset32 ≡ begins false (ends false 0 (shape_of t key)) (shape_of t value)
+  map_offset = numbers.value
+
+  pub map_element : tuple (shape_of t key ∷ shape_of t value ∷ []) ≡ element_shape (shape_of t type)
+  map_element = sym (ap element_shape shape)

@@ -88,6 +88,16 @@ module _ (t : Table) (types more : List InterfaceType) (type : InterfaceType) (s
     ends_inside : at + ends false end s ≤ length memory
     ends_inside = omega (arith, rest_inside, members_end-le false (ends false end s) rest)
 
+    -- the first of them
+    pub first_inside : at + begins false end s + size false s ≤ length memory
+    first_inside = omega (arith, ends_inside)
+
+    pub first_aligned : (at + begins false end s) % align false s ≡ 0
+    unfolding align
+    first_aligned =
+        let one : at % align false s ≡ 0 = aligned_part at (align false s) (members_align false (member [] s rest)) (alignment false s) (members_alignment false (member [] s rest)) (omega arith) whole_aligned in
+        mod-eq-zero_of_dvd (align false s) (dvd-add (align false s) (dvd_of_mod-eq-zero (align false s) one) (align_to-dvd end (align false s)))
+
     module _ (t2 : Table) (abi : CanonicalAbiInfo) (same : t2 ≡ t) (layout : HasLayout abi (shape_of t2 type)) where
       here : HasLayout abi s
       here = subst (λ (x : Table). HasLayout abi (shape_of x type)) same layout
@@ -106,14 +116,10 @@ module _ (t : Table) (types more : List InterfaceType) (type : InterfaceType) (s
         place_is = ap (λ n. stored (at + n)) (start_is ∙ starts_so)
 
         pub next_inside : at + start + size false s ≤ length memory
-        next_inside = omega (arith, start_is, starts_so, ends_inside)
+        next_inside = omega (arith, start_is, starts_so, first_inside)
 
         pub next_aligned : (at + start) % align false s ≡ 0
-        unfolding align
-        next_aligned =
-            let one : at % align false s ≡ 0 = aligned_part at (align false s) (members_align false (member [] s rest)) (alignment false s) (members_alignment false (member [] s rest)) (omega arith) whole_aligned in
-            subst (λ n. (at + n) % align false s ≡ 0) (sym (start_is ∙ starts_so))
-            (mod-eq-zero_of_dvd (align false s) (dvd-add (align false s) (dvd_of_mod-eq-zero (align false s) one) (align_to-dvd end (align false s))))
+        next_aligned = subst (λ n. (at + n) % align false s ≡ 0) (sym (start_is ∙ starts_so)) first_aligned
 
       pub next_end : (after : ℕ) → after ≡ align_to end abi.align32 + abi.size32 → after ≡ ends false end s
       next_end after is = is ∙ ends_so

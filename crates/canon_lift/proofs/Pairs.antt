@@ -14,7 +14,7 @@ use Rattle.canon_model.specs.Memory.{Inside, Memory}
 use Rattle.canon_model.specs.Reach as reach
 use Rattle.canon_model.specs.Reach.{Kind, TextFault, is_inside, misaligned, out_of_bounds, text_reach}
 use Rattle.canon_model.specs.Rep.{IsText}
-use Rattle.canon_model.specs.Shape.{Shape, list_of, string}
+use Rattle.canon_model.specs.Shape.{Shape, list_of, map_of, string}
 use Rattle.canon_model.specs.Text.{Encoding}
 use Rattle.canon_model.specs.Tree as tree
 use Rattle.canon_model.specs.Tree.{Tree}
@@ -24,6 +24,7 @@ use Rattle.canon_types.specs.Depth.{element_shape}
 use Rattle.canon_types.specs.Instance.{Instance}
 use Rattle.canon_types.specs.Table.{Knows, shape_of}
 use Rattle.canon_types.specs.declared.types.InterfaceType.{InterfaceType}
+use Rattle.canon_lift.specs.MapsOfTrees.{map_reading, pair_reading}
 use Rattle.canon_lift.specs.OfTrees.{text_priced}
 use Rattle.canon_lift.specs.Ranges.{IsListThere, ListRefused, ListTested, list_range_reach, wasm_list_reading}
 use Rattle.canon_lift.specs.Reading.{Lifts, NamedBy, Reading, Refused, Setting, stop_of}
@@ -37,6 +38,12 @@ use Rattle.canon_lift.proofs.Refusals.{named_by, refused_before, refused_by, sto
 pub list_room : (bytes memory : List ℕ) (s u : Shape) (at : ℕ) → s ≡ list_of u → at + size false s ≤ length memory → bytes ≡ memory → at + 8 ≤ length bytes
 unfolding size
 list_room bytes memory s u at is inside same =
+    let room : at + 8 ≤ length memory = subst (λ (z : Shape). at + size false z ≤ length memory) is inside in
+    omega (arith, room, ap length same)
+
+pub map_room : (bytes memory : List ℕ) (s u v : Shape) (at : ℕ) → s ≡ map_of u v → at + size false s ≤ length memory → bytes ≡ memory → at + 8 ≤ length bytes
+unfolding size
+map_room bytes memory s u v at is inside same =
     let room : at + 8 ≤ length memory = subst (λ (z : Shape). at + size false z ≤ length memory) is inside in
     omega (arith, room, ap length same)
 
@@ -124,6 +131,13 @@ range_refused {A} Fit bytes R f w at s before after fuel left e r =
     (named_by at (ListPointerFault w.memory (element_shape s) at) (whole.faults w at s) (λ k x h. inl h))
     (λ low. omega (arith, low, cond_le (is_inside w.memory (pointer_in w.memory at) (length_in w.memory at * size w.memory.wide (element_shape s))) (length_in w.memory at * bytes)
     (length_in w.memory at * bytes + (if pointer_in w.memory at % align w.memory.wide (element_shape s) == 0 then each_reach R w (element_shape s) (stored (pointer_in w.memory at)) (length_in w.memory at) else 0)) (omega arith))) (λ all. refl) (stops_nowhere before after (whole.steps w at s) (stop_of e)) (omega arith) r
+
+-- the same of a map
+pub map_range_refused : {K V Z : Type 0} (eq : K → K → Bool) (bytes : ℕ) (R : Reading K) (S : Reading V) (w : Setting) (at : Spot) (s : Shape) (before after : LedgerState) (fuel left : ℕ) (e : Fault)
+    → Refused (wasm_list_reading {A = K × V} (λ i t. ⊥) bytes) w at s before fuel e after left → Refused (map_reading {Z = Z} eq bytes R S) w at s before fuel e after left
+map_range_refused {K} {V} eq bytes R S w at s before after fuel left e r =
+    let h = range_refused {A = K × V} {B = List (K × V)} (λ i t. ⊥) bytes (pair_reading R S) (λ xs. xs) w at s before after fuel left e r in
+    record { cause = h.cause; memory = h.memory; stops = h.stops; falls = h.falls }
 
 -- ---- a text that is owned
 

@@ -28,7 +28,7 @@ use Rattle.canon_lift.specs.Taken.{end_taken, list_taken, more_taken, product_ta
 abbrev pub pair_reading : {K V : Type 0} → Reading K → Reading V → Reading (K × V)
 pair_reading R S = product_reading (λ p. first_and p.0 (first_and p.1 no_more)) (first_reading first_in rest_in R (first_reading first_in rest_in S none_reading))
 
-pair_taken : {K V : Type 0} (R : Reading K) (S : Reading V) → AreTaken R → AreTaken S → AreTaken (pair_reading R S)
+pub pair_taken : {K V : Type 0} (R : Reading K) (S : Reading V) → AreTaken R → AreTaken S → AreTaken (pair_reading R S)
 pair_taken R S law law2 = product_taken (λ p. first_and p.0 (first_and p.1 no_more)) (first_reading first_in rest_in R (first_reading first_in rest_in S none_reading))
     (more_taken first_in rest_in R (first_reading first_in rest_in S none_reading) law (more_taken first_in rest_in S none_reading law2 end_taken))
 

@@ -34,17 +34,17 @@ struct Pair {
 fn lift_pair<K: Lift, V: Lift, U, G>(
     alloc: Global,
     cx: &mut LiftContext<'_, U, G>,
-    pair: Pair,
+    pair: &Pair,
     at: u64,
 ) -> Result<(K, V), Fault>
-    requires key { Knows (types_of cx.old.core.now) pair.key }
-    requires value { Knows (types_of cx.old.core.now) pair.value }
-    requires key_fits { K.fits cx.old.core.now.component.types pair.key }
-    requires value_fits { V.fits cx.old.core.now.component.types pair.value }
-    requires offset { pair.offset ≡ begins false (ends false 0 (shape_of (types_of cx.old.core.now) pair.key)) (shape_of (types_of cx.old.core.now) pair.value) }
-    requires aligned { at % align false (tuple (shape_of (types_of cx.old.core.now) pair.key ∷ shape_of (types_of cx.old.core.now) pair.value ∷ [])) ≡ 0 }
-    requires inside { at + size false (tuple (shape_of (types_of cx.old.core.now) pair.key ∷ shape_of (types_of cx.old.core.now) pair.value ∷ [])) ≤ length cx.old.core.now.memory }
-    ensures lifts { Lifts (pair_reading K.reading V.reading) (setting_in cx.old.core.now cx.old.options) (stored at) (tuple (shape_of (types_of cx.old.core.now) pair.key ∷ shape_of (types_of cx.old.core.now) pair.value ∷ []))
+    requires key { Knows (types_of cx.old.core.now) pair.now.key }
+    requires value { Knows (types_of cx.old.core.now) pair.now.value }
+    requires key_fits { K.fits cx.old.core.now.component.types pair.now.key }
+    requires value_fits { V.fits cx.old.core.now.component.types pair.now.value }
+    requires offset { pair.now.offset ≡ begins false (ends false 0 (shape_of (types_of cx.old.core.now) pair.now.key)) (shape_of (types_of cx.old.core.now) pair.now.value) }
+    requires aligned { at % align false (tuple (shape_of (types_of cx.old.core.now) pair.now.key ∷ shape_of (types_of cx.old.core.now) pair.now.value ∷ [])) ≡ 0 }
+    requires inside { at + size false (tuple (shape_of (types_of cx.old.core.now) pair.now.key ∷ shape_of (types_of cx.old.core.now) pair.now.value ∷ [])) ≤ length cx.old.core.now.memory }
+    ensures lifts { Lifts (pair_reading K.reading V.reading) (setting_in cx.old.core.now cx.old.options) (stored at) (tuple (shape_of (types_of cx.old.core.now) pair.now.key ∷ shape_of (types_of cx.old.core.now) pair.now.value ∷ []))
         cx.old.core.now.ledger cx.old.fuel result cx.new.core.now.ledger cx.new.fuel }
     ensures same_core { cx.new.core.now ≡ record cx.old.core.now { ledger = cx.new.core.now.ledger } }
     ensures same_reference { cx.new.core.ghost_name ≡ cx.old.core.ghost_name }
@@ -64,20 +64,20 @@ fn lift_pair<K: Lift, V: Lift, U, G>(
 fn lift_pairs<K: Lift + Eq + Hash, V: Lift, U, G>(
     alloc: Global,
     cx: &mut LiftContext<'_, U, G>,
-    pair: Pair,
+    pair: &Pair,
     step: u64,
     at: u64,
     count: u64,
 ) -> Result<HashMap<K, V>, Fault>
-    requires key { Knows (types_of cx.old.core.now) pair.key }
-    requires value { Knows (types_of cx.old.core.now) pair.value }
-    requires key_fits { K.fits cx.old.core.now.component.types pair.key }
-    requires value_fits { V.fits cx.old.core.now.component.types pair.value }
-    requires offset { pair.offset ≡ begins false (ends false 0 (shape_of (types_of cx.old.core.now) pair.key)) (shape_of (types_of cx.old.core.now) pair.value) }
-    requires step { step ≡ size false (tuple (shape_of (types_of cx.old.core.now) pair.key ∷ shape_of (types_of cx.old.core.now) pair.value ∷ [])) }
-    requires aligned { at % align false (tuple (shape_of (types_of cx.old.core.now) pair.key ∷ shape_of (types_of cx.old.core.now) pair.value ∷ [])) ≡ 0 }
-    requires inside { at + count * size false (tuple (shape_of (types_of cx.old.core.now) pair.key ∷ shape_of (types_of cx.old.core.now) pair.value ∷ [])) ≤ length cx.old.core.now.memory }
-    ensures lifts { Lifts (pairs_reading K.eq count K.reading V.reading) (setting_in cx.old.core.now cx.old.options) (stored at) (tuple (shape_of (types_of cx.old.core.now) pair.key ∷ shape_of (types_of cx.old.core.now) pair.value ∷ []))
+    requires key { Knows (types_of cx.old.core.now) pair.now.key }
+    requires value { Knows (types_of cx.old.core.now) pair.now.value }
+    requires key_fits { K.fits cx.old.core.now.component.types pair.now.key }
+    requires value_fits { V.fits cx.old.core.now.component.types pair.now.value }
+    requires offset { pair.now.offset ≡ begins false (ends false 0 (shape_of (types_of cx.old.core.now) pair.now.key)) (shape_of (types_of cx.old.core.now) pair.now.value) }
+    requires step { step ≡ size false (tuple (shape_of (types_of cx.old.core.now) pair.now.key ∷ shape_of (types_of cx.old.core.now) pair.now.value ∷ [])) }
+    requires aligned { at % align false (tuple (shape_of (types_of cx.old.core.now) pair.now.key ∷ shape_of (types_of cx.old.core.now) pair.now.value ∷ [])) ≡ 0 }
+    requires inside { at + count * size false (tuple (shape_of (types_of cx.old.core.now) pair.now.key ∷ shape_of (types_of cx.old.core.now) pair.now.value ∷ [])) ≤ length cx.old.core.now.memory }
+    ensures lifts { Lifts (pairs_reading K.eq count K.reading V.reading) (setting_in cx.old.core.now cx.old.options) (stored at) (tuple (shape_of (types_of cx.old.core.now) pair.now.key ∷ shape_of (types_of cx.old.core.now) pair.now.value ∷ []))
         cx.old.core.now.ledger cx.old.fuel result cx.new.core.now.ledger cx.new.fuel }
     ensures same_core { cx.new.core.now ≡ record cx.old.core.now { ledger = cx.new.core.now.ledger } }
     ensures same_reference { cx.new.core.ghost_name ≡ cx.old.core.ghost_name }
@@ -151,7 +151,7 @@ impl<K: Lift + Eq + Hash, V: Lift> Lift for HashMap<K, V> {
         let pointer = u64::from(load_u32(cx.memory(), at));
         let count = u64::from(load_u32(cx.memory(), at + 4));
         match test_pairs::<K, V, U, G>(cx, &abi, pointer, count, At::Address(at)) {
-            Ok(()) => lift_pairs(alloc, cx, pair, u64::from(abi.size32), pointer, count),
+            Ok(()) => lift_pairs(alloc, cx, &pair, u64::from(abi.size32), pointer, count),
             Err(fault) => Err(fault),
         }
     }
