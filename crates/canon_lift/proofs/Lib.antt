@@ -7,3 +7,4 @@ pub mod Lookups
 pub mod CaseLifting
 pub mod MemberSteps
 pub mod PairLifting
+pub mod MapLifting
