@@ -9,3 +9,4 @@ pub mod OfTrees
 pub mod RowsOfTrees
 pub mod Ranges
 pub mod MapsOfTrees
+pub mod Handles

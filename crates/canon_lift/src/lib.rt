@@ -3,6 +3,7 @@
 
 mod compounds;
 mod fixed_list;
+mod handles;
 mod lift;
 mod lists;
 mod maps;
