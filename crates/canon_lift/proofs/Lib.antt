@@ -8,3 +8,4 @@ pub mod CaseLifting
 pub mod MemberSteps
 pub mod PairLifting
 pub mod MapLifting
+pub mod HandleSteps

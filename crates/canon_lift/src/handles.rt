@@ -2,6 +2,7 @@
 
 ghost use Rattle.std.specs.Prelude.{◌≡◌, ◌≤◌, ◌+◌, false, length, true};
 ghost use Rattle.canon_context.specs.Core.{types_of};
+ghost use Rattle.canon_context.specs.Faults.{resource_fault};
 ghost use Rattle.canon_context.specs.Lifter.{IsAfterSteps, IsOneOrigin, origin_of};
 ghost use Rattle.canon_leaves.specs.Parts.{LeafLifts};
 ghost use Rattle.canon_model.specs.Leaves.{leaf};
@@ -44,6 +45,16 @@ fn taken(
     }
 }
 
+/// A refusal of the ledger as a fault.
+fn refused(refusal: ResourceFault) -> Fault
+    ensures { result ≡ resource_fault refusal }
+{
+    match refusal {
+        ResourceFault::OutOfMemory => Fault::OutOfMemory,
+        _ => Fault::Resource(refusal),
+    }
+}
+
 impl Lifter for Handle {
     type Lifted = ResourceAny;
 
@@ -65,8 +76,7 @@ impl Lifter for Handle {
     {
         match taken(source.instance, ledger, self) {
             Ok(resource) => Ok(resource),
-            Err(ResourceFault::OutOfMemory) => Err(Fault::OutOfMemory),
-            Err(refusal) => Err(Fault::Resource(refusal)),
+            Err(refusal) => Err(refused(refusal)),
         }
     }
 }
@@ -86,20 +96,25 @@ fn lift_any<U, G>(
     ensures same_reference { cx.new.core.ghost_name ≡ cx.old.core.ghost_name }
     ensures same_options { cx.new.options ≡ cx.old.options }
 {
-    let handle = match ty {
-        InterfaceType::Own(ty) => Handle {
-            ty,
-            owned: true,
-            index,
-        },
-        InterfaceType::Borrow(ty) => Handle {
-            ty,
-            owned: false,
-            index,
-        },
+    match ty {
+        InterfaceType::Own(ty) => cx.lift_by(
+            alloc,
+            &Handle {
+                ty,
+                owned: true,
+                index,
+            },
+        ),
+        InterfaceType::Borrow(ty) => cx.lift_by(
+            alloc,
+            &Handle {
+                ty,
+                owned: false,
+                index,
+            },
+        ),
         _ => unreachable!(),
-    };
-    cx.lift_by(alloc, &handle)
+    }
 }
 
 impl Lift for ResourceAny {
