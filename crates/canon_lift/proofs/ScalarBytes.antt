@@ -1,9 +1,9 @@
 -- Scalars in memory.
-use Rattle.std.proofs.Common.{◌≡◌, ◌≤◌, ◌+◌, ◌∙◌, List, Ok, ap, arith, false, length, refl, subst, sym, ℕ}
+use Rattle.std.proofs.Common.{◌≡◌, ◌≤◌, ◌<◌, ◌+◌, ◌∙◌, List, Ok, ap, arith, false, length, refl, subst, sym, ℕ}
 use Rattle.canon_context.specs.Core.{Parts, types_of}
 use Rattle.canon_ledger.specs.Ledger.{LedgerState}
 use Rattle.canon_lowering.specs.Storing.{narrow}
-use Rattle.canon_model.specs.Layout.{scalar_size, size}
+use Rattle.canon_model.specs.Layout.{flat, scalar_size, size}
 use Rattle.canon_model.specs.Memory.{num}
 use Rattle.canon_model.specs.Rep.{ScalarIs}
 use Rattle.canon_model.specs.Shape.{Scalar, Shape, scalar}
@@ -33,3 +33,10 @@ scalar_lifts Means core o type k at fuel n bytes v t is inside same number stand
           (t, (room, subst (λ j. ScalarIs k j t) here stands, λ strict. cc), means, refl),
       omega arith,
     )
+
+-- its word is there
+pub word_room : (s : Shape) (k : Scalar) (at count : ℕ) → s ≡ scalar k → at + flat s ≤ count → at < count
+unfolding flat
+word_room s k at count is room =
+    let there : at + 1 ≤ count = subst (λ (z : Shape). at + flat z ≤ count) is room in
+    omega (arith, there)

@@ -11,10 +11,12 @@ ghost use Rattle.canon_typed.specs.Types.{IsHandleType};
 ghost use Rattle.canon_lift.specs.Handles.{HandleLifts, any_reading, any_taken, any_told, leaf_of};
 
 use crate::Lift;
+use crate::words::{word_u32};
 use canon_bytes::load_u32;
 use canon_context::{Fault, LiftContext, Lifter, Source};
 use canon_leaves::{lift_borrow, lift_own};
 use canon_ledger::{Ledger, ResourceFault};
+use canon_memory::ValRaw;
 use canon_resources::ResourceAny;
 use canon_types::{InstanceType, InterfaceType, TypeResourceTableIndex};
 use std::alloc::Global;
@@ -132,6 +134,16 @@ impl Lift for ResourceAny {
     ) -> Result<ResourceAny, Fault> {
         let index = load_u32(cx.memory(), at);
         lift_any(alloc, cx, ty, index)
+    }
+
+    fn lift_words<U, G>(
+        alloc: Global,
+        cx: &mut LiftContext<'_, U, G>,
+        ty: InterfaceType,
+        src: &[ValRaw],
+        at: usize,
+    ) -> Result<ResourceAny, Fault> {
+        lift_any(alloc, cx, ty, word_u32(src, at))
     }
 
     ghost taken = { any_taken };

@@ -13,6 +13,7 @@ mod texts;
 mod tuples;
 mod wasm_list;
 mod wasm_str;
+mod words;
 
 pub use lift::Lift;
 pub use wasm_list::WasmList;

@@ -2,16 +2,17 @@
 
 ghost use Rattle.std.specs.Prelude.{◌≡◌, ◌≤◌, ◌+◌, ◌%◌, IsTrue, MatchOption, false, length, true};
 ghost use Rattle.canon_context.specs.Core.{types_of};
-ghost use Rattle.canon_model.specs.Layout.{align, size};
+ghost use Rattle.canon_model.specs.Layout.{align, flat, size};
 ghost use Rattle.canon_types.specs.Table.{Knows, shape_of};
 ghost use Rattle.canon_lift.specs.Items.{into_reading, vec_reading};
 ghost use Rattle.canon_lift.specs.OfTrees.{IsOfTrees};
 ghost use Rattle.canon_lift.specs.Ranges.{HasItems};
 ghost use Rattle.canon_lift.specs.Reading.{AreTaken, Lifts, Reading, setting_in};
-ghost use Rattle.canon_lift.specs.Spots.{stored};
+ghost use Rattle.canon_lift.specs.Spots.{flat_in, stored};
 
 use crate::WasmList;
 use canon_context::{Fault, LiftContext};
+use canon_memory::ValRaw;
 use canon_typed::ComponentType;
 use canon_types::InterfaceType;
 use std::alloc::Global;
@@ -46,6 +47,46 @@ pub trait Lift: ComponentType {
         ensures same_core { cx.new.core.now ≡ record cx.old.core.now { ledger = cx.new.core.now.ledger } }
         ensures same_reference { cx.new.core.ghost_name ≡ cx.old.core.ghost_name }
         ensures same_options { cx.new.options ≡ cx.old.options };
+
+    /// Lifts a value from the words from an index on (CanonicalABI.md, "lift_flat"), and takes what it costs from the fuel, as
+    /// `linear_lift_from_memory` does from memory.
+    fn lift_words<U, G>(
+        alloc: Global,
+        cx: &mut LiftContext<'_, U, G>,
+        ty: InterfaceType,
+        src: &[ValRaw],
+        at: usize,
+    ) -> Result<Self, Fault>
+    where
+        Self: Sized,
+        requires known { Knows (types_of cx.old.core.now) ty }
+        requires fits { Self.fits cx.old.core.now.component.types ty }
+        requires words { at + flat (shape_of (types_of cx.old.core.now) ty) ≤ length src.now }
+        ensures lifts { Lifts reading (setting_in cx.old.core.now cx.old.options) (flat_in src.now at) (shape_of (types_of cx.old.core.now) ty) cx.old.core.now.ledger cx.old.fuel result cx.new.core.now.ledger cx.new.fuel }
+        ensures same_core { cx.new.core.now ≡ record cx.old.core.now { ledger = cx.new.core.now.ledger } }
+        ensures same_reference { cx.new.core.ghost_name ≡ cx.old.core.ghost_name }
+        ensures same_options { cx.new.options ≡ cx.old.options };
+
+    /// The same with an index of 32 bits.
+    fn linear_lift_from_flat<U, G>(
+        alloc: Global,
+        cx: &mut LiftContext<'_, U, G>,
+        ty: InterfaceType,
+        src: &[ValRaw],
+        at: u32,
+    ) -> Result<Self, Fault>
+    where
+        Self: Sized,
+        requires known { Knows (types_of cx.old.core.now) ty }
+        requires fits { Self.fits cx.old.core.now.component.types ty }
+        requires words { at + flat (shape_of (types_of cx.old.core.now) ty) ≤ length src.now }
+        ensures lifts { Lifts reading (setting_in cx.old.core.now cx.old.options) (flat_in src.now at) (shape_of (types_of cx.old.core.now) ty) cx.old.core.now.ledger cx.old.fuel result cx.new.core.now.ledger cx.new.fuel }
+        ensures same_core { cx.new.core.now ≡ record cx.old.core.now { ledger = cx.new.core.now.ledger } }
+        ensures same_reference { cx.new.core.ghost_name ≡ cx.old.core.ghost_name }
+        ensures same_options { cx.new.options ≡ cx.old.options }
+    {
+        Self::lift_words(alloc, cx, ty, src, at as usize)
+    }
 
     /// Lifts the items of a list.
     fn linear_lift_list_from_memory<U, G>(

@@ -11,6 +11,7 @@ ghost use Rattle.canon_typed.specs.Types.{IsListOf};
 
 use crate::{Lift, WasmList};
 use canon_context::{Fault, LiftContext};
+use canon_memory::ValRaw;
 use canon_types::InterfaceType;
 use std::alloc::Global;
 
@@ -28,6 +29,19 @@ impl<T: Lift> Lift for Vec<T> {
         at: u64,
     ) -> Result<Vec<T>, Fault> {
         match WasmList::<T>::linear_lift_from_memory(alloc, cx, ty, at) {
+            Ok(list) => T::linear_lift_list_from_memory(alloc, cx, &list),
+            Err(fault) => Err(fault),
+        }
+    }
+
+    fn lift_words<U, G>(
+        alloc: Global,
+        cx: &mut LiftContext<'_, U, G>,
+        ty: InterfaceType,
+        src: &[ValRaw],
+        at: usize,
+    ) -> Result<Vec<T>, Fault> {
+        match WasmList::<T>::lift_words(alloc, cx, ty, src, at) {
             Ok(list) => T::linear_lift_list_from_memory(alloc, cx, &list),
             Err(fault) => Err(fault),
         }

@@ -14,8 +14,10 @@ ghost use Rattle.canon_lift.specs.Reading.{Lifts, setting_in};
 ghost use Rattle.canon_lift.specs.Spots.{stored};
 
 use crate::Lift;
+use crate::words::{word_at, word_u32};
 use canon_bytes::load_u32;
 use canon_context::{At, Fault, LiftContext};
+use canon_memory::ValRaw;
 use canon_typed::ComponentType;
 use canon_types::{CanonicalAbiInfo, InterfaceType};
 use std::alloc::Global;
@@ -151,6 +153,31 @@ impl<K: Lift + Eq + Hash, V: Lift> Lift for HashMap<K, V> {
         let pointer = u64::from(load_u32(cx.memory(), at));
         let count = u64::from(load_u32(cx.memory(), at + 4));
         match test_pairs::<K, V, U, G>(cx, &abi, pointer, count, At::Address(at)) {
+            Ok(()) => lift_pairs(alloc, cx, &pair, u64::from(abi.size32), pointer, count),
+            Err(fault) => Err(fault),
+        }
+    }
+
+    fn lift_words<U, G>(
+        alloc: Global,
+        cx: &mut LiftContext<'_, U, G>,
+        ty: InterfaceType,
+        src: &[ValRaw],
+        at: usize,
+    ) -> Result<HashMap<K, V>, Fault> {
+        let InterfaceType::Map(i) = ty else {
+            unreachable!()
+        };
+        let map = cx.types().map(i);
+        let pair = Pair {
+            key: map.key,
+            value: map.value,
+            offset: u64::from(map.value_offset32),
+        };
+        let abi = map.entry_abi;
+        let pointer = u64::from(word_u32(src, at));
+        let count = u64::from(word_u32(src, at + 1));
+        match test_pairs::<K, V, U, G>(cx, &abi, pointer, count, word_at(at)) {
             Ok(()) => lift_pairs(alloc, cx, &pair, u64::from(abi.size32), pointer, count),
             Err(fault) => Err(fault),
         }

@@ -9,8 +9,10 @@ ghost use Rattle.canon_lift.specs.Readings.{scalar_reading};
 ghost use Rattle.canon_lift.specs.Taken.{scalar_taken};
 
 use crate::Lift;
+use crate::words::{word_at, word_u8, word_u16, word_u32, word_u64};
 use canon_bytes::{load_u8, load_u16, load_u32, load_u64};
 use canon_context::{At, Fault, LiftContext};
+use canon_memory::ValRaw;
 use canon_typed::{Float32Bits, Float64Bits};
 use canon_types::InterfaceType;
 use std::alloc::Global;
@@ -29,6 +31,16 @@ impl Lift for i8 {
         at: u64,
     ) -> Result<i8, Fault> {
         Ok(load_u8(cx.memory(), at).cast_signed())
+    }
+
+    fn lift_words<U, G>(
+        _alloc: Global,
+        _cx: &mut LiftContext<'_, U, G>,
+        _ty: InterfaceType,
+        src: &[ValRaw],
+        at: usize,
+    ) -> Result<i8, Fault> {
+        Ok(word_u8(src, at).cast_signed())
     }
 
     ghost taken = { scalar_taken (λ n t. t ≡ number n) };
@@ -52,6 +64,16 @@ impl Lift for u8 {
         Ok(load_u8(cx.memory(), at))
     }
 
+    fn lift_words<U, G>(
+        _alloc: Global,
+        _cx: &mut LiftContext<'_, U, G>,
+        _ty: InterfaceType,
+        src: &[ValRaw],
+        at: usize,
+    ) -> Result<u8, Fault> {
+        Ok(word_u8(src, at))
+    }
+
     ghost taken = { scalar_taken (λ n t. t ≡ number (pos n)) };
 
     ghost told = { λ h. scalar_told ty.U8 (λ n t. t ≡ number (pos n)) };
@@ -71,6 +93,16 @@ impl Lift for i16 {
         at: u64,
     ) -> Result<i16, Fault> {
         Ok(load_u16(cx.memory(), at).cast_signed())
+    }
+
+    fn lift_words<U, G>(
+        _alloc: Global,
+        _cx: &mut LiftContext<'_, U, G>,
+        _ty: InterfaceType,
+        src: &[ValRaw],
+        at: usize,
+    ) -> Result<i16, Fault> {
+        Ok(word_u16(src, at).cast_signed())
     }
 
     ghost taken = { scalar_taken (λ n t. t ≡ number n) };
@@ -94,6 +126,16 @@ impl Lift for u16 {
         Ok(load_u16(cx.memory(), at))
     }
 
+    fn lift_words<U, G>(
+        _alloc: Global,
+        _cx: &mut LiftContext<'_, U, G>,
+        _ty: InterfaceType,
+        src: &[ValRaw],
+        at: usize,
+    ) -> Result<u16, Fault> {
+        Ok(word_u16(src, at))
+    }
+
     ghost taken = { scalar_taken (λ n t. t ≡ number (pos n)) };
 
     ghost told = { λ h. scalar_told ty.U16 (λ n t. t ≡ number (pos n)) };
@@ -113,6 +155,16 @@ impl Lift for i32 {
         at: u64,
     ) -> Result<i32, Fault> {
         Ok(load_u32(cx.memory(), at).cast_signed())
+    }
+
+    fn lift_words<U, G>(
+        _alloc: Global,
+        _cx: &mut LiftContext<'_, U, G>,
+        _ty: InterfaceType,
+        src: &[ValRaw],
+        at: usize,
+    ) -> Result<i32, Fault> {
+        Ok(word_u32(src, at).cast_signed())
     }
 
     ghost taken = { scalar_taken (λ n t. t ≡ number n) };
@@ -136,6 +188,16 @@ impl Lift for u32 {
         Ok(load_u32(cx.memory(), at))
     }
 
+    fn lift_words<U, G>(
+        _alloc: Global,
+        _cx: &mut LiftContext<'_, U, G>,
+        _ty: InterfaceType,
+        src: &[ValRaw],
+        at: usize,
+    ) -> Result<u32, Fault> {
+        Ok(word_u32(src, at))
+    }
+
     ghost taken = { scalar_taken (λ n t. t ≡ number (pos n)) };
 
     ghost told = { λ h. scalar_told ty.U32 (λ n t. t ≡ number (pos n)) };
@@ -155,6 +217,16 @@ impl Lift for i64 {
         at: u64,
     ) -> Result<i64, Fault> {
         Ok(load_u64(cx.memory(), at).cast_signed())
+    }
+
+    fn lift_words<U, G>(
+        _alloc: Global,
+        _cx: &mut LiftContext<'_, U, G>,
+        _ty: InterfaceType,
+        src: &[ValRaw],
+        at: usize,
+    ) -> Result<i64, Fault> {
+        Ok(word_u64(src, at).cast_signed())
     }
 
     ghost taken = { scalar_taken (λ n t. t ≡ number n) };
@@ -178,6 +250,16 @@ impl Lift for u64 {
         Ok(load_u64(cx.memory(), at))
     }
 
+    fn lift_words<U, G>(
+        _alloc: Global,
+        _cx: &mut LiftContext<'_, U, G>,
+        _ty: InterfaceType,
+        src: &[ValRaw],
+        at: usize,
+    ) -> Result<u64, Fault> {
+        Ok(word_u64(src, at))
+    }
+
     ghost taken = { scalar_taken (λ n t. t ≡ number (pos n)) };
 
     ghost told = { λ h. scalar_told ty.U64 (λ n t. t ≡ number (pos n)) };
@@ -197,6 +279,16 @@ impl Lift for Float32Bits {
         at: u64,
     ) -> Result<Float32Bits, Fault> {
         Ok(Float32Bits(load_u32(cx.memory(), at)))
+    }
+
+    fn lift_words<U, G>(
+        _alloc: Global,
+        _cx: &mut LiftContext<'_, U, G>,
+        _ty: InterfaceType,
+        src: &[ValRaw],
+        at: usize,
+    ) -> Result<Float32Bits, Fault> {
+        Ok(Float32Bits(word_u32(src, at)))
     }
 
     ghost taken = { scalar_taken (λ x t. t ≡ number (pos x.0)) };
@@ -220,6 +312,16 @@ impl Lift for Float64Bits {
         Ok(Float64Bits(load_u64(cx.memory(), at)))
     }
 
+    fn lift_words<U, G>(
+        _alloc: Global,
+        _cx: &mut LiftContext<'_, U, G>,
+        _ty: InterfaceType,
+        src: &[ValRaw],
+        at: usize,
+    ) -> Result<Float64Bits, Fault> {
+        Ok(Float64Bits(word_u64(src, at)))
+    }
+
     ghost taken = { scalar_taken (λ x t. t ≡ number (pos x.0)) };
 
     ghost told = { λ h. scalar_told ty.Float64 (λ x t. t ≡ number (pos x.0)) };
@@ -239,6 +341,16 @@ impl Lift for bool {
         at: u64,
     ) -> Result<bool, Fault> {
         Ok(load_u8(cx.memory(), at) != 0)
+    }
+
+    fn lift_words<U, G>(
+        _alloc: Global,
+        _cx: &mut LiftContext<'_, U, G>,
+        _ty: InterfaceType,
+        src: &[ValRaw],
+        at: usize,
+    ) -> Result<bool, Fault> {
+        Ok(word_u32(src, at) != 0)
     }
 
     ghost taken = { scalar_taken (λ b t. t ≡ truth b) };
@@ -262,6 +374,19 @@ impl Lift for char {
         match char::from_u32(load_u32(cx.memory(), at)) {
             Some(c) => Ok(c),
             None => Err(Fault::InvalidChar(At::Address(at))),
+        }
+    }
+
+    fn lift_words<U, G>(
+        _alloc: Global,
+        _cx: &mut LiftContext<'_, U, G>,
+        _ty: InterfaceType,
+        src: &[ValRaw],
+        at: usize,
+    ) -> Result<char, Fault> {
+        match char::from_u32(word_u32(src, at)) {
+            Some(c) => Ok(c),
+            None => Err(Fault::InvalidChar(word_at(at))),
         }
     }
 

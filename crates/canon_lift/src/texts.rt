@@ -12,8 +12,10 @@ ghost use Rattle.canon_lift.specs.Readings.{text_charge, text_reading};
 ghost use Rattle.canon_lift.specs.Taken.{tree_taken};
 
 use crate::Lift;
+use crate::words::{word_at, word_u32};
 use canon_bytes::load_u32;
 use canon_context::{At, Fault, LiftContext, Source};
+use canon_memory::ValRaw;
 use canon_string::load_text;
 use canon_types::InterfaceType;
 use std::alloc::Global;
@@ -64,6 +66,18 @@ impl Lift for String {
         let pointer = u64::from(load_u32(cx.memory(), at));
         let length = u64::from(load_u32(cx.memory(), at + 4));
         text_of(alloc, cx, pointer, length, At::Address(at))
+    }
+
+    fn lift_words<U, G>(
+        alloc: Global,
+        cx: &mut LiftContext<'_, U, G>,
+        _ty: InterfaceType,
+        src: &[ValRaw],
+        at: usize,
+    ) -> Result<String, Fault> {
+        let pointer = u64::from(word_u32(src, at));
+        let length = u64::from(word_u32(src, at + 1));
+        text_of(alloc, cx, pointer, length, word_at(at))
     }
 
     ghost taken = { tree_taken TextMeans text_charge true };

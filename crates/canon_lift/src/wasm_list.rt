@@ -11,8 +11,10 @@ ghost use Rattle.canon_lift.specs.Reading.{setting_in};
 ghost use Rattle.canon_lift.specs.Taken.{none_taken};
 
 use crate::Lift;
+use crate::words::{word_at, word_u32};
 use canon_bytes::load_u32;
 use canon_context::{At, Fault, LiftContext};
+use canon_memory::ValRaw;
 use canon_typed::{ComponentType, TypecheckFailed};
 use canon_types::{CanonicalAbiInfo, InstanceType, InterfaceType, OptionsIndex, StoreId};
 use std::alloc::Global;
@@ -144,6 +146,22 @@ impl<T: ComponentType> Lift for WasmList<T> {
         let pointer = u64::from(load_u32(cx.memory(), at));
         let count = u64::from(load_u32(cx.memory(), at + 4));
         list_from(cx, element, pointer, count, At::Address(at))
+    }
+
+    fn lift_words<U, G>(
+        _alloc: Global,
+        cx: &mut LiftContext<'_, U, G>,
+        ty: InterfaceType,
+        src: &[ValRaw],
+        at: usize,
+    ) -> Result<WasmList<T>, Fault> {
+        let InterfaceType::List(i) = ty else {
+            unreachable!()
+        };
+        let element = cx.types().list(i).element;
+        let pointer = u64::from(word_u32(src, at));
+        let count = u64::from(word_u32(src, at + 1));
+        list_from(cx, element, pointer, count, word_at(at))
     }
 
     ghost taken = { λ w at s before after v h. none_taken before after h.1 };

@@ -11,8 +11,10 @@ ghost use Rattle.canon_lift.specs.Reading.{setting_in};
 ghost use Rattle.canon_lift.specs.Taken.{none_taken};
 
 use crate::Lift;
+use crate::words::{word_at, word_u32};
 use canon_bytes::load_u32;
 use canon_context::{At, Fault, LiftContext};
+use canon_memory::ValRaw;
 use canon_text::UTF16_TAG;
 use canon_typed::{ComponentType, TypecheckFailed};
 use canon_types::{
@@ -136,6 +138,18 @@ impl Lift for WasmStr {
         let pointer = u64::from(load_u32(cx.memory(), at));
         let length = u64::from(load_u32(cx.memory(), at + 4));
         text_from(cx, pointer, length, At::Address(at))
+    }
+
+    fn lift_words<U, G>(
+        _alloc: Global,
+        cx: &mut LiftContext<'_, U, G>,
+        _ty: InterfaceType,
+        src: &[ValRaw],
+        at: usize,
+    ) -> Result<WasmStr, Fault> {
+        let pointer = u64::from(word_u32(src, at));
+        let length = u64::from(word_u32(src, at + 1));
+        text_from(cx, pointer, length, word_at(at))
     }
 
     ghost taken = { λ w at s before after v h. none_taken before after h.2 };
