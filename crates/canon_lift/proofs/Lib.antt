@@ -9,3 +9,4 @@ pub mod MemberSteps
 pub mod PairLifting
 pub mod MapLifting
 pub mod HandleSteps
+pub mod WordRooms

@@ -53,7 +53,7 @@ known_second t None (Some y) h = h 0 y (omega arith)
 known_second t (Some x) (Some y) h = h 1 y (omega arith)
 
 module _ (t t2 : Table) (j : ℕ) (type some : InterfaceType) (info : VariantInfo) (memory : List ℕ) (at : ℕ) (same : t2 ≡ t) (is : type ≡ ty.Option j) (d : IsDefined t2 (ty.Option j) (OptionType some)) where
-  option_shape : shape_of t type ≡ option_of (shape_of t some)
+  pub option_shape : shape_of t type ≡ option_of (shape_of t some)
   option_shape = ap (shape_of t) is ∙ subst (λ (x : Table). shape_of x (ty.Option j) ≡ option_of (shape_of x some)) same d.shape
 
   pub option_cases : HasInfo info (variant_cases (shape_of t2 (ty.Option j))) → at % align false (shape_of t type) ≡ 0 → at + size false (shape_of t type) ≤ length memory → IsOfCases (shape_of t type) info memory at
@@ -124,7 +124,7 @@ module _ (t t2 : Table) (j : ℕ) (type : InterfaceType) (ok error : Option Inte
   abbrev bad : Option Shape
   bad = payload_in (all_shapes t) error
 
-  result_shape : shape_of t type ≡ result_of good bad
+  pub result_shape : shape_of t type ≡ result_of good bad
   result_shape = ap (shape_of t) is ∙ subst (λ (x : Table). shape_of x (ty.Result j) ≡ result_of (payload_in (all_shapes x) ok) (payload_in (all_shapes x) error)) same d.shape
 
   pub result_cases : (info : VariantInfo) (memory : List ℕ) (at : ℕ) → HasInfo info (variant_cases (shape_of t2 (ty.Result j))) → at % align false (shape_of t type) ≡ 0 → at + size false (shape_of t type) ≤ length memory
