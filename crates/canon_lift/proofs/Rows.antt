@@ -148,3 +148,20 @@ module _ {A : Type 0} (w : Setting) (element : InterfaceType) (p n : ℕ) (v : W
       subst (λ k. Refused (vec_reading k R) w (stored p) (shape_of w.types.types element) before fuel e after left) is.count
       (subst (λ k. Refused (vec_reading v.count R) w (stored k) (shape_of w.types.types element) before fuel e after left) is.pointer
       (subst (λ t. Refused (vec_reading v.count R) w (stored v.pointer) (shape_of w.types.types t) before fuel e after left) is.element_is r))
+
+-- ---- items in words
+
+module _ {D G A : Type 0} (R : Reading A) (core : Parts D G) (o : ℕ) (type : InterfaceType) (ws : List ℕ) where
+  abbrev in_words : Setting
+  in_words = setting_in core o
+
+  -- what lifting an item answered, where only the ledger changed
+  pub word_lifts : (now : Parts D G) (o2 p k step at : ℕ) (before after : LedgerState) (fuel left : ℕ) (r : Result A Fault) → now ≡ record core { ledger = now.ledger } → o2 ≡ o → step ≡ flat (shape_of (types_of core) type) → at ≡ p + k * step
+      → Lifts R (setting_in now o2) (flat_in ws at) (shape_of (types_of now) type) before fuel r after left
+      → Lifts R in_words (item_spot in_words.memory (shape_of (types_of core) type) (flat_in ws p) k) (shape_of (types_of core) type) before fuel r after left
+  word_lifts now o2 p k step at before after fuel left r same eo es place h =
+      let one : Shape = shape_of (types_of core) type in
+      let there : flat_in ws at ≡ item_spot in_words.memory one (flat_in ws p) k = ap (λ n. flat_in ws n) (place ∙ ap (λ n. p + k * n) es) in
+      subst (λ x. Lifts R in_words x one before fuel r after left) there
+      (subst (λ (z : Shape). Lifts R in_words (flat_in ws at) z before fuel r after left) (same_shape core now same type)
+      (subst (λ (v : Setting). Lifts R v (flat_in ws at) (shape_of (types_of now) type) before fuel r after left) (same_setting core now same o o2 eo) h))
