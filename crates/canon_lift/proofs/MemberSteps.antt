@@ -12,7 +12,7 @@ use Rattle.canon_leaves.specs.Parts.{LeavesStop, Part}
 use Rattle.canon_ledger.specs.Ledger.{LedgerState}
 use Rattle.canon_model.proofs.Layouts.{align-dvd-align, align_to-dvd, alignment, members_alignment, members_end-le, members_end-le-size}
 use Rattle.canon_model.specs.Laws.{IsAlignment}
-use Rattle.canon_model.specs.Layout.{align, align_to, begins, ends, members_align, members_end, size}
+use Rattle.canon_model.specs.Layout.{align, align_to, begins, ends, flat, members_align, members_end, members_flat, size}
 use Rattle.canon_model.specs.Memory.{Memory}
 use Rattle.canon_model.specs.Reach as reach
 use Rattle.canon_model.specs.Reach.{Kind}
@@ -172,6 +172,16 @@ module _ {D G B : Type 0} (S : RestReading B) (core now : Parts D G) (same : now
       subst (λ n. Lifts (rest_reading S (stored_from at end) (left_of core)) (setting_in core n) (stored at) (product of_places (left_of core)) before fuel r after left) eo
       (subst (λ (z : Parts D G). Lifts (rest_reading S (stored_from at end) (left_of z)) (setting_in z o2) (stored at) (product of_places (left_of z)) before fuel r after left) same h)
 
+module _ {D G B : Type 0} (S : RestReading B) (core now : Parts D G) (same : now ≡ record core { ledger = now.ledger }) (o o2 : ℕ) (eo : o2 ≡ o) (i j at : ℕ) (ws : List ℕ) where
+  abbrev words_of : Parts D G → Members
+  words_of z = members_of (types_of z) (drop j (table.types_of (types_of z) i))
+
+  pub others_in_words : (before after : LedgerState) (fuel left : ℕ) (r : Result B Fault) → Lifts (rest_reading S (flat_from ws at) (words_of now)) (setting_in now o2) (flat_in ws at) (product of_places (words_of now)) before fuel r after left
+      → Lifts (rest_reading S (flat_from ws at) (words_of core)) (setting_in core o) (flat_in ws at) (product of_places (words_of core)) before fuel r after left
+  others_in_words before after fuel left r h =
+      subst (λ n. Lifts (rest_reading S (flat_from ws at) (words_of core)) (setting_in core n) (flat_in ws at) (product of_places (words_of core)) before fuel r after left) eo
+      (subst (λ (z : Parts D G). Lifts (rest_reading S (flat_from ws at) (words_of z)) (setting_in z o2) (flat_in ws at) (product of_places (words_of z)) before fuel r after left) same h)
+
 -- ---- the whole tuple
 
 tuple_shape : (all : List (Instance → InterfaceType → Type 0)) (j : Instance) (i : ℕ) (type : InterfaceType) → type ≡ ty.Tuple i → IsTupleOf all j type → shape_of j.types type ≡ product of_places (members_of j.types (table.types_of j.types i))
@@ -189,3 +199,7 @@ module _ (all : List (Instance → InterfaceType → Type 0)) (j : Instance) (i 
   tuple_inside memory h =
       let whole : at + size false (product of_places (members_of j.types (table.types_of j.types i))) ≤ length memory = subst (λ (z : Shape). at + size false z ≤ length memory) (tuple_shape all j i type is f) h in
       omega (arith, whole, members_end-le-size false of_places (members_of j.types (table.types_of j.types i)))
+
+  pub tuple_words : (n : ℕ) → at + flat (shape_of j.types type) ≤ n → at + members_flat (members_of j.types (table.types_of j.types i)) ≤ n
+  unfolding flat
+  tuple_words n h = subst (λ (z : Shape). at + flat z ≤ n) (tuple_shape all j i type is f) h
