@@ -1,0 +1,18 @@
+use Rattle.std.proofs.Common.{arith, refl}
+use Rattle.canon_context.specs.Core.{types_of}
+use Rattle.canon_types.specs.Table.{shape_of}
+use Rattle.canon_lift.specs.Reading.{setting_in}
+use Rattle.canon_lift.specs.Spots.{flat_in}
+use Rattle.canon_lift.proofs.Refusals.{out_of_memory_after}
+use Rattle.canon_lift.proofs.compounds.BoxLift.lift_words.Goals as goal
+
+pub returns-in-Ok-clause-lifts : goal.returns-in-Ok-clause-lifts
+returns-in-Ok-clause-lifts g c =
+    let cx = c.args.cx.now in
+    let core = cx.core.now in
+    let w = setting_in core cx.options in
+    let s = shape_of (types_of core) c.args.ty in
+    let after = c.lift_words.new.cx in
+    let (read, spent) = c.in-Ok.ensures.lifts in
+    out_of_memory_after _ w (flat_in c.args.src.now c.args.at) s core.ledger after.core.now.ledger cx.fuel after.fuel refl
+    (g.met.T.Lift.taken w (flat_in c.args.src.now c.args.at) s core.ledger after.core.now.ledger c.in-Ok.value read) (omega (arith, spent))

@@ -1,0 +1,35 @@
+use Rattle.canon_context.specs.Core.{types_of}
+use Rattle.canon_types.specs.Table.{shape_of}
+use Rattle.canon_lift.specs.Reading.{setting_in}
+use Rattle.canon_lift.specs.Spots.{stored}
+use Rattle.canon_lift.proofs.Lookups.{fixed_aligned, fixed_inside, fixed_part, fixed_there}
+use Rattle.canon_lift.proofs.Rows.{fixed_refused, row_items, row_refused}
+use Rattle.canon_lift.proofs.fixed_list.FixedListLift.linear_lift_from_memory.Goals as goal
+
+pub linear_lift_list_from_memory-requires : goal.linear_lift_list_from_memory-requires
+linear_lift_list_from_memory-requires g c =
+    let cx = c.args.cx.now in
+    let core = cx.core.now in
+    let t = types_of core in
+    let list = c.fixed_length_list.result.now in
+    let there = fixed_there g.T.ComponentType.fits core.component.types c.types.result.now c.in-FixedLengthList.i g.row.N list.size c.args.ty list.element c.types.ensures c.in-FixedLengthList.is c.fixed_length_list.ensures.entry c.requires.fits in
+    let s = shape_of t c.args.ty in
+    let u = shape_of t list.element in
+    record {
+      items = row_items (setting_in core cx.options) list.element c.args.at g.row.N c.row-row.result c.row-row.ensures g.T.ComponentType.fits there.known there.fits
+          (fixed_aligned s u g.row.N c.args.at there.shape c.requires.aligned, fixed_inside s u g.row.N c.args.at there.shape core.memory c.requires.inside);
+    }
+
+pub returns-in-Err-clause-lifts : goal.returns-in-Err-clause-lifts
+returns-in-Err-clause-lifts g c =
+    let cx = c.args.cx.now in
+    let core = cx.core.now in
+    let t = types_of core in
+    let w = setting_in core cx.options in
+    let list = c.fixed_length_list.result.now in
+    let there = fixed_there g.T.ComponentType.fits core.component.types c.types.result.now c.in-FixedLengthList.i g.row.N list.size c.args.ty list.element c.types.ensures c.in-FixedLengthList.is c.fixed_length_list.ensures.entry c.requires.fits in
+    let s = shape_of t c.args.ty in
+    let u = shape_of t list.element in
+    let after = c.linear_lift_list_from_memory.new.cx in
+    fixed_refused g.row.N g.T.Lift.reading (λ v. v.items.items) w (stored c.args.at) s u core.ledger after.core.now.ledger cx.fuel after.fuel c.in-Err.fault (fixed_part s u g.row.N c.args.at there.shape)
+    (row_refused w list.element c.args.at g.row.N c.row-row.result c.row-row.ensures g.T.Lift.reading core.ledger after.core.now.ledger cx.fuel after.fuel c.in-Err.fault c.in-Err.ensures.lifts)

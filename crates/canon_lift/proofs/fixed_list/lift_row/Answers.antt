@@ -1,0 +1,66 @@
+use Rattle.std.proofs.Common.{rules, ◌≡◌, ◌≤◌, ◌<◌, ◌+◌, ◌*◌, ◌∙◌, ◌++◌, Err, List, Ok, [], ◌∷◌, ap, arith, length, refl, subst, sym, ℕ}
+use Rattle.canon_context.specs.Core.{Parts, types_of}
+use Rattle.canon_model.specs.Layout.{flat}
+use Rattle.canon_types.specs.Table.{shape_of}
+use Rattle.canon_lift.specs.Reading.{setting_in}
+use Rattle.canon_lift.specs.Readings.{EachReads, item_spot}
+use Rattle.canon_lift.specs.Spots.{flat_in}
+use Rattle.canon_lift.proofs.Rows.{each_more, item_lost, item_refused, reach_more, word_lifts}
+use Rattle.canon_lift.proofs.fixed_list.lift_row.Goals as goal
+
+pub returns-in-Err-push-clause-lifts : goal.returns-in-Err-push-clause-lifts
+returns-in-Err-push-clause-lifts g c =
+    let R = g.T.Lift.reading in
+    let cx = c.args.cx.now in
+    let core = cx.core.now in
+    let i = c.loop-k.invariant in
+    let w = setting_in core cx.options in
+    let s = shape_of (types_of core) c.args.ty in
+    let words : c.flat_words-step.result ≡ flat s = c.flat_words-step.ensures ∙ ap (λ t. flat (shape_of t c.args.ty)) c.types.ensures in
+    let mid = c.loop-k.cx.core.now.ledger in
+    let after = c.lift_words.new.cx in
+    let p = flat_in c.args.src.now c.args.at in
+    let (read, spent) = word_lifts R core cx.options c.args.ty c.args.src.now c.loop-k.cx.core.now c.loop-k.cx.options c.args.at c.loop-k.k c.flat_words-step.result (c.args.at + c.loop-k.k * c.flat_words-step.result) mid after.core.now.ledger
+        c.loop-k.cx.fuel after.fuel (Ok c.in-Ok.item) i.same_core i.same_options words refl c.in-Ok.ensures.lifts in
+    item_lost R w s g.met.T.Lift.taken c.args.count c.loop-k.k p core.ledger mid after.core.now.ledger c.loop-k.items.items c.in-Ok.item cx.fuel c.loop-k.cx.fuel after.fuel
+    (search rules) i.count i.read i.spent read spent
+
+pub returns-in-Err-clause-lifts : goal.returns-in-Err-clause-lifts
+returns-in-Err-clause-lifts g c =
+    let R = g.T.Lift.reading in
+    let cx = c.args.cx.now in
+    let core = cx.core.now in
+    let i = c.loop-k.invariant in
+    let w = setting_in core cx.options in
+    let s = shape_of (types_of core) c.args.ty in
+    let words : c.flat_words-step.result ≡ flat s = c.flat_words-step.ensures ∙ ap (λ t. flat (shape_of t c.args.ty)) c.types.ensures in
+    let mid = c.loop-k.cx.core.now.ledger in
+    let after = c.lift_words.new.cx in
+    item_refused R w s g.met.T.Lift.taken c.args.count c.loop-k.k (flat_in c.args.src.now c.args.at) core.ledger mid after.core.now.ledger c.loop-k.items.items cx.fuel c.loop-k.cx.fuel after.fuel c.in-Err.fault
+    (search rules) i.count i.read i.spent
+    (word_lifts R core cx.options c.args.ty c.args.src.now c.loop-k.cx.core.now c.loop-k.cx.options c.args.at c.loop-k.k c.flat_words-step.result (c.args.at + c.loop-k.k * c.flat_words-step.result) mid after.core.now.ledger
+    c.loop-k.cx.fuel after.fuel (Err c.in-Err.fault) i.same_core i.same_options words refl c.in-Err.ensures.lifts)
+
+pub loop-k-preserved : goal.loop-k-preserved
+loop-k-preserved g c =
+    let R = g.T.Lift.reading in
+    let cx = c.args.cx.now in
+    let core = cx.core.now in
+    let i = c.loop-k.invariant in
+    let w = setting_in core cx.options in
+    let s = shape_of (types_of core) c.args.ty in
+    let words : c.flat_words-step.result ≡ flat s = c.flat_words-step.ensures ∙ ap (λ t. flat (shape_of t c.args.ty)) c.types.ensures in
+    let mid = c.loop-k.cx.core.now.ledger in
+    let after = c.lift_words.new.cx in
+    let p = flat_in c.args.src.now c.args.at in
+    let (read, spent) = word_lifts R core cx.options c.args.ty c.args.src.now c.loop-k.cx.core.now c.loop-k.cx.options c.args.at c.loop-k.k c.flat_words-step.result (c.args.at + c.loop-k.k * c.flat_words-step.result) mid after.core.now.ledger
+        c.loop-k.cx.fuel after.fuel (Ok c.in-Ok.item) i.same_core i.same_options words refl c.in-Ok.ensures.lifts in
+    let there = subst (λ k. R.reads w (item_spot w.memory s p k) s mid c.in-Ok.item after.core.now.ledger) (sym i.count) read in
+    record {
+      count = search rules;
+      read = subst (λ xs. EachReads R w s p core.ledger xs after.core.now.ledger) (sym c.in-Ok-push.ensures.items) (each_more R w s p core.ledger mid after.core.now.ledger c.loop-k.items.items c.in-Ok.item i.read there);
+      spent = omega (arith, i.spent, spent, reach_more R w s c.loop-k.k p);
+      same_core = c.in-Ok.ensures.same_core ∙ ap (λ (z : Parts g.row.U.Denot g.row.G.Denot). record z { ledger = after.core.now.ledger }) i.same_core;
+      same_reference = c.in-Ok.ensures.same_reference ∙ i.same_reference;
+      same_options = c.in-Ok.ensures.same_options ∙ i.same_options;
+    }

@@ -1,0 +1,85 @@
+use Rattle.std.proofs.Common.{rules, ◌≡◌, ◌≤◌, ◌<◌, ◌+◌, ◌-◌, ◌*◌, ◌%◌, ◌∙◌, ◌++◌, Err, List, Ok, [], ◌∷◌, ap, arith, false, length, refl, subst, suc, sym, true, ℕ}
+use Rattle.canon_context.specs.Core.{Parts, types_of}
+use Rattle.canon_context.specs.declared.fault.Fault.TheVariants as fault
+use Rattle.canon_leaves.specs.Parts.{LeavesStop, LeavesTake, Part}
+use Rattle.canon_model.specs.Layout.{align, size}
+use Rattle.canon_types.specs.Table.{shape_of}
+use Rattle.canon_lift.specs.Items.{items_reading}
+use Rattle.canon_lift.specs.Reading.{Lifts, setting_in, stop_of}
+use Rattle.canon_lift.specs.Readings.{EachReads, each_reach, each_steps, item_spot}
+use Rattle.canon_lift.specs.Spots.{stored}
+use Rattle.canon_lift.specs.Taken.{each_counted}
+use Rattle.canon_lift.proofs.Refusals.{out_of_memory_after}
+use Rattle.canon_lift.proofs.Rows.{each_more, item_lifts, item_lost, item_refused, reach_more}
+use Rattle.canon_lift.proofs.Settings.{element_aligned, looked_up_size, same_shape}
+use Rattle.canon_lift.proofs.lift.Lift.linear_lift_list_from_memory.Goals as goal
+
+pub linear_lift_from_memory-requires-clause-aligned : goal.linear_lift_from_memory-requires-clause-aligned
+linear_lift_from_memory-requires-clause-aligned g c =
+    let core = c.args.cx.now.core.now in
+    let list = c.args.list.now in
+    let now = c.loop-k.cx.core.now in
+    let s = shape_of (types_of core) list.element in
+    let bytes : c.from-size.result ≡ size false s = looked_up_size (types_of core) c.types.result.now list.element c.canonical_abi.result.now c.types.ensures c.canonical_abi.ensures _ c.from-size.ensures in
+    subst (λ n. (list.pointer + c.loop-k.k * n) % align false (shape_of (types_of now) list.element) ≡ 0) (sym bytes)
+    (subst (λ z. (list.pointer + c.loop-k.k * size false s) % align false z ≡ 0) (sym (same_shape core now c.loop-k.invariant.same_core list.element))
+    (element_aligned s list.pointer c.loop-k.k c.requires.items.good.0))
+
+pub returns-in-Err-push-clause-lifts : goal.returns-in-Err-push-clause-lifts
+returns-in-Err-push-clause-lifts g c =
+    let R = g.Self.Lift.reading in
+    let cx = c.args.cx.now in
+    let core = cx.core.now in
+    let list = c.args.list.now in
+    let i = c.loop-k.invariant in
+    let w = setting_in core cx.options in
+    let s = shape_of (types_of core) list.element in
+    let bytes : c.from-size.result ≡ size false s = looked_up_size (types_of core) c.types.result.now list.element c.canonical_abi.result.now c.types.ensures c.canonical_abi.ensures _ c.from-size.ensures in
+    let mid = c.loop-k.cx.core.now.ledger in
+    let after = c.linear_lift_from_memory.new.cx in
+    let p = stored list.pointer in
+    let (read, spent) = item_lifts R core cx.options list.element c.loop-k.cx.core.now c.loop-k.cx.options list.pointer c.loop-k.k c.from-size.result (list.pointer + c.loop-k.k * c.from-size.result) mid after.core.now.ledger
+        c.loop-k.cx.fuel after.fuel (Ok c.in-Ok.item) i.same_core i.same_options bytes refl c.in-Ok.ensures.lifts in
+    item_lost R w s g.met.Self.Lift.taken list.count c.loop-k.k p core.ledger mid after.core.now.ledger c.loop-k.items.items c.in-Ok.item cx.fuel c.loop-k.cx.fuel after.fuel
+    (search rules) i.count i.read i.spent read spent
+
+pub returns-in-Err-clause-lifts : goal.returns-in-Err-clause-lifts
+returns-in-Err-clause-lifts g c =
+    let R = g.Self.Lift.reading in
+    let cx = c.args.cx.now in
+    let core = cx.core.now in
+    let list = c.args.list.now in
+    let i = c.loop-k.invariant in
+    let w = setting_in core cx.options in
+    let s = shape_of (types_of core) list.element in
+    let bytes : c.from-size.result ≡ size false s = looked_up_size (types_of core) c.types.result.now list.element c.canonical_abi.result.now c.types.ensures c.canonical_abi.ensures _ c.from-size.ensures in
+    let after = c.linear_lift_from_memory.new.cx in
+    item_refused R w s g.met.Self.Lift.taken list.count c.loop-k.k (stored list.pointer) core.ledger c.loop-k.cx.core.now.ledger after.core.now.ledger c.loop-k.items.items cx.fuel c.loop-k.cx.fuel after.fuel c.in-Err.fault
+    (search rules) i.count i.read i.spent
+    (item_lifts R core cx.options list.element c.loop-k.cx.core.now c.loop-k.cx.options list.pointer c.loop-k.k c.from-size.result (list.pointer + c.loop-k.k * c.from-size.result) c.loop-k.cx.core.now.ledger after.core.now.ledger
+    c.loop-k.cx.fuel after.fuel (Err c.in-Err.fault) i.same_core i.same_options bytes refl c.in-Err.ensures.lifts)
+
+pub loop-k-preserved : goal.loop-k-preserved
+loop-k-preserved g c =
+    let R = g.Self.Lift.reading in
+    let cx = c.args.cx.now in
+    let core = cx.core.now in
+    let list = c.args.list.now in
+    let i = c.loop-k.invariant in
+    let w = setting_in core cx.options in
+    let s = shape_of (types_of core) list.element in
+    let bytes : c.from-size.result ≡ size false s = looked_up_size (types_of core) c.types.result.now list.element c.canonical_abi.result.now c.types.ensures c.canonical_abi.ensures _ c.from-size.ensures in
+    let mid = c.loop-k.cx.core.now.ledger in
+    let after = c.linear_lift_from_memory.new.cx in
+    let p = stored list.pointer in
+    let (read, spent) = item_lifts R core cx.options list.element c.loop-k.cx.core.now c.loop-k.cx.options list.pointer c.loop-k.k c.from-size.result (list.pointer + c.loop-k.k * c.from-size.result) mid after.core.now.ledger
+        c.loop-k.cx.fuel after.fuel (Ok c.in-Ok.item) i.same_core i.same_options bytes refl c.in-Ok.ensures.lifts in
+    let there = subst (λ k. R.reads w (item_spot w.memory s p k) s mid c.in-Ok.item after.core.now.ledger) (sym i.count) read in
+    record {
+      count = search rules;
+      read = subst (λ xs. EachReads R w s p core.ledger xs after.core.now.ledger) (sym c.in-Ok-push.ensures.items) (each_more R w s p core.ledger mid after.core.now.ledger c.loop-k.items.items c.in-Ok.item i.read there);
+      spent = omega (arith, i.spent, spent, reach_more R w s c.loop-k.k p);
+      same_core = c.in-Ok.ensures.same_core ∙ ap (λ (z : Parts g.row.U.Denot g.row.G.Denot). record z { ledger = after.core.now.ledger }) i.same_core;
+      same_reference = c.in-Ok.ensures.same_reference ∙ i.same_reference;
+      same_options = c.in-Ok.ensures.same_options ∙ i.same_options;
+    }

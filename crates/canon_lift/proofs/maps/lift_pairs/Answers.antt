@@ -1,0 +1,87 @@
+use Rattle.std.proofs.Common.{rules, ◌≡◌, ◌≤◌, ◌<◌, ◌+◌, ◌*◌, ◌%◌, ◌++◌, ◌∙◌, ◌∷◌, Err, List, Ok, Some, [], ap, arith, false, length, length-append, refl, subst, suc, sym}
+use Rattle.canon_context.specs.Core.{Parts, types_of}
+use Rattle.canon_context.specs.declared.fault.Fault.TheVariants as fault
+use Rattle.canon_model.specs.Layout.{align, size}
+use Rattle.canon_model.specs.Shape.{tuple}
+use Rattle.canon_types.specs.Table.{shape_of}
+use Rattle.canon_lift.specs.MapsOfTrees.{pair_reading}
+use Rattle.canon_lift.specs.Reading.{Lifts, setting_in}
+use Rattle.canon_lift.specs.Readings.{EachReads, each_reach, item_spot}
+use Rattle.canon_lift.specs.Spots.{stored}
+use Rattle.canon_lift.proofs.PairLifting.{filled_more, pair_item, pair_law, pairs_refused}
+use Rattle.canon_lift.proofs.Rows.{each_more, item_lost, item_refused, reach_more}
+use Rattle.canon_lift.proofs.Settings.{element_aligned}
+use Rattle.canon_lift.proofs.maps.lift_pairs.Goals as goal
+
+pub lift_pair-requires-clause-aligned : goal.lift_pair-requires-clause-aligned
+lift_pair-requires-clause-aligned g c =
+    let core = c.args.cx.now.core.now in
+    let pair = c.args.pair.now in
+    let s = tuple (shape_of (types_of core) pair.key ∷ shape_of (types_of core) pair.value ∷ []) in
+    subst (λ (z : Parts g.row.U.Denot g.row.G.Denot). (c.args.at + c.loop-k.k * c.args.step) % align false (tuple (shape_of (types_of z) pair.key ∷ shape_of (types_of z) pair.value ∷ [])) ≡ 0) (sym c.loop-k.invariant.same_core)
+    (subst (λ n. (c.args.at + c.loop-k.k * n) % align false s ≡ 0) (sym c.requires.step) (element_aligned s c.args.at c.loop-k.k c.requires.aligned))
+
+pub returns-in-Err-clause-lifts : goal.returns-in-Err-clause-lifts
+returns-in-Err-clause-lifts g c =
+    let R = pair_reading g.K.Lift.reading g.V.Lift.reading in
+    let taken = pair_law g.K.Lift.reading g.V.Lift.reading g.met.K.Lift.taken g.met.V.Lift.taken in
+    let cx = c.args.cx.now in
+    let core = cx.core.now in
+    let pair = c.args.pair.now in
+    let i = c.loop-k.invariant in
+    let w = setting_in core cx.options in
+    let s = tuple (shape_of (types_of core) pair.key ∷ shape_of (types_of core) pair.value ∷ []) in
+    let p = stored c.args.at in
+    let mid = c.loop-k.cx.core.now.ledger in
+    let after = c.lift_pair.new.cx in
+    let (pairs, count, each, filled) = i.read in
+    pairs_refused g.K.PartialEq.eq c.args.count g.K.Lift.reading g.V.Lift.reading w p s core.ledger after.core.now.ledger cx.fuel after.fuel c.in-Err.fault
+    (item_refused R w s taken c.args.count c.loop-k.k p core.ledger mid after.core.now.ledger pairs cx.fuel c.loop-k.cx.fuel after.fuel c.in-Err.fault (search rules) count each i.spent
+    (pair_item g.K.Lift.reading g.V.Lift.reading core cx.options pair.key pair.value c.loop-k.cx.core.now c.loop-k.cx.options c.args.at c.loop-k.k c.args.step (c.args.at + c.loop-k.k * c.args.step) mid after.core.now.ledger
+        c.loop-k.cx.fuel after.fuel (Err c.in-Err.fault) i.same_core i.same_options c.requires.step refl c.in-Err.ensures.lifts))
+
+pub returns-in-Err-insert-clause-lifts : goal.returns-in-Err-insert-clause-lifts
+returns-in-Err-insert-clause-lifts g c =
+    let R = pair_reading g.K.Lift.reading g.V.Lift.reading in
+    let taken = pair_law g.K.Lift.reading g.V.Lift.reading g.met.K.Lift.taken g.met.V.Lift.taken in
+    let cx = c.args.cx.now in
+    let core = cx.core.now in
+    let pair = c.args.pair.now in
+    let i = c.loop-k.invariant in
+    let w = setting_in core cx.options in
+    let s = tuple (shape_of (types_of core) pair.key ∷ shape_of (types_of core) pair.value ∷ []) in
+    let p = stored c.args.at in
+    let mid = c.loop-k.cx.core.now.ledger in
+    let after = c.lift_pair.new.cx in
+    let (pairs, count, each, filled) = i.read in
+    let (read, spent) = pair_item g.K.Lift.reading g.V.Lift.reading core cx.options pair.key pair.value c.loop-k.cx.core.now c.loop-k.cx.options c.args.at c.loop-k.k c.args.step (c.args.at + c.loop-k.k * c.args.step) mid after.core.now.ledger
+        c.loop-k.cx.fuel after.fuel (Ok (c.in-Ok.key, c.in-Ok.value)) i.same_core i.same_options c.requires.step refl c.in-Ok.ensures.lifts in
+    pairs_refused g.K.PartialEq.eq c.args.count g.K.Lift.reading g.V.Lift.reading w p s core.ledger after.core.now.ledger cx.fuel after.fuel fault.OutOfMemory
+    (item_lost R w s taken c.args.count c.loop-k.k p core.ledger mid after.core.now.ledger pairs (c.in-Ok.key, c.in-Ok.value) cx.fuel c.loop-k.cx.fuel after.fuel (search rules) count each i.spent read spent)
+
+pub loop-k-preserved : goal.loop-k-preserved
+loop-k-preserved g c =
+    let R = pair_reading g.K.Lift.reading g.V.Lift.reading in
+    let taken = pair_law g.K.Lift.reading g.V.Lift.reading g.met.K.Lift.taken g.met.V.Lift.taken in
+    let cx = c.args.cx.now in
+    let core = cx.core.now in
+    let pair = c.args.pair.now in
+    let i = c.loop-k.invariant in
+    let w = setting_in core cx.options in
+    let s = tuple (shape_of (types_of core) pair.key ∷ shape_of (types_of core) pair.value ∷ []) in
+    let p = stored c.args.at in
+    let mid = c.loop-k.cx.core.now.ledger in
+    let after = c.lift_pair.new.cx in
+    let (pairs, count, each, filled) = i.read in
+    let (read, spent) = pair_item g.K.Lift.reading g.V.Lift.reading core cx.options pair.key pair.value c.loop-k.cx.core.now c.loop-k.cx.options c.args.at c.loop-k.k c.args.step (c.args.at + c.loop-k.k * c.args.step) mid after.core.now.ledger
+        c.loop-k.cx.fuel after.fuel (Ok (c.in-Ok.key, c.in-Ok.value)) i.same_core i.same_options c.requires.step refl c.in-Ok.ensures.lifts in
+    let there = subst (λ k. R.reads w (item_spot w.memory s p k) s mid (c.in-Ok.key, c.in-Ok.value) after.core.now.ledger) (sym count) read in
+    let more : length (pairs ++ (c.in-Ok.key, c.in-Ok.value) ∷ []) ≡ c.loop-k.k + 1 = length-append pairs ((c.in-Ok.key, c.in-Ok.value) ∷ []) ∙ ap (λ n. n + 1) count in
+    record {
+      read = (pairs ++ (c.in-Ok.key, c.in-Ok.value) ∷ [], more, each_more R w s p core.ledger mid after.core.now.ledger pairs (c.in-Ok.key, c.in-Ok.value) each there,
+          filled_more g.K.PartialEq.eq pairs c.loop-k.map c.insert.new.self (c.in-Ok.key, c.in-Ok.value) filled c.in-Ok-insert.ensures.updates);
+      spent = omega (arith, i.spent, spent, reach_more R w s c.loop-k.k p);
+      same_core = c.in-Ok.ensures.same_core ∙ ap (λ (z : Parts g.row.U.Denot g.row.G.Denot). record z { ledger = after.core.now.ledger }) i.same_core;
+      same_reference = c.in-Ok.ensures.same_reference ∙ i.same_reference;
+      same_options = c.in-Ok.ensures.same_options ∙ i.same_options;
+    }

@@ -1,0 +1,12 @@
+pub mod Spots
+pub mod Reading
+pub mod Readings
+pub mod Items
+pub mod Rests
+pub mod Firsts
+pub mod Taken
+pub mod OfTrees
+pub mod RowsOfTrees
+pub mod Ranges
+pub mod MapsOfTrees
+pub mod Handles

@@ -1,0 +1,20 @@
+//! Lifting of Rust values: from the memory of a guest, and texts and lists that stay there.
+#![tactic(auto)]
+
+mod compounds;
+mod fixed_list;
+mod handles;
+mod lift;
+mod lists;
+mod maps;
+mod members;
+mod scalars;
+mod texts;
+mod tuples;
+mod wasm_list;
+mod wasm_str;
+mod words;
+
+pub use lift::Lift;
+pub use wasm_list::WasmList;
+pub use wasm_str::WasmStr;

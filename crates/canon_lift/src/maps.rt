@@ -1,0 +1,189 @@
+//! Maps.
+
+ghost use Rattle.std.specs.Prelude.{◌≡◌, ◌≤◌, ◌<◌, ◌+◌, ◌*◌, ◌%◌, ◌^◌, ◌&&◌, ◌∷◌, [], false, length};
+ghost use Rattle.canon_abi.specs.Abi.{HasLayout};
+ghost use Rattle.canon_context.specs.Core.{types_of};
+ghost use Rattle.canon_model.specs.Layout.{align, begins, ends, size};
+ghost use Rattle.canon_model.specs.Shape.{Shape, tuple};
+ghost use Rattle.canon_types.specs.Table.{Knows, shape_of};
+ghost use Rattle.canon_typed.specs.Charges.{cap};
+ghost use Rattle.canon_lift.specs.MapsOfTrees.{map_reading, map_taken, map_told, pair_reading, pairs_reading};
+ghost use Rattle.canon_lift.specs.OfTrees.{left_true, right_true};
+ghost use Rattle.canon_lift.specs.Ranges.{RangeTested};
+ghost use Rattle.canon_lift.specs.Reading.{Lifts, setting_in};
+ghost use Rattle.canon_lift.specs.Spots.{stored};
+
+use crate::Lift;
+use crate::words::{word_at, word_u32};
+use canon_bytes::load_u32;
+use canon_context::{At, Fault, LiftContext};
+use canon_memory::ValRaw;
+use canon_typed::ComponentType;
+use canon_types::{CanonicalAbiInfo, InterfaceType};
+use std::alloc::Global;
+use std::collections::HashMap;
+use std::hash::Hash;
+
+/// The types of the keys and values of a map, and where the value of a pair begins.
+#[derive(Clone, Copy)]
+struct Pair {
+    key: InterfaceType,
+    value: InterfaceType,
+    offset: u64,
+}
+
+/// Lifts the pair of a key and a value at an address.
+fn lift_pair<K: Lift, V: Lift, U, G>(
+    alloc: Global,
+    cx: &mut LiftContext<'_, U, G>,
+    pair: &Pair,
+    at: u64,
+) -> Result<(K, V), Fault>
+    requires key { Knows (types_of cx.old.core.now) pair.now.key }
+    requires value { Knows (types_of cx.old.core.now) pair.now.value }
+    requires key_fits { K.fits cx.old.core.now.component.types pair.now.key }
+    requires value_fits { V.fits cx.old.core.now.component.types pair.now.value }
+    requires offset { pair.now.offset ≡ begins false (ends false 0 (shape_of (types_of cx.old.core.now) pair.now.key)) (shape_of (types_of cx.old.core.now) pair.now.value) }
+    requires aligned { at % align false (tuple (shape_of (types_of cx.old.core.now) pair.now.key ∷ shape_of (types_of cx.old.core.now) pair.now.value ∷ [])) ≡ 0 }
+    requires inside { at + size false (tuple (shape_of (types_of cx.old.core.now) pair.now.key ∷ shape_of (types_of cx.old.core.now) pair.now.value ∷ [])) ≤ length cx.old.core.now.memory }
+    ensures lifts { Lifts (pair_reading K.reading V.reading) (setting_in cx.old.core.now cx.old.options) (stored at) (tuple (shape_of (types_of cx.old.core.now) pair.now.key ∷ shape_of (types_of cx.old.core.now) pair.now.value ∷ []))
+        cx.old.core.now.ledger cx.old.fuel result cx.new.core.now.ledger cx.new.fuel }
+    ensures same_core { cx.new.core.now ≡ record cx.old.core.now { ledger = cx.new.core.now.ledger } }
+    ensures same_reference { cx.new.core.ghost_name ≡ cx.old.core.ghost_name }
+    ensures same_options { cx.new.options ≡ cx.old.options }
+{
+    let _memory = cx.core.memory(); // memory has at most 2^32 bytes
+    match K::linear_lift_from_memory(alloc, cx, pair.key, at) {
+        Ok(key) => match V::linear_lift_from_memory(alloc, cx, pair.value, at + pair.offset) {
+            Ok(value) => Ok((key, value)),
+            Err(fault) => Err(fault),
+        },
+        Err(fault) => Err(fault),
+    }
+}
+
+/// Lifts so many pairs that stand in a row from an address on. Of pairs with one key the last one stays.
+fn lift_pairs<K: Lift + Eq + Hash, V: Lift, U, G>(
+    alloc: Global,
+    cx: &mut LiftContext<'_, U, G>,
+    pair: &Pair,
+    step: u64,
+    at: u64,
+    count: u64,
+) -> Result<HashMap<K, V>, Fault>
+    requires key { Knows (types_of cx.old.core.now) pair.now.key }
+    requires value { Knows (types_of cx.old.core.now) pair.now.value }
+    requires key_fits { K.fits cx.old.core.now.component.types pair.now.key }
+    requires value_fits { V.fits cx.old.core.now.component.types pair.now.value }
+    requires offset { pair.now.offset ≡ begins false (ends false 0 (shape_of (types_of cx.old.core.now) pair.now.key)) (shape_of (types_of cx.old.core.now) pair.now.value) }
+    requires step { step ≡ size false (tuple (shape_of (types_of cx.old.core.now) pair.now.key ∷ shape_of (types_of cx.old.core.now) pair.now.value ∷ [])) }
+    requires aligned { at % align false (tuple (shape_of (types_of cx.old.core.now) pair.now.key ∷ shape_of (types_of cx.old.core.now) pair.now.value ∷ [])) ≡ 0 }
+    requires inside { at + count * size false (tuple (shape_of (types_of cx.old.core.now) pair.now.key ∷ shape_of (types_of cx.old.core.now) pair.now.value ∷ [])) ≤ length cx.old.core.now.memory }
+    ensures lifts { Lifts (pairs_reading K.eq count K.reading V.reading) (setting_in cx.old.core.now cx.old.options) (stored at) (tuple (shape_of (types_of cx.old.core.now) pair.now.key ∷ shape_of (types_of cx.old.core.now) pair.now.value ∷ []))
+        cx.old.core.now.ledger cx.old.fuel result cx.new.core.now.ledger cx.new.fuel }
+    ensures same_core { cx.new.core.now ≡ record cx.old.core.now { ledger = cx.new.core.now.ledger } }
+    ensures same_reference { cx.new.core.ghost_name ≡ cx.old.core.ghost_name }
+    ensures same_options { cx.new.options ≡ cx.old.options }
+{
+    let _memory = cx.core.memory(); // memory has at most 2^32 bytes
+    let mut map = HashMap::new(alloc);
+    for k in 0..count {
+        match lift_pair(alloc, cx, pair, at + k * step) {
+            Ok((key, value)) => match map.insert(key, value) {
+                Ok(_) => {}
+                Err(_) => return Err(Fault::OutOfMemory),
+            },
+            Err(fault) => return Err(fault),
+        }
+    }
+    Ok(map)
+}
+
+/// Tests the range of so many pairs at a pointer that stands at `at`, and charges them: they end inside memory, the fuel is enough,
+/// and the pointer is aligned.
+fn test_pairs<K: ComponentType, V: ComponentType, U, G>(
+    cx: &mut LiftContext<'_, U, G>,
+    abi: &CanonicalAbiInfo,
+    pointer: u64,
+    count: u64,
+    at: At,
+) -> Result<(), Fault>
+    requires narrow { pointer < 2 ^ 32 }
+    requires narrow_count { count < 2 ^ 32 }
+    requires aligned { 0 < abi.now.align32 }
+    ensures tested { (s : Shape) → HasLayout abi.now s → RangeTested (setting_in cx.old.core.now cx.old.options) s (cap (K.host_bytes + V.host_bytes)) pointer count at cx.old.fuel result cx.new.fuel }
+    ensures same { cx.new ≡ record cx.old { fuel = cx.new.fuel } }
+{
+    if pointer + count * u64::from(abi.size32) > cx.memory().len() as u64 {
+        return Err(Fault::PointerOutOfBounds(at));
+    }
+    match cx.consume_fuel_array(count, <(K, V) as ComponentType>::host_size()) {
+        Ok(()) => {}
+        Err(fault) => return Err(fault),
+    }
+    if pointer % u64::from(abi.align32) != 0 {
+        return Err(Fault::PointerMisaligned(at));
+    }
+    Ok(())
+}
+
+impl<K: Lift + Eq + Hash, V: Lift> Lift for HashMap<K, V> {
+    ghost reading = { map_reading K.eq (cap (K.host_bytes + V.host_bytes)) K.reading V.reading };
+
+    fn unit_value() -> Option<HashMap<K, V>> {
+        None
+    }
+
+    fn linear_lift_from_memory<U, G>(
+        alloc: Global,
+        cx: &mut LiftContext<'_, U, G>,
+        ty: InterfaceType,
+        at: u64,
+    ) -> Result<HashMap<K, V>, Fault> {
+        let InterfaceType::Map(i) = ty else {
+            unreachable!()
+        };
+        let map = cx.types().map(i);
+        let pair = Pair {
+            key: map.key,
+            value: map.value,
+            offset: u64::from(map.value_offset32),
+        };
+        let abi = map.entry_abi;
+        let pointer = u64::from(load_u32(cx.memory(), at));
+        let count = u64::from(load_u32(cx.memory(), at + 4));
+        match test_pairs::<K, V, U, G>(cx, &abi, pointer, count, At::Address(at)) {
+            Ok(()) => lift_pairs(alloc, cx, &pair, u64::from(abi.size32), pointer, count),
+            Err(fault) => Err(fault),
+        }
+    }
+
+    fn lift_words<U, G>(
+        alloc: Global,
+        cx: &mut LiftContext<'_, U, G>,
+        ty: InterfaceType,
+        src: &[ValRaw],
+        at: usize,
+    ) -> Result<HashMap<K, V>, Fault> {
+        let InterfaceType::Map(i) = ty else {
+            unreachable!()
+        };
+        let map = cx.types().map(i);
+        let pair = Pair {
+            key: map.key,
+            value: map.value,
+            offset: u64::from(map.value_offset32),
+        };
+        let abi = map.entry_abi;
+        let pointer = u64::from(word_u32(src, at));
+        let count = u64::from(word_u32(src, at + 1));
+        match test_pairs::<K, V, U, G>(cx, &abi, pointer, count, word_at(at)) {
+            Ok(()) => lift_pairs(alloc, cx, &pair, u64::from(abi.size32), pointer, count),
+            Err(fault) => Err(fault),
+        }
+    }
+
+    ghost taken = { map_taken K.eq (cap (K.host_bytes + V.host_bytes)) K.reading V.reading K.taken V.taken };
+
+    ghost told = { λ h. map_told (cap (K.host_bytes + V.host_bytes)) K.fits K.reading K.lifts K.cost V.fits V.reading V.lifts V.cost (K.told (left_true K.is_told V.is_told h)) (V.told (right_true K.is_told V.is_told h)) K.eq };
+}

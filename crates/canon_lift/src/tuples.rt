@@ -1,0 +1,316 @@
+//! Tuples of up to six members.
+
+ghost use Rattle.std.specs.Prelude.{◌&&◌, ◌∷◌, []};
+ghost use Rattle.canon_lift.specs.Firsts.{FirstHave, NoneHave, first_and, first_in, no_more, rest_in};
+ghost use Rattle.canon_lift.specs.OfTrees.{left_true, right_true};
+ghost use Rattle.canon_lift.specs.Readings.{first_reading, none_reading, product_reading};
+ghost use Rattle.canon_lift.specs.RowsOfTrees.{end_told, more_told, tuple_told};
+ghost use Rattle.canon_lift.specs.Taken.{end_taken, more_taken, product_taken};
+
+use crate::Lift;
+use crate::members::{First, LiftMembers};
+use canon_context::{Fault, LiftContext};
+use canon_memory::ValRaw;
+use canon_types::InterfaceType;
+use std::alloc::Global;
+
+impl Lift for () {
+    ghost reading = { product_reading (λ p. no_more) none_reading };
+
+    fn unit_value() -> Option<()> {
+        Some(())
+    }
+
+    fn linear_lift_from_memory<U, G>(
+        alloc: Global,
+        cx: &mut LiftContext<'_, U, G>,
+        ty: InterfaceType,
+        at: u64,
+    ) -> Result<(), Fault> {
+        let InterfaceType::Tuple(i) = ty else {
+            unreachable!()
+        };
+        match <() as LiftMembers>::lift_members(alloc, cx, i, 0, at, 0) {
+            Ok(()) => Ok(()),
+            Err(fault) => Err(fault),
+        }
+    }
+
+    fn lift_words<U, G>(
+        alloc: Global,
+        cx: &mut LiftContext<'_, U, G>,
+        ty: InterfaceType,
+        src: &[ValRaw],
+        at: usize,
+    ) -> Result<(), Fault> {
+        let InterfaceType::Tuple(i) = ty else {
+            unreachable!()
+        };
+        match <() as LiftMembers>::lift_member_words(alloc, cx, i, 0, src, at) {
+            Ok(()) => Ok(()),
+            Err(fault) => Err(fault),
+        }
+    }
+
+    ghost taken = { product_taken (λ p. no_more) none_reading end_taken };
+
+    ghost told = { λ h. tuple_told (λ p. no_more) [] none_reading NoneHave [] end_told };
+}
+
+impl<A: Lift> Lift for (A,) {
+    ghost reading = { product_reading (λ p. (first_and p.0 no_more)) (first_reading first_in rest_in A.reading none_reading) };
+
+    fn unit_value() -> Option<(A,)> {
+        None
+    }
+
+    fn linear_lift_from_memory<U, G>(
+        alloc: Global,
+        cx: &mut LiftContext<'_, U, G>,
+        ty: InterfaceType,
+        at: u64,
+    ) -> Result<(A,), Fault> {
+        let InterfaceType::Tuple(i) = ty else {
+            unreachable!()
+        };
+        match <First<A, ()> as LiftMembers>::lift_members(alloc, cx, i, 0, at, 0) {
+            Ok(First { first: a, rest: () }) => Ok((a,)),
+            Err(fault) => Err(fault),
+        }
+    }
+
+    fn lift_words<U, G>(
+        alloc: Global,
+        cx: &mut LiftContext<'_, U, G>,
+        ty: InterfaceType,
+        src: &[ValRaw],
+        at: usize,
+    ) -> Result<(A,), Fault> {
+        let InterfaceType::Tuple(i) = ty else {
+            unreachable!()
+        };
+        match <First<A, ()> as LiftMembers>::lift_member_words(alloc, cx, i, 0, src, at) {
+            Ok(First { first: a, rest: () }) => Ok((a,)),
+            Err(fault) => Err(fault),
+        }
+    }
+
+    ghost taken = { product_taken (λ p. (first_and p.0 no_more)) (first_reading first_in rest_in A.reading none_reading) (more_taken first_in rest_in A.reading none_reading A.taken end_taken) };
+
+    ghost told = { λ h. tuple_told (λ p. (first_and p.0 no_more)) (A.fits ∷ []) (first_reading first_in rest_in A.reading none_reading) (FirstHave A.lifts NoneHave) (A.cost ∷ []) (more_told first_in rest_in A.fits A.reading A.lifts A.cost (A.told h) [] none_reading NoneHave [] end_told) };
+}
+
+impl<A: Lift, B: Lift> Lift for (A, B) {
+    ghost reading = { product_reading (λ p. (first_and p.0 (first_and p.1 no_more))) (first_reading first_in rest_in A.reading (first_reading first_in rest_in B.reading none_reading)) };
+
+    fn unit_value() -> Option<(A, B)> {
+        None
+    }
+
+    fn linear_lift_from_memory<U, G>(
+        alloc: Global,
+        cx: &mut LiftContext<'_, U, G>,
+        ty: InterfaceType,
+        at: u64,
+    ) -> Result<(A, B), Fault> {
+        let InterfaceType::Tuple(i) = ty else {
+            unreachable!()
+        };
+        match <First<A, First<B, ()>> as LiftMembers>::lift_members(alloc, cx, i, 0, at, 0) {
+            Ok(First { first: a, rest: First { first: b, rest: () } }) => Ok((a, b)),
+            Err(fault) => Err(fault),
+        }
+    }
+
+    fn lift_words<U, G>(
+        alloc: Global,
+        cx: &mut LiftContext<'_, U, G>,
+        ty: InterfaceType,
+        src: &[ValRaw],
+        at: usize,
+    ) -> Result<(A, B), Fault> {
+        let InterfaceType::Tuple(i) = ty else {
+            unreachable!()
+        };
+        match <First<A, First<B, ()>> as LiftMembers>::lift_member_words(alloc, cx, i, 0, src, at) {
+            Ok(First { first: a, rest: First { first: b, rest: () } }) => Ok((a, b)),
+            Err(fault) => Err(fault),
+        }
+    }
+
+    ghost taken = { product_taken (λ p. (first_and p.0 (first_and p.1 no_more))) (first_reading first_in rest_in A.reading (first_reading first_in rest_in B.reading none_reading)) (more_taken first_in rest_in A.reading (first_reading first_in rest_in B.reading none_reading) A.taken (more_taken first_in rest_in B.reading none_reading B.taken end_taken)) };
+
+    ghost told = { λ h. tuple_told (λ p. (first_and p.0 (first_and p.1 no_more))) (A.fits ∷ (B.fits ∷ [])) (first_reading first_in rest_in A.reading (first_reading first_in rest_in B.reading none_reading)) (FirstHave A.lifts (FirstHave B.lifts NoneHave)) (A.cost ∷ (B.cost ∷ [])) (more_told first_in rest_in A.fits A.reading A.lifts A.cost (A.told (left_true A.is_told B.is_told h)) (B.fits ∷ []) (first_reading first_in rest_in B.reading none_reading) (FirstHave B.lifts NoneHave) (B.cost ∷ []) (more_told first_in rest_in B.fits B.reading B.lifts B.cost (B.told (right_true A.is_told B.is_told h)) [] none_reading NoneHave [] end_told)) };
+}
+
+impl<A: Lift, B: Lift, C: Lift> Lift for (A, B, C) {
+    ghost reading = { product_reading (λ p. (first_and p.0 (first_and p.1 (first_and p.2 no_more)))) (first_reading first_in rest_in A.reading (first_reading first_in rest_in B.reading (first_reading first_in rest_in C.reading none_reading))) };
+
+    fn unit_value() -> Option<(A, B, C)> {
+        None
+    }
+
+    fn linear_lift_from_memory<U, G>(
+        alloc: Global,
+        cx: &mut LiftContext<'_, U, G>,
+        ty: InterfaceType,
+        at: u64,
+    ) -> Result<(A, B, C), Fault> {
+        let InterfaceType::Tuple(i) = ty else {
+            unreachable!()
+        };
+        match <First<A, First<B, First<C, ()>>> as LiftMembers>::lift_members(alloc, cx, i, 0, at, 0) {
+            Ok(First { first: a, rest: First { first: b, rest: First { first: c, rest: () } } }) => Ok((a, b, c)),
+            Err(fault) => Err(fault),
+        }
+    }
+
+    fn lift_words<U, G>(
+        alloc: Global,
+        cx: &mut LiftContext<'_, U, G>,
+        ty: InterfaceType,
+        src: &[ValRaw],
+        at: usize,
+    ) -> Result<(A, B, C), Fault> {
+        let InterfaceType::Tuple(i) = ty else {
+            unreachable!()
+        };
+        match <First<A, First<B, First<C, ()>>> as LiftMembers>::lift_member_words(alloc, cx, i, 0, src, at) {
+            Ok(First { first: a, rest: First { first: b, rest: First { first: c, rest: () } } }) => Ok((a, b, c)),
+            Err(fault) => Err(fault),
+        }
+    }
+
+    ghost taken = { product_taken (λ p. (first_and p.0 (first_and p.1 (first_and p.2 no_more)))) (first_reading first_in rest_in A.reading (first_reading first_in rest_in B.reading (first_reading first_in rest_in C.reading none_reading))) (more_taken first_in rest_in A.reading (first_reading first_in rest_in B.reading (first_reading first_in rest_in C.reading none_reading)) A.taken (more_taken first_in rest_in B.reading (first_reading first_in rest_in C.reading none_reading) B.taken (more_taken first_in rest_in C.reading none_reading C.taken end_taken))) };
+
+    ghost told = { λ h. tuple_told (λ p. (first_and p.0 (first_and p.1 (first_and p.2 no_more)))) (A.fits ∷ (B.fits ∷ (C.fits ∷ []))) (first_reading first_in rest_in A.reading (first_reading first_in rest_in B.reading (first_reading first_in rest_in C.reading none_reading))) (FirstHave A.lifts (FirstHave B.lifts (FirstHave C.lifts NoneHave))) (A.cost ∷ (B.cost ∷ (C.cost ∷ []))) (more_told first_in rest_in A.fits A.reading A.lifts A.cost (A.told (left_true A.is_told B.is_told (left_true (A.is_told && B.is_told) C.is_told h))) (B.fits ∷ (C.fits ∷ [])) (first_reading first_in rest_in B.reading (first_reading first_in rest_in C.reading none_reading)) (FirstHave B.lifts (FirstHave C.lifts NoneHave)) (B.cost ∷ (C.cost ∷ [])) (more_told first_in rest_in B.fits B.reading B.lifts B.cost (B.told (right_true A.is_told B.is_told (left_true (A.is_told && B.is_told) C.is_told h))) (C.fits ∷ []) (first_reading first_in rest_in C.reading none_reading) (FirstHave C.lifts NoneHave) (C.cost ∷ []) (more_told first_in rest_in C.fits C.reading C.lifts C.cost (C.told (right_true (A.is_told && B.is_told) C.is_told h)) [] none_reading NoneHave [] end_told))) };
+}
+
+impl<A: Lift, B: Lift, C: Lift, D: Lift> Lift for (A, B, C, D) {
+    ghost reading = { product_reading (λ p. (first_and p.0 (first_and p.1 (first_and p.2 (first_and p.3 no_more))))) (first_reading first_in rest_in A.reading (first_reading first_in rest_in B.reading (first_reading first_in rest_in C.reading (first_reading first_in rest_in D.reading none_reading)))) };
+
+    fn unit_value() -> Option<(A, B, C, D)> {
+        None
+    }
+
+    fn linear_lift_from_memory<U, G>(
+        alloc: Global,
+        cx: &mut LiftContext<'_, U, G>,
+        ty: InterfaceType,
+        at: u64,
+    ) -> Result<(A, B, C, D), Fault> {
+        let InterfaceType::Tuple(i) = ty else {
+            unreachable!()
+        };
+        match <First<A, First<B, First<C, First<D, ()>>>> as LiftMembers>::lift_members(alloc, cx, i, 0, at, 0) {
+            Ok(First { first: a, rest: First { first: b, rest: First { first: c, rest: First { first: d, rest: () } } } }) => Ok((a, b, c, d)),
+            Err(fault) => Err(fault),
+        }
+    }
+
+    fn lift_words<U, G>(
+        alloc: Global,
+        cx: &mut LiftContext<'_, U, G>,
+        ty: InterfaceType,
+        src: &[ValRaw],
+        at: usize,
+    ) -> Result<(A, B, C, D), Fault> {
+        let InterfaceType::Tuple(i) = ty else {
+            unreachable!()
+        };
+        match <First<A, First<B, First<C, First<D, ()>>>> as LiftMembers>::lift_member_words(alloc, cx, i, 0, src, at) {
+            Ok(First { first: a, rest: First { first: b, rest: First { first: c, rest: First { first: d, rest: () } } } }) => Ok((a, b, c, d)),
+            Err(fault) => Err(fault),
+        }
+    }
+
+    ghost taken = { product_taken (λ p. (first_and p.0 (first_and p.1 (first_and p.2 (first_and p.3 no_more))))) (first_reading first_in rest_in A.reading (first_reading first_in rest_in B.reading (first_reading first_in rest_in C.reading (first_reading first_in rest_in D.reading none_reading)))) (more_taken first_in rest_in A.reading (first_reading first_in rest_in B.reading (first_reading first_in rest_in C.reading (first_reading first_in rest_in D.reading none_reading))) A.taken (more_taken first_in rest_in B.reading (first_reading first_in rest_in C.reading (first_reading first_in rest_in D.reading none_reading)) B.taken (more_taken first_in rest_in C.reading (first_reading first_in rest_in D.reading none_reading) C.taken (more_taken first_in rest_in D.reading none_reading D.taken end_taken)))) };
+
+    ghost told = { λ h. tuple_told (λ p. (first_and p.0 (first_and p.1 (first_and p.2 (first_and p.3 no_more))))) (A.fits ∷ (B.fits ∷ (C.fits ∷ (D.fits ∷ [])))) (first_reading first_in rest_in A.reading (first_reading first_in rest_in B.reading (first_reading first_in rest_in C.reading (first_reading first_in rest_in D.reading none_reading)))) (FirstHave A.lifts (FirstHave B.lifts (FirstHave C.lifts (FirstHave D.lifts NoneHave)))) (A.cost ∷ (B.cost ∷ (C.cost ∷ (D.cost ∷ [])))) (more_told first_in rest_in A.fits A.reading A.lifts A.cost (A.told (left_true A.is_told B.is_told (left_true (A.is_told && B.is_told) C.is_told (left_true ((A.is_told && B.is_told) && C.is_told) D.is_told h)))) (B.fits ∷ (C.fits ∷ (D.fits ∷ []))) (first_reading first_in rest_in B.reading (first_reading first_in rest_in C.reading (first_reading first_in rest_in D.reading none_reading))) (FirstHave B.lifts (FirstHave C.lifts (FirstHave D.lifts NoneHave))) (B.cost ∷ (C.cost ∷ (D.cost ∷ []))) (more_told first_in rest_in B.fits B.reading B.lifts B.cost (B.told (right_true A.is_told B.is_told (left_true (A.is_told && B.is_told) C.is_told (left_true ((A.is_told && B.is_told) && C.is_told) D.is_told h)))) (C.fits ∷ (D.fits ∷ [])) (first_reading first_in rest_in C.reading (first_reading first_in rest_in D.reading none_reading)) (FirstHave C.lifts (FirstHave D.lifts NoneHave)) (C.cost ∷ (D.cost ∷ [])) (more_told first_in rest_in C.fits C.reading C.lifts C.cost (C.told (right_true (A.is_told && B.is_told) C.is_told (left_true ((A.is_told && B.is_told) && C.is_told) D.is_told h))) (D.fits ∷ []) (first_reading first_in rest_in D.reading none_reading) (FirstHave D.lifts NoneHave) (D.cost ∷ []) (more_told first_in rest_in D.fits D.reading D.lifts D.cost (D.told (right_true ((A.is_told && B.is_told) && C.is_told) D.is_told h)) [] none_reading NoneHave [] end_told)))) };
+}
+
+impl<A: Lift, B: Lift, C: Lift, D: Lift, E: Lift> Lift for (A, B, C, D, E) {
+    ghost reading = { product_reading (λ p. (first_and p.0 (first_and p.1 (first_and p.2 (first_and p.3 (first_and p.4 no_more)))))) (first_reading first_in rest_in A.reading (first_reading first_in rest_in B.reading (first_reading first_in rest_in C.reading (first_reading first_in rest_in D.reading (first_reading first_in rest_in E.reading none_reading))))) };
+
+    fn unit_value() -> Option<(A, B, C, D, E)> {
+        None
+    }
+
+    fn linear_lift_from_memory<U, G>(
+        alloc: Global,
+        cx: &mut LiftContext<'_, U, G>,
+        ty: InterfaceType,
+        at: u64,
+    ) -> Result<(A, B, C, D, E), Fault> {
+        let InterfaceType::Tuple(i) = ty else {
+            unreachable!()
+        };
+        match <First<A, First<B, First<C, First<D, First<E, ()>>>>> as LiftMembers>::lift_members(alloc, cx, i, 0, at, 0) {
+            Ok(First { first: a, rest: First { first: b, rest: First { first: c, rest: First { first: d, rest: First { first: e, rest: () } } } } }) => Ok((a, b, c, d, e)),
+            Err(fault) => Err(fault),
+        }
+    }
+
+    fn lift_words<U, G>(
+        alloc: Global,
+        cx: &mut LiftContext<'_, U, G>,
+        ty: InterfaceType,
+        src: &[ValRaw],
+        at: usize,
+    ) -> Result<(A, B, C, D, E), Fault> {
+        let InterfaceType::Tuple(i) = ty else {
+            unreachable!()
+        };
+        match <First<A, First<B, First<C, First<D, First<E, ()>>>>> as LiftMembers>::lift_member_words(alloc, cx, i, 0, src, at) {
+            Ok(First { first: a, rest: First { first: b, rest: First { first: c, rest: First { first: d, rest: First { first: e, rest: () } } } } }) => Ok((a, b, c, d, e)),
+            Err(fault) => Err(fault),
+        }
+    }
+
+    ghost taken = { product_taken (λ p. (first_and p.0 (first_and p.1 (first_and p.2 (first_and p.3 (first_and p.4 no_more)))))) (first_reading first_in rest_in A.reading (first_reading first_in rest_in B.reading (first_reading first_in rest_in C.reading (first_reading first_in rest_in D.reading (first_reading first_in rest_in E.reading none_reading))))) (more_taken first_in rest_in A.reading (first_reading first_in rest_in B.reading (first_reading first_in rest_in C.reading (first_reading first_in rest_in D.reading (first_reading first_in rest_in E.reading none_reading)))) A.taken (more_taken first_in rest_in B.reading (first_reading first_in rest_in C.reading (first_reading first_in rest_in D.reading (first_reading first_in rest_in E.reading none_reading))) B.taken (more_taken first_in rest_in C.reading (first_reading first_in rest_in D.reading (first_reading first_in rest_in E.reading none_reading)) C.taken (more_taken first_in rest_in D.reading (first_reading first_in rest_in E.reading none_reading) D.taken (more_taken first_in rest_in E.reading none_reading E.taken end_taken))))) };
+
+    ghost told = { λ h. tuple_told (λ p. (first_and p.0 (first_and p.1 (first_and p.2 (first_and p.3 (first_and p.4 no_more)))))) (A.fits ∷ (B.fits ∷ (C.fits ∷ (D.fits ∷ (E.fits ∷ []))))) (first_reading first_in rest_in A.reading (first_reading first_in rest_in B.reading (first_reading first_in rest_in C.reading (first_reading first_in rest_in D.reading (first_reading first_in rest_in E.reading none_reading))))) (FirstHave A.lifts (FirstHave B.lifts (FirstHave C.lifts (FirstHave D.lifts (FirstHave E.lifts NoneHave))))) (A.cost ∷ (B.cost ∷ (C.cost ∷ (D.cost ∷ (E.cost ∷ []))))) (more_told first_in rest_in A.fits A.reading A.lifts A.cost (A.told (left_true A.is_told B.is_told (left_true (A.is_told && B.is_told) C.is_told (left_true ((A.is_told && B.is_told) && C.is_told) D.is_told (left_true (((A.is_told && B.is_told) && C.is_told) && D.is_told) E.is_told h))))) (B.fits ∷ (C.fits ∷ (D.fits ∷ (E.fits ∷ [])))) (first_reading first_in rest_in B.reading (first_reading first_in rest_in C.reading (first_reading first_in rest_in D.reading (first_reading first_in rest_in E.reading none_reading)))) (FirstHave B.lifts (FirstHave C.lifts (FirstHave D.lifts (FirstHave E.lifts NoneHave)))) (B.cost ∷ (C.cost ∷ (D.cost ∷ (E.cost ∷ [])))) (more_told first_in rest_in B.fits B.reading B.lifts B.cost (B.told (right_true A.is_told B.is_told (left_true (A.is_told && B.is_told) C.is_told (left_true ((A.is_told && B.is_told) && C.is_told) D.is_told (left_true (((A.is_told && B.is_told) && C.is_told) && D.is_told) E.is_told h))))) (C.fits ∷ (D.fits ∷ (E.fits ∷ []))) (first_reading first_in rest_in C.reading (first_reading first_in rest_in D.reading (first_reading first_in rest_in E.reading none_reading))) (FirstHave C.lifts (FirstHave D.lifts (FirstHave E.lifts NoneHave))) (C.cost ∷ (D.cost ∷ (E.cost ∷ []))) (more_told first_in rest_in C.fits C.reading C.lifts C.cost (C.told (right_true (A.is_told && B.is_told) C.is_told (left_true ((A.is_told && B.is_told) && C.is_told) D.is_told (left_true (((A.is_told && B.is_told) && C.is_told) && D.is_told) E.is_told h)))) (D.fits ∷ (E.fits ∷ [])) (first_reading first_in rest_in D.reading (first_reading first_in rest_in E.reading none_reading)) (FirstHave D.lifts (FirstHave E.lifts NoneHave)) (D.cost ∷ (E.cost ∷ [])) (more_told first_in rest_in D.fits D.reading D.lifts D.cost (D.told (right_true ((A.is_told && B.is_told) && C.is_told) D.is_told (left_true (((A.is_told && B.is_told) && C.is_told) && D.is_told) E.is_told h))) (E.fits ∷ []) (first_reading first_in rest_in E.reading none_reading) (FirstHave E.lifts NoneHave) (E.cost ∷ []) (more_told first_in rest_in E.fits E.reading E.lifts E.cost (E.told (right_true (((A.is_told && B.is_told) && C.is_told) && D.is_told) E.is_told h)) [] none_reading NoneHave [] end_told))))) };
+}
+
+impl<A: Lift, B: Lift, C: Lift, D: Lift, E: Lift, F: Lift> Lift for (A, B, C, D, E, F) {
+    ghost reading = { product_reading (λ p. (first_and p.0 (first_and p.1 (first_and p.2 (first_and p.3 (first_and p.4 (first_and p.5 no_more))))))) (first_reading first_in rest_in A.reading (first_reading first_in rest_in B.reading (first_reading first_in rest_in C.reading (first_reading first_in rest_in D.reading (first_reading first_in rest_in E.reading (first_reading first_in rest_in F.reading none_reading)))))) };
+
+    fn unit_value() -> Option<(A, B, C, D, E, F)> {
+        None
+    }
+
+    fn linear_lift_from_memory<U, G>(
+        alloc: Global,
+        cx: &mut LiftContext<'_, U, G>,
+        ty: InterfaceType,
+        at: u64,
+    ) -> Result<(A, B, C, D, E, F), Fault> {
+        let InterfaceType::Tuple(i) = ty else {
+            unreachable!()
+        };
+        match <First<A, First<B, First<C, First<D, First<E, First<F, ()>>>>>> as LiftMembers>::lift_members(alloc, cx, i, 0, at, 0) {
+            Ok(First { first: a, rest: First { first: b, rest: First { first: c, rest: First { first: d, rest: First { first: e, rest: First { first: f, rest: () } } } } } }) => Ok((a, b, c, d, e, f)),
+            Err(fault) => Err(fault),
+        }
+    }
+
+    fn lift_words<U, G>(
+        alloc: Global,
+        cx: &mut LiftContext<'_, U, G>,
+        ty: InterfaceType,
+        src: &[ValRaw],
+        at: usize,
+    ) -> Result<(A, B, C, D, E, F), Fault> {
+        let InterfaceType::Tuple(i) = ty else {
+            unreachable!()
+        };
+        match <First<A, First<B, First<C, First<D, First<E, First<F, ()>>>>>> as LiftMembers>::lift_member_words(alloc, cx, i, 0, src, at) {
+            Ok(First { first: a, rest: First { first: b, rest: First { first: c, rest: First { first: d, rest: First { first: e, rest: First { first: f, rest: () } } } } } }) => Ok((a, b, c, d, e, f)),
+            Err(fault) => Err(fault),
+        }
+    }
+
+    ghost taken = { product_taken (λ p. (first_and p.0 (first_and p.1 (first_and p.2 (first_and p.3 (first_and p.4 (first_and p.5 no_more))))))) (first_reading first_in rest_in A.reading (first_reading first_in rest_in B.reading (first_reading first_in rest_in C.reading (first_reading first_in rest_in D.reading (first_reading first_in rest_in E.reading (first_reading first_in rest_in F.reading none_reading)))))) (more_taken first_in rest_in A.reading (first_reading first_in rest_in B.reading (first_reading first_in rest_in C.reading (first_reading first_in rest_in D.reading (first_reading first_in rest_in E.reading (first_reading first_in rest_in F.reading none_reading))))) A.taken (more_taken first_in rest_in B.reading (first_reading first_in rest_in C.reading (first_reading first_in rest_in D.reading (first_reading first_in rest_in E.reading (first_reading first_in rest_in F.reading none_reading)))) B.taken (more_taken first_in rest_in C.reading (first_reading first_in rest_in D.reading (first_reading first_in rest_in E.reading (first_reading first_in rest_in F.reading none_reading))) C.taken (more_taken first_in rest_in D.reading (first_reading first_in rest_in E.reading (first_reading first_in rest_in F.reading none_reading)) D.taken (more_taken first_in rest_in E.reading (first_reading first_in rest_in F.reading none_reading) E.taken (more_taken first_in rest_in F.reading none_reading F.taken end_taken)))))) };
+
+    ghost told = { λ h. tuple_told (λ p. (first_and p.0 (first_and p.1 (first_and p.2 (first_and p.3 (first_and p.4 (first_and p.5 no_more))))))) (A.fits ∷ (B.fits ∷ (C.fits ∷ (D.fits ∷ (E.fits ∷ (F.fits ∷ [])))))) (first_reading first_in rest_in A.reading (first_reading first_in rest_in B.reading (first_reading first_in rest_in C.reading (first_reading first_in rest_in D.reading (first_reading first_in rest_in E.reading (first_reading first_in rest_in F.reading none_reading)))))) (FirstHave A.lifts (FirstHave B.lifts (FirstHave C.lifts (FirstHave D.lifts (FirstHave E.lifts (FirstHave F.lifts NoneHave)))))) (A.cost ∷ (B.cost ∷ (C.cost ∷ (D.cost ∷ (E.cost ∷ (F.cost ∷ [])))))) (more_told first_in rest_in A.fits A.reading A.lifts A.cost (A.told (left_true A.is_told B.is_told (left_true (A.is_told && B.is_told) C.is_told (left_true ((A.is_told && B.is_told) && C.is_told) D.is_told (left_true (((A.is_told && B.is_told) && C.is_told) && D.is_told) E.is_told (left_true ((((A.is_told && B.is_told) && C.is_told) && D.is_told) && E.is_told) F.is_told h)))))) (B.fits ∷ (C.fits ∷ (D.fits ∷ (E.fits ∷ (F.fits ∷ []))))) (first_reading first_in rest_in B.reading (first_reading first_in rest_in C.reading (first_reading first_in rest_in D.reading (first_reading first_in rest_in E.reading (first_reading first_in rest_in F.reading none_reading))))) (FirstHave B.lifts (FirstHave C.lifts (FirstHave D.lifts (FirstHave E.lifts (FirstHave F.lifts NoneHave))))) (B.cost ∷ (C.cost ∷ (D.cost ∷ (E.cost ∷ (F.cost ∷ []))))) (more_told first_in rest_in B.fits B.reading B.lifts B.cost (B.told (right_true A.is_told B.is_told (left_true (A.is_told && B.is_told) C.is_told (left_true ((A.is_told && B.is_told) && C.is_told) D.is_told (left_true (((A.is_told && B.is_told) && C.is_told) && D.is_told) E.is_told (left_true ((((A.is_told && B.is_told) && C.is_told) && D.is_told) && E.is_told) F.is_told h)))))) (C.fits ∷ (D.fits ∷ (E.fits ∷ (F.fits ∷ [])))) (first_reading first_in rest_in C.reading (first_reading first_in rest_in D.reading (first_reading first_in rest_in E.reading (first_reading first_in rest_in F.reading none_reading)))) (FirstHave C.lifts (FirstHave D.lifts (FirstHave E.lifts (FirstHave F.lifts NoneHave)))) (C.cost ∷ (D.cost ∷ (E.cost ∷ (F.cost ∷ [])))) (more_told first_in rest_in C.fits C.reading C.lifts C.cost (C.told (right_true (A.is_told && B.is_told) C.is_told (left_true ((A.is_told && B.is_told) && C.is_told) D.is_told (left_true (((A.is_told && B.is_told) && C.is_told) && D.is_told) E.is_told (left_true ((((A.is_told && B.is_told) && C.is_told) && D.is_told) && E.is_told) F.is_told h))))) (D.fits ∷ (E.fits ∷ (F.fits ∷ []))) (first_reading first_in rest_in D.reading (first_reading first_in rest_in E.reading (first_reading first_in rest_in F.reading none_reading))) (FirstHave D.lifts (FirstHave E.lifts (FirstHave F.lifts NoneHave))) (D.cost ∷ (E.cost ∷ (F.cost ∷ []))) (more_told first_in rest_in D.fits D.reading D.lifts D.cost (D.told (right_true ((A.is_told && B.is_told) && C.is_told) D.is_told (left_true (((A.is_told && B.is_told) && C.is_told) && D.is_told) E.is_told (left_true ((((A.is_told && B.is_told) && C.is_told) && D.is_told) && E.is_told) F.is_told h)))) (E.fits ∷ (F.fits ∷ [])) (first_reading first_in rest_in E.reading (first_reading first_in rest_in F.reading none_reading)) (FirstHave E.lifts (FirstHave F.lifts NoneHave)) (E.cost ∷ (F.cost ∷ [])) (more_told first_in rest_in E.fits E.reading E.lifts E.cost (E.told (right_true (((A.is_told && B.is_told) && C.is_told) && D.is_told) E.is_told (left_true ((((A.is_told && B.is_told) && C.is_told) && D.is_told) && E.is_told) F.is_told h))) (F.fits ∷ []) (first_reading first_in rest_in F.reading none_reading) (FirstHave F.lifts NoneHave) (F.cost ∷ []) (more_told first_in rest_in F.fits F.reading F.lifts F.cost (F.told (right_true ((((A.is_told && B.is_told) && C.is_told) && D.is_told) && E.is_told) F.is_told h)) [] none_reading NoneHave [] end_told)))))) };
+}
