@@ -1,5 +1,5 @@
 -- How a handle is given to the guest for a resource.
-use Rattle.std.specs.Prelude.{Bool, Err, IfErr, IfOk, List, None, Ok, Result, [], false, if◌then◌else◌, true, ℕ, ◌<◌, ◌^◌, ◌≡◌, ◌⊎◌, ◌∷◌}
+use Rattle.std.specs.Prelude.{Bool, Err, IfErr, IfOk, List, None, Ok, Result, [], false, if◌then◌else◌, true, ℕ, ◌<◌, ◌^◌, ◌≡◌, ◌≢◌, ◌⊎◌, ◌∷◌}
 use Rattle.canon_context.specs.Core.{Parts}
 use Rattle.canon_context.specs.declared.fault.Fault.{Fault}
 use Rattle.canon_leaves.specs.Parts.{Part, borrow_in, host_own, is_defined_here, is_of_type, lend_inserted, lower_parts, own_in, passed, passed_parts, refuse, table_for, tell}
@@ -48,15 +48,15 @@ held_gives kind state rep i (own r) = held_parts true i r kind state rep ∷ []
 held_gives kind state rep i (borrow r) = held_parts false i r kind state rep ∷ []
 held_gives kind state rep i s = []
 
--- One that was in no table and was to be lent stands at the index that the host's table gave. It stays only where it was refused (`ok` is
--- false) and nothing changed.
+-- Where the handle of one is that was in no table and was to be lent: at the index that the host's table gave; or in no table still, where it
+-- was refused (`ok` is false) and nothing changed.
 abbrev pub IsPlaced : Bool → ℕ → LedgerState → LedgerState → ResourceState → Type 0
 IsPlaced ok rep before after new =
-    ((x : GivenIndex) × ((given before (host_resource_lower_own before rep None None)).answer ≡ Ok x) × (new ≡ state.Index x))
+    ((x : GivenIndex) × ((given before (host_resource_lower_own before rep None None)).answer ≡ Ok x) × (new ≡ state.Index x) × (after ≢ before))
     ⊎ ((ok ≡ false) × (after ≡ before) × (new ≡ state.NotInTable))
 
--- Where the handle of a resource is afterwards that was in the state `old`, and `typed` if it is of the wanted type. As own, one that was in
--- no table is taken, also where it was refused; every other that isn't lent from no table stays where it is.
+-- Where the handle of a resource is after it was lowered or refused; `typed` says whether it is of the wanted type, and `old` where it was. As
+-- own, one that was in no table is taken, also where the guest's table refused it. As borrow, it was put into the host's. Every other stays.
 abbrev pub StateAfter : Bool → Bool → Bool → ResourceState → ℕ → LedgerState → LedgerState → ResourceState → Type 0
 StateAfter true true ok state.NotInTable rep before after new = new ≡ state.Taken
 StateAfter true false ok state.NotInTable rep before after new = IsPlaced ok rep before after new
