@@ -11,6 +11,7 @@ pub mod MapSteps
 pub mod MemberSteps
 pub mod OptionSteps
 pub mod PairSteps
+pub mod Placed
 pub mod ResultSteps
 pub mod Rows
 pub mod ScalarSteps

@@ -1,8 +1,10 @@
 -- How a handle is given to the guest for a resource.
-use Rattle.std.specs.Prelude.{Bool, Err, IfErr, IfOk, List, None, Result, [], false, if◌then◌else◌, true, ℕ, ◌<◌, ◌^◌, ◌≡◌, ◌∷◌}
+use Rattle.std.specs.Prelude.{Bool, Err, IfErr, IfOk, List, None, Ok, Result, [], false, if◌then◌else◌, true, ℕ, ◌<◌, ◌^◌, ◌≡◌, ◌≢◌, ◌⊎◌, ◌∷◌}
 use Rattle.canon_context.specs.Core.{Parts}
 use Rattle.canon_context.specs.declared.fault.Fault.{Fault}
 use Rattle.canon_leaves.specs.Parts.{Part, borrow_in, host_own, is_defined_here, is_of_type, lend_inserted, lower_parts, own_in, passed, passed_parts, refuse, table_for, tell}
+use Rattle.canon_ledger.specs.Index.{GivenIndex}
+use Rattle.canon_ledger.specs.Ledger.{LedgerState, given, host_resource_lower_own}
 use Rattle.canon_ledger.specs.declared.fault.ResourceFault.TheVariants as resource
 use Rattle.canon_lower.specs.Blames.{IsElsewhere}
 use Rattle.canon_lower.specs.Lowers.{EndsBy, HandlesCross}
@@ -45,6 +47,25 @@ abbrev pub held_gives : ResourceType → ResourceState → ℕ → Instance → 
 held_gives kind state rep i (own r) = held_parts true i r kind state rep ∷ []
 held_gives kind state rep i (borrow r) = held_parts false i r kind state rep ∷ []
 held_gives kind state rep i s = []
+
+-- Where the handle of one is that was in no table and was to be lent: at the index that the host's table gave; or in no table still, where it
+-- was refused (`ok` is false) and nothing changed.
+abbrev pub IsPlaced : Bool → ℕ → LedgerState → LedgerState → ResourceState → Type 0
+IsPlaced ok rep before after new =
+    ((x : GivenIndex) × ((given before (host_resource_lower_own before rep None None)).answer ≡ Ok x) × (new ≡ state.Index x) × (after ≢ before))
+    ⊎ ((ok ≡ false) × (after ≡ before) × (new ≡ state.NotInTable))
+
+-- Where the handle of a resource is after it was lowered or refused; `typed` says whether it is of the wanted type, and `old` where it was. As
+-- own, one that was in no table is taken, also where the guest's table refused it. As borrow, it was put into the host's. Every other stays.
+abbrev pub StateAfter : Bool → Bool → Bool → ResourceState → ℕ → LedgerState → LedgerState → ResourceState → Type 0
+StateAfter true true ok state.NotInTable rep before after new = new ≡ state.Taken
+StateAfter true false ok state.NotInTable rep before after new = IsPlaced ok rep before after new
+StateAfter typed owned ok old rep before after new = new ≡ old
+
+abbrev pub HeldAfter : ResourceType → ResourceState → ℕ → Instance → Shape → Bool → LedgerState → LedgerState → ResourceState → Type 0
+HeldAfter kind old rep i (own r) ok before after new = StateAfter (is_of_type (resource_type_at i r) kind) true ok old rep before after new
+HeldAfter kind old rep i (borrow r) ok before after new = StateAfter (is_of_type (resource_type_at i r) kind) false ok old rep before after new
+HeldAfter kind old rep i s ok before after new = new ≡ old
 
 -- the number that the guest is given for a resource, or why it was refused; nothing but the ledger changed
 pub record GivesNumber {D G : Type 0} (before after : Parts D G) (gives : List (List Part)) (result : Result ℕ Fault) : Type 0 where

@@ -1,21 +1,22 @@
 //! Resources of the host: an own one that is given away is taken, and one that is lent stands in the host's table.
 
-ghost use Rattle.std.specs.Prelude.{◌≡◌, ◌≤◌, ◌+◌, false, length, true, ℕ};
+ghost use Rattle.std.specs.Prelude.{◌≡◌, ◌≤◌, ◌+◌, false, is_ok, length, refl, true, ℕ};
 ghost use Rattle.canon_context.specs.Core.{SameButLedger, types_of};
 ghost use Rattle.canon_leaves.specs.Parts as parts;
 ghost use Rattle.canon_leaves.specs.Parts.{LeafMoves};
-ghost use Rattle.canon_lower.specs.Handles.{GivesNumber, held_gives, held_parts};
+ghost use Rattle.canon_lower.specs.Handles.{GivesNumber, HeldAfter, StateAfter, held_gives, held_parts};
 ghost use Rattle.canon_lower.specs.Stores.{TypedStores};
 ghost use Rattle.canon_lower.specs.Words.{TypedLowers};
 ghost use Rattle.canon_model.specs.Layout.{flat, size};
+ghost use Rattle.canon_resources.specs.Types.{as_host};
 ghost use Rattle.canon_resources.specs.declared.host.ResourceState.{ResourceState as State};
-ghost use Rattle.canon_resources.specs.declared.host.ResourceState.TheVariants.{NotInTable};
-ghost use Rattle.canon_types.specs.Resource.{resource_type_at};
+ghost use Rattle.canon_resources.specs.declared.host.ResourceState.TheVariants.{Index, NotInTable, Taken};
+ghost use Rattle.canon_types.specs.Resource.{as_host_dynamic, resource_type_at};
 ghost use Rattle.canon_types.specs.Table.{HasResource, Knows, shape_of};
 ghost use Rattle.canon_types.specs.declared.resource.ResourceType.{ResourceType as Kind};
 ghost use Rattle.canon_types.specs.declared.resource.ResourceType.TheVariants.{Host, HostDynamic};
 ghost use Rattle.canon_typed.specs.Meaning.{IsHandle};
-ghost use Rattle.canon_typed.specs.Types.{IsHandleType};
+ghost use Rattle.canon_typed.specs.Types.{IsHandleOf, IsHandleType};
 
 use crate::Lower;
 use crate::put::put;
@@ -36,6 +37,9 @@ trait HeldResource {
 
     ghost kind: { Self → Kind };
 
+    // it with its handle there
+    ghost with_state: { State → Self → Self };
+
     /// Where its handle is.
     fn state(&self) -> ResourceState
         ensures { result ≡ state self.now };
@@ -50,11 +54,18 @@ trait HeldResource {
 
     /// It was given away.
     fn take(&mut self)
-        requires { state self.old ≡ NotInTable };
+        requires { state self.old ≡ NotInTable }
+        ensures taken { state self.new ≡ Taken }
+        ensures rest { self.new ≡ with_state (state self.new) self.old };
 
     /// It was put into the host's table at this index.
     fn place(&mut self, idx: HostResourceIndex)
-        requires { state self.old ≡ NotInTable };
+        requires { state self.old ≡ NotInTable }
+        ensures placed { state self.new ≡ Index idx }
+        ensures rest { self.new ≡ with_state (state self.new) self.old };
+
+    // where its handle is, it is itself
+    ghost is_itself: { (v : Self) → v ≡ with_state (state v) v };
 }
 
 impl<T: HostResourceType<R>, R: Copy> HeldResource for HostResource<T, R> {
@@ -63,6 +74,10 @@ impl<T: HostResourceType<R>, R: Copy> HeldResource for HostResource<T, R> {
     ghost rep = { λ v. v.rep };
 
     ghost kind = { λ v. T.type_of v.ty };
+
+    ghost with_state = { λ s v. record v { state = s } };
+
+    ghost is_itself = { λ v. refl };
 
     fn state(&self) -> ResourceState {
         self.state()
@@ -92,6 +107,10 @@ impl<T: HostType> HeldResource for Resource<T> {
 
     ghost kind = { λ v. Host T.ID };
 
+    ghost with_state = { λ s v. record v { state = s } };
+
+    ghost is_itself = { λ v. refl };
+
     fn state(&self) -> ResourceState {
         self.state()
     }
@@ -119,6 +138,10 @@ impl HeldResource for ResourceDynamic {
     ghost rep = { λ v. v.rep };
 
     ghost kind = { λ v. HostDynamic v.ty };
+
+    ghost with_state = { λ s v. record v { state = s } };
+
+    ghost is_itself = { λ v. refl };
 
     fn state(&self) -> ResourceState {
         self.state()
@@ -158,6 +181,8 @@ fn give_own<R: HeldResource, D, G>(
 ) -> Result<u32, ResourceFault>
     requires known { HasResource (types_of core.old) t }
     ensures moves { LeafMoves core.old.ledger core.new.ledger (held_parts true core.old.component.types t (R.kind resource.old) (R.state resource.old) (R.rep resource.old)) result }
+    ensures held { StateAfter (parts.is_of_type (resource_type_at core.old.component.types t) (R.kind resource.old)) true (is_ok result) (R.state resource.old) (R.rep resource.old) core.old.ledger core.new.ledger (R.state resource.new) }
+    ensures rest { resource.new ≡ R.with_state (R.state resource.new) resource.old }
     ensures same { SameButLedger core.old core.new }
 {
     let kind = resource.kind();
@@ -178,6 +203,7 @@ fn give_own<R: HeldResource, D, G>(
 
 /// Lends a handle; a borrow gives its representation. One that is in no table is put into the host's first. Refuses
 /// `ResourceTypeMismatch` and `HostConsumed`, in this order.
+#[tactic(auto, using(crate::proofs::Placed::placed))]
 fn lend<R: HeldResource, D, G>(
     resource: &mut R,
     core: &mut Core<D, G>,
@@ -185,6 +211,8 @@ fn lend<R: HeldResource, D, G>(
 ) -> Result<u32, ResourceFault>
     requires known { HasResource (types_of core.old) t }
     ensures moves { LeafMoves core.old.ledger core.new.ledger (held_parts false core.old.component.types t (R.kind resource.old) (R.state resource.old) (R.rep resource.old)) result }
+    ensures held { StateAfter (parts.is_of_type (resource_type_at core.old.component.types t) (R.kind resource.old)) false (is_ok result) (R.state resource.old) (R.rep resource.old) core.old.ledger core.new.ledger (R.state resource.new) }
+    ensures rest { resource.new ≡ R.with_state (R.state resource.new) resource.old }
     ensures same { SameButLedger core.old core.new }
 {
     let kind = resource.kind();
@@ -216,6 +244,9 @@ fn give_held<R: HeldResource, D, G: Guest>(
     requires known { Knows (types_of cx.old.core.now) ty }
     requires fits { IsHandleType cx.old.core.now.component.types ty }
     ensures gives { GivesNumber cx.old.core.now cx.new.core.now (held_gives (R.kind resource.old) (R.state resource.old) (R.rep resource.old) cx.old.core.now.component.types (shape_of (types_of cx.old.core.now) ty)) result }
+    ensures held { HeldAfter (R.kind resource.old) (R.state resource.old) (R.rep resource.old) cx.old.core.now.component.types (shape_of (types_of cx.old.core.now) ty) (is_ok result)
+        cx.old.core.now.ledger cx.new.core.now.ledger (R.state resource.new) }
+    ensures rest { resource.new ≡ R.with_state (R.state resource.new) resource.old }
     ensures same_reference { cx.new.core.ghost_name ≡ cx.old.core.ghost_name }
     ensures same_options { cx.new.options ≡ cx.old.options }
 {
@@ -238,6 +269,9 @@ fn lower_held<R: HeldResource, D, G: Guest>(
     requires words { length dst.old ≡ flat (shape_of (types_of cx.old.core.now) ty) }
     ensures lowers { TypedLowers G.seen G.moves cx.old.options cx.old.core.now cx.new.core.now (shape_of (types_of cx.old.core.now) ty) dst.new 0 IsHandle
         (held_gives (R.kind resource.old) (R.state resource.old) (R.rep resource.old) cx.old.core.now.component.types (shape_of (types_of cx.old.core.now) ty)) result }
+    ensures held { HeldAfter (R.kind resource.old) (R.state resource.old) (R.rep resource.old) cx.old.core.now.component.types (shape_of (types_of cx.old.core.now) ty) (is_ok result)
+        cx.old.core.now.ledger cx.new.core.now.ledger (R.state resource.new) }
+    ensures rest { resource.new ≡ R.with_state (R.state resource.new) resource.old }
     ensures count { length dst.new ≡ length dst.old }
     ensures same_reference { cx.new.core.ghost_name ≡ cx.old.core.ghost_name }
     ensures same_options { cx.new.options ≡ cx.old.options }
@@ -264,6 +298,9 @@ fn store_held<R: HeldResource, D, G: Guest>(
     requires room { offset + size false (shape_of (types_of cx.old.core.now) ty) ≤ length cx.old.core.now.memory }
     ensures stores { TypedStores G.seen G.moves cx.old.options cx.old.core.now cx.new.core.now (shape_of (types_of cx.old.core.now) ty) offset IsHandle
         (held_gives (R.kind resource.old) (R.state resource.old) (R.rep resource.old) cx.old.core.now.component.types (shape_of (types_of cx.old.core.now) ty)) result }
+    ensures held { HeldAfter (R.kind resource.old) (R.state resource.old) (R.rep resource.old) cx.old.core.now.component.types (shape_of (types_of cx.old.core.now) ty) (is_ok result)
+        cx.old.core.now.ledger cx.new.core.now.ledger (R.state resource.new) }
+    ensures rest { resource.new ≡ R.with_state (R.state resource.new) resource.old }
     ensures same_reference { cx.new.core.ghost_name ≡ cx.old.core.ghost_name }
     ensures same_options { cx.new.options ≡ cx.old.options }
 {
@@ -286,7 +323,19 @@ impl<T: HostResourceType<R>, R: Copy> Lower for HostResource<T, R> {
         cx: &mut LowerContext<'_, D, G>,
         ty: InterfaceType,
         dst: &mut [ValRaw],
-    ) -> Result<(), Fault> {
+    ) -> Result<(), Fault>
+        requires known { Knows (types_of cx.old.core.now) ty }
+        requires fits { IsHandleOf T.checked cx.old.core.now.component.types ty }
+        requires words { length dst.old ≡ flat (shape_of (types_of cx.old.core.now) ty) }
+        ensures lowers { TypedLowers G.seen G.moves cx.old.options cx.old.core.now cx.new.core.now (shape_of (types_of cx.old.core.now) ty) dst.new 0 IsHandle
+            (held_gives (T.type_of self.old.ty) self.old.state self.old.rep cx.old.core.now.component.types (shape_of (types_of cx.old.core.now) ty)) result }
+        ensures held { HeldAfter (T.type_of self.old.ty) self.old.state self.old.rep cx.old.core.now.component.types (shape_of (types_of cx.old.core.now) ty) (is_ok result)
+            cx.old.core.now.ledger cx.new.core.now.ledger self.new.state }
+        ensures rest { self.new ≡ record self.old { state = self.new.state } }
+        ensures count { length dst.new ≡ length dst.old }
+        ensures same_reference { cx.new.core.ghost_name ≡ cx.old.core.ghost_name }
+        ensures same_options { cx.new.options ≡ cx.old.options }
+    {
         lower_held(self, cx, ty, dst)
     }
 
@@ -296,7 +345,18 @@ impl<T: HostResourceType<R>, R: Copy> Lower for HostResource<T, R> {
         cx: &mut LowerContext<'_, D, G>,
         ty: InterfaceType,
         offset: u64,
-    ) -> Result<(), Fault> {
+    ) -> Result<(), Fault>
+        requires known { Knows (types_of cx.old.core.now) ty }
+        requires fits { IsHandleOf T.checked cx.old.core.now.component.types ty }
+        requires room { offset + size false (shape_of (types_of cx.old.core.now) ty) ≤ length cx.old.core.now.memory }
+        ensures stores { TypedStores G.seen G.moves cx.old.options cx.old.core.now cx.new.core.now (shape_of (types_of cx.old.core.now) ty) offset IsHandle
+            (held_gives (T.type_of self.old.ty) self.old.state self.old.rep cx.old.core.now.component.types (shape_of (types_of cx.old.core.now) ty)) result }
+        ensures held { HeldAfter (T.type_of self.old.ty) self.old.state self.old.rep cx.old.core.now.component.types (shape_of (types_of cx.old.core.now) ty) (is_ok result)
+            cx.old.core.now.ledger cx.new.core.now.ledger self.new.state }
+        ensures rest { self.new ≡ record self.old { state = self.new.state } }
+        ensures same_reference { cx.new.core.ghost_name ≡ cx.old.core.ghost_name }
+        ensures same_options { cx.new.options ≡ cx.old.options }
+    {
         store_held(self, cx, ty, offset)
     }
 }
@@ -310,7 +370,19 @@ impl<T: HostType> Lower for Resource<T> {
         cx: &mut LowerContext<'_, D, G>,
         ty: InterfaceType,
         dst: &mut [ValRaw],
-    ) -> Result<(), Fault> {
+    ) -> Result<(), Fault>
+        requires known { Knows (types_of cx.old.core.now) ty }
+        requires fits { IsHandleOf (as_host T.ID) cx.old.core.now.component.types ty }
+        requires words { length dst.old ≡ flat (shape_of (types_of cx.old.core.now) ty) }
+        ensures lowers { TypedLowers G.seen G.moves cx.old.options cx.old.core.now cx.new.core.now (shape_of (types_of cx.old.core.now) ty) dst.new 0 IsHandle
+            (held_gives (Host T.ID) self.old.state self.old.rep cx.old.core.now.component.types (shape_of (types_of cx.old.core.now) ty)) result }
+        ensures held { HeldAfter (Host T.ID) self.old.state self.old.rep cx.old.core.now.component.types (shape_of (types_of cx.old.core.now) ty) (is_ok result)
+            cx.old.core.now.ledger cx.new.core.now.ledger self.new.state }
+        ensures rest { self.new ≡ record self.old { state = self.new.state } }
+        ensures count { length dst.new ≡ length dst.old }
+        ensures same_reference { cx.new.core.ghost_name ≡ cx.old.core.ghost_name }
+        ensures same_options { cx.new.options ≡ cx.old.options }
+    {
         lower_held(self, cx, ty, dst)
     }
 
@@ -320,7 +392,18 @@ impl<T: HostType> Lower for Resource<T> {
         cx: &mut LowerContext<'_, D, G>,
         ty: InterfaceType,
         offset: u64,
-    ) -> Result<(), Fault> {
+    ) -> Result<(), Fault>
+        requires known { Knows (types_of cx.old.core.now) ty }
+        requires fits { IsHandleOf (as_host T.ID) cx.old.core.now.component.types ty }
+        requires room { offset + size false (shape_of (types_of cx.old.core.now) ty) ≤ length cx.old.core.now.memory }
+        ensures stores { TypedStores G.seen G.moves cx.old.options cx.old.core.now cx.new.core.now (shape_of (types_of cx.old.core.now) ty) offset IsHandle
+            (held_gives (Host T.ID) self.old.state self.old.rep cx.old.core.now.component.types (shape_of (types_of cx.old.core.now) ty)) result }
+        ensures held { HeldAfter (Host T.ID) self.old.state self.old.rep cx.old.core.now.component.types (shape_of (types_of cx.old.core.now) ty) (is_ok result)
+            cx.old.core.now.ledger cx.new.core.now.ledger self.new.state }
+        ensures rest { self.new ≡ record self.old { state = self.new.state } }
+        ensures same_reference { cx.new.core.ghost_name ≡ cx.old.core.ghost_name }
+        ensures same_options { cx.new.options ≡ cx.old.options }
+    {
         store_held(self, cx, ty, offset)
     }
 }
@@ -334,7 +417,19 @@ impl Lower for ResourceDynamic {
         cx: &mut LowerContext<'_, D, G>,
         ty: InterfaceType,
         dst: &mut [ValRaw],
-    ) -> Result<(), Fault> {
+    ) -> Result<(), Fault>
+        requires known { Knows (types_of cx.old.core.now) ty }
+        requires fits { IsHandleOf as_host_dynamic cx.old.core.now.component.types ty }
+        requires words { length dst.old ≡ flat (shape_of (types_of cx.old.core.now) ty) }
+        ensures lowers { TypedLowers G.seen G.moves cx.old.options cx.old.core.now cx.new.core.now (shape_of (types_of cx.old.core.now) ty) dst.new 0 IsHandle
+            (held_gives (HostDynamic self.old.ty) self.old.state self.old.rep cx.old.core.now.component.types (shape_of (types_of cx.old.core.now) ty)) result }
+        ensures held { HeldAfter (HostDynamic self.old.ty) self.old.state self.old.rep cx.old.core.now.component.types (shape_of (types_of cx.old.core.now) ty) (is_ok result)
+            cx.old.core.now.ledger cx.new.core.now.ledger self.new.state }
+        ensures rest { self.new ≡ record self.old { state = self.new.state } }
+        ensures count { length dst.new ≡ length dst.old }
+        ensures same_reference { cx.new.core.ghost_name ≡ cx.old.core.ghost_name }
+        ensures same_options { cx.new.options ≡ cx.old.options }
+    {
         lower_held(self, cx, ty, dst)
     }
 
@@ -344,7 +439,18 @@ impl Lower for ResourceDynamic {
         cx: &mut LowerContext<'_, D, G>,
         ty: InterfaceType,
         offset: u64,
-    ) -> Result<(), Fault> {
+    ) -> Result<(), Fault>
+        requires known { Knows (types_of cx.old.core.now) ty }
+        requires fits { IsHandleOf as_host_dynamic cx.old.core.now.component.types ty }
+        requires room { offset + size false (shape_of (types_of cx.old.core.now) ty) ≤ length cx.old.core.now.memory }
+        ensures stores { TypedStores G.seen G.moves cx.old.options cx.old.core.now cx.new.core.now (shape_of (types_of cx.old.core.now) ty) offset IsHandle
+            (held_gives (HostDynamic self.old.ty) self.old.state self.old.rep cx.old.core.now.component.types (shape_of (types_of cx.old.core.now) ty)) result }
+        ensures held { HeldAfter (HostDynamic self.old.ty) self.old.state self.old.rep cx.old.core.now.component.types (shape_of (types_of cx.old.core.now) ty) (is_ok result)
+            cx.old.core.now.ledger cx.new.core.now.ledger self.new.state }
+        ensures rest { self.new ≡ record self.old { state = self.new.state } }
+        ensures same_reference { cx.new.core.ghost_name ≡ cx.old.core.ghost_name }
+        ensures same_options { cx.new.options ≡ cx.old.options }
+    {
         store_held(self, cx, ty, offset)
     }
 }
