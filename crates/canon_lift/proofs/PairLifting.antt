@@ -66,11 +66,11 @@ module _ (t : Table) (key value : InterfaceType) (memory : List ℕ) (at : ℕ) 
 
       pub value_inside : at + offset + size false u ≤ length memory
       value_inside = omega (
-          arith,
-          is,
-          first_inside t (value ∷ []) [] value refl at (ends false 0 s) memory (rest_inside t (key ∷ value ∷ []) (value ∷ []) key refl at 0 memory both_inside both_aligned)
-              (rest_aligned t (key ∷ value ∷ []) (value ∷ []) key refl at 0 memory both_inside both_aligned),
-        )
+        arith,
+        is,
+        first_inside t (value ∷ []) [] value refl at (ends false 0 s) memory (rest_inside t (key ∷ value ∷ []) (value ∷ []) key refl at 0 memory both_inside both_aligned)
+            (rest_aligned t (key ∷ value ∷ []) (value ∷ []) key refl at 0 memory both_inside both_aligned),
+      )
 
 -- ---- what comes of them
 
@@ -95,7 +95,7 @@ module _ {D G K V : Type 0} (R : Reading K) (S : Reading V) (core : Parts D G) (
   pub key_refused : (before after : LedgerState) (fuel left : ℕ) (e : Fault) → Refused R w (stored at) ks before fuel e after left → Refused (pair_reading R S) w (stored at) both before fuel e after left
   key_refused before after fuel left e r =
       let h = member_refused first_in rest_in R (first_reading first_in rest_in S (none_reading {A = Unit {0}})) w (stored_from at 0) [] ks (member [] vs no_members) both before fuel e after left
-          (subst (λ p. Refused R w p ks before fuel e after left) key_place r) in
+      (subst (λ p. Refused R w p ks before fuel e after left) key_place r) in
       record { cause = h.cause; memory = h.memory; stops = h.stops; falls = h.falls }
 
   -- the value, where only the ledger changed
@@ -112,14 +112,13 @@ module _ {D G K V : Type 0} (R : Reading K) (S : Reading V) (core : Parts D G) (
     value_refused e r =
         let second = member_refused first_in rest_in S (none_reading {A = Unit {0}}) w (stored_from at (ends false 0 ks)) [] vs no_members both now.ledger mid e after left (value_lifts (Err e) r) in
         let h = others_refused first_in rest_in R (first_reading first_in rest_in S (none_reading {A = Unit {0}})) w (stored_from at 0) [] ks (member [] vs no_members) both before fuel taken x now.ledger mid
-            (subst (λ p. R.reads w p ks before x now.ledger) key_place read) (subst (λ p. fuel ≡ mid + R.reach w p ks) key_place spent) e after left both second in
+        (subst (λ p. R.reads w p ks before x now.ledger) key_place read) (subst (λ p. fuel ≡ mid + R.reach w p ks) key_place spent) e after left both second in
         record { cause = h.cause; memory = h.memory; stops = h.stops; falls = h.falls }
 
     pub pair_lifted : (y : V) → Lifts S (setting_in now o2) (stored (at + offset)) (shape_of (types_of now) value) now.ledger mid (Ok y) after left → at + size false both ≤ length core.memory
         → Lifts (pair_reading R S) w (stored at) both before fuel (Ok (x, y)) after left
     pair_lifted y r room =
-        let (second, cost) = value_lifts (Ok y) r in
-        (
+        let (second, cost) = value_lifts (Ok y) r in (
           (room, (now.ledger, subst (λ p. R.reads w p ks before x now.ledger) key_place read, (after, second, refl))),
           omega (arith, subst (λ p. fuel ≡ mid + R.reach w p ks) key_place spent, cost),
         )

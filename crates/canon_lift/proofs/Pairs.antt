@@ -97,8 +97,7 @@ module _ (bytes : ℕ) (w : Setting) (e : Shape) (at : Spot) (s : Shape) (p n : 
     list_lifts element its known fits (Ok v) left (is, good, spent) =
         let same : v.element ≡ element = is.element_is in
         let there : IsGoodList w.memory (shape_of w.types.types element) v.pointer v.count =
-            subst (λ (z : Shape). IsGoodList w.memory z v.pointer v.count) (sym its) (subst (λ k. IsGoodList w.memory e k v.count) (sym is.pointer) (subst (λ k. IsGoodList w.memory e p k) (sym is.count) good)) in
-        (
+        subst (λ (z : Shape). IsGoodList w.memory z v.pointer v.count) (sym its) (subst (λ k. IsGoodList w.memory e k v.count) (sym is.pointer) (subst (λ k. IsGoodList w.memory e p k) (sym is.count) good)) in (
           (
             record {
               pointer = is.pointer ∙ pointer;
@@ -107,9 +106,9 @@ module _ (bytes : ℕ) (w : Setting) (e : Shape) (at : Spot) (s : Shape) (p n : 
               store = is.store;
               shape = ap (λ t. shape_of w.types.types t) same ∙ its ∙ shape;
               items = record {
-                  known = subst (λ t. Knows w.types.types t) (sym same) known;
-                  fits = subst (λ t. Fit w.types t) (sym same) fits;
-                  good = subst (λ t. IsGoodList w.memory (shape_of w.types.types t) v.pointer v.count) (sym same) there;
+                known = subst (λ t. Knows w.types.types t) (sym same) known;
+                fits = subst (λ t. Fit w.types t) (sym same) fits;
+                good = subst (λ t. IsGoodList w.memory (shape_of w.types.types t) v.pointer v.count) (sym same) there;
               };
             },
             kept,
@@ -129,8 +128,12 @@ range_refused {A} Fit bytes R f w at s before after fuel left e r =
     let whole = read_as f (list_reading bytes R) in
     refused_by (wasm_list_reading {A = A} Fit bytes) whole w at at s s before before after fuel fuel left e
     (named_by at (ListPointerFault w.memory (element_shape s) at) (whole.faults w at s) (λ k x h. inl h))
-    (λ low. omega (arith, low, cond_le (is_inside w.memory (pointer_in w.memory at) (length_in w.memory at * size w.memory.wide (element_shape s))) (length_in w.memory at * bytes)
-    (length_in w.memory at * bytes + (if pointer_in w.memory at % align w.memory.wide (element_shape s) == 0 then each_reach R w (element_shape s) (stored (pointer_in w.memory at)) (length_in w.memory at) else 0)) (omega arith))) (λ all. refl) (stops_nowhere before after (whole.steps w at s) (stop_of e)) (omega arith) r
+    (λ low. omega (
+      arith,
+      low,
+      cond_le (is_inside w.memory (pointer_in w.memory at) (length_in w.memory at * size w.memory.wide (element_shape s))) (length_in w.memory at * bytes)
+          (length_in w.memory at * bytes + (if pointer_in w.memory at % align w.memory.wide (element_shape s) == 0 then each_reach R w (element_shape s) (stored (pointer_in w.memory at)) (length_in w.memory at) else 0)) (omega arith),
+    )) (λ all. refl) (stops_nowhere before after (whole.steps w at s) (stop_of e)) (omega arith) r
 
 -- the same of a map
 pub map_range_refused : {K V Z : Type 0} (eq : K → K → Bool) (bytes : ℕ) (R : Reading K) (S : Reading V) (w : Setting) (at : Spot) (s : Shape) (before after : LedgerState) (fuel left : ℕ) (e : Fault)

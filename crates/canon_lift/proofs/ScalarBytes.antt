@@ -27,8 +27,7 @@ pub scalar_lifts : {D G A : Type 0} (Means : A → Tree → Type 0) (core : Part
     → Lifts (scalar_reading Means) (setting_in core o) (stored at) (shape_of (types_of core) type) core.ledger fuel (Ok v) core.ledger fuel
 scalar_lifts Means core o type k at fuel n bytes v t is inside same number stands means =
     let here : n ≡ num (narrow core.memory) at (scalar_size k) = number ∙ ap (λ xs. num (narrow xs) at (scalar_size k)) same in
-    let room : at + scalar_size k ≤ length core.memory = scalar_room core.memory core.memory (shape_of (types_of core) type) k at is inside refl in
-    (
+    let room : at + scalar_size k ≤ length core.memory = scalar_room core.memory core.memory (shape_of (types_of core) type) k at is inside refl in (
       subst (λ (s : Shape). TreeReads Means (setting_in core o) (stored at) s core.ledger v core.ledger) (sym is)
           (t, (room, subst (λ j. ScalarIs k j t) here stands, λ strict. cc), means, refl),
       omega arith,

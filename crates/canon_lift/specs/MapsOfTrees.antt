@@ -39,16 +39,14 @@ module _ {K V : Type 0} (R : Reading K) (S : Reading V) (M : K → Tree → Type
   pair_lifts : (at : Spot) (before after : LedgerState) (p : K × V) → (pair_reading R S).reads w at pair before p after → (t : Tree) × Represents w.memory w.encoding at pair t × PairMeans M N p t
   pair_lifts (stored a) before after p (room, (mid, first, (last, second, same))) =
       let (t, rep, lifts) = law.reads (stored (a + begins w.memory.wide 0 s)) before mid p.0 first in
-      let (v, rep2, lifts2) = law2.reads (stored (a + begins w.memory.wide (ends w.memory.wide 0 s) u)) mid last p.1 second in
-      (
+      let (v, rep2, lifts2) = law2.reads (stored (a + begins w.memory.wide (ends w.memory.wide 0 s) u)) mid last p.1 second in (
         parts (tree t (tree v no_trees)),
         (room, (tree t (tree v no_trees), refl, (t, tree v no_trees, refl, rep, (v, no_trees, refl, rep2, refl)))),
         (tree t (tree v no_trees), refl, (t, tree v no_trees, refl, lifts, (v, no_trees, refl, lifts2, refl))),
       )
   pair_lifts (flat_in ws i) before after p (room, (mid, first, (last, second, same))) =
       let (t, rep, lifts) = law.reads (flat_in ws i) before mid p.0 first in
-      let (v, rep2, lifts2) = law2.reads _ mid last p.1 second in
-      (
+      let (v, rep2, lifts2) = law2.reads _ mid last p.1 second in (
         parts (tree t (tree v no_trees)),
         (tree t (tree v no_trees), refl, (t, tree v no_trees, refl, rep, (v, no_trees, refl, rep2, refl))),
         (tree t (tree v no_trees), refl, (t, tree v no_trees, refl, lifts, (v, no_trees, refl, lifts2, refl))),
@@ -114,7 +112,7 @@ module _ {K V : Type 0} (bytes : ℕ) (Key : Instance → InterfaceType → Type
       → (t : Tree) × Represents w.memory w.encoding at (shape_of w.types.types type) t × MapLifts eq M N m t
   map_reads eq w at (ty.Map i) before after m (key, value, e, f, g) (pairs, read, filled) =
       let (t, rep, (ts, is, each)) = list_lifts bytes of_pairs (pair_reading R S) (PairMeans M N) price w _ (pair_at w key value f g) at before after pairs
-          (subst (λ (z : Shape). ListReads bytes (pair_reading R S) w at z before pairs after) e.shape read) in
+      (subst (λ (z : Shape). ListReads bytes (pair_reading R S) w at z before pairs after) e.shape read) in
       (t, subst (λ (z : Shape). Represents w.memory w.encoding at z t) (sym e.shape) rep, (pairs, ts, filled, is, each))
   map_reads eq w at _ before after m f h = absurd f
 

@@ -167,9 +167,12 @@ option_lifts R Lifts w at u before after law None (room, is, same) =
 option_lifts R Lifts w at u before after law (Some x) (room, is, h) =
     let m = w.memory in
     let cs : Cases = bare [] (payload [] u no_cases) in
-    let (t, rep, lifts) = law (payload_spot m at cs) x h in
-    (case_of 1 t, variant_represents m w.encoding of_option cs at 1 (case_of 1 t) room is
-        (behind_first m w.encoding (end_of at cs) (payload_spot m at cs) None (payload [] u no_cases) 1 (case_of 1 t) (payload_there m w.encoding (end_of at cs) (payload_spot m at cs) [] u no_cases 1 t rep)), (t, refl, lifts))
+    let (t, rep, lifts) = law (payload_spot m at cs) x h in (
+      case_of 1 t,
+      variant_represents m w.encoding of_option cs at 1 (case_of 1 t) room is
+          (behind_first m w.encoding (end_of at cs) (payload_spot m at cs) None (payload [] u no_cases) 1 (case_of 1 t) (payload_there m w.encoding (end_of at cs) (payload_spot m at cs) [] u no_cases 1 t rep)),
+      (t, refl, lifts),
+    )
 
 -- the charges, by the number of the case
 option_priced : {A : Type 0} (R : Reading A) (price : Tree → ℕ) (w : Setting) (p : Spot) (u : Shape) (e d n : ℕ) (t : Tree) → ((t : Tree) → Represents w.memory w.encoding p u t → R.reach w p u ≡ price t)

@@ -83,8 +83,7 @@ module _ {A : Type 0} (bytes : ℕ) (l : ListKind) (R : Reading A) (Lifts : A �
 
   pub list_lifts : (at : Spot) (before after : LedgerState) (xs : List A) → ListReads bytes R w at (list l s) before xs after → (t : Tree) × Represents w.memory w.encoding at (list l s) t × ListMeans Lifts xs t
   list_lifts at before after xs (room, (aligned, inside), count, each) =
-      let (ts, there, same, have) = each_lifts R Lifts price w s law (stored (pointer_in w.memory at)) before after xs each in
-      (
+      let (ts, there, same, have) = each_lifts R Lifts price w s law (stored (pointer_in w.memory at)) before after xs each in (
         items ts,
         list_represents w.memory w.encoding l s at (items ts) room
             (record { trees = ts; is = refl; count = same ∙ count; aligned = aligned; inside = inside; each = there }),

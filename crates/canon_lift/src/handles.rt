@@ -11,7 +11,7 @@ ghost use Rattle.canon_typed.specs.Types.{IsHandleType};
 ghost use Rattle.canon_lift.specs.Handles.{HandleLifts, any_reading, any_taken, any_told, leaf_of};
 
 use crate::Lift;
-use crate::words::{word_u32};
+use crate::words::word_u32;
 use canon_bytes::load_u32;
 use canon_context::{Fault, LiftContext, Lifter, Source};
 use canon_leaves::{lift_borrow, lift_own};

@@ -122,7 +122,10 @@ impl<A: Lift, R: LiftMembers> LiftMembers for First<A, R> {
         let _memory = cx.core.memory(); // memory has at most 2^32 bytes
         let member = cx.types().tuple(i).types[k];
         let mut end = end;
-        let start = cx.types().canonical_abi(&member).next_field32_size(&mut end);
+        let start = cx
+            .types()
+            .canonical_abi(&member)
+            .next_field32_size(&mut end);
         match A::linear_lift_from_memory(alloc, cx, member, at + start) {
             Ok(first) => match R::lift_members(alloc, cx, i, k + 1, at, end) {
                 Ok(rest) => Ok(First { first, rest }),

@@ -117,7 +117,12 @@ impl<A: Lift, B: Lift> Lift for (A, B) {
             unreachable!()
         };
         match <First<A, First<B, ()>> as LiftMembers>::lift_members(alloc, cx, i, 0, at, 0) {
-            Ok(First { first: a, rest: First { first: b, rest: () } }) => Ok((a, b)),
+            Ok(
+                First {
+                    first: a,
+                    rest: First { first: b, rest: () },
+                },
+            ) => Ok((a, b)),
             Err(fault) => Err(fault),
         }
     }
@@ -133,7 +138,12 @@ impl<A: Lift, B: Lift> Lift for (A, B) {
             unreachable!()
         };
         match <First<A, First<B, ()>> as LiftMembers>::lift_member_words(alloc, cx, i, 0, src, at) {
-            Ok(First { first: a, rest: First { first: b, rest: () } }) => Ok((a, b)),
+            Ok(
+                First {
+                    first: a,
+                    rest: First { first: b, rest: () },
+                },
+            ) => Ok((a, b)),
             Err(fault) => Err(fault),
         }
     }
@@ -159,8 +169,18 @@ impl<A: Lift, B: Lift, C: Lift> Lift for (A, B, C) {
         let InterfaceType::Tuple(i) = ty else {
             unreachable!()
         };
-        match <First<A, First<B, First<C, ()>>> as LiftMembers>::lift_members(alloc, cx, i, 0, at, 0) {
-            Ok(First { first: a, rest: First { first: b, rest: First { first: c, rest: () } } }) => Ok((a, b, c)),
+        match <First<A, First<B, First<C, ()>>> as LiftMembers>::lift_members(
+            alloc, cx, i, 0, at, 0,
+        ) {
+            Ok(
+                First {
+                    first: a,
+                    rest: First {
+                        first: b,
+                        rest: First { first: c, rest: () },
+                    },
+                },
+            ) => Ok((a, b, c)),
             Err(fault) => Err(fault),
         }
     }
@@ -175,8 +195,18 @@ impl<A: Lift, B: Lift, C: Lift> Lift for (A, B, C) {
         let InterfaceType::Tuple(i) = ty else {
             unreachable!()
         };
-        match <First<A, First<B, First<C, ()>>> as LiftMembers>::lift_member_words(alloc, cx, i, 0, src, at) {
-            Ok(First { first: a, rest: First { first: b, rest: First { first: c, rest: () } } }) => Ok((a, b, c)),
+        match <First<A, First<B, First<C, ()>>> as LiftMembers>::lift_member_words(
+            alloc, cx, i, 0, src, at,
+        ) {
+            Ok(
+                First {
+                    first: a,
+                    rest: First {
+                        first: b,
+                        rest: First { first: c, rest: () },
+                    },
+                },
+            ) => Ok((a, b, c)),
             Err(fault) => Err(fault),
         }
     }
@@ -202,8 +232,21 @@ impl<A: Lift, B: Lift, C: Lift, D: Lift> Lift for (A, B, C, D) {
         let InterfaceType::Tuple(i) = ty else {
             unreachable!()
         };
-        match <First<A, First<B, First<C, First<D, ()>>>> as LiftMembers>::lift_members(alloc, cx, i, 0, at, 0) {
-            Ok(First { first: a, rest: First { first: b, rest: First { first: c, rest: First { first: d, rest: () } } } }) => Ok((a, b, c, d)),
+        match <First<A, First<B, First<C, First<D, ()>>>> as LiftMembers>::lift_members(
+            alloc, cx, i, 0, at, 0,
+        ) {
+            Ok(
+                First {
+                    first: a,
+                    rest: First {
+                        first: b,
+                        rest: First {
+                            first: c,
+                            rest: First { first: d, rest: () },
+                        },
+                    },
+                },
+            ) => Ok((a, b, c, d)),
             Err(fault) => Err(fault),
         }
     }
@@ -218,8 +261,21 @@ impl<A: Lift, B: Lift, C: Lift, D: Lift> Lift for (A, B, C, D) {
         let InterfaceType::Tuple(i) = ty else {
             unreachable!()
         };
-        match <First<A, First<B, First<C, First<D, ()>>>> as LiftMembers>::lift_member_words(alloc, cx, i, 0, src, at) {
-            Ok(First { first: a, rest: First { first: b, rest: First { first: c, rest: First { first: d, rest: () } } } }) => Ok((a, b, c, d)),
+        match <First<A, First<B, First<C, First<D, ()>>>> as LiftMembers>::lift_member_words(
+            alloc, cx, i, 0, src, at,
+        ) {
+            Ok(
+                First {
+                    first: a,
+                    rest: First {
+                        first: b,
+                        rest: First {
+                            first: c,
+                            rest: First { first: d, rest: () },
+                        },
+                    },
+                },
+            ) => Ok((a, b, c, d)),
             Err(fault) => Err(fault),
         }
     }
@@ -245,8 +301,24 @@ impl<A: Lift, B: Lift, C: Lift, D: Lift, E: Lift> Lift for (A, B, C, D, E) {
         let InterfaceType::Tuple(i) = ty else {
             unreachable!()
         };
-        match <First<A, First<B, First<C, First<D, First<E, ()>>>>> as LiftMembers>::lift_members(alloc, cx, i, 0, at, 0) {
-            Ok(First { first: a, rest: First { first: b, rest: First { first: c, rest: First { first: d, rest: First { first: e, rest: () } } } } }) => Ok((a, b, c, d, e)),
+        match <First<A, First<B, First<C, First<D, First<E, ()>>>>> as LiftMembers>::lift_members(
+            alloc, cx, i, 0, at, 0,
+        ) {
+            Ok(
+                First {
+                    first: a,
+                    rest: First {
+                        first: b,
+                        rest: First {
+                            first: c,
+                            rest: First {
+                                first: d,
+                                rest: First { first: e, rest: () },
+                            },
+                        },
+                    },
+                },
+            ) => Ok((a, b, c, d, e)),
             Err(fault) => Err(fault),
         }
     }
@@ -261,8 +333,26 @@ impl<A: Lift, B: Lift, C: Lift, D: Lift, E: Lift> Lift for (A, B, C, D, E) {
         let InterfaceType::Tuple(i) = ty else {
             unreachable!()
         };
-        match <First<A, First<B, First<C, First<D, First<E, ()>>>>> as LiftMembers>::lift_member_words(alloc, cx, i, 0, src, at) {
-            Ok(First { first: a, rest: First { first: b, rest: First { first: c, rest: First { first: d, rest: First { first: e, rest: () } } } } }) => Ok((a, b, c, d, e)),
+        match <First<
+            A,
+            First<B, First<C, First<D, First<E, ()>>>>,
+        > as LiftMembers>::lift_member_words(alloc, cx, i, 0, src, at)
+        {
+            Ok(
+                First {
+                    first: a,
+                    rest: First {
+                        first: b,
+                        rest: First {
+                            first: c,
+                            rest: First {
+                                first: d,
+                                rest: First { first: e, rest: () },
+                            },
+                        },
+                    },
+                },
+            ) => Ok((a, b, c, d, e)),
             Err(fault) => Err(fault),
         }
     }
@@ -288,8 +378,29 @@ impl<A: Lift, B: Lift, C: Lift, D: Lift, E: Lift, F: Lift> Lift for (A, B, C, D,
         let InterfaceType::Tuple(i) = ty else {
             unreachable!()
         };
-        match <First<A, First<B, First<C, First<D, First<E, First<F, ()>>>>>> as LiftMembers>::lift_members(alloc, cx, i, 0, at, 0) {
-            Ok(First { first: a, rest: First { first: b, rest: First { first: c, rest: First { first: d, rest: First { first: e, rest: First { first: f, rest: () } } } } } }) => Ok((a, b, c, d, e, f)),
+        match <First<
+            A,
+            First<B, First<C, First<D, First<E, First<F, ()>>>>>,
+        > as LiftMembers>::lift_members(alloc, cx, i, 0, at, 0)
+        {
+            Ok(
+                First {
+                    first: a,
+                    rest: First {
+                        first: b,
+                        rest: First {
+                            first: c,
+                            rest: First {
+                                first: d,
+                                rest: First {
+                                    first: e,
+                                    rest: First { first: f, rest: () },
+                                },
+                            },
+                        },
+                    },
+                },
+            ) => Ok((a, b, c, d, e, f)),
             Err(fault) => Err(fault),
         }
     }
@@ -304,8 +415,29 @@ impl<A: Lift, B: Lift, C: Lift, D: Lift, E: Lift, F: Lift> Lift for (A, B, C, D,
         let InterfaceType::Tuple(i) = ty else {
             unreachable!()
         };
-        match <First<A, First<B, First<C, First<D, First<E, First<F, ()>>>>>> as LiftMembers>::lift_member_words(alloc, cx, i, 0, src, at) {
-            Ok(First { first: a, rest: First { first: b, rest: First { first: c, rest: First { first: d, rest: First { first: e, rest: First { first: f, rest: () } } } } } }) => Ok((a, b, c, d, e, f)),
+        match <First<
+            A,
+            First<B, First<C, First<D, First<E, First<F, ()>>>>>,
+        > as LiftMembers>::lift_member_words(alloc, cx, i, 0, src, at)
+        {
+            Ok(
+                First {
+                    first: a,
+                    rest: First {
+                        first: b,
+                        rest: First {
+                            first: c,
+                            rest: First {
+                                first: d,
+                                rest: First {
+                                    first: e,
+                                    rest: First { first: f, rest: () },
+                                },
+                            },
+                        },
+                    },
+                },
+            ) => Ok((a, b, c, d, e, f)),
             Err(fault) => Err(fault),
         }
     }

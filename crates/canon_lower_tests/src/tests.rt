@@ -40,7 +40,16 @@ fn core_of(alloc: Global, types: ComponentTypes) -> Result<TestCore, Fail>
     let guest = ScriptedGuest::new(alloc, 1024);
     let mut memory = Memory::new(alloc, 2048)?;
     memory.as_slice_mut().fill(0xaa);
-    Ok(Core::new(alloc, StoreId::from_u64(6), 5, guest, memory, component, 100, 1_000)?)
+    Ok(Core::new(
+        alloc,
+        StoreId::from_u64(6),
+        5,
+        guest,
+        memory,
+        component,
+        100,
+        1_000,
+    )?)
 }
 
 /// How many words a type of the core has, where it is the Rust type's and has at most 16.
@@ -215,7 +224,12 @@ fn map_of(alloc: Global) -> Result<HashMap<u8, u8>, Fail> {
 }
 
 /// Whether a value of a type without parts is lowered to this word.
-fn is_word<T: Lower>(alloc: Global, ty: InterfaceType, value: T, word: ValRaw) -> Result<bool, Fail> {
+fn is_word<T: Lower>(
+    alloc: Global,
+    ty: InterfaceType,
+    value: T,
+    word: ValRaw,
+) -> Result<bool, Fail> {
     lowers_to(alloc, plain(alloc, ty), value, &[word], &[])
 }
 
@@ -245,7 +259,14 @@ fn other_scalars_are_words(rt: HostRuntime) -> Result<(), Fail> {
     assert!(rt; is_word(alloc, InterfaceType::Bool, true, ValRaw::u32(1))?);
     assert!(rt; is_word(alloc, InterfaceType::Char, 'é', ValRaw::u32(0xe9))?);
     let float = Float32Bits(0x7fc0_0001);
-    assert!(rt; is_word(alloc, InterfaceType::Float32, float, ValRaw::u32(0x7fc0_0001))?);
+    assert!(rt;
+        is_word(
+            alloc,
+            InterfaceType::Float32,
+            float,
+            ValRaw::u32(0x7fc0_0001)
+        )?
+    );
     let float = Float64Bits(1 << 62);
     assert!(rt; is_word(alloc, InterfaceType::Float64, float, ValRaw::u64(1 << 62))?);
     Ok(())
@@ -256,13 +277,37 @@ fn other_scalars_are_words(rt: HostRuntime) -> Result<(), Fail> {
 fn cases_are_a_discriminant_and_a_payload(rt: HostRuntime) -> Result<(), Fail> {
     let alloc = rt.alloc();
     let some = [ValRaw::u32(1), ValRaw::u64(5)];
-    assert!(rt; lowers_to(alloc, option_of(alloc, InterfaceType::U64)?, Some(5u64), &some, &[])?);
+    assert!(rt;
+        lowers_to(
+            alloc,
+            option_of(alloc, InterfaceType::U64)?,
+            Some(5u64),
+            &some,
+            &[]
+        )?
+    );
     let none: Option<u64> = None;
     let zeros = [ValRaw::u32(0), ValRaw::u64(0)];
-    assert!(rt; shared_lowers_to(alloc, option_of(alloc, InterfaceType::U64)?, &none, &zeros, &[])?);
+    assert!(rt;
+        shared_lowers_to(
+            alloc,
+            option_of(alloc, InterfaceType::U64)?,
+            &none,
+            &zeros,
+            &[]
+        )?
+    );
     let err: Result<u32, ()> = Err(());
     let failed = [ValRaw::u32(1), ValRaw::u32(0)];
-    assert!(rt; lowers_to(alloc, result_of(alloc, Some(InterfaceType::U32), None)?, err, &failed, &[])?);
+    assert!(rt;
+        lowers_to(
+            alloc,
+            result_of(alloc, Some(InterfaceType::U32), None)?,
+            err,
+            &failed,
+            &[]
+        )?
+    );
     Ok(())
 }
 
@@ -276,7 +321,15 @@ fn members_and_items_are_words_in_a_row(rt: HostRuntime) -> Result<(), Fail> {
     let Some(list) = FixedList::<u16, 2>::new(vec![in alloc; 1u16, 2]?) else {
         return Err(Fail::from("no list"));
     };
-    assert!(rt; shared_lowers_to(alloc, fixed_of(alloc, InterfaceType::U16, 2)?, &list, &pair, &[])?);
+    assert!(rt;
+        shared_lowers_to(
+            alloc,
+            fixed_of(alloc, InterfaceType::U16, 2)?,
+            &list,
+            &pair,
+            &[]
+        )?
+    );
     Ok(())
 }
 
@@ -284,7 +337,14 @@ fn members_and_items_are_words_in_a_row(rt: HostRuntime) -> Result<(), Fail> {
 fn references_and_boxes_are_what_they_hold(rt: HostRuntime) -> Result<(), Fail> {
     let alloc = rt.alloc();
     assert!(rt; is_word(alloc, InterfaceType::U16, &5u16, ValRaw::u32(5))?);
-    assert!(rt; is_word(alloc, InterfaceType::U16, Box::new(alloc, 6u16)?, ValRaw::u32(6))?);
+    assert!(rt;
+        is_word(
+            alloc,
+            InterfaceType::U16,
+            Box::new(alloc, 6u16)?,
+            ValRaw::u32(6)
+        )?
+    );
     Ok(())
 }
 
@@ -293,9 +353,25 @@ fn texts_and_lists_are_blocks(rt: HostRuntime) -> Result<(), Fail> {
     let alloc = rt.alloc();
     let two = [ValRaw::u32(1024), ValRaw::u32(2)];
     let text = String::from_str(alloc, "é")?;
-    assert!(rt; lowers_to(alloc, plain(alloc, InterfaceType::String), text, &two, &[0xc3, 0xa9, 0xaa])?);
+    assert!(rt;
+        lowers_to(
+            alloc,
+            plain(alloc, InterfaceType::String),
+            text,
+            &two,
+            &[0xc3, 0xa9, 0xaa]
+        )?
+    );
     let list = vec![in alloc; 1u16, 0x0203]?;
-    assert!(rt; lowers_to(alloc, list_of(alloc, InterfaceType::U16)?, list, &two, &[1, 0, 3, 2, 0xaa])?);
+    assert!(rt;
+        lowers_to(
+            alloc,
+            list_of(alloc, InterfaceType::U16)?,
+            list,
+            &two,
+            &[1, 0, 3, 2, 0xaa]
+        )?
+    );
     Ok(())
 }
 
@@ -304,9 +380,25 @@ fn texts_and_lists_are_blocks(rt: HostRuntime) -> Result<(), Fail> {
 fn maps_are_blocks_of_pairs(rt: HostRuntime) -> Result<(), Fail> {
     let alloc = rt.alloc();
     let one = [ValRaw::u32(1024), ValRaw::u32(1)];
-    assert!(rt; shared_lowers_to(alloc, map_type(alloc)?, &map_of(alloc)?, &one, &[1, 10, 0xaa])?);
+    assert!(rt;
+        shared_lowers_to(
+            alloc,
+            map_type(alloc)?,
+            &map_of(alloc)?,
+            &one,
+            &[1, 10, 0xaa]
+        )?
+    );
     let maps = vec![in alloc; map_of(alloc)?]?;
-    assert!(rt; lowers_to(alloc, maps_type(alloc)?, maps, &one, &[8, 4, 0, 0, 1, 0, 0, 0, 1, 10])?);
+    assert!(rt;
+        lowers_to(
+            alloc,
+            maps_type(alloc)?,
+            maps,
+            &one,
+            &[8, 4, 0, 0, 1, 0, 0, 0, 1, 10]
+        )?
+    );
     Ok(())
 }
 
@@ -342,9 +434,25 @@ fn texts_lists_and_maps_are_stored(rt: HostRuntime) -> Result<(), Fail> {
     let string = plain(alloc, InterfaceType::String);
     assert!(rt; shared_stores_as(alloc, string, &text, &two, &[0xc3, 0xa9, 0xaa])?);
     let list = vec![in alloc; -1i16, 2]?;
-    assert!(rt; stores_as(alloc, list_of(alloc, InterfaceType::S16)?, list, &two, &[0xff, 0xff, 2, 0, 0xaa])?);
+    assert!(rt;
+        stores_as(
+            alloc,
+            list_of(alloc, InterfaceType::S16)?,
+            list,
+            &two,
+            &[0xff, 0xff, 2, 0, 0xaa]
+        )?
+    );
     let one = [0, 4, 0, 0, 1, 0, 0, 0, 0xaa];
-    assert!(rt; stores_as(alloc, map_type(alloc)?, map_of(alloc)?, &one, &[1, 10, 0xaa])?);
+    assert!(rt;
+        stores_as(
+            alloc,
+            map_type(alloc)?,
+            map_of(alloc)?,
+            &one,
+            &[1, 10, 0xaa]
+        )?
+    );
     Ok(())
 }
 

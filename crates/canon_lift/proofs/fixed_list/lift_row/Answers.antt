@@ -21,7 +21,7 @@ returns-in-Err-push-clause-lifts g c =
     let after = c.lift_words.new.cx in
     let p = flat_in c.args.src.now c.args.at in
     let (read, spent) = word_lifts R core cx.options c.args.ty c.args.src.now c.loop-k.cx.core.now c.loop-k.cx.options c.args.at c.loop-k.k c.flat_words-step.result (c.args.at + c.loop-k.k * c.flat_words-step.result) mid after.core.now.ledger
-        c.loop-k.cx.fuel after.fuel (Ok c.in-Ok.item) i.same_core i.same_options words refl c.in-Ok.ensures.lifts in
+    c.loop-k.cx.fuel after.fuel (Ok c.in-Ok.item) i.same_core i.same_options words refl c.in-Ok.ensures.lifts in
     item_lost R w s g.met.T.Lift.taken c.args.count c.loop-k.k p core.ledger mid after.core.now.ledger c.loop-k.items.items c.in-Ok.item cx.fuel c.loop-k.cx.fuel after.fuel
     (search rules) i.count i.read i.spent read spent
 
@@ -54,7 +54,7 @@ loop-k-preserved g c =
     let after = c.lift_words.new.cx in
     let p = flat_in c.args.src.now c.args.at in
     let (read, spent) = word_lifts R core cx.options c.args.ty c.args.src.now c.loop-k.cx.core.now c.loop-k.cx.options c.args.at c.loop-k.k c.flat_words-step.result (c.args.at + c.loop-k.k * c.flat_words-step.result) mid after.core.now.ledger
-        c.loop-k.cx.fuel after.fuel (Ok c.in-Ok.item) i.same_core i.same_options words refl c.in-Ok.ensures.lifts in
+    c.loop-k.cx.fuel after.fuel (Ok c.in-Ok.item) i.same_core i.same_options words refl c.in-Ok.ensures.lifts in
     let there = subst (λ k. R.reads w (item_spot w.memory s p k) s mid c.in-Ok.item after.core.now.ledger) (sym i.count) read in
     record {
       count = search rules;

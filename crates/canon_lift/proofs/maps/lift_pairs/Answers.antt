@@ -38,7 +38,7 @@ returns-in-Err-clause-lifts g c =
     pairs_refused g.K.PartialEq.eq c.args.count g.K.Lift.reading g.V.Lift.reading w p s core.ledger after.core.now.ledger cx.fuel after.fuel c.in-Err.fault
     (item_refused R w s taken c.args.count c.loop-k.k p core.ledger mid after.core.now.ledger pairs cx.fuel c.loop-k.cx.fuel after.fuel c.in-Err.fault (search rules) count each i.spent
     (pair_item g.K.Lift.reading g.V.Lift.reading core cx.options pair.key pair.value c.loop-k.cx.core.now c.loop-k.cx.options c.args.at c.loop-k.k c.args.step (c.args.at + c.loop-k.k * c.args.step) mid after.core.now.ledger
-        c.loop-k.cx.fuel after.fuel (Err c.in-Err.fault) i.same_core i.same_options c.requires.step refl c.in-Err.ensures.lifts))
+    c.loop-k.cx.fuel after.fuel (Err c.in-Err.fault) i.same_core i.same_options c.requires.step refl c.in-Err.ensures.lifts))
 
 pub returns-in-Err-insert-clause-lifts : goal.returns-in-Err-insert-clause-lifts
 returns-in-Err-insert-clause-lifts g c =
@@ -55,7 +55,7 @@ returns-in-Err-insert-clause-lifts g c =
     let after = c.lift_pair.new.cx in
     let (pairs, count, each, filled) = i.read in
     let (read, spent) = pair_item g.K.Lift.reading g.V.Lift.reading core cx.options pair.key pair.value c.loop-k.cx.core.now c.loop-k.cx.options c.args.at c.loop-k.k c.args.step (c.args.at + c.loop-k.k * c.args.step) mid after.core.now.ledger
-        c.loop-k.cx.fuel after.fuel (Ok (c.in-Ok.key, c.in-Ok.value)) i.same_core i.same_options c.requires.step refl c.in-Ok.ensures.lifts in
+    c.loop-k.cx.fuel after.fuel (Ok (c.in-Ok.key, c.in-Ok.value)) i.same_core i.same_options c.requires.step refl c.in-Ok.ensures.lifts in
     pairs_refused g.K.PartialEq.eq c.args.count g.K.Lift.reading g.V.Lift.reading w p s core.ledger after.core.now.ledger cx.fuel after.fuel fault.OutOfMemory
     (item_lost R w s taken c.args.count c.loop-k.k p core.ledger mid after.core.now.ledger pairs (c.in-Ok.key, c.in-Ok.value) cx.fuel c.loop-k.cx.fuel after.fuel (search rules) count each i.spent read spent)
 
@@ -74,12 +74,16 @@ loop-k-preserved g c =
     let after = c.lift_pair.new.cx in
     let (pairs, count, each, filled) = i.read in
     let (read, spent) = pair_item g.K.Lift.reading g.V.Lift.reading core cx.options pair.key pair.value c.loop-k.cx.core.now c.loop-k.cx.options c.args.at c.loop-k.k c.args.step (c.args.at + c.loop-k.k * c.args.step) mid after.core.now.ledger
-        c.loop-k.cx.fuel after.fuel (Ok (c.in-Ok.key, c.in-Ok.value)) i.same_core i.same_options c.requires.step refl c.in-Ok.ensures.lifts in
+    c.loop-k.cx.fuel after.fuel (Ok (c.in-Ok.key, c.in-Ok.value)) i.same_core i.same_options c.requires.step refl c.in-Ok.ensures.lifts in
     let there = subst (λ k. R.reads w (item_spot w.memory s p k) s mid (c.in-Ok.key, c.in-Ok.value) after.core.now.ledger) (sym count) read in
     let more : length (pairs ++ (c.in-Ok.key, c.in-Ok.value) ∷ []) ≡ c.loop-k.k + 1 = length-append pairs ((c.in-Ok.key, c.in-Ok.value) ∷ []) ∙ ap (λ n. n + 1) count in
     record {
-      read = (pairs ++ (c.in-Ok.key, c.in-Ok.value) ∷ [], more, each_more R w s p core.ledger mid after.core.now.ledger pairs (c.in-Ok.key, c.in-Ok.value) each there,
-          filled_more g.K.PartialEq.eq pairs c.loop-k.map c.insert.new.self (c.in-Ok.key, c.in-Ok.value) filled c.in-Ok-insert.ensures.updates);
+      read = (
+        pairs ++ (c.in-Ok.key, c.in-Ok.value) ∷ [],
+        more,
+        each_more R w s p core.ledger mid after.core.now.ledger pairs (c.in-Ok.key, c.in-Ok.value) each there,
+        filled_more g.K.PartialEq.eq pairs c.loop-k.map c.insert.new.self (c.in-Ok.key, c.in-Ok.value) filled c.in-Ok-insert.ensures.updates,
+      );
       spent = omega (arith, i.spent, spent, reach_more R w s c.loop-k.k p);
       same_core = c.in-Ok.ensures.same_core ∙ ap (λ (z : Parts g.row.U.Denot g.row.G.Denot). record z { ledger = after.core.now.ledger }) i.same_core;
       same_reference = c.in-Ok.ensures.same_reference ∙ i.same_reference;

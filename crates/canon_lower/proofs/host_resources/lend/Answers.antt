@@ -47,4 +47,4 @@ returns-in-Ok-clause-moves g c =
     lent_new i a.t kind rep l n st (sym c.state.ensures ∙ c.in-NotInTable.is) (same ∙ c.if-not-is_of_type.false) m c.in-Ok.idx q
     (subst (λ (k : ℕ). Did (given l (host_resource_lower_own l k None None)) (Ok c.in-Ok.idx) l m) c.rep-rep.ensures c.in-Ok.ensures.step)
     (subst (λ (x : Any). LeafMoves m n (lower_parts i (passed false a.t x)) q) (c.new.ensures ∙ ap (λ (k : ResourceType). any (handle.Own c.in-Ok.idx) k) c.kind-kind.ensures)
-        (subst (λ (j : Instance). LeafMoves m n (lower_parts j (passed false a.t c.new.result)) q) (ap (λ (x : Parts g.row.D.Denot g.row.G.Denot). x.component.types) c.in-Ok.ensures.same) c.lower_borrow-in-Ok.ensures.moves))
+    (subst (λ (j : Instance). LeafMoves m n (lower_parts j (passed false a.t c.new.result)) q) (ap (λ (x : Parts g.row.D.Denot g.row.G.Denot). x.component.types) c.in-Ok.ensures.same) c.lower_borrow-in-Ok.ensures.moves))

@@ -17,6 +17,8 @@ returns-in-Err-clause-steps c =
 pub returns-in-Err-clause-gives : goal.returns-in-Err-clause-gives
 returns-in-Err-clause-gives c =
     let h = c.args.self.now in
-    let i = c.args.source.now.instance.now in
-    (subst (λ e. HandleLifts i c.args.ledger.now c.taken.new.ledger (leaf h.owned h.ty h.index) (Err e)) (sym c.refused.ensures)
-    (handle_refused i c.args.ledger.now c.taken.new.ledger (leaf h.owned h.ty h.index) c.in-Err.refusal c.in-Err.ensures.lifts), refl)
+    let i = c.args.source.now.instance.now in (
+      subst (λ e. HandleLifts i c.args.ledger.now c.taken.new.ledger (leaf h.owned h.ty h.index) (Err e)) (sym c.refused.ensures)
+          (handle_refused i c.args.ledger.now c.taken.new.ledger (leaf h.owned h.ty h.index) c.in-Err.refusal c.in-Err.ensures.lifts),
+      refl,
+    )

@@ -39,7 +39,7 @@ returns-in-Err-push-clause-lifts g c =
     let after = c.linear_lift_from_memory.new.cx in
     let p = stored list.pointer in
     let (read, spent) = item_lifts R core cx.options list.element c.loop-k.cx.core.now c.loop-k.cx.options list.pointer c.loop-k.k c.from-size.result (list.pointer + c.loop-k.k * c.from-size.result) mid after.core.now.ledger
-        c.loop-k.cx.fuel after.fuel (Ok c.in-Ok.item) i.same_core i.same_options bytes refl c.in-Ok.ensures.lifts in
+    c.loop-k.cx.fuel after.fuel (Ok c.in-Ok.item) i.same_core i.same_options bytes refl c.in-Ok.ensures.lifts in
     item_lost R w s g.met.Self.Lift.taken list.count c.loop-k.k p core.ledger mid after.core.now.ledger c.loop-k.items.items c.in-Ok.item cx.fuel c.loop-k.cx.fuel after.fuel
     (search rules) i.count i.read i.spent read spent
 
@@ -73,7 +73,7 @@ loop-k-preserved g c =
     let after = c.linear_lift_from_memory.new.cx in
     let p = stored list.pointer in
     let (read, spent) = item_lifts R core cx.options list.element c.loop-k.cx.core.now c.loop-k.cx.options list.pointer c.loop-k.k c.from-size.result (list.pointer + c.loop-k.k * c.from-size.result) mid after.core.now.ledger
-        c.loop-k.cx.fuel after.fuel (Ok c.in-Ok.item) i.same_core i.same_options bytes refl c.in-Ok.ensures.lifts in
+    c.loop-k.cx.fuel after.fuel (Ok c.in-Ok.item) i.same_core i.same_options bytes refl c.in-Ok.ensures.lifts in
     let there = subst (λ k. R.reads w (item_spot w.memory s p k) s mid c.in-Ok.item after.core.now.ledger) (sym i.count) read in
     record {
       count = search rules;

@@ -104,5 +104,5 @@ returns-in-Ok-clause-lifts g c =
     let (good, spent) = c.in-Ok.ensures.tested e layout in
     let room : c.args.at + size false s ≤ length core.memory = c.requires.inside in
     let h = subst (λ z. Lifts (pairs_reading g.K.PartialEq.eq c.from-count.result g.K.Lift.reading g.V.Lift.reading) (setting_in z.core.now z.options) (stored c.from-pointer.result)
-        (tuple (shape_of (types_of z.core.now) m.key ∷ shape_of (types_of z.core.now) m.value ∷ [])) z.core.now.ledger mid.fuel c.lift_pairs.result after.core.now.ledger after.fuel) c.in-Ok.ensures.same c.lift_pairs.ensures.lifts in
+    (tuple (shape_of (types_of z.core.now) m.key ∷ shape_of (types_of z.core.now) m.value ∷ [])) z.core.now.ledger mid.fuel c.lift_pairs.result after.core.now.ledger after.fuel) c.in-Ok.ensures.same c.lift_pairs.ensures.lifts in
     map_lifts g.K.PartialEq.eq bytes g.K.Lift.reading g.V.Lift.reading w (stored c.args.at) s core.ledger after.core.now.ledger cx.fuel mid.fuel after.fuel c.lift_pairs.result e c.from-pointer.result c.from-count.result element p n room good spent h

@@ -1,0 +1,5 @@
+//! Tests of typed lifting.
+#![tactic(auto)]
+
+#[cfg(test)]
+mod tests;
