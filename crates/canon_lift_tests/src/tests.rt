@@ -130,9 +130,10 @@ fn loads<T: Lift + PartialEq>(
     expected: &T,
     cost: u64,
 ) -> Result<bool, Fail> {
-    match loaded::<T>(alloc, typed, bytes)? {
-        (Ok(value), spent) => Ok(value == *expected && spent == cost),
-        (Err(_), _) => Ok(false),
+    let (value, spent) = loaded::<T>(alloc, typed, bytes)?;
+    match value {
+        Ok(value) => Ok(value == *expected && spent == cost),
+        Err(_) => Ok(false),
     }
 }
 
@@ -145,17 +146,19 @@ fn lifts<T: Lift + PartialEq>(
     expected: &T,
     cost: u64,
 ) -> Result<bool, Fail> {
-    match lifted::<T>(alloc, typed, words, bytes)? {
-        (Ok(value), spent) => Ok(value == *expected && spent == cost),
-        (Err(_), _) => Ok(false),
+    let (value, spent) = lifted::<T>(alloc, typed, words, bytes)?;
+    match value {
+        Ok(value) => Ok(value == *expected && spent == cost),
+        Err(_) => Ok(false),
     }
 }
 
 /// Whether lifting these bytes answers this fault.
 fn fails<T: Lift>(alloc: Global, typed: Typed, bytes: &[u8], fault: Fault) -> Result<bool, Fail> {
-    match loaded::<T>(alloc, typed, bytes)? {
-        (Ok(_), _) => Ok(false),
-        (Err(error), _) => Ok(error == fault),
+    let (value, _) = loaded::<T>(alloc, typed, bytes)?;
+    match value {
+        Ok(_) => Ok(false),
+        Err(error) => Ok(error == fault),
     }
 }
 
@@ -421,9 +424,10 @@ fn last_value(alloc: Global) -> Result<(Option<u8>, u64), Fail> {
     let mut types = TypeBuilder::new(alloc);
     let ty = types.add_map(InterfaceType::U8, InterfaceType::U8)?;
     let bytes = [8, 0, 0, 0, 2, 0, 0, 0, 1, 10, 1, 20];
-    match loaded::<HashMap<u8, u8>>(alloc, (types.finish(), ty), &bytes)? {
-        (Ok(map), spent) => Ok((map.get(&1).copied(), spent)),
-        (Err(_), spent) => Ok((None, spent)),
+    let (map, spent) = loaded::<HashMap<u8, u8>>(alloc, (types.finish(), ty), &bytes)?;
+    match map {
+        Ok(map) => Ok((map.get(&1).copied(), spent)),
+        Err(_) => Ok((None, spent)),
     }
 }
 
@@ -438,9 +442,10 @@ fn the_last_value_of_a_key_stays(rt: HostRuntime) -> Result<(), Fail> {
 fn fixed_cost(alloc: Global) -> Result<Option<u64>, Fail> {
     let mut types = TypeBuilder::new(alloc);
     let ty = types.add_fixed_length_list(InterfaceType::U16, 2)?;
-    match loaded::<FixedList<u16, 2>>(alloc, (types.finish(), ty), &[1, 0, 2, 0])? {
-        (Ok(list), spent) => Ok((*list.items() == [1, 2]).then_some(spent)),
-        (Err(_), _) => Ok(None),
+    let (list, spent) = loaded::<FixedList<u16, 2>>(alloc, (types.finish(), ty), &[1, 0, 2, 0])?;
+    match list {
+        Ok(list) if list.items() == [1, 2].as_slice() => Ok(Some(spent)),
+        _ => Ok(None),
     }
 }
 
@@ -460,19 +465,14 @@ fn boxes_are_what_they_hold(rt: HostRuntime) -> Result<(), Fail> {
 
 /// What a text that isn't UTF-8 and a list of two numbers cost that stay in memory, if they are lifted.
 fn costs_in_memory(alloc: Global) -> Result<Option<(u64, u64)>, Fail> {
-    let text = loaded::<WasmStr>(
-        alloc,
-        plain(alloc, InterfaceType::String),
-        &[8, 0, 0, 0, 1, 0, 0, 0, 0xc3],
-    )?;
-    let list = loaded::<WasmList<u16>>(
-        alloc,
-        list_of(alloc, InterfaceType::U16)?,
-        &[8, 0, 0, 0, 2],
-    )?;
-    match (text, list) {
-        ((Ok(_), one), (Ok(_), two)) => Ok(Some((one, two))),
-        _ => Ok(None),
+    let bytes = [8, 0, 0, 0, 1, 0, 0, 0, 0xc3];
+    let (text, one) = loaded::<WasmStr>(alloc, plain(alloc, InterfaceType::String), &bytes)?;
+    let bytes = [8, 0, 0, 0, 2];
+    let (list, two) = loaded::<WasmList<u16>>(alloc, list_of(alloc, InterfaceType::U16)?, &bytes)?;
+    if text.is_ok() && list.is_ok() {
+        Ok(Some((one, two)))
+    } else {
+        Ok(None)
     }
 }
 
