@@ -7,7 +7,7 @@ ghost use Rattle.canon_context.specs.Host.{HostSteps, IsOutside, Keeps, Returns,
 
 use crate::Component;
 use canon_ledger::HostResourceTables;
-use canon_types::{CanonicalOptions, OptionsIndex, StoreId, TypeFunc};
+use canon_types::{CanonicalOptions, InstanceType, OptionsIndex, StoreId, TypeFunc};
 
 /// Why a function of the host gave no results.
 #[derive(Clone, Copy, Debug, PartialEq, Eq)]
@@ -44,6 +44,13 @@ impl<'a> MemoryView<'a> {
         ensures { IsTrue result ↔ HasOptions self.now.component.now i }
     {
         (i.as_u32() as usize) < self.component.options.len()
+    }
+
+    /// The types of the component.
+    pub fn types(&self) -> &'a InstanceType
+        ensures { result.now ≡ self.now.component.now.types }
+    {
+        &self.component.types
     }
 
     pub fn store_id(&self) -> StoreId

@@ -2,7 +2,7 @@
 use Rattle.std.proofs.Common.{Err, List, None, Ok, Option, Result, Some, [], ap, inl, inr, refl, subst, sym, ℕ, ◌++◌, ◌∙◌, ◌≡◌, ◌∷◌}
 use Rattle.canon_ledger.specs.declared.fault.ResourceFault.{ResourceFault}
 use Rattle.canon_ledger.specs.Ledger.{LedgerState}
-use Rattle.canon_leaves.specs.Laws.{LeavesAreDetermined, LeavesCompose, StopsCompose, StopsStay}
+use Rattle.canon_leaves.specs.Laws.{LeavesAreDetermined, LeavesCompose, StopsCompose, StopsExclude, StopsStay}
 use Rattle.canon_leaves.specs.Parts.{LeafTakes, LeavesStop, LeavesTake, Part, Stops, Takes, do_part, last_of}
 
 -- ---- parts
@@ -29,6 +29,20 @@ takes_same last l m n (p ∷ ps) xs ys (a, as2, is, ok, more) (b, bs, is2, ok2, 
     let e : a ≡ b = same_ok _ a b ok ok2 in
     let (f, g) = takes_same a _ m n ps as2 bs more (takes_along a b _ n ps bs e more2) in
     (is ∙ ap (λ x. x ∷ as2) e ∙ ap (λ zs. b ∷ zs) f ∙ sym is2, g)
+
+-- what is accepted isn't refused
+ok_refused : (r : Result ℕ ResourceFault) (a : ℕ) (e : ResourceFault) → r ≡ Ok a → r ≡ Err e → ⊥
+ok_refused r a e h g = cc
+
+some_none : (e : ResourceFault) → Some e ≡ None → ⊥
+some_none e h = cc
+
+stops_excluded : (e : ResourceFault) (last : ℕ) (l n m : LedgerState) (ps : List Part) (xs : List ℕ) → Stops (Some e) last l ps n → Takes last l ps xs m → ⊥
+stops_excluded e last l n m [] xs h takes = h
+stops_excluded e last l n m (p ∷ ps) xs (inl h) takes = some_none e h.0
+stops_excluded e last l n m (p ∷ ps) xs (inr (inl (d, why, is, left))) (a, rest, are, ok, more) = ok_refused (do_part last p l).answer a d ok is
+stops_excluded e last l n m (p ∷ ps) xs (inr (inr (b, is, stops))) (a, rest, are, ok, more) =
+    stops_excluded e a (do_part last p l).after n m ps rest (subst (λ k. Stops (Some e) k (do_part last p l).after ps n) (same_ok (do_part last p l).answer b a is ok) stops) more
 
 -- ---- handles
 
@@ -69,3 +83,10 @@ leaves_same l m n (x ∷ xs) hs ks (h, rest, mid, is, leaf, more) (k, rest2, mid
     let (e, f) = leaf_same l mid mid2 x h k leaf leaf2 in
     let (g, j) = leaves_same mid m n xs rest rest2 more (subst (λ (y : LedgerState). LeavesTake y xs rest2 n) (sym f) more2) in
     (is ∙ ap (λ y. y ∷ rest) e ∙ ap (λ zs. k ∷ zs) g ∙ sym is2, j)
+
+-- what is refused does not cross
+pub leaves_excluded : StopsExclude
+leaves_excluded e l n m [] hs h takes = h
+leaves_excluded e l n m (leaf ∷ leaves) hs (inl stops) (h, rest, mid, are, takes, more) = stops_excluded e 0 l n mid leaf takes.answers (stops 0) (takes.takes 0)
+leaves_excluded e l n m (leaf ∷ leaves) hs (inr (k, there, took, stops)) (h, rest, mid, are, takes, more) =
+    leaves_excluded e mid n m leaves rest (subst (λ q. LeavesStop (Some e) q leaves n) (leaf_same l there mid leaf k h took takes).1 stops) more

@@ -1,5 +1,5 @@
 -- Laws of the handles among values.
-use Rattle.std.specs.Prelude.{List, Option, map, ℕ, ◌++◌, ◌≡◌}
+use Rattle.std.specs.Prelude.{List, Option, Some, map, ℕ, ◌++◌, ◌≡◌}
 use Rattle.canon_ledger.specs.declared.fault.ResourceFault.{ResourceFault}
 use Rattle.canon_ledger.specs.Ledger.{LedgerState, Partway, Through}
 use Rattle.canon_model.specs.Leaves.{Leaf}
@@ -19,6 +19,10 @@ StopsCompose = (why : Option ResourceFault) (l m n : LedgerState) (xs ys : List 
 -- where it stopped, whatever was to come after
 abbrev pub StopsStay : Type 0
 StopsStay = (why : Option ResourceFault) (l n : LedgerState) (xs ys : List (List Part)) → LeavesStop why l xs n → LeavesStop why l (xs ++ ys) n
+
+-- what is refused does not cross
+abbrev pub StopsExclude : Type 0
+StopsExclude = (e : ResourceFault) (l n m : LedgerState) (xs : List (List Part)) (hs : List ℕ) → LeavesStop (Some e) l xs n → LeavesTake l xs hs m → ⊥
 
 -- what was answered and what was left is determined by the ledger
 abbrev pub LeavesAreDetermined : Type 0

@@ -1,12 +1,14 @@
 //! Laws of the definitions.
 
-ghost use Rattle.canon_leaves.specs.Laws.{LeavesAreDetermined, LeavesAreSteps, LeavesCompose, LiftsAreTakes, StopsArePartway, StopsCompose, StopsStay};
+ghost use Rattle.canon_leaves.specs.Laws.{LeavesAreDetermined, LeavesAreSteps, LeavesCompose, LiftsAreTakes, StopsArePartway, StopsCompose, StopsExclude, StopsStay};
 
-/// Handles that cross, and those that cross after them, compose; so do those that stop on the way.
+/// Handles that cross, and those that cross after them, compose; so do those that stop on the way. What is refused
+/// does not cross.
 pub fn leaves_compose()
     ensures whole { LeavesCompose }
     ensures part { StopsCompose }
     ensures first_part { StopsStay }
+    ensures exclude { StopsExclude }
 {}
 
 /// The ledger and the parts determine what is answered and left.

@@ -1,4 +1,4 @@
-use Rattle.canon_leaves.proofs.Leaves.{leaves_stop_first, leaves_stop_then, leaves_then}
+use Rattle.canon_leaves.proofs.Leaves.{leaves_excluded, leaves_stop_first, leaves_stop_then, leaves_then}
 use Rattle.canon_leaves.proofs.laws.leaves_compose.Goals as goal
 
 pub returns-clause-whole : goal.returns-clause-whole
@@ -9,3 +9,6 @@ returns-clause-part c = leaves_stop_then
 
 pub returns-clause-first_part : goal.returns-clause-first_part
 returns-clause-first_part c = leaves_stop_first
+
+pub returns-clause-exclude : goal.returns-clause-exclude
+returns-clause-exclude c = leaves_excluded
