@@ -1,4 +1,5 @@
 pub mod Attempts
+pub mod Blamed
 pub mod BlockSteps
 pub mod CaseSteps
 pub mod Clearing
@@ -20,6 +21,7 @@ pub mod Stood
 pub mod TextSteps
 pub mod TooLarge
 pub mod TupleSteps
+pub mod TupleTypes
 pub mod Types
 pub mod WordBlocks
 pub mod WordCases

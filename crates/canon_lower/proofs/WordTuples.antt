@@ -1,28 +1,27 @@
--- Members one after another: what is left completes what is done. And the types of a tuple's members.
-use Rattle.std.proofs.Common.{All, ◌≡◌, ◌≤◌, ◌<◌, ◌+◌, ◌++◌, ◌^◌, ◌∙◌, Err, List, Ok, Option, Result, Some, [], ◌∷◌, ap, arith, drop, get_or, length, refl, subst, suc, sym, zero, ℕ}
-use Rattle.std.specs.Option.{option_map_or}
-use Rattle.std.specs.Prelude.{⊤}
+-- Words of members one after another: what is left completes what is done. And the members of a tuple.
+use Rattle.std.proofs.Common.{◌≡◌, ◌≤◌, ◌+◌, ◌++◌, ◌^◌, ◌∙◌, Err, List, Ok, Result, [], ◌∷◌, ap, arith, length, refl, subst, sym, ℕ}
 use Rattle.canon_context.proofs.Moves.{GuestLaws}
 use Rattle.canon_context.specs.Asks.{SameButHandles}
 use Rattle.canon_context.specs.Core.{Parts, types_of}
 use Rattle.canon_context.specs.declared.fault.Fault.{Fault}
 use Rattle.canon_leaves.specs.Parts.{Part}
 use Rattle.canon_value.proofs.Passing.{handles_instance, handles_then, handles_types}
-use Rattle.canon_lower.proofs.WordSteps.{first_stay, members_more, members_none, members_stop, product_lowers, stays_then}
+use Rattle.canon_lower.proofs.TupleSteps.{no_tuple_gives}
+use Rattle.canon_lower.proofs.TupleTypes.{IsNext, next_of, none_after, tuple_seen}
+use Rattle.canon_lower.proofs.WordSteps.{first_stay, first_stay_at, members_more, members_none, members_stop, product_lowers, stays_then}
 use Rattle.canon_lower.specs.Gives.{product_gives, row_gives}
+use Rattle.canon_lower.specs.Tuples.{member_type, members_after, types_from}
 use Rattle.canon_lower.specs.Words.{Stays, TypedLowers, TypedMembersLower}
-use Rattle.canon_lowering.proofs.Attempts.{FirstAnd}
 use Rattle.canon_memory.specs.Guest.{GuestIn, Seen}
 use Rattle.canon_memory.specs.declared.event.Event.{Event}
 use Rattle.canon_model.specs.Fits.{Fits}
 use Rattle.canon_model.specs.Layout.{flat, members_flat}
-use Rattle.canon_model.specs.Shape.{Members, Shape, member, no_members, of_places, product}
+use Rattle.canon_model.specs.Shape.{Members, Shape, member, no_members, of_places}
 use Rattle.canon_model.specs.Tree.{Tree, Trees}
 use Rattle.canon_types.specs.Instance.{Instance}
-use Rattle.canon_types.specs.Table.{Definition, IsDefined, Knows, Table, TupleType, members_of, shape_of, tuple_types}
+use Rattle.canon_types.specs.Table.{Table, shape_of}
 use Rattle.canon_types.specs.declared.types.InterfaceType.{InterfaceType}
-use Rattle.canon_types.specs.declared.types.InterfaceType.TheVariants as ty
-use Rattle.canon_typed.specs.Meaning.{NoTrees, ProductMeans}
+use Rattle.canon_typed.specs.Meaning.{FirstAnd, NoTrees, ProductMeans}
 use Rattle.canon_typed.specs.Types.{AreOf, IsTupleOf}
 
 -- ---- members
@@ -58,12 +57,6 @@ module _ {D G : Type 0} (L : GuestLaws G) (options : ℕ) (start : Parts D G) (w
     pub done_room : at + flat (shape_of (types_of now) type) ≤ length ws
     done_room = omega (arith, h.room, members_words s ms, ap flat same_shape)
 
-    pub done_known : Knows (types_of start) type → Knows (types_of now) type
-    done_known k = subst (λ (x : Table). Knows x type) (sym (handles_types start now h.same)) k
-
-    pub done_fits : (Fit : Instance → InterfaceType → Type 0) → Fit start.component.types type → Fit now.component.types type
-    done_fits Fit k = subst (λ (i : Instance). Fit i type) (sym (handles_instance start now h.same)) k
-
     -- lowering the next one, said of the core now
     abbrev pub Next : Parts D G → List ℕ → Result (Unit {0}) Fault → Type 0
     Next c vs r = TypedLowers L.seen L.moves opts now c (shape_of (types_of now) type) vs at Has (f now.component.types (shape_of (types_of now) type)) r
@@ -92,82 +85,77 @@ module _ {D G : Type 0} (L : GuestLaws G) (options : ℕ) (start : Parts D G) (w
   pub done_end : (now : Parts D G) (opts : ℕ) (ws : List ℕ) (at : ℕ) → length now.memory ≤ 2 ^ 32 → Done now opts ws at no_members NoTrees [] → TypedMembersLower L.seen L.moves options start now whole ws 0 Have gives (Ok tt)
   done_end now opts ws at small h = h.completes now ws (Ok tt) (record { same_length = refl; before = λ p l. refl }) (members_none L options now ws at small)
 
-  -- the last one
-  pub done_last : (now c : Parts D G) (opts : ℕ) (ws vs : List ℕ) (at : ℕ) (type : InterfaceType) (Has : Tree → Type 0) (f : Instance → Shape → List (List Part)) (r : Result (Unit {0}) Fault)
-      → (h : Done now opts ws at (member [] (shape_of (types_of start) type) no_members) (FirstAnd Has NoTrees) (f start.component.types (shape_of (types_of start) type) ++ []))
-      → ((t : Tree) → Has t → Fits (shape_of (types_of start) type) t) → Stays at ws vs → TypedLowers L.seen L.moves opts now c (shape_of (types_of now) type) vs at Has (f now.component.types (shape_of (types_of now) type)) r
-      → TypedMembersLower L.seen L.moves options start c whole vs 0 Have gives r
-  done_last now c opts ws vs at type Has f (Ok u) h fits stays low =
-      let more = done_more now opts ws at type no_members Has NoTrees f [] h c opts vs (at + flat (shape_of (types_of now) type)) fits stays refl refl low in
-      done_end c opts vs _ low.attempt.lowering.small more
-  done_last now c opts ws vs at type Has f (Err e) h fits stays low = done_stop now opts ws at type no_members Has NoTrees f [] h c vs e stays low
+-- ---- the first member of a tuple, and the others
 
-module _ {D G : Type 0} (L : GuestLaws G) (options : ℕ) where
-  pub tuple_lowers : (a c : Parts D G) (s : Shape) (ms : Members) (ws : List ℕ) (Have : Trees → Type 0) (fs : List (Shape → List (List Part))) (r : Result (Unit {0}) Fault) → s ≡ product of_places ms
-      → TypedMembersLower L.seen L.moves options a c ms ws 0 Have (row_gives ms fs) r → TypedLowers L.seen L.moves options a c s ws 0 (ProductMeans Have) (product_gives fs s) r
-  tuple_lowers a c s ms ws Have fs r shape h = subst (λ (gs : List (List Part)). TypedLowers L.seen L.moves options a c s ws 0 (ProductMeans Have) gs r) (sym (ap (product_gives fs) shape))
-      (product_lowers L options a c s of_places ms ws Have (row_gives ms fs) r shape h)
+module _ {D G : Type 0} (L : GuestLaws G) (options : ℕ) (a : Parts D G) (type : InterfaceType) (k : ℕ) (Fit : Instance → InterfaceType → Type 0) (all : List (Instance → InterfaceType → Type 0))
+    (are : AreOf (Fit ∷ all) a.component.types (types_from (types_of a) type k)) where
+  abbrev part : Shape
+  part = shape_of (types_of a) (member_type (types_of a) type k)
 
--- ---- the types of a tuple's members
+  next : IsNext Fit a.component.types type k
+  next = next_of Fit all a.component.types type k are
 
--- each is the one of its place, or itself past the end
-abbrev pub At : List InterfaceType → ℕ → List InterfaceType → Type 0
-At types k [] = ⊤
-At types k (x ∷ xs) = (x ≡ get_or types k x) × At types (suc k) xs
+  pub first_room : (at m : ℕ) → at + members_flat (members_after (types_of a) type k) ≤ m → at + flat part ≤ m
+  first_room at m room = omega (arith, room, ap members_flat next.members, members_words part (members_after (types_of a) type (k + 1)))
 
-drop_next : (types : List InterfaceType) (k : ℕ) (x : InterfaceType) → k < length types → drop k types ≡ get_or types k x ∷ drop (suc k) types
-drop_next [] k x lt = absurd (omega (arith, lt))
-drop_next (y ∷ types) zero x lt = refl
-drop_next (y ∷ types) (suc k) x lt = drop_next types k x (omega (arith, lt))
-
-drop_end : (types : List InterfaceType) (k : ℕ) → length types ≡ k → drop k types ≡ []
-drop_end [] zero e = refl
-drop_end [] (suc k) e = refl
-drop_end (y ∷ types) zero e = absurd (omega (arith, e))
-drop_end (y ∷ types) (suc k) e = drop_end types k (omega (arith, e))
-
-all_at : (types xs : List InterfaceType) (k : ℕ) → length types ≡ k + length xs → At types k xs → drop k types ≡ xs
-all_at types [] k e h = drop_end types k (omega (arith, e))
-all_at types (x ∷ xs) k e (is, h) = drop_next types k x (omega (arith, e)) ∙ (ap (λ (y : InterfaceType). y ∷ drop (suc k) types) (sym is) ∙ ap (λ (ys : List InterfaceType). x ∷ ys) (all_at types xs (suc k) (omega (arith, e)) h))
-
-are_many : (all : List (Instance → InterfaceType → Type 0)) (i : Instance) (types : List InterfaceType) → AreOf all i types → length types ≡ length all
-are_many [] i [] h = refl
-are_many (F ∷ all) i (x ∷ types) h = ap suc (are_many all i types h.1)
-are_many [] i (x ∷ types) h = absurd h
-are_many (F ∷ all) i [] h = absurd h
-
-same_types : (xs ys : List InterfaceType) → Some (TupleType xs) ≡ Some (TupleType ys) → xs ≡ ys
-same_types xs ys e = ap (λ (d : Option Definition). option_map_or tuple_types d []) e
-
-abbrev pub Each : {A : Type 0} → (A → Type 0) → List A → Type 0
-Each P [] = ⊤
-Each P (x ∷ xs) = P x × Each P xs
-
-each_known : (t : Table) (xs : List InterfaceType) → All (Knows t) xs → Each (Knows t) xs
-each_known t [] h = tt
-each_known t (x ∷ xs) h = (h 0 x (omega arith), each_known t xs (λ k d lt. h (suc k) d (omega (arith, lt))))
-
--- the shape of a tuple whose members have these types, and that each type is of its Rust type, and known
-pub tuple_facts : (all : List (Instance → InterfaceType → Type 0)) (i : Instance) (t2 : Table) (j : ℕ) (types xs : List InterfaceType) (type : InterfaceType) → t2 ≡ i.types → type ≡ ty.Tuple j → IsDefined t2 (ty.Tuple j) (TupleType types)
-    → IsTupleOf all i type → length xs ≡ length all → At types 0 xs → (shape_of i.types type ≡ product of_places (members_of i.types xs)) × AreOf all i xs × Each (Knows i.types) xs
-tuple_facts all i t2 j types xs type e is h fits count at =
-    let (them, d, are) = subst (IsTupleOf all i) is fits in
-    let here : IsDefined i.types (ty.Tuple j) (TupleType types) = subst (λ (x : Table). IsDefined x (ty.Tuple j) (TupleType types)) e h in
-    let same : types ≡ them = same_types types them (sym here.definition ∙ d.definition) in
-    let long : length types ≡ 0 + length xs = omega (arith, ap length same, are_many all i them are, count) in
-    let each : types ≡ xs = all_at types xs 0 long at in (
-      ap (shape_of i.types) is ∙ (here.shape ∙ ap (λ (ys : List InterfaceType). product of_places (members_of i.types ys)) each),
-      subst (AreOf all i) each (subst (AreOf all i) (sym same) are),
-      each_known i.types xs (subst (λ (ys : List InterfaceType). All (Knows i.types) ys) each here.known),
+  module _ (b : Parts D G) (same : SameButHandles a b) (k2 : ℕ) (e : k2 ≡ k + 1) (at at2 : ℕ) (end : at2 ≡ at + flat part) where
+    pub later_room : (m m2 : ℕ) → m2 ≡ m → at + members_flat (members_after (types_of a) type k) ≤ m → at2 + members_flat (members_after (types_of b) type k2) ≤ m2
+    later_room m m2 count room = omega (
+      arith,
+      count,
+      room,
+      end,
+      ap members_flat next.members,
+      members_words part (members_after (types_of a) type (k + 1)),
+      ap (λ (t : Table). members_flat (members_after t type k2)) (handles_types a b same),
+      ap (λ (n : ℕ). members_flat (members_after (types_of a) type n)) e,
     )
 
-pub tuple_room : (s : Shape) (ms : Members) (dst : List ℕ) → s ≡ product of_places ms → length dst ≡ flat s → members_flat ms ≤ length dst
-unfolding flat
-tuple_room s ms dst shape room = omega (arith, room, ap flat shape)
+    module _ (Has : Tree → Type 0) (Have : Trees → Type 0) (f : Instance → Shape → List (List Part)) (fs : Instance → List (Shape → List (List Part))) where
+      pub lowered_more : (c : Parts D G) (options2 : ℕ) (ws vs : List ℕ) (r : Result (Unit {0}) Fault) → ((t : Tree) → Has t → Fits part t) → options2 ≡ options → Stays at2 ws vs
+          → TypedLowers L.seen L.moves options a b part ws at Has (f a.component.types part) (Ok tt)
+          → TypedMembersLower L.seen L.moves options2 b c (members_after (types_of b) type k2) vs at2 Have (row_gives (members_after (types_of b) type k2) (fs b.component.types)) r
+          → TypedMembersLower L.seen L.moves options a c (members_after (types_of a) type k) vs at (FirstAnd Has Have) (row_gives (members_after (types_of a) type k) (f a.component.types ∷ fs a.component.types)) r
+      lowered_more c options2 ws vs r fits eo stays one more =
+          let rest : TypedMembersLower L.seen L.moves options b c (members_after (types_of a) type (k + 1)) vs (at + flat part) Have (row_gives (members_after (types_of a) type (k + 1)) (fs a.component.types)) r =
+          subst (λ (i : Instance). TypedMembersLower L.seen L.moves options b c (members_after i.types type (k + 1)) vs (at + flat part) Have (row_gives (members_after i.types type (k + 1)) (fs i)) r) (handles_instance a b same)
+          (subst (λ (n : ℕ). TypedMembersLower L.seen L.moves options b c (members_after (types_of b) type n) vs (at + flat part) Have (row_gives (members_after (types_of b) type n) (fs b.component.types)) r) e
+          (subst (λ (n : ℕ). TypedMembersLower L.seen L.moves options b c (members_after (types_of b) type k2) vs n Have (row_gives (members_after (types_of b) type k2) (fs b.component.types)) r) end
+          (subst (λ (n : ℕ). TypedMembersLower L.seen L.moves n b c (members_after (types_of b) type k2) vs at2 Have (row_gives (members_after (types_of b) type k2) (fs b.component.types)) r) eo more))) in
+          subst (λ (ms : Members). TypedMembersLower L.seen L.moves options a c ms vs at (FirstAnd Has Have) (row_gives ms (f a.component.types ∷ fs a.component.types)) r) (sym next.members)
+          (members_more L options a b c part (members_after (types_of a) type (k + 1)) ws vs at Has Have (f a.component.types part) (row_gives (members_after (types_of a) type (k + 1)) (fs a.component.types)) r fits
+          (first_stay_at at (flat part) at2 ws vs end stays) one rest)
 
--- the empty tuple, which no value is lowered of
+  pub lowered_stop : (b : Parts D G) (ws : List ℕ) (at : ℕ) (Has : Tree → Type 0) (Have : Trees → Type 0) (f : Instance → Shape → List (List Part)) (fs : Instance → List (Shape → List (List Part))) (e : Fault)
+      → TypedLowers L.seen L.moves options a b part ws at Has (f a.component.types part) (Err e)
+      → TypedMembersLower L.seen L.moves options a b (members_after (types_of a) type k) ws at (FirstAnd Has Have) (row_gives (members_after (types_of a) type k) (f a.component.types ∷ fs a.component.types)) (Err e)
+  lowered_stop b ws at Has Have f fs e one =
+      subst (λ (ms : Members). TypedMembersLower L.seen L.moves options a b ms ws at (FirstAnd Has Have) (row_gives ms (f a.component.types ∷ fs a.component.types)) (Err e)) (sym next.members)
+      (members_stop L options a b part (members_after (types_of a) type (k + 1)) ws at Has Have (f a.component.types part) (row_gives (members_after (types_of a) type (k + 1)) (fs a.component.types)) e one)
+
+pub lowered_none : {D G : Type 0} (L : GuestLaws G) (options : ℕ) (a : Parts D G) (type : InterfaceType) (k : ℕ) (ws : List ℕ) (at : ℕ) → length a.memory ≤ 2 ^ 32 → AreOf [] a.component.types (types_from (types_of a) type k)
+    → TypedMembersLower L.seen L.moves options a a (members_after (types_of a) type k) ws at NoTrees (row_gives (members_after (types_of a) type k) []) (Ok tt)
+lowered_none L options a type k ws at small are = subst (λ (ms : Members). TypedMembersLower L.seen L.moves options a a ms ws at NoTrees (row_gives ms []) (Ok tt)) (sym (none_after a.component.types type k are))
+    (members_none L options a ws at small)
+
+-- ---- the whole tuple
+
+module _ {D G : Type 0} (L : GuestLaws G) (options : ℕ) (a : Parts D G) (type : InterfaceType) (all : List (Instance → InterfaceType → Type 0)) (of : IsTupleOf all a.component.types type) where
+  pub tuple_room : (dst : List ℕ) → length dst ≡ flat (shape_of (types_of a) type) → 0 + members_flat (members_after (types_of a) type 0) ≤ length dst
+  unfolding flat
+  tuple_room dst room = omega (arith, room, ap flat (tuple_seen all a.component.types type of).shape)
+
+  pub tuple_lowered : (c : Parts D G) (ws : List ℕ) (Have : Trees → Type 0) (fs : List (Shape → List (List Part))) (r : Result (Unit {0}) Fault)
+      → TypedMembersLower L.seen L.moves options a c (members_after (types_of a) type 0) ws 0 Have (row_gives (members_after (types_of a) type 0) fs) r
+      → TypedLowers L.seen L.moves options a c (shape_of (types_of a) type) ws 0 (ProductMeans Have) (product_gives fs (shape_of (types_of a) type)) r
+  tuple_lowered c ws Have fs r h =
+      let shape = (tuple_seen all a.component.types type of).shape in
+      subst (λ (gs : List (List Part)). TypedLowers L.seen L.moves options a c (shape_of (types_of a) type) ws 0 (ProductMeans Have) gs r) (sym (ap (product_gives fs) shape))
+      (product_lowers L options a c (shape_of (types_of a) type) of_places (members_after (types_of a) type 0) ws Have (row_gives (members_after (types_of a) type 0) fs) r shape h)
+
+-- a tuple of none
 pub unit_lowers : {D G : Type 0} (L : GuestLaws G) (options : ℕ) (a : Parts D G) (type : InterfaceType) (ws : List ℕ) → length a.memory ≤ 2 ^ 32 → IsTupleOf [] a.component.types type
     → TypedLowers L.seen L.moves options a a (shape_of (types_of a) type) ws 0 (ProductMeans NoTrees) [] (Ok tt)
-unit_lowers L options a (ty.Tuple j) ws small ([], d, are) = product_lowers L options a a (shape_of (types_of a) (ty.Tuple j)) of_places no_members ws NoTrees [] (Ok tt) d.shape (members_none L options a ws 0 small)
-unit_lowers L options a (ty.Tuple j) ws small (x ∷ types, d, are) = absurd are
-unit_lowers L options a _ ws small h = absurd h
+unit_lowers L options a type ws small of =
+    subst (λ (gs : List (List Part)). TypedLowers L.seen L.moves options a a (shape_of (types_of a) type) ws 0 (ProductMeans NoTrees) gs (Ok tt)) (no_tuple_gives a.component.types type of)
+    (tuple_lowered L options a type [] of a ws NoTrees [] (Ok tt) (lowered_none L options a type 0 ws 0 small (tuple_seen [] a.component.types type of).are))

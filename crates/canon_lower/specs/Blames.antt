@@ -60,3 +60,9 @@ HasLarge enc s e t = SomePart (IsTooLarge enc e) s t
 
 abbrev pub HaveLarge : Encoding → Members → Fault → Trees → Type 0
 HaveLarge enc ms e ts = SomeMember (IsTooLarge enc e) ms ts
+
+-- the two faults that blame a part of the value
+abbrev pub IsLargeFault : Fault → Type 0
+IsLargeFault (fault.StringTooLong n) = ⊤
+IsLargeFault (fault.SizeOverflow n) = ⊤
+IsLargeFault _ = ⊥

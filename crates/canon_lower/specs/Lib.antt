@@ -10,4 +10,5 @@ pub mod Places
 pub mod Scalars
 pub mod Stores
 pub mod Tuples
+pub mod Walkable
 pub mod Words

@@ -1,6 +1,7 @@
 //! Options and results.
 
 ghost use Rattle.canon_lower.specs.Gives.{option_gives, result_gives};
+ghost use Rattle.canon_lower.specs.Walkable.{option_walkable, result_walkable};
 
 use crate::cases::{put_option, put_result, store_payload, store_shared_payload};
 use crate::words::{lower_bare, lower_case, lower_payload, lower_shared_payload};
@@ -49,6 +50,8 @@ impl<T: Lower> Lower for Option<T> {
             }
         }
     }
+
+    ghost walkable = { option_walkable T.walks T.walkable };
 }
 
 impl<T: LowerShared> LowerShared for Option<T> {
@@ -71,6 +74,8 @@ impl<T: LowerShared> LowerShared for Option<T> {
     ) -> Result<(), Fault> {
         Lower::linear_lower_to_memory(&mut self.as_ref(), cx, ty, offset)
     }
+
+    ghost walkable = { option_walkable T.walks T.walkable };
 }
 
 impl<T: Lower, E: Lower> Lower for Result<T, E> {
@@ -110,6 +115,8 @@ impl<T: Lower, E: Lower> Lower for Result<T, E> {
             }
         }
     }
+
+    ghost walkable = { result_walkable T.is_unit T.walks E.is_unit E.walks T.walkable E.walkable };
 }
 
 impl<T: LowerShared, E: LowerShared> LowerShared for Result<T, E> {
@@ -149,4 +156,6 @@ impl<T: LowerShared, E: LowerShared> LowerShared for Result<T, E> {
             }
         }
     }
+
+    ghost walkable = { result_walkable T.is_unit T.walks E.is_unit E.walks T.walkable E.walkable };
 }

@@ -11,6 +11,7 @@ ghost use Rattle.canon_model.specs.Shape.{fixed};
 ghost use Rattle.canon_types.specs.Table.{Knows, shape_of};
 ghost use Rattle.canon_typed.specs.Meaning.{EachMeans};
 ghost use Rattle.canon_typed.specs.Types.{IsFixedOf};
+ghost use Rattle.canon_lower.specs.Walkable.{row_walkable};
 
 use crate::words::lower_at;
 use crate::{Lower, LowerShared};
@@ -110,6 +111,8 @@ impl<T: Lower, const N: usize> Lower for FixedList<T, N> {
         let element = fixed_element::<T, N>(cx.instance_type(), &ty);
         T::linear_store_list_to_memory(cx, element, offset, self.items_mut())
     }
+
+    ghost walkable = { λ v. row_walkable T.walks T.walkable v.items.items };
 }
 
 impl<T: LowerShared, const N: usize> LowerShared for FixedList<T, N> {
@@ -134,4 +137,6 @@ impl<T: LowerShared, const N: usize> LowerShared for FixedList<T, N> {
         let element = fixed_element::<T, N>(cx.instance_type(), &ty);
         T::linear_store_list_to_memory(cx, element, offset, self.items())
     }
+
+    ghost walkable = { λ v. row_walkable T.walks T.walkable v.items.items };
 }

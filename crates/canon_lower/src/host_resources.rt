@@ -17,6 +17,7 @@ ghost use Rattle.canon_types.specs.declared.resource.ResourceType.{ResourceType 
 ghost use Rattle.canon_types.specs.declared.resource.ResourceType.TheVariants.{Host, HostDynamic};
 ghost use Rattle.canon_typed.specs.Meaning.{IsHandle};
 ghost use Rattle.canon_typed.specs.Types.{IsHandleOf, IsHandleType};
+ghost use Rattle.canon_lower.specs.Walkable.{handle_walkable};
 
 use crate::Lower;
 use crate::put::put;
@@ -359,6 +360,8 @@ impl<T: HostResourceType<R>, R: Copy> Lower for HostResource<T, R> {
     {
         store_held(self, cx, ty, offset)
     }
+
+    ghost walkable = { λ v. handle_walkable };
 }
 
 impl<T: HostType> Lower for Resource<T> {
@@ -406,6 +409,8 @@ impl<T: HostType> Lower for Resource<T> {
     {
         store_held(self, cx, ty, offset)
     }
+
+    ghost walkable = { λ v. handle_walkable };
 }
 
 impl Lower for ResourceDynamic {
@@ -453,4 +458,6 @@ impl Lower for ResourceDynamic {
     {
         store_held(self, cx, ty, offset)
     }
+
+    ghost walkable = { λ v. handle_walkable };
 }

@@ -9,6 +9,7 @@ mod host_resources;
 mod lists;
 mod lower;
 mod maps;
+mod members;
 mod put;
 mod references;
 mod resources;

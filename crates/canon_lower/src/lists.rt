@@ -9,6 +9,7 @@ ghost use Rattle.canon_model.specs.Shape.{list, of_items};
 ghost use Rattle.canon_types.specs.Table.{Knows, shape_of};
 ghost use Rattle.canon_typed.specs.Meaning.{ListMeans};
 ghost use Rattle.canon_typed.specs.Types.{IsListOf};
+ghost use Rattle.canon_lower.specs.Walkable.{list_walkable};
 
 use crate::blocks::{Placed, ask_items, put_placed, put_words};
 use crate::{Lower, LowerShared};
@@ -113,6 +114,8 @@ impl<T: Lower> Lower for Vec<T> {
             Err(fault) => Err(fault),
         }
     }
+
+    ghost walkable = { λ v. list_walkable T.walks T.walkable v.items };
 }
 
 impl<T: LowerShared> LowerShared for Vec<T> {
@@ -147,4 +150,6 @@ impl<T: LowerShared> LowerShared for Vec<T> {
             Err(fault) => Err(fault),
         }
     }
+
+    ghost walkable = { λ v. list_walkable T.walks T.walkable v.items };
 }

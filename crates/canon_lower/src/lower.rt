@@ -8,6 +8,7 @@ ghost use Rattle.canon_lower.specs.Words.{TypedLowers};
 ghost use Rattle.canon_lowering.specs.Copies.{copies};
 ghost use Rattle.canon_model.specs.Layout.{flat, size};
 ghost use Rattle.canon_model.specs.Shape.{Shape};
+ghost use Rattle.canon_model.specs.Tree.{Tree};
 ghost use Rattle.canon_types.specs.Instance.{Instance};
 ghost use Rattle.canon_types.specs.Table.{Knows, shape_of};
 ghost use Rattle.canon_typed.specs.Meaning.{EachMeans};
@@ -86,6 +87,9 @@ pub trait Lower: ComponentType {
         }
         Ok(())
     }
+
+    // Each value walks a tree, so what the contracts say of all trees that a value walks is said of one at least.
+    ghost walkable: { (v : Self) → (t : Tree) × Self.walks v t };
 }
 
 /// A Rust type whose values are lowered from a shared reference: the calls of `Lower`, with the same errors. Values behind
@@ -153,4 +157,7 @@ pub trait LowerShared: ComponentType {
         }
         Ok(())
     }
+
+    // as of `Lower`
+    ghost walkable: { (v : Self) → (t : Tree) × Self.walks v t };
 }

@@ -14,6 +14,7 @@ ghost use Rattle.canon_types.specs.Table.{Knows, shape_of};
 ghost use Rattle.canon_typed.specs.Maps.{MapWalks};
 ghost use Rattle.canon_typed.specs.Meaning.{EachMeans, PairMeans};
 ghost use Rattle.canon_typed.specs.Types.{IsMapOf};
+ghost use Rattle.canon_lower.specs.Walkable.{map_walkable};
 
 use crate::blocks::{Placed, ask_items, put_placed, put_words};
 use crate::{Lower, LowerShared};
@@ -199,6 +200,8 @@ impl<K: LowerShared + Eq + Hash, V: LowerShared> Lower for HashMap<K, V> {
     ) -> Result<(), Fault> {
         store_map(self, cx, ty, offset)
     }
+
+    ghost walkable = { map_walkable K.walks V.walks K.walkable V.walkable };
 }
 
 impl<K: LowerShared + Eq + Hash, V: LowerShared> LowerShared for HashMap<K, V> {
@@ -221,4 +224,6 @@ impl<K: LowerShared + Eq + Hash, V: LowerShared> LowerShared for HashMap<K, V> {
     ) -> Result<(), Fault> {
         store_map(self, cx, ty, offset)
     }
+
+    ghost walkable = { map_walkable K.walks V.walks K.walkable V.walkable };
 }

@@ -25,6 +25,8 @@ impl<T: Lower> Lower for Box<T> {
     ) -> Result<(), Fault> {
         (**self).linear_lower_to_memory(cx, ty, offset)
     }
+
+    ghost walkable = { λ r. T.walkable r.value };
 }
 
 impl<T: LowerShared> LowerShared for Box<T> {
@@ -47,6 +49,8 @@ impl<T: LowerShared> LowerShared for Box<T> {
     ) -> Result<(), Fault> {
         (**self).linear_lower_to_memory(cx, ty, offset)
     }
+
+    ghost walkable = { λ r. T.walkable r.value };
 }
 
 impl<'a, T: LowerShared> Lower for &'a T {
@@ -69,6 +73,8 @@ impl<'a, T: LowerShared> Lower for &'a T {
     ) -> Result<(), Fault> {
         (**self).linear_lower_to_memory(cx, ty, offset)
     }
+
+    ghost walkable = { λ r. T.walkable r.now };
 }
 
 impl<'a, T: LowerShared> LowerShared for &'a T {
@@ -91,4 +97,6 @@ impl<'a, T: LowerShared> LowerShared for &'a T {
     ) -> Result<(), Fault> {
         (**self).linear_lower_to_memory(cx, ty, offset)
     }
+
+    ghost walkable = { λ r. T.walkable r.now };
 }

@@ -10,6 +10,7 @@ ghost use Rattle.canon_model.specs.Layout.{flat, size};
 ghost use Rattle.canon_types.specs.Table.{Knows, shape_of};
 ghost use Rattle.canon_typed.specs.Meaning.{IsHandle};
 ghost use Rattle.canon_typed.specs.Types.{IsHandleType};
+ghost use Rattle.canon_lower.specs.Walkable.{handle_walkable};
 
 use crate::put::put;
 use crate::{Lower, LowerShared};
@@ -120,6 +121,8 @@ impl Lower for ResourceAny {
     ) -> Result<(), Fault> {
         store_resource(cx, ty, *self, offset)
     }
+
+    ghost walkable = { λ v. handle_walkable };
 }
 
 impl LowerShared for ResourceAny {
@@ -142,4 +145,6 @@ impl LowerShared for ResourceAny {
     ) -> Result<(), Fault> {
         store_resource(cx, ty, *self, offset)
     }
+
+    ghost walkable = { λ v. handle_walkable };
 }

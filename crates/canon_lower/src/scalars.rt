@@ -1,9 +1,10 @@
 //! Scalars: integers, floats by their bits, `bool` and `char`.
 
-ghost use Rattle.std.specs.Prelude.{refl};
+ghost use Rattle.std.specs.Prelude.{pos, refl};
 ghost use Rattle.canon_lower.specs.Gives.{no_handles};
 ghost use Rattle.canon_lower.specs.Scalars.{scalar_of};
 ghost use Rattle.canon_model.specs.Shape as scalar;
+ghost use Rattle.canon_model.specs.Tree.{code_point, number, truth};
 ghost use Rattle.canon_types.specs.declared.types.InterfaceType.TheVariants as ty;
 
 use crate::words::{WordScalar, lower_scalar, store_scalar};
@@ -45,6 +46,8 @@ impl Lower for i8 {
         store_scalar(self, cx, ty, offset);
         Ok(())
     }
+
+    ghost walkable = { λ n. (number n, refl) };
 }
 
 impl LowerShared for i8 {
@@ -69,6 +72,8 @@ impl LowerShared for i8 {
         store_scalar(self, cx, ty, offset);
         Ok(())
     }
+
+    ghost walkable = { λ n. (number n, refl) };
 }
 
 impl WordScalar for u8 {
@@ -103,6 +108,8 @@ impl Lower for u8 {
         store_scalar(self, cx, ty, offset);
         Ok(())
     }
+
+    ghost walkable = { λ n. (number (pos n), refl) };
 }
 
 impl LowerShared for u8 {
@@ -127,6 +134,8 @@ impl LowerShared for u8 {
         store_scalar(self, cx, ty, offset);
         Ok(())
     }
+
+    ghost walkable = { λ n. (number (pos n), refl) };
 }
 
 impl WordScalar for i16 {
@@ -161,6 +170,8 @@ impl Lower for i16 {
         store_scalar(self, cx, ty, offset);
         Ok(())
     }
+
+    ghost walkable = { λ n. (number n, refl) };
 }
 
 impl LowerShared for i16 {
@@ -185,6 +196,8 @@ impl LowerShared for i16 {
         store_scalar(self, cx, ty, offset);
         Ok(())
     }
+
+    ghost walkable = { λ n. (number n, refl) };
 }
 
 impl WordScalar for u16 {
@@ -219,6 +232,8 @@ impl Lower for u16 {
         store_scalar(self, cx, ty, offset);
         Ok(())
     }
+
+    ghost walkable = { λ n. (number (pos n), refl) };
 }
 
 impl LowerShared for u16 {
@@ -243,6 +258,8 @@ impl LowerShared for u16 {
         store_scalar(self, cx, ty, offset);
         Ok(())
     }
+
+    ghost walkable = { λ n. (number (pos n), refl) };
 }
 
 impl WordScalar for i32 {
@@ -277,6 +294,8 @@ impl Lower for i32 {
         store_scalar(self, cx, ty, offset);
         Ok(())
     }
+
+    ghost walkable = { λ n. (number n, refl) };
 }
 
 impl LowerShared for i32 {
@@ -301,6 +320,8 @@ impl LowerShared for i32 {
         store_scalar(self, cx, ty, offset);
         Ok(())
     }
+
+    ghost walkable = { λ n. (number n, refl) };
 }
 
 impl WordScalar for u32 {
@@ -335,6 +356,8 @@ impl Lower for u32 {
         store_scalar(self, cx, ty, offset);
         Ok(())
     }
+
+    ghost walkable = { λ n. (number (pos n), refl) };
 }
 
 impl LowerShared for u32 {
@@ -359,6 +382,8 @@ impl LowerShared for u32 {
         store_scalar(self, cx, ty, offset);
         Ok(())
     }
+
+    ghost walkable = { λ n. (number (pos n), refl) };
 }
 
 impl WordScalar for i64 {
@@ -393,6 +418,8 @@ impl Lower for i64 {
         store_scalar(self, cx, ty, offset);
         Ok(())
     }
+
+    ghost walkable = { λ n. (number n, refl) };
 }
 
 impl LowerShared for i64 {
@@ -417,6 +444,8 @@ impl LowerShared for i64 {
         store_scalar(self, cx, ty, offset);
         Ok(())
     }
+
+    ghost walkable = { λ n. (number n, refl) };
 }
 
 impl WordScalar for u64 {
@@ -451,6 +480,8 @@ impl Lower for u64 {
         store_scalar(self, cx, ty, offset);
         Ok(())
     }
+
+    ghost walkable = { λ n. (number (pos n), refl) };
 }
 
 impl LowerShared for u64 {
@@ -475,6 +506,8 @@ impl LowerShared for u64 {
         store_scalar(self, cx, ty, offset);
         Ok(())
     }
+
+    ghost walkable = { λ n. (number (pos n), refl) };
 }
 
 impl WordScalar for Float32Bits {
@@ -509,6 +542,8 @@ impl Lower for Float32Bits {
         store_scalar(self, cx, ty, offset);
         Ok(())
     }
+
+    ghost walkable = { λ n. (number (pos n.0), refl) };
 }
 
 impl LowerShared for Float32Bits {
@@ -533,6 +568,8 @@ impl LowerShared for Float32Bits {
         store_scalar(self, cx, ty, offset);
         Ok(())
     }
+
+    ghost walkable = { λ n. (number (pos n.0), refl) };
 }
 
 impl WordScalar for Float64Bits {
@@ -567,6 +604,8 @@ impl Lower for Float64Bits {
         store_scalar(self, cx, ty, offset);
         Ok(())
     }
+
+    ghost walkable = { λ n. (number (pos n.0), refl) };
 }
 
 impl LowerShared for Float64Bits {
@@ -591,6 +630,8 @@ impl LowerShared for Float64Bits {
         store_scalar(self, cx, ty, offset);
         Ok(())
     }
+
+    ghost walkable = { λ n. (number (pos n.0), refl) };
 }
 
 impl WordScalar for bool {
@@ -625,6 +666,8 @@ impl Lower for bool {
         store_scalar(self, cx, ty, offset);
         Ok(())
     }
+
+    ghost walkable = { λ b. (truth b, refl) };
 }
 
 impl LowerShared for bool {
@@ -649,6 +692,8 @@ impl LowerShared for bool {
         store_scalar(self, cx, ty, offset);
         Ok(())
     }
+
+    ghost walkable = { λ b. (truth b, refl) };
 }
 
 impl WordScalar for char {
@@ -683,6 +728,8 @@ impl Lower for char {
         store_scalar(self, cx, ty, offset);
         Ok(())
     }
+
+    ghost walkable = { λ c. (code_point c, refl) };
 }
 
 impl LowerShared for char {
@@ -707,4 +754,6 @@ impl LowerShared for char {
         store_scalar(self, cx, ty, offset);
         Ok(())
     }
+
+    ghost walkable = { λ c. (code_point c, refl) };
 }

@@ -11,6 +11,7 @@ ghost use Rattle.canon_model.specs.Shape.{string};
 ghost use Rattle.canon_types.specs.Table.{shape_of};
 ghost use Rattle.canon_types.specs.declared.types.InterfaceType.TheVariants.{String as StringType};
 ghost use Rattle.canon_typed.specs.Meaning.{TextMeans};
+ghost use Rattle.canon_lower.specs.Walkable.{text_walkable};
 
 use crate::blocks::{Placed, put_placed, put_words};
 use crate::{Lower, LowerShared};
@@ -102,6 +103,8 @@ impl Lower for String {
     ) -> Result<(), Fault> {
         store_text(self, cx, ty, offset)
     }
+
+    ghost walkable = { text_walkable };
 }
 
 impl LowerShared for String {
@@ -124,4 +127,6 @@ impl LowerShared for String {
     ) -> Result<(), Fault> {
         store_text(self, cx, ty, offset)
     }
+
+    ghost walkable = { text_walkable };
 }

@@ -1,66 +1,14 @@
 //! Tuples: a member at a time.
 
-ghost use Rattle.std.specs.Prelude.{◌≡◌, ◌≤◌, ◌<◌, ◌+◌, ◌^◌, ◌∷◌, [], false, length};
-ghost use Rattle.canon_context.specs.Core.{types_of};
+ghost use Rattle.std.specs.Prelude.{◌∷◌, []};
 ghost use Rattle.canon_lower.specs.Gives.{no_handles, product_gives};
-ghost use Rattle.canon_lower.specs.Stores.{TypedStores};
-ghost use Rattle.canon_lower.specs.Tuples.{member_type, types_in};
-ghost use Rattle.canon_model.specs.Layout.{begins, ends};
-ghost use Rattle.canon_types.specs.Table.{Knows, shape_of};
+ghost use Rattle.canon_lower.specs.Walkable.{first_walkable, none_walkable, product_walkable};
 
-use crate::words::lower_at;
+use crate::members::LowerMembers;
 use crate::{Lower, LowerShared};
 use canon_context::{Fault, LowerContext};
 use canon_memory::{Guest, ValRaw};
-use canon_types::{ComponentTypes, InterfaceType};
-
-/// The type of a tuple's member, and the offset that it begins at where the one before it ends at `end`.
-fn next_place(
-    types: &ComponentTypes,
-    ty: &InterfaceType,
-    k: usize,
-    end: &mut u64,
-) -> (InterfaceType, u64)
-    requires known { Knows types.now ty.now }
-    requires member { k < length (types_in types.now ty.now) }
-    requires room { ends false end.old (shape_of types.now (member_type types.now ty.now k)) < 2 ^ 64 }
-    ensures member { result.0 ≡ member_type types.now ty.now k }
-    ensures known { Knows types.now result.0 }
-    ensures start { result.1 ≡ begins false end.old (shape_of types.now (member_type types.now ty.now k)) }
-    ensures end { end.new ≡ ends false end.old (shape_of types.now (member_type types.now ty.now k)) }
-{
-    let InterfaceType::Tuple(i) = *ty else {
-        unreachable!()
-    };
-    let part = types.tuple(i).types[k];
-    let start = types.canonical_abi(&part).next_field32_size(end);
-    (part, start)
-}
-
-/// Stores a member of the tuple at `at`, after the members before it, which end at offset `end`.
-fn store_member<A: Lower, D, G: Guest>(
-    value: &mut A,
-    cx: &mut LowerContext<'_, D, G>,
-    ty: &InterfaceType,
-    k: usize,
-    at: u64,
-    end: &mut u64,
-) -> Result<(), Fault>
-    requires known { Knows (types_of cx.old.core.now) ty.now }
-    requires member { k < length (types_in (types_of cx.old.core.now) ty.now) }
-    requires fits { A.fits cx.old.core.now.component.types (member_type (types_of cx.old.core.now) ty.now k) }
-    requires room { at + ends false end.old (shape_of (types_of cx.old.core.now) (member_type (types_of cx.old.core.now) ty.now k)) ≤ length cx.old.core.now.memory }
-    ensures stores { TypedStores G.seen G.moves cx.old.options cx.old.core.now cx.new.core.now (shape_of (types_of cx.old.core.now) (member_type (types_of cx.old.core.now) ty.now k))
-        (at + begins false end.old (shape_of (types_of cx.old.core.now) (member_type (types_of cx.old.core.now) ty.now k))) (A.walks value.old)
-        (A.gives cx.old.core.now.component.types (shape_of (types_of cx.old.core.now) (member_type (types_of cx.old.core.now) ty.now k)) value.old) result }
-    ensures end { end.new ≡ ends false end.old (shape_of (types_of cx.old.core.now) (member_type (types_of cx.old.core.now) ty.now k)) }
-    ensures same_reference { cx.new.core.ghost_name ≡ cx.old.core.ghost_name }
-    ensures same_options { cx.new.options ≡ cx.old.options }
-{
-    let _memory = cx.core.memory(); // memory has at most 2^32 bytes
-    let (part, start) = next_place(cx.types(), ty, k, end);
-    value.linear_lower_to_memory(cx, part, at + start)
-}
+use canon_types::InterfaceType;
 
 impl Lower for () {
     ghost gives = { no_handles };
@@ -84,6 +32,8 @@ impl Lower for () {
         let _memory = cx.core.memory(); // memory has at most 2^32 bytes
         Ok(())
     }
+
+    ghost walkable = { λ p. product_walkable none_walkable };
 }
 
 impl LowerShared for () {
@@ -108,6 +58,8 @@ impl LowerShared for () {
         let _memory = cx.core.memory(); // memory has at most 2^32 bytes
         Ok(())
     }
+
+    ghost walkable = { λ p. product_walkable none_walkable };
 }
 
 impl<A: Lower> Lower for (A,) {
@@ -119,13 +71,7 @@ impl<A: Lower> Lower for (A,) {
         ty: InterfaceType,
         dst: &mut [ValRaw],
     ) -> Result<(), Fault> {
-        let InterfaceType::Tuple(i) = ty else {
-            unreachable!()
-        };
-        let types = &cx.types().tuple(i).types;
-        let first = types[0];
-        let mut at = 0;
-        lower_at(&mut self.0, cx, first, dst, &mut at)
+        (&mut self.0, ()).lower_members(cx, &ty, 0, dst, 0)
     }
 
     fn linear_lower_to_memory<D, G: Guest>(
@@ -134,9 +80,10 @@ impl<A: Lower> Lower for (A,) {
         ty: InterfaceType,
         offset: u64,
     ) -> Result<(), Fault> {
-        let mut end = 0;
-        store_member(&mut self.0, cx, &ty, 0, offset, &mut end)
+        (&mut self.0, ()).store_members(cx, &ty, 0, offset, 0)
     }
+
+    ghost walkable = { λ p. product_walkable (first_walkable (A.walkable p.0) none_walkable) };
 }
 
 impl<A: LowerShared> LowerShared for (A,) {
@@ -159,6 +106,8 @@ impl<A: LowerShared> LowerShared for (A,) {
     ) -> Result<(), Fault> {
         Lower::linear_lower_to_memory(&mut (&self.0,), cx, ty, offset)
     }
+
+    ghost walkable = { λ p. product_walkable (first_walkable (A.walkable p.0) none_walkable) };
 }
 
 impl<A: Lower, B: Lower> Lower for (A, B) {
@@ -170,17 +119,7 @@ impl<A: Lower, B: Lower> Lower for (A, B) {
         ty: InterfaceType,
         dst: &mut [ValRaw],
     ) -> Result<(), Fault> {
-        let InterfaceType::Tuple(i) = ty else {
-            unreachable!()
-        };
-        let types = &cx.types().tuple(i).types;
-        let (first, second) = (types[0], types[1]);
-        let mut at = 0;
-        match lower_at(&mut self.0, cx, first, dst, &mut at) {
-            Ok(()) => {}
-            Err(fault) => return Err(fault),
-        }
-        lower_at(&mut self.1, cx, second, dst, &mut at)
+        (&mut self.0, (&mut self.1, ())).lower_members(cx, &ty, 0, dst, 0)
     }
 
     fn linear_lower_to_memory<D, G: Guest>(
@@ -189,13 +128,10 @@ impl<A: Lower, B: Lower> Lower for (A, B) {
         ty: InterfaceType,
         offset: u64,
     ) -> Result<(), Fault> {
-        let mut end = 0;
-        match store_member(&mut self.0, cx, &ty, 0, offset, &mut end) {
-            Ok(()) => {}
-            Err(fault) => return Err(fault),
-        }
-        store_member(&mut self.1, cx, &ty, 1, offset, &mut end)
+        (&mut self.0, (&mut self.1, ())).store_members(cx, &ty, 0, offset, 0)
     }
+
+    ghost walkable = { λ p. product_walkable (first_walkable (A.walkable p.0) (first_walkable (B.walkable p.1) none_walkable)) };
 }
 
 impl<A: LowerShared, B: LowerShared> LowerShared for (A, B) {
@@ -218,6 +154,8 @@ impl<A: LowerShared, B: LowerShared> LowerShared for (A, B) {
     ) -> Result<(), Fault> {
         Lower::linear_lower_to_memory(&mut (&self.0, &self.1), cx, ty, offset)
     }
+
+    ghost walkable = { λ p. product_walkable (first_walkable (A.walkable p.0) (first_walkable (B.walkable p.1) none_walkable)) };
 }
 
 impl<A: Lower, B: Lower, C: Lower> Lower for (A, B, C) {
@@ -229,21 +167,7 @@ impl<A: Lower, B: Lower, C: Lower> Lower for (A, B, C) {
         ty: InterfaceType,
         dst: &mut [ValRaw],
     ) -> Result<(), Fault> {
-        let InterfaceType::Tuple(i) = ty else {
-            unreachable!()
-        };
-        let types = &cx.types().tuple(i).types;
-        let (first, second, third) = (types[0], types[1], types[2]);
-        let mut at = 0;
-        match lower_at(&mut self.0, cx, first, dst, &mut at) {
-            Ok(()) => {}
-            Err(fault) => return Err(fault),
-        }
-        match lower_at(&mut self.1, cx, second, dst, &mut at) {
-            Ok(()) => {}
-            Err(fault) => return Err(fault),
-        }
-        lower_at(&mut self.2, cx, third, dst, &mut at)
+        (&mut self.0, (&mut self.1, (&mut self.2, ()))).lower_members(cx, &ty, 0, dst, 0)
     }
 
     fn linear_lower_to_memory<D, G: Guest>(
@@ -252,17 +176,11 @@ impl<A: Lower, B: Lower, C: Lower> Lower for (A, B, C) {
         ty: InterfaceType,
         offset: u64,
     ) -> Result<(), Fault> {
-        let mut end = 0;
-        match store_member(&mut self.0, cx, &ty, 0, offset, &mut end) {
-            Ok(()) => {}
-            Err(fault) => return Err(fault),
-        }
-        match store_member(&mut self.1, cx, &ty, 1, offset, &mut end) {
-            Ok(()) => {}
-            Err(fault) => return Err(fault),
-        }
-        store_member(&mut self.2, cx, &ty, 2, offset, &mut end)
+        (&mut self.0, (&mut self.1, (&mut self.2, ()))).store_members(cx, &ty, 0, offset, 0)
     }
+
+    ghost walkable = { λ p. product_walkable (first_walkable (A.walkable p.0) (first_walkable (B.walkable p.1)
+        (first_walkable (C.walkable p.2) none_walkable))) };
 }
 
 impl<A: LowerShared, B: LowerShared, C: LowerShared> LowerShared for (A, B, C) {
@@ -285,6 +203,9 @@ impl<A: LowerShared, B: LowerShared, C: LowerShared> LowerShared for (A, B, C) {
     ) -> Result<(), Fault> {
         Lower::linear_lower_to_memory(&mut (&self.0, &self.1, &self.2), cx, ty, offset)
     }
+
+    ghost walkable = { λ p. product_walkable (first_walkable (A.walkable p.0) (first_walkable (B.walkable p.1)
+        (first_walkable (C.walkable p.2) none_walkable))) };
 }
 
 impl<A: Lower, B: Lower, C: Lower, E: Lower> Lower for (A, B, C, E) {
@@ -296,25 +217,9 @@ impl<A: Lower, B: Lower, C: Lower, E: Lower> Lower for (A, B, C, E) {
         ty: InterfaceType,
         dst: &mut [ValRaw],
     ) -> Result<(), Fault> {
-        let InterfaceType::Tuple(i) = ty else {
-            unreachable!()
-        };
-        let types = &cx.types().tuple(i).types;
-        let (first, second, third, fourth) = (types[0], types[1], types[2], types[3]);
-        let mut at = 0;
-        match lower_at(&mut self.0, cx, first, dst, &mut at) {
-            Ok(()) => {}
-            Err(fault) => return Err(fault),
-        }
-        match lower_at(&mut self.1, cx, second, dst, &mut at) {
-            Ok(()) => {}
-            Err(fault) => return Err(fault),
-        }
-        match lower_at(&mut self.2, cx, third, dst, &mut at) {
-            Ok(()) => {}
-            Err(fault) => return Err(fault),
-        }
-        lower_at(&mut self.3, cx, fourth, dst, &mut at)
+        (&mut self.0, (&mut self.1, (&mut self.2, (&mut self.3, ())))).lower_members(
+            cx, &ty, 0, dst, 0,
+        )
     }
 
     fn linear_lower_to_memory<D, G: Guest>(
@@ -323,21 +228,13 @@ impl<A: Lower, B: Lower, C: Lower, E: Lower> Lower for (A, B, C, E) {
         ty: InterfaceType,
         offset: u64,
     ) -> Result<(), Fault> {
-        let mut end = 0;
-        match store_member(&mut self.0, cx, &ty, 0, offset, &mut end) {
-            Ok(()) => {}
-            Err(fault) => return Err(fault),
-        }
-        match store_member(&mut self.1, cx, &ty, 1, offset, &mut end) {
-            Ok(()) => {}
-            Err(fault) => return Err(fault),
-        }
-        match store_member(&mut self.2, cx, &ty, 2, offset, &mut end) {
-            Ok(()) => {}
-            Err(fault) => return Err(fault),
-        }
-        store_member(&mut self.3, cx, &ty, 3, offset, &mut end)
+        (&mut self.0, (&mut self.1, (&mut self.2, (&mut self.3, ())))).store_members(
+            cx, &ty, 0, offset, 0,
+        )
     }
+
+    ghost walkable = { λ p. product_walkable (first_walkable (A.walkable p.0) (first_walkable (B.walkable p.1) (first_walkable (C.walkable p.2)
+        (first_walkable (E.walkable p.3) none_walkable)))) };
 }
 
 impl<A: LowerShared, B: LowerShared, C: LowerShared, E: LowerShared> LowerShared for (A, B, C, E) {
@@ -360,6 +257,9 @@ impl<A: LowerShared, B: LowerShared, C: LowerShared, E: LowerShared> LowerShared
     ) -> Result<(), Fault> {
         Lower::linear_lower_to_memory(&mut (&self.0, &self.1, &self.2, &self.3), cx, ty, offset)
     }
+
+    ghost walkable = { λ p. product_walkable (first_walkable (A.walkable p.0) (first_walkable (B.walkable p.1) (first_walkable (C.walkable p.2)
+        (first_walkable (E.walkable p.3) none_walkable)))) };
 }
 
 impl<A: Lower, B: Lower, C: Lower, E: Lower, F: Lower> Lower for (A, B, C, E, F) {
@@ -371,31 +271,11 @@ impl<A: Lower, B: Lower, C: Lower, E: Lower, F: Lower> Lower for (A, B, C, E, F)
         ty: InterfaceType,
         dst: &mut [ValRaw],
     ) -> Result<(), Fault> {
-        let InterfaceType::Tuple(i) = ty else {
-            unreachable!()
-        };
-        let types = &cx.types().tuple(i).types;
-        let (first, second, third, fourth, fifth) = (
-            types[0], types[1], types[2], types[3], types[4],
-        );
-        let mut at = 0;
-        match lower_at(&mut self.0, cx, first, dst, &mut at) {
-            Ok(()) => {}
-            Err(fault) => return Err(fault),
-        }
-        match lower_at(&mut self.1, cx, second, dst, &mut at) {
-            Ok(()) => {}
-            Err(fault) => return Err(fault),
-        }
-        match lower_at(&mut self.2, cx, third, dst, &mut at) {
-            Ok(()) => {}
-            Err(fault) => return Err(fault),
-        }
-        match lower_at(&mut self.3, cx, fourth, dst, &mut at) {
-            Ok(()) => {}
-            Err(fault) => return Err(fault),
-        }
-        lower_at(&mut self.4, cx, fifth, dst, &mut at)
+        (
+            &mut self.0,
+            (&mut self.1, (&mut self.2, (&mut self.3, (&mut self.4, ())))),
+        )
+            .lower_members(cx, &ty, 0, dst, 0)
     }
 
     fn linear_lower_to_memory<D, G: Guest>(
@@ -404,25 +284,15 @@ impl<A: Lower, B: Lower, C: Lower, E: Lower, F: Lower> Lower for (A, B, C, E, F)
         ty: InterfaceType,
         offset: u64,
     ) -> Result<(), Fault> {
-        let mut end = 0;
-        match store_member(&mut self.0, cx, &ty, 0, offset, &mut end) {
-            Ok(()) => {}
-            Err(fault) => return Err(fault),
-        }
-        match store_member(&mut self.1, cx, &ty, 1, offset, &mut end) {
-            Ok(()) => {}
-            Err(fault) => return Err(fault),
-        }
-        match store_member(&mut self.2, cx, &ty, 2, offset, &mut end) {
-            Ok(()) => {}
-            Err(fault) => return Err(fault),
-        }
-        match store_member(&mut self.3, cx, &ty, 3, offset, &mut end) {
-            Ok(()) => {}
-            Err(fault) => return Err(fault),
-        }
-        store_member(&mut self.4, cx, &ty, 4, offset, &mut end)
+        (
+            &mut self.0,
+            (&mut self.1, (&mut self.2, (&mut self.3, (&mut self.4, ())))),
+        )
+            .store_members(cx, &ty, 0, offset, 0)
     }
+
+    ghost walkable = { λ p. product_walkable (first_walkable (A.walkable p.0) (first_walkable (B.walkable p.1) (first_walkable (C.walkable p.2)
+        (first_walkable (E.walkable p.3) (first_walkable (F.walkable p.4) none_walkable))))) };
 }
 
 impl<A: LowerShared, B: LowerShared, C: LowerShared, E: LowerShared, F: LowerShared> LowerShared
@@ -456,6 +326,9 @@ impl<A: LowerShared, B: LowerShared, C: LowerShared, E: LowerShared, F: LowerSha
             offset,
         )
     }
+
+    ghost walkable = { λ p. product_walkable (first_walkable (A.walkable p.0) (first_walkable (B.walkable p.1) (first_walkable (C.walkable p.2)
+        (first_walkable (E.walkable p.3) (first_walkable (F.walkable p.4) none_walkable))))) };
 }
 
 impl<A: Lower, B: Lower, C: Lower, E: Lower, F: Lower, H: Lower> Lower for (A, B, C, E, F, H) {
@@ -467,35 +340,14 @@ impl<A: Lower, B: Lower, C: Lower, E: Lower, F: Lower, H: Lower> Lower for (A, B
         ty: InterfaceType,
         dst: &mut [ValRaw],
     ) -> Result<(), Fault> {
-        let InterfaceType::Tuple(i) = ty else {
-            unreachable!()
-        };
-        let types = &cx.types().tuple(i).types;
-        let (first, second, third, fourth, fifth, sixth) = (
-            types[0], types[1], types[2], types[3], types[4], types[5],
-        );
-        let mut at = 0;
-        match lower_at(&mut self.0, cx, first, dst, &mut at) {
-            Ok(()) => {}
-            Err(fault) => return Err(fault),
-        }
-        match lower_at(&mut self.1, cx, second, dst, &mut at) {
-            Ok(()) => {}
-            Err(fault) => return Err(fault),
-        }
-        match lower_at(&mut self.2, cx, third, dst, &mut at) {
-            Ok(()) => {}
-            Err(fault) => return Err(fault),
-        }
-        match lower_at(&mut self.3, cx, fourth, dst, &mut at) {
-            Ok(()) => {}
-            Err(fault) => return Err(fault),
-        }
-        match lower_at(&mut self.4, cx, fifth, dst, &mut at) {
-            Ok(()) => {}
-            Err(fault) => return Err(fault),
-        }
-        lower_at(&mut self.5, cx, sixth, dst, &mut at)
+        (
+            &mut self.0,
+            (
+                &mut self.1,
+                (&mut self.2, (&mut self.3, (&mut self.4, (&mut self.5, ())))),
+            ),
+        )
+            .lower_members(cx, &ty, 0, dst, 0)
     }
 
     fn linear_lower_to_memory<D, G: Guest>(
@@ -504,29 +356,18 @@ impl<A: Lower, B: Lower, C: Lower, E: Lower, F: Lower, H: Lower> Lower for (A, B
         ty: InterfaceType,
         offset: u64,
     ) -> Result<(), Fault> {
-        let mut end = 0;
-        match store_member(&mut self.0, cx, &ty, 0, offset, &mut end) {
-            Ok(()) => {}
-            Err(fault) => return Err(fault),
-        }
-        match store_member(&mut self.1, cx, &ty, 1, offset, &mut end) {
-            Ok(()) => {}
-            Err(fault) => return Err(fault),
-        }
-        match store_member(&mut self.2, cx, &ty, 2, offset, &mut end) {
-            Ok(()) => {}
-            Err(fault) => return Err(fault),
-        }
-        match store_member(&mut self.3, cx, &ty, 3, offset, &mut end) {
-            Ok(()) => {}
-            Err(fault) => return Err(fault),
-        }
-        match store_member(&mut self.4, cx, &ty, 4, offset, &mut end) {
-            Ok(()) => {}
-            Err(fault) => return Err(fault),
-        }
-        store_member(&mut self.5, cx, &ty, 5, offset, &mut end)
+        (
+            &mut self.0,
+            (
+                &mut self.1,
+                (&mut self.2, (&mut self.3, (&mut self.4, (&mut self.5, ())))),
+            ),
+        )
+            .store_members(cx, &ty, 0, offset, 0)
     }
+
+    ghost walkable = { λ p. product_walkable (first_walkable (A.walkable p.0) (first_walkable (B.walkable p.1) (first_walkable (C.walkable p.2)
+        (first_walkable (E.walkable p.3) (first_walkable (F.walkable p.4) (first_walkable (H.walkable p.5) none_walkable)))))) };
 }
 
 impl<
@@ -566,4 +407,7 @@ impl<
             offset,
         )
     }
+
+    ghost walkable = { λ p. product_walkable (first_walkable (A.walkable p.0) (first_walkable (B.walkable p.1) (first_walkable (C.walkable p.2)
+        (first_walkable (E.walkable p.3) (first_walkable (F.walkable p.4) (first_walkable (H.walkable p.5) none_walkable)))))) };
 }

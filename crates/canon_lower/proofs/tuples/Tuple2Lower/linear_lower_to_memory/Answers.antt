@@ -1,43 +1,19 @@
-use Rattle.std.proofs.Common.{[], ◌∷◌, arith, refl}
+use Rattle.std.proofs.Common.{[], ◌∷◌}
 use Rattle.canon_context.proofs.Moves.{GuestLaws}
-use Rattle.canon_typed.specs.Meaning.{FirstAnd, NoTrees}
-use Rattle.canon_lower.proofs.TupleSteps.{tuple_count, way_begins, way_goes, way_last, way_room, way_stops}
+use Rattle.canon_lower.proofs.TupleSteps.{tuple_room, tuple_stored}
 use Rattle.canon_lower.proofs.tuples.Tuple2Lower.linear_lower_to_memory.Goals as goal
 
-pub store_member-requires-clause-room : goal.store_member-requires-clause-room
-store_member-requires-clause-room g c =
+pub store_members-requires-clause-room : goal.store_members-requires-clause-room
+store_members-requires-clause-room g c =
     let L : GuestLaws _ = record { seen = g.G.Guest.seen; moves = g.G.Guest.moves; stays = g.met.G.Guest.stays; goes_on = g.met.G.Guest.goes_on } in
-    let core = c.args.cx.now.core.now in
-    let v = c.args.self.now in
-    let count = tuple_count (g.A.ComponentType.fits ∷ g.B.ComponentType.fits ∷ []) core.component.types core.component.types c.args.ty refl c.requires.fits in
-    let w0 = way_begins L c.args.cx.now.options core c.args.ty c.args.offset (g.A.ComponentType.fits ∷ g.B.ComponentType.fits ∷ []) (FirstAnd (g.A.ComponentType.walks v.0) (FirstAnd (g.B.ComponentType.walks v.1) NoTrees)) ((λ u. g.A.Lower.gives core.component.types u v.0) ∷ (λ u. g.B.Lower.gives core.component.types u v.1) ∷ []) c.requires.fits c.requires.room in
-    way_room L c.args.cx.now.options core c.args.ty c.args.offset (g.A.ComponentType.fits ∷ g.B.ComponentType.fits ∷ []) (FirstAnd (g.A.ComponentType.walks v.0) (FirstAnd (g.B.ComponentType.walks v.1) NoTrees)) ((λ u. g.A.Lower.gives core.component.types u v.0) ∷ (λ u. g.B.Lower.gives core.component.types u v.1) ∷ []) c.requires.fits core 0 0 (g.A.ComponentType.walks v.0) (FirstAnd (g.B.ComponentType.walks v.1) NoTrees) (λ u. g.A.Lower.gives core.component.types u v.0) ((λ u. g.B.Lower.gives core.component.types u v.1) ∷ []) (omega (arith, count)) w0
-
-pub returns-in-Err-clause-stores : goal.returns-in-Err-clause-stores
-returns-in-Err-clause-stores g c =
-    let L : GuestLaws _ = record { seen = g.G.Guest.seen; moves = g.G.Guest.moves; stays = g.met.G.Guest.stays; goes_on = g.met.G.Guest.goes_on } in
-    let core = c.args.cx.now.core.now in
-    let v = c.args.self.now in
-    let count = tuple_count (g.A.ComponentType.fits ∷ g.B.ComponentType.fits ∷ []) core.component.types core.component.types c.args.ty refl c.requires.fits in
-    let w0 = way_begins L c.args.cx.now.options core c.args.ty c.args.offset (g.A.ComponentType.fits ∷ g.B.ComponentType.fits ∷ []) (FirstAnd (g.A.ComponentType.walks v.0) (FirstAnd (g.B.ComponentType.walks v.1) NoTrees)) ((λ u. g.A.Lower.gives core.component.types u v.0) ∷ (λ u. g.B.Lower.gives core.component.types u v.1) ∷ []) c.requires.fits c.requires.room in
-    way_stops L c.args.cx.now.options core c.args.ty c.args.offset (g.A.ComponentType.fits ∷ g.B.ComponentType.fits ∷ []) (FirstAnd (g.A.ComponentType.walks v.0) (FirstAnd (g.B.ComponentType.walks v.1) NoTrees)) ((λ u. g.A.Lower.gives core.component.types u v.0) ∷ (λ u. g.B.Lower.gives core.component.types u v.1) ∷ []) c.requires.fits core 0 0 (g.A.ComponentType.walks v.0) (FirstAnd (g.B.ComponentType.walks v.1) NoTrees) (λ u. g.A.Lower.gives core.component.types u v.0) ((λ u. g.B.Lower.gives core.component.types u v.1) ∷ []) (omega (arith, count)) w0 c.store_member.new.cx.core.now c.args.cx.now.options c.in-Err.fault (λ i u. g.A.Lower.gives i u v.0) (λ u. refl) refl c.in-Err.ensures.stores
-
-pub store_member-requires-2-clause-room : goal.store_member-requires-2-clause-room
-store_member-requires-2-clause-room g c =
-    let L : GuestLaws _ = record { seen = g.G.Guest.seen; moves = g.G.Guest.moves; stays = g.met.G.Guest.stays; goes_on = g.met.G.Guest.goes_on } in
-    let core = c.args.cx.now.core.now in
-    let v = c.args.self.now in
-    let count = tuple_count (g.A.ComponentType.fits ∷ g.B.ComponentType.fits ∷ []) core.component.types core.component.types c.args.ty refl c.requires.fits in
-    let w0 = way_begins L c.args.cx.now.options core c.args.ty c.args.offset (g.A.ComponentType.fits ∷ g.B.ComponentType.fits ∷ []) (FirstAnd (g.A.ComponentType.walks v.0) (FirstAnd (g.B.ComponentType.walks v.1) NoTrees)) ((λ u. g.A.Lower.gives core.component.types u v.0) ∷ (λ u. g.B.Lower.gives core.component.types u v.1) ∷ []) c.requires.fits c.requires.room in
-    let w1 = way_goes L c.args.cx.now.options core c.args.ty c.args.offset (g.A.ComponentType.fits ∷ g.B.ComponentType.fits ∷ []) (FirstAnd (g.A.ComponentType.walks v.0) (FirstAnd (g.B.ComponentType.walks v.1) NoTrees)) ((λ u. g.A.Lower.gives core.component.types u v.0) ∷ (λ u. g.B.Lower.gives core.component.types u v.1) ∷ []) c.requires.fits core 0 0 (g.A.ComponentType.walks v.0) (FirstAnd (g.B.ComponentType.walks v.1) NoTrees) (λ u. g.A.Lower.gives core.component.types u v.0) ((λ u. g.B.Lower.gives core.component.types u v.1) ∷ []) (omega (arith, count)) w0 c.store_member.new.cx.core.now c.store_member.new.end c.args.cx.now.options (λ i u. g.A.Lower.gives i u v.0) (λ u. refl) refl c.in-Ok.ensures.stores c.in-Ok.ensures.end in
-    way_room L c.args.cx.now.options core c.args.ty c.args.offset (g.A.ComponentType.fits ∷ g.B.ComponentType.fits ∷ []) (FirstAnd (g.A.ComponentType.walks v.0) (FirstAnd (g.B.ComponentType.walks v.1) NoTrees)) ((λ u. g.A.Lower.gives core.component.types u v.0) ∷ (λ u. g.B.Lower.gives core.component.types u v.1) ∷ []) c.requires.fits c.store_member.new.cx.core.now 1 c.store_member.new.end (g.B.ComponentType.walks v.1) NoTrees (λ u. g.B.Lower.gives core.component.types u v.1) [] (omega (arith, count)) w1
+    let a = c.args in
+    tuple_room L a.cx.now.options a.cx.now.core.now a.ty
+    (g.A.ComponentType.fits ∷ g.B.ComponentType.fits ∷ []) c.requires.fits a.offset c.requires.room
 
 pub returns-clause-stores : goal.returns-clause-stores
 returns-clause-stores g c =
     let L : GuestLaws _ = record { seen = g.G.Guest.seen; moves = g.G.Guest.moves; stays = g.met.G.Guest.stays; goes_on = g.met.G.Guest.goes_on } in
-    let core = c.args.cx.now.core.now in
-    let v = c.args.self.now in
-    let count = tuple_count (g.A.ComponentType.fits ∷ g.B.ComponentType.fits ∷ []) core.component.types core.component.types c.args.ty refl c.requires.fits in
-    let w0 = way_begins L c.args.cx.now.options core c.args.ty c.args.offset (g.A.ComponentType.fits ∷ g.B.ComponentType.fits ∷ []) (FirstAnd (g.A.ComponentType.walks v.0) (FirstAnd (g.B.ComponentType.walks v.1) NoTrees)) ((λ u. g.A.Lower.gives core.component.types u v.0) ∷ (λ u. g.B.Lower.gives core.component.types u v.1) ∷ []) c.requires.fits c.requires.room in
-    let w1 = way_goes L c.args.cx.now.options core c.args.ty c.args.offset (g.A.ComponentType.fits ∷ g.B.ComponentType.fits ∷ []) (FirstAnd (g.A.ComponentType.walks v.0) (FirstAnd (g.B.ComponentType.walks v.1) NoTrees)) ((λ u. g.A.Lower.gives core.component.types u v.0) ∷ (λ u. g.B.Lower.gives core.component.types u v.1) ∷ []) c.requires.fits core 0 0 (g.A.ComponentType.walks v.0) (FirstAnd (g.B.ComponentType.walks v.1) NoTrees) (λ u. g.A.Lower.gives core.component.types u v.0) ((λ u. g.B.Lower.gives core.component.types u v.1) ∷ []) (omega (arith, count)) w0 c.store_member.new.cx.core.now c.store_member.new.end c.args.cx.now.options (λ i u. g.A.Lower.gives i u v.0) (λ u. refl) refl c.in-Ok.ensures.stores c.in-Ok.ensures.end in
-    way_last L c.args.cx.now.options core c.args.ty c.args.offset (g.A.ComponentType.fits ∷ g.B.ComponentType.fits ∷ []) (FirstAnd (g.A.ComponentType.walks v.0) (FirstAnd (g.B.ComponentType.walks v.1) NoTrees)) ((λ u. g.A.Lower.gives core.component.types u v.0) ∷ (λ u. g.B.Lower.gives core.component.types u v.1) ∷ []) c.requires.fits c.store_member.new.cx.core.now c.store_member-2.new.cx.core.now 1 c.store_member.new.end c.store_member.new.cx.options (g.B.ComponentType.walks v.1) (λ u. g.B.Lower.gives core.component.types u v.1) c.store_member-2.result (omega (arith, count)) (omega (arith, count)) w1 (λ i u. g.B.Lower.gives i u v.1) (λ u. refl) c.in-Ok.ensures.same_options c.store_member-2.ensures.stores
+    let a = c.args in
+    let low = c.store_members in
+    tuple_stored L a.cx.now.options a.cx.now.core.now a.ty
+    (g.A.ComponentType.fits ∷ g.B.ComponentType.fits ∷ []) c.requires.fits a.offset c.requires.room low.new.cx.core.now _ _ low.result low.ensures.stores

@@ -1,143 +1,20 @@
-use Rattle.std.proofs.Common.{[], ◌∷◌, ◌∙◌, arith, refl}
+use Rattle.std.proofs.Common.{[], ◌∷◌}
 use Rattle.canon_context.proofs.Moves.{GuestLaws}
-use Rattle.canon_typed.specs.Meaning.{FirstAnd, NoTrees}
-use Rattle.canon_lower.proofs.TupleSteps.{tuple_count, way_begins, way_goes, way_last, way_room, way_stops}
+use Rattle.canon_lower.proofs.TupleSteps.{tuple_room, tuple_stored}
 use Rattle.canon_lower.proofs.tuples.Tuple6Lower.linear_lower_to_memory.Goals as goal
 
-pub store_member-requires-clause-room : goal.store_member-requires-clause-room
-store_member-requires-clause-room g c =
+pub store_members-requires-clause-room : goal.store_members-requires-clause-room
+store_members-requires-clause-room g c =
     let L : GuestLaws _ = record { seen = g.G.Guest.seen; moves = g.G.Guest.moves; stays = g.met.G.Guest.stays; goes_on = g.met.G.Guest.goes_on } in
-    let core = c.args.cx.now.core.now in
-    let v = c.args.self.now in
-    let count = tuple_count (g.A.ComponentType.fits ∷ g.B.ComponentType.fits ∷ g.C.ComponentType.fits ∷ g.E.ComponentType.fits ∷ g.F.ComponentType.fits ∷ g.H.ComponentType.fits ∷ []) core.component.types core.component.types c.args.ty refl c.requires.fits in
-    let w0 = way_begins L c.args.cx.now.options core c.args.ty c.args.offset (g.A.ComponentType.fits ∷ g.B.ComponentType.fits ∷ g.C.ComponentType.fits ∷ g.E.ComponentType.fits ∷ g.F.ComponentType.fits ∷ g.H.ComponentType.fits ∷ []) (FirstAnd (g.A.ComponentType.walks v.0) (FirstAnd (g.B.ComponentType.walks v.1) (FirstAnd (g.C.ComponentType.walks v.2) (FirstAnd (g.E.ComponentType.walks v.3) (FirstAnd (g.F.ComponentType.walks v.4) (FirstAnd (g.H.ComponentType.walks v.5) NoTrees)))))) ((λ u. g.A.Lower.gives core.component.types u v.0) ∷ (λ u. g.B.Lower.gives core.component.types u v.1) ∷ (λ u. g.C.Lower.gives core.component.types u v.2) ∷ (λ u. g.E.Lower.gives core.component.types u v.3) ∷ (λ u. g.F.Lower.gives core.component.types u v.4) ∷ (λ u. g.H.Lower.gives core.component.types u v.5) ∷ []) c.requires.fits c.requires.room in
-    way_room L c.args.cx.now.options core c.args.ty c.args.offset (g.A.ComponentType.fits ∷ g.B.ComponentType.fits ∷ g.C.ComponentType.fits ∷ g.E.ComponentType.fits ∷ g.F.ComponentType.fits ∷ g.H.ComponentType.fits ∷ []) (FirstAnd (g.A.ComponentType.walks v.0) (FirstAnd (g.B.ComponentType.walks v.1) (FirstAnd (g.C.ComponentType.walks v.2) (FirstAnd (g.E.ComponentType.walks v.3) (FirstAnd (g.F.ComponentType.walks v.4) (FirstAnd (g.H.ComponentType.walks v.5) NoTrees)))))) ((λ u. g.A.Lower.gives core.component.types u v.0) ∷ (λ u. g.B.Lower.gives core.component.types u v.1) ∷ (λ u. g.C.Lower.gives core.component.types u v.2) ∷ (λ u. g.E.Lower.gives core.component.types u v.3) ∷ (λ u. g.F.Lower.gives core.component.types u v.4) ∷ (λ u. g.H.Lower.gives core.component.types u v.5) ∷ []) c.requires.fits core 0 0 (g.A.ComponentType.walks v.0) (FirstAnd (g.B.ComponentType.walks v.1) (FirstAnd (g.C.ComponentType.walks v.2) (FirstAnd (g.E.ComponentType.walks v.3) (FirstAnd (g.F.ComponentType.walks v.4) (FirstAnd (g.H.ComponentType.walks v.5) NoTrees))))) (λ u. g.A.Lower.gives core.component.types u v.0) ((λ u. g.B.Lower.gives core.component.types u v.1) ∷ (λ u. g.C.Lower.gives core.component.types u v.2) ∷ (λ u. g.E.Lower.gives core.component.types u v.3) ∷ (λ u. g.F.Lower.gives core.component.types u v.4) ∷ (λ u. g.H.Lower.gives core.component.types u v.5) ∷ []) (omega (arith, count)) w0
-
-pub returns-in-Err-clause-stores : goal.returns-in-Err-clause-stores
-returns-in-Err-clause-stores g c =
-    let L : GuestLaws _ = record { seen = g.G.Guest.seen; moves = g.G.Guest.moves; stays = g.met.G.Guest.stays; goes_on = g.met.G.Guest.goes_on } in
-    let core = c.args.cx.now.core.now in
-    let v = c.args.self.now in
-    let count = tuple_count (g.A.ComponentType.fits ∷ g.B.ComponentType.fits ∷ g.C.ComponentType.fits ∷ g.E.ComponentType.fits ∷ g.F.ComponentType.fits ∷ g.H.ComponentType.fits ∷ []) core.component.types core.component.types c.args.ty refl c.requires.fits in
-    let w0 = way_begins L c.args.cx.now.options core c.args.ty c.args.offset (g.A.ComponentType.fits ∷ g.B.ComponentType.fits ∷ g.C.ComponentType.fits ∷ g.E.ComponentType.fits ∷ g.F.ComponentType.fits ∷ g.H.ComponentType.fits ∷ []) (FirstAnd (g.A.ComponentType.walks v.0) (FirstAnd (g.B.ComponentType.walks v.1) (FirstAnd (g.C.ComponentType.walks v.2) (FirstAnd (g.E.ComponentType.walks v.3) (FirstAnd (g.F.ComponentType.walks v.4) (FirstAnd (g.H.ComponentType.walks v.5) NoTrees)))))) ((λ u. g.A.Lower.gives core.component.types u v.0) ∷ (λ u. g.B.Lower.gives core.component.types u v.1) ∷ (λ u. g.C.Lower.gives core.component.types u v.2) ∷ (λ u. g.E.Lower.gives core.component.types u v.3) ∷ (λ u. g.F.Lower.gives core.component.types u v.4) ∷ (λ u. g.H.Lower.gives core.component.types u v.5) ∷ []) c.requires.fits c.requires.room in
-    way_stops L c.args.cx.now.options core c.args.ty c.args.offset (g.A.ComponentType.fits ∷ g.B.ComponentType.fits ∷ g.C.ComponentType.fits ∷ g.E.ComponentType.fits ∷ g.F.ComponentType.fits ∷ g.H.ComponentType.fits ∷ []) (FirstAnd (g.A.ComponentType.walks v.0) (FirstAnd (g.B.ComponentType.walks v.1) (FirstAnd (g.C.ComponentType.walks v.2) (FirstAnd (g.E.ComponentType.walks v.3) (FirstAnd (g.F.ComponentType.walks v.4) (FirstAnd (g.H.ComponentType.walks v.5) NoTrees)))))) ((λ u. g.A.Lower.gives core.component.types u v.0) ∷ (λ u. g.B.Lower.gives core.component.types u v.1) ∷ (λ u. g.C.Lower.gives core.component.types u v.2) ∷ (λ u. g.E.Lower.gives core.component.types u v.3) ∷ (λ u. g.F.Lower.gives core.component.types u v.4) ∷ (λ u. g.H.Lower.gives core.component.types u v.5) ∷ []) c.requires.fits core 0 0 (g.A.ComponentType.walks v.0) (FirstAnd (g.B.ComponentType.walks v.1) (FirstAnd (g.C.ComponentType.walks v.2) (FirstAnd (g.E.ComponentType.walks v.3) (FirstAnd (g.F.ComponentType.walks v.4) (FirstAnd (g.H.ComponentType.walks v.5) NoTrees))))) (λ u. g.A.Lower.gives core.component.types u v.0) ((λ u. g.B.Lower.gives core.component.types u v.1) ∷ (λ u. g.C.Lower.gives core.component.types u v.2) ∷ (λ u. g.E.Lower.gives core.component.types u v.3) ∷ (λ u. g.F.Lower.gives core.component.types u v.4) ∷ (λ u. g.H.Lower.gives core.component.types u v.5) ∷ []) (omega (arith, count)) w0 c.store_member.new.cx.core.now c.args.cx.now.options c.in-Err.fault (λ i u. g.A.Lower.gives i u v.0) (λ u. refl) refl c.in-Err.ensures.stores
-
-pub store_member-requires-2-clause-room : goal.store_member-requires-2-clause-room
-store_member-requires-2-clause-room g c =
-    let L : GuestLaws _ = record { seen = g.G.Guest.seen; moves = g.G.Guest.moves; stays = g.met.G.Guest.stays; goes_on = g.met.G.Guest.goes_on } in
-    let core = c.args.cx.now.core.now in
-    let v = c.args.self.now in
-    let count = tuple_count (g.A.ComponentType.fits ∷ g.B.ComponentType.fits ∷ g.C.ComponentType.fits ∷ g.E.ComponentType.fits ∷ g.F.ComponentType.fits ∷ g.H.ComponentType.fits ∷ []) core.component.types core.component.types c.args.ty refl c.requires.fits in
-    let w0 = way_begins L c.args.cx.now.options core c.args.ty c.args.offset (g.A.ComponentType.fits ∷ g.B.ComponentType.fits ∷ g.C.ComponentType.fits ∷ g.E.ComponentType.fits ∷ g.F.ComponentType.fits ∷ g.H.ComponentType.fits ∷ []) (FirstAnd (g.A.ComponentType.walks v.0) (FirstAnd (g.B.ComponentType.walks v.1) (FirstAnd (g.C.ComponentType.walks v.2) (FirstAnd (g.E.ComponentType.walks v.3) (FirstAnd (g.F.ComponentType.walks v.4) (FirstAnd (g.H.ComponentType.walks v.5) NoTrees)))))) ((λ u. g.A.Lower.gives core.component.types u v.0) ∷ (λ u. g.B.Lower.gives core.component.types u v.1) ∷ (λ u. g.C.Lower.gives core.component.types u v.2) ∷ (λ u. g.E.Lower.gives core.component.types u v.3) ∷ (λ u. g.F.Lower.gives core.component.types u v.4) ∷ (λ u. g.H.Lower.gives core.component.types u v.5) ∷ []) c.requires.fits c.requires.room in
-    let w1 = way_goes L c.args.cx.now.options core c.args.ty c.args.offset (g.A.ComponentType.fits ∷ g.B.ComponentType.fits ∷ g.C.ComponentType.fits ∷ g.E.ComponentType.fits ∷ g.F.ComponentType.fits ∷ g.H.ComponentType.fits ∷ []) (FirstAnd (g.A.ComponentType.walks v.0) (FirstAnd (g.B.ComponentType.walks v.1) (FirstAnd (g.C.ComponentType.walks v.2) (FirstAnd (g.E.ComponentType.walks v.3) (FirstAnd (g.F.ComponentType.walks v.4) (FirstAnd (g.H.ComponentType.walks v.5) NoTrees)))))) ((λ u. g.A.Lower.gives core.component.types u v.0) ∷ (λ u. g.B.Lower.gives core.component.types u v.1) ∷ (λ u. g.C.Lower.gives core.component.types u v.2) ∷ (λ u. g.E.Lower.gives core.component.types u v.3) ∷ (λ u. g.F.Lower.gives core.component.types u v.4) ∷ (λ u. g.H.Lower.gives core.component.types u v.5) ∷ []) c.requires.fits core 0 0 (g.A.ComponentType.walks v.0) (FirstAnd (g.B.ComponentType.walks v.1) (FirstAnd (g.C.ComponentType.walks v.2) (FirstAnd (g.E.ComponentType.walks v.3) (FirstAnd (g.F.ComponentType.walks v.4) (FirstAnd (g.H.ComponentType.walks v.5) NoTrees))))) (λ u. g.A.Lower.gives core.component.types u v.0) ((λ u. g.B.Lower.gives core.component.types u v.1) ∷ (λ u. g.C.Lower.gives core.component.types u v.2) ∷ (λ u. g.E.Lower.gives core.component.types u v.3) ∷ (λ u. g.F.Lower.gives core.component.types u v.4) ∷ (λ u. g.H.Lower.gives core.component.types u v.5) ∷ []) (omega (arith, count)) w0 c.store_member.new.cx.core.now c.store_member.new.end c.args.cx.now.options (λ i u. g.A.Lower.gives i u v.0) (λ u. refl) refl c.in-Ok.ensures.stores c.in-Ok.ensures.end in
-    way_room L c.args.cx.now.options core c.args.ty c.args.offset (g.A.ComponentType.fits ∷ g.B.ComponentType.fits ∷ g.C.ComponentType.fits ∷ g.E.ComponentType.fits ∷ g.F.ComponentType.fits ∷ g.H.ComponentType.fits ∷ []) (FirstAnd (g.A.ComponentType.walks v.0) (FirstAnd (g.B.ComponentType.walks v.1) (FirstAnd (g.C.ComponentType.walks v.2) (FirstAnd (g.E.ComponentType.walks v.3) (FirstAnd (g.F.ComponentType.walks v.4) (FirstAnd (g.H.ComponentType.walks v.5) NoTrees)))))) ((λ u. g.A.Lower.gives core.component.types u v.0) ∷ (λ u. g.B.Lower.gives core.component.types u v.1) ∷ (λ u. g.C.Lower.gives core.component.types u v.2) ∷ (λ u. g.E.Lower.gives core.component.types u v.3) ∷ (λ u. g.F.Lower.gives core.component.types u v.4) ∷ (λ u. g.H.Lower.gives core.component.types u v.5) ∷ []) c.requires.fits c.store_member.new.cx.core.now 1 c.store_member.new.end (g.B.ComponentType.walks v.1) (FirstAnd (g.C.ComponentType.walks v.2) (FirstAnd (g.E.ComponentType.walks v.3) (FirstAnd (g.F.ComponentType.walks v.4) (FirstAnd (g.H.ComponentType.walks v.5) NoTrees)))) (λ u. g.B.Lower.gives core.component.types u v.1) ((λ u. g.C.Lower.gives core.component.types u v.2) ∷ (λ u. g.E.Lower.gives core.component.types u v.3) ∷ (λ u. g.F.Lower.gives core.component.types u v.4) ∷ (λ u. g.H.Lower.gives core.component.types u v.5) ∷ []) (omega (arith, count)) w1
-
-pub returns-in-Err-store_member-clause-stores : goal.returns-in-Err-store_member-clause-stores
-returns-in-Err-store_member-clause-stores g c =
-    let L : GuestLaws _ = record { seen = g.G.Guest.seen; moves = g.G.Guest.moves; stays = g.met.G.Guest.stays; goes_on = g.met.G.Guest.goes_on } in
-    let core = c.args.cx.now.core.now in
-    let v = c.args.self.now in
-    let count = tuple_count (g.A.ComponentType.fits ∷ g.B.ComponentType.fits ∷ g.C.ComponentType.fits ∷ g.E.ComponentType.fits ∷ g.F.ComponentType.fits ∷ g.H.ComponentType.fits ∷ []) core.component.types core.component.types c.args.ty refl c.requires.fits in
-    let w0 = way_begins L c.args.cx.now.options core c.args.ty c.args.offset (g.A.ComponentType.fits ∷ g.B.ComponentType.fits ∷ g.C.ComponentType.fits ∷ g.E.ComponentType.fits ∷ g.F.ComponentType.fits ∷ g.H.ComponentType.fits ∷ []) (FirstAnd (g.A.ComponentType.walks v.0) (FirstAnd (g.B.ComponentType.walks v.1) (FirstAnd (g.C.ComponentType.walks v.2) (FirstAnd (g.E.ComponentType.walks v.3) (FirstAnd (g.F.ComponentType.walks v.4) (FirstAnd (g.H.ComponentType.walks v.5) NoTrees)))))) ((λ u. g.A.Lower.gives core.component.types u v.0) ∷ (λ u. g.B.Lower.gives core.component.types u v.1) ∷ (λ u. g.C.Lower.gives core.component.types u v.2) ∷ (λ u. g.E.Lower.gives core.component.types u v.3) ∷ (λ u. g.F.Lower.gives core.component.types u v.4) ∷ (λ u. g.H.Lower.gives core.component.types u v.5) ∷ []) c.requires.fits c.requires.room in
-    let w1 = way_goes L c.args.cx.now.options core c.args.ty c.args.offset (g.A.ComponentType.fits ∷ g.B.ComponentType.fits ∷ g.C.ComponentType.fits ∷ g.E.ComponentType.fits ∷ g.F.ComponentType.fits ∷ g.H.ComponentType.fits ∷ []) (FirstAnd (g.A.ComponentType.walks v.0) (FirstAnd (g.B.ComponentType.walks v.1) (FirstAnd (g.C.ComponentType.walks v.2) (FirstAnd (g.E.ComponentType.walks v.3) (FirstAnd (g.F.ComponentType.walks v.4) (FirstAnd (g.H.ComponentType.walks v.5) NoTrees)))))) ((λ u. g.A.Lower.gives core.component.types u v.0) ∷ (λ u. g.B.Lower.gives core.component.types u v.1) ∷ (λ u. g.C.Lower.gives core.component.types u v.2) ∷ (λ u. g.E.Lower.gives core.component.types u v.3) ∷ (λ u. g.F.Lower.gives core.component.types u v.4) ∷ (λ u. g.H.Lower.gives core.component.types u v.5) ∷ []) c.requires.fits core 0 0 (g.A.ComponentType.walks v.0) (FirstAnd (g.B.ComponentType.walks v.1) (FirstAnd (g.C.ComponentType.walks v.2) (FirstAnd (g.E.ComponentType.walks v.3) (FirstAnd (g.F.ComponentType.walks v.4) (FirstAnd (g.H.ComponentType.walks v.5) NoTrees))))) (λ u. g.A.Lower.gives core.component.types u v.0) ((λ u. g.B.Lower.gives core.component.types u v.1) ∷ (λ u. g.C.Lower.gives core.component.types u v.2) ∷ (λ u. g.E.Lower.gives core.component.types u v.3) ∷ (λ u. g.F.Lower.gives core.component.types u v.4) ∷ (λ u. g.H.Lower.gives core.component.types u v.5) ∷ []) (omega (arith, count)) w0 c.store_member.new.cx.core.now c.store_member.new.end c.args.cx.now.options (λ i u. g.A.Lower.gives i u v.0) (λ u. refl) refl c.in-Ok.ensures.stores c.in-Ok.ensures.end in
-    way_stops L c.args.cx.now.options core c.args.ty c.args.offset (g.A.ComponentType.fits ∷ g.B.ComponentType.fits ∷ g.C.ComponentType.fits ∷ g.E.ComponentType.fits ∷ g.F.ComponentType.fits ∷ g.H.ComponentType.fits ∷ []) (FirstAnd (g.A.ComponentType.walks v.0) (FirstAnd (g.B.ComponentType.walks v.1) (FirstAnd (g.C.ComponentType.walks v.2) (FirstAnd (g.E.ComponentType.walks v.3) (FirstAnd (g.F.ComponentType.walks v.4) (FirstAnd (g.H.ComponentType.walks v.5) NoTrees)))))) ((λ u. g.A.Lower.gives core.component.types u v.0) ∷ (λ u. g.B.Lower.gives core.component.types u v.1) ∷ (λ u. g.C.Lower.gives core.component.types u v.2) ∷ (λ u. g.E.Lower.gives core.component.types u v.3) ∷ (λ u. g.F.Lower.gives core.component.types u v.4) ∷ (λ u. g.H.Lower.gives core.component.types u v.5) ∷ []) c.requires.fits c.store_member.new.cx.core.now 1 c.store_member.new.end (g.B.ComponentType.walks v.1) (FirstAnd (g.C.ComponentType.walks v.2) (FirstAnd (g.E.ComponentType.walks v.3) (FirstAnd (g.F.ComponentType.walks v.4) (FirstAnd (g.H.ComponentType.walks v.5) NoTrees)))) (λ u. g.B.Lower.gives core.component.types u v.1) ((λ u. g.C.Lower.gives core.component.types u v.2) ∷ (λ u. g.E.Lower.gives core.component.types u v.3) ∷ (λ u. g.F.Lower.gives core.component.types u v.4) ∷ (λ u. g.H.Lower.gives core.component.types u v.5) ∷ []) (omega (arith, count)) w1 c.store_member-2.new.cx.core.now c.store_member.new.cx.options c.in-Err-store_member.fault (λ i u. g.B.Lower.gives i u v.1) (λ u. refl) c.in-Ok.ensures.same_options c.in-Err-store_member.ensures.stores
-
-pub store_member-requires-3-clause-room : goal.store_member-requires-3-clause-room
-store_member-requires-3-clause-room g c =
-    let L : GuestLaws _ = record { seen = g.G.Guest.seen; moves = g.G.Guest.moves; stays = g.met.G.Guest.stays; goes_on = g.met.G.Guest.goes_on } in
-    let core = c.args.cx.now.core.now in
-    let v = c.args.self.now in
-    let count = tuple_count (g.A.ComponentType.fits ∷ g.B.ComponentType.fits ∷ g.C.ComponentType.fits ∷ g.E.ComponentType.fits ∷ g.F.ComponentType.fits ∷ g.H.ComponentType.fits ∷ []) core.component.types core.component.types c.args.ty refl c.requires.fits in
-    let w0 = way_begins L c.args.cx.now.options core c.args.ty c.args.offset (g.A.ComponentType.fits ∷ g.B.ComponentType.fits ∷ g.C.ComponentType.fits ∷ g.E.ComponentType.fits ∷ g.F.ComponentType.fits ∷ g.H.ComponentType.fits ∷ []) (FirstAnd (g.A.ComponentType.walks v.0) (FirstAnd (g.B.ComponentType.walks v.1) (FirstAnd (g.C.ComponentType.walks v.2) (FirstAnd (g.E.ComponentType.walks v.3) (FirstAnd (g.F.ComponentType.walks v.4) (FirstAnd (g.H.ComponentType.walks v.5) NoTrees)))))) ((λ u. g.A.Lower.gives core.component.types u v.0) ∷ (λ u. g.B.Lower.gives core.component.types u v.1) ∷ (λ u. g.C.Lower.gives core.component.types u v.2) ∷ (λ u. g.E.Lower.gives core.component.types u v.3) ∷ (λ u. g.F.Lower.gives core.component.types u v.4) ∷ (λ u. g.H.Lower.gives core.component.types u v.5) ∷ []) c.requires.fits c.requires.room in
-    let w1 = way_goes L c.args.cx.now.options core c.args.ty c.args.offset (g.A.ComponentType.fits ∷ g.B.ComponentType.fits ∷ g.C.ComponentType.fits ∷ g.E.ComponentType.fits ∷ g.F.ComponentType.fits ∷ g.H.ComponentType.fits ∷ []) (FirstAnd (g.A.ComponentType.walks v.0) (FirstAnd (g.B.ComponentType.walks v.1) (FirstAnd (g.C.ComponentType.walks v.2) (FirstAnd (g.E.ComponentType.walks v.3) (FirstAnd (g.F.ComponentType.walks v.4) (FirstAnd (g.H.ComponentType.walks v.5) NoTrees)))))) ((λ u. g.A.Lower.gives core.component.types u v.0) ∷ (λ u. g.B.Lower.gives core.component.types u v.1) ∷ (λ u. g.C.Lower.gives core.component.types u v.2) ∷ (λ u. g.E.Lower.gives core.component.types u v.3) ∷ (λ u. g.F.Lower.gives core.component.types u v.4) ∷ (λ u. g.H.Lower.gives core.component.types u v.5) ∷ []) c.requires.fits core 0 0 (g.A.ComponentType.walks v.0) (FirstAnd (g.B.ComponentType.walks v.1) (FirstAnd (g.C.ComponentType.walks v.2) (FirstAnd (g.E.ComponentType.walks v.3) (FirstAnd (g.F.ComponentType.walks v.4) (FirstAnd (g.H.ComponentType.walks v.5) NoTrees))))) (λ u. g.A.Lower.gives core.component.types u v.0) ((λ u. g.B.Lower.gives core.component.types u v.1) ∷ (λ u. g.C.Lower.gives core.component.types u v.2) ∷ (λ u. g.E.Lower.gives core.component.types u v.3) ∷ (λ u. g.F.Lower.gives core.component.types u v.4) ∷ (λ u. g.H.Lower.gives core.component.types u v.5) ∷ []) (omega (arith, count)) w0 c.store_member.new.cx.core.now c.store_member.new.end c.args.cx.now.options (λ i u. g.A.Lower.gives i u v.0) (λ u. refl) refl c.in-Ok.ensures.stores c.in-Ok.ensures.end in
-    let w2 = way_goes L c.args.cx.now.options core c.args.ty c.args.offset (g.A.ComponentType.fits ∷ g.B.ComponentType.fits ∷ g.C.ComponentType.fits ∷ g.E.ComponentType.fits ∷ g.F.ComponentType.fits ∷ g.H.ComponentType.fits ∷ []) (FirstAnd (g.A.ComponentType.walks v.0) (FirstAnd (g.B.ComponentType.walks v.1) (FirstAnd (g.C.ComponentType.walks v.2) (FirstAnd (g.E.ComponentType.walks v.3) (FirstAnd (g.F.ComponentType.walks v.4) (FirstAnd (g.H.ComponentType.walks v.5) NoTrees)))))) ((λ u. g.A.Lower.gives core.component.types u v.0) ∷ (λ u. g.B.Lower.gives core.component.types u v.1) ∷ (λ u. g.C.Lower.gives core.component.types u v.2) ∷ (λ u. g.E.Lower.gives core.component.types u v.3) ∷ (λ u. g.F.Lower.gives core.component.types u v.4) ∷ (λ u. g.H.Lower.gives core.component.types u v.5) ∷ []) c.requires.fits c.store_member.new.cx.core.now 1 c.store_member.new.end (g.B.ComponentType.walks v.1) (FirstAnd (g.C.ComponentType.walks v.2) (FirstAnd (g.E.ComponentType.walks v.3) (FirstAnd (g.F.ComponentType.walks v.4) (FirstAnd (g.H.ComponentType.walks v.5) NoTrees)))) (λ u. g.B.Lower.gives core.component.types u v.1) ((λ u. g.C.Lower.gives core.component.types u v.2) ∷ (λ u. g.E.Lower.gives core.component.types u v.3) ∷ (λ u. g.F.Lower.gives core.component.types u v.4) ∷ (λ u. g.H.Lower.gives core.component.types u v.5) ∷ []) (omega (arith, count)) w1 c.store_member-2.new.cx.core.now c.store_member-2.new.end c.store_member.new.cx.options (λ i u. g.B.Lower.gives i u v.1) (λ u. refl) c.in-Ok.ensures.same_options c.in-Ok-store_member.ensures.stores c.in-Ok-store_member.ensures.end in
-    way_room L c.args.cx.now.options core c.args.ty c.args.offset (g.A.ComponentType.fits ∷ g.B.ComponentType.fits ∷ g.C.ComponentType.fits ∷ g.E.ComponentType.fits ∷ g.F.ComponentType.fits ∷ g.H.ComponentType.fits ∷ []) (FirstAnd (g.A.ComponentType.walks v.0) (FirstAnd (g.B.ComponentType.walks v.1) (FirstAnd (g.C.ComponentType.walks v.2) (FirstAnd (g.E.ComponentType.walks v.3) (FirstAnd (g.F.ComponentType.walks v.4) (FirstAnd (g.H.ComponentType.walks v.5) NoTrees)))))) ((λ u. g.A.Lower.gives core.component.types u v.0) ∷ (λ u. g.B.Lower.gives core.component.types u v.1) ∷ (λ u. g.C.Lower.gives core.component.types u v.2) ∷ (λ u. g.E.Lower.gives core.component.types u v.3) ∷ (λ u. g.F.Lower.gives core.component.types u v.4) ∷ (λ u. g.H.Lower.gives core.component.types u v.5) ∷ []) c.requires.fits c.store_member-2.new.cx.core.now 2 c.store_member-2.new.end (g.C.ComponentType.walks v.2) (FirstAnd (g.E.ComponentType.walks v.3) (FirstAnd (g.F.ComponentType.walks v.4) (FirstAnd (g.H.ComponentType.walks v.5) NoTrees))) (λ u. g.C.Lower.gives core.component.types u v.2) ((λ u. g.E.Lower.gives core.component.types u v.3) ∷ (λ u. g.F.Lower.gives core.component.types u v.4) ∷ (λ u. g.H.Lower.gives core.component.types u v.5) ∷ []) (omega (arith, count)) w2
-
-pub returns-in-Err-store_member-2-clause-stores : goal.returns-in-Err-store_member-2-clause-stores
-returns-in-Err-store_member-2-clause-stores g c =
-    let L : GuestLaws _ = record { seen = g.G.Guest.seen; moves = g.G.Guest.moves; stays = g.met.G.Guest.stays; goes_on = g.met.G.Guest.goes_on } in
-    let core = c.args.cx.now.core.now in
-    let v = c.args.self.now in
-    let count = tuple_count (g.A.ComponentType.fits ∷ g.B.ComponentType.fits ∷ g.C.ComponentType.fits ∷ g.E.ComponentType.fits ∷ g.F.ComponentType.fits ∷ g.H.ComponentType.fits ∷ []) core.component.types core.component.types c.args.ty refl c.requires.fits in
-    let w0 = way_begins L c.args.cx.now.options core c.args.ty c.args.offset (g.A.ComponentType.fits ∷ g.B.ComponentType.fits ∷ g.C.ComponentType.fits ∷ g.E.ComponentType.fits ∷ g.F.ComponentType.fits ∷ g.H.ComponentType.fits ∷ []) (FirstAnd (g.A.ComponentType.walks v.0) (FirstAnd (g.B.ComponentType.walks v.1) (FirstAnd (g.C.ComponentType.walks v.2) (FirstAnd (g.E.ComponentType.walks v.3) (FirstAnd (g.F.ComponentType.walks v.4) (FirstAnd (g.H.ComponentType.walks v.5) NoTrees)))))) ((λ u. g.A.Lower.gives core.component.types u v.0) ∷ (λ u. g.B.Lower.gives core.component.types u v.1) ∷ (λ u. g.C.Lower.gives core.component.types u v.2) ∷ (λ u. g.E.Lower.gives core.component.types u v.3) ∷ (λ u. g.F.Lower.gives core.component.types u v.4) ∷ (λ u. g.H.Lower.gives core.component.types u v.5) ∷ []) c.requires.fits c.requires.room in
-    let w1 = way_goes L c.args.cx.now.options core c.args.ty c.args.offset (g.A.ComponentType.fits ∷ g.B.ComponentType.fits ∷ g.C.ComponentType.fits ∷ g.E.ComponentType.fits ∷ g.F.ComponentType.fits ∷ g.H.ComponentType.fits ∷ []) (FirstAnd (g.A.ComponentType.walks v.0) (FirstAnd (g.B.ComponentType.walks v.1) (FirstAnd (g.C.ComponentType.walks v.2) (FirstAnd (g.E.ComponentType.walks v.3) (FirstAnd (g.F.ComponentType.walks v.4) (FirstAnd (g.H.ComponentType.walks v.5) NoTrees)))))) ((λ u. g.A.Lower.gives core.component.types u v.0) ∷ (λ u. g.B.Lower.gives core.component.types u v.1) ∷ (λ u. g.C.Lower.gives core.component.types u v.2) ∷ (λ u. g.E.Lower.gives core.component.types u v.3) ∷ (λ u. g.F.Lower.gives core.component.types u v.4) ∷ (λ u. g.H.Lower.gives core.component.types u v.5) ∷ []) c.requires.fits core 0 0 (g.A.ComponentType.walks v.0) (FirstAnd (g.B.ComponentType.walks v.1) (FirstAnd (g.C.ComponentType.walks v.2) (FirstAnd (g.E.ComponentType.walks v.3) (FirstAnd (g.F.ComponentType.walks v.4) (FirstAnd (g.H.ComponentType.walks v.5) NoTrees))))) (λ u. g.A.Lower.gives core.component.types u v.0) ((λ u. g.B.Lower.gives core.component.types u v.1) ∷ (λ u. g.C.Lower.gives core.component.types u v.2) ∷ (λ u. g.E.Lower.gives core.component.types u v.3) ∷ (λ u. g.F.Lower.gives core.component.types u v.4) ∷ (λ u. g.H.Lower.gives core.component.types u v.5) ∷ []) (omega (arith, count)) w0 c.store_member.new.cx.core.now c.store_member.new.end c.args.cx.now.options (λ i u. g.A.Lower.gives i u v.0) (λ u. refl) refl c.in-Ok.ensures.stores c.in-Ok.ensures.end in
-    let w2 = way_goes L c.args.cx.now.options core c.args.ty c.args.offset (g.A.ComponentType.fits ∷ g.B.ComponentType.fits ∷ g.C.ComponentType.fits ∷ g.E.ComponentType.fits ∷ g.F.ComponentType.fits ∷ g.H.ComponentType.fits ∷ []) (FirstAnd (g.A.ComponentType.walks v.0) (FirstAnd (g.B.ComponentType.walks v.1) (FirstAnd (g.C.ComponentType.walks v.2) (FirstAnd (g.E.ComponentType.walks v.3) (FirstAnd (g.F.ComponentType.walks v.4) (FirstAnd (g.H.ComponentType.walks v.5) NoTrees)))))) ((λ u. g.A.Lower.gives core.component.types u v.0) ∷ (λ u. g.B.Lower.gives core.component.types u v.1) ∷ (λ u. g.C.Lower.gives core.component.types u v.2) ∷ (λ u. g.E.Lower.gives core.component.types u v.3) ∷ (λ u. g.F.Lower.gives core.component.types u v.4) ∷ (λ u. g.H.Lower.gives core.component.types u v.5) ∷ []) c.requires.fits c.store_member.new.cx.core.now 1 c.store_member.new.end (g.B.ComponentType.walks v.1) (FirstAnd (g.C.ComponentType.walks v.2) (FirstAnd (g.E.ComponentType.walks v.3) (FirstAnd (g.F.ComponentType.walks v.4) (FirstAnd (g.H.ComponentType.walks v.5) NoTrees)))) (λ u. g.B.Lower.gives core.component.types u v.1) ((λ u. g.C.Lower.gives core.component.types u v.2) ∷ (λ u. g.E.Lower.gives core.component.types u v.3) ∷ (λ u. g.F.Lower.gives core.component.types u v.4) ∷ (λ u. g.H.Lower.gives core.component.types u v.5) ∷ []) (omega (arith, count)) w1 c.store_member-2.new.cx.core.now c.store_member-2.new.end c.store_member.new.cx.options (λ i u. g.B.Lower.gives i u v.1) (λ u. refl) c.in-Ok.ensures.same_options c.in-Ok-store_member.ensures.stores c.in-Ok-store_member.ensures.end in
-    way_stops L c.args.cx.now.options core c.args.ty c.args.offset (g.A.ComponentType.fits ∷ g.B.ComponentType.fits ∷ g.C.ComponentType.fits ∷ g.E.ComponentType.fits ∷ g.F.ComponentType.fits ∷ g.H.ComponentType.fits ∷ []) (FirstAnd (g.A.ComponentType.walks v.0) (FirstAnd (g.B.ComponentType.walks v.1) (FirstAnd (g.C.ComponentType.walks v.2) (FirstAnd (g.E.ComponentType.walks v.3) (FirstAnd (g.F.ComponentType.walks v.4) (FirstAnd (g.H.ComponentType.walks v.5) NoTrees)))))) ((λ u. g.A.Lower.gives core.component.types u v.0) ∷ (λ u. g.B.Lower.gives core.component.types u v.1) ∷ (λ u. g.C.Lower.gives core.component.types u v.2) ∷ (λ u. g.E.Lower.gives core.component.types u v.3) ∷ (λ u. g.F.Lower.gives core.component.types u v.4) ∷ (λ u. g.H.Lower.gives core.component.types u v.5) ∷ []) c.requires.fits c.store_member-2.new.cx.core.now 2 c.store_member-2.new.end (g.C.ComponentType.walks v.2) (FirstAnd (g.E.ComponentType.walks v.3) (FirstAnd (g.F.ComponentType.walks v.4) (FirstAnd (g.H.ComponentType.walks v.5) NoTrees))) (λ u. g.C.Lower.gives core.component.types u v.2) ((λ u. g.E.Lower.gives core.component.types u v.3) ∷ (λ u. g.F.Lower.gives core.component.types u v.4) ∷ (λ u. g.H.Lower.gives core.component.types u v.5) ∷ []) (omega (arith, count)) w2 c.store_member-3.new.cx.core.now c.store_member-2.new.cx.options c.in-Err-store_member-2.fault (λ i u. g.C.Lower.gives i u v.2) (λ u. refl) (c.in-Ok-store_member.ensures.same_options ∙ c.in-Ok.ensures.same_options) c.in-Err-store_member-2.ensures.stores
-
-pub store_member-requires-4-clause-room : goal.store_member-requires-4-clause-room
-store_member-requires-4-clause-room g c =
-    let L : GuestLaws _ = record { seen = g.G.Guest.seen; moves = g.G.Guest.moves; stays = g.met.G.Guest.stays; goes_on = g.met.G.Guest.goes_on } in
-    let core = c.args.cx.now.core.now in
-    let v = c.args.self.now in
-    let count = tuple_count (g.A.ComponentType.fits ∷ g.B.ComponentType.fits ∷ g.C.ComponentType.fits ∷ g.E.ComponentType.fits ∷ g.F.ComponentType.fits ∷ g.H.ComponentType.fits ∷ []) core.component.types core.component.types c.args.ty refl c.requires.fits in
-    let w0 = way_begins L c.args.cx.now.options core c.args.ty c.args.offset (g.A.ComponentType.fits ∷ g.B.ComponentType.fits ∷ g.C.ComponentType.fits ∷ g.E.ComponentType.fits ∷ g.F.ComponentType.fits ∷ g.H.ComponentType.fits ∷ []) (FirstAnd (g.A.ComponentType.walks v.0) (FirstAnd (g.B.ComponentType.walks v.1) (FirstAnd (g.C.ComponentType.walks v.2) (FirstAnd (g.E.ComponentType.walks v.3) (FirstAnd (g.F.ComponentType.walks v.4) (FirstAnd (g.H.ComponentType.walks v.5) NoTrees)))))) ((λ u. g.A.Lower.gives core.component.types u v.0) ∷ (λ u. g.B.Lower.gives core.component.types u v.1) ∷ (λ u. g.C.Lower.gives core.component.types u v.2) ∷ (λ u. g.E.Lower.gives core.component.types u v.3) ∷ (λ u. g.F.Lower.gives core.component.types u v.4) ∷ (λ u. g.H.Lower.gives core.component.types u v.5) ∷ []) c.requires.fits c.requires.room in
-    let w1 = way_goes L c.args.cx.now.options core c.args.ty c.args.offset (g.A.ComponentType.fits ∷ g.B.ComponentType.fits ∷ g.C.ComponentType.fits ∷ g.E.ComponentType.fits ∷ g.F.ComponentType.fits ∷ g.H.ComponentType.fits ∷ []) (FirstAnd (g.A.ComponentType.walks v.0) (FirstAnd (g.B.ComponentType.walks v.1) (FirstAnd (g.C.ComponentType.walks v.2) (FirstAnd (g.E.ComponentType.walks v.3) (FirstAnd (g.F.ComponentType.walks v.4) (FirstAnd (g.H.ComponentType.walks v.5) NoTrees)))))) ((λ u. g.A.Lower.gives core.component.types u v.0) ∷ (λ u. g.B.Lower.gives core.component.types u v.1) ∷ (λ u. g.C.Lower.gives core.component.types u v.2) ∷ (λ u. g.E.Lower.gives core.component.types u v.3) ∷ (λ u. g.F.Lower.gives core.component.types u v.4) ∷ (λ u. g.H.Lower.gives core.component.types u v.5) ∷ []) c.requires.fits core 0 0 (g.A.ComponentType.walks v.0) (FirstAnd (g.B.ComponentType.walks v.1) (FirstAnd (g.C.ComponentType.walks v.2) (FirstAnd (g.E.ComponentType.walks v.3) (FirstAnd (g.F.ComponentType.walks v.4) (FirstAnd (g.H.ComponentType.walks v.5) NoTrees))))) (λ u. g.A.Lower.gives core.component.types u v.0) ((λ u. g.B.Lower.gives core.component.types u v.1) ∷ (λ u. g.C.Lower.gives core.component.types u v.2) ∷ (λ u. g.E.Lower.gives core.component.types u v.3) ∷ (λ u. g.F.Lower.gives core.component.types u v.4) ∷ (λ u. g.H.Lower.gives core.component.types u v.5) ∷ []) (omega (arith, count)) w0 c.store_member.new.cx.core.now c.store_member.new.end c.args.cx.now.options (λ i u. g.A.Lower.gives i u v.0) (λ u. refl) refl c.in-Ok.ensures.stores c.in-Ok.ensures.end in
-    let w2 = way_goes L c.args.cx.now.options core c.args.ty c.args.offset (g.A.ComponentType.fits ∷ g.B.ComponentType.fits ∷ g.C.ComponentType.fits ∷ g.E.ComponentType.fits ∷ g.F.ComponentType.fits ∷ g.H.ComponentType.fits ∷ []) (FirstAnd (g.A.ComponentType.walks v.0) (FirstAnd (g.B.ComponentType.walks v.1) (FirstAnd (g.C.ComponentType.walks v.2) (FirstAnd (g.E.ComponentType.walks v.3) (FirstAnd (g.F.ComponentType.walks v.4) (FirstAnd (g.H.ComponentType.walks v.5) NoTrees)))))) ((λ u. g.A.Lower.gives core.component.types u v.0) ∷ (λ u. g.B.Lower.gives core.component.types u v.1) ∷ (λ u. g.C.Lower.gives core.component.types u v.2) ∷ (λ u. g.E.Lower.gives core.component.types u v.3) ∷ (λ u. g.F.Lower.gives core.component.types u v.4) ∷ (λ u. g.H.Lower.gives core.component.types u v.5) ∷ []) c.requires.fits c.store_member.new.cx.core.now 1 c.store_member.new.end (g.B.ComponentType.walks v.1) (FirstAnd (g.C.ComponentType.walks v.2) (FirstAnd (g.E.ComponentType.walks v.3) (FirstAnd (g.F.ComponentType.walks v.4) (FirstAnd (g.H.ComponentType.walks v.5) NoTrees)))) (λ u. g.B.Lower.gives core.component.types u v.1) ((λ u. g.C.Lower.gives core.component.types u v.2) ∷ (λ u. g.E.Lower.gives core.component.types u v.3) ∷ (λ u. g.F.Lower.gives core.component.types u v.4) ∷ (λ u. g.H.Lower.gives core.component.types u v.5) ∷ []) (omega (arith, count)) w1 c.store_member-2.new.cx.core.now c.store_member-2.new.end c.store_member.new.cx.options (λ i u. g.B.Lower.gives i u v.1) (λ u. refl) c.in-Ok.ensures.same_options c.in-Ok-store_member.ensures.stores c.in-Ok-store_member.ensures.end in
-    let w3 = way_goes L c.args.cx.now.options core c.args.ty c.args.offset (g.A.ComponentType.fits ∷ g.B.ComponentType.fits ∷ g.C.ComponentType.fits ∷ g.E.ComponentType.fits ∷ g.F.ComponentType.fits ∷ g.H.ComponentType.fits ∷ []) (FirstAnd (g.A.ComponentType.walks v.0) (FirstAnd (g.B.ComponentType.walks v.1) (FirstAnd (g.C.ComponentType.walks v.2) (FirstAnd (g.E.ComponentType.walks v.3) (FirstAnd (g.F.ComponentType.walks v.4) (FirstAnd (g.H.ComponentType.walks v.5) NoTrees)))))) ((λ u. g.A.Lower.gives core.component.types u v.0) ∷ (λ u. g.B.Lower.gives core.component.types u v.1) ∷ (λ u. g.C.Lower.gives core.component.types u v.2) ∷ (λ u. g.E.Lower.gives core.component.types u v.3) ∷ (λ u. g.F.Lower.gives core.component.types u v.4) ∷ (λ u. g.H.Lower.gives core.component.types u v.5) ∷ []) c.requires.fits c.store_member-2.new.cx.core.now 2 c.store_member-2.new.end (g.C.ComponentType.walks v.2) (FirstAnd (g.E.ComponentType.walks v.3) (FirstAnd (g.F.ComponentType.walks v.4) (FirstAnd (g.H.ComponentType.walks v.5) NoTrees))) (λ u. g.C.Lower.gives core.component.types u v.2) ((λ u. g.E.Lower.gives core.component.types u v.3) ∷ (λ u. g.F.Lower.gives core.component.types u v.4) ∷ (λ u. g.H.Lower.gives core.component.types u v.5) ∷ []) (omega (arith, count)) w2 c.store_member-3.new.cx.core.now c.store_member-3.new.end c.store_member-2.new.cx.options (λ i u. g.C.Lower.gives i u v.2) (λ u. refl) (c.in-Ok-store_member.ensures.same_options ∙ c.in-Ok.ensures.same_options) c.in-Ok-store_member-2.ensures.stores c.in-Ok-store_member-2.ensures.end in
-    way_room L c.args.cx.now.options core c.args.ty c.args.offset (g.A.ComponentType.fits ∷ g.B.ComponentType.fits ∷ g.C.ComponentType.fits ∷ g.E.ComponentType.fits ∷ g.F.ComponentType.fits ∷ g.H.ComponentType.fits ∷ []) (FirstAnd (g.A.ComponentType.walks v.0) (FirstAnd (g.B.ComponentType.walks v.1) (FirstAnd (g.C.ComponentType.walks v.2) (FirstAnd (g.E.ComponentType.walks v.3) (FirstAnd (g.F.ComponentType.walks v.4) (FirstAnd (g.H.ComponentType.walks v.5) NoTrees)))))) ((λ u. g.A.Lower.gives core.component.types u v.0) ∷ (λ u. g.B.Lower.gives core.component.types u v.1) ∷ (λ u. g.C.Lower.gives core.component.types u v.2) ∷ (λ u. g.E.Lower.gives core.component.types u v.3) ∷ (λ u. g.F.Lower.gives core.component.types u v.4) ∷ (λ u. g.H.Lower.gives core.component.types u v.5) ∷ []) c.requires.fits c.store_member-3.new.cx.core.now 3 c.store_member-3.new.end (g.E.ComponentType.walks v.3) (FirstAnd (g.F.ComponentType.walks v.4) (FirstAnd (g.H.ComponentType.walks v.5) NoTrees)) (λ u. g.E.Lower.gives core.component.types u v.3) ((λ u. g.F.Lower.gives core.component.types u v.4) ∷ (λ u. g.H.Lower.gives core.component.types u v.5) ∷ []) (omega (arith, count)) w3
-
-pub returns-in-Err-store_member-3-clause-stores : goal.returns-in-Err-store_member-3-clause-stores
-returns-in-Err-store_member-3-clause-stores g c =
-    let L : GuestLaws _ = record { seen = g.G.Guest.seen; moves = g.G.Guest.moves; stays = g.met.G.Guest.stays; goes_on = g.met.G.Guest.goes_on } in
-    let core = c.args.cx.now.core.now in
-    let v = c.args.self.now in
-    let count = tuple_count (g.A.ComponentType.fits ∷ g.B.ComponentType.fits ∷ g.C.ComponentType.fits ∷ g.E.ComponentType.fits ∷ g.F.ComponentType.fits ∷ g.H.ComponentType.fits ∷ []) core.component.types core.component.types c.args.ty refl c.requires.fits in
-    let w0 = way_begins L c.args.cx.now.options core c.args.ty c.args.offset (g.A.ComponentType.fits ∷ g.B.ComponentType.fits ∷ g.C.ComponentType.fits ∷ g.E.ComponentType.fits ∷ g.F.ComponentType.fits ∷ g.H.ComponentType.fits ∷ []) (FirstAnd (g.A.ComponentType.walks v.0) (FirstAnd (g.B.ComponentType.walks v.1) (FirstAnd (g.C.ComponentType.walks v.2) (FirstAnd (g.E.ComponentType.walks v.3) (FirstAnd (g.F.ComponentType.walks v.4) (FirstAnd (g.H.ComponentType.walks v.5) NoTrees)))))) ((λ u. g.A.Lower.gives core.component.types u v.0) ∷ (λ u. g.B.Lower.gives core.component.types u v.1) ∷ (λ u. g.C.Lower.gives core.component.types u v.2) ∷ (λ u. g.E.Lower.gives core.component.types u v.3) ∷ (λ u. g.F.Lower.gives core.component.types u v.4) ∷ (λ u. g.H.Lower.gives core.component.types u v.5) ∷ []) c.requires.fits c.requires.room in
-    let w1 = way_goes L c.args.cx.now.options core c.args.ty c.args.offset (g.A.ComponentType.fits ∷ g.B.ComponentType.fits ∷ g.C.ComponentType.fits ∷ g.E.ComponentType.fits ∷ g.F.ComponentType.fits ∷ g.H.ComponentType.fits ∷ []) (FirstAnd (g.A.ComponentType.walks v.0) (FirstAnd (g.B.ComponentType.walks v.1) (FirstAnd (g.C.ComponentType.walks v.2) (FirstAnd (g.E.ComponentType.walks v.3) (FirstAnd (g.F.ComponentType.walks v.4) (FirstAnd (g.H.ComponentType.walks v.5) NoTrees)))))) ((λ u. g.A.Lower.gives core.component.types u v.0) ∷ (λ u. g.B.Lower.gives core.component.types u v.1) ∷ (λ u. g.C.Lower.gives core.component.types u v.2) ∷ (λ u. g.E.Lower.gives core.component.types u v.3) ∷ (λ u. g.F.Lower.gives core.component.types u v.4) ∷ (λ u. g.H.Lower.gives core.component.types u v.5) ∷ []) c.requires.fits core 0 0 (g.A.ComponentType.walks v.0) (FirstAnd (g.B.ComponentType.walks v.1) (FirstAnd (g.C.ComponentType.walks v.2) (FirstAnd (g.E.ComponentType.walks v.3) (FirstAnd (g.F.ComponentType.walks v.4) (FirstAnd (g.H.ComponentType.walks v.5) NoTrees))))) (λ u. g.A.Lower.gives core.component.types u v.0) ((λ u. g.B.Lower.gives core.component.types u v.1) ∷ (λ u. g.C.Lower.gives core.component.types u v.2) ∷ (λ u. g.E.Lower.gives core.component.types u v.3) ∷ (λ u. g.F.Lower.gives core.component.types u v.4) ∷ (λ u. g.H.Lower.gives core.component.types u v.5) ∷ []) (omega (arith, count)) w0 c.store_member.new.cx.core.now c.store_member.new.end c.args.cx.now.options (λ i u. g.A.Lower.gives i u v.0) (λ u. refl) refl c.in-Ok.ensures.stores c.in-Ok.ensures.end in
-    let w2 = way_goes L c.args.cx.now.options core c.args.ty c.args.offset (g.A.ComponentType.fits ∷ g.B.ComponentType.fits ∷ g.C.ComponentType.fits ∷ g.E.ComponentType.fits ∷ g.F.ComponentType.fits ∷ g.H.ComponentType.fits ∷ []) (FirstAnd (g.A.ComponentType.walks v.0) (FirstAnd (g.B.ComponentType.walks v.1) (FirstAnd (g.C.ComponentType.walks v.2) (FirstAnd (g.E.ComponentType.walks v.3) (FirstAnd (g.F.ComponentType.walks v.4) (FirstAnd (g.H.ComponentType.walks v.5) NoTrees)))))) ((λ u. g.A.Lower.gives core.component.types u v.0) ∷ (λ u. g.B.Lower.gives core.component.types u v.1) ∷ (λ u. g.C.Lower.gives core.component.types u v.2) ∷ (λ u. g.E.Lower.gives core.component.types u v.3) ∷ (λ u. g.F.Lower.gives core.component.types u v.4) ∷ (λ u. g.H.Lower.gives core.component.types u v.5) ∷ []) c.requires.fits c.store_member.new.cx.core.now 1 c.store_member.new.end (g.B.ComponentType.walks v.1) (FirstAnd (g.C.ComponentType.walks v.2) (FirstAnd (g.E.ComponentType.walks v.3) (FirstAnd (g.F.ComponentType.walks v.4) (FirstAnd (g.H.ComponentType.walks v.5) NoTrees)))) (λ u. g.B.Lower.gives core.component.types u v.1) ((λ u. g.C.Lower.gives core.component.types u v.2) ∷ (λ u. g.E.Lower.gives core.component.types u v.3) ∷ (λ u. g.F.Lower.gives core.component.types u v.4) ∷ (λ u. g.H.Lower.gives core.component.types u v.5) ∷ []) (omega (arith, count)) w1 c.store_member-2.new.cx.core.now c.store_member-2.new.end c.store_member.new.cx.options (λ i u. g.B.Lower.gives i u v.1) (λ u. refl) c.in-Ok.ensures.same_options c.in-Ok-store_member.ensures.stores c.in-Ok-store_member.ensures.end in
-    let w3 = way_goes L c.args.cx.now.options core c.args.ty c.args.offset (g.A.ComponentType.fits ∷ g.B.ComponentType.fits ∷ g.C.ComponentType.fits ∷ g.E.ComponentType.fits ∷ g.F.ComponentType.fits ∷ g.H.ComponentType.fits ∷ []) (FirstAnd (g.A.ComponentType.walks v.0) (FirstAnd (g.B.ComponentType.walks v.1) (FirstAnd (g.C.ComponentType.walks v.2) (FirstAnd (g.E.ComponentType.walks v.3) (FirstAnd (g.F.ComponentType.walks v.4) (FirstAnd (g.H.ComponentType.walks v.5) NoTrees)))))) ((λ u. g.A.Lower.gives core.component.types u v.0) ∷ (λ u. g.B.Lower.gives core.component.types u v.1) ∷ (λ u. g.C.Lower.gives core.component.types u v.2) ∷ (λ u. g.E.Lower.gives core.component.types u v.3) ∷ (λ u. g.F.Lower.gives core.component.types u v.4) ∷ (λ u. g.H.Lower.gives core.component.types u v.5) ∷ []) c.requires.fits c.store_member-2.new.cx.core.now 2 c.store_member-2.new.end (g.C.ComponentType.walks v.2) (FirstAnd (g.E.ComponentType.walks v.3) (FirstAnd (g.F.ComponentType.walks v.4) (FirstAnd (g.H.ComponentType.walks v.5) NoTrees))) (λ u. g.C.Lower.gives core.component.types u v.2) ((λ u. g.E.Lower.gives core.component.types u v.3) ∷ (λ u. g.F.Lower.gives core.component.types u v.4) ∷ (λ u. g.H.Lower.gives core.component.types u v.5) ∷ []) (omega (arith, count)) w2 c.store_member-3.new.cx.core.now c.store_member-3.new.end c.store_member-2.new.cx.options (λ i u. g.C.Lower.gives i u v.2) (λ u. refl) (c.in-Ok-store_member.ensures.same_options ∙ c.in-Ok.ensures.same_options) c.in-Ok-store_member-2.ensures.stores c.in-Ok-store_member-2.ensures.end in
-    way_stops L c.args.cx.now.options core c.args.ty c.args.offset (g.A.ComponentType.fits ∷ g.B.ComponentType.fits ∷ g.C.ComponentType.fits ∷ g.E.ComponentType.fits ∷ g.F.ComponentType.fits ∷ g.H.ComponentType.fits ∷ []) (FirstAnd (g.A.ComponentType.walks v.0) (FirstAnd (g.B.ComponentType.walks v.1) (FirstAnd (g.C.ComponentType.walks v.2) (FirstAnd (g.E.ComponentType.walks v.3) (FirstAnd (g.F.ComponentType.walks v.4) (FirstAnd (g.H.ComponentType.walks v.5) NoTrees)))))) ((λ u. g.A.Lower.gives core.component.types u v.0) ∷ (λ u. g.B.Lower.gives core.component.types u v.1) ∷ (λ u. g.C.Lower.gives core.component.types u v.2) ∷ (λ u. g.E.Lower.gives core.component.types u v.3) ∷ (λ u. g.F.Lower.gives core.component.types u v.4) ∷ (λ u. g.H.Lower.gives core.component.types u v.5) ∷ []) c.requires.fits c.store_member-3.new.cx.core.now 3 c.store_member-3.new.end (g.E.ComponentType.walks v.3) (FirstAnd (g.F.ComponentType.walks v.4) (FirstAnd (g.H.ComponentType.walks v.5) NoTrees)) (λ u. g.E.Lower.gives core.component.types u v.3) ((λ u. g.F.Lower.gives core.component.types u v.4) ∷ (λ u. g.H.Lower.gives core.component.types u v.5) ∷ []) (omega (arith, count)) w3 c.store_member-4.new.cx.core.now c.store_member-3.new.cx.options c.in-Err-store_member-3.fault (λ i u. g.E.Lower.gives i u v.3) (λ u. refl) (c.in-Ok-store_member-2.ensures.same_options ∙ c.in-Ok-store_member.ensures.same_options ∙ c.in-Ok.ensures.same_options) c.in-Err-store_member-3.ensures.stores
-
-pub store_member-requires-5-clause-room : goal.store_member-requires-5-clause-room
-store_member-requires-5-clause-room g c =
-    let L : GuestLaws _ = record { seen = g.G.Guest.seen; moves = g.G.Guest.moves; stays = g.met.G.Guest.stays; goes_on = g.met.G.Guest.goes_on } in
-    let core = c.args.cx.now.core.now in
-    let v = c.args.self.now in
-    let count = tuple_count (g.A.ComponentType.fits ∷ g.B.ComponentType.fits ∷ g.C.ComponentType.fits ∷ g.E.ComponentType.fits ∷ g.F.ComponentType.fits ∷ g.H.ComponentType.fits ∷ []) core.component.types core.component.types c.args.ty refl c.requires.fits in
-    let w0 = way_begins L c.args.cx.now.options core c.args.ty c.args.offset (g.A.ComponentType.fits ∷ g.B.ComponentType.fits ∷ g.C.ComponentType.fits ∷ g.E.ComponentType.fits ∷ g.F.ComponentType.fits ∷ g.H.ComponentType.fits ∷ []) (FirstAnd (g.A.ComponentType.walks v.0) (FirstAnd (g.B.ComponentType.walks v.1) (FirstAnd (g.C.ComponentType.walks v.2) (FirstAnd (g.E.ComponentType.walks v.3) (FirstAnd (g.F.ComponentType.walks v.4) (FirstAnd (g.H.ComponentType.walks v.5) NoTrees)))))) ((λ u. g.A.Lower.gives core.component.types u v.0) ∷ (λ u. g.B.Lower.gives core.component.types u v.1) ∷ (λ u. g.C.Lower.gives core.component.types u v.2) ∷ (λ u. g.E.Lower.gives core.component.types u v.3) ∷ (λ u. g.F.Lower.gives core.component.types u v.4) ∷ (λ u. g.H.Lower.gives core.component.types u v.5) ∷ []) c.requires.fits c.requires.room in
-    let w1 = way_goes L c.args.cx.now.options core c.args.ty c.args.offset (g.A.ComponentType.fits ∷ g.B.ComponentType.fits ∷ g.C.ComponentType.fits ∷ g.E.ComponentType.fits ∷ g.F.ComponentType.fits ∷ g.H.ComponentType.fits ∷ []) (FirstAnd (g.A.ComponentType.walks v.0) (FirstAnd (g.B.ComponentType.walks v.1) (FirstAnd (g.C.ComponentType.walks v.2) (FirstAnd (g.E.ComponentType.walks v.3) (FirstAnd (g.F.ComponentType.walks v.4) (FirstAnd (g.H.ComponentType.walks v.5) NoTrees)))))) ((λ u. g.A.Lower.gives core.component.types u v.0) ∷ (λ u. g.B.Lower.gives core.component.types u v.1) ∷ (λ u. g.C.Lower.gives core.component.types u v.2) ∷ (λ u. g.E.Lower.gives core.component.types u v.3) ∷ (λ u. g.F.Lower.gives core.component.types u v.4) ∷ (λ u. g.H.Lower.gives core.component.types u v.5) ∷ []) c.requires.fits core 0 0 (g.A.ComponentType.walks v.0) (FirstAnd (g.B.ComponentType.walks v.1) (FirstAnd (g.C.ComponentType.walks v.2) (FirstAnd (g.E.ComponentType.walks v.3) (FirstAnd (g.F.ComponentType.walks v.4) (FirstAnd (g.H.ComponentType.walks v.5) NoTrees))))) (λ u. g.A.Lower.gives core.component.types u v.0) ((λ u. g.B.Lower.gives core.component.types u v.1) ∷ (λ u. g.C.Lower.gives core.component.types u v.2) ∷ (λ u. g.E.Lower.gives core.component.types u v.3) ∷ (λ u. g.F.Lower.gives core.component.types u v.4) ∷ (λ u. g.H.Lower.gives core.component.types u v.5) ∷ []) (omega (arith, count)) w0 c.store_member.new.cx.core.now c.store_member.new.end c.args.cx.now.options (λ i u. g.A.Lower.gives i u v.0) (λ u. refl) refl c.in-Ok.ensures.stores c.in-Ok.ensures.end in
-    let w2 = way_goes L c.args.cx.now.options core c.args.ty c.args.offset (g.A.ComponentType.fits ∷ g.B.ComponentType.fits ∷ g.C.ComponentType.fits ∷ g.E.ComponentType.fits ∷ g.F.ComponentType.fits ∷ g.H.ComponentType.fits ∷ []) (FirstAnd (g.A.ComponentType.walks v.0) (FirstAnd (g.B.ComponentType.walks v.1) (FirstAnd (g.C.ComponentType.walks v.2) (FirstAnd (g.E.ComponentType.walks v.3) (FirstAnd (g.F.ComponentType.walks v.4) (FirstAnd (g.H.ComponentType.walks v.5) NoTrees)))))) ((λ u. g.A.Lower.gives core.component.types u v.0) ∷ (λ u. g.B.Lower.gives core.component.types u v.1) ∷ (λ u. g.C.Lower.gives core.component.types u v.2) ∷ (λ u. g.E.Lower.gives core.component.types u v.3) ∷ (λ u. g.F.Lower.gives core.component.types u v.4) ∷ (λ u. g.H.Lower.gives core.component.types u v.5) ∷ []) c.requires.fits c.store_member.new.cx.core.now 1 c.store_member.new.end (g.B.ComponentType.walks v.1) (FirstAnd (g.C.ComponentType.walks v.2) (FirstAnd (g.E.ComponentType.walks v.3) (FirstAnd (g.F.ComponentType.walks v.4) (FirstAnd (g.H.ComponentType.walks v.5) NoTrees)))) (λ u. g.B.Lower.gives core.component.types u v.1) ((λ u. g.C.Lower.gives core.component.types u v.2) ∷ (λ u. g.E.Lower.gives core.component.types u v.3) ∷ (λ u. g.F.Lower.gives core.component.types u v.4) ∷ (λ u. g.H.Lower.gives core.component.types u v.5) ∷ []) (omega (arith, count)) w1 c.store_member-2.new.cx.core.now c.store_member-2.new.end c.store_member.new.cx.options (λ i u. g.B.Lower.gives i u v.1) (λ u. refl) c.in-Ok.ensures.same_options c.in-Ok-store_member.ensures.stores c.in-Ok-store_member.ensures.end in
-    let w3 = way_goes L c.args.cx.now.options core c.args.ty c.args.offset (g.A.ComponentType.fits ∷ g.B.ComponentType.fits ∷ g.C.ComponentType.fits ∷ g.E.ComponentType.fits ∷ g.F.ComponentType.fits ∷ g.H.ComponentType.fits ∷ []) (FirstAnd (g.A.ComponentType.walks v.0) (FirstAnd (g.B.ComponentType.walks v.1) (FirstAnd (g.C.ComponentType.walks v.2) (FirstAnd (g.E.ComponentType.walks v.3) (FirstAnd (g.F.ComponentType.walks v.4) (FirstAnd (g.H.ComponentType.walks v.5) NoTrees)))))) ((λ u. g.A.Lower.gives core.component.types u v.0) ∷ (λ u. g.B.Lower.gives core.component.types u v.1) ∷ (λ u. g.C.Lower.gives core.component.types u v.2) ∷ (λ u. g.E.Lower.gives core.component.types u v.3) ∷ (λ u. g.F.Lower.gives core.component.types u v.4) ∷ (λ u. g.H.Lower.gives core.component.types u v.5) ∷ []) c.requires.fits c.store_member-2.new.cx.core.now 2 c.store_member-2.new.end (g.C.ComponentType.walks v.2) (FirstAnd (g.E.ComponentType.walks v.3) (FirstAnd (g.F.ComponentType.walks v.4) (FirstAnd (g.H.ComponentType.walks v.5) NoTrees))) (λ u. g.C.Lower.gives core.component.types u v.2) ((λ u. g.E.Lower.gives core.component.types u v.3) ∷ (λ u. g.F.Lower.gives core.component.types u v.4) ∷ (λ u. g.H.Lower.gives core.component.types u v.5) ∷ []) (omega (arith, count)) w2 c.store_member-3.new.cx.core.now c.store_member-3.new.end c.store_member-2.new.cx.options (λ i u. g.C.Lower.gives i u v.2) (λ u. refl) (c.in-Ok-store_member.ensures.same_options ∙ c.in-Ok.ensures.same_options) c.in-Ok-store_member-2.ensures.stores c.in-Ok-store_member-2.ensures.end in
-    let w4 = way_goes L c.args.cx.now.options core c.args.ty c.args.offset (g.A.ComponentType.fits ∷ g.B.ComponentType.fits ∷ g.C.ComponentType.fits ∷ g.E.ComponentType.fits ∷ g.F.ComponentType.fits ∷ g.H.ComponentType.fits ∷ []) (FirstAnd (g.A.ComponentType.walks v.0) (FirstAnd (g.B.ComponentType.walks v.1) (FirstAnd (g.C.ComponentType.walks v.2) (FirstAnd (g.E.ComponentType.walks v.3) (FirstAnd (g.F.ComponentType.walks v.4) (FirstAnd (g.H.ComponentType.walks v.5) NoTrees)))))) ((λ u. g.A.Lower.gives core.component.types u v.0) ∷ (λ u. g.B.Lower.gives core.component.types u v.1) ∷ (λ u. g.C.Lower.gives core.component.types u v.2) ∷ (λ u. g.E.Lower.gives core.component.types u v.3) ∷ (λ u. g.F.Lower.gives core.component.types u v.4) ∷ (λ u. g.H.Lower.gives core.component.types u v.5) ∷ []) c.requires.fits c.store_member-3.new.cx.core.now 3 c.store_member-3.new.end (g.E.ComponentType.walks v.3) (FirstAnd (g.F.ComponentType.walks v.4) (FirstAnd (g.H.ComponentType.walks v.5) NoTrees)) (λ u. g.E.Lower.gives core.component.types u v.3) ((λ u. g.F.Lower.gives core.component.types u v.4) ∷ (λ u. g.H.Lower.gives core.component.types u v.5) ∷ []) (omega (arith, count)) w3 c.store_member-4.new.cx.core.now c.store_member-4.new.end c.store_member-3.new.cx.options (λ i u. g.E.Lower.gives i u v.3) (λ u. refl) (c.in-Ok-store_member-2.ensures.same_options ∙ c.in-Ok-store_member.ensures.same_options ∙ c.in-Ok.ensures.same_options) c.in-Ok-store_member-3.ensures.stores c.in-Ok-store_member-3.ensures.end in
-    way_room L c.args.cx.now.options core c.args.ty c.args.offset (g.A.ComponentType.fits ∷ g.B.ComponentType.fits ∷ g.C.ComponentType.fits ∷ g.E.ComponentType.fits ∷ g.F.ComponentType.fits ∷ g.H.ComponentType.fits ∷ []) (FirstAnd (g.A.ComponentType.walks v.0) (FirstAnd (g.B.ComponentType.walks v.1) (FirstAnd (g.C.ComponentType.walks v.2) (FirstAnd (g.E.ComponentType.walks v.3) (FirstAnd (g.F.ComponentType.walks v.4) (FirstAnd (g.H.ComponentType.walks v.5) NoTrees)))))) ((λ u. g.A.Lower.gives core.component.types u v.0) ∷ (λ u. g.B.Lower.gives core.component.types u v.1) ∷ (λ u. g.C.Lower.gives core.component.types u v.2) ∷ (λ u. g.E.Lower.gives core.component.types u v.3) ∷ (λ u. g.F.Lower.gives core.component.types u v.4) ∷ (λ u. g.H.Lower.gives core.component.types u v.5) ∷ []) c.requires.fits c.store_member-4.new.cx.core.now 4 c.store_member-4.new.end (g.F.ComponentType.walks v.4) (FirstAnd (g.H.ComponentType.walks v.5) NoTrees) (λ u. g.F.Lower.gives core.component.types u v.4) ((λ u. g.H.Lower.gives core.component.types u v.5) ∷ []) (omega (arith, count)) w4
-
-pub returns-in-Err-store_member-4-clause-stores : goal.returns-in-Err-store_member-4-clause-stores
-returns-in-Err-store_member-4-clause-stores g c =
-    let L : GuestLaws _ = record { seen = g.G.Guest.seen; moves = g.G.Guest.moves; stays = g.met.G.Guest.stays; goes_on = g.met.G.Guest.goes_on } in
-    let core = c.args.cx.now.core.now in
-    let v = c.args.self.now in
-    let count = tuple_count (g.A.ComponentType.fits ∷ g.B.ComponentType.fits ∷ g.C.ComponentType.fits ∷ g.E.ComponentType.fits ∷ g.F.ComponentType.fits ∷ g.H.ComponentType.fits ∷ []) core.component.types core.component.types c.args.ty refl c.requires.fits in
-    let w0 = way_begins L c.args.cx.now.options core c.args.ty c.args.offset (g.A.ComponentType.fits ∷ g.B.ComponentType.fits ∷ g.C.ComponentType.fits ∷ g.E.ComponentType.fits ∷ g.F.ComponentType.fits ∷ g.H.ComponentType.fits ∷ []) (FirstAnd (g.A.ComponentType.walks v.0) (FirstAnd (g.B.ComponentType.walks v.1) (FirstAnd (g.C.ComponentType.walks v.2) (FirstAnd (g.E.ComponentType.walks v.3) (FirstAnd (g.F.ComponentType.walks v.4) (FirstAnd (g.H.ComponentType.walks v.5) NoTrees)))))) ((λ u. g.A.Lower.gives core.component.types u v.0) ∷ (λ u. g.B.Lower.gives core.component.types u v.1) ∷ (λ u. g.C.Lower.gives core.component.types u v.2) ∷ (λ u. g.E.Lower.gives core.component.types u v.3) ∷ (λ u. g.F.Lower.gives core.component.types u v.4) ∷ (λ u. g.H.Lower.gives core.component.types u v.5) ∷ []) c.requires.fits c.requires.room in
-    let w1 = way_goes L c.args.cx.now.options core c.args.ty c.args.offset (g.A.ComponentType.fits ∷ g.B.ComponentType.fits ∷ g.C.ComponentType.fits ∷ g.E.ComponentType.fits ∷ g.F.ComponentType.fits ∷ g.H.ComponentType.fits ∷ []) (FirstAnd (g.A.ComponentType.walks v.0) (FirstAnd (g.B.ComponentType.walks v.1) (FirstAnd (g.C.ComponentType.walks v.2) (FirstAnd (g.E.ComponentType.walks v.3) (FirstAnd (g.F.ComponentType.walks v.4) (FirstAnd (g.H.ComponentType.walks v.5) NoTrees)))))) ((λ u. g.A.Lower.gives core.component.types u v.0) ∷ (λ u. g.B.Lower.gives core.component.types u v.1) ∷ (λ u. g.C.Lower.gives core.component.types u v.2) ∷ (λ u. g.E.Lower.gives core.component.types u v.3) ∷ (λ u. g.F.Lower.gives core.component.types u v.4) ∷ (λ u. g.H.Lower.gives core.component.types u v.5) ∷ []) c.requires.fits core 0 0 (g.A.ComponentType.walks v.0) (FirstAnd (g.B.ComponentType.walks v.1) (FirstAnd (g.C.ComponentType.walks v.2) (FirstAnd (g.E.ComponentType.walks v.3) (FirstAnd (g.F.ComponentType.walks v.4) (FirstAnd (g.H.ComponentType.walks v.5) NoTrees))))) (λ u. g.A.Lower.gives core.component.types u v.0) ((λ u. g.B.Lower.gives core.component.types u v.1) ∷ (λ u. g.C.Lower.gives core.component.types u v.2) ∷ (λ u. g.E.Lower.gives core.component.types u v.3) ∷ (λ u. g.F.Lower.gives core.component.types u v.4) ∷ (λ u. g.H.Lower.gives core.component.types u v.5) ∷ []) (omega (arith, count)) w0 c.store_member.new.cx.core.now c.store_member.new.end c.args.cx.now.options (λ i u. g.A.Lower.gives i u v.0) (λ u. refl) refl c.in-Ok.ensures.stores c.in-Ok.ensures.end in
-    let w2 = way_goes L c.args.cx.now.options core c.args.ty c.args.offset (g.A.ComponentType.fits ∷ g.B.ComponentType.fits ∷ g.C.ComponentType.fits ∷ g.E.ComponentType.fits ∷ g.F.ComponentType.fits ∷ g.H.ComponentType.fits ∷ []) (FirstAnd (g.A.ComponentType.walks v.0) (FirstAnd (g.B.ComponentType.walks v.1) (FirstAnd (g.C.ComponentType.walks v.2) (FirstAnd (g.E.ComponentType.walks v.3) (FirstAnd (g.F.ComponentType.walks v.4) (FirstAnd (g.H.ComponentType.walks v.5) NoTrees)))))) ((λ u. g.A.Lower.gives core.component.types u v.0) ∷ (λ u. g.B.Lower.gives core.component.types u v.1) ∷ (λ u. g.C.Lower.gives core.component.types u v.2) ∷ (λ u. g.E.Lower.gives core.component.types u v.3) ∷ (λ u. g.F.Lower.gives core.component.types u v.4) ∷ (λ u. g.H.Lower.gives core.component.types u v.5) ∷ []) c.requires.fits c.store_member.new.cx.core.now 1 c.store_member.new.end (g.B.ComponentType.walks v.1) (FirstAnd (g.C.ComponentType.walks v.2) (FirstAnd (g.E.ComponentType.walks v.3) (FirstAnd (g.F.ComponentType.walks v.4) (FirstAnd (g.H.ComponentType.walks v.5) NoTrees)))) (λ u. g.B.Lower.gives core.component.types u v.1) ((λ u. g.C.Lower.gives core.component.types u v.2) ∷ (λ u. g.E.Lower.gives core.component.types u v.3) ∷ (λ u. g.F.Lower.gives core.component.types u v.4) ∷ (λ u. g.H.Lower.gives core.component.types u v.5) ∷ []) (omega (arith, count)) w1 c.store_member-2.new.cx.core.now c.store_member-2.new.end c.store_member.new.cx.options (λ i u. g.B.Lower.gives i u v.1) (λ u. refl) c.in-Ok.ensures.same_options c.in-Ok-store_member.ensures.stores c.in-Ok-store_member.ensures.end in
-    let w3 = way_goes L c.args.cx.now.options core c.args.ty c.args.offset (g.A.ComponentType.fits ∷ g.B.ComponentType.fits ∷ g.C.ComponentType.fits ∷ g.E.ComponentType.fits ∷ g.F.ComponentType.fits ∷ g.H.ComponentType.fits ∷ []) (FirstAnd (g.A.ComponentType.walks v.0) (FirstAnd (g.B.ComponentType.walks v.1) (FirstAnd (g.C.ComponentType.walks v.2) (FirstAnd (g.E.ComponentType.walks v.3) (FirstAnd (g.F.ComponentType.walks v.4) (FirstAnd (g.H.ComponentType.walks v.5) NoTrees)))))) ((λ u. g.A.Lower.gives core.component.types u v.0) ∷ (λ u. g.B.Lower.gives core.component.types u v.1) ∷ (λ u. g.C.Lower.gives core.component.types u v.2) ∷ (λ u. g.E.Lower.gives core.component.types u v.3) ∷ (λ u. g.F.Lower.gives core.component.types u v.4) ∷ (λ u. g.H.Lower.gives core.component.types u v.5) ∷ []) c.requires.fits c.store_member-2.new.cx.core.now 2 c.store_member-2.new.end (g.C.ComponentType.walks v.2) (FirstAnd (g.E.ComponentType.walks v.3) (FirstAnd (g.F.ComponentType.walks v.4) (FirstAnd (g.H.ComponentType.walks v.5) NoTrees))) (λ u. g.C.Lower.gives core.component.types u v.2) ((λ u. g.E.Lower.gives core.component.types u v.3) ∷ (λ u. g.F.Lower.gives core.component.types u v.4) ∷ (λ u. g.H.Lower.gives core.component.types u v.5) ∷ []) (omega (arith, count)) w2 c.store_member-3.new.cx.core.now c.store_member-3.new.end c.store_member-2.new.cx.options (λ i u. g.C.Lower.gives i u v.2) (λ u. refl) (c.in-Ok-store_member.ensures.same_options ∙ c.in-Ok.ensures.same_options) c.in-Ok-store_member-2.ensures.stores c.in-Ok-store_member-2.ensures.end in
-    let w4 = way_goes L c.args.cx.now.options core c.args.ty c.args.offset (g.A.ComponentType.fits ∷ g.B.ComponentType.fits ∷ g.C.ComponentType.fits ∷ g.E.ComponentType.fits ∷ g.F.ComponentType.fits ∷ g.H.ComponentType.fits ∷ []) (FirstAnd (g.A.ComponentType.walks v.0) (FirstAnd (g.B.ComponentType.walks v.1) (FirstAnd (g.C.ComponentType.walks v.2) (FirstAnd (g.E.ComponentType.walks v.3) (FirstAnd (g.F.ComponentType.walks v.4) (FirstAnd (g.H.ComponentType.walks v.5) NoTrees)))))) ((λ u. g.A.Lower.gives core.component.types u v.0) ∷ (λ u. g.B.Lower.gives core.component.types u v.1) ∷ (λ u. g.C.Lower.gives core.component.types u v.2) ∷ (λ u. g.E.Lower.gives core.component.types u v.3) ∷ (λ u. g.F.Lower.gives core.component.types u v.4) ∷ (λ u. g.H.Lower.gives core.component.types u v.5) ∷ []) c.requires.fits c.store_member-3.new.cx.core.now 3 c.store_member-3.new.end (g.E.ComponentType.walks v.3) (FirstAnd (g.F.ComponentType.walks v.4) (FirstAnd (g.H.ComponentType.walks v.5) NoTrees)) (λ u. g.E.Lower.gives core.component.types u v.3) ((λ u. g.F.Lower.gives core.component.types u v.4) ∷ (λ u. g.H.Lower.gives core.component.types u v.5) ∷ []) (omega (arith, count)) w3 c.store_member-4.new.cx.core.now c.store_member-4.new.end c.store_member-3.new.cx.options (λ i u. g.E.Lower.gives i u v.3) (λ u. refl) (c.in-Ok-store_member-2.ensures.same_options ∙ c.in-Ok-store_member.ensures.same_options ∙ c.in-Ok.ensures.same_options) c.in-Ok-store_member-3.ensures.stores c.in-Ok-store_member-3.ensures.end in
-    way_stops L c.args.cx.now.options core c.args.ty c.args.offset (g.A.ComponentType.fits ∷ g.B.ComponentType.fits ∷ g.C.ComponentType.fits ∷ g.E.ComponentType.fits ∷ g.F.ComponentType.fits ∷ g.H.ComponentType.fits ∷ []) (FirstAnd (g.A.ComponentType.walks v.0) (FirstAnd (g.B.ComponentType.walks v.1) (FirstAnd (g.C.ComponentType.walks v.2) (FirstAnd (g.E.ComponentType.walks v.3) (FirstAnd (g.F.ComponentType.walks v.4) (FirstAnd (g.H.ComponentType.walks v.5) NoTrees)))))) ((λ u. g.A.Lower.gives core.component.types u v.0) ∷ (λ u. g.B.Lower.gives core.component.types u v.1) ∷ (λ u. g.C.Lower.gives core.component.types u v.2) ∷ (λ u. g.E.Lower.gives core.component.types u v.3) ∷ (λ u. g.F.Lower.gives core.component.types u v.4) ∷ (λ u. g.H.Lower.gives core.component.types u v.5) ∷ []) c.requires.fits c.store_member-4.new.cx.core.now 4 c.store_member-4.new.end (g.F.ComponentType.walks v.4) (FirstAnd (g.H.ComponentType.walks v.5) NoTrees) (λ u. g.F.Lower.gives core.component.types u v.4) ((λ u. g.H.Lower.gives core.component.types u v.5) ∷ []) (omega (arith, count)) w4 c.store_member-5.new.cx.core.now c.store_member-4.new.cx.options c.in-Err-store_member-4.fault (λ i u. g.F.Lower.gives i u v.4) (λ u. refl) (c.in-Ok-store_member-3.ensures.same_options ∙ c.in-Ok-store_member-2.ensures.same_options ∙ c.in-Ok-store_member.ensures.same_options ∙ c.in-Ok.ensures.same_options) c.in-Err-store_member-4.ensures.stores
-
-pub store_member-requires-6-clause-room : goal.store_member-requires-6-clause-room
-store_member-requires-6-clause-room g c =
-    let L : GuestLaws _ = record { seen = g.G.Guest.seen; moves = g.G.Guest.moves; stays = g.met.G.Guest.stays; goes_on = g.met.G.Guest.goes_on } in
-    let core = c.args.cx.now.core.now in
-    let v = c.args.self.now in
-    let count = tuple_count (g.A.ComponentType.fits ∷ g.B.ComponentType.fits ∷ g.C.ComponentType.fits ∷ g.E.ComponentType.fits ∷ g.F.ComponentType.fits ∷ g.H.ComponentType.fits ∷ []) core.component.types core.component.types c.args.ty refl c.requires.fits in
-    let w0 = way_begins L c.args.cx.now.options core c.args.ty c.args.offset (g.A.ComponentType.fits ∷ g.B.ComponentType.fits ∷ g.C.ComponentType.fits ∷ g.E.ComponentType.fits ∷ g.F.ComponentType.fits ∷ g.H.ComponentType.fits ∷ []) (FirstAnd (g.A.ComponentType.walks v.0) (FirstAnd (g.B.ComponentType.walks v.1) (FirstAnd (g.C.ComponentType.walks v.2) (FirstAnd (g.E.ComponentType.walks v.3) (FirstAnd (g.F.ComponentType.walks v.4) (FirstAnd (g.H.ComponentType.walks v.5) NoTrees)))))) ((λ u. g.A.Lower.gives core.component.types u v.0) ∷ (λ u. g.B.Lower.gives core.component.types u v.1) ∷ (λ u. g.C.Lower.gives core.component.types u v.2) ∷ (λ u. g.E.Lower.gives core.component.types u v.3) ∷ (λ u. g.F.Lower.gives core.component.types u v.4) ∷ (λ u. g.H.Lower.gives core.component.types u v.5) ∷ []) c.requires.fits c.requires.room in
-    let w1 = way_goes L c.args.cx.now.options core c.args.ty c.args.offset (g.A.ComponentType.fits ∷ g.B.ComponentType.fits ∷ g.C.ComponentType.fits ∷ g.E.ComponentType.fits ∷ g.F.ComponentType.fits ∷ g.H.ComponentType.fits ∷ []) (FirstAnd (g.A.ComponentType.walks v.0) (FirstAnd (g.B.ComponentType.walks v.1) (FirstAnd (g.C.ComponentType.walks v.2) (FirstAnd (g.E.ComponentType.walks v.3) (FirstAnd (g.F.ComponentType.walks v.4) (FirstAnd (g.H.ComponentType.walks v.5) NoTrees)))))) ((λ u. g.A.Lower.gives core.component.types u v.0) ∷ (λ u. g.B.Lower.gives core.component.types u v.1) ∷ (λ u. g.C.Lower.gives core.component.types u v.2) ∷ (λ u. g.E.Lower.gives core.component.types u v.3) ∷ (λ u. g.F.Lower.gives core.component.types u v.4) ∷ (λ u. g.H.Lower.gives core.component.types u v.5) ∷ []) c.requires.fits core 0 0 (g.A.ComponentType.walks v.0) (FirstAnd (g.B.ComponentType.walks v.1) (FirstAnd (g.C.ComponentType.walks v.2) (FirstAnd (g.E.ComponentType.walks v.3) (FirstAnd (g.F.ComponentType.walks v.4) (FirstAnd (g.H.ComponentType.walks v.5) NoTrees))))) (λ u. g.A.Lower.gives core.component.types u v.0) ((λ u. g.B.Lower.gives core.component.types u v.1) ∷ (λ u. g.C.Lower.gives core.component.types u v.2) ∷ (λ u. g.E.Lower.gives core.component.types u v.3) ∷ (λ u. g.F.Lower.gives core.component.types u v.4) ∷ (λ u. g.H.Lower.gives core.component.types u v.5) ∷ []) (omega (arith, count)) w0 c.store_member.new.cx.core.now c.store_member.new.end c.args.cx.now.options (λ i u. g.A.Lower.gives i u v.0) (λ u. refl) refl c.in-Ok.ensures.stores c.in-Ok.ensures.end in
-    let w2 = way_goes L c.args.cx.now.options core c.args.ty c.args.offset (g.A.ComponentType.fits ∷ g.B.ComponentType.fits ∷ g.C.ComponentType.fits ∷ g.E.ComponentType.fits ∷ g.F.ComponentType.fits ∷ g.H.ComponentType.fits ∷ []) (FirstAnd (g.A.ComponentType.walks v.0) (FirstAnd (g.B.ComponentType.walks v.1) (FirstAnd (g.C.ComponentType.walks v.2) (FirstAnd (g.E.ComponentType.walks v.3) (FirstAnd (g.F.ComponentType.walks v.4) (FirstAnd (g.H.ComponentType.walks v.5) NoTrees)))))) ((λ u. g.A.Lower.gives core.component.types u v.0) ∷ (λ u. g.B.Lower.gives core.component.types u v.1) ∷ (λ u. g.C.Lower.gives core.component.types u v.2) ∷ (λ u. g.E.Lower.gives core.component.types u v.3) ∷ (λ u. g.F.Lower.gives core.component.types u v.4) ∷ (λ u. g.H.Lower.gives core.component.types u v.5) ∷ []) c.requires.fits c.store_member.new.cx.core.now 1 c.store_member.new.end (g.B.ComponentType.walks v.1) (FirstAnd (g.C.ComponentType.walks v.2) (FirstAnd (g.E.ComponentType.walks v.3) (FirstAnd (g.F.ComponentType.walks v.4) (FirstAnd (g.H.ComponentType.walks v.5) NoTrees)))) (λ u. g.B.Lower.gives core.component.types u v.1) ((λ u. g.C.Lower.gives core.component.types u v.2) ∷ (λ u. g.E.Lower.gives core.component.types u v.3) ∷ (λ u. g.F.Lower.gives core.component.types u v.4) ∷ (λ u. g.H.Lower.gives core.component.types u v.5) ∷ []) (omega (arith, count)) w1 c.store_member-2.new.cx.core.now c.store_member-2.new.end c.store_member.new.cx.options (λ i u. g.B.Lower.gives i u v.1) (λ u. refl) c.in-Ok.ensures.same_options c.in-Ok-store_member.ensures.stores c.in-Ok-store_member.ensures.end in
-    let w3 = way_goes L c.args.cx.now.options core c.args.ty c.args.offset (g.A.ComponentType.fits ∷ g.B.ComponentType.fits ∷ g.C.ComponentType.fits ∷ g.E.ComponentType.fits ∷ g.F.ComponentType.fits ∷ g.H.ComponentType.fits ∷ []) (FirstAnd (g.A.ComponentType.walks v.0) (FirstAnd (g.B.ComponentType.walks v.1) (FirstAnd (g.C.ComponentType.walks v.2) (FirstAnd (g.E.ComponentType.walks v.3) (FirstAnd (g.F.ComponentType.walks v.4) (FirstAnd (g.H.ComponentType.walks v.5) NoTrees)))))) ((λ u. g.A.Lower.gives core.component.types u v.0) ∷ (λ u. g.B.Lower.gives core.component.types u v.1) ∷ (λ u. g.C.Lower.gives core.component.types u v.2) ∷ (λ u. g.E.Lower.gives core.component.types u v.3) ∷ (λ u. g.F.Lower.gives core.component.types u v.4) ∷ (λ u. g.H.Lower.gives core.component.types u v.5) ∷ []) c.requires.fits c.store_member-2.new.cx.core.now 2 c.store_member-2.new.end (g.C.ComponentType.walks v.2) (FirstAnd (g.E.ComponentType.walks v.3) (FirstAnd (g.F.ComponentType.walks v.4) (FirstAnd (g.H.ComponentType.walks v.5) NoTrees))) (λ u. g.C.Lower.gives core.component.types u v.2) ((λ u. g.E.Lower.gives core.component.types u v.3) ∷ (λ u. g.F.Lower.gives core.component.types u v.4) ∷ (λ u. g.H.Lower.gives core.component.types u v.5) ∷ []) (omega (arith, count)) w2 c.store_member-3.new.cx.core.now c.store_member-3.new.end c.store_member-2.new.cx.options (λ i u. g.C.Lower.gives i u v.2) (λ u. refl) (c.in-Ok-store_member.ensures.same_options ∙ c.in-Ok.ensures.same_options) c.in-Ok-store_member-2.ensures.stores c.in-Ok-store_member-2.ensures.end in
-    let w4 = way_goes L c.args.cx.now.options core c.args.ty c.args.offset (g.A.ComponentType.fits ∷ g.B.ComponentType.fits ∷ g.C.ComponentType.fits ∷ g.E.ComponentType.fits ∷ g.F.ComponentType.fits ∷ g.H.ComponentType.fits ∷ []) (FirstAnd (g.A.ComponentType.walks v.0) (FirstAnd (g.B.ComponentType.walks v.1) (FirstAnd (g.C.ComponentType.walks v.2) (FirstAnd (g.E.ComponentType.walks v.3) (FirstAnd (g.F.ComponentType.walks v.4) (FirstAnd (g.H.ComponentType.walks v.5) NoTrees)))))) ((λ u. g.A.Lower.gives core.component.types u v.0) ∷ (λ u. g.B.Lower.gives core.component.types u v.1) ∷ (λ u. g.C.Lower.gives core.component.types u v.2) ∷ (λ u. g.E.Lower.gives core.component.types u v.3) ∷ (λ u. g.F.Lower.gives core.component.types u v.4) ∷ (λ u. g.H.Lower.gives core.component.types u v.5) ∷ []) c.requires.fits c.store_member-3.new.cx.core.now 3 c.store_member-3.new.end (g.E.ComponentType.walks v.3) (FirstAnd (g.F.ComponentType.walks v.4) (FirstAnd (g.H.ComponentType.walks v.5) NoTrees)) (λ u. g.E.Lower.gives core.component.types u v.3) ((λ u. g.F.Lower.gives core.component.types u v.4) ∷ (λ u. g.H.Lower.gives core.component.types u v.5) ∷ []) (omega (arith, count)) w3 c.store_member-4.new.cx.core.now c.store_member-4.new.end c.store_member-3.new.cx.options (λ i u. g.E.Lower.gives i u v.3) (λ u. refl) (c.in-Ok-store_member-2.ensures.same_options ∙ c.in-Ok-store_member.ensures.same_options ∙ c.in-Ok.ensures.same_options) c.in-Ok-store_member-3.ensures.stores c.in-Ok-store_member-3.ensures.end in
-    let w5 = way_goes L c.args.cx.now.options core c.args.ty c.args.offset (g.A.ComponentType.fits ∷ g.B.ComponentType.fits ∷ g.C.ComponentType.fits ∷ g.E.ComponentType.fits ∷ g.F.ComponentType.fits ∷ g.H.ComponentType.fits ∷ []) (FirstAnd (g.A.ComponentType.walks v.0) (FirstAnd (g.B.ComponentType.walks v.1) (FirstAnd (g.C.ComponentType.walks v.2) (FirstAnd (g.E.ComponentType.walks v.3) (FirstAnd (g.F.ComponentType.walks v.4) (FirstAnd (g.H.ComponentType.walks v.5) NoTrees)))))) ((λ u. g.A.Lower.gives core.component.types u v.0) ∷ (λ u. g.B.Lower.gives core.component.types u v.1) ∷ (λ u. g.C.Lower.gives core.component.types u v.2) ∷ (λ u. g.E.Lower.gives core.component.types u v.3) ∷ (λ u. g.F.Lower.gives core.component.types u v.4) ∷ (λ u. g.H.Lower.gives core.component.types u v.5) ∷ []) c.requires.fits c.store_member-4.new.cx.core.now 4 c.store_member-4.new.end (g.F.ComponentType.walks v.4) (FirstAnd (g.H.ComponentType.walks v.5) NoTrees) (λ u. g.F.Lower.gives core.component.types u v.4) ((λ u. g.H.Lower.gives core.component.types u v.5) ∷ []) (omega (arith, count)) w4 c.store_member-5.new.cx.core.now c.store_member-5.new.end c.store_member-4.new.cx.options (λ i u. g.F.Lower.gives i u v.4) (λ u. refl) (c.in-Ok-store_member-3.ensures.same_options ∙ c.in-Ok-store_member-2.ensures.same_options ∙ c.in-Ok-store_member.ensures.same_options ∙ c.in-Ok.ensures.same_options) c.in-Ok-store_member-4.ensures.stores c.in-Ok-store_member-4.ensures.end in
-    way_room L c.args.cx.now.options core c.args.ty c.args.offset (g.A.ComponentType.fits ∷ g.B.ComponentType.fits ∷ g.C.ComponentType.fits ∷ g.E.ComponentType.fits ∷ g.F.ComponentType.fits ∷ g.H.ComponentType.fits ∷ []) (FirstAnd (g.A.ComponentType.walks v.0) (FirstAnd (g.B.ComponentType.walks v.1) (FirstAnd (g.C.ComponentType.walks v.2) (FirstAnd (g.E.ComponentType.walks v.3) (FirstAnd (g.F.ComponentType.walks v.4) (FirstAnd (g.H.ComponentType.walks v.5) NoTrees)))))) ((λ u. g.A.Lower.gives core.component.types u v.0) ∷ (λ u. g.B.Lower.gives core.component.types u v.1) ∷ (λ u. g.C.Lower.gives core.component.types u v.2) ∷ (λ u. g.E.Lower.gives core.component.types u v.3) ∷ (λ u. g.F.Lower.gives core.component.types u v.4) ∷ (λ u. g.H.Lower.gives core.component.types u v.5) ∷ []) c.requires.fits c.store_member-5.new.cx.core.now 5 c.store_member-5.new.end (g.H.ComponentType.walks v.5) NoTrees (λ u. g.H.Lower.gives core.component.types u v.5) [] (omega (arith, count)) w5
+    let a = c.args in
+    tuple_room L a.cx.now.options a.cx.now.core.now a.ty
+    (g.A.ComponentType.fits ∷ g.B.ComponentType.fits ∷ g.C.ComponentType.fits ∷ g.E.ComponentType.fits ∷ g.F.ComponentType.fits ∷ g.H.ComponentType.fits ∷ []) c.requires.fits a.offset c.requires.room
 
 pub returns-clause-stores : goal.returns-clause-stores
 returns-clause-stores g c =
     let L : GuestLaws _ = record { seen = g.G.Guest.seen; moves = g.G.Guest.moves; stays = g.met.G.Guest.stays; goes_on = g.met.G.Guest.goes_on } in
-    let core = c.args.cx.now.core.now in
-    let v = c.args.self.now in
-    let count = tuple_count (g.A.ComponentType.fits ∷ g.B.ComponentType.fits ∷ g.C.ComponentType.fits ∷ g.E.ComponentType.fits ∷ g.F.ComponentType.fits ∷ g.H.ComponentType.fits ∷ []) core.component.types core.component.types c.args.ty refl c.requires.fits in
-    let w0 = way_begins L c.args.cx.now.options core c.args.ty c.args.offset (g.A.ComponentType.fits ∷ g.B.ComponentType.fits ∷ g.C.ComponentType.fits ∷ g.E.ComponentType.fits ∷ g.F.ComponentType.fits ∷ g.H.ComponentType.fits ∷ []) (FirstAnd (g.A.ComponentType.walks v.0) (FirstAnd (g.B.ComponentType.walks v.1) (FirstAnd (g.C.ComponentType.walks v.2) (FirstAnd (g.E.ComponentType.walks v.3) (FirstAnd (g.F.ComponentType.walks v.4) (FirstAnd (g.H.ComponentType.walks v.5) NoTrees)))))) ((λ u. g.A.Lower.gives core.component.types u v.0) ∷ (λ u. g.B.Lower.gives core.component.types u v.1) ∷ (λ u. g.C.Lower.gives core.component.types u v.2) ∷ (λ u. g.E.Lower.gives core.component.types u v.3) ∷ (λ u. g.F.Lower.gives core.component.types u v.4) ∷ (λ u. g.H.Lower.gives core.component.types u v.5) ∷ []) c.requires.fits c.requires.room in
-    let w1 = way_goes L c.args.cx.now.options core c.args.ty c.args.offset (g.A.ComponentType.fits ∷ g.B.ComponentType.fits ∷ g.C.ComponentType.fits ∷ g.E.ComponentType.fits ∷ g.F.ComponentType.fits ∷ g.H.ComponentType.fits ∷ []) (FirstAnd (g.A.ComponentType.walks v.0) (FirstAnd (g.B.ComponentType.walks v.1) (FirstAnd (g.C.ComponentType.walks v.2) (FirstAnd (g.E.ComponentType.walks v.3) (FirstAnd (g.F.ComponentType.walks v.4) (FirstAnd (g.H.ComponentType.walks v.5) NoTrees)))))) ((λ u. g.A.Lower.gives core.component.types u v.0) ∷ (λ u. g.B.Lower.gives core.component.types u v.1) ∷ (λ u. g.C.Lower.gives core.component.types u v.2) ∷ (λ u. g.E.Lower.gives core.component.types u v.3) ∷ (λ u. g.F.Lower.gives core.component.types u v.4) ∷ (λ u. g.H.Lower.gives core.component.types u v.5) ∷ []) c.requires.fits core 0 0 (g.A.ComponentType.walks v.0) (FirstAnd (g.B.ComponentType.walks v.1) (FirstAnd (g.C.ComponentType.walks v.2) (FirstAnd (g.E.ComponentType.walks v.3) (FirstAnd (g.F.ComponentType.walks v.4) (FirstAnd (g.H.ComponentType.walks v.5) NoTrees))))) (λ u. g.A.Lower.gives core.component.types u v.0) ((λ u. g.B.Lower.gives core.component.types u v.1) ∷ (λ u. g.C.Lower.gives core.component.types u v.2) ∷ (λ u. g.E.Lower.gives core.component.types u v.3) ∷ (λ u. g.F.Lower.gives core.component.types u v.4) ∷ (λ u. g.H.Lower.gives core.component.types u v.5) ∷ []) (omega (arith, count)) w0 c.store_member.new.cx.core.now c.store_member.new.end c.args.cx.now.options (λ i u. g.A.Lower.gives i u v.0) (λ u. refl) refl c.in-Ok.ensures.stores c.in-Ok.ensures.end in
-    let w2 = way_goes L c.args.cx.now.options core c.args.ty c.args.offset (g.A.ComponentType.fits ∷ g.B.ComponentType.fits ∷ g.C.ComponentType.fits ∷ g.E.ComponentType.fits ∷ g.F.ComponentType.fits ∷ g.H.ComponentType.fits ∷ []) (FirstAnd (g.A.ComponentType.walks v.0) (FirstAnd (g.B.ComponentType.walks v.1) (FirstAnd (g.C.ComponentType.walks v.2) (FirstAnd (g.E.ComponentType.walks v.3) (FirstAnd (g.F.ComponentType.walks v.4) (FirstAnd (g.H.ComponentType.walks v.5) NoTrees)))))) ((λ u. g.A.Lower.gives core.component.types u v.0) ∷ (λ u. g.B.Lower.gives core.component.types u v.1) ∷ (λ u. g.C.Lower.gives core.component.types u v.2) ∷ (λ u. g.E.Lower.gives core.component.types u v.3) ∷ (λ u. g.F.Lower.gives core.component.types u v.4) ∷ (λ u. g.H.Lower.gives core.component.types u v.5) ∷ []) c.requires.fits c.store_member.new.cx.core.now 1 c.store_member.new.end (g.B.ComponentType.walks v.1) (FirstAnd (g.C.ComponentType.walks v.2) (FirstAnd (g.E.ComponentType.walks v.3) (FirstAnd (g.F.ComponentType.walks v.4) (FirstAnd (g.H.ComponentType.walks v.5) NoTrees)))) (λ u. g.B.Lower.gives core.component.types u v.1) ((λ u. g.C.Lower.gives core.component.types u v.2) ∷ (λ u. g.E.Lower.gives core.component.types u v.3) ∷ (λ u. g.F.Lower.gives core.component.types u v.4) ∷ (λ u. g.H.Lower.gives core.component.types u v.5) ∷ []) (omega (arith, count)) w1 c.store_member-2.new.cx.core.now c.store_member-2.new.end c.store_member.new.cx.options (λ i u. g.B.Lower.gives i u v.1) (λ u. refl) c.in-Ok.ensures.same_options c.in-Ok-store_member.ensures.stores c.in-Ok-store_member.ensures.end in
-    let w3 = way_goes L c.args.cx.now.options core c.args.ty c.args.offset (g.A.ComponentType.fits ∷ g.B.ComponentType.fits ∷ g.C.ComponentType.fits ∷ g.E.ComponentType.fits ∷ g.F.ComponentType.fits ∷ g.H.ComponentType.fits ∷ []) (FirstAnd (g.A.ComponentType.walks v.0) (FirstAnd (g.B.ComponentType.walks v.1) (FirstAnd (g.C.ComponentType.walks v.2) (FirstAnd (g.E.ComponentType.walks v.3) (FirstAnd (g.F.ComponentType.walks v.4) (FirstAnd (g.H.ComponentType.walks v.5) NoTrees)))))) ((λ u. g.A.Lower.gives core.component.types u v.0) ∷ (λ u. g.B.Lower.gives core.component.types u v.1) ∷ (λ u. g.C.Lower.gives core.component.types u v.2) ∷ (λ u. g.E.Lower.gives core.component.types u v.3) ∷ (λ u. g.F.Lower.gives core.component.types u v.4) ∷ (λ u. g.H.Lower.gives core.component.types u v.5) ∷ []) c.requires.fits c.store_member-2.new.cx.core.now 2 c.store_member-2.new.end (g.C.ComponentType.walks v.2) (FirstAnd (g.E.ComponentType.walks v.3) (FirstAnd (g.F.ComponentType.walks v.4) (FirstAnd (g.H.ComponentType.walks v.5) NoTrees))) (λ u. g.C.Lower.gives core.component.types u v.2) ((λ u. g.E.Lower.gives core.component.types u v.3) ∷ (λ u. g.F.Lower.gives core.component.types u v.4) ∷ (λ u. g.H.Lower.gives core.component.types u v.5) ∷ []) (omega (arith, count)) w2 c.store_member-3.new.cx.core.now c.store_member-3.new.end c.store_member-2.new.cx.options (λ i u. g.C.Lower.gives i u v.2) (λ u. refl) (c.in-Ok-store_member.ensures.same_options ∙ c.in-Ok.ensures.same_options) c.in-Ok-store_member-2.ensures.stores c.in-Ok-store_member-2.ensures.end in
-    let w4 = way_goes L c.args.cx.now.options core c.args.ty c.args.offset (g.A.ComponentType.fits ∷ g.B.ComponentType.fits ∷ g.C.ComponentType.fits ∷ g.E.ComponentType.fits ∷ g.F.ComponentType.fits ∷ g.H.ComponentType.fits ∷ []) (FirstAnd (g.A.ComponentType.walks v.0) (FirstAnd (g.B.ComponentType.walks v.1) (FirstAnd (g.C.ComponentType.walks v.2) (FirstAnd (g.E.ComponentType.walks v.3) (FirstAnd (g.F.ComponentType.walks v.4) (FirstAnd (g.H.ComponentType.walks v.5) NoTrees)))))) ((λ u. g.A.Lower.gives core.component.types u v.0) ∷ (λ u. g.B.Lower.gives core.component.types u v.1) ∷ (λ u. g.C.Lower.gives core.component.types u v.2) ∷ (λ u. g.E.Lower.gives core.component.types u v.3) ∷ (λ u. g.F.Lower.gives core.component.types u v.4) ∷ (λ u. g.H.Lower.gives core.component.types u v.5) ∷ []) c.requires.fits c.store_member-3.new.cx.core.now 3 c.store_member-3.new.end (g.E.ComponentType.walks v.3) (FirstAnd (g.F.ComponentType.walks v.4) (FirstAnd (g.H.ComponentType.walks v.5) NoTrees)) (λ u. g.E.Lower.gives core.component.types u v.3) ((λ u. g.F.Lower.gives core.component.types u v.4) ∷ (λ u. g.H.Lower.gives core.component.types u v.5) ∷ []) (omega (arith, count)) w3 c.store_member-4.new.cx.core.now c.store_member-4.new.end c.store_member-3.new.cx.options (λ i u. g.E.Lower.gives i u v.3) (λ u. refl) (c.in-Ok-store_member-2.ensures.same_options ∙ c.in-Ok-store_member.ensures.same_options ∙ c.in-Ok.ensures.same_options) c.in-Ok-store_member-3.ensures.stores c.in-Ok-store_member-3.ensures.end in
-    let w5 = way_goes L c.args.cx.now.options core c.args.ty c.args.offset (g.A.ComponentType.fits ∷ g.B.ComponentType.fits ∷ g.C.ComponentType.fits ∷ g.E.ComponentType.fits ∷ g.F.ComponentType.fits ∷ g.H.ComponentType.fits ∷ []) (FirstAnd (g.A.ComponentType.walks v.0) (FirstAnd (g.B.ComponentType.walks v.1) (FirstAnd (g.C.ComponentType.walks v.2) (FirstAnd (g.E.ComponentType.walks v.3) (FirstAnd (g.F.ComponentType.walks v.4) (FirstAnd (g.H.ComponentType.walks v.5) NoTrees)))))) ((λ u. g.A.Lower.gives core.component.types u v.0) ∷ (λ u. g.B.Lower.gives core.component.types u v.1) ∷ (λ u. g.C.Lower.gives core.component.types u v.2) ∷ (λ u. g.E.Lower.gives core.component.types u v.3) ∷ (λ u. g.F.Lower.gives core.component.types u v.4) ∷ (λ u. g.H.Lower.gives core.component.types u v.5) ∷ []) c.requires.fits c.store_member-4.new.cx.core.now 4 c.store_member-4.new.end (g.F.ComponentType.walks v.4) (FirstAnd (g.H.ComponentType.walks v.5) NoTrees) (λ u. g.F.Lower.gives core.component.types u v.4) ((λ u. g.H.Lower.gives core.component.types u v.5) ∷ []) (omega (arith, count)) w4 c.store_member-5.new.cx.core.now c.store_member-5.new.end c.store_member-4.new.cx.options (λ i u. g.F.Lower.gives i u v.4) (λ u. refl) (c.in-Ok-store_member-3.ensures.same_options ∙ c.in-Ok-store_member-2.ensures.same_options ∙ c.in-Ok-store_member.ensures.same_options ∙ c.in-Ok.ensures.same_options) c.in-Ok-store_member-4.ensures.stores c.in-Ok-store_member-4.ensures.end in
-    way_last L c.args.cx.now.options core c.args.ty c.args.offset (g.A.ComponentType.fits ∷ g.B.ComponentType.fits ∷ g.C.ComponentType.fits ∷ g.E.ComponentType.fits ∷ g.F.ComponentType.fits ∷ g.H.ComponentType.fits ∷ []) (FirstAnd (g.A.ComponentType.walks v.0) (FirstAnd (g.B.ComponentType.walks v.1) (FirstAnd (g.C.ComponentType.walks v.2) (FirstAnd (g.E.ComponentType.walks v.3) (FirstAnd (g.F.ComponentType.walks v.4) (FirstAnd (g.H.ComponentType.walks v.5) NoTrees)))))) ((λ u. g.A.Lower.gives core.component.types u v.0) ∷ (λ u. g.B.Lower.gives core.component.types u v.1) ∷ (λ u. g.C.Lower.gives core.component.types u v.2) ∷ (λ u. g.E.Lower.gives core.component.types u v.3) ∷ (λ u. g.F.Lower.gives core.component.types u v.4) ∷ (λ u. g.H.Lower.gives core.component.types u v.5) ∷ []) c.requires.fits c.store_member-5.new.cx.core.now c.store_member-6.new.cx.core.now 5 c.store_member-5.new.end c.store_member-5.new.cx.options (g.H.ComponentType.walks v.5) (λ u. g.H.Lower.gives core.component.types u v.5) c.store_member-6.result (omega (arith, count)) (omega (arith, count)) w5 (λ i u. g.H.Lower.gives i u v.5) (λ u. refl) (c.in-Ok-store_member-4.ensures.same_options ∙ c.in-Ok-store_member-3.ensures.same_options ∙ c.in-Ok-store_member-2.ensures.same_options ∙ c.in-Ok-store_member.ensures.same_options ∙ c.in-Ok.ensures.same_options) c.store_member-6.ensures.stores
+    let a = c.args in
+    let low = c.store_members in
+    tuple_stored L a.cx.now.options a.cx.now.core.now a.ty
+    (g.A.ComponentType.fits ∷ g.B.ComponentType.fits ∷ g.C.ComponentType.fits ∷ g.E.ComponentType.fits ∷ g.F.ComponentType.fits ∷ g.H.ComponentType.fits ∷ []) c.requires.fits
+    a.offset c.requires.room low.new.cx.core.now _ _ low.result low.ensures.stores
