@@ -1,5 +1,5 @@
 -- Cases with payloads: where a payload stands, and what comes of it.
-use Rattle.std.proofs.Common.{◌≡◌, ◌≤◌, ◌<◌, ◌+◌, ◌%◌, ◌==◌, ◌||◌, ◌∙◌, Bool, Err, List, None, Ok, Option, Result, Some, [], ap, arith, eq-eqb, false, inl, inr, length, refl, subst, suc, sym, true, ℕ}
+use Rattle.std.proofs.Common.{◌≡◌, ◌≤◌, ◌<◌, ◌+◌, ◌%◌, ◌==◌, ◌||◌, ◌∙◌, Bool, List, ap, arith, eq-eqb, false, inl, inr, length, refl, subst, sym, true, ℕ}
 use Rattle.std.proofs.lemmas.Bool.{cond-false, cond-true}
 use Rattle.canon_abi.specs.Abi.{HasInfo}
 use Rattle.canon_abi.specs.Sizes.{tag_bytes}
@@ -12,14 +12,14 @@ use Rattle.canon_ledger.specs.Ledger.{LedgerState}
 use Rattle.canon_lowering.specs.Storing.{narrow}
 use Rattle.canon_model.proofs.Layouts.{payloads_fit, tag-le-size, variant_room}
 use Rattle.canon_model.specs.Layout.{align, payload_offset, payload_shape, size}
-use Rattle.canon_model.specs.Memory.{Memory, num, tag_at}
+use Rattle.canon_model.specs.Memory.{num}
 use Rattle.canon_model.specs.Reach as reach
 use Rattle.canon_model.specs.Reach.{Kind, no_case}
 use Rattle.canon_model.specs.Shape.{Cases, Shape, VariantKind, case_count, variant}
 use Rattle.canon_types.specs.Depth.{variant_cases}
-use Rattle.canon_lift.specs.Reading.{Lifts, NamedBy, Reading, Refused, Setting, stop_of}
-use Rattle.canon_lift.specs.Readings.{CaseReads, CasesFault, cases_reach, cases_reading, cases_steps}
-use Rattle.canon_lift.specs.Spots.{HasRoom, Spot, at_of, flat_in, payload_spot, stored, tag_in}
+use Rattle.canon_lift.specs.Reading.{NamedBy, Reading, Refused, Setting, stop_of}
+use Rattle.canon_lift.specs.Readings.{CasesFault, cases_reach, cases_reading, cases_steps}
+use Rattle.canon_lift.specs.Spots.{Spot, at_of, flat_in, payload_spot, stored, tag_in}
 use Rattle.canon_lift.proofs.Refusals.{named_by, refused_before, refused_by}
 
 -- ---- the bytes of a discriminant and of a payload

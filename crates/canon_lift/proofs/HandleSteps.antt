@@ -1,13 +1,11 @@
 -- Handles through the ledger, one by one.
-use Rattle.std.proofs.Common.{◌≡◌, ◌≤◌, ◌<◌, ◌+◌, ◌∙◌, Bool, Err, List, None, Ok, Option, Result, Some, [], ◌∷◌, ap, arith, false, inl, inr, length, refl, subst, sym, true, ℕ}
+use Rattle.std.proofs.Common.{◌≡◌, ◌≤◌, ◌<◌, ◌+◌, Err, List, Ok, Option, Result, [], ◌∷◌, ap, arith, false, inl, inr, length, refl, subst, sym, ℕ}
 use Rattle.canon_context.proofs.LedgerSteps.{partway_after, through_after}
-use Rattle.canon_context.specs.Core.{Parts, types_of}
 use Rattle.canon_context.specs.Faults.{resource_fault}
 use Rattle.canon_context.specs.Lifter.{IsAfterSteps}
 use Rattle.canon_context.specs.Told.{LiftBlames}
 use Rattle.canon_context.specs.declared.fault.At.{At as Place}
 use Rattle.canon_context.specs.declared.fault.Fault.{Fault}
-use Rattle.canon_context.specs.declared.fault.Fault.TheVariants as fault
 use Rattle.canon_leaves.proofs.Leaves.{leaves_one, leaves_stop_one}
 use Rattle.canon_leaves.proofs.Through.{leaves_partway, leaves_through}
 use Rattle.canon_leaves.specs.Parts.{LeafLifts, LeafTakes, LeavesStop, Part, Stops, lift_parts, refusal_of}
@@ -15,10 +13,9 @@ use Rattle.canon_leaves.specs.Steps.{leaves_steps}
 use Rattle.canon_ledger.specs.Ledger.{LedgerState}
 use Rattle.canon_ledger.specs.declared.fault.ResourceFault.{ResourceFault}
 use Rattle.canon_ledger.specs.declared.fault.ResourceFault.TheVariants as resource
-use Rattle.canon_lowering.specs.Storing.{narrow}
 use Rattle.canon_model.specs.Layout.{size}
 use Rattle.canon_model.specs.Leaves.{Leaf}
-use Rattle.canon_model.specs.Memory.{Memory, num}
+use Rattle.canon_model.specs.Memory.{Memory}
 use Rattle.canon_model.specs.Reach.{Kind}
 use Rattle.canon_model.specs.Shape.{Shape}
 use Rattle.canon_resources.specs.Held.{Any}
@@ -29,7 +26,7 @@ use Rattle.canon_types.specs.declared.types.InterfaceType.TheVariants as ty
 use Rattle.canon_typed.specs.Types.{IsHandleType}
 use Rattle.canon_lift.specs.Handles.{HandleLifts, IsRefusal, any_reading, leaf_at, leaf_of}
 use Rattle.canon_lift.specs.Reading.{Lifts, NamedBy, Setting, stop_of}
-use Rattle.canon_lift.specs.Spots.{HasRoom, Spot, handle_in, stored}
+use Rattle.canon_lift.specs.Spots.{HasRoom, Spot, handle_in}
 
 -- what was done to the ledger
 pub took_steps : (l n : LedgerState) (ps : List Part) (h : ℕ) → LeafTakes l ps h n → IsAfterSteps l n
@@ -59,7 +56,7 @@ is_refusal resource.GenerationExhausted = inr (_, refl, refl)
 is_refusal resource.BorrowsRemain = inr (_, refl, refl)
 is_refusal resource.NoScope = inr (_, refl, refl)
 
-stops_so : (e : ResourceFault) → stop_of (resource_fault e) ≡ refusal_of e
+pub stops_so : (e : ResourceFault) → stop_of (resource_fault e) ≡ refusal_of e
 stops_so resource.OutOfMemory = refl
 stops_so (resource.UnknownHandle k) = refl
 stops_so (resource.NotAResource k) = refl
@@ -89,13 +86,13 @@ handle_bytes t _ f = absurd f
 pub handle_room : (t : Instance) (type : InterfaceType) (bytes memory : List ℕ) (at : ℕ) → IsHandleType t type → at + size false (shape_of t.types type) ≤ length memory → bytes ≡ memory → at + 4 ≤ length bytes
 handle_room t type bytes memory at f inside same = omega (arith, inside, handle_bytes t type f, ap length same)
 
-same_leaf : (t : Instance) (m : Memory) (at : Spot) (type : InterfaceType) (n : ℕ) → IsHandleType t type → n ≡ handle_in m at → leaf_of type n ≡ leaf_at m at (shape_of t.types type)
+pub same_leaf : (t : Instance) (m : Memory) (at : Spot) (type : InterfaceType) (n : ℕ) → IsHandleType t type → n ≡ handle_in m at → leaf_of type n ≡ leaf_at m at (shape_of t.types type)
 same_leaf t m at (ty.Own r) n f e = ap (λ k. leaf_of (ty.Own r) k) e
 same_leaf t m at (ty.Borrow r) n f e = ap (λ k. leaf_of (ty.Borrow r) k) e
 same_leaf t m at _ n f e = absurd f
 
 -- a refusal of the ledger blames no place
-blames_none : (F : Kind → Place → Type 0) (Low : Type 0) (e : Fault) → IsRefusal e → LiftBlames F Low e
+pub blames_none : (F : Kind → Place → Type 0) (Low : Type 0) (e : Fault) → IsRefusal e → LiftBlames F Low e
 blames_none F Low e (inl is) = subst (λ x. LiftBlames F Low x) (sym is) tt
 blames_none F Low e (inr (r, is, as_is)) = subst (λ x. LiftBlames F Low x) (sym is) as_is
 

@@ -10,3 +10,7 @@ pub mod PairLifting
 pub mod MapLifting
 pub mod HandleSteps
 pub mod WordRooms
+pub mod TextViews
+pub mod IntegerRows
+pub mod Exactness
+pub mod HostSteps

@@ -1,5 +1,5 @@
 -- Maps and vectors, from the items of their lists.
-use Rattle.std.proofs.Common.{◌≡◌, ◌≤◌, ◌<◌, ◌+◌, ◌*◌, ◌%◌, ◌==◌, ◌∙◌, Bool, Err, List, Ok, Result, ap, arith, eq-eqb, false, if◌then◌else◌, inr, le-leb, length, refl, subst, sym, true, Vec, ℕ}
+use Rattle.std.proofs.Common.{◌≡◌, ◌+◌, ◌*◌, ◌%◌, ◌==◌, ◌∙◌, Bool, Err, List, Ok, Result, ap, arith, eq-eqb, if◌then◌else◌, inr, le-leb, refl, subst, sym, Vec, ℕ}
 use Rattle.std.proofs.lemmas.Bool.{and_from, cond-true}
 use Rattle.std.specs.HashMap.{HashMap}
 use Rattle.std.specs.declared.alloc.Global.{Global}
@@ -17,8 +17,8 @@ use Rattle.canon_types.specs.declared.types.InterfaceType.{InterfaceType}
 use Rattle.canon_lift.specs.Items.{vec_reading}
 use Rattle.canon_lift.specs.MapsOfTrees.{map_reading, pair_reading, pairs_reading}
 use Rattle.canon_lift.specs.Ranges.{IsListThere, list_range_reach}
-use Rattle.canon_lift.specs.Reading.{Lifts, Reading, Refused, Setting, setting_in, stop_of}
-use Rattle.canon_lift.specs.Readings.{EachFault, IsGoodList, each_reach, each_steps, list_reading, read_as}
+use Rattle.canon_lift.specs.Reading.{Lifts, Reading, Setting, setting_in, stop_of}
+use Rattle.canon_lift.specs.Readings.{IsGoodList, each_reach, each_steps, list_reading, read_as}
 use Rattle.canon_lift.specs.Spots.{HasRoom, Spot, length_in, pointer_in, stored}
 use Rattle.canon_lift.specs.declared.wasm_list.WasmList.{WasmList}
 use Rattle.canon_lift.proofs.Refusals.{named_in, refused_by}

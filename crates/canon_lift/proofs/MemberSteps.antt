@@ -1,5 +1,5 @@
 -- The members of a tuple, lifted one after another.
-use Rattle.std.proofs.Common.{◌≡◌, ◌≤◌, ◌<◌, ◌+◌, ◌%◌, ◌^◌, ◌||◌, ◌++◌, ◌∙◌, Bool, Err, List, Ok, Result, [], ◌∷◌, ap, arith, drop, false, inl, inr, length, max, refl, subst, suc, sym, true, zero, ℕ}
+use Rattle.std.proofs.Common.{◌≡◌, ◌≤◌, ◌<◌, ◌+◌, ◌%◌, ◌^◌, ◌∙◌, List, Ok, Result, [], ◌∷◌, ap, arith, drop, false, inl, inr, length, subst, suc, sym, zero, ℕ}
 use Rattle.std.proofs.Math.Nat.{dvd-add}
 use Rattle.std.proofs.lemmas.Nat.Gcd.{dvd_of_mod-eq-zero, dvd_trans, mod-eq-zero_of_dvd}
 use Rattle.std.specs.Prelude.{slice_index_or}
@@ -8,12 +8,10 @@ use Rattle.canon_abi.specs.declared.abi.CanonicalAbiInfo.{CanonicalAbiInfo}
 use Rattle.canon_context.specs.Core.{Parts, types_of}
 use Rattle.canon_context.specs.declared.fault.At.{At as Place}
 use Rattle.canon_context.specs.declared.fault.Fault.{Fault}
-use Rattle.canon_leaves.specs.Parts.{LeavesStop, Part}
 use Rattle.canon_ledger.specs.Ledger.{LedgerState}
 use Rattle.canon_model.proofs.Layouts.{align-dvd-align, align_to-dvd, alignment, members_alignment, members_end-le, members_end-le-size}
 use Rattle.canon_model.specs.Laws.{IsAlignment}
 use Rattle.canon_model.specs.Layout.{align, align_to, begins, ends, flat, members_align, members_end, members_flat, size}
-use Rattle.canon_model.specs.Memory.{Memory}
 use Rattle.canon_model.specs.Reach as reach
 use Rattle.canon_model.specs.Reach.{Kind}
 use Rattle.canon_model.specs.Shape.{Members, Name, Shape, member, of_places, product}

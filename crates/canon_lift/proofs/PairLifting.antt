@@ -1,5 +1,5 @@
 -- The pair of a key and a value in memory.
-use Rattle.std.proofs.Common.{◌≡◌, ◌≤◌, ◌<◌, ◌+◌, ◌*◌, ◌%◌, ◌++◌, ◌∙◌, Bool, Err, List, None, Ok, Result, Some, [], ◌∷◌, ap, arith, false, length, refl, subst, sym, ℕ}
+use Rattle.std.proofs.Common.{◌≡◌, ◌≤◌, ◌+◌, ◌*◌, ◌%◌, ◌++◌, ◌∙◌, Bool, Err, List, None, Ok, Result, Some, [], ◌∷◌, ap, arith, false, length, refl, subst, sym, ℕ}
 use Rattle.std.proofs.Math.Nat.{zero-mod}
 use Rattle.std.proofs.lemmas.Nat.Gcd.{dvd_of_mod-eq-zero}
 use Rattle.std.proofs.lemmas.Map.{update_all_push}
@@ -11,17 +11,15 @@ use Rattle.canon_lowering.specs.Storing.{narrow}
 use Rattle.canon_lowering.proofs.Copying.{begins-same}
 use Rattle.canon_model.proofs.Layouts.{members_end-le-size}
 use Rattle.canon_model.specs.Layout.{align, begins, ends, members_align, members_end, size}
-use Rattle.canon_model.specs.Memory.{Memory}
-use Rattle.canon_model.specs.Shape.{Members, Shape, member, no_members, of_places, product, tuple}
+use Rattle.canon_model.specs.Shape.{Shape, member, no_members, of_places, tuple}
 use Rattle.canon_types.specs.Table.{Table, members_of, shape_of}
 use Rattle.canon_types.specs.declared.types.InterfaceType.{InterfaceType}
-use Rattle.canon_lift.specs.Firsts.{first_and, first_in, no_more, rest_in}
+use Rattle.canon_lift.specs.Firsts.{first_in, rest_in}
 use Rattle.canon_typed.specs.Maps.{IsFilledWith}
 use Rattle.canon_lift.specs.Items.{vec_reading}
 use Rattle.canon_lift.specs.MapsOfTrees.{pair_reading, pair_taken, pairs_reading}
 use Rattle.canon_lift.specs.Reading.{AreTaken, Lifts, Reading, Refused, Setting, setting_in}
 use Rattle.canon_lift.specs.Readings.{first_reading, item_spot, none_reading}
-use Rattle.canon_lift.specs.Rests.{rest_reading}
 use Rattle.canon_lift.specs.Spots.{Spot, stored, stored_from}
 use Rattle.canon_lift.proofs.MemberSteps.{first_aligned, first_inside, member_refused, others_refused, rest_aligned, rest_inside}
 use Rattle.canon_lift.proofs.Settings.{same_setting, same_shape}

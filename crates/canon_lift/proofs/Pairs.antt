@@ -1,6 +1,6 @@
 -- The pointers and lengths of texts and lists, and what they point to.
-use Rattle.std.proofs.Common.{◌≡◌, ◌≤◌, ◌<◌, ◌+◌, ◌*◌, ◌%◌, ◌==◌, ◌∙◌, Bool, Err, IfErr, IfOk, List, None, Ok, Result, String, [], ap, ap₂, arith, eq-eqb, false, if◌then◌else◌, inl, inr, le-leb, length, refl, subst, sym, true, ℕ}
-use Rattle.std.proofs.lemmas.Bool.{and_from, cond-true}
+use Rattle.std.proofs.Common.{◌≡◌, ◌≤◌, ◌<◌, ◌+◌, ◌*◌, ◌%◌, ◌==◌, ◌∙◌, Bool, Err, IfErr, IfOk, List, None, Ok, Result, String, ap, ap₂, arith, false, if◌then◌else◌, inl, inr, le-leb, length, refl, subst, sym, true, ℕ}
+use Rattle.std.proofs.lemmas.Bool.{cond-true}
 use Rattle.std.specs.declared.alloc.Global.{Global}
 use Rattle.canon_context.proofs.Told.{blamed_by}
 use Rattle.canon_context.specs.Told.{Exactly, IsNoRefusal, LiftBlames, place_of}
@@ -8,7 +8,6 @@ use Rattle.canon_context.specs.declared.fault.At.{At as Place}
 use Rattle.canon_context.specs.declared.fault.Fault.{Fault}
 use Rattle.canon_context.specs.declared.fault.Fault.TheVariants as fault
 use Rattle.canon_ledger.specs.Ledger.{LedgerState}
-use Rattle.canon_lowering.specs.Storing.{narrow}
 use Rattle.canon_model.specs.Layout.{align, size}
 use Rattle.canon_model.specs.Memory.{Inside, Memory}
 use Rattle.canon_model.specs.Reach as reach
@@ -25,8 +24,8 @@ use Rattle.canon_types.specs.Instance.{Instance}
 use Rattle.canon_types.specs.Table.{Knows, shape_of}
 use Rattle.canon_types.specs.declared.types.InterfaceType.{InterfaceType}
 use Rattle.canon_lift.specs.MapsOfTrees.{map_reading, pair_reading}
-use Rattle.canon_lift.specs.OfTrees.{text_priced}
-use Rattle.canon_lift.specs.Ranges.{IsListThere, ListRefused, ListTested, list_range_reach, wasm_list_reading}
+use Rattle.canon_lift.specs.OfTrees.{text_price}
+use Rattle.canon_lift.specs.Ranges.{ListRefused, ListTested, list_range_reach, wasm_list_reading}
 use Rattle.canon_lift.specs.Reading.{Lifts, NamedBy, Reading, Refused, Setting, stop_of}
 use Rattle.canon_lift.specs.Readings.{IsGoodList, ListPointerFault, each_reach, list_reading, read_as, text_charge, text_reading}
 use Rattle.canon_lift.specs.Spots.{Faulty, HasRoom, Represents, Spot, at_of, flat_in, length_in, pointer_in, stored}
@@ -187,7 +186,7 @@ module _ (w : Setting) (at : Spot) (s : Shape) (p n : ℕ) (shape : s ≡ string
       let rep : Represents w.memory w.encoding at s (tree.text cs k) =
       subst (λ (z : Shape). Represents w.memory w.encoding at z (tree.text cs k)) (sym shape)
       (text_represents w.encoding w.memory at (tree.text cs k) (subst (λ (z : Shape). HasRoom w.memory at z) shape room) stands) in
-      let price : text_charge w at ≡ k = text_priced w at (tree.text cs k) (subst (λ (z : Shape). Represents w.memory w.encoding at z (tree.text cs k)) shape rep) in
+      let price : text_charge w at ≡ k = text_price w at (tree.text cs k) (subst (λ (z : Shape). Represents w.memory w.encoding at z (tree.text cs k)) shape rep) in
       ((tree.text cs k, rep, (cs, k, refl, spelled), kept), omega (arith, spent, price))
 
   -- the fault of the text, by its pointer's spot

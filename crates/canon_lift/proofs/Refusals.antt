@@ -1,5 +1,5 @@
 -- Why a value was not lifted, from why a part of it was not.
-use Rattle.std.proofs.Common.{◌≡◌, ◌≤◌, ◌<◌, ◌+◌, ◌++◌, ◌∙◌, Bool, List, None, Option, Some, [], append-nil, arith, refl, subst, sym, true, ℕ}
+use Rattle.std.proofs.Common.{◌≡◌, ◌≤◌, ◌<◌, ◌++◌, List, None, Option, Some, [], append-nil, arith, refl, subst, sym, true, ℕ}
 use Rattle.canon_context.proofs.Told.{blamed_by, is_its_place}
 use Rattle.canon_context.specs.Told.{LiftBlames, place_of}
 use Rattle.canon_context.specs.declared.fault.At.{At as Place}

@@ -1,10 +1,10 @@
 -- Values of one type in a row, lifted one after another.
-use Rattle.std.proofs.Common.{◌≡◌, ◌≤◌, ◌<◌, ◌+◌, ◌-◌, ◌*◌, ◌++◌, ◌∙◌, List, None, [], ◌∷◌, add-mul, ap, ap₂, append_assoc, arith, false, length, one-mul, refl, Result, subst, suc, suc-mul, sym, true, zero, ℕ}
+use Rattle.std.proofs.Common.{◌≡◌, ◌<◌, ◌+◌, ◌-◌, ◌*◌, ◌++◌, ◌∙◌, List, None, [], ◌∷◌, ap, append_assoc, arith, false, length, refl, Result, subst, suc, suc-mul, sym, zero, ℕ}
 use Rattle.canon_context.specs.Core.{Parts, types_of}
 use Rattle.canon_context.specs.declared.fault.At.{At as Place}
 use Rattle.canon_context.specs.declared.fault.Fault.{Fault}
 use Rattle.canon_context.specs.declared.fault.Fault.TheVariants as fault
-use Rattle.canon_leaves.specs.Parts.{LeavesStop, LeavesTake, Part}
+use Rattle.canon_leaves.specs.Parts.{LeavesStop, Part}
 use Rattle.canon_ledger.specs.Ledger.{LedgerState}
 use Rattle.canon_model.specs.Layout.{flat, size}
 use Rattle.canon_model.specs.Memory.{Memory}
@@ -14,12 +14,12 @@ use Rattle.canon_model.specs.Shape.{Shape}
 use Rattle.canon_types.specs.Instance.{Instance}
 use Rattle.canon_types.specs.Table.{Knows, shape_of}
 use Rattle.canon_types.specs.declared.types.InterfaceType.{InterfaceType}
-use Rattle.canon_lift.specs.Items.{items_reading, vec_reading}
+use Rattle.canon_lift.specs.Items.{vec_reading}
 use Rattle.canon_lift.specs.Ranges.{HasItems, IsListFrom}
 use Rattle.canon_lift.specs.Reading.{AreTaken, Lifts, NamedBy, Reading, Refused, Setting, setting_in, stop_of}
 use Rattle.canon_lift.specs.Readings.{EachFault, EachReads, IsGoodList, each_reach, each_steps, fixed_element, fixed_reading, item_spot, read_as}
 use Rattle.canon_lift.specs.Spots.{Spot, behind, flat_in, stored}
-use Rattle.canon_lift.specs.Taken.{each_counted, each_taken}
+use Rattle.canon_lift.specs.Taken.{each_counted}
 use Rattle.canon_lift.specs.declared.wasm_list.WasmList.{WasmList}
 use Rattle.canon_lift.proofs.Refusals.{named_by, refused_by, stops_after, stops_first, stops_second}
 use Rattle.canon_lift.proofs.Settings.{same_setting, same_shape}

@@ -1,7 +1,6 @@
 -- Scalars in memory.
 use Rattle.std.proofs.Common.{◌≡◌, ◌≤◌, ◌<◌, ◌+◌, ◌∙◌, List, Ok, ap, arith, false, length, refl, subst, sym, ℕ}
 use Rattle.canon_context.specs.Core.{Parts, types_of}
-use Rattle.canon_ledger.specs.Ledger.{LedgerState}
 use Rattle.canon_lowering.specs.Storing.{narrow}
 use Rattle.canon_model.specs.Layout.{flat, scalar_size, size}
 use Rattle.canon_model.specs.Memory.{num}

@@ -1,11 +1,7 @@
 -- The words of values with parts.
-use Rattle.std.proofs.Common.{◌≡◌, ◌≤◌, ◌<◌, ◌+◌, ◌*◌, ◌∙◌, None, Option, Some, [], ap, arith, refl, subst, suc, sym, zero, ℕ}
-use Rattle.canon_context.specs.Core.{Parts, types_of}
-use Rattle.canon_context.specs.declared.fault.Fault.{Fault}
-use Rattle.canon_ledger.specs.Ledger.{LedgerState}
-use Rattle.canon_lowering.specs.Storing.{narrow}
+use Rattle.std.proofs.Common.{◌≡◌, ◌≤◌, ◌<◌, ◌+◌, ◌*◌, None, Option, Some, arith, subst, ℕ}
 use Rattle.canon_model.specs.Layout.{flat, members_flat, payload_shape}
-use Rattle.canon_model.specs.Shape.{Cases, ListKind, Members, Name, Shape, borrow, case_for, fixed, list, member, no_cases, option_of, own, result_of, string}
+use Rattle.canon_model.specs.Shape.{ListKind, Members, Name, Shape, case_for, fixed, list, member, no_cases, option_of, result_of, string}
 use Rattle.canon_types.specs.Instance.{Instance}
 use Rattle.canon_types.specs.Table.{shape_of}
 use Rattle.canon_types.specs.declared.types.InterfaceType.{InterfaceType}

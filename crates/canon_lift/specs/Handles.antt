@@ -1,5 +1,6 @@
 -- Handles, which go through the ledger.
-use Rattle.std.specs.Prelude.{◌≡◌, ◌⊎◌, Bool, Err, List, Ok, Result, Some, [], ◌∷◌, false, refl, true, ℕ}
+use Rattle.std.specs.Prelude.{◌≡◌, ◌⊎◌, Err, Ok, Result, Some, [], ◌∷◌, false, refl, true, ℕ}
+use Rattle.std.proofs.Common.{inl}
 use Rattle.canon_context.specs.declared.fault.Fault.{Fault}
 use Rattle.canon_context.specs.declared.fault.Fault.TheVariants as fault
 use Rattle.canon_leaves.proofs.Leaves.{leaves_one}
@@ -7,7 +8,7 @@ use Rattle.canon_leaves.specs.Parts.{LeafTakes, LeavesStop, lift_parts, lifted_a
 use Rattle.canon_ledger.specs.Ledger.{LedgerState}
 use Rattle.canon_ledger.specs.declared.fault.ResourceFault.{ResourceFault}
 use Rattle.canon_model.specs.Layout.{size}
-use Rattle.canon_model.specs.Leaves.{Leaf, leaf}
+use Rattle.canon_model.specs.Leaves.{Leaf, leaf, flat_leaves, reach_leaves}
 use Rattle.canon_model.specs.Memory.{Memory}
 use Rattle.canon_model.specs.Shape.{Shape, borrow, own}
 use Rattle.canon_model.specs.Tree.{Tree, handle}
@@ -19,9 +20,10 @@ use Rattle.canon_types.specs.declared.types.InterfaceType.TheVariants as ty
 use Rattle.canon_typed.specs.Charges.{free}
 use Rattle.canon_typed.specs.Meaning.{IsHandle}
 use Rattle.canon_typed.specs.Types.{IsHandleType}
-use Rattle.canon_lift.specs.OfTrees.{IsOfTrees}
+use Rattle.canon_lift.specs.OfTrees.{IsFaulted, IsOfTrees, IsPriced, AreSteps}
 use Rattle.canon_lift.specs.Reading.{AreTaken, Reading, Setting, stop_of}
 use Rattle.canon_lift.specs.Spots.{HasRoom, Represents, Spot, flat_in, handle_in, stored}
+use Rattle.canon_lift.specs.Apart.{IsApart}
 
 -- the handle of a type by its number
 abbrev pub leaf_of : InterfaceType → ℕ → Leaf
@@ -59,12 +61,12 @@ any_reading = record {
 pub any_taken : AreTaken any_reading
 any_taken w at s before after v (room, (h, is, takes)) = (h ∷ [], leaves_one before after (lift_parts w.types (leaf_at w.memory at s)) h takes)
 
-own_represents : (w : Setting) (at : Spot) (r : ℕ) → HasRoom w.memory at (own r) → Represents w.memory w.encoding at (own r) (handle (handle_in w.memory at))
+pub own_represents : (w : Setting) (at : Spot) (r : ℕ) → HasRoom w.memory at (own r) → Represents w.memory w.encoding at (own r) (handle (handle_in w.memory at))
 unfolding size
 own_represents w (stored a) r room = (room, refl)
 own_represents w (flat_in ws i) r room = (refl, λ g. cc)
 
-borrow_represents : (w : Setting) (at : Spot) (r : ℕ) → HasRoom w.memory at (borrow r) → Represents w.memory w.encoding at (borrow r) (handle (handle_in w.memory at))
+pub borrow_represents : (w : Setting) (at : Spot) (r : ℕ) → HasRoom w.memory at (borrow r) → Represents w.memory w.encoding at (borrow r) (handle (handle_in w.memory at))
 unfolding size
 borrow_represents w (stored a) r room = (room, refl)
 borrow_represents w (flat_in ws i) r room = (refl, λ g. cc)
@@ -75,9 +77,29 @@ any_reads w at (ty.Own r) before after v f (room, h) = (handle (handle_in w.memo
 any_reads w at (ty.Borrow r) before after v f (room, h) = (handle (handle_in w.memory at), borrow_represents w at r room, (handle_in w.memory at, refl))
 any_reads w at _ before after v f h = absurd f
 
-pub any_told : IsOfTrees IsHandleType any_reading (λ v. IsHandle) free
-any_told = record {
-  reads = any_reads;
-  reach = λ w at type t f rep. refl;
-  faults = λ w at type k x f h. absurd h;
-}
+own_walked : (w : Setting) (at : Spot) (r : ℕ) → AreSteps w at (own r) (lift_parts w.types (leaf true r (handle_in w.memory at)) ∷ [])
+unfolding reach_leaves flat_leaves
+own_walked w (stored a) r = (inl refl, tt)
+own_walked w (flat_in ws i) r = (inl refl, tt)
+
+borrow_walked : (w : Setting) (at : Spot) (r : ℕ) → AreSteps w at (borrow r) (lift_parts w.types (leaf false r (handle_in w.memory at)) ∷ [])
+unfolding reach_leaves flat_leaves
+borrow_walked w (stored a) r = (inl refl, tt)
+borrow_walked w (flat_in ws i) r = (inl refl, tt)
+
+any_walked : (w : Setting) (at : Spot) (type : InterfaceType) → IsHandleType w.types type → AreSteps w at (shape_of w.types.types type) (any_reading.steps w at (shape_of w.types.types type))
+any_walked w at (ty.Own r) f = own_walked w at r
+any_walked w at (ty.Borrow r) f = borrow_walked w at r
+any_walked w at _ f = absurd f
+
+pub any_faulted : IsFaulted IsHandleType any_reading
+any_faulted = record { faults = λ w at type k x f h. absurd h }
+
+pub any_apart : IsApart any_reading
+any_apart = record { apart = λ w at s before after v k x h f. f }
+
+pub any_priced : IsPriced IsHandleType any_reading free
+any_priced = record { reach = λ w at type t f rep. refl }
+
+pub any_told : IsOfTrees IsHandleType any_reading (λ v. IsHandle)
+any_told = record { reads = any_reads; steps = any_walked }

@@ -5,8 +5,16 @@ pub mod Items
 pub mod Rests
 pub mod Firsts
 pub mod Taken
+pub mod Ways
 pub mod OfTrees
 pub mod RowsOfTrees
 pub mod Ranges
 pub mod MapsOfTrees
 pub mod Handles
+pub mod HostHandles
+pub mod Views
+pub mod Integers
+pub mod Scopes
+pub mod OwnScopes
+pub mod Apart
+pub mod Laws

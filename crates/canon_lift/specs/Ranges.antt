@@ -1,11 +1,13 @@
 -- Texts and lists that stay in memory: where their ranges are good, and what they are read as.
-use Rattle.std.specs.Prelude.{◌≡◌, ◌*◌, ◌+◌, ◌%◌, ◌<◌, ◌≤◌, Bool, Err, Ok, Result, false, if◌then◌else◌, [], ℕ}
+use Rattle.std.specs.Prelude.{◌≡◌, ◌*◌, ◌+◌, ◌%◌, ◌<◌, Err, Ok, Result, false, if◌then◌else◌, [], ℕ}
+use Rattle.canon_context.specs.Component.{HasOptions}
+use Rattle.canon_context.specs.Core.{Parts}
+use Rattle.canon_context.specs.Told.{IsPlace}
 use Rattle.canon_context.specs.declared.fault.At.{At as Place}
 use Rattle.canon_context.specs.declared.fault.Fault.{Fault}
 use Rattle.canon_context.specs.declared.fault.Fault.TheVariants as fault
-use Rattle.canon_ledger.specs.Ledger.{LedgerState}
 use Rattle.canon_model.specs.Layout.{align, size}
-use Rattle.canon_model.specs.Memory.{Inside, Memory}
+use Rattle.canon_model.specs.Memory.{Inside}
 use Rattle.canon_model.specs.Reach.{IsGood, PointerFault, is_inside}
 use Rattle.canon_model.specs.Shape.{Shape}
 use Rattle.canon_model.specs.Text.{text_align, text_bytes}
@@ -13,7 +15,7 @@ use Rattle.canon_types.specs.Depth.{element_shape}
 use Rattle.canon_types.specs.Instance.{Instance}
 use Rattle.canon_types.specs.Table.{Knows, shape_of}
 use Rattle.canon_types.specs.declared.types.InterfaceType.{InterfaceType}
-use Rattle.canon_lift.specs.Reading.{Reading, Setting}
+use Rattle.canon_lift.specs.Reading.{Reading, Setting, setting_in}
 use Rattle.canon_lift.specs.Readings.{IsGoodList, ListPointerFault, text_charge}
 use Rattle.canon_lift.specs.Spots.{Spot, at_of, length_in, pointer_in}
 use Rattle.canon_lift.specs.declared.wasm_list.WasmList.{WasmList}
@@ -50,6 +52,12 @@ pub record HasItems {A : Type 0} (Fit : Instance → InterfaceType → Type 0) (
   pub known : Knows w.types.types v.element
   pub fits : Fit w.types v.element
   pub good : IsGoodList w.memory (shape_of w.types.types v.element) v.pointer v.count
+
+-- The list is of the core's store, and its items can be lifted there.
+pub record IsListOfCore {A D G : Type 0} (Fit : Instance → InterfaceType → Type 0) (core : Parts D G) (v : WasmList A) : Type 0 where
+  pub id : v.store ≡ core.id
+  pub options : HasOptions core.component v.options
+  pub items : HasItems Fit (setting_in core v.options) v
 
 -- what stands there is a list of such items
 pub record IsListThere {A : Type 0} (Fit : Instance → InterfaceType → Type 0) (w : Setting) (at : Spot) (s : Shape) (v : WasmList A) : Type 0 where
@@ -93,13 +101,13 @@ module _ (w : Setting) (p n : ℕ) (at : Place) (fuel : ℕ) where
   TextRefused _ left = ⊥
 
   abbrev pub TextTested : Result WasmStr Fault → ℕ → Type 0
-  TextTested (Ok v) left = IsTextFrom w p n v × IsGoodText w p n × (fuel ≡ left + text_bytes w.encoding n)
+  TextTested (Ok v) left = IsTextFrom w p n v × (v.at ≡ at) × IsGoodText w p n × (fuel ≡ left + text_bytes w.encoding n)
   TextTested (Err e) left = TextRefused e left
 
 -- what stands there is a text whose range is good; its spelling is tested as it is read
 abbrev pub wasm_str_reading : Reading WasmStr
 wasm_str_reading = record {
-  reads = λ w at s before v after. IsTextFrom w (pointer_in w.memory at) (length_in w.memory at) v × IsGoodText w (pointer_in w.memory at) (length_in w.memory at) × (after ≡ before);
+  reads = λ w at s before v after. IsTextFrom w (pointer_in w.memory at) (length_in w.memory at) v × IsPlace v.at (at_of at) × IsGoodText w (pointer_in w.memory at) (length_in w.memory at) × (after ≡ before);
   faults = λ w at s. PointerFault w.memory (at_of at) (pointer_in w.memory at) (text_bytes w.encoding (length_in w.memory at)) (text_align w.encoding);
   reach = λ w at s. text_charge w at;
   steps = λ w at s. [];

@@ -1,6 +1,6 @@
 -- What lifting reads as a value of a Rust type. It goes by the parts of the type and needs no tree, so that a text or a list that
 -- stays in memory is read alike.
-use Rattle.std.specs.Prelude.{◌≡◌, ◌+◌, ◌<◌, ◌≤◌, Bool, Err, List, None, Ok, Option, Result, false, true, ℕ}
+use Rattle.std.specs.Prelude.{◌≡◌, ◌+◌, ◌<◌, ◌≤◌, Bool, Err, List, None, Ok, Option, Result, true, ℕ}
 use Rattle.canon_context.specs.Core.{Parts, encoding_by}
 use Rattle.canon_context.specs.Told.{Exactly, LiftBlames, ToldAt}
 use Rattle.canon_context.specs.declared.fault.At.{At as Place}

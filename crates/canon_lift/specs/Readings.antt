@@ -1,15 +1,13 @@
 -- The readings of the implementations, by their parts.
-use Rattle.std.specs.Prelude.{◌≡◌, ◌≤◌, ◌<◌, ◌*◌, ◌+◌, ◌%◌, ◌==◌, ◌++◌, ◌||◌, ◌⊎◌, Bool, Err, List, None, Ok, Option, Result, Some, Vec, [], ◌∷◌, false, if◌then◌else◌, length, suc, true, zero, ℕ}
-use Rattle.std.specs.declared.alloc.Global.{Global}
+use Rattle.std.specs.Prelude.{◌≡◌, ◌≤◌, ◌<◌, ◌*◌, ◌+◌, ◌%◌, ◌==◌, ◌++◌, ◌||◌, ◌⊎◌, Bool, Err, List, None, Ok, Option, Result, Some, [], ◌∷◌, false, if◌then◌else◌, length, suc, true, zero, ℕ}
 use Rattle.canon_leaves.specs.Parts.{Part}
 use Rattle.canon_ledger.specs.Ledger.{LedgerState}
 use Rattle.canon_model.specs.Layout.{align, flat, size}
 use Rattle.canon_model.specs.Memory.{Memory}
 use Rattle.canon_model.specs.Reach as reach
 use Rattle.canon_model.specs.Reach.{IsFault, IsGood, Kind, PointerFault, is_good, is_inside, no_case, text_reach}
-use Rattle.canon_model.specs.Shape.{Cases, Members, Shape, fixed, member, no_members}
+use Rattle.canon_model.specs.Shape.{Members, Shape, fixed, member, no_members}
 use Rattle.canon_model.specs.Layout.{payload_shape}
-use Rattle.canon_model.specs.Text.{text_align, text_bytes}
 use Rattle.canon_model.specs.Tree.{Tree}
 use Rattle.canon_types.specs.Depth.{element_shape, product_members, variant_cases}
 use Rattle.canon_lift.specs.Reading.{Reading, Setting}

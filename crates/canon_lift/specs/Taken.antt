@@ -1,16 +1,16 @@
 -- The handles of what is read are taken by their steps, since it is so of the parts.
-use Rattle.std.proofs.Common.{◌≡◌, ◌++◌, ◌==◌, ◌∙◌, Err, List, None, Ok, Some, Bool, [], ◌∷◌, ap, cond, eq-eqb, false, length, refl, subst, suc, sym, true, zero, ℕ}
+use Rattle.std.proofs.Common.{◌≡◌, ◌++◌, ◌==◌, ◌∙◌, Err, List, None, Ok, Some, Bool, [], ◌∷◌, ap, eq-eqb, false, length, refl, subst, sym, true, ℕ}
 use Rattle.std.proofs.lemmas.Bool.{and_from, cond-false, cond-true, le-leb}
 use Rattle.canon_leaves.proofs.Leaves.{leaves_then}
 use Rattle.canon_leaves.specs.Parts.{LeavesTake, Part}
 use Rattle.canon_ledger.specs.Ledger.{LedgerState}
-use Rattle.canon_model.specs.Layout.{align, payload_shape, size}
 use Rattle.canon_model.specs.Shape.{Members, Shape, member, no_members}
 use Rattle.canon_model.specs.Tree.{Tree}
-use Rattle.canon_types.specs.Depth.{element_shape, variant_cases}
+use Rattle.canon_types.specs.Depth.{element_shape}
 use Rattle.canon_lift.specs.Reading.{AreTaken, Reading, Setting}
-use Rattle.canon_lift.specs.Readings.{CaseReads, EachReads, FirstReads, IsGoodList, NoneReads, OptionReads, RestReading, ResultReads, boxed_reading, cases_steps, each_steps, first_reading, first_steps, fixed_reading, list_reading, none_reading, nothing_reading, option_reading, payload_reading, product_reading, read_as, result_reading, scalar_reading, tree_reading}
-use Rattle.canon_lift.specs.Spots.{Rest, Spot, behind, first_spot, length_in, others, payload_spot, pointer_in, stored, tag_in}
+use Rattle.canon_lift.specs.Readings.{CaseReads, EachReads, RestReading, boxed_reading, cases_steps, each_steps, first_reading, fixed_reading, list_reading}
+use Rattle.canon_lift.specs.Readings.{none_reading, nothing_reading, option_reading, payload_reading, product_reading, read_as, result_reading, scalar_reading, tree_reading}
+use Rattle.canon_lift.specs.Spots.{Rest, Spot, behind, first_spot, length_in, others, pointer_in, stored}
 
 -- nothing is taken
 pub none_taken : (before after : LedgerState) → after ≡ before → (hs : List ℕ) × LeavesTake before [] hs after

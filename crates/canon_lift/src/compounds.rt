@@ -2,11 +2,13 @@
 
 ghost use Rattle.std.specs.Prelude.{◌≡◌, ◌≤◌, ◌+◌, ◌%◌, ◌&&◌, false, length};
 ghost use Rattle.canon_context.specs.Core.{types_of};
+ghost use Rattle.canon_lift.specs.Scopes.{boxed_kept, option_kept, result_kept};
 ghost use Rattle.canon_model.specs.Layout.{align, flat, payload_shape, size};
 ghost use Rattle.canon_model.specs.Shape.{case_for, no_cases};
 ghost use Rattle.canon_types.specs.Table.{KnowsPayload, all_shapes, payload_in};
 ghost use Rattle.canon_typed.specs.Types.{IsPayloadOf};
-ghost use Rattle.canon_lift.specs.OfTrees.{as_told, boxed_told, left_true, option_told, result_told, right_true};
+ghost use Rattle.canon_lift.specs.Apart.{boxed_apart, option_apart, result_apart};
+ghost use Rattle.canon_lift.specs.OfTrees.{boxed_faulted, boxed_priced, boxed_told, left_true, option_faulted, option_priced, option_told, result_faulted, result_priced, result_told, right_true};
 ghost use Rattle.canon_lift.specs.Reading.{Lifts, setting_in};
 ghost use Rattle.canon_lift.specs.Readings.{boxed_reading, option_reading, payload_reading, result_reading};
 ghost use Rattle.canon_lift.specs.Spots.{flat_in, stored};
@@ -22,6 +24,8 @@ use std::alloc::Global;
 
 impl<T: Lift> Lift for Option<T> {
     ghost reading = { option_reading T.reading };
+
+    ghost kept = { option_kept T.fits T.reading T.kept };
 
     fn unit_value() -> Option<Option<T>> {
         None
@@ -73,7 +77,13 @@ impl<T: Lift> Lift for Option<T> {
 
     ghost taken = { option_taken T.reading T.taken };
 
-    ghost told = { λ h. option_told T.fits T.reading T.lifts T.cost (T.told h) };
+    ghost apart = { option_apart T.apart };
+
+    ghost faulted = { option_faulted T.faulted };
+
+    ghost priced = { option_priced T.priced };
+
+    ghost told = { λ h. option_told (T.told h) };
 }
 
 /// Lifts the payload of a case at an address: the unit stands for none.
@@ -130,6 +140,8 @@ fn lift_payload_words<T: Lift, U, G>(
 
 impl<T: Lift, E: Lift> Lift for Result<T, E> {
     ghost reading = { result_reading T.is_unit T.reading E.is_unit E.reading };
+
+    ghost kept = { result_kept T.is_unit E.is_unit T.kept E.kept };
 
     fn unit_value() -> Option<Result<T, E>> {
         None
@@ -188,11 +200,19 @@ impl<T: Lift, E: Lift> Lift for Result<T, E> {
 
     ghost taken = { result_taken T.is_unit T.reading E.is_unit E.reading T.taken E.taken };
 
-    ghost told = { λ h. result_told T.is_unit T.fits T.reading T.lifts T.cost E.is_unit E.fits E.reading E.lifts E.cost (T.told (left_true T.is_told E.is_told h)) (E.told (right_true T.is_told E.is_told h)) };
+    ghost apart = { result_apart T.is_unit E.is_unit T.apart E.apart };
+
+    ghost faulted = { result_faulted T.is_unit E.is_unit T.faulted E.faulted };
+
+    ghost priced = { result_priced T.is_unit E.is_unit T.priced E.priced };
+
+    ghost told = { λ h. result_told T.is_unit E.is_unit (T.told (left_true T.is_told E.is_told h)) (E.told (right_true T.is_told E.is_told h)) };
 }
 
 impl<T: Lift> Lift for Box<T> {
     ghost reading = { boxed_reading (λ b. b.value) T.reading };
+
+    ghost kept = { boxed_kept T.fits T.reading T.kept (λ b. b.value) };
 
     fn unit_value() -> Option<Box<T>> {
         None
@@ -231,5 +251,11 @@ impl<T: Lift> Lift for Box<T> {
 
     ghost taken = { boxed_taken (λ b. b.value) T.reading T.taken };
 
-    ghost told = { λ h. boxed_told T.fits (λ b. b.value) T.reading T.lifts T.cost (T.told h) };
+    ghost apart = { boxed_apart (λ b. b.value) T.apart };
+
+    ghost faulted = { boxed_faulted (λ b. b.value) T.faulted };
+
+    ghost priced = { boxed_priced (λ b. b.value) T.priced };
+
+    ghost told = { λ h. boxed_told (λ b. b.value) (T.told h) };
 }

@@ -2,17 +2,19 @@
 
 ghost use Rattle.std.specs.Prelude.{◌≡◌, ◌≤◌, ◌<◌, ◌+◌, ◌*◌, length};
 ghost use Rattle.canon_context.specs.Core.{types_of};
+ghost use Rattle.canon_lift.specs.Scopes.{fixed_kept};
 ghost use Rattle.canon_model.specs.Layout.{flat};
 ghost use Rattle.canon_types.specs.Table.{Knows, shape_of};
 ghost use Rattle.canon_typed.specs.Charges.{row_cost};
 ghost use Rattle.canon_typed.specs.Meaning.{RowMeans};
 ghost use Rattle.canon_typed.specs.Types.{IsFixedOf};
+ghost use Rattle.canon_lift.specs.Apart.{as_apart, fixed_apart};
 ghost use Rattle.canon_lift.specs.Items.{vec_reading};
-ghost use Rattle.canon_lift.specs.OfTrees.{as_told};
+ghost use Rattle.canon_lift.specs.OfTrees.{as_faulted, as_priced, as_told};
 ghost use Rattle.canon_lift.specs.Reading.{Lifts, setting_in};
 ghost use Rattle.canon_lift.specs.Spots.{flat_in};
 ghost use Rattle.canon_lift.specs.Readings.{fixed_reading, read_as};
-ghost use Rattle.canon_lift.specs.RowsOfTrees.{fixed_told};
+ghost use Rattle.canon_lift.specs.RowsOfTrees.{fixed_faulted, fixed_priced, fixed_told};
 ghost use Rattle.canon_lift.specs.Taken.{as_taken, fixed_taken};
 
 use crate::{Lift, WasmList};
@@ -58,6 +60,8 @@ fn lift_row<T: Lift, U, G>(
 
 impl<T: Lift, const N: usize> Lift for FixedList<T, N> {
     ghost reading = { read_as (λ v. v.items.items) (fixed_reading N T.reading) };
+
+    ghost kept = { fixed_kept T.fits T.reading T.kept (λ v. v.items.items) N };
 
     fn unit_value() -> Option<FixedList<T, N>> {
         None
@@ -105,5 +109,11 @@ impl<T: Lift, const N: usize> Lift for FixedList<T, N> {
 
     ghost taken = { as_taken (λ v. v.items.items) (fixed_reading N T.reading) (fixed_taken N T.reading T.taken) };
 
-    ghost told = { λ h. as_told (IsFixedOf N T.fits) (λ v. v.items.items) (fixed_reading N T.reading) (RowMeans T.lifts) (row_cost T.cost) (fixed_told N T.fits T.reading T.lifts T.cost (T.told h)) };
+    ghost apart = { as_apart (λ v. v.items.items) (fixed_apart N T.apart) };
+
+    ghost faulted = { as_faulted (λ v. v.items.items) (fixed_faulted N T.faulted) };
+
+    ghost priced = { as_priced (λ v. v.items.items) (fixed_priced N T.priced) };
+
+    ghost told = { λ h. as_told (λ v. v.items.items) (fixed_told N (T.told h)) };
 }

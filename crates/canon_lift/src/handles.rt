@@ -5,10 +5,11 @@ ghost use Rattle.canon_context.specs.Core.{types_of};
 ghost use Rattle.canon_context.specs.Faults.{resource_fault};
 ghost use Rattle.canon_context.specs.Lifter.{IsAfterSteps, IsOneOrigin, origin_of};
 ghost use Rattle.canon_leaves.specs.Parts.{LeafLifts};
+ghost use Rattle.canon_lift.specs.OwnScopes.{any_kept};
 ghost use Rattle.canon_model.specs.Leaves.{leaf};
 ghost use Rattle.canon_types.specs.Table.{HasResource, Knows};
 ghost use Rattle.canon_typed.specs.Types.{IsHandleType};
-ghost use Rattle.canon_lift.specs.Handles.{HandleLifts, any_reading, any_taken, any_told, leaf_of};
+ghost use Rattle.canon_lift.specs.Handles.{HandleLifts, any_apart, any_faulted, any_priced, any_reading, any_taken, any_told, leaf_of};
 
 use crate::Lift;
 use crate::words::word_u32;
@@ -23,10 +24,10 @@ use std::alloc::Global;
 
 /// A handle of the guest's, own or borrowed.
 #[derive(Drop)]
-struct Handle {
-    ty: TypeResourceTableIndex,
-    owned: bool,
-    index: u32,
+pub(crate) struct Handle {
+    pub(crate) ty: TypeResourceTableIndex,
+    pub(crate) owned: bool,
+    pub(crate) index: u32,
 }
 
 /// Takes a handle through the ledger.
@@ -48,7 +49,7 @@ fn taken(
 }
 
 /// A refusal of the ledger as a fault.
-fn refused(refusal: ResourceFault) -> Fault
+pub(crate) fn refused(refusal: ResourceFault) -> Fault
     ensures { result ≡ resource_fault refusal }
 {
     match refusal {
@@ -122,6 +123,8 @@ fn lift_any<U, G>(
 impl Lift for ResourceAny {
     ghost reading = { any_reading };
 
+    ghost kept = { any_kept };
+
     fn unit_value() -> Option<ResourceAny> {
         None
     }
@@ -147,6 +150,12 @@ impl Lift for ResourceAny {
     }
 
     ghost taken = { any_taken };
+
+    ghost apart = { any_apart };
+
+    ghost faulted = { any_faulted };
+
+    ghost priced = { any_priced };
 
     ghost told = { λ h. any_told };
 }

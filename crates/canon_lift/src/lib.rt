@@ -4,6 +4,9 @@
 mod compounds;
 mod fixed_list;
 mod handles;
+mod host_handles;
+mod integers;
+mod laws;
 mod lift;
 mod lists;
 mod maps;
@@ -15,6 +18,7 @@ mod wasm_list;
 mod wasm_str;
 mod words;
 
+pub use laws::lifts_exactly;
 pub use lift::Lift;
 pub use wasm_list::WasmList;
 pub use wasm_str::WasmStr;

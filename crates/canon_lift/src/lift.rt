@@ -1,13 +1,15 @@
 //! The trait of Rust types that values are lifted to.
 
-ghost use Rattle.std.specs.Prelude.{◌≡◌, ◌≤◌, ◌+◌, ◌%◌, IsTrue, MatchOption, false, length, true};
+ghost use Rattle.std.specs.Prelude.{◌≡◌, ◌≤◌, ◌+◌, ◌%◌, IfErr, IsTrue, MatchOption, false, length, true};
 ghost use Rattle.canon_context.specs.Core.{types_of};
 ghost use Rattle.canon_model.specs.Layout.{align, flat, size};
 ghost use Rattle.canon_types.specs.Table.{Knows, shape_of};
+ghost use Rattle.canon_lift.specs.Apart.{IsApart};
 ghost use Rattle.canon_lift.specs.Items.{into_reading, vec_reading};
-ghost use Rattle.canon_lift.specs.OfTrees.{IsOfTrees};
+ghost use Rattle.canon_lift.specs.OfTrees.{IsFaulted, IsOfTrees, IsPriced};
 ghost use Rattle.canon_lift.specs.Ranges.{HasItems};
 ghost use Rattle.canon_lift.specs.Reading.{AreTaken, Lifts, Reading, setting_in};
+ghost use Rattle.canon_lift.specs.Scopes.{IsKept};
 ghost use Rattle.canon_lift.specs.Spots.{flat_in, stored};
 
 use crate::WasmList;
@@ -119,7 +121,7 @@ pub trait Lift: ComponentType {
         Ok(items)
     }
 
-    /// Lifts the items of a list to the end of a vector, which a refusal leaves as it was.
+    /// Lifts the items of a list to the end of a vector. Where one isn't lifted the vector stays as it was.
     fn linear_lift_into_from_memory<U, G>(
         alloc: Global,
         cx: &mut LiftContext<'_, U, G>,
@@ -129,6 +131,7 @@ pub trait Lift: ComponentType {
     where
         Self: Sized,
         requires items { HasItems Self.fits (setting_in cx.old.core.now cx.old.options) list.now }
+        ensures kept { IfErr result (λ _. dst.new.items ≡ dst.old.items) }
         ensures lifts { Lifts (into_reading dst.old.items dst.new.items list.now.count reading) (setting_in cx.old.core.now cx.old.options) (stored list.now.pointer) (shape_of (types_of cx.old.core.now) list.now.element)
             cx.old.core.now.ledger cx.old.fuel result cx.new.core.now.ledger cx.new.fuel }
         ensures same_core { cx.new.core.now ≡ record cx.old.core.now { ledger = cx.new.core.now.ledger } }
@@ -144,9 +147,21 @@ pub trait Lift: ComponentType {
         }
     }
 
+    // a value without borrowed handles leaves the scopes of the ledger as they are
+    ghost kept: { IsKept Self.fits reading };
+
     // the handles of what is read are taken by their steps
     ghost taken: { AreTaken reading };
 
-    // what is read has a tree, where each value that is lifted has one
-    ghost told: { IsTrue Self.is_told → IsOfTrees Self.fits reading Self.lifts Self.cost };
+    // what is read has no fault
+    ghost apart: { IsApart reading };
+
+    // a fault of what is read is one of a place that the tree walk of the type's shape reaches
+    ghost faulted: { IsFaulted Self.fits reading };
+
+    // where a tree stands, what is read is charged as the tree is
+    ghost priced: { IsPriced Self.fits reading Self.cost };
+
+    // what is read has a tree, and its handles are the tree's, where each value that is lifted has one
+    ghost told: { IsTrue Self.is_told → IsOfTrees Self.fits reading Self.lifts };
 }

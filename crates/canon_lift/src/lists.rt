@@ -1,9 +1,11 @@
 //! Vectors.
 
+ghost use Rattle.canon_lift.specs.Scopes.{list_kept};
 ghost use Rattle.canon_typed.specs.Charges.{cap};
+ghost use Rattle.canon_lift.specs.Apart.{as_apart, list_apart};
 ghost use Rattle.canon_lift.specs.Readings.{list_reading, read_as};
-ghost use Rattle.canon_lift.specs.RowsOfTrees.{list_told};
-ghost use Rattle.canon_lift.specs.OfTrees.{as_told};
+ghost use Rattle.canon_lift.specs.RowsOfTrees.{list_faulted, list_priced, list_told};
+ghost use Rattle.canon_lift.specs.OfTrees.{as_faulted, as_priced, as_told};
 ghost use Rattle.canon_lift.specs.Taken.{as_taken, list_taken};
 ghost use Rattle.canon_typed.specs.Charges.{list_cost};
 ghost use Rattle.canon_typed.specs.Meaning.{ListMeans};
@@ -17,6 +19,8 @@ use std::alloc::Global;
 
 impl<T: Lift> Lift for Vec<T> {
     ghost reading = { read_as (λ v. v.items) (list_reading (cap T.host_bytes) T.reading) };
+
+    ghost kept = { list_kept T.fits T.reading T.kept (λ v. v.items) (cap T.host_bytes) };
 
     fn unit_value() -> Option<Vec<T>> {
         None
@@ -49,6 +53,11 @@ impl<T: Lift> Lift for Vec<T> {
 
     ghost taken = { as_taken (λ v. v.items) (list_reading (cap T.host_bytes) T.reading) (list_taken (cap T.host_bytes) T.reading T.taken) };
 
-    ghost told = { λ h. as_told (IsListOf T.fits) (λ v. v.items) (list_reading (cap T.host_bytes) T.reading) (ListMeans T.lifts) (list_cost (cap T.host_bytes) T.cost)
-        (list_told (cap T.host_bytes) T.fits T.reading T.lifts T.cost (T.told h)) };
+    ghost apart = { as_apart (λ v. v.items) (list_apart (cap T.host_bytes) T.apart) };
+
+    ghost faulted = { as_faulted (λ v. v.items) (list_faulted (cap T.host_bytes) T.faulted) };
+
+    ghost priced = { as_priced (λ v. v.items) (list_priced (cap T.host_bytes) T.priced) };
+
+    ghost told = { λ h. as_told (λ v. v.items) (list_told (cap T.host_bytes) (T.told h)) };
 }

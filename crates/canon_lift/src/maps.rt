@@ -1,13 +1,16 @@
 //! Maps.
 
-ghost use Rattle.std.specs.Prelude.{◌≡◌, ◌≤◌, ◌<◌, ◌+◌, ◌*◌, ◌%◌, ◌^◌, ◌&&◌, ◌∷◌, [], false, length};
+ghost use Rattle.std.specs.Prelude.{◌≡◌, ◌≤◌, ◌<◌, ◌+◌, ◌*◌, ◌%◌, ◌^◌, ◌&&◌, ◌++◌, ◌∷◌, [], List, OnOk, false, length};
 ghost use Rattle.canon_abi.specs.Abi.{HasLayout};
 ghost use Rattle.canon_context.specs.Core.{types_of};
+ghost use Rattle.canon_lift.specs.Scopes.{map_kept};
 ghost use Rattle.canon_model.specs.Layout.{align, begins, ends, size};
 ghost use Rattle.canon_model.specs.Shape.{Shape, tuple};
 ghost use Rattle.canon_types.specs.Table.{Knows, shape_of};
 ghost use Rattle.canon_typed.specs.Charges.{cap};
-ghost use Rattle.canon_lift.specs.MapsOfTrees.{map_reading, map_taken, map_told, pair_reading, pairs_reading};
+ghost use Rattle.canon_typed.specs.Maps.{IsFilledWith};
+ghost use Rattle.canon_lift.specs.Apart.{map_apart};
+ghost use Rattle.canon_lift.specs.MapsOfTrees.{map_faulted, map_priced, map_reading, map_taken, map_told, pair_reading, pairs_reading};
 ghost use Rattle.canon_lift.specs.OfTrees.{left_true, right_true};
 ghost use Rattle.canon_lift.specs.Ranges.{RangeTested};
 ghost use Rattle.canon_lift.specs.Reading.{Lifts, setting_in};
@@ -17,6 +20,7 @@ use crate::Lift;
 use crate::words::{word_at, word_u32};
 use canon_bytes::load_u32;
 use canon_context::{At, Fault, LiftContext};
+use canon_indices::OutOfMemory;
 use canon_memory::ValRaw;
 use canon_typed::ComponentType;
 use canon_types::{CanonicalAbiInfo, InterfaceType};
@@ -62,6 +66,21 @@ fn lift_pair<K: Lift, V: Lift, U, G>(
     }
 }
 
+/// Puts a pair behind those that were lifted before it.
+#[tactic(auto, using(crate::proofs::PairLifting::filled_more))]
+fn put<K: Eq + Hash + Drop, V: Drop>(
+    map: &mut HashMap<K, V>,
+    key: K,
+    value: V,
+) -> Result<(), OutOfMemory>
+    ensures last { OnOk result ((pairs : List (K × V)) → IsFilledWith K.eq pairs map.old → IsFilledWith K.eq (pairs ++ (key, value) ∷ []) map.new) }
+{
+    match map.insert(key, value) {
+        Ok(_) => Ok(()),
+        Err(_) => Err(OutOfMemory),
+    }
+}
+
 /// Lifts so many pairs that stand in a row from an address on. Of pairs with one key the last one stays.
 fn lift_pairs<K: Lift + Eq + Hash, V: Lift, U, G>(
     alloc: Global,
@@ -89,8 +108,8 @@ fn lift_pairs<K: Lift + Eq + Hash, V: Lift, U, G>(
     let mut map = HashMap::new(alloc);
     for k in 0..count {
         match lift_pair(alloc, cx, pair, at + k * step) {
-            Ok((key, value)) => match map.insert(key, value) {
-                Ok(_) => {}
+            Ok((key, value)) => match put(&mut map, key, value) {
+                Ok(()) => {}
                 Err(_) => return Err(Fault::OutOfMemory),
             },
             Err(fault) => return Err(fault),
@@ -129,6 +148,8 @@ fn test_pairs<K: ComponentType, V: ComponentType, U, G>(
 
 impl<K: Lift + Eq + Hash, V: Lift> Lift for HashMap<K, V> {
     ghost reading = { map_reading K.eq (cap (K.host_bytes + V.host_bytes)) K.reading V.reading };
+
+    ghost kept = { map_kept K.eq (cap (K.host_bytes + V.host_bytes)) K.fits K.reading V.fits V.reading K.kept V.kept };
 
     fn unit_value() -> Option<HashMap<K, V>> {
         None
@@ -185,5 +206,11 @@ impl<K: Lift + Eq + Hash, V: Lift> Lift for HashMap<K, V> {
 
     ghost taken = { map_taken K.eq (cap (K.host_bytes + V.host_bytes)) K.reading V.reading K.taken V.taken };
 
-    ghost told = { λ h. map_told (cap (K.host_bytes + V.host_bytes)) K.fits K.reading K.lifts K.cost V.fits V.reading V.lifts V.cost (K.told (left_true K.is_told V.is_told h)) (V.told (right_true K.is_told V.is_told h)) K.eq };
+    ghost apart = { map_apart K.eq (cap (K.host_bytes + V.host_bytes)) K.apart V.apart };
+
+    ghost faulted = { map_faulted (cap (K.host_bytes + V.host_bytes)) K.faulted V.faulted K.eq };
+
+    ghost priced = { map_priced (cap (K.host_bytes + V.host_bytes)) K.priced V.priced K.eq };
+
+    ghost told = { λ h. map_told (cap (K.host_bytes + V.host_bytes)) (K.told (left_true K.is_told V.is_told h)) (V.told (right_true K.is_told V.is_told h)) K.eq };
 }

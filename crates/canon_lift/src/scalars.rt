@@ -1,10 +1,12 @@
 //! Integers, floats by their bits, `bool` and `char`.
 
 ghost use Rattle.std.specs.Prelude.{◌≡◌, false, pos, refl};
+ghost use Rattle.canon_lift.specs.Scopes.{plain_kept};
+ghost use Rattle.canon_model.specs.Shape as shape;
 ghost use Rattle.canon_model.specs.Tree.{code_point, number, truth};
 ghost use Rattle.canon_types.specs.declared.types.InterfaceType.TheVariants as ty;
-ghost use Rattle.canon_typed.specs.Charges.{free};
-ghost use Rattle.canon_lift.specs.OfTrees.{scalar_told};
+ghost use Rattle.canon_lift.specs.Apart.{tree_apart};
+ghost use Rattle.canon_lift.specs.OfTrees.{scalar_priced, scalar_told, tree_faulted};
 ghost use Rattle.canon_lift.specs.Readings.{scalar_reading};
 ghost use Rattle.canon_lift.specs.Taken.{scalar_taken};
 
@@ -19,6 +21,8 @@ use std::alloc::Global;
 
 impl Lift for i8 {
     ghost reading = { scalar_reading (λ n t. t ≡ number n) };
+
+    ghost kept = { plain_kept (λ w at s. refl) };
 
     fn unit_value() -> Option<i8> {
         None
@@ -45,11 +49,19 @@ impl Lift for i8 {
 
     ghost taken = { scalar_taken (λ n t. t ≡ number n) };
 
-    ghost told = { λ h. scalar_told ty.S8 (λ n t. t ≡ number n) };
+    ghost apart = { tree_apart };
+
+    ghost faulted = { tree_faulted };
+
+    ghost priced = { scalar_priced };
+
+    ghost told = { λ h. scalar_told ty.S8 shape.s8 (λ w. refl) };
 }
 
 impl Lift for u8 {
     ghost reading = { scalar_reading (λ n t. t ≡ number (pos n)) };
+
+    ghost kept = { plain_kept (λ w at s. refl) };
 
     fn unit_value() -> Option<u8> {
         None
@@ -76,11 +88,19 @@ impl Lift for u8 {
 
     ghost taken = { scalar_taken (λ n t. t ≡ number (pos n)) };
 
-    ghost told = { λ h. scalar_told ty.U8 (λ n t. t ≡ number (pos n)) };
+    ghost apart = { tree_apart };
+
+    ghost faulted = { tree_faulted };
+
+    ghost priced = { scalar_priced };
+
+    ghost told = { λ h. scalar_told ty.U8 shape.u8 (λ w. refl) };
 }
 
 impl Lift for i16 {
     ghost reading = { scalar_reading (λ n t. t ≡ number n) };
+
+    ghost kept = { plain_kept (λ w at s. refl) };
 
     fn unit_value() -> Option<i16> {
         None
@@ -107,11 +127,19 @@ impl Lift for i16 {
 
     ghost taken = { scalar_taken (λ n t. t ≡ number n) };
 
-    ghost told = { λ h. scalar_told ty.S16 (λ n t. t ≡ number n) };
+    ghost apart = { tree_apart };
+
+    ghost faulted = { tree_faulted };
+
+    ghost priced = { scalar_priced };
+
+    ghost told = { λ h. scalar_told ty.S16 shape.s16 (λ w. refl) };
 }
 
 impl Lift for u16 {
     ghost reading = { scalar_reading (λ n t. t ≡ number (pos n)) };
+
+    ghost kept = { plain_kept (λ w at s. refl) };
 
     fn unit_value() -> Option<u16> {
         None
@@ -138,11 +166,19 @@ impl Lift for u16 {
 
     ghost taken = { scalar_taken (λ n t. t ≡ number (pos n)) };
 
-    ghost told = { λ h. scalar_told ty.U16 (λ n t. t ≡ number (pos n)) };
+    ghost apart = { tree_apart };
+
+    ghost faulted = { tree_faulted };
+
+    ghost priced = { scalar_priced };
+
+    ghost told = { λ h. scalar_told ty.U16 shape.u16 (λ w. refl) };
 }
 
 impl Lift for i32 {
     ghost reading = { scalar_reading (λ n t. t ≡ number n) };
+
+    ghost kept = { plain_kept (λ w at s. refl) };
 
     fn unit_value() -> Option<i32> {
         None
@@ -169,11 +205,19 @@ impl Lift for i32 {
 
     ghost taken = { scalar_taken (λ n t. t ≡ number n) };
 
-    ghost told = { λ h. scalar_told ty.S32 (λ n t. t ≡ number n) };
+    ghost apart = { tree_apart };
+
+    ghost faulted = { tree_faulted };
+
+    ghost priced = { scalar_priced };
+
+    ghost told = { λ h. scalar_told ty.S32 shape.s32 (λ w. refl) };
 }
 
 impl Lift for u32 {
     ghost reading = { scalar_reading (λ n t. t ≡ number (pos n)) };
+
+    ghost kept = { plain_kept (λ w at s. refl) };
 
     fn unit_value() -> Option<u32> {
         None
@@ -200,11 +244,19 @@ impl Lift for u32 {
 
     ghost taken = { scalar_taken (λ n t. t ≡ number (pos n)) };
 
-    ghost told = { λ h. scalar_told ty.U32 (λ n t. t ≡ number (pos n)) };
+    ghost apart = { tree_apart };
+
+    ghost faulted = { tree_faulted };
+
+    ghost priced = { scalar_priced };
+
+    ghost told = { λ h. scalar_told ty.U32 shape.u32 (λ w. refl) };
 }
 
 impl Lift for i64 {
     ghost reading = { scalar_reading (λ n t. t ≡ number n) };
+
+    ghost kept = { plain_kept (λ w at s. refl) };
 
     fn unit_value() -> Option<i64> {
         None
@@ -231,11 +283,19 @@ impl Lift for i64 {
 
     ghost taken = { scalar_taken (λ n t. t ≡ number n) };
 
-    ghost told = { λ h. scalar_told ty.S64 (λ n t. t ≡ number n) };
+    ghost apart = { tree_apart };
+
+    ghost faulted = { tree_faulted };
+
+    ghost priced = { scalar_priced };
+
+    ghost told = { λ h. scalar_told ty.S64 shape.s64 (λ w. refl) };
 }
 
 impl Lift for u64 {
     ghost reading = { scalar_reading (λ n t. t ≡ number (pos n)) };
+
+    ghost kept = { plain_kept (λ w at s. refl) };
 
     fn unit_value() -> Option<u64> {
         None
@@ -262,11 +322,19 @@ impl Lift for u64 {
 
     ghost taken = { scalar_taken (λ n t. t ≡ number (pos n)) };
 
-    ghost told = { λ h. scalar_told ty.U64 (λ n t. t ≡ number (pos n)) };
+    ghost apart = { tree_apart };
+
+    ghost faulted = { tree_faulted };
+
+    ghost priced = { scalar_priced };
+
+    ghost told = { λ h. scalar_told ty.U64 shape.u64 (λ w. refl) };
 }
 
 impl Lift for Float32Bits {
     ghost reading = { scalar_reading (λ x t. t ≡ number (pos x.0)) };
+
+    ghost kept = { plain_kept (λ w at s. refl) };
 
     fn unit_value() -> Option<Float32Bits> {
         None
@@ -293,11 +361,19 @@ impl Lift for Float32Bits {
 
     ghost taken = { scalar_taken (λ x t. t ≡ number (pos x.0)) };
 
-    ghost told = { λ h. scalar_told ty.Float32 (λ x t. t ≡ number (pos x.0)) };
+    ghost apart = { tree_apart };
+
+    ghost faulted = { tree_faulted };
+
+    ghost priced = { scalar_priced };
+
+    ghost told = { λ h. scalar_told ty.Float32 shape.f32 (λ w. refl) };
 }
 
 impl Lift for Float64Bits {
     ghost reading = { scalar_reading (λ x t. t ≡ number (pos x.0)) };
+
+    ghost kept = { plain_kept (λ w at s. refl) };
 
     fn unit_value() -> Option<Float64Bits> {
         None
@@ -324,11 +400,19 @@ impl Lift for Float64Bits {
 
     ghost taken = { scalar_taken (λ x t. t ≡ number (pos x.0)) };
 
-    ghost told = { λ h. scalar_told ty.Float64 (λ x t. t ≡ number (pos x.0)) };
+    ghost apart = { tree_apart };
+
+    ghost faulted = { tree_faulted };
+
+    ghost priced = { scalar_priced };
+
+    ghost told = { λ h. scalar_told ty.Float64 shape.f64 (λ w. refl) };
 }
 
 impl Lift for bool {
     ghost reading = { scalar_reading (λ b t. t ≡ truth b) };
+
+    ghost kept = { plain_kept (λ w at s. refl) };
 
     fn unit_value() -> Option<bool> {
         None
@@ -355,11 +439,19 @@ impl Lift for bool {
 
     ghost taken = { scalar_taken (λ b t. t ≡ truth b) };
 
-    ghost told = { λ h. scalar_told ty.Bool (λ b t. t ≡ truth b) };
+    ghost apart = { tree_apart };
+
+    ghost faulted = { tree_faulted };
+
+    ghost priced = { scalar_priced };
+
+    ghost told = { λ h. scalar_told ty.Bool shape.bool (λ w. refl) };
 }
 
 impl Lift for char {
     ghost reading = { scalar_reading (λ c t. t ≡ code_point c) };
+
+    ghost kept = { plain_kept (λ w at s. refl) };
 
     fn unit_value() -> Option<char> {
         None
@@ -392,5 +484,11 @@ impl Lift for char {
 
     ghost taken = { scalar_taken (λ c t. t ≡ code_point c) };
 
-    ghost told = { λ h. scalar_told ty.Char (λ c t. t ≡ code_point c) };
+    ghost apart = { tree_apart };
+
+    ghost faulted = { tree_faulted };
+
+    ghost priced = { scalar_priced };
+
+    ghost told = { λ h. scalar_told ty.Char shape.char (λ w. refl) };
 }

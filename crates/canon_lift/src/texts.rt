@@ -1,13 +1,15 @@
 //! Texts.
 
-ghost use Rattle.std.specs.Prelude.{◌≡◌, ◌<◌, ◌≤◌, ◌^◌, IfErr, IfOk, true};
+ghost use Rattle.std.specs.Prelude.{◌≡◌, ◌<◌, ◌≤◌, ◌^◌, IfErr, IfOk, refl, true};
 ghost use Rattle.canon_context.specs.Told.{Exactly, IsNoRefusal, LiftBlames, place_of};
+ghost use Rattle.canon_lift.specs.Scopes.{plain_kept};
 ghost use Rattle.canon_model.specs.Reach.{TextFault, text_reach};
 ghost use Rattle.canon_string.specs.Loading.{IsTextLoaded};
 ghost use Rattle.canon_context.specs.Core.{encoding_by};
 ghost use Rattle.canon_lowering.specs.Storing.{narrow};
 ghost use Rattle.canon_typed.specs.Meaning.{TextMeans};
-ghost use Rattle.canon_lift.specs.OfTrees.{text_told};
+ghost use Rattle.canon_lift.specs.Apart.{tree_apart};
+ghost use Rattle.canon_lift.specs.OfTrees.{text_priced, text_told, tree_faulted};
 ghost use Rattle.canon_lift.specs.Readings.{text_charge, text_reading};
 ghost use Rattle.canon_lift.specs.Taken.{tree_taken};
 
@@ -53,6 +55,8 @@ fn text_of<U, G>(
 impl Lift for String {
     ghost reading = { text_reading TextMeans };
 
+    ghost kept = { plain_kept (λ w at s. refl) };
+
     fn unit_value() -> Option<String> {
         None
     }
@@ -82,5 +86,11 @@ impl Lift for String {
 
     ghost taken = { tree_taken TextMeans text_charge true };
 
-    ghost told = { λ h. text_told TextMeans };
+    ghost apart = { tree_apart };
+
+    ghost faulted = { tree_faulted };
+
+    ghost priced = { text_priced (λ w at s. refl) };
+
+    ghost told = { λ h. text_told };
 }

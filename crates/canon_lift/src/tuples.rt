@@ -1,10 +1,12 @@
 //! Tuples of up to six members.
 
 ghost use Rattle.std.specs.Prelude.{◌&&◌, ◌∷◌, []};
+ghost use Rattle.canon_lift.specs.Apart.{end_apart, more_apart, product_apart};
 ghost use Rattle.canon_lift.specs.Firsts.{FirstHave, NoneHave, first_and, first_in, no_more, rest_in};
 ghost use Rattle.canon_lift.specs.OfTrees.{left_true, right_true};
 ghost use Rattle.canon_lift.specs.Readings.{first_reading, none_reading, product_reading};
-ghost use Rattle.canon_lift.specs.RowsOfTrees.{end_told, more_told, tuple_told};
+ghost use Rattle.canon_lift.specs.RowsOfTrees.{end_faulted, end_priced, end_told, more_faulted, more_priced, more_told, tuple_faulted, tuple_priced, tuple_told};
+ghost use Rattle.canon_lift.specs.Scopes.{end_kept, more_kept, tuple_kept};
 ghost use Rattle.canon_lift.specs.Taken.{end_taken, more_taken, product_taken};
 
 use crate::Lift;
@@ -16,6 +18,8 @@ use std::alloc::Global;
 
 impl Lift for () {
     ghost reading = { product_reading (λ p. no_more) none_reading };
+
+    ghost kept = { tuple_kept (λ p. no_more) end_kept };
 
     fn unit_value() -> Option<()> {
         Some(())
@@ -54,11 +58,19 @@ impl Lift for () {
 
     ghost taken = { product_taken (λ p. no_more) none_reading end_taken };
 
-    ghost told = { λ h. tuple_told (λ p. no_more) [] none_reading NoneHave [] end_told };
+    ghost apart = { product_apart (λ p. no_more) end_apart };
+
+    ghost faulted = { tuple_faulted (λ p. no_more) end_faulted };
+
+    ghost priced = { tuple_priced (λ p. no_more) end_priced };
+
+    ghost told = { λ h. tuple_told (λ p. no_more) end_told };
 }
 
 impl<A: Lift> Lift for (A,) {
     ghost reading = { product_reading (λ p. (first_and p.0 no_more)) (first_reading first_in rest_in A.reading none_reading) };
+
+    ghost kept = { tuple_kept (λ p. (first_and p.0 no_more)) (more_kept A.kept end_kept) };
 
     fn unit_value() -> Option<(A,)> {
         None
@@ -95,13 +107,23 @@ impl<A: Lift> Lift for (A,) {
         }
     }
 
-    ghost taken = { product_taken (λ p. (first_and p.0 no_more)) (first_reading first_in rest_in A.reading none_reading) (more_taken first_in rest_in A.reading none_reading A.taken end_taken) };
+    ghost taken = { product_taken (λ p. (first_and p.0 no_more)) (first_reading first_in rest_in A.reading none_reading) (more_taken first_in rest_in
+        A.reading none_reading A.taken end_taken) };
 
-    ghost told = { λ h. tuple_told (λ p. (first_and p.0 no_more)) (A.fits ∷ []) (first_reading first_in rest_in A.reading none_reading) (FirstHave A.lifts NoneHave) (A.cost ∷ []) (more_told first_in rest_in A.fits A.reading A.lifts A.cost (A.told h) [] none_reading NoneHave [] end_told) };
+    ghost apart = { product_apart (λ p. (first_and p.0 no_more)) (more_apart A.apart end_apart) };
+
+    ghost faulted = { tuple_faulted (λ p. (first_and p.0 no_more)) (more_faulted A.faulted end_faulted) };
+
+    ghost priced = { tuple_priced (λ p. (first_and p.0 no_more)) (more_priced A.priced end_priced) };
+
+    ghost told = { λ h. tuple_told (λ p. (first_and p.0 no_more)) (more_told (A.told h) end_told) };
 }
 
 impl<A: Lift, B: Lift> Lift for (A, B) {
-    ghost reading = { product_reading (λ p. (first_and p.0 (first_and p.1 no_more))) (first_reading first_in rest_in A.reading (first_reading first_in rest_in B.reading none_reading)) };
+    ghost reading = { product_reading (λ p. (first_and p.0 (first_and p.1 no_more))) (first_reading first_in rest_in A.reading (first_reading first_in
+        rest_in B.reading none_reading)) };
+
+    ghost kept = { tuple_kept (λ p. (first_and p.0 (first_and p.1 no_more))) (more_kept A.kept (more_kept B.kept end_kept)) };
 
     fn unit_value() -> Option<(A, B)> {
         None
@@ -148,13 +170,25 @@ impl<A: Lift, B: Lift> Lift for (A, B) {
         }
     }
 
-    ghost taken = { product_taken (λ p. (first_and p.0 (first_and p.1 no_more))) (first_reading first_in rest_in A.reading (first_reading first_in rest_in B.reading none_reading)) (more_taken first_in rest_in A.reading (first_reading first_in rest_in B.reading none_reading) A.taken (more_taken first_in rest_in B.reading none_reading B.taken end_taken)) };
+    ghost taken = { product_taken (λ p. (first_and p.0 (first_and p.1 no_more))) (first_reading first_in rest_in A.reading (first_reading first_in
+        rest_in B.reading none_reading)) (more_taken first_in rest_in A.reading (first_reading first_in rest_in B.reading none_reading) A.taken
+        (more_taken first_in rest_in B.reading none_reading B.taken end_taken)) };
 
-    ghost told = { λ h. tuple_told (λ p. (first_and p.0 (first_and p.1 no_more))) (A.fits ∷ (B.fits ∷ [])) (first_reading first_in rest_in A.reading (first_reading first_in rest_in B.reading none_reading)) (FirstHave A.lifts (FirstHave B.lifts NoneHave)) (A.cost ∷ (B.cost ∷ [])) (more_told first_in rest_in A.fits A.reading A.lifts A.cost (A.told (left_true A.is_told B.is_told h)) (B.fits ∷ []) (first_reading first_in rest_in B.reading none_reading) (FirstHave B.lifts NoneHave) (B.cost ∷ []) (more_told first_in rest_in B.fits B.reading B.lifts B.cost (B.told (right_true A.is_told B.is_told h)) [] none_reading NoneHave [] end_told)) };
+    ghost apart = { product_apart (λ p. (first_and p.0 (first_and p.1 no_more))) (more_apart A.apart (more_apart B.apart end_apart)) };
+
+    ghost faulted = { tuple_faulted (λ p. (first_and p.0 (first_and p.1 no_more))) (more_faulted A.faulted (more_faulted B.faulted end_faulted)) };
+
+    ghost priced = { tuple_priced (λ p. (first_and p.0 (first_and p.1 no_more))) (more_priced A.priced (more_priced B.priced end_priced)) };
+
+    ghost told = { λ h. tuple_told (λ p. (first_and p.0 (first_and p.1 no_more))) (more_told (A.told (left_true A.is_told B.is_told h)) (more_told
+        (B.told (right_true A.is_told B.is_told h)) end_told)) };
 }
 
 impl<A: Lift, B: Lift, C: Lift> Lift for (A, B, C) {
-    ghost reading = { product_reading (λ p. (first_and p.0 (first_and p.1 (first_and p.2 no_more)))) (first_reading first_in rest_in A.reading (first_reading first_in rest_in B.reading (first_reading first_in rest_in C.reading none_reading))) };
+    ghost reading = { product_reading (λ p. (first_and p.0 (first_and p.1 (first_and p.2 no_more)))) (first_reading first_in rest_in A.reading
+        (first_reading first_in rest_in B.reading (first_reading first_in rest_in C.reading none_reading))) };
+
+    ghost kept = { tuple_kept (λ p. (first_and p.0 (first_and p.1 (first_and p.2 no_more)))) (more_kept A.kept (more_kept B.kept (more_kept C.kept end_kept))) };
 
     fn unit_value() -> Option<(A, B, C)> {
         None
@@ -211,13 +245,32 @@ impl<A: Lift, B: Lift, C: Lift> Lift for (A, B, C) {
         }
     }
 
-    ghost taken = { product_taken (λ p. (first_and p.0 (first_and p.1 (first_and p.2 no_more)))) (first_reading first_in rest_in A.reading (first_reading first_in rest_in B.reading (first_reading first_in rest_in C.reading none_reading))) (more_taken first_in rest_in A.reading (first_reading first_in rest_in B.reading (first_reading first_in rest_in C.reading none_reading)) A.taken (more_taken first_in rest_in B.reading (first_reading first_in rest_in C.reading none_reading) B.taken (more_taken first_in rest_in C.reading none_reading C.taken end_taken))) };
+    ghost taken = { product_taken (λ p. (first_and p.0 (first_and p.1 (first_and p.2 no_more)))) (first_reading first_in rest_in A.reading
+        (first_reading first_in rest_in B.reading (first_reading first_in rest_in C.reading none_reading))) (more_taken first_in rest_in A.reading
+        (first_reading first_in rest_in B.reading (first_reading first_in rest_in C.reading none_reading)) A.taken (more_taken first_in rest_in
+        B.reading (first_reading first_in rest_in C.reading none_reading) B.taken (more_taken first_in rest_in C.reading none_reading C.taken
+        end_taken))) };
 
-    ghost told = { λ h. tuple_told (λ p. (first_and p.0 (first_and p.1 (first_and p.2 no_more)))) (A.fits ∷ (B.fits ∷ (C.fits ∷ []))) (first_reading first_in rest_in A.reading (first_reading first_in rest_in B.reading (first_reading first_in rest_in C.reading none_reading))) (FirstHave A.lifts (FirstHave B.lifts (FirstHave C.lifts NoneHave))) (A.cost ∷ (B.cost ∷ (C.cost ∷ []))) (more_told first_in rest_in A.fits A.reading A.lifts A.cost (A.told (left_true A.is_told B.is_told (left_true (A.is_told && B.is_told) C.is_told h))) (B.fits ∷ (C.fits ∷ [])) (first_reading first_in rest_in B.reading (first_reading first_in rest_in C.reading none_reading)) (FirstHave B.lifts (FirstHave C.lifts NoneHave)) (B.cost ∷ (C.cost ∷ [])) (more_told first_in rest_in B.fits B.reading B.lifts B.cost (B.told (right_true A.is_told B.is_told (left_true (A.is_told && B.is_told) C.is_told h))) (C.fits ∷ []) (first_reading first_in rest_in C.reading none_reading) (FirstHave C.lifts NoneHave) (C.cost ∷ []) (more_told first_in rest_in C.fits C.reading C.lifts C.cost (C.told (right_true (A.is_told && B.is_told) C.is_told h)) [] none_reading NoneHave [] end_told))) };
+    ghost apart = { product_apart (λ p. (first_and p.0 (first_and p.1 (first_and p.2 no_more)))) (more_apart A.apart (more_apart B.apart (more_apart
+        C.apart end_apart))) };
+
+    ghost faulted = { tuple_faulted (λ p. (first_and p.0 (first_and p.1 (first_and p.2 no_more)))) (more_faulted A.faulted (more_faulted B.faulted
+        (more_faulted C.faulted end_faulted))) };
+
+    ghost priced = { tuple_priced (λ p. (first_and p.0 (first_and p.1 (first_and p.2 no_more)))) (more_priced A.priced (more_priced B.priced
+        (more_priced C.priced end_priced))) };
+
+    ghost told = { λ h. tuple_told (λ p. (first_and p.0 (first_and p.1 (first_and p.2 no_more)))) (more_told (A.told (left_true A.is_told B.is_told
+        (left_true (A.is_told && B.is_told) C.is_told h))) (more_told (B.told (right_true A.is_told B.is_told (left_true (A.is_told && B.is_told)
+        C.is_told h))) (more_told (C.told (right_true (A.is_told && B.is_told) C.is_told h)) end_told))) };
 }
 
 impl<A: Lift, B: Lift, C: Lift, D: Lift> Lift for (A, B, C, D) {
-    ghost reading = { product_reading (λ p. (first_and p.0 (first_and p.1 (first_and p.2 (first_and p.3 no_more))))) (first_reading first_in rest_in A.reading (first_reading first_in rest_in B.reading (first_reading first_in rest_in C.reading (first_reading first_in rest_in D.reading none_reading)))) };
+    ghost reading = { product_reading (λ p. (first_and p.0 (first_and p.1 (first_and p.2 (first_and p.3 no_more))))) (first_reading first_in rest_in
+        A.reading (first_reading first_in rest_in B.reading (first_reading first_in rest_in C.reading (first_reading first_in rest_in D.reading
+        none_reading)))) };
+
+    ghost kept = { tuple_kept (λ p. (first_and p.0 (first_and p.1 (first_and p.2 (first_and p.3 no_more))))) (more_kept A.kept (more_kept B.kept (more_kept C.kept (more_kept D.kept end_kept)))) };
 
     fn unit_value() -> Option<(A, B, C, D)> {
         None
@@ -280,13 +333,35 @@ impl<A: Lift, B: Lift, C: Lift, D: Lift> Lift for (A, B, C, D) {
         }
     }
 
-    ghost taken = { product_taken (λ p. (first_and p.0 (first_and p.1 (first_and p.2 (first_and p.3 no_more))))) (first_reading first_in rest_in A.reading (first_reading first_in rest_in B.reading (first_reading first_in rest_in C.reading (first_reading first_in rest_in D.reading none_reading)))) (more_taken first_in rest_in A.reading (first_reading first_in rest_in B.reading (first_reading first_in rest_in C.reading (first_reading first_in rest_in D.reading none_reading))) A.taken (more_taken first_in rest_in B.reading (first_reading first_in rest_in C.reading (first_reading first_in rest_in D.reading none_reading)) B.taken (more_taken first_in rest_in C.reading (first_reading first_in rest_in D.reading none_reading) C.taken (more_taken first_in rest_in D.reading none_reading D.taken end_taken)))) };
+    ghost taken = { product_taken (λ p. (first_and p.0 (first_and p.1 (first_and p.2 (first_and p.3 no_more))))) (first_reading first_in rest_in
+        A.reading (first_reading first_in rest_in B.reading (first_reading first_in rest_in C.reading (first_reading first_in rest_in D.reading
+        none_reading)))) (more_taken first_in rest_in A.reading (first_reading first_in rest_in B.reading (first_reading first_in rest_in C.reading
+        (first_reading first_in rest_in D.reading none_reading))) A.taken (more_taken first_in rest_in B.reading (first_reading first_in rest_in
+        C.reading (first_reading first_in rest_in D.reading none_reading)) B.taken (more_taken first_in rest_in C.reading (first_reading first_in
+        rest_in D.reading none_reading) C.taken (more_taken first_in rest_in D.reading none_reading D.taken end_taken)))) };
 
-    ghost told = { λ h. tuple_told (λ p. (first_and p.0 (first_and p.1 (first_and p.2 (first_and p.3 no_more))))) (A.fits ∷ (B.fits ∷ (C.fits ∷ (D.fits ∷ [])))) (first_reading first_in rest_in A.reading (first_reading first_in rest_in B.reading (first_reading first_in rest_in C.reading (first_reading first_in rest_in D.reading none_reading)))) (FirstHave A.lifts (FirstHave B.lifts (FirstHave C.lifts (FirstHave D.lifts NoneHave)))) (A.cost ∷ (B.cost ∷ (C.cost ∷ (D.cost ∷ [])))) (more_told first_in rest_in A.fits A.reading A.lifts A.cost (A.told (left_true A.is_told B.is_told (left_true (A.is_told && B.is_told) C.is_told (left_true ((A.is_told && B.is_told) && C.is_told) D.is_told h)))) (B.fits ∷ (C.fits ∷ (D.fits ∷ []))) (first_reading first_in rest_in B.reading (first_reading first_in rest_in C.reading (first_reading first_in rest_in D.reading none_reading))) (FirstHave B.lifts (FirstHave C.lifts (FirstHave D.lifts NoneHave))) (B.cost ∷ (C.cost ∷ (D.cost ∷ []))) (more_told first_in rest_in B.fits B.reading B.lifts B.cost (B.told (right_true A.is_told B.is_told (left_true (A.is_told && B.is_told) C.is_told (left_true ((A.is_told && B.is_told) && C.is_told) D.is_told h)))) (C.fits ∷ (D.fits ∷ [])) (first_reading first_in rest_in C.reading (first_reading first_in rest_in D.reading none_reading)) (FirstHave C.lifts (FirstHave D.lifts NoneHave)) (C.cost ∷ (D.cost ∷ [])) (more_told first_in rest_in C.fits C.reading C.lifts C.cost (C.told (right_true (A.is_told && B.is_told) C.is_told (left_true ((A.is_told && B.is_told) && C.is_told) D.is_told h))) (D.fits ∷ []) (first_reading first_in rest_in D.reading none_reading) (FirstHave D.lifts NoneHave) (D.cost ∷ []) (more_told first_in rest_in D.fits D.reading D.lifts D.cost (D.told (right_true ((A.is_told && B.is_told) && C.is_told) D.is_told h)) [] none_reading NoneHave [] end_told)))) };
+    ghost apart = { product_apart (λ p. (first_and p.0 (first_and p.1 (first_and p.2 (first_and p.3 no_more))))) (more_apart A.apart (more_apart
+        B.apart (more_apart C.apart (more_apart D.apart end_apart)))) };
+
+    ghost faulted = { tuple_faulted (λ p. (first_and p.0 (first_and p.1 (first_and p.2 (first_and p.3 no_more))))) (more_faulted A.faulted
+        (more_faulted B.faulted (more_faulted C.faulted (more_faulted D.faulted end_faulted)))) };
+
+    ghost priced = { tuple_priced (λ p. (first_and p.0 (first_and p.1 (first_and p.2 (first_and p.3 no_more))))) (more_priced A.priced (more_priced
+        B.priced (more_priced C.priced (more_priced D.priced end_priced)))) };
+
+    ghost told = { λ h. tuple_told (λ p. (first_and p.0 (first_and p.1 (first_and p.2 (first_and p.3 no_more))))) (more_told (A.told (left_true
+        A.is_told B.is_told (left_true (A.is_told && B.is_told) C.is_told (left_true ((A.is_told && B.is_told) && C.is_told) D.is_told h))))
+        (more_told (B.told (right_true A.is_told B.is_told (left_true (A.is_told && B.is_told) C.is_told (left_true ((A.is_told && B.is_told) &&
+        C.is_told) D.is_told h)))) (more_told (C.told (right_true (A.is_told && B.is_told) C.is_told (left_true ((A.is_told && B.is_told) &&
+        C.is_told) D.is_told h))) (more_told (D.told (right_true ((A.is_told && B.is_told) && C.is_told) D.is_told h)) end_told)))) };
 }
 
 impl<A: Lift, B: Lift, C: Lift, D: Lift, E: Lift> Lift for (A, B, C, D, E) {
-    ghost reading = { product_reading (λ p. (first_and p.0 (first_and p.1 (first_and p.2 (first_and p.3 (first_and p.4 no_more)))))) (first_reading first_in rest_in A.reading (first_reading first_in rest_in B.reading (first_reading first_in rest_in C.reading (first_reading first_in rest_in D.reading (first_reading first_in rest_in E.reading none_reading))))) };
+    ghost reading = { product_reading (λ p. (first_and p.0 (first_and p.1 (first_and p.2 (first_and p.3 (first_and p.4 no_more)))))) (first_reading
+        first_in rest_in A.reading (first_reading first_in rest_in B.reading (first_reading first_in rest_in C.reading (first_reading first_in rest_in
+        D.reading (first_reading first_in rest_in E.reading none_reading))))) };
+
+    ghost kept = { tuple_kept (λ p. (first_and p.0 (first_and p.1 (first_and p.2 (first_and p.3 (first_and p.4 no_more)))))) (more_kept A.kept (more_kept B.kept (more_kept C.kept (more_kept D.kept (more_kept E.kept end_kept))))) };
 
     fn unit_value() -> Option<(A, B, C, D, E)> {
         None
@@ -357,13 +432,40 @@ impl<A: Lift, B: Lift, C: Lift, D: Lift, E: Lift> Lift for (A, B, C, D, E) {
         }
     }
 
-    ghost taken = { product_taken (λ p. (first_and p.0 (first_and p.1 (first_and p.2 (first_and p.3 (first_and p.4 no_more)))))) (first_reading first_in rest_in A.reading (first_reading first_in rest_in B.reading (first_reading first_in rest_in C.reading (first_reading first_in rest_in D.reading (first_reading first_in rest_in E.reading none_reading))))) (more_taken first_in rest_in A.reading (first_reading first_in rest_in B.reading (first_reading first_in rest_in C.reading (first_reading first_in rest_in D.reading (first_reading first_in rest_in E.reading none_reading)))) A.taken (more_taken first_in rest_in B.reading (first_reading first_in rest_in C.reading (first_reading first_in rest_in D.reading (first_reading first_in rest_in E.reading none_reading))) B.taken (more_taken first_in rest_in C.reading (first_reading first_in rest_in D.reading (first_reading first_in rest_in E.reading none_reading)) C.taken (more_taken first_in rest_in D.reading (first_reading first_in rest_in E.reading none_reading) D.taken (more_taken first_in rest_in E.reading none_reading E.taken end_taken))))) };
+    ghost taken = { product_taken (λ p. (first_and p.0 (first_and p.1 (first_and p.2 (first_and p.3 (first_and p.4 no_more)))))) (first_reading
+        first_in rest_in A.reading (first_reading first_in rest_in B.reading (first_reading first_in rest_in C.reading (first_reading first_in rest_in
+        D.reading (first_reading first_in rest_in E.reading none_reading))))) (more_taken first_in rest_in A.reading (first_reading first_in rest_in
+        B.reading (first_reading first_in rest_in C.reading (first_reading first_in rest_in D.reading (first_reading first_in rest_in E.reading
+        none_reading)))) A.taken (more_taken first_in rest_in B.reading (first_reading first_in rest_in C.reading (first_reading first_in rest_in
+        D.reading (first_reading first_in rest_in E.reading none_reading))) B.taken (more_taken first_in rest_in C.reading (first_reading first_in
+        rest_in D.reading (first_reading first_in rest_in E.reading none_reading)) C.taken (more_taken first_in rest_in D.reading (first_reading
+        first_in rest_in E.reading none_reading) D.taken (more_taken first_in rest_in E.reading none_reading E.taken end_taken))))) };
 
-    ghost told = { λ h. tuple_told (λ p. (first_and p.0 (first_and p.1 (first_and p.2 (first_and p.3 (first_and p.4 no_more)))))) (A.fits ∷ (B.fits ∷ (C.fits ∷ (D.fits ∷ (E.fits ∷ []))))) (first_reading first_in rest_in A.reading (first_reading first_in rest_in B.reading (first_reading first_in rest_in C.reading (first_reading first_in rest_in D.reading (first_reading first_in rest_in E.reading none_reading))))) (FirstHave A.lifts (FirstHave B.lifts (FirstHave C.lifts (FirstHave D.lifts (FirstHave E.lifts NoneHave))))) (A.cost ∷ (B.cost ∷ (C.cost ∷ (D.cost ∷ (E.cost ∷ []))))) (more_told first_in rest_in A.fits A.reading A.lifts A.cost (A.told (left_true A.is_told B.is_told (left_true (A.is_told && B.is_told) C.is_told (left_true ((A.is_told && B.is_told) && C.is_told) D.is_told (left_true (((A.is_told && B.is_told) && C.is_told) && D.is_told) E.is_told h))))) (B.fits ∷ (C.fits ∷ (D.fits ∷ (E.fits ∷ [])))) (first_reading first_in rest_in B.reading (first_reading first_in rest_in C.reading (first_reading first_in rest_in D.reading (first_reading first_in rest_in E.reading none_reading)))) (FirstHave B.lifts (FirstHave C.lifts (FirstHave D.lifts (FirstHave E.lifts NoneHave)))) (B.cost ∷ (C.cost ∷ (D.cost ∷ (E.cost ∷ [])))) (more_told first_in rest_in B.fits B.reading B.lifts B.cost (B.told (right_true A.is_told B.is_told (left_true (A.is_told && B.is_told) C.is_told (left_true ((A.is_told && B.is_told) && C.is_told) D.is_told (left_true (((A.is_told && B.is_told) && C.is_told) && D.is_told) E.is_told h))))) (C.fits ∷ (D.fits ∷ (E.fits ∷ []))) (first_reading first_in rest_in C.reading (first_reading first_in rest_in D.reading (first_reading first_in rest_in E.reading none_reading))) (FirstHave C.lifts (FirstHave D.lifts (FirstHave E.lifts NoneHave))) (C.cost ∷ (D.cost ∷ (E.cost ∷ []))) (more_told first_in rest_in C.fits C.reading C.lifts C.cost (C.told (right_true (A.is_told && B.is_told) C.is_told (left_true ((A.is_told && B.is_told) && C.is_told) D.is_told (left_true (((A.is_told && B.is_told) && C.is_told) && D.is_told) E.is_told h)))) (D.fits ∷ (E.fits ∷ [])) (first_reading first_in rest_in D.reading (first_reading first_in rest_in E.reading none_reading)) (FirstHave D.lifts (FirstHave E.lifts NoneHave)) (D.cost ∷ (E.cost ∷ [])) (more_told first_in rest_in D.fits D.reading D.lifts D.cost (D.told (right_true ((A.is_told && B.is_told) && C.is_told) D.is_told (left_true (((A.is_told && B.is_told) && C.is_told) && D.is_told) E.is_told h))) (E.fits ∷ []) (first_reading first_in rest_in E.reading none_reading) (FirstHave E.lifts NoneHave) (E.cost ∷ []) (more_told first_in rest_in E.fits E.reading E.lifts E.cost (E.told (right_true (((A.is_told && B.is_told) && C.is_told) && D.is_told) E.is_told h)) [] none_reading NoneHave [] end_told))))) };
+    ghost apart = { product_apart (λ p. (first_and p.0 (first_and p.1 (first_and p.2 (first_and p.3 (first_and p.4 no_more)))))) (more_apart A.apart
+        (more_apart B.apart (more_apart C.apart (more_apart D.apart (more_apart E.apart end_apart))))) };
+
+    ghost faulted = { tuple_faulted (λ p. (first_and p.0 (first_and p.1 (first_and p.2 (first_and p.3 (first_and p.4 no_more)))))) (more_faulted
+        A.faulted (more_faulted B.faulted (more_faulted C.faulted (more_faulted D.faulted (more_faulted E.faulted end_faulted))))) };
+
+    ghost priced = { tuple_priced (λ p. (first_and p.0 (first_and p.1 (first_and p.2 (first_and p.3 (first_and p.4 no_more)))))) (more_priced A.priced
+        (more_priced B.priced (more_priced C.priced (more_priced D.priced (more_priced E.priced end_priced))))) };
+
+    ghost told = { λ h. tuple_told (λ p. (first_and p.0 (first_and p.1 (first_and p.2 (first_and p.3 (first_and p.4 no_more)))))) (more_told (A.told
+        (left_true A.is_told B.is_told (left_true (A.is_told && B.is_told) C.is_told (left_true ((A.is_told && B.is_told) && C.is_told) D.is_told
+        (left_true (((A.is_told && B.is_told) && C.is_told) && D.is_told) E.is_told h))))) (more_told (B.told (right_true A.is_told B.is_told
+        (left_true (A.is_told && B.is_told) C.is_told (left_true ((A.is_told && B.is_told) && C.is_told) D.is_told (left_true (((A.is_told &&
+        B.is_told) && C.is_told) && D.is_told) E.is_told h))))) (more_told (C.told (right_true (A.is_told && B.is_told) C.is_told (left_true
+        ((A.is_told && B.is_told) && C.is_told) D.is_told (left_true (((A.is_told && B.is_told) && C.is_told) && D.is_told) E.is_told h)))) (more_told
+        (D.told (right_true ((A.is_told && B.is_told) && C.is_told) D.is_told (left_true (((A.is_told && B.is_told) && C.is_told) && D.is_told)
+        E.is_told h))) (more_told (E.told (right_true (((A.is_told && B.is_told) && C.is_told) && D.is_told) E.is_told h)) end_told))))) };
 }
 
 impl<A: Lift, B: Lift, C: Lift, D: Lift, E: Lift, F: Lift> Lift for (A, B, C, D, E, F) {
-    ghost reading = { product_reading (λ p. (first_and p.0 (first_and p.1 (first_and p.2 (first_and p.3 (first_and p.4 (first_and p.5 no_more))))))) (first_reading first_in rest_in A.reading (first_reading first_in rest_in B.reading (first_reading first_in rest_in C.reading (first_reading first_in rest_in D.reading (first_reading first_in rest_in E.reading (first_reading first_in rest_in F.reading none_reading)))))) };
+    ghost reading = { product_reading (λ p. (first_and p.0 (first_and p.1 (first_and p.2 (first_and p.3 (first_and p.4 (first_and p.5 no_more)))))))
+        (first_reading first_in rest_in A.reading (first_reading first_in rest_in B.reading (first_reading first_in rest_in C.reading (first_reading
+        first_in rest_in D.reading (first_reading first_in rest_in E.reading (first_reading first_in rest_in F.reading none_reading)))))) };
+
+    ghost kept = { tuple_kept (λ p. (first_and p.0 (first_and p.1 (first_and p.2 (first_and p.3 (first_and p.4 (first_and p.5 no_more))))))) (more_kept A.kept (more_kept B.kept (more_kept C.kept (more_kept D.kept (more_kept E.kept (more_kept F.kept end_kept)))))) };
 
     fn unit_value() -> Option<(A, B, C, D, E, F)> {
         None
@@ -442,7 +544,40 @@ impl<A: Lift, B: Lift, C: Lift, D: Lift, E: Lift, F: Lift> Lift for (A, B, C, D,
         }
     }
 
-    ghost taken = { product_taken (λ p. (first_and p.0 (first_and p.1 (first_and p.2 (first_and p.3 (first_and p.4 (first_and p.5 no_more))))))) (first_reading first_in rest_in A.reading (first_reading first_in rest_in B.reading (first_reading first_in rest_in C.reading (first_reading first_in rest_in D.reading (first_reading first_in rest_in E.reading (first_reading first_in rest_in F.reading none_reading)))))) (more_taken first_in rest_in A.reading (first_reading first_in rest_in B.reading (first_reading first_in rest_in C.reading (first_reading first_in rest_in D.reading (first_reading first_in rest_in E.reading (first_reading first_in rest_in F.reading none_reading))))) A.taken (more_taken first_in rest_in B.reading (first_reading first_in rest_in C.reading (first_reading first_in rest_in D.reading (first_reading first_in rest_in E.reading (first_reading first_in rest_in F.reading none_reading)))) B.taken (more_taken first_in rest_in C.reading (first_reading first_in rest_in D.reading (first_reading first_in rest_in E.reading (first_reading first_in rest_in F.reading none_reading))) C.taken (more_taken first_in rest_in D.reading (first_reading first_in rest_in E.reading (first_reading first_in rest_in F.reading none_reading)) D.taken (more_taken first_in rest_in E.reading (first_reading first_in rest_in F.reading none_reading) E.taken (more_taken first_in rest_in F.reading none_reading F.taken end_taken)))))) };
+    ghost taken = { product_taken (λ p. (first_and p.0 (first_and p.1 (first_and p.2 (first_and p.3 (first_and p.4 (first_and p.5 no_more)))))))
+        (first_reading first_in rest_in A.reading (first_reading first_in rest_in B.reading (first_reading first_in rest_in C.reading (first_reading
+        first_in rest_in D.reading (first_reading first_in rest_in E.reading (first_reading first_in rest_in F.reading none_reading)))))) (more_taken
+        first_in rest_in A.reading (first_reading first_in rest_in B.reading (first_reading first_in rest_in C.reading (first_reading first_in rest_in
+        D.reading (first_reading first_in rest_in E.reading (first_reading first_in rest_in F.reading none_reading))))) A.taken (more_taken first_in
+        rest_in B.reading (first_reading first_in rest_in C.reading (first_reading first_in rest_in D.reading (first_reading first_in rest_in
+        E.reading (first_reading first_in rest_in F.reading none_reading)))) B.taken (more_taken first_in rest_in C.reading (first_reading first_in
+        rest_in D.reading (first_reading first_in rest_in E.reading (first_reading first_in rest_in F.reading none_reading))) C.taken (more_taken
+        first_in rest_in D.reading (first_reading first_in rest_in E.reading (first_reading first_in rest_in F.reading none_reading)) D.taken
+        (more_taken first_in rest_in E.reading (first_reading first_in rest_in F.reading none_reading) E.taken (more_taken first_in rest_in F.reading
+        none_reading F.taken end_taken)))))) };
 
-    ghost told = { λ h. tuple_told (λ p. (first_and p.0 (first_and p.1 (first_and p.2 (first_and p.3 (first_and p.4 (first_and p.5 no_more))))))) (A.fits ∷ (B.fits ∷ (C.fits ∷ (D.fits ∷ (E.fits ∷ (F.fits ∷ [])))))) (first_reading first_in rest_in A.reading (first_reading first_in rest_in B.reading (first_reading first_in rest_in C.reading (first_reading first_in rest_in D.reading (first_reading first_in rest_in E.reading (first_reading first_in rest_in F.reading none_reading)))))) (FirstHave A.lifts (FirstHave B.lifts (FirstHave C.lifts (FirstHave D.lifts (FirstHave E.lifts (FirstHave F.lifts NoneHave)))))) (A.cost ∷ (B.cost ∷ (C.cost ∷ (D.cost ∷ (E.cost ∷ (F.cost ∷ [])))))) (more_told first_in rest_in A.fits A.reading A.lifts A.cost (A.told (left_true A.is_told B.is_told (left_true (A.is_told && B.is_told) C.is_told (left_true ((A.is_told && B.is_told) && C.is_told) D.is_told (left_true (((A.is_told && B.is_told) && C.is_told) && D.is_told) E.is_told (left_true ((((A.is_told && B.is_told) && C.is_told) && D.is_told) && E.is_told) F.is_told h)))))) (B.fits ∷ (C.fits ∷ (D.fits ∷ (E.fits ∷ (F.fits ∷ []))))) (first_reading first_in rest_in B.reading (first_reading first_in rest_in C.reading (first_reading first_in rest_in D.reading (first_reading first_in rest_in E.reading (first_reading first_in rest_in F.reading none_reading))))) (FirstHave B.lifts (FirstHave C.lifts (FirstHave D.lifts (FirstHave E.lifts (FirstHave F.lifts NoneHave))))) (B.cost ∷ (C.cost ∷ (D.cost ∷ (E.cost ∷ (F.cost ∷ []))))) (more_told first_in rest_in B.fits B.reading B.lifts B.cost (B.told (right_true A.is_told B.is_told (left_true (A.is_told && B.is_told) C.is_told (left_true ((A.is_told && B.is_told) && C.is_told) D.is_told (left_true (((A.is_told && B.is_told) && C.is_told) && D.is_told) E.is_told (left_true ((((A.is_told && B.is_told) && C.is_told) && D.is_told) && E.is_told) F.is_told h)))))) (C.fits ∷ (D.fits ∷ (E.fits ∷ (F.fits ∷ [])))) (first_reading first_in rest_in C.reading (first_reading first_in rest_in D.reading (first_reading first_in rest_in E.reading (first_reading first_in rest_in F.reading none_reading)))) (FirstHave C.lifts (FirstHave D.lifts (FirstHave E.lifts (FirstHave F.lifts NoneHave)))) (C.cost ∷ (D.cost ∷ (E.cost ∷ (F.cost ∷ [])))) (more_told first_in rest_in C.fits C.reading C.lifts C.cost (C.told (right_true (A.is_told && B.is_told) C.is_told (left_true ((A.is_told && B.is_told) && C.is_told) D.is_told (left_true (((A.is_told && B.is_told) && C.is_told) && D.is_told) E.is_told (left_true ((((A.is_told && B.is_told) && C.is_told) && D.is_told) && E.is_told) F.is_told h))))) (D.fits ∷ (E.fits ∷ (F.fits ∷ []))) (first_reading first_in rest_in D.reading (first_reading first_in rest_in E.reading (first_reading first_in rest_in F.reading none_reading))) (FirstHave D.lifts (FirstHave E.lifts (FirstHave F.lifts NoneHave))) (D.cost ∷ (E.cost ∷ (F.cost ∷ []))) (more_told first_in rest_in D.fits D.reading D.lifts D.cost (D.told (right_true ((A.is_told && B.is_told) && C.is_told) D.is_told (left_true (((A.is_told && B.is_told) && C.is_told) && D.is_told) E.is_told (left_true ((((A.is_told && B.is_told) && C.is_told) && D.is_told) && E.is_told) F.is_told h)))) (E.fits ∷ (F.fits ∷ [])) (first_reading first_in rest_in E.reading (first_reading first_in rest_in F.reading none_reading)) (FirstHave E.lifts (FirstHave F.lifts NoneHave)) (E.cost ∷ (F.cost ∷ [])) (more_told first_in rest_in E.fits E.reading E.lifts E.cost (E.told (right_true (((A.is_told && B.is_told) && C.is_told) && D.is_told) E.is_told (left_true ((((A.is_told && B.is_told) && C.is_told) && D.is_told) && E.is_told) F.is_told h))) (F.fits ∷ []) (first_reading first_in rest_in F.reading none_reading) (FirstHave F.lifts NoneHave) (F.cost ∷ []) (more_told first_in rest_in F.fits F.reading F.lifts F.cost (F.told (right_true ((((A.is_told && B.is_told) && C.is_told) && D.is_told) && E.is_told) F.is_told h)) [] none_reading NoneHave [] end_told)))))) };
+    ghost apart = { product_apart (λ p. (first_and p.0 (first_and p.1 (first_and p.2 (first_and p.3 (first_and p.4 (first_and p.5 no_more)))))))
+        (more_apart A.apart (more_apart B.apart (more_apart C.apart (more_apart D.apart (more_apart E.apart (more_apart F.apart end_apart)))))) };
+
+    ghost faulted = { tuple_faulted (λ p. (first_and p.0 (first_and p.1 (first_and p.2 (first_and p.3 (first_and p.4 (first_and p.5 no_more)))))))
+        (more_faulted A.faulted (more_faulted B.faulted (more_faulted C.faulted (more_faulted D.faulted (more_faulted E.faulted (more_faulted
+        F.faulted end_faulted)))))) };
+
+    ghost priced = { tuple_priced (λ p. (first_and p.0 (first_and p.1 (first_and p.2 (first_and p.3 (first_and p.4 (first_and p.5 no_more)))))))
+        (more_priced A.priced (more_priced B.priced (more_priced C.priced (more_priced D.priced (more_priced E.priced (more_priced F.priced
+        end_priced)))))) };
+
+    ghost told = { λ h. tuple_told (λ p. (first_and p.0 (first_and p.1 (first_and p.2 (first_and p.3 (first_and p.4 (first_and p.5 no_more)))))))
+        (more_told (A.told (left_true A.is_told B.is_told (left_true (A.is_told && B.is_told) C.is_told (left_true ((A.is_told && B.is_told) &&
+        C.is_told) D.is_told (left_true (((A.is_told && B.is_told) && C.is_told) && D.is_told) E.is_told (left_true ((((A.is_told && B.is_told) &&
+        C.is_told) && D.is_told) && E.is_told) F.is_told h)))))) (more_told (B.told (right_true A.is_told B.is_told (left_true (A.is_told &&
+        B.is_told) C.is_told (left_true ((A.is_told && B.is_told) && C.is_told) D.is_told (left_true (((A.is_told && B.is_told) && C.is_told) &&
+        D.is_told) E.is_told (left_true ((((A.is_told && B.is_told) && C.is_told) && D.is_told) && E.is_told) F.is_told h)))))) (more_told (C.told
+        (right_true (A.is_told && B.is_told) C.is_told (left_true ((A.is_told && B.is_told) && C.is_told) D.is_told (left_true (((A.is_told &&
+        B.is_told) && C.is_told) && D.is_told) E.is_told (left_true ((((A.is_told && B.is_told) && C.is_told) && D.is_told) && E.is_told) F.is_told
+        h))))) (more_told (D.told (right_true ((A.is_told && B.is_told) && C.is_told) D.is_told (left_true (((A.is_told && B.is_told) && C.is_told) &&
+        D.is_told) E.is_told (left_true ((((A.is_told && B.is_told) && C.is_told) && D.is_told) && E.is_told) F.is_told h)))) (more_told (E.told
+        (right_true (((A.is_told && B.is_told) && C.is_told) && D.is_told) E.is_told (left_true ((((A.is_told && B.is_told) && C.is_told) &&
+        D.is_told) && E.is_told) F.is_told h))) (more_told (F.told (right_true ((((A.is_told && B.is_told) && C.is_told) && D.is_told) && E.is_told)
+        F.is_told h)) end_told)))))) };
 }

@@ -1,19 +1,29 @@
 //! Lists that stay in memory.
 
-ghost use Rattle.std.specs.Prelude.{◌≡◌, ◌<◌, ◌^◌, false, ⊤};
+ghost use Rattle.std.specs.Prelude.{◌≡◌, ◌↔◌, ◌≤◌, ◌<◌, ◌+◌, ◌*◌, ◌%◌, ◌^◌, IfSome, IsNone, IsTrue, false, length, ℕ};
 ghost use Rattle.canon_context.specs.Core.{types_of};
+ghost use Rattle.std.proofs.Common.{refl};
+ghost use Rattle.canon_lift.specs.Scopes.{plain_kept};
 ghost use Rattle.canon_types.specs.Table.{Knows, shape_of};
-ghost use Rattle.canon_typed.specs.Charges.{cap, free};
+ghost use Rattle.canon_types.specs.declared.types.InterfaceType.TheVariants as ty;
+ghost use Rattle.canon_typed.specs.Charges.{cap, free, list_cost};
 ghost use Rattle.canon_typed.specs.Types.{IsListOf};
+ghost use Rattle.canon_lift.specs.Apart.{wasm_list_apart};
 ghost use Rattle.canon_lift.specs.OfTrees.{untrue};
-ghost use Rattle.canon_lift.specs.Ranges.{IsListFrom, ListTested, wasm_list_reading};
-ghost use Rattle.canon_lift.specs.Reading.{setting_in};
+ghost use Rattle.canon_lift.specs.RowsOfTrees.{wasm_list_faulted, wasm_list_priced};
+ghost use Rattle.canon_lift.specs.Ranges.{IsListFrom, IsListOfCore, ListTested, wasm_list_reading};
+ghost use Rattle.canon_lift.specs.Reading.{Lifts, setting_in};
+ghost use Rattle.canon_lift.specs.Readings.{item_spot};
+ghost use Rattle.canon_lift.specs.Spots.{stored};
+ghost use Rattle.canon_lowering.specs.Storing.{narrow};
 ghost use Rattle.canon_lift.specs.Taken.{none_taken};
+ghost use Rattle.canon_lift.specs.Views.{ListFits};
+ghost use Rattle.canon_model.specs.Memory.{bytes_at};
 
 use crate::Lift;
 use crate::words::{word_at, word_u32};
 use canon_bytes::load_u32;
-use canon_context::{At, Fault, LiftContext};
+use canon_context::{At, Core, Fault, LiftContext, MemoryView};
 use canon_memory::ValRaw;
 use canon_typed::{ComponentType, TypecheckFailed};
 use canon_types::{CanonicalAbiInfo, InstanceType, InterfaceType, OptionsIndex, StoreId};
@@ -60,7 +70,31 @@ pub(crate) fn list_from<T: ComponentType, U, G>(
     Ok(WasmList::row(cx, element, pointer, count))
 }
 
+/// Whether so many items of a size stand in a row from an address on inside memory, aligned.
+fn is_row(memory: &[u8], pointer: u64, count: u64, size: u64, align: u64) -> bool
+    requires some { 0 < align }
+    ensures { IsTrue result ↔ ((pointer % align ≡ 0) × (pointer + count * size ≤ length memory.now)) }
+{
+    if pointer % align != 0 {
+        return false;
+    }
+    match count.checked_mul(size) {
+        Some(bytes) => match pointer.checked_add(bytes) {
+            Some(end) => end <= memory.len() as u64,
+            None => false,
+        },
+        None => false,
+    }
+}
+
 impl<T> WasmList<T> {
+    /// How many items there are.
+    pub fn len(&self) -> u64
+        ensures { result ≡ self.now.count }
+    {
+        self.count
+    }
+
     /// So many items of a type that stand in a row from an address on.
     pub(crate) fn row<U, G>(
         cx: &LiftContext<'_, U, G>,
@@ -81,6 +115,103 @@ impl<T> WasmList<T> {
     }
 }
 
+impl<T: ComponentType> WasmList<T> {
+    /// Whether the list is of the view's store, its items are of the Rust type, and they lie aligned inside the view's memory, which is
+    /// the condition of `as_le_slice` and `to_le_vec`.
+    pub fn fits(&self, view: &MemoryView<'_>) -> bool
+        ensures { IsTrue result ↔ ListFits T.fits view.now self.now }
+    {
+        let types = view.types().types();
+        if self.store == view.store_id()
+            && view.has_options(self.options)
+            && types.contains(&self.element)
+            && T::typecheck(&self.element, view.types()).is_ok()
+        {
+            let abi = types.canonical_abi(&self.element);
+            is_row(
+                view.memory(),
+                self.pointer,
+                self.count,
+                u64::from(abi.size32),
+                u64::from(abi.align32),
+            )
+        } else {
+            false
+        }
+    }
+
+    /// Whether the list is of the core's store, its items are of the Rust type, and they lie aligned inside memory, which is the
+    /// condition of `get`.
+    pub fn fits_core<U, G>(&self, core: &Core<U, G>) -> bool
+        ensures { IsTrue result ↔ IsListOfCore T.fits core.now self.now }
+    {
+        let component = core.component();
+        let types = component.types.types();
+        if self.store == core.id()
+            && (self.options.as_u32() as usize) < component.options.len()
+            && types.contains(&self.element)
+            && T::typecheck(&self.element, &component.types).is_ok()
+        {
+            let abi = types.canonical_abi(&self.element);
+            is_row(
+                core.memory().as_slice(),
+                self.pointer,
+                self.count,
+                u64::from(abi.size32),
+                u64::from(abi.align32),
+            )
+        } else {
+            false
+        }
+    }
+}
+
+impl WasmList<u8> {
+    /// The bytes themselves.
+    pub fn as_le_slice<'a>(&self, view: &MemoryView<'a>) -> &'a [u8]
+        requires { ListFits (λ i t. t ≡ ty.U8) view.now self.now }
+        ensures { result.now ≡ bytes_at (narrow view.now.bytes.now) self.now.pointer self.now.count }
+    {
+        let start = self.pointer as usize;
+        &view.memory()[start..start + self.count as usize]
+    }
+}
+
+impl<T: Lift> WasmList<T> {
+    /// The item of an index, lifted with the core's whole fuel, or none where there is no such item.
+    pub fn get<U, G>(
+        &self,
+        alloc: Global,
+        core: &mut Core<U, G>,
+        index: u64,
+    ) -> Option<Result<T, Fault>>
+        requires { IsListOfCore T.fits core.old self.now }
+        ensures none { IsNone result ↔ (self.now.count ≤ index) }
+        ensures item { IfSome result (λ r. (left : ℕ) × Lifts T.reading (setting_in core.old self.now.options)
+            (item_spot (narrow core.old.memory) (shape_of (types_of core.old) self.now.element) (stored self.now.pointer) index) (shape_of (types_of core.old) self.now.element)
+            core.old.ledger core.old.fuel r core.new.ledger left) }
+        ensures same { core.new ≡ record core.old { ledger = core.new.ledger } }
+    {
+        if self.count <= index {
+            return None;
+        }
+        let _memory = core.memory(); // memory has at most 2^32 bytes
+        let size = core
+            .component()
+            .types
+            .types()
+            .canonical_abi(&self.element)
+            .size32;
+        let mut cx = LiftContext::new(core, self.options);
+        Some(T::linear_lift_from_memory(
+            alloc,
+            &mut cx,
+            self.element,
+            self.pointer + index * u64::from(size),
+        ))
+    }
+}
+
 impl<T: ComponentType> ComponentType for WasmList<T> {
     const MAY_REQUIRE_REALLOC: bool = true;
 
@@ -96,9 +227,9 @@ impl<T: ComponentType> ComponentType for WasmList<T> {
 
     ghost is_told = { false };
 
-    ghost lifts = { λ v t. ⊤ };
+    ghost lifts = { λ v t. ⊥ };
 
-    ghost cost = { free };
+    ghost cost = { list_cost (cap T.host_bytes) free };
 
     ghost host_bytes = { 32 };
 
@@ -128,6 +259,8 @@ impl<T: ComponentType> ComponentType for WasmList<T> {
 
 impl<T: ComponentType> Lift for WasmList<T> {
     ghost reading = { wasm_list_reading T.fits (cap T.host_bytes) };
+
+    ghost kept = { plain_kept (λ w at s. refl) };
 
     fn unit_value() -> Option<WasmList<T>> {
         None
@@ -165,6 +298,12 @@ impl<T: ComponentType> Lift for WasmList<T> {
     }
 
     ghost taken = { λ w at s before after v h. none_taken before after h.1 };
+
+    ghost apart = { wasm_list_apart T.fits (cap T.host_bytes) };
+
+    ghost faulted = { wasm_list_faulted (cap T.host_bytes) T.fits };
+
+    ghost priced = { wasm_list_priced (cap T.host_bytes) T.fits };
 
     ghost told = { λ h. untrue h };
 }

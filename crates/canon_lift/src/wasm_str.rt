@@ -1,21 +1,26 @@
 //! Texts that stay in memory.
 
-ghost use Rattle.std.specs.Prelude.{◌≡◌, ◌<◌, ◌^◌, false, ⊤};
+ghost use Rattle.std.specs.Prelude.{◌≡◌, ◌↔◌, ◌%◌, IfErr, IfOk, IsTrue, false, length, refl};
+ghost use Rattle.canon_context.specs.Component.{encoding_at};
 ghost use Rattle.canon_indices.specs.Options.{encoding_of};
-ghost use Rattle.canon_model.specs.Text.{text_align, text_bytes};
+ghost use Rattle.canon_lift.specs.Scopes.{plain_kept};
+ghost use Rattle.canon_model.specs.Text.{in_utf16, text_align, text_bytes};
+ghost use Rattle.canon_model.specs.Tree.{text_length};
+ghost use Rattle.canon_text.specs.Decoding.{Decodes, cow_text, is_borrowed};
 ghost use Rattle.canon_types.specs.declared.types.InterfaceType.TheVariants as ty;
-ghost use Rattle.canon_typed.specs.Charges.{free};
-ghost use Rattle.canon_lift.specs.OfTrees.{untrue};
+ghost use Rattle.canon_lift.specs.Apart.{wasm_str_apart};
+ghost use Rattle.canon_lift.specs.OfTrees.{text_priced, untrue, wasm_str_faulted};
 ghost use Rattle.canon_lift.specs.Ranges.{TextTested, wasm_str_reading};
 ghost use Rattle.canon_lift.specs.Reading.{setting_in};
 ghost use Rattle.canon_lift.specs.Taken.{none_taken};
+ghost use Rattle.canon_lift.specs.Views.{IsTextOf, TextFits, TextLost, WideLost, text_in};
 
 use crate::Lift;
 use crate::words::{word_at, word_u32};
 use canon_bytes::load_u32;
-use canon_context::{At, Fault, LiftContext};
+use canon_context::{At, Fault, LiftContext, MemoryView};
 use canon_memory::ValRaw;
-use canon_text::UTF16_TAG;
+use canon_text::{CowStr, DecodeError, UTF16_TAG, decode_latin1, decode_utf8, decode_utf16};
 use canon_typed::{ComponentType, TypecheckFailed};
 use canon_types::{
     CanonicalAbiInfo, InstanceType, InterfaceType, OptionsIndex, StoreId, StringEncoding,
@@ -25,18 +30,90 @@ use std::alloc::Global;
 /// A text that stays in the memory that it was lifted from. Its spelling is tested as it is read.
 #[derive(Drop)]
 pub struct WasmStr {
-    pub(crate) pointer: u64,
-    pub(crate) count: u64,
+    pub(crate) pointer: u32,
+    pub(crate) count: u32,
+    pub(crate) at: At, // where its pointer stands
     pub(crate) options: OptionsIndex,
     pub(crate) store: StoreId,
 }
 
+impl WasmStr {
+    /// Whether the text is of the view's store and its range lies inside the view's memory, which is the condition of `to_str`.
+    pub fn fits(&self, view: &MemoryView<'_>) -> bool
+        ensures { IsTrue result ↔ TextFits view.now self.now }
+    {
+        if self.store == view.store_id() && view.has_options(self.options) {
+            let (bytes, _) = text_range(view.options(self.options).string_encoding, self.count);
+            u64::from(self.pointer) + bytes <= view.memory().len() as u64
+        } else {
+            false
+        }
+    }
+
+    /// The text itself, borrowed where its bytes are UTF-8 already. A bad spelling is blamed on where the text's pointer stood.
+    pub fn to_str<'a>(&self, alloc: Global, view: &MemoryView<'a>) -> Result<CowStr<'a>, Fault>
+        requires { TextFits view.now self.now }
+        ensures text { IfOk result (IsTextOf (encoding_at view.now.component.now self.now.options) self.now.count (text_in view.now self.now)) }
+        ensures lost { IfErr result (TextLost (encoding_at view.now.component.now self.now.options) self.now.count (text_in view.now self.now) self.now.at) }
+    {
+        let encoding = view.options(self.options).string_encoding;
+        let (count, _) = text_range(encoding, self.count);
+        let start = self.pointer as usize;
+        let bytes = &view.memory()[start..start + count as usize];
+        decoded(alloc, encoding, self.count, bytes, self.at)
+    }
+}
+
+/// The text of a length that bytes spell, whose pointer stood at `at`.
+fn decoded<'a>(
+    alloc: Global,
+    encoding: StringEncoding,
+    units: u32,
+    bytes: &'a [u8],
+    at: At,
+) -> Result<CowStr<'a>, Fault>
+    requires { length bytes.now ≡ text_bytes (encoding_of encoding) units }
+    ensures text { IfOk result (IsTextOf (encoding_of encoding) units bytes.now) }
+    ensures lost { IfErr result (TextLost (encoding_of encoding) units bytes.now at) }
+{
+    match encoding {
+        StringEncoding::Utf8 => match decode_utf8(bytes) {
+            Ok(text) => Ok(text),
+            Err(_) => Err(Fault::InvalidUtf8(at)),
+        },
+        StringEncoding::Utf16 => decoded_wide(alloc, bytes, at),
+        StringEncoding::CompactUtf16 => {
+            if u64::from(units) < UTF16_TAG {
+                match decode_latin1(alloc, bytes) {
+                    Ok(text) => Ok(text),
+                    Err(_) => Err(Fault::OutOfMemory),
+                }
+            } else {
+                decoded_wide(alloc, bytes, at)
+            }
+        }
+    }
+}
+
+/// The text that units of 16 bits spell.
+fn decoded_wide<'a>(alloc: Global, bytes: &'a [u8], at: At) -> Result<CowStr<'a>, Fault>
+    requires { length bytes.now % 2 ≡ 0 }
+    ensures text { IfOk result (λ t. Decodes in_utf16 bytes.now (cow_text t) × (is_borrowed t ≡ false)) }
+    ensures lost { IfErr result (WideLost bytes.now at) }
+{
+    match decode_utf16(alloc, bytes) {
+        Ok(text) => Ok(text),
+        Err(DecodeError::Text(_)) => Err(Fault::InvalidUtf16(at)),
+        Err(DecodeError::OutOfMemory) => Err(Fault::OutOfMemory),
+    }
+}
+
 /// How many bytes spell a text of a length, and the alignment of its pointer.
-pub(crate) fn text_range(encoding: StringEncoding, length: u64) -> (u64, u64)
-    requires narrow { length < 2 ^ 32 }
+fn text_range(encoding: StringEncoding, length: u32) -> (u64, u64)
     ensures bytes { result.0 ≡ text_bytes (encoding_of encoding) length }
     ensures align { result.1 ≡ text_align (encoding_of encoding) }
 {
+    let length = u64::from(length);
     match encoding {
         StringEncoding::Utf8 => (length, 1),
         StringEncoding::Utf16 => (2 * length, 2),
@@ -49,20 +126,18 @@ pub(crate) fn text_range(encoding: StringEncoding, length: u64) -> (u64, u64)
 /// memory, then its bytes are charged.
 fn text_from<U, G>(
     cx: &mut LiftContext<'_, U, G>,
-    pointer: u64,
-    length: u64,
+    pointer: u32,
+    length: u32,
     at: At,
 ) -> Result<WasmStr, Fault>
-    requires narrow { pointer < 2 ^ 32 }
-    requires narrow_length { length < 2 ^ 32 }
     ensures tested { TextTested (setting_in cx.old.core.now cx.old.options) pointer length at cx.old.fuel result cx.new.fuel }
     ensures same { cx.new ≡ record cx.old { fuel = cx.new.fuel } }
 {
     let (bytes, align) = text_range(cx.core.encoding(cx.options), length);
-    if pointer % align != 0 {
+    if u64::from(pointer) % align != 0 {
         return Err(Fault::PointerMisaligned(at));
     }
-    if pointer + bytes > cx.memory().len() as u64 {
+    if u64::from(pointer) + bytes > cx.memory().len() as u64 {
         return Err(Fault::PointerOutOfBounds(at));
     }
     match cx.consume_fuel(bytes) {
@@ -72,6 +147,7 @@ fn text_from<U, G>(
     Ok(WasmStr {
         pointer,
         count: length,
+        at,
         options: cx.options,
         store: cx.store_id(),
     })
@@ -92,9 +168,9 @@ impl ComponentType for WasmStr {
 
     ghost is_told = { false };
 
-    ghost lifts = { λ v t. ⊤ };
+    ghost lifts = { λ v t. ⊥ };
 
-    ghost cost = { free };
+    ghost cost = { text_length };
 
     ghost host_bytes = { 32 };
 
@@ -125,6 +201,8 @@ impl ComponentType for WasmStr {
 impl Lift for WasmStr {
     ghost reading = { wasm_str_reading };
 
+    ghost kept = { plain_kept (λ w at s. refl) };
+
     fn unit_value() -> Option<WasmStr> {
         None
     }
@@ -135,8 +213,8 @@ impl Lift for WasmStr {
         _ty: InterfaceType,
         at: u64,
     ) -> Result<WasmStr, Fault> {
-        let pointer = u64::from(load_u32(cx.memory(), at));
-        let length = u64::from(load_u32(cx.memory(), at + 4));
+        let pointer = load_u32(cx.memory(), at);
+        let length = load_u32(cx.memory(), at + 4);
         text_from(cx, pointer, length, At::Address(at))
     }
 
@@ -147,12 +225,18 @@ impl Lift for WasmStr {
         src: &[ValRaw],
         at: usize,
     ) -> Result<WasmStr, Fault> {
-        let pointer = u64::from(word_u32(src, at));
-        let length = u64::from(word_u32(src, at + 1));
+        let pointer = word_u32(src, at);
+        let length = word_u32(src, at + 1);
         text_from(cx, pointer, length, word_at(at))
     }
 
-    ghost taken = { λ w at s before after v h. none_taken before after h.2 };
+    ghost taken = { λ w at s before after v h. none_taken before after h.3 };
+
+    ghost apart = { wasm_str_apart };
+
+    ghost faulted = { wasm_str_faulted };
+
+    ghost priced = { text_priced (λ w at s. refl) };
 
     ghost told = { λ h. untrue h };
 }

@@ -2,4 +2,8 @@
 #![tactic(auto)]
 
 #[cfg(test)]
+mod resources;
+#[cfg(test)]
 mod tests;
+#[cfg(test)]
+mod views;

@@ -19,13 +19,13 @@ use std::alloc::Global;
 use std::collections::HashMap;
 use std::test::Fail;
 
-type TestCore = Core<u32, ScriptedGuest>;
+pub(crate) type TestCore = Core<u32, ScriptedGuest>;
 
 /// Types, and one of them.
-type Typed = (ComponentTypes, InterfaceType);
+pub(crate) type Typed = (ComponentTypes, InterfaceType);
 
 /// A core of these types, of 64 bytes of memory that begins with these, and of 1,000 of fuel.
-fn core_of(alloc: Global, types: ComponentTypes, bytes: &[u8]) -> Result<TestCore, Fail>
+pub(crate) fn core_of(alloc: Global, types: ComponentTypes, bytes: &[u8]) -> Result<TestCore, Fail>
     ensures options { IfOk result (λ c. length c.component.options.items ≡ 1) }
 {
     let options = CanonicalOptions {
@@ -59,7 +59,7 @@ fn core_of(alloc: Global, types: ComponentTypes, bytes: &[u8]) -> Result<TestCor
 }
 
 /// Whether a type of the core is the Rust type's, and a value has room at 0.
-fn has_room<T: ComponentType>(core: &TestCore, ty: &InterfaceType) -> bool
+pub(crate) fn has_room<T: ComponentType>(core: &TestCore, ty: &InterfaceType) -> bool
     ensures known { IsTrue result → Knows (types_of core.now) ty.now }
     ensures fits { IsTrue result → T.fits core.now.component.types ty.now }
     ensures room { IsTrue result → 0 + size false (shape_of (types_of core.now) ty.now) ≤ length core.now.memory }
@@ -72,7 +72,11 @@ fn has_room<T: ComponentType>(core: &TestCore, ty: &InterfaceType) -> bool
 }
 
 /// Whether a type of the core is the Rust type's, and these are its words.
-fn has_words<T: ComponentType>(core: &TestCore, ty: &InterfaceType, words: &[ValRaw]) -> bool
+pub(crate) fn has_words<T: ComponentType>(
+    core: &TestCore,
+    ty: &InterfaceType,
+    words: &[ValRaw],
+) -> bool
     ensures known { IsTrue result → Knows (types_of core.now) ty.now }
     ensures fits { IsTrue result → T.fits core.now.component.types ty.now }
     ensures words { IsTrue result → 0 + flat (shape_of (types_of core.now) ty.now) ≤ length words.now }
@@ -163,7 +167,7 @@ fn fails<T: Lift>(alloc: Global, typed: Typed, bytes: &[u8], fault: Fault) -> Re
 }
 
 /// A type that needs no table.
-fn plain(alloc: Global, ty: InterfaceType) -> Typed {
+pub(crate) fn plain(alloc: Global, ty: InterfaceType) -> Typed {
     (TypeBuilder::new(alloc).finish(), ty)
 }
 
@@ -189,7 +193,7 @@ fn tuple_of(alloc: Global, members: &[InterfaceType]) -> Result<Typed, Fail> {
     Ok((types.finish(), ty))
 }
 
-fn list_of(alloc: Global, element: InterfaceType) -> Result<Typed, Fail> {
+pub(crate) fn list_of(alloc: Global, element: InterfaceType) -> Result<Typed, Fail> {
     let mut types = TypeBuilder::new(alloc);
     let ty = types.add_list(element)?;
     Ok((types.finish(), ty))

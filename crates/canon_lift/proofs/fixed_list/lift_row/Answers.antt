@@ -1,4 +1,4 @@
-use Rattle.std.proofs.Common.{rules, ◌≡◌, ◌≤◌, ◌<◌, ◌+◌, ◌*◌, ◌∙◌, ◌++◌, Err, List, Ok, [], ◌∷◌, ap, arith, length, refl, subst, sym, ℕ}
+use Rattle.std.proofs.Common.{rules, ◌≡◌, ◌+◌, ◌*◌, ◌∙◌, Err, Ok, ap, arith, refl, subst, sym}
 use Rattle.canon_context.specs.Core.{Parts, types_of}
 use Rattle.canon_model.specs.Layout.{flat}
 use Rattle.canon_types.specs.Table.{shape_of}

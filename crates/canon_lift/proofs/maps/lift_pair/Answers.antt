@@ -1,9 +1,8 @@
-use Rattle.std.proofs.Common.{◌≡◌, ◌≤◌, ◌+◌, ◌%◌, ◌∷◌, Err, Ok, [], arith, false, length, subst, sym}
+use Rattle.std.proofs.Common.{◌≡◌, ◌≤◌, ◌+◌, ◌%◌, arith, false, length, subst, sym}
 use Rattle.canon_context.specs.Core.{Parts, types_of}
 use Rattle.canon_model.specs.Layout.{align, size}
-use Rattle.canon_model.specs.Shape.{tuple}
 use Rattle.canon_types.specs.Table.{shape_of}
-use Rattle.canon_lift.proofs.PairLifting.{key_aligned, key_inside, key_refused, pair_lifted, value_aligned, value_inside, value_refused}
+use Rattle.canon_lift.proofs.PairLifting.{key_aligned, key_inside, key_refused, value_aligned, value_inside, value_refused}
 use Rattle.canon_lift.proofs.maps.lift_pair.Goals as goal
 
 pub linear_lift_from_memory-requires-clause-aligned : goal.linear_lift_from_memory-requires-clause-aligned

@@ -1,14 +1,14 @@
-use Rattle.std.proofs.Common.{rules, ◌≡◌, ◌≤◌, ◌<◌, ◌+◌, ◌*◌, ◌%◌, ◌++◌, ◌∙◌, ◌∷◌, Err, List, Ok, Some, [], ap, arith, false, length, length-append, refl, subst, suc, sym}
+use Rattle.std.proofs.Common.{rules, ◌≡◌, ◌+◌, ◌*◌, ◌%◌, ◌++◌, ◌∙◌, ◌∷◌, Err, Ok, [], ap, arith, false, length, length-append, refl, subst, sym}
 use Rattle.canon_context.specs.Core.{Parts, types_of}
 use Rattle.canon_context.specs.declared.fault.Fault.TheVariants as fault
-use Rattle.canon_model.specs.Layout.{align, size}
+use Rattle.canon_model.specs.Layout.{align}
 use Rattle.canon_model.specs.Shape.{tuple}
 use Rattle.canon_types.specs.Table.{shape_of}
 use Rattle.canon_lift.specs.MapsOfTrees.{pair_reading}
-use Rattle.canon_lift.specs.Reading.{Lifts, setting_in}
-use Rattle.canon_lift.specs.Readings.{EachReads, each_reach, item_spot}
+use Rattle.canon_lift.specs.Reading.{setting_in}
+use Rattle.canon_lift.specs.Readings.{item_spot}
 use Rattle.canon_lift.specs.Spots.{stored}
-use Rattle.canon_lift.proofs.PairLifting.{filled_more, pair_item, pair_law, pairs_refused}
+use Rattle.canon_lift.proofs.PairLifting.{pair_item, pair_law, pairs_refused}
 use Rattle.canon_lift.proofs.Rows.{each_more, item_lost, item_refused, reach_more}
 use Rattle.canon_lift.proofs.Settings.{element_aligned}
 use Rattle.canon_lift.proofs.maps.lift_pairs.Goals as goal
@@ -40,8 +40,8 @@ returns-in-Err-clause-lifts g c =
     (pair_item g.K.Lift.reading g.V.Lift.reading core cx.options pair.key pair.value c.loop-k.cx.core.now c.loop-k.cx.options c.args.at c.loop-k.k c.args.step (c.args.at + c.loop-k.k * c.args.step) mid after.core.now.ledger
     c.loop-k.cx.fuel after.fuel (Err c.in-Err.fault) i.same_core i.same_options c.requires.step refl c.in-Err.ensures.lifts))
 
-pub returns-in-Err-insert-clause-lifts : goal.returns-in-Err-insert-clause-lifts
-returns-in-Err-insert-clause-lifts g c =
+pub returns-in-Err-put-clause-lifts : goal.returns-in-Err-put-clause-lifts
+returns-in-Err-put-clause-lifts g c =
     let R = pair_reading g.K.Lift.reading g.V.Lift.reading in
     let taken = pair_law g.K.Lift.reading g.V.Lift.reading g.met.K.Lift.taken g.met.V.Lift.taken in
     let cx = c.args.cx.now in
@@ -82,7 +82,7 @@ loop-k-preserved g c =
         pairs ++ (c.in-Ok.key, c.in-Ok.value) ∷ [],
         more,
         each_more R w s p core.ledger mid after.core.now.ledger pairs (c.in-Ok.key, c.in-Ok.value) each there,
-        filled_more g.K.PartialEq.eq pairs c.loop-k.map c.insert.new.self (c.in-Ok.key, c.in-Ok.value) filled c.in-Ok-insert.ensures.updates,
+        c.in-Ok-put.ensures.last pairs filled,
       );
       spent = omega (arith, i.spent, spent, reach_more R w s c.loop-k.k p);
       same_core = c.in-Ok.ensures.same_core ∙ ap (λ (z : Parts g.row.U.Denot g.row.G.Denot). record z { ledger = after.core.now.ledger }) i.same_core;

@@ -1,4 +1,4 @@
-use Rattle.std.proofs.Common.{◌+◌, arith, length}
+use Rattle.std.proofs.Common.{arith, length}
 use Rattle.canon_context.specs.Core.{types_of}
 use Rattle.canon_types.specs.Table.{all_shapes, payload_in, shape_of}
 use Rattle.canon_lift.proofs.Lookups.{error_known, ok_known, result_shape}

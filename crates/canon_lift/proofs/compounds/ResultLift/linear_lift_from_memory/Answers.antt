@@ -1,4 +1,4 @@
-use Rattle.std.proofs.Common.{◌≡◌, ◌+◌, ◌%◌, ap, arith, false, refl, subst, sym}
+use Rattle.std.proofs.Common.{◌≡◌, ◌+◌, ◌%◌, ap, arith, false, subst, sym}
 use Rattle.canon_context.specs.Core.{types_of}
 use Rattle.canon_model.specs.Layout.{align, size}
 use Rattle.canon_types.specs.Table.{shape_of}

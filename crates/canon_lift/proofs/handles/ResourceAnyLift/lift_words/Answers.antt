@@ -1,5 +1,4 @@
 use Rattle.std.proofs.Common.{length}
-use Rattle.canon_context.specs.Core.{types_of}
 use Rattle.canon_lift.specs.Reading.{setting_in}
 use Rattle.canon_lift.specs.Spots.{flat_in}
 use Rattle.canon_lift.proofs.HandleSteps.{any_lifts}

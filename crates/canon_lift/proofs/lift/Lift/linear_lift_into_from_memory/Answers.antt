@@ -1,7 +1,6 @@
 use Rattle.std.proofs.Common.{arith, refl}
 use Rattle.canon_context.specs.Core.{types_of}
 use Rattle.canon_types.specs.Table.{shape_of}
-use Rattle.canon_lift.specs.Items.{into_reading}
 use Rattle.canon_lift.specs.Reading.{setting_in}
 use Rattle.canon_lift.specs.Spots.{stored}
 use Rattle.canon_lift.specs.Taken.{each_counted}

@@ -1,15 +1,10 @@
-use Rattle.std.proofs.Common.{rules, ◌≡◌, ◌≤◌, ◌<◌, ◌+◌, ◌-◌, ◌*◌, ◌%◌, ◌∙◌, ◌++◌, Err, List, Ok, [], ◌∷◌, ap, arith, false, length, refl, subst, suc, sym, true, ℕ}
+use Rattle.std.proofs.Common.{rules, ◌≡◌, ◌+◌, ◌*◌, ◌%◌, ◌∙◌, Err, Ok, ap, arith, false, refl, subst, sym}
 use Rattle.canon_context.specs.Core.{Parts, types_of}
-use Rattle.canon_context.specs.declared.fault.Fault.TheVariants as fault
-use Rattle.canon_leaves.specs.Parts.{LeavesStop, LeavesTake, Part}
 use Rattle.canon_model.specs.Layout.{align, size}
 use Rattle.canon_types.specs.Table.{shape_of}
-use Rattle.canon_lift.specs.Items.{items_reading}
-use Rattle.canon_lift.specs.Reading.{Lifts, setting_in, stop_of}
-use Rattle.canon_lift.specs.Readings.{EachReads, each_reach, each_steps, item_spot}
+use Rattle.canon_lift.specs.Reading.{setting_in}
+use Rattle.canon_lift.specs.Readings.{EachReads, item_spot}
 use Rattle.canon_lift.specs.Spots.{stored}
-use Rattle.canon_lift.specs.Taken.{each_counted}
-use Rattle.canon_lift.proofs.Refusals.{out_of_memory_after}
 use Rattle.canon_lift.proofs.Rows.{each_more, item_lifts, item_lost, item_refused, reach_more}
 use Rattle.canon_lift.proofs.Settings.{element_aligned, looked_up_size, same_shape}
 use Rattle.canon_lift.proofs.lift.Lift.linear_lift_list_from_memory.Goals as goal

@@ -1,7 +1,5 @@
-use Rattle.std.proofs.Common.{rules, ◌≡◌, ◌≤◌, ◌+◌, ◌*◌, ◌%◌, ◌∙◌, ◌∷◌, Err, Ok, [], ap, arith, false, length, refl, subst, sym}
-use Rattle.canon_context.specs.Core.{Parts, types_of}
-use Rattle.canon_context.specs.declared.context.LiftContext.{LiftContext}
-use Rattle.canon_model.specs.Layout.{align, size}
+use Rattle.std.proofs.Common.{◌+◌, ◌∙◌, ◌∷◌, [], ap, arith, length, subst, sym}
+use Rattle.canon_context.specs.Core.{types_of}
 use Rattle.canon_model.specs.Reach.{word}
 use Rattle.canon_model.specs.Shape.{of_pairs, tuple}
 use Rattle.canon_types.specs.Table.{Knows, shape_of}
@@ -9,7 +7,7 @@ use Rattle.canon_typed.specs.Charges.{cap}
 use Rattle.canon_lift.specs.MapsOfTrees.{pairs_reading}
 use Rattle.canon_lift.specs.Reading.{Lifts, setting_in}
 use Rattle.canon_lift.specs.Spots.{flat_in, stored}
-use Rattle.canon_lift.proofs.Lookups.{map_element, map_layout, map_offset, map_there}
+use Rattle.canon_lift.proofs.Lookups.{map_element, map_layout, map_there}
 use Rattle.canon_lift.proofs.MapLifting.{map_lifts}
 use Rattle.canon_lift.proofs.Pairs.{map_range_refused, refused_list}
 use Rattle.canon_lift.proofs.WordRooms.{list_words}

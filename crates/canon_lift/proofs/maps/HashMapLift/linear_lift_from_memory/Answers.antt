@@ -1,9 +1,8 @@
-use Rattle.std.proofs.Common.{rules, ◌≡◌, ◌≤◌, ◌+◌, ◌*◌, ◌%◌, ◌∙◌, ◌∷◌, Err, Ok, [], ap, arith, false, length, refl, subst, sym}
-use Rattle.canon_context.specs.Core.{Parts, types_of}
-use Rattle.canon_context.specs.declared.context.LiftContext.{LiftContext}
+use Rattle.std.proofs.Common.{◌≤◌, ◌+◌, ◌∙◌, ◌∷◌, [], ap, arith, false, length, subst, sym}
+use Rattle.canon_context.specs.Core.{types_of}
 use Rattle.canon_context.specs.declared.fault.At.TheVariants as place
 use Rattle.canon_lowering.specs.Storing.{narrow}
-use Rattle.canon_model.specs.Layout.{align, size}
+use Rattle.canon_model.specs.Layout.{size}
 use Rattle.canon_model.specs.Memory.{num}
 use Rattle.canon_model.specs.Shape.{tuple}
 use Rattle.canon_types.specs.Table.{Knows, shape_of}
@@ -11,7 +10,7 @@ use Rattle.canon_typed.specs.Charges.{cap}
 use Rattle.canon_lift.specs.MapsOfTrees.{pairs_reading}
 use Rattle.canon_lift.specs.Reading.{Lifts, setting_in}
 use Rattle.canon_lift.specs.Spots.{stored}
-use Rattle.canon_lift.proofs.Lookups.{map_element, map_layout, map_offset, map_there}
+use Rattle.canon_lift.proofs.Lookups.{map_element, map_layout, map_there}
 use Rattle.canon_lift.proofs.MapLifting.{map_lifts}
 use Rattle.canon_lift.proofs.Pairs.{map_range_refused, map_room, refused_list}
 use Rattle.canon_lift.proofs.maps.HashMapLift.linear_lift_from_memory.Goals as goal

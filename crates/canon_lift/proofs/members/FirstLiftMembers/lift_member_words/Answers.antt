@@ -1,7 +1,7 @@
-use Rattle.std.proofs.Common.{◌≡◌, ◌≤◌, ◌<◌, ◌+◌, ◌^◌, ◌∙◌, Err, Ok, [], ap, arith, drop, length, refl, rules, subst, sym}
+use Rattle.std.proofs.Common.{◌≡◌, ◌≤◌, ◌<◌, ◌+◌, ◌^◌, ◌∙◌, Err, Ok, [], ap, arith, drop, length, rules, subst, sym}
 use Rattle.canon_context.specs.Core.{Parts, types_of}
 use Rattle.canon_model.specs.Layout.{flat, members_flat}
-use Rattle.canon_model.specs.Shape.{member, of_places, product}
+use Rattle.canon_model.specs.Shape.{of_places, product}
 use Rattle.canon_types.specs.Table as table
 use Rattle.canon_types.specs.Table.{members_of, shape_of}
 use Rattle.canon_lift.specs.Firsts.{first_and}

@@ -1,4 +1,4 @@
-use Rattle.std.proofs.Common.{◌+◌, ◌∙◌, ap, arith, length}
+use Rattle.std.proofs.Common.{◌∙◌, ap, arith, length}
 use Rattle.canon_context.specs.Core.{types_of}
 use Rattle.canon_types.specs.Table.{shape_of}
 use Rattle.canon_context.proofs.Told.{text_told}

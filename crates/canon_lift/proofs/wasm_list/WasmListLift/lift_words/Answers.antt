@@ -1,4 +1,4 @@
-use Rattle.std.proofs.Common.{◌≡◌, ◌+◌, ◌∙◌, ap, arith, length, refl}
+use Rattle.std.proofs.Common.{◌∙◌, ap, arith, length, refl}
 use Rattle.canon_context.specs.Core.{types_of}
 use Rattle.canon_model.specs.Reach.{word}
 use Rattle.canon_model.specs.Shape.{of_items}

@@ -1,4 +1,4 @@
-use Rattle.std.proofs.Common.{◌≡◌, ◌+◌, ◌∙◌, ap, arith, false, refl}
+use Rattle.std.proofs.Common.{◌+◌, ◌∙◌, ap, arith, refl}
 use Rattle.canon_context.specs.Core.{types_of}
 use Rattle.canon_context.specs.declared.fault.At.TheVariants as place
 use Rattle.canon_lowering.specs.Storing.{narrow}

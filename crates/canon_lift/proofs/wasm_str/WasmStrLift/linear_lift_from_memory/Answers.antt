@@ -4,12 +4,12 @@ use Rattle.canon_types.specs.Table.{shape_of}
 use Rattle.canon_lift.proofs.Pairs.{text_room}
 use Rattle.canon_lift.proofs.wasm_str.WasmStrLift.linear_lift_from_memory.Goals as goal
 
-pub load_u32-requires : goal.load_u32-requires
-load_u32-requires g c =
+pub load_u32-pointer-requires : goal.load_u32-pointer-requires
+load_u32-pointer-requires g c =
     let core = c.args.cx.now.core.now in
     omega (arith, text_room c.memory.result.now core.memory (shape_of (types_of core) c.args._ty) c.args.at (ap (shape_of (types_of core)) c.requires.fits) c.requires.inside c.memory.ensures)
 
-pub load_u32-requires-2 : goal.load_u32-requires-2
-load_u32-requires-2 g c =
+pub load_u32-length-requires : goal.load_u32-length-requires
+load_u32-length-requires g c =
     let core = c.args.cx.now.core.now in
     omega (arith, text_room c.memory-2.result.now core.memory (shape_of (types_of core) c.args._ty) c.args.at (ap (shape_of (types_of core)) c.requires.fits) c.requires.inside c.memory-2.ensures)

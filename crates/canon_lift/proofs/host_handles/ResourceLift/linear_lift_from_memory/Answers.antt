@@ -1,0 +1,27 @@
+use Rattle.std.proofs.Common.{◌≤◌, ◌+◌, ◌∙◌, ap, false, length}
+use Rattle.canon_context.specs.Core.{types_of}
+use Rattle.canon_lowering.specs.Storing.{narrow}
+use Rattle.canon_model.specs.Layout.{size}
+use Rattle.canon_model.specs.Memory.{num}
+use Rattle.canon_resources.specs.Types.{as_host}
+use Rattle.canon_types.specs.Table.{shape_of}
+use Rattle.canon_lift.specs.HostHandles.{IsMadeBy}
+use Rattle.canon_lift.specs.Reading.{setting_in}
+use Rattle.canon_lift.specs.Spots.{stored}
+use Rattle.canon_lift.proofs.HandleSteps.{handle_room}
+use Rattle.canon_lift.proofs.HostSteps.{held_lifts, is_handle}
+use Rattle.canon_lift.proofs.host_handles.ResourceLift.linear_lift_from_memory.Goals as goal
+
+pub load_u32-index-requires : goal.load_u32-index-requires
+load_u32-index-requires g c =
+    let core = c.args.cx.now.core.now in
+    handle_room core.component.types c.args.ty c.memory.result.now core.memory c.args.at (is_handle (as_host g.T.HostType.ID) core.component.types c.args.ty c.requires.fits) c.requires.inside c.memory.ensures
+
+pub returns-clause-lifts : goal.returns-clause-lifts
+returns-clause-lifts g c =
+    let cx = c.args.cx.now in
+    let core = cx.core.now in
+    let room : c.args.at + size false (shape_of (types_of core) c.args.ty) ≤ length core.memory = c.requires.inside in
+    held_lifts (IsMadeBy (as_host g.T.HostType.ID)) (setting_in core cx.options) (stored c.args.at) c.args.ty c.load_u32-index.result core.ledger c.lift_held.new.cx.core.now.ledger cx.fuel c.lift_held.new.cx.fuel
+    (is_handle (as_host g.T.HostType.ID) core.component.types c.args.ty c.requires.fits) (c.load_u32-index.ensures ∙ ap (λ xs. num (narrow xs) c.args.at 4) c.memory.ensures) room c.lift_held.ensures.same_fuel c.lift_held.result
+    c.lift_held.ensures.lifts

@@ -1,0 +1,12 @@
+use Rattle.std.proofs.Common.{◌≡◌, ℤ, refl}
+use Rattle.std.specs.Int.{cast_signed, w32}
+use Rattle.canon_model.specs.Shape.{s32}
+use Rattle.canon_types.specs.declared.types.InterfaceType.TheVariants as ty
+use Rattle.canon_lift.proofs.IntegerRows.{held_there, integers_inside}
+use Rattle.canon_lift.proofs.integers.WasmList+i32.to_le_vec.Goals as goal
+
+pub returns-clause-items : goal.returns-clause-items
+returns-clause-items c = held_there (λ (x : ℤ) n. x ≡ cast_signed w32 n) 4 c.memory.result.now c.args.view.now.bytes.now c.args.self.now.pointer c.numbers.result c.memory.ensures c.numbers.ensures.held
+
+pub numbers-requires : goal.numbers-requires
+numbers-requires c = record { inside = integers_inside ty.S32 s32 (λ t. refl) c.args.view.now c.args.self.now c.memory.result.now c.memory.ensures c.requires }

@@ -1,0 +1,12 @@
+use Rattle.std.proofs.Common.{◌≡◌, ℤ, refl}
+use Rattle.std.specs.Int.{cast_signed, w64}
+use Rattle.canon_model.specs.Shape.{s64}
+use Rattle.canon_types.specs.declared.types.InterfaceType.TheVariants as ty
+use Rattle.canon_lift.proofs.IntegerRows.{held_there, integers_inside}
+use Rattle.canon_lift.proofs.integers.WasmList+i64.to_le_vec.Goals as goal
+
+pub returns-clause-items : goal.returns-clause-items
+returns-clause-items c = held_there (λ (x : ℤ) n. x ≡ cast_signed w64 n) 8 c.memory.result.now c.args.view.now.bytes.now c.args.self.now.pointer c.numbers.result c.memory.ensures c.numbers.ensures.held
+
+pub numbers-requires : goal.numbers-requires
+numbers-requires c = record { inside = integers_inside ty.S64 s64 (λ t. refl) c.args.view.now c.args.self.now c.memory.result.now c.memory.ensures c.requires }
