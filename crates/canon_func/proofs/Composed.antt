@@ -26,7 +26,7 @@ use Rattle.canon_func.specs.Stores.{Callee}
 use Rattle.canon_func.specs.declared.error.Error.{Error}
 use Rattle.canon_func.specs.declared.error.Error.TheVariants as error
 use Rattle.canon_func.proofs.Calls.{goes_advance, joined, ready}
-use Rattle.canon_func.proofs.Passed.{BlamesRightly, ReadsRightly}
+use Rattle.canon_func.specs.Passed.{BlamesRightly, ReadsRightly}
 use Rattle.canon_func.proofs.Refusals.{refused_call, short_call}
 use Rattle.canon_func.proofs.Rests.{returned_rest, unended_tail}
 use Rattle.canon_func.proofs.Tails.{IsTail, rest_of_none, rest_of_tail}

@@ -19,7 +19,7 @@ use Rattle.canon_func.specs.declared.error.Error.TheVariants as error
 use Rattle.canon_func.proofs.Asking.{side_handles}
 use Rattle.canon_func.proofs.Composed.{answered, answers, conclude_done, conclude_failed, conclude_unlifted, retyped, run_returned}
 use Rattle.canon_func.proofs.Leaving.{lifted_leaves}
-use Rattle.canon_func.proofs.Passed.{ReadsRightly}
+use Rattle.canon_func.specs.Passed.{ReadsRightly}
 
 module _ {T G R : Type 0} (its : Returns R) (gives : Giving T) (callee : Callee) (limits : Limits) (seen : G → Seen) (moves : GuestIn G → List Event → GuestIn G → Type 0) (Leaves : List ℕ → List ℕ → Type 0)
     (words : List ℕ) (before ran : Parts T G) (host : HostSide T) (log : Option (List Entry)) (refusals : ℕ) (returned : List ℕ) where

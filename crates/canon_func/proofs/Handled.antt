@@ -3,36 +3,12 @@ use Rattle.std.proofs.Common.{Err, List, None, Ok, Result, Some, [], ap, inl, in
 use Rattle.std.proofs.lemmas.List.{append-nil}
 use Rattle.canon_ledger.specs.Ledger.{Done, LedgerState}
 use Rattle.canon_ledger.specs.declared.fault.ResourceFault.{ResourceFault}
-use Rattle.canon_leaves.proofs.Leaves.{leaf_same, leaves_stop_then}
+use Rattle.canon_leaves.proofs.Leaves.{leaves_excluded, leaves_stop_then}
 use Rattle.canon_leaves.specs.Parts.{LeavesStop, LeavesTake, Part, Stops, Takes, do_part}
 use Rattle.canon_func.specs.Call.{LiftsReturned, StopsReturned, scope_exit}
 use Rattle.canon_func.specs.Passing.{Returns}
 use Rattle.canon_func.specs.Stores.{Callee}
-use Rattle.canon_func.proofs.Passed.{ReadsRightly}
-
--- ---- what is accepted isn't refused
-
-ok_same : (r : Result ℕ ResourceFault) (a b : ℕ) → r ≡ Ok a → r ≡ Ok b → a ≡ b
-ok_same r a b h g = cc
-
-ok_refused : (r : Result ℕ ResourceFault) (a : ℕ) (e : ResourceFault) → r ≡ Ok a → r ≡ Err e → ⊥
-ok_refused r a e h g = cc
-
-some_none : (e : ResourceFault) → Some e ≡ None → ⊥
-some_none e h = cc
-
-stops_excluded : (e : ResourceFault) (last : ℕ) (l n m : LedgerState) (ps : List Part) (xs : List ℕ) → Stops (Some e) last l ps n → Takes last l ps xs m → ⊥
-stops_excluded e last l n m [] xs h takes = h
-stops_excluded e last l n m (p ∷ ps) xs (inl h) takes = some_none e h.0
-stops_excluded e last l n m (p ∷ ps) xs (inr (inl (d, why, is, left))) (a, rest, are, ok, more) = ok_refused (do_part last p l).answer a d ok is
-stops_excluded e last l n m (p ∷ ps) xs (inr (inr (b, is, stops))) (a, rest, are, ok, more) =
-    stops_excluded e a (do_part last p l).after n m ps rest (subst (λ k. Stops (Some e) k (do_part last p l).after ps n) (ok_same (do_part last p l).answer b a is ok) stops) more
-
-pub leaves_excluded : (e : ResourceFault) (l n m : LedgerState) (leaves : List (List Part)) (hs : List ℕ) → LeavesStop (Some e) l leaves n → LeavesTake l leaves hs m → ⊥
-leaves_excluded e l n m [] hs h takes = h
-leaves_excluded e l n m (leaf ∷ leaves) hs (inl stops) (h, rest, mid, are, takes, more) = stops_excluded e 0 l n mid leaf takes.answers (stops 0) (takes.takes 0)
-leaves_excluded e l n m (leaf ∷ leaves) hs (inr (k, there, took, stops)) (h, rest, mid, are, takes, more) =
-    leaves_excluded e mid n m leaves rest (subst (λ q. LeavesStop (Some e) q leaves n) (leaf_same l there mid leaf k h took takes).1 stops) more
+use Rattle.canon_func.specs.Passed.{ReadsRightly}
 
 pub same_end : (l a b : LedgerState) → scope_exit l ≡ record { answer = Ok tt; after = a } → scope_exit l ≡ record { answer = Ok tt; after = b } → a ≡ b
 same_end l a b h g = ap (λ (d : Done (Unit {0})). d.after) (sym h ∙ g)

@@ -14,6 +14,7 @@ use Rattle.canon_memory.specs.Counts.{Rose}
 use Rattle.canon_memory.specs.Guest.{Moment}
 use Rattle.canon_ledger.specs.Ledger.{LedgerState, enter, leave}
 use Rattle.canon_ledger.specs.declared.fault.ResourceFault.TheVariants as resource
+use Rattle.canon_leaves.proofs.Leaves.{leaves_excluded}
 use Rattle.canon_leaves.proofs.Lifts.{lifts_take}
 use Rattle.canon_leaves.specs.Parts.{LeavesStop, LeavesTake, Part, Passed, lift_parts, lower_parts}
 use Rattle.canon_lowering.specs.Lowering.{AllLawful, Answer, CauseOf, Ending, Trap}
@@ -38,7 +39,7 @@ use Rattle.canon_func.specs.HostAsks.{AcceptsGiven, AcceptsHost, AskLifts, AskLo
 use Rattle.canon_func.specs.Stores.{Callee}
 use Rattle.canon_func.specs.declared.error.Error.{Error}
 use Rattle.canon_func.specs.declared.error.Error.TheVariants as error
-use Rattle.canon_func.proofs.Handled.{leaves_excluded, not_both, same_end}
+use Rattle.canon_func.proofs.Handled.{not_both, same_end}
 use Rattle.canon_func.proofs.Prefixes.{last_lawful, past_cost}
 
 -- ---- one import is asked for

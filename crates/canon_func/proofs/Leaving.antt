@@ -26,24 +26,13 @@ use Rattle.canon_leaves.specs.Parts.{LeafTakes, LeavesLift, dtor_for, instance_f
 use Rattle.canon_model.specs.Leaves.{Leaf}
 use Rattle.canon_resources.specs.Held.{Any}
 use Rattle.canon_types.specs.Instance.{Instance}
+use Rattle.canon_lift.specs.OwnScopes.{own_lifted}
 use Rattle.canon_func.specs.Call.{scope_exit}
 use Rattle.canon_func.proofs.Owned.{AreOwned}
 
--- ---- own handles that are lifted
+-- ---- lends that are undone
 
 module _ (h : Handles) (scopes : List OpenScope) (same : h.scopes ≡ scopes) where
-  lifted_keeps : (a : RemovedResource) (m : Handles) → m.scopes ≡ scopes → IfOk (lifted_own (a, m)) (λ w. w.1.scopes ≡ scopes)
-  lifted_keeps (Own rep) m e = e
-  lifted_keeps (Borrow scope) m e = tt
-
-  lift_own_keeps : (p : ℕ) (idx : TypedResourceIndex) → IfOk (handles.resource_lift_own h p idx) (λ w. w.1.scopes ≡ scopes)
-  lift_own_keeps p idx =
-      if_ok-then (λ (w : ℕ × Handles). w.1.scopes ≡ scopes) (removing_resource h p idx) lifted_own
-      (if_ok-finished (λ w. IfOk (lifted_own w) (λ v. v.1.scopes ≡ scopes)) h p (raw_index idx) _ (if_ok_always _ _ (λ (a : RemovedResource × Table Entry × Counter). lifted_keeps a.0 (with_table h p a.1 a.2) same)))
-
-  new_keeps : (p : ℕ) (r : TypedResource) → IfOk (handles.resource_new h p r) (λ w. w.1.scopes ≡ scopes)
-  new_keeps p r = if_ok-finished (λ (w : ℕ × Handles). w.1.scopes ≡ scopes) h p 0 _ (if_ok_always _ _ (λ (a : ℕ × Table Entry × Counter). same))
-
   undone_keeps : (r : StepAnswer (Unit {0})) → IfOk r (λ w. w.1.scopes ≡ scopes) → (undone h r).scopes ≡ scopes
   undone_keeps (Ok (u, m)) e = e
   undone_keeps (Err x) e = same
@@ -52,19 +41,7 @@ module _ (h : Handles) (scopes : List OpenScope) (same : h.scopes ≡ scopes) wh
   undo_keeps lender = undone_keeps (on_table h lender.table (raw_index lender.index) (λ t c. resource_undo_lend t c lender.index))
       (if_ok-finished (λ (w : Unit {0} × Handles). w.1.scopes ≡ scopes) h lender.table (raw_index lender.index) _ (if_ok_always _ _ (λ (a : Unit {0} × Table Entry × Counter). same)))
 
-lift_own_scopes : (l : LedgerState) (p : ℕ) (idx : TypedResourceIndex) → (ledger.resource_lift_own l p idx).after.handles.scopes ≡ l.handles.scopes
-lift_own_scopes l p idx = after-removing (λ (h : Handles). h.scopes ≡ l.handles.scopes) p (λ h. handles.resource_lift_own h p idx) l refl (lift_own_keeps l.handles l.handles.scopes refl p idx)
-
-host_own_scopes : (l : LedgerState) (rep : ℕ) (dtor instance : Option ℕ) → (ledger.host_resource_lower_own l rep dtor instance).after.handles.scopes ≡ l.handles.scopes
-host_own_scopes l rep dtor instance = after-inserting (λ (h : Handles). h.scopes ≡ l.handles.scopes) host_table instance dtor (handles.resource_new l.handles host_table (Host rep)) l refl
-    (new_keeps l.handles l.handles.scopes refl host_table (Host rep))
-
--- one is taken from a component's table and put into the host's
-own_lifted : (i : Instance) (l n : LedgerState) (ty index h : ℕ) → LeafTakes l (lifted_parts true i ty index) h n → n.handles.scopes ≡ l.handles.scopes
-own_lifted i l n ty index h takes =
-    let (rep, rest, is, took, (put, more, are, made, (none, ends))) = takes.takes 0 in
-    let taken : LedgerState = (ledger.resource_lift_own l (table_for i ty) (ComponentIndex ty index)).after in
-    ap (λ (m : LedgerState). m.handles.scopes) ends ∙ (host_own_scopes taken rep (dtor_for i ty) (instance_for i ty) ∙ lift_own_scopes l (table_for i ty) (ComponentIndex ty index))
+-- ---- own handles that are lifted
 
 leaf_lifted : (i : Instance) (l n : LedgerState) (leaf : Leaf) (h : ℕ) → leaf.owned ≡ true → LeafTakes l (lift_parts i leaf) h n → n.handles.scopes ≡ l.handles.scopes
 leaf_lifted i l n leaf h owned takes = own_lifted i l n leaf.resource leaf.index h (subst (λ (b : Bool). LeafTakes l (lifted_parts b i leaf.resource leaf.index) h n) owned takes)

@@ -13,7 +13,6 @@ pub mod Leaving
 pub mod Lowered
 pub mod Owned
 pub mod Partways
-pub mod Passed
 pub mod Prefixes
 pub mod Refusals
 pub mod Rests
@@ -24,3 +23,6 @@ pub mod Tails
 pub mod Throughs
 pub mod Turns
 pub mod Unserved
+pub mod TupleLowered
+pub mod TupleLifted
+pub mod TypedExact

@@ -1,6 +1,6 @@
 -- What lowering the parameters did.
 use Rattle.std.proofs.Common.{Bool, Err, List, None, Ok, Option, Result, Some, [], ap, inl, inr, length, map, refl, subst, sym, ℕ, ◌++◌, ◌∙◌, ◌≡◌, ◌≤◌, ◌⊎◌}
-use Rattle.std.specs.Prelude.{IsSome, drop, false, take}
+use Rattle.std.specs.Prelude.{IsSome, drop, false, slice_get, take}
 use Rattle.std.proofs.Math.Seq.{take-append_seam}
 use Rattle.std.proofs.lemmas.Bool.{false≢true}
 use Rattle.canon_model.specs.Flat.{max_params}
@@ -11,6 +11,8 @@ use Rattle.canon_memory.specs.declared.event.Event.{Event}
 use Rattle.canon_memory.specs.Guest.{GuestIn, Moment, Seen}
 use Rattle.canon_memory.specs.Journal.{Adds}
 use Rattle.canon_types.specs.Instance.{Instance}
+use Rattle.canon_types.specs.Table.{Table, tuple_members}
+use Rattle.canon_types.specs.declared.types.TypeFunc.{TypeFunc}
 use Rattle.canon_ledger.specs.Ledger.{LedgerState}
 use Rattle.canon_leaves.specs.Parts.{LeavesStop, LeavesTake, Passed, lower_parts}
 use Rattle.canon_lowering.proofs.Lowerings.{none_answered}
@@ -28,7 +30,9 @@ use Rattle.canon_context.specs.declared.fault.Fault.{Fault}
 use Rattle.canon_context.specs.declared.fault.Fault.TheVariants as fault
 use Rattle.canon_value.specs.declared.val.Val.{Val}
 use Rattle.canon_func.specs.Call.{Adding, AsksByTypes, AsksNothing, OnAnswered, words_within}
+use Rattle.canon_func.specs.Passing.{Arguments}
 use Rattle.canon_func.specs.Steps.{EndsFor, LowersFor}
+use Rattle.canon_func.specs.Stores.{params_in}
 use Rattle.canon_func.specs.declared.error.Error.TheVariants as error
 
 -- a fact of the new events of an exposed journal
@@ -36,6 +40,10 @@ pub told : (before after : Option (List Event)) (events : List Event) (P : List 
     → ((l es : List Event) → before ≡ Some l → after ≡ Some (l ++ es) → P es) → IsSome before → P events
 told None after events P added so there = absurd (false≢true there)
 told (Some l) after events P added so there = so l events refl added
+
+-- the members of the tuple are the callee's parameters
+pub params_are : (t u : Table) (i : ℕ) (f : TypeFunc) → u ≡ t → slice_get u.funcs i ≡ Some f → tuple_members t f.params ≡ params_in t (slice_get t.funcs i)
+params_are t u i f same found = sym (ap (params_in t) (ap (λ v. slice_get v.funcs i) (sym same) ∙ found))
 
 -- words written over as many
 pub written : (words dst : List ℕ) (n : ℕ) → n ≡ length dst → take n (dst ++ drop (length dst) words) ≡ dst
@@ -93,67 +101,88 @@ refused_moves V seen moves g h (fault.BadDiscriminant at d) m l es p q = m l es 
 refused_moves V seen moves g h fault.HostcallFuelExhausted m l es p q = m l es p q
 refused_moves V seen moves g h (fault.Resource r) m l es p q = m l es p q
 
-module _ (a b : Moment) (enc : Encoding) (types : Instance) (ms ns : Members) (params : List Val) (l l2 : LedgerState) (is : ms ≡ ns) where
+-- parameters of these members, whatever they are, were lowered
+module _ (a b : Moment) (enc : Encoding) (ms : Members) (args : Arguments) (l l2 : LedgerState) (hs : List ℕ) where
   -- where nothing was asked for
   asks_nothing : (answers : List Answer) (trap : Option Trap) → b.guest.marks ≡ a.guest.marks ++ marks_of answers → (have_block ms ≡ false → members_flat ms ≤ max_params → trap ≡ None)
-      → (members_flat ms ≤ max_params → have_block ms ≡ false → b ≡ a) → AsksNothing ns answers trap
-  asks_nothing answers trap marks none same =
-      subst (λ ks. AsksNothing ks answers trap) is (λ near quiet. (none_answered a.guest.marks answers (ap (λ (m : Moment). m.guest.marks) (sym (same near quiet)) ∙ marks), none quiet near))
+      → (members_flat ms ≤ max_params → have_block ms ≡ false → b ≡ a) → AsksNothing ms answers trap
+  asks_nothing answers trap marks none same near quiet = (none_answered a.guest.marks answers (ap (λ (m : Moment). m.guest.marks) (sym (same near quiet)) ∙ marks), none quiet near)
 
-  abbrev Lowers : Members → List ℕ → List ℕ → Ending → Type 0
-  Lowers ks words handles ending = LowersParams a b enc ks (HaveTrees ks params) words handles ending
+  abbrev Lowers : List ℕ → Ending → Type 0
+  Lowers words ending = LowersParams a b enc ms args.are words hs ending
 
-  pub lowered_done : (words dst : List ℕ) (M : List Event → Type 0) → words ≡ dst → length words ≡ words_within max_params ms → (members_flat ms ≤ max_params → have_block ms ≡ false → b ≡ a)
-      → Crosses {T = Unit {0}} types (have_handle ms) (all_passes ms params) (Lowers ms dst) l l2 (Ok tt) → AreSmall enc ms params → ((l es : List Event) → a.guest.journal ≡ Some l → b.guest.journal ≡ Some (l ++ es) → M es)
-      → Adding a b M (λ es. (hs : List ℕ) × (low : LowersArgs false a b enc ns (HaveTrees ns params) words hs done)
-      × (es ≡ events_of low.answers low.trap) × (length words ≡ words_within max_params ns) × AsksByTypes ns done low.answers low.trap × AreSmall enc ns params
-      × LeavesTake l (map (lower_parts types) (all_passes ns params)) hs l2)
-  lowered_done words dst M e count same cross small new =
-      let both : Lowers ns words cross.given done = subst (λ ks. Lowers ks words cross.given done) is
-      (subst (λ ws. Lowers ms ws cross.given done) (sym e) (subst (λ end. Lowers ms dst cross.given end) cross.ends cross.lowered)) in
+  pub args_done : (words : List ℕ) (M : List Event → Type 0) → length words ≡ words_within max_params ms → (members_flat ms ≤ max_params → have_block ms ≡ false → b ≡ a)
+      → Lowers words done → args.small → ((l es : List Event) → a.guest.journal ≡ Some l → b.guest.journal ≡ Some (l ++ es) → M es) → LeavesTake l args.parts hs l2
+      → Adding a b M (λ es. (handles : List ℕ) × (low : LowersArgs false a b enc ms args.are words handles done)
+      × (es ≡ events_of low.answers low.trap) × (length words ≡ words_within max_params ms) × AsksByTypes ms done low.answers low.trap × args.small × LeavesTake l args.parts handles l2)
+  args_done words M count same both small new takes =
       let mine = both.lowered in
       record {
         events = events_of mine.answers mine.trap;
         added = mine.lowering.goes.events;
         moves = told a.guest.journal b.guest.journal (events_of mine.answers mine.trap) M mine.lowering.goes.events new;
-        so = (
-          cross.given,
-          mine,
-          refl,
-          count ∙ ap (λ ks. words_within max_params ks) is,
-          (asks_nothing mine.answers mine.trap mine.lowering.goes.marks (λ quiet near. mine.lowering.cause) same, both.asks),
-          subst (λ ks. AreSmall enc ks params) is small,
-          subst (λ ks. LeavesTake l (map (lower_parts types) (all_passes ks params)) cross.given l2) is cross.passed,
-        );
+        so = (hs, mine, refl, count, (asks_nothing mine.answers mine.trap mine.lowering.goes.marks (λ quiet near. mine.lowering.cause) same, both.asks), small, takes);
       }
 
-  pub lowered_refused : (f : Fault) (dst : List ℕ) (M : List Event → Type 0) → Crosses {T = Unit {0}} types (have_handle ms) (all_passes ms params) (Lowers ms dst) l l2 (Err f) → BlamesMembers enc ms params f
-      → (members_flat ms ≤ max_params → have_block ms ≡ false → (b ≡ a) × ((fault_ending f ≡ refused) ⊎ (UsesLedger (have_handle ms) (all_passes ms params) × (f ≡ fault.OutOfMemory))))
-      → ((l es : List Event) → a.guest.journal ≡ Some l → b.guest.journal ≡ Some (l ++ es) → M es)
-      → Adding a b M (λ es. ((f ≡ fault.OutOfMemory) × (b ≡ a) × (l2 ≡ l) × (es ≡ [])) ⊎ ((words hs : List ℕ) × (ending : Ending) × (low : LowersArgs false a b enc ns (HaveTrees ns params) words hs ending)
-      × EndsFor f ending × BlamesMembers enc ns params f × (told_fault f ≡ f) × (es ≡ events_of low.answers low.trap) × AsksByTypes ns ending low.answers low.trap
-      × LeavesStop (stop_of f) l (map (lower_parts types) (all_passes ns params)) l2))
-  lowered_refused f dst M cross blames same new =
-      let both : Lowers ns dst cross.given cross.ending = subst (λ ks. Lowers ks dst cross.given cross.ending) is cross.lowered in
+  pub args_refused : (f : Fault) (words : List ℕ) (ending : Ending) (M : List Event → Type 0) → Lowers words ending → EndsFor f ending → args.blames f → told_fault f ≡ f
+      → (members_flat ms ≤ max_params → have_block ms ≡ false → (b ≡ a) × ((ending ≡ short) ⊎ (ending ≡ refused)))
+      → ((l es : List Event) → a.guest.journal ≡ Some l → b.guest.journal ≡ Some (l ++ es) → M es) → LeavesStop (stop_of f) l args.parts l2
+      → Adding a b M (λ es. ((f ≡ fault.OutOfMemory) × (b ≡ a) × (l2 ≡ l) × (es ≡ [])) ⊎ ((words handles : List ℕ) × (end : Ending) × (low : LowersArgs false a b enc ms args.are words handles end)
+      × EndsFor f end × args.blames f × (told_fault f ≡ f) × (es ≡ events_of low.answers low.trap) × AsksByTypes ms end low.answers low.trap × LeavesStop (stop_of f) l args.parts l2))
+  args_refused f words ending M both ends blames is_told same new stops =
       let mine = both.lowered in
       record {
         events = events_of mine.answers mine.trap;
         added = mine.lowering.goes.events;
         moves = told a.guest.journal b.guest.journal (events_of mine.answers mine.trap) M mine.lowering.goes.events new;
         so = inr (
-          dst,
-          cross.given,
-          cross.ending,
+          words,
+          hs,
+          ending,
           mine,
-          ends_for (Unit {0}) (have_handle ms) (all_passes ms params) f cross.ending cross.ends,
-          subst (λ ks. BlamesMembers enc ks params f) is blames,
-          cross.as_told,
+          ends,
+          blames,
+          is_told,
           refl,
           (
-            asks_nothing mine.answers mine.trap mine.lowering.goes.marks
-                (λ quiet near. untrapped a b mine.answers mine.trap cross.ending mine.lowering.cause (ending_quiet (have_handle ms) (all_passes ms params) f cross.ending cross.ends (same near quiet).1)) (λ near quiet. (same near quiet).0),
+            asks_nothing mine.answers mine.trap mine.lowering.goes.marks (λ quiet near. untrapped a b mine.answers mine.trap ending mine.lowering.cause (same near quiet).1) (λ near quiet. (same near quiet).0),
             both.asks,
           ),
-          subst (λ ks. LeavesStop (stop_of f) l (map (lower_parts types) (all_passes ks params)) l2) is cross.passed.0,
+          stops,
         );
       }
+
+-- dynamic values were
+module _ (a b : Moment) (enc : Encoding) (types : Instance) (ms ns : Members) (params : List Val) (l l2 : LedgerState) (is : ms ≡ ns) where
+  abbrev values : Members → Arguments
+  values ks = record {
+    are = HaveTrees ks params;
+    small = AreSmall enc ks params;
+    blames = BlamesMembers enc ks params;
+    parts = map (lower_parts types) (all_passes ks params);
+  }
+
+  abbrev LowersValues : List ℕ → List ℕ → Ending → Type 0
+  LowersValues words handles ending = LowersParams a b enc ms (HaveTrees ms params) words handles ending
+
+  pub lowered_done : (words dst : List ℕ) (M : List Event → Type 0) → words ≡ dst → length words ≡ words_within max_params ms → (members_flat ms ≤ max_params → have_block ms ≡ false → b ≡ a)
+      → Crosses {T = Unit {0}} types (have_handle ms) (all_passes ms params) (LowersValues dst) l l2 (Ok tt) → AreSmall enc ms params → ((l es : List Event) → a.guest.journal ≡ Some l → b.guest.journal ≡ Some (l ++ es) → M es)
+      → Adding a b M (λ es. (hs : List ℕ) × (low : LowersArgs false a b enc ns (HaveTrees ns params) words hs done)
+      × (es ≡ events_of low.answers low.trap) × (length words ≡ words_within max_params ns) × AsksByTypes ns done low.answers low.trap × AreSmall enc ns params
+      × LeavesTake l (map (lower_parts types) (all_passes ns params)) hs l2)
+  lowered_done words dst M e count same cross small new = subst (λ ks. Adding a b M (λ es. (hs : List ℕ) × (low : LowersArgs false a b enc ks (HaveTrees ks params) words hs done)
+      × (es ≡ events_of low.answers low.trap) × (length words ≡ words_within max_params ks) × AsksByTypes ks done low.answers low.trap × AreSmall enc ks params
+      × LeavesTake l (map (lower_parts types) (all_passes ks params)) hs l2)) is
+      (args_done a b enc ms (values ms) l l2 cross.given words M count same (subst (λ ws. LowersValues ws cross.given done) (sym e) (subst (λ end. LowersValues dst cross.given end) cross.ends cross.lowered)) small new cross.passed)
+
+  pub lowered_refused : (f : Fault) (dst : List ℕ) (M : List Event → Type 0) → Crosses {T = Unit {0}} types (have_handle ms) (all_passes ms params) (LowersValues dst) l l2 (Err f) → BlamesMembers enc ms params f
+      → (members_flat ms ≤ max_params → have_block ms ≡ false → (b ≡ a) × ((fault_ending f ≡ refused) ⊎ (UsesLedger (have_handle ms) (all_passes ms params) × (f ≡ fault.OutOfMemory))))
+      → ((l es : List Event) → a.guest.journal ≡ Some l → b.guest.journal ≡ Some (l ++ es) → M es)
+      → Adding a b M (λ es. ((f ≡ fault.OutOfMemory) × (b ≡ a) × (l2 ≡ l) × (es ≡ [])) ⊎ ((words hs : List ℕ) × (ending : Ending) × (low : LowersArgs false a b enc ns (HaveTrees ns params) words hs ending)
+      × EndsFor f ending × BlamesMembers enc ns params f × (told_fault f ≡ f) × (es ≡ events_of low.answers low.trap) × AsksByTypes ns ending low.answers low.trap
+      × LeavesStop (stop_of f) l (map (lower_parts types) (all_passes ns params)) l2))
+  lowered_refused f dst M cross blames same new = subst (λ ks. Adding a b M (λ es. ((f ≡ fault.OutOfMemory) × (b ≡ a) × (l2 ≡ l) × (es ≡ [])) ⊎ ((words hs : List ℕ) × (ending : Ending)
+      × (low : LowersArgs false a b enc ks (HaveTrees ks params) words hs ending) × EndsFor f ending × BlamesMembers enc ks params f × (told_fault f ≡ f) × (es ≡ events_of low.answers low.trap)
+      × AsksByTypes ks ending low.answers low.trap × LeavesStop (stop_of f) l (map (lower_parts types) (all_passes ks params)) l2))) is
+      (args_refused a b enc ms (values ms) l l2 cross.given f dst cross.ending M cross.lowered (ends_for (Unit {0}) (have_handle ms) (all_passes ms params) f cross.ending cross.ends) blames cross.as_told
+      (λ near quiet. ((same near quiet).0, ending_quiet (have_handle ms) (all_passes ms params) f cross.ending cross.ends (same near quiet).1)) new cross.passed.0)

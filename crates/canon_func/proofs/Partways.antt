@@ -27,7 +27,8 @@ use Rattle.canon_func.specs.Stores.{Callee}
 use Rattle.canon_func.specs.declared.asks.Builtin.{Builtin}
 use Rattle.canon_func.specs.declared.error.Error.{Error}
 use Rattle.canon_func.specs.declared.error.Error.TheVariants as error
-use Rattle.canon_func.proofs.Passed.{ReadsRightly, dynamic_reads}
+use Rattle.canon_func.specs.Dynamic.{dynamic_reads}
+use Rattle.canon_func.specs.Passed.{ReadsRightly}
 use Rattle.canon_func.proofs.Throughs.{call_through, ended_can_leave, ended_is, host_through, left_through}
 
 -- ---- events

@@ -25,8 +25,8 @@ use Rattle.canon_func.specs.Steps.{EndsFor, TrapsLate}
 use Rattle.canon_func.specs.Stores.{Callee}
 use Rattle.canon_func.specs.declared.error.Error.TheVariants as error
 use Rattle.canon_func.proofs.Calls.{goes_advance}
-use Rattle.canon_func.proofs.Handled.{leaves_excluded}
-use Rattle.canon_func.proofs.Passed.{BlamesRightly, Unfit}
+use Rattle.canon_leaves.proofs.Leaves.{leaves_excluded}
+use Rattle.canon_func.specs.Passed.{BlamesRightly, Unfit}
 use Rattle.canon_func.proofs.Prefixes.{asks_answers, each_answer, ends_in_answer, ends_in_trap, grows_request, last_lawful, none_trapped, prefix_requests}
 
 refused_not_short : refused ≡ short → ⊥

@@ -24,7 +24,7 @@ use Rattle.canon_func.specs.declared.error.Error.{Error}
 use Rattle.canon_func.specs.declared.error.Error.TheVariants as error
 use Rattle.canon_func.proofs.Handled.{lifted_stops, not_both, returned_excluded}
 use Rattle.canon_func.proofs.Leaving.{lifted_leaves}
-use Rattle.canon_func.proofs.Passed.{ReadsRightly}
+use Rattle.canon_func.specs.Passed.{ReadsRightly}
 use Rattle.canon_func.proofs.Tails.{IsTail}
 use Rattle.canon_func.proofs.Prefixes.{ends_after}
 use Rattle.canon_func.proofs.Turns.{same_le}

@@ -20,7 +20,7 @@ use Rattle.canon_value.specs.Lifts.{LiftsResults}
 use Rattle.canon_value.specs.Resources.{all_resources}
 use Rattle.canon_value.specs.declared.val.Val.{Val}
 use Rattle.canon_func.specs.Call.{dynamic_results, returned_leaves}
-use Rattle.canon_func.specs.Steps.{IsLate, Lifted, LiftsIn, items_in}
+use Rattle.canon_func.specs.Steps.{Lifted, LiftsIn, items_in}
 use Rattle.canon_func.specs.Stores.{Callee, export_callee, results_in}
 use Rattle.canon_func.specs.declared.error.Error.{Error}
 use Rattle.canon_func.proofs.Leaving.{lifts_scopes}
@@ -71,8 +71,3 @@ module _ {T G : Type 0} (core : Parts T G) (export : Export) (words : List ℕ) 
   pub lifted_count : (result : Result (Vec Val Global) Fault) → Lifts (tuple_members (types_of core) f.results) result → IfOk result (λ vals. length vals.items ≡ member_count Callee_.results)
   lifted_count (Err e) h = tt
   lifted_count (Ok vals) h = let are = (of_callee (Ok vals) h).1.ok in have_count true Callee_.results vals.items are.its_trees are.have
-
--- its refusal isn't one before the guest is entered
-pub items_late : (result : Result (Vec Val Global) Error) → IfErr (items_in result) IsLate → IfErr result IsLate
-items_late (Ok vals) h = h
-items_late (Err e) h = h

@@ -1,5 +1,5 @@
 -- How a call begins, said of cores: its scope is opened, and then its parameters are lowered.
-use Rattle.std.proofs.Common.{Err, Global, List, Ok, Option, Result, Vec, subst, sym, ℕ, ◌++◌, ◌≡◌}
+use Rattle.std.proofs.Common.{Err, Global, IfErr, List, Ok, Option, Result, Vec, subst, sym, ℕ, ◌++◌, ◌≡◌}
 use Rattle.canon_memory.specs.declared.event.Event.{Event}
 use Rattle.canon_memory.specs.Guest.{GuestIn, Seen}
 use Rattle.canon_context.specs.Asks.{SameButHandles}
@@ -10,13 +10,13 @@ use Rattle.canon_host.specs.HostSide.{Entry, Giving, HostSide, host_side}
 use Rattle.canon_func.specs.Asks.{Limits}
 use Rattle.canon_func.specs.Call.{Adding, IsCallOf, OnAnswered}
 use Rattle.canon_func.specs.Passing.{Arguments, Returns}
-use Rattle.canon_func.specs.Steps.{IsRest, LoweredArgs, Serving}
+use Rattle.canon_func.specs.Steps.{IsLate, IsRest, LoweredArgs, Serving, map_ok}
 use Rattle.canon_func.specs.Stores.{Callee}
 use Rattle.canon_func.specs.declared.error.Error.{Error}
 use Rattle.canon_func.specs.declared.error.Error.TheVariants as error
 use Rattle.canon_func.proofs.Asking.{ledger_kept, side_handles, side_ledger, told_after_lowering}
 use Rattle.canon_func.proofs.Composed.{InScope, answered, call_refused, call_started, entered_call, retyped, scope_short}
-use Rattle.canon_func.proofs.Passed.{BlamesRightly}
+use Rattle.canon_func.specs.Passed.{BlamesRightly}
 
 -- the host has this log and this count of refusals meanwhile
 module _ {T G R : Type 0} (args : Arguments) (its : Returns R) (gives : Giving T) (callee : Callee) (limits : Limits) (seen : G → Seen) (moves : GuestIn G → List Event → GuestIn G → Type 0) (Leaves : List ℕ → List ℕ → Type 0)
@@ -74,3 +74,8 @@ module _ {T G R : Type 0} (args : Arguments) (its : Returns R) (gives : Giving T
       (scope_short args its gives callee limits Leaves (seen before.guest) before.memory host (record host { ledger = after.ledger })
       (λ es. OnAnswered {T = U} (Err (error.Fault fault.OutOfMemory)) (moves (guest_of before) es (guest_of before)))
       (ledger_kept before after log refusals left) (λ there. tt))
+
+-- a refusal of what is said of an answer is one of the answer
+pub late_of : {A B : Type 0} (f : A → B) (result : Result A Error) → IfErr (map_ok f result) IsLate → IfErr result IsLate
+late_of f (Ok x) h = h
+late_of f (Err e) h = h

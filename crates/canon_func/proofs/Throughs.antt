@@ -19,7 +19,8 @@ use Rattle.canon_func.specs.Laws.{AskThrough, AsksThrough, CallIsThrough, CallTh
 use Rattle.canon_func.specs.Passing.{Arguments, Returns}
 use Rattle.canon_func.specs.Runs.{AskTurn, Each, OnReturn}
 use Rattle.canon_func.specs.Stores.{Callee}
-use Rattle.canon_func.proofs.Passed.{ReadsRightly, dynamic_reads}
+use Rattle.canon_func.specs.Dynamic.{dynamic_reads}
+use Rattle.canon_func.specs.Passed.{ReadsRightly}
 
 each_return : (P Q : List ℕ → List ℕ → Type 0) → ((ws m : List ℕ) → P ws m → Q ws m) → (events : List Event) → Each (OnReturn P) events → Each (OnReturn Q) events
 each_return P Q f [] h = tt

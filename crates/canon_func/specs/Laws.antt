@@ -1,8 +1,11 @@
 -- Laws of the definitions of a call.
-use Rattle.std.specs.Prelude.{Err, List, Ok, Option, Some, [], map, slice_index, take, ℕ, ◌++◌, ◌∷◌, ◌≡◌, ◌⊎◌}
-use Rattle.canon_model.specs.Flat.{max_params}
+use Rattle.std.specs.Prelude.{Err, List, Ok, Option, Some, [], false, map, slice_index, take, ℕ, ◌++◌, ◌+◌, ◌∷◌, ◌≡◌, ◌≤◌, ◌⊎◌}
+use Rattle.canon_model.specs.Flat.{RepResults, max_params}
 use Rattle.canon_model.specs.Leaves.{values_leaves}
 use Rattle.canon_model.specs.Memory.{low}
+use Rattle.canon_model.specs.Shape.{Shape}
+use Rattle.canon_model.specs.Tree as tree
+use Rattle.canon_model.specs.Tree.{Tree, Trees}
 use Rattle.canon_memory.specs.declared.event.Event.{Event}
 use Rattle.canon_ledger.specs.Handles.{top_scope}
 use Rattle.canon_ledger.specs.Ledger.{Enter, ExitScope, Leave, LedgerState, LedgerStep, Partway, Through, do_step, enter, leave}
@@ -17,8 +20,15 @@ use Rattle.canon_value.specs.declared.val.Val.{Val}
 use Rattle.canon_host.specs.HostSide.{Giving, HostSide}
 use Rattle.canon_host.specs.declared.asked.Asked.{Asked}
 use Rattle.canon_func.specs.Asks.{builtin_at, builtin_step}
-use Rattle.canon_func.specs.Call.{HandlesPass, param_parts, result_parts}
+use Rattle.canon_lift.specs.Reading.{Reading}
+use Rattle.canon_types.specs.Instance.{Instance}
+use Rattle.canon_types.specs.Table.{shape_of}
+use Rattle.canon_types.specs.declared.types.InterfaceType.{InterfaceType}
+use Rattle.canon_types.specs.declared.types.InterfaceType.TheVariants as ty
+use Rattle.canon_func.specs.Call.{HandlesPass, HandlesPassOf, param_parts, result_parts}
 use Rattle.canon_func.specs.HostAsks.{IsHostAsk, asked_params, asked_results}
+use Rattle.canon_func.specs.Passing.{Arguments, Returns}
+use Rattle.canon_func.specs.Typed.{params_shape, results_shape, typed_args, typed_results}
 use Rattle.canon_func.specs.Runs.{AskTurn, BeginsInAsk, Each, IsNoStart, OnReturn, SomeReturn}
 use Rattle.canon_func.specs.Stores.{Callee}
 use Rattle.canon_func.specs.declared.asks.Builtin.{Builtin}
@@ -123,3 +133,36 @@ abbrev pub RefusedIsPartway : {T : Type 0} → Giving T → Type 0
 RefusedIsPartway {T} gives = (callee : Callee) (fuel : ℕ) (params : List Val) (turns : List AskTurn) (memory2 : List ℕ) (late : List Answer) (trap : Option Trap) (before after : HostSide T) (given : List ℕ) (e : Error) (results : List Val) (events tail : List Event)
     → HandlesPass gives callee fuel params turns memory2 late trap before after given (Err e) results events tail
     → PassesPartway callee (param_parts callee params) (result_parts callee) turns before.ledger after.ledger events tail
+
+-- ---- of a typed call
+
+-- the same of any parameters and results
+module _ {T R : Type 0} (args : Arguments) (its : Returns R) (gives : Giving T) (callee : Callee) where
+  abbrev pub IsThrough : Type 0
+  IsThrough = (fuel : ℕ) (turns : List AskTurn) (memory2 : List ℕ) (late : List Answer) (trap : Option Trap) (before after : HostSide T) (given : List ℕ) (results : R) (events tail : List Event)
+      → HandlesPassOf args its gives callee fuel turns memory2 late trap before after given (Ok results) events tail → PassesThrough callee args.parts its.parts turns before.ledger after.ledger tail
+
+  abbrev pub IsPartway : Type 0
+  IsPartway = (fuel : ℕ) (turns : List AskTurn) (memory2 : List ℕ) (late : List Answer) (trap : Option Trap) (before after : HostSide T) (given : List ℕ) (e : Error) (events tail : List Event)
+      → HandlesPassOf args its gives callee fuel turns memory2 late trap before after given (Err e) events tail → PassesPartway callee args.parts its.parts turns before.ledger after.ledger events tail
+
+module _ {T P R : Type 0} (gives : Giving T) (Walks : P → Tree → Type 0) (steps : Instance → Shape → P → List (List Part)) (reading : Reading R) where
+  abbrev pub TypedIsThrough : Type 0
+  TypedIsThrough = (callee : Callee) (options store : ℕ) (params : P)
+      → IsThrough (typed_args (Walks params) (steps callee.types (params_shape callee) params) callee) (typed_results reading options store callee) gives callee
+
+  abbrev pub TypedIsPartway : Type 0
+  TypedIsPartway = (callee : Callee) (options store : ℕ) (params : P)
+      → IsPartway (typed_args (Walks params) (steps callee.types (params_shape callee) params) callee) (typed_results reading options store callee) gives callee
+
+module _ {R : Type 0} (Fit : Instance → InterfaceType → Type 0) (reading : Reading R) (price : Tree → ℕ) where
+  -- The results of a typed call mean trees that the returned words and memory represent, and their price was taken from the fuel.
+  abbrev pub OnlyRepresented : (R → Tree → Type 0) → Type 0
+  OnlyRepresented Means = (callee : Callee) (options store type fuel left : ℕ) (words memory : List ℕ) (results : R) → Fit callee.types (ty.Tuple type) → shape_of callee.types.types (ty.Tuple type) ≡ results_shape callee
+      → (typed_results reading options store callee).are words memory fuel left results
+      → (ts : Trees) × RepResults false callee.encoding (narrow memory) words callee.results ts × Means results (tree.parts ts) × (fuel ≡ left + price (tree.parts ts))
+
+  -- Where words and memory represent trees of a price within the fuel, a valid call answers.
+  abbrev pub RepresentedIsEnough : Type 0
+  RepresentedIsEnough = (callee : Callee) (options store type fuel : ℕ) (words memory : List ℕ) (ts : Trees) → Fit callee.types (ty.Tuple type) → shape_of callee.types.types (ty.Tuple type) ≡ results_shape callee
+      → RepResults false callee.encoding (narrow memory) words callee.results ts → price (tree.parts ts) ≤ fuel → (typed_results reading options store callee).represent words memory fuel

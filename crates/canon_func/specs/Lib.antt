@@ -7,3 +7,7 @@ pub mod Passing
 pub mod Runs
 pub mod Steps
 pub mod Stores
+pub mod Passed
+pub mod Typed
+pub mod Dynamic
+pub mod TypedLaws

@@ -327,15 +327,14 @@ module _ {T R : Type 0} (its : Returns R) (gives : Giving T) (callee : Callee) (
 abbrev pub LiftsIn : Origin → List ℕ → Members → LedgerState → ℕ → Result (Vec Val Global) Fault → LedgerState → Type 0
 LiftsIn o words ms before fuel result after = (left : ℕ) × LiftsResults o words ms before fuel result after left
 
+-- an answer, with what is said of it
+abbrev pub map_ok : {A B E : Type 0} → (A → B) → Result A E → Result B E
+map_ok f (Ok x) = Ok (f x)
+map_ok f (Err e) = Err e
+
 -- the values in a vector
 abbrev pub items_in : {E : Type 0} → Result (Vec Val Global) E → Result (List Val) E
-items_in (Ok values) = Ok values.items
-items_in (Err e) = Err e
-
--- the whole, before the results are written
-abbrev pub CoreCall : {T : Type 0} → Giving T → Callee → Limits → (List ℕ → List ℕ → Type 0) → List Val → Moment → Moment → HostSide T → HostSide T → Result (Vec Val Global) Error → List Event → Type 0
-CoreCall gives callee limits Leaves params before after host left answer events =
-    IsCallOf (dynamic callee params) (dynamic_results callee) Leaves gives callee limits before after host left (items_in answer) events
+items_in {E} = map_ok (λ values. values.items)
 
 -- it isn't a refusal before the guest is entered
 abbrev pub IsLate : Error → Type 0

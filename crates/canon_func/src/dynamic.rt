@@ -1,6 +1,6 @@
-//! Calls with dynamic values.
+//! Dynamic values as parameters and results.
 
-ghost use Rattle.std.specs.Prelude.{◌≡◌, IfErr, IfOk, length};
+ghost use Rattle.std.specs.Prelude.{◌≡◌, IfOk, List, length, ⊤};
 ghost use Rattle.canon_model.specs.Flat.{max_params, max_results};
 ghost use Rattle.canon_model.specs.Shape.{member_count};
 ghost use Rattle.canon_types.specs.Table.{HasTuple, tuple_members};
@@ -8,111 +8,62 @@ ghost use Rattle.canon_context.specs.Asks.{SameButHandles};
 ghost use Rattle.canon_context.specs.Component.{IsInside};
 ghost use Rattle.canon_context.specs.Core.{SameButLedger, guest_of, moment_of, types_of};
 ghost use Rattle.canon_context.specs.Lifter.{origin_in};
-ghost use Rattle.canon_ledger.specs.Ledger.{LedgerState, enter};
-ghost use Rattle.canon_host.specs.HostSide.{host_side};
-ghost use Rattle.canon_func.specs.Asks.{allowed};
 ghost use Rattle.canon_func.specs.Call.{Adding, OnAnswered, dynamic, dynamic_results, result_words, words_within};
-ghost use Rattle.canon_func.specs.Steps.{CoreCall, IsLate, IsRest, Lifted, LiftsIn, LoweredArgs, LowersFor, SameButHost, Serving, items_in};
+ghost use Rattle.canon_func.specs.Dynamic.{dynamic_blames, dynamic_reads};
+ghost use Rattle.canon_func.specs.Steps.{Lifted, LiftsIn, LoweredArgs, LowersFor, items_in};
 ghost use Rattle.canon_func.specs.Stores.{export_callee};
+ghost use Rattle.canon_value.specs.declared.val.Val as declared;
 
 use crate::Error;
-use crate::steps::{conclude, run, word_count};
-use canon_host::Imports;
+use crate::passing::{Params, Results};
+use crate::steps::word_count;
 use canon_memory::{Guest, ValRaw};
 use canon_types::{MAX_FLAT_PARAMS, TypeTupleIndex};
 use canon_value::{Core, Export, Fault, LiftContext, LowerContext, Val, lift_results, lower_args};
 use std::alloc::Global;
 
-/// Calls with dynamic values: opens a scope, lowers the parameters, runs the guest, ends the scope, lifts what the guest
-/// returned, runs post-return, and leaves the scope, which stays open where the call is refused.
-pub(crate) fn call_core<T, G: Guest, I: Imports<T, G>>(
-    alloc: Global,
-    core: &mut Core<T, G>,
-    imports: &mut I,
-    export: &Export,
-    turns: u64,
-    params: &[Val],
-) -> Result<Vec<Val>, Error>
-    requires ready { I.ready imports.old }
-    requires inside { IsInside core.old.component export.now }
-    requires params { length params.now ≡ member_count (export_callee core.old.component export.now).params }
-    ensures call { Adding (moment_of G.seen core.old) (moment_of G.seen core.new)
-        (λ events. OnAnswered result (G.moves (guest_of core.old) events (guest_of core.new)))
-        (λ events. CoreCall (I.gives (I.plan imports.old)) (export_callee core.old.component export.now) (allowed core.old.fuel turns) G.leaves params.now (moment_of G.seen core.old) (moment_of G.seen core.new)
-        (host_side core.old (I.log imports.old) (I.refusals imports.old)) (host_side core.new (I.log imports.new) (I.refusals imports.new)) result events) }
-    ensures late { IfErr result IsLate }
-    ensures count { IfOk result (λ vals. length vals.items ≡ member_count (export_callee core.old.component export.now).results) }
-    ensures same { SameButHost core.old core.new }
-    ensures plan { I.plan imports.new ≡ I.plan imports.old }
-    ensures still_ready { I.ready imports.new }
-{
-    match core.enter() {
-        Ok(_) => call_in_scope(alloc, core, imports, export, turns, params),
-        Err(_) => Err(Error::Fault(Fault::OutOfMemory)),
+/// Values that are passed.
+#[derive(Drop)]
+pub(crate) struct Values<'a>(pub(crate) &'a [Val]);
+
+impl<'a> Params for Values<'a> {
+    ghost args = { λ v callee. dynamic callee v.0.now };
+
+    ghost fit = { λ v component export. length v.0.now ≡ member_count (export_callee component export).params };
+
+    fn lower<T, G: Guest>(
+        &mut self,
+        alloc: Global,
+        core: &mut Core<T, G>,
+        export: &Export,
+    ) -> Result<Vec<ValRaw>, Error> {
+        lower_params(alloc, core, export, self.0)
     }
+
+    ghost blames = { λ v callee. dynamic_blames callee v.0.now };
 }
 
-/// The same in the call's scope, which is the top one.
-fn call_in_scope<T, G: Guest, I: Imports<T, G>>(
-    alloc: Global,
-    core: &mut Core<T, G>,
-    imports: &mut I,
-    export: &Export,
-    turns: u64,
-    params: &[Val],
-) -> Result<Vec<Val>, Error>
-    requires ready { I.ready imports.old }
-    requires inside { IsInside core.old.component export.now }
-    requires params { length params.now ≡ member_count (export_callee core.old.component export.now).params }
-    ensures call { Adding (moment_of G.seen core.old) (moment_of G.seen core.new)
-        (λ events. OnAnswered result (G.moves (guest_of core.old) events (guest_of core.new)))
-        (λ events. (before : LedgerState) → enter before ≡ core.old.ledger
-        → CoreCall (I.gives (I.plan imports.old)) (export_callee core.old.component export.now) (allowed core.old.fuel turns) G.leaves params.now (moment_of G.seen core.old) (moment_of G.seen core.new)
-        (host_side (record core.old { ledger = before }) (I.log imports.old) (I.refusals imports.old)) (host_side core.new (I.log imports.new) (I.refusals imports.new)) result events) }
-    ensures late { IfErr result IsLate }
-    ensures count { IfOk result (λ vals. length vals.items ≡ member_count (export_callee core.old.component export.now).results) }
-    ensures same { SameButHost core.old core.new }
-    ensures plan { I.plan imports.new ≡ I.plan imports.old }
-    ensures still_ready { I.ready imports.new }
-{
-    match lower_params(alloc, core, export, params) {
-        Ok(words) => call_lowered(alloc, core, imports, export, turns, &words),
-        Err(error) => Err(error),
-    }
-}
+impl Results for Vec<Val> {
+    ghost Out = { List declared.Val };
 
-/// From the start on, once the parameters were lowered into these words.
-fn call_lowered<T, G: Guest, I: Imports<T, G>>(
-    alloc: Global,
-    core: &mut Core<T, G>,
-    imports: &mut I,
-    export: &Export,
-    turns: u64,
-    words: &[ValRaw],
-) -> Result<Vec<Val>, Error>
-    requires ready { I.ready imports.old }
-    requires inside { IsInside core.old.component export.now }
-    ensures did { Serving (moment_of G.seen core.old) (moment_of G.seen core.new)
-        (λ events. OnAnswered result (G.moves (guest_of core.old) events (guest_of core.new)))
-        (λ answers events. IsRest (dynamic_results (export_callee core.old.component export.now)) (I.gives (I.plan imports.old)) (export_callee core.old.component export.now) (allowed core.old.fuel turns) G.leaves words.now (moment_of G.seen core.old) (moment_of G.seen core.new)
-        (host_side core.old (I.log imports.old) (I.refusals imports.old)) (host_side core.new (I.log imports.new) (I.refusals imports.new)) (items_in result) answers events) }
-    ensures count { IfOk result (λ vals. length vals.items ≡ member_count (export_callee core.old.component export.now).results) }
-    ensures same { SameButHost core.old core.new }
-    ensures plan { I.plan imports.new ≡ I.plan imports.old }
-    ensures still_ready { I.ready imports.new }
-{
-    let returned = match run(alloc, core, imports, export, turns, words) {
-        Ok(returned) => returned,
-        Err(error) => return Err(error),
-    };
-    let values = match lift(alloc, core, export, returned.as_slice()) {
-        Ok(values) => values,
-        Err(fault) => return Err(Error::Fault(fault)),
-    };
-    match conclude(core, export, returned.as_slice()) {
-        Ok(()) => Ok(values),
-        Err(error) => Err(error),
+    ghost out = { λ v. v.items };
+
+    ghost returns = { λ callee options store. dynamic_results callee };
+
+    ghost fit = { λ component export. ⊤ };
+
+    ghost counted = { λ callee v. length v.items ≡ member_count callee.results };
+
+    fn lift<T, G: Guest>(
+        alloc: Global,
+        core: &mut Core<T, G>,
+        export: &Export,
+        words: &[ValRaw],
+    ) -> Result<Vec<Val>, Fault> {
+        lift(alloc, core, export, words)
     }
+
+    ghost law = { λ callee options store. dynamic_reads callee };
 }
 
 /// The words of the parameters.

@@ -1,6 +1,6 @@
 //! A function that a component exports, and how it is called: `Func`.
 
-ghost use Rattle.std.specs.Prelude.{◌≡◌, ◌↔◌, Err, Ok, Some, IfSome, IsNone, IsTrue, OnErr, OnOk, length, slice_get, true};
+ghost use Rattle.std.specs.Prelude.{◌≡◌, ◌↔◌, Err, Ok, Some, IfOk, IfSome, IsNone, IsTrue, OnErr, OnOk, length, slice_get, true};
 ghost use Rattle.canon_types.specs.Table.{IsOver};
 ghost use Rattle.canon_context.specs.Component.{IsInside};
 ghost use Rattle.canon_context.specs.Core.{guest_of, moment_of, types_of};
@@ -9,12 +9,17 @@ ghost use Rattle.canon_func.specs.Asks.{allowed};
 ghost use Rattle.canon_func.specs.Call.{Adding, IsCall, OnAnswered, entry_refusal, refusal, refused_by};
 ghost use Rattle.canon_func.specs.Steps.{SameButHost};
 ghost use Rattle.canon_func.specs.Stores.{IsOwned, Named, callee_of, type_of};
+ghost use Rattle.canon_func.specs.Typed.{FitsParams, FitsResults};
 
+use crate::dynamic::Values;
 use crate::steps::{has_counts, options_of};
-use crate::{Error, Store};
+use crate::{Error, Store, TypedFunc};
 use canon_host::Imports;
+use canon_lift::Lift;
+use canon_lower::Lower;
 use canon_memory::Guest;
-use canon_types::{ExportIndex, StoreId, TypeFunc};
+use canon_typed::{ComponentNamedList, TypecheckFailed};
+use canon_types::{ExportIndex, InterfaceType, StoreId, TypeFunc};
 use canon_value::{Export, Val};
 use std::alloc::Global;
 use std::marker::Model;
@@ -73,8 +78,26 @@ impl Func {
         Ok(())
     }
 
+    /// The function with Rust types for its parameters and its results: two tuples, of the types that `docs/TYPED.md` lists. Answers
+    /// `TypecheckFailed` exactly where the tuple of the parameters' types, or that of the results', isn't the Rust type's.
+    pub fn typed<P: ComponentNamedList + Lower, R: ComponentNamedList + Lift, T, G, I>(
+        &self,
+        store: &Store<T, G, I>,
+    ) -> Result<TypedFunc<P, R>, TypecheckFailed>
+        requires { IsOwned store.now self.now }
+        ensures ok { OnOk result (FitsParams P.fits store.now.core.component.types (type_of store.now self.now) × FitsResults R.fits store.now.core.component.types (type_of store.now self.now)) }
+        ensures err { OnErr result (FitsParams P.fits store.now.core.component.types (type_of store.now self.now) × FitsResults R.fits store.now.core.component.types (type_of store.now self.now) → ⊥) }
+        ensures func { IfOk result (λ f. f.func ≡ self.now) }
+    {
+        let ty = self.ty(store);
+        let types = &store.core().component().types;
+        P::typecheck(&InterfaceType::Tuple(ty.params), types)?;
+        R::typecheck(&InterfaceType::Tuple(ty.results), types)?;
+        Ok(TypedFunc::new_unchecked(*self))
+    }
+
     // The export that the function is.
-    fn export_in<T, G, I>(&self, store: &Store<T, G, I>) -> Export
+    pub(crate) fn export_in<T, G, I>(&self, store: &Store<T, G, I>) -> Export
         requires { IsOwned store.now self.now }
         ensures found { slice_get store.now.core.component.exports.items self.now.export ≡ Some result }
         ensures inside { IsInside store.now.core.component result }
@@ -101,7 +124,7 @@ impl Func {
     }
 
     // Why any call is refused before the guest is entered, whatever is passed, if it is.
-    fn entry_refusal<T, G, I>(&self, store: &Store<T, G, I>) -> Option<Error>
+    pub(crate) fn entry_refusal<T, G, I>(&self, store: &Store<T, G, I>) -> Option<Error>
         requires { IsOwned store.now self.now }
         ensures { result ≡ entry_refusal (callee_of store.now self.now) store.now.trapped }
     {
@@ -161,7 +184,8 @@ impl Func {
             return Err(error);
         }
         let export = self.export_in(store);
-        match store.call_core(alloc, &export, params) {
+        let called: Result<Vec<Val>, Error> = store.call_core(alloc, &export, &mut Values(params));
+        match called {
             Ok(mut values) => {
                 results.swap_with_slice(&mut values);
                 Ok(())

@@ -1,9 +1,13 @@
 //! Laws of the definitions.
 
-ghost use Rattle.canon_func.specs.Laws.{CallIsThrough, RefusedIsPartway};
+ghost use Rattle.std.specs.Prelude.{IsTrue};
+ghost use Rattle.canon_func.specs.Laws.{CallIsThrough, OnlyRepresented, RefusedIsPartway, RepresentedIsEnough, TypedIsPartway, TypedIsThrough};
 
 use canon_host::Imports;
+use canon_lift::Lift;
+use canon_lower::Lower;
 use canon_memory::Guest;
+use canon_typed::ComponentNamedList;
 
 /// The ledger of a call that is Ok goes through the steps that its parameters, its asks and its results determine, and through no other; that of
 /// a refused call goes through them up to some step. What a function of the host does to the ledger itself stands between the steps of its
@@ -11,4 +15,23 @@ use canon_memory::Guest;
 pub fn call_is_steps<T, G: Guest, I: Imports<T, G>>(_imports: &I)
     ensures whole { CallIsThrough (I.gives (I.plan _imports.now)) }
     ensures part { RefusedIsPartway (I.gives (I.plan _imports.now)) }
+{}
+
+/// The same of a typed call.
+pub fn typed_call_is_steps<
+    T,
+    G: Guest,
+    I: Imports<T, G>,
+    P: ComponentNamedList + Lower,
+    R: ComponentNamedList + Lift,
+>(_imports: &I)
+    ensures whole { TypedIsThrough (I.gives (I.plan _imports.now)) P.walks P.gives R.reading }
+    ensures part { TypedIsPartway (I.gives (I.plan _imports.now)) P.walks P.gives R.reading }
+{}
+
+/// The results of a typed call whose type has trees mean trees that the returned words and memory represent, at exactly their price. And
+/// of any type, words that represent trees of a price within the fuel are results with which a valid call answers.
+pub fn typed_results_are_exact<R: ComponentNamedList + Lift>()
+    ensures only { IsTrue R.is_told → OnlyRepresented R.fits R.reading R.cost R.lifts }
+    ensures enough { RepresentedIsEnough R.fits R.reading R.cost }
 {}

@@ -1,17 +1,22 @@
-//! Functions that a component exports, the store that they belong to, and how they are called.
+//! Functions that a component exports, the store that they belong to, and how they are called: with dynamic values, or with Rust tuples.
 #![tactic(auto)]
 
 mod asks;
+mod call;
 mod dropping;
 mod dynamic;
 mod error;
 mod func;
 mod laws;
+mod passing;
 mod steps;
 mod store;
+mod tuples;
+mod typed_func;
 
 pub use dropping::resource_drop;
 pub use error::Error;
 pub use func::Func;
-pub use laws::call_is_steps;
+pub use laws::{call_is_steps, typed_call_is_steps, typed_results_are_exact};
 pub use store::Store;
+pub use typed_func::TypedFunc;

@@ -1,21 +1,21 @@
 //! The store: a core with its imports, its limits, and whether a call has trapped it.
 
 ghost use Rattle.std.specs.Prelude.{◌≡◌, ◌<◌, ◌↔◌, length, false, IfErr, IfOk, IsTrue, IfSome, IsSome};
-ghost use Rattle.canon_model.specs.Shape.{member_count};
 ghost use Rattle.canon_context.specs.Component.{IsInside};
 ghost use Rattle.canon_context.specs.Core.{guest_of, moment_of};
 ghost use Rattle.canon_host.specs.HostSide.{host_side};
 ghost use Rattle.canon_func.specs.Asks.{allowed};
-ghost use Rattle.canon_func.specs.Call.{Adding, OnAnswered};
-ghost use Rattle.canon_func.specs.Steps.{CoreCall, IsLate, SameButHost};
+ghost use Rattle.canon_func.specs.Call.{Adding, IsCallOf, OnAnswered};
+ghost use Rattle.canon_func.specs.Steps.{IsLate, SameButHost, map_ok};
 ghost use Rattle.canon_func.specs.Stores.{IsOwned, StoreView, export_callee};
 
-use crate::dynamic::call_core;
+use crate::call::call_core;
+use crate::passing::{Params, Results};
 use crate::{Error, Func};
 use canon_host::Imports;
 use canon_memory::Guest;
 use canon_types::ExportIndex;
-use canon_value::{Core, Export, Val};
+use canon_value::{Core, Export};
 use std::alloc::Global;
 use std::marker::Model;
 
@@ -150,21 +150,23 @@ impl<T, G, I> Store<T, G, I> {
 
 impl<T, G: Guest, I: Imports<T, G>> Store<T, G, I> {
     /// Calls the function of an export, which its imports serve.
-    pub(crate) fn call_core(
+    pub(crate) fn call_core<P: Params, R: Results>(
         &mut self,
         alloc: Global,
         export: &Export,
-        params: &[Val],
-    ) -> Result<Vec<Val>, Error>
+        params: &mut P,
+    ) -> Result<R, Error>
         requires ready { I.ready self.old.imports }
         requires inside { IsInside self.old.core.component export.now }
-        requires params { length params.now ≡ member_count (export_callee self.old.core.component export.now).params }
+        requires params { P.fit params.old self.old.core.component export.now }
+        requires results { R.fit self.old.core.component export.now }
         ensures call { Adding (moment_of G.seen self.old.core) (moment_of G.seen self.new.core)
             (λ events. OnAnswered result (G.moves (guest_of self.old.core) events (guest_of self.new.core)))
-            (λ events. CoreCall (I.gives (I.plan self.old.imports)) (export_callee self.old.core.component export.now) (allowed self.old.core.fuel self.old.turns) G.leaves params.now (moment_of G.seen self.old.core) (moment_of G.seen self.new.core)
-            (host_side self.old.core (I.log self.old.imports) (I.refusals self.old.imports)) (host_side self.new.core (I.log self.new.imports) (I.refusals self.new.imports)) result events) }
+            (λ events. IsCallOf (P.args params.old (export_callee self.old.core.component export.now)) (R.returns (export_callee self.old.core.component export.now) export.now.options self.old.core.id) G.leaves
+            (I.gives (I.plan self.old.imports)) (export_callee self.old.core.component export.now) (allowed self.old.core.fuel self.old.turns) (moment_of G.seen self.old.core) (moment_of G.seen self.new.core)
+            (host_side self.old.core (I.log self.old.imports) (I.refusals self.old.imports)) (host_side self.new.core (I.log self.new.imports) (I.refusals self.new.imports)) (map_ok R.out result) events) }
         ensures late { IfErr result IsLate }
-        ensures count { IfOk result (λ vals. length vals.items ≡ member_count (export_callee self.old.core.component export.now).results) }
+        ensures counted { IfOk result (R.counted (export_callee self.old.core.component export.now)) }
         ensures same { SameButHost self.old.core self.new.core }
         ensures rest { self.new ≡ record self.old { core = self.new.core; imports = self.new.imports } }
         ensures plan { I.plan self.new.imports ≡ I.plan self.old.imports }

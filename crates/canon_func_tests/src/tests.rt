@@ -3,6 +3,7 @@
 ghost use Rattle.std.specs.Prelude.{◌≡◌, [], None};
 
 mod handles;
+mod typed;
 
 use canon_func::{Error, Store};
 use canon_host::NoImports;
@@ -16,7 +17,7 @@ use canon_value::{At, Component, Core, Export, Fault, Val};
 use std::alloc::Global;
 use std::test::Fail;
 
-/// A guest that returns this word, and traps at every request.
+/// A guest that writes 2 to address 2048, returns this word, and traps at every request.
 #[derive(Drop)]
 struct Returner {
     alloc: Global,
@@ -38,10 +39,13 @@ impl Guest for Returner {
 
     fn start(
         &mut self,
-        _memory: &mut Memory,
+        memory: &mut Memory,
         _func: u32,
         _words: &[ValRaw],
     ) -> Result<Step, GuestFault> {
+        if let Some(byte) = memory.as_slice_mut().get_mut(2048) {
+            *byte = 2;
+        }
         let mut words = Words::new(self.alloc);
         match words.push(ValRaw::u32(self.word)) {
             Ok(()) => Ok(Step::Return(words)),

@@ -1,18 +1,11 @@
-use Rattle.std.proofs.Common.{Err, Global, length, Some, Vec, ap, arith, sym, ℕ, ◌∙◌, ◌≡◌}
-use Rattle.std.specs.Prelude.{slice_get}
+use Rattle.std.proofs.Common.{Err, Global, length, Vec, ap, arith, ℕ, ◌∙◌, ◌≡◌}
 use Rattle.canon_model.specs.Flat.{max_params}
 use Rattle.canon_types.specs.Table.{Table, tuple_members}
-use Rattle.canon_types.specs.declared.types.TypeFunc.{TypeFunc}
 use Rattle.canon_context.specs.Core.{encoding_by, guest_of, moment_of, types_of}
 use Rattle.canon_func.specs.Call.{OnAnswered, words_within}
-use Rattle.canon_func.specs.Stores.{params_in}
 use Rattle.canon_func.specs.declared.error.Error.TheVariants as error
-use Rattle.canon_func.proofs.Lowered.{lowered_done, lowered_refused, refused_moves, written}
+use Rattle.canon_func.proofs.Lowered.{lowered_done, lowered_refused, params_are, refused_moves, written}
 use Rattle.canon_func.proofs.dynamic.lower_params.Goals as goal
-
--- the members of the tuple are the callee's parameters
-members_are : (t u : Table) (i : ℕ) (f : TypeFunc) → u ≡ t → slice_get u.funcs i ≡ Some f → tuple_members t f.params ≡ params_in t (slice_get t.funcs i)
-members_are t u i f same found = sym (ap (params_in t) (ap (λ v. slice_get v.funcs i) (sym same) ∙ found))
 
 pub returns-in-Ok-clause-lowered : goal.returns-in-Ok-clause-lowered
 returns-in-Ok-clause-lowered g c =
@@ -26,7 +19,7 @@ returns-in-Ok-clause-lowered g c =
     ap (λ (t : Table). words_within max_params (tuple_members t f.params)) same in
     let low = c.in-Ok.ensures.lowers in
     lowered_done (moment_of seen before) (moment_of seen after) (encoding_by before c.args.export.now.options) before.component.types (tuple_members (types_of before) f.params) _ c.args.params.now before.ledger after.ledger
-    (members_are (types_of before) c.types-types.result.now c.args.export.now.ty f same c.func.ensures.found)
+    (params_are (types_of before) c.types-types.result.now c.args.export.now.ty f same c.func.ensures.found)
     _ c.lower_into.new.words _ all (omega (arith, ap length all, c.lower_into.auto.words, c.deref_mut.ensures.len, c.in_ok-words.ensures.len, c.word_count.ensures, counted))
     (λ near none. ap (moment_of seen) (low.quiet near none).0) low.crosses low.small low.moved
 
@@ -41,6 +34,6 @@ returns-in-Err-clause-lowered g c =
     let same : c.types-types.result.now ≡ types_of before = c.types-types.ensures ∙ ap (λ k. k.types.types) c.component.ensures.component in
     let low = c.in-Err.ensures.lowers in
     lowered_refused (moment_of seen before) (moment_of seen after) (encoding_by before c.args.export.now.options) before.component.types (tuple_members (types_of before) f.params) _ c.args.params.now before.ledger after.ledger
-    (members_are (types_of before) c.types-types.result.now c.args.export.now.ty f same c.func.ensures.found)
+    (params_are (types_of before) c.types-types.result.now c.args.export.now.ty f same c.func.ensures.found)
     e c.lower_into.new.words (λ es. OnAnswered {T = Vec ℕ Global} (Err (error.Fault e)) (moves (guest_of before) es (guest_of after)))
     low.crosses low.cause (λ near none. let (kept, is) = low.quiet near none in (ap (moment_of seen) kept, is)) (refused_moves (Vec ℕ Global) seen moves (guest_of before) (guest_of after) e low.moved)

@@ -20,7 +20,7 @@ returns-in-Ok-clause-call g c = λ none.
     let moves = g.G.Guest.moves in
     let imports = g.I.Imports in
     let store = c.args.store.now in
-    let left = c.call_core.new.self in
+    let left = c.call_core-called.new.self in
     let callee = export_callee store.core.component c.export_in-export.result in
     let written : c.swap_with_slice.new.self ≡ c.in-Ok.values.items = c.swap_with_slice.ensures.after ∙ c.deref_mut.ensures.value in
     rw c.export_in-export.ensures.found

@@ -1,0 +1,95 @@
+-- What lifting the results as a Rust tuple did.
+use Rattle.std.proofs.Common.{Err, List, Ok, Result, length, inl, inr, refl, subst, sym, ℕ, ◌<◌, ◌≡◌, ◌⊎◌}
+use Rattle.std.specs.Prelude.{false, nat_le, slice_get, Some}
+use Rattle.canon_args.specs.Areas.{passed_kept, passed_taken}
+use Rattle.canon_args.specs.Returned.{passed_reading}
+use Rattle.canon_context.proofs.Told.{blamed_by}
+use Rattle.canon_context.specs.Core.{Parts, types_of}
+use Rattle.canon_context.specs.Told.{Exactly, IsPlace, ToldAt, place_of}
+use Rattle.canon_context.specs.declared.component.Export.{Export}
+use Rattle.canon_context.specs.declared.fault.At.{At as Place}
+use Rattle.canon_context.specs.declared.fault.At.TheVariants as at
+use Rattle.canon_context.specs.declared.fault.Fault.{Fault}
+use Rattle.canon_context.specs.declared.fault.Fault.TheVariants as fault
+use Rattle.canon_leaves.specs.Parts.{LeavesStop}
+use Rattle.canon_ledger.specs.Ledger.{LedgerState}
+use Rattle.canon_lift.specs.Reading as lifting
+use Rattle.canon_lift.specs.Reading.{AreTaken, Lifts, Reading, Setting, setting_in}
+use Rattle.canon_lift.specs.Scopes.{AllKeep, IsKept, keep_scopes}
+use Rattle.canon_lift.specs.Spots.{flat_in}
+use Rattle.canon_model.specs.Flat.{max_results}
+use Rattle.canon_model.specs.Layout.{flat}
+use Rattle.canon_model.specs.Reach as reach
+use Rattle.canon_model.specs.Reach.{Kind}
+use Rattle.canon_model.specs.Shape.{Members, Shape, of_places, product}
+use Rattle.canon_types.specs.Depth.{has_borrow, member_borrows}
+use Rattle.canon_types.specs.Instance.{Instance}
+use Rattle.canon_types.specs.Table.{shape_of}
+use Rattle.canon_types.specs.declared.types.InterfaceType.{InterfaceType}
+use Rattle.canon_types.specs.declared.types.InterfaceType.TheVariants as ty
+use Rattle.canon_value.specs.Resources as value
+use Rattle.canon_func.specs.Call.{result_words}
+use Rattle.canon_func.specs.Steps.{Lifted}
+use Rattle.canon_func.specs.Stores.{Callee, export_callee}
+use Rattle.canon_func.specs.Typed.{IsNamed, LiftsTuple, ReturnFault, typed_results}
+
+place_named : (x : Place) (y : reach.At) → IsPlace x y → IsNamed (place_of x) y
+place_named (at.Word k) (reach.word i) h = h
+place_named (at.Word k) (reach.address b) h = absurd h
+place_named (at.Address a) (reach.word i) h = absurd h
+place_named (at.Address a) (reach.address b) h = h
+
+same_stop : (e : Fault) → lifting.stop_of e ≡ value.stop_of e
+same_stop (fault.TypeMismatch k) = refl
+same_stop (fault.LengthMismatch k) = refl
+same_stop (fault.FieldName k) = refl
+same_stop (fault.UnknownCase k) = refl
+same_stop (fault.UnknownFlag k) = refl
+same_stop (fault.PayloadExpected k) = refl
+same_stop (fault.PayloadNotExpected k) = refl
+same_stop (fault.ReallocMisaligned a) = refl
+same_stop (fault.ReallocOutOfBounds a) = refl
+same_stop fault.GuestTrap = refl
+same_stop (fault.PointerMisaligned x) = refl
+same_stop (fault.PointerOutOfBounds x) = refl
+same_stop (fault.StringTooLong n) = refl
+same_stop (fault.SizeOverflow n) = refl
+same_stop (fault.InvalidUtf8 x) = refl
+same_stop (fault.InvalidUtf16 x) = refl
+same_stop (fault.InvalidChar x) = refl
+same_stop (fault.BadDiscriminant x n) = refl
+same_stop fault.HostcallFuelExhausted = refl
+same_stop fault.OutOfMemory = refl
+same_stop (fault.Resource e) = refl
+
+module _ {T G A : Type 0} (core : Parts T G) (export : Export) (words : List ℕ) (m : LedgerState) (R : Reading A) (taken : AreTaken R) (Fit : Instance → InterfaceType → Type 0) (kept : IsKept Fit R) where
+  abbrev callee : Callee
+  callee = export_callee core.component export
+
+  abbrev w : Setting
+  w = setting_in core export.options
+
+  abbrev Whole : Members → Reading A
+  Whole ms = passed_reading max_results (product of_places ms) R
+
+  abbrev pub LiftsAs : Members → Result A Fault → Type 0
+  LiftsAs ms result = LiftsTuple (Whole ms) w words (product of_places ms) core.ledger core.fuel result m
+
+  -- the scopes stay, since no result is a borrow
+  scopes_kept : (type : InterfaceType) (ms : Members) (v : A) → Fit core.component.types type → shape_of (types_of core) type ≡ product of_places ms → member_borrows ms ≡ false
+      → (Whole ms).reads w (flat_in words 0) (product of_places ms) core.ledger v m → m.handles.scopes ≡ core.ledger.handles.scopes
+  scopes_kept type ms v fits shape none read =
+      let (hs, takes) = passed_taken R taken (nat_le (flat (product of_places ms)) max_results) w (flat_in words 0) (product of_places ms) core.ledger m v read in
+      keep_scopes core.ledger m ((Whole ms).steps w (flat_in words 0) (product of_places ms)) hs
+      (passed_kept R w (product of_places ms) (λ p. subst (λ (z : Shape). AllKeep (R.steps w p z)) shape (kept.kept w p type fits (subst (λ (z : Shape). has_borrow z ≡ false) (sym shape) none))) (nat_le (flat (product of_places ms)) max_results) (flat_in words 0)) takes
+
+  pub tuple_lifted : (type : InterfaceType) (v : A) → Fit core.component.types type → shape_of (types_of core) type ≡ product of_places callee.results → member_borrows callee.results ≡ false → length words ≡ result_words callee.results → LiftsAs callee.results (Ok v)
+      → Lifted (typed_results R export.options core.id callee) core.fuel words core.memory core.ledger m (Ok v)
+  tuple_lifted type v fits shape none count (left, (read, spent)) = (left, (count, (core.ledger, m, read), spent), read, scopes_kept type callee.results v fits shape none read)
+
+  pub tuple_unlifted : (e : Fault) → LiftsAs callee.results (Err e) → Lifted (typed_results R export.options core.id callee) core.fuel words core.memory core.ledger m (Err e)
+  tuple_unlifted e (left, h) = (
+    blamed_by (ToldAt ((Whole callee.results).faults w (flat_in words 0) (product of_places callee.results))) (Exactly (ReturnFault R export.options core.id callee words core.memory)) _ _
+        (λ k x (y, place, fault). (y, place_named x y place, fault)) (λ low. low) e h.cause,
+    subst (λ why. LeavesStop why core.ledger ((Whole callee.results).steps w (flat_in words 0) (product of_places callee.results)) m) (same_stop e) h.stops,
+  )

@@ -1,0 +1,52 @@
+-- What is asked of what is said of parameters and of results.
+use Rattle.std.specs.Prelude.{List, length, ⊤, ℕ, ◌≡◌, ◌≤◌}
+use Rattle.canon_model.specs.Reach as reach
+use Rattle.canon_model.specs.Reach.{Kind}
+use Rattle.canon_model.specs.Tree.{Trees}
+use Rattle.canon_ledger.specs.Ledger.{LedgerState}
+use Rattle.canon_leaves.specs.Parts.{LeavesTake}
+use Rattle.canon_context.specs.declared.fault.Fault.{Fault}
+use Rattle.canon_context.specs.declared.fault.Fault.TheVariants as fault
+use Rattle.canon_func.specs.Call.{result_words}
+use Rattle.canon_func.specs.Passing.{Arguments, Returns}
+use Rattle.canon_func.specs.Stores.{Callee}
+
+-- ---- parameters
+
+-- they have no trees, or one of them is too large
+abbrev pub Unfit : Arguments → Type 0
+Unfit args = (ts : Trees) → args.are ts → args.small → ⊥
+
+-- what follows where the parameters are to blame for a fault: it is one of lowering, and they are unfit where it is none of the guest, the ledger or memory
+abbrev pub Blames : Arguments → Fault → Type 0
+Blames args (fault.TypeMismatch k) = Unfit args
+Blames args (fault.FieldName k) = Unfit args
+Blames args (fault.UnknownCase k) = Unfit args
+Blames args (fault.UnknownFlag k) = Unfit args
+Blames args (fault.PayloadExpected k) = Unfit args
+Blames args (fault.PayloadNotExpected k) = Unfit args
+Blames args (fault.LengthMismatch k) = Unfit args
+Blames args (fault.StringTooLong n) = Unfit args
+Blames args (fault.SizeOverflow n) = Unfit args
+Blames args (fault.ReallocMisaligned a) = ⊤
+Blames args (fault.ReallocOutOfBounds a) = ⊤
+Blames args fault.GuestTrap = ⊤
+Blames args fault.OutOfMemory = ⊤
+Blames args (fault.Resource r) = ⊤
+Blames args f = ⊥
+
+abbrev pub BlamesRightly : Arguments → Type 0
+BlamesRightly args = (f : Fault) → args.blames f → Blames args f
+
+-- ---- results
+
+pub record ReadsRightly {R : Type 0} (callee : Callee) (its : Returns R) : Type 0 where
+  -- results are of as many words as they take
+  pub whole : (ws m : List ℕ) (fuel left : ℕ) (results : R) → its.are ws m fuel left results → length ws ≡ result_words callee.results
+  -- what represents results is as many words as they take, has no fault, and its charges are no more than the fuel that it is said with
+  pub counted : (ws m : List ℕ) (fuel : ℕ) → its.represent ws m fuel → length ws ≡ result_words callee.results
+  pub faultless : (ws m : List ℕ) (fuel : ℕ) (k : Kind) (x : reach.At) → its.faults ws m k x → its.represent ws m fuel → ⊥
+  pub within : (ws m : List ℕ) (fuel : ℕ) → its.represent ws m fuel → its.reach ws m ≤ fuel
+  -- what was lifted is accepted, and what is accepted takes its parts
+  pub accepted : (ws m : List ℕ) (l n : LedgerState) (results : R) → its.lifts ws m l results n → its.accepts ws m l n
+  pub taken : (ws m : List ℕ) (l n : LedgerState) → its.accepts ws m l n → (hs : List ℕ) × LeavesTake l (its.parts ws m) hs n
