@@ -16,6 +16,15 @@ const ONE_CALL: &str =
 
 const ONE_CALL_TEXT: &str = "call 0\nstart 0 7 4294967295\nreturn 2\nok true\nlive 0\n";
 
+/// A typed call, and one of a function that has other types.
+const TYPED: &str =
+    r#"{"funcs":[{"params":["string"],"results":["string"]},{"params":["s8"],"results":[]}],
+"items":[{"call":0,"typed":2,"params":[{"string":"hi"}],"guest":[{"write":[0,"0004000002000000"]},{"return":[0]}]},
+{"call":1,"typed":1,"params":[{"u32":1}],"guest":[{"return":[]}]}]}"#;
+
+const TYPED_TEXT: &str =
+    "typed 0\nrealloc 0 0 1 2 = 1024\nstart 0 1024 2\nblock 1024 6869\nreturn 0\nok \"hi\"\nlive 0\ntyped 1\nerror TypecheckFailed\nlive 0\n";
+
 /// How a run of these words over this input ends: its status, what it wrote, and how many calls its transcript has. The source fails at one of its calls and the
 /// sink at one of its own, which takes so many bytes at a time; at 0 none fails.
 fn ended(
@@ -44,6 +53,7 @@ fn ended(
 fn an_input_is_answered_by_its_lines(rt: HostRuntime) -> Result<(), Fail> {
     for (command, input, want) in [
         ("run", ONE_CALL, ONE_CALL_TEXT),
+        ("run", TYPED, TYPED_TEXT),
         (
             "layout",
             r#"{"types":[{"record":[["a","u8"],["b","u64"],["c","u16"]]}]}"#,
@@ -71,6 +81,11 @@ fn what_is_no_input_has_its_status(rt: HostRuntime) -> Result<(), Fail> {
         ("run", r#"{"types":[{"flags":[]}]}"#, 8),
         ("run", r#"{"types":[{"fixed":["u8",0]}]}"#, 8),
         ("run", r#"{"memory":16}"#, 8),
+        (
+            "run",
+            r#"{"funcs":[{"params":["u32"],"results":["u32"]}],"items":[{"call":0,"typed":1,"params":[{"u64":1}],"guest":[]}]}"#,
+            8,
+        ),
         ("layout", r#"{"types":["#, 7),
         ("layout", r#"{"types":[{"tuple":[]}]}"#, 8),
         ("text", r#"{"text":{}}"#, 8),

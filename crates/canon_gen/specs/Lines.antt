@@ -44,10 +44,11 @@ abbrev pub first_equals : Val → List Val → Bool
 first_equals given [] = false
 first_equals given (v ∷ vs) = is_equal v given
 
--- an error has no result, and so has a call that was skipped
+-- an error has no result, and so has a call whose types are others, or that was skipped
 abbrev pub answer_equals : Val → Answer → Bool
 answer_equals given (answer.Ok results) = first_equals given results.items
 answer_equals given (answer.Err e) = false
+answer_equals given answer.Typecheck = false
 answer_equals given answer.Skipped = false
 
 -- ---- lines

@@ -130,6 +130,7 @@ fn answer_equals(given: &Val, answer: &Answer) -> bool
             None => false,
         },
         Answer::Err(_) => false,
+        Answer::Typecheck => false,
         Answer::Skipped => false,
     }
 }

@@ -12,6 +12,7 @@ use Rattle.canon_context.specs.declared.component.Component.{Component}
 use Rattle.canon_context.specs.declared.component.Export.{Export}
 use Rattle.canon_context.specs.declared.component.Import.{Import}
 use Rattle.canon_context.specs.declared.component.Import.TheVariants as import
+use Rattle.canon_func.specs.Stores.{type_in}
 use Rattle.canon_script.specs.Imports.{ImportStands}
 use Rattle.canon_script.specs.Script.{Play}
 use Rattle.canon_player.specs.Session.{played_callee}
@@ -61,6 +62,10 @@ module _ (t : Table) (encoding : StringEncoding) (posts : List Bool) (imports : 
 
   pub export_count : length c.exports.items ≡ length posts
   export_count = ap length h.exports ∙ exports_len 0 posts
+
+  -- its type is that of the function of its number
+  pub export_type : (i : ℕ) → i < length posts → type_in c (slice_get c.exports.items i) ≡ slice_get c.types.types.funcs i
+  export_type i lt = ap (type_in c) (export_at i lt)
 
   -- the options of an export are one further than it
   export_options : (i : ℕ) (p : Bool) → slice_get posts i ≡ Some p → slice_get c.options.items (i + 1) ≡ Some (options_for t encoding i p)

@@ -3,3 +3,4 @@ pub mod Dropped
 pub mod Logged
 pub mod Played
 pub mod Playing
+pub mod TypedPlayed

@@ -11,12 +11,12 @@ use Rattle.canon_lowering.specs.Lowering.{Answer, Trap}
 use Rattle.canon_memory.specs.declared.event.Event.{Event}
 use Rattle.canon_memory.specs.declared.event.Event.TheVariants as event
 use Rattle.canon_func.specs.Asks.{AreServed, AskStops, IsServed}
-use Rattle.canon_func.specs.Call.{HandlesPass, StopsStarted}
+use Rattle.canon_func.specs.Call.{HandlesPassOf, StopsStartedOf}
+use Rattle.canon_func.specs.Passing.{Arguments, Returns}
 use Rattle.canon_func.specs.Runs.{AskTurn, BeginsInAsk}
 use Rattle.canon_func.specs.Stores.{Callee}
 use Rattle.canon_func.specs.declared.error.Error.{Error}
 use Rattle.canon_func.specs.declared.error.Error.TheVariants as error
-use Rattle.canon_value.specs.declared.val.Val.{Val}
 use Rattle.canon_transcript.specs.Text.{Served}
 use Rattle.canon_player.specs.Session.{Logs, entry_view, served_view}
 
@@ -63,20 +63,21 @@ module _ {T : Type 0} (gives : Giving T) (callee : Callee) (fuel : ℕ) where
   stopped_asking e memory2 late trap before after log (event.Ask index words memory ∷ more) is h = stopped e index words memory memory2 late trap before after log is h
   stopped_asking e memory2 late trap before after log tail is h = absurd h
 
+module _ {T R : Type 0} (args : Arguments) (its : Returns R) (gives : Giving T) (callee : Callee) (fuel : ℕ) where
   stopped_later : (e : Error) (memory2 : List ℕ) (late : List Answer) (trap : Option Trap) (before after : HostSide T) (log : List Entry) (tail : List Event) → before.log ≡ Some log
-      → StopsStarted gives callee fuel e memory2 late trap before after tail → Longer log after.log
+      → StopsStartedOf its gives callee fuel e memory2 late trap before after tail → Longer log after.log
   stopped_later e memory2 late trap before after log tail is (inl (stops, kept)) = same log before.log after.log is (ap (λ (s : HostSide T). s.log) kept)
-  stopped_later e memory2 late trap before after log tail is (inr h) = stopped_asking e memory2 late trap before after log tail is h
+  stopped_later e memory2 late trap before after log tail is (inr h) = stopped_asking gives callee fuel e memory2 late trap before after log tail is h
 
-  pub call_logged : (params : List Val) (turns : List AskTurn) (memory2 : List ℕ) (late : List Answer) (trap : Option Trap) (before after : HostSide T) (given : List ℕ) (answer : Result (Unit {0}) Error) (results : List Val) (events tail : List Event)
-      (log : List Entry) → before.log ≡ Some log → HandlesPass gives callee fuel params turns memory2 late trap before after given answer results events tail → Longer log after.log
-  call_logged params turns memory2 late trap before after given (Ok x) results events tail log is (lowered, takes, (served, are, (each, kept))) =
-      let (more, grown) = turns_logged turns (record before { ledger = lowered }) served log is are in
+  pub call_logged : (turns : List AskTurn) (memory2 : List ℕ) (late : List Answer) (trap : Option Trap) (before after : HostSide T) (given : List ℕ) (answer : Result R Error) (events tail : List Event)
+      (log : List Entry) → before.log ≡ Some log → HandlesPassOf args its gives callee fuel turns memory2 late trap before after given answer events tail → Longer log after.log
+  call_logged turns memory2 late trap before after given (Ok results) events tail log is (lowered, takes, (served, are, (each, kept))) =
+      let (more, grown) = turns_logged gives callee fuel turns (record before { ledger = lowered }) served log is are in
       (more, ap (λ (s : HostSide T). s.log) kept ∙ grown)
-  call_logged params turns memory2 late trap before after given (Err e) results events tail log is (inl (short, none, kept)) = same log before.log after.log is (ap (λ (s : HostSide T). s.log) kept)
-  call_logged params turns memory2 late trap before after given (Err e) results events tail log is (inr (inl (no_start, stops, kept))) = same log before.log after.log is (ap (λ (s : HostSide T). s.log) kept)
-  call_logged params turns memory2 late trap before after given (Err e) results events tail log is (inr (inr (lowered, takes, (served, are, stops)))) =
-      let (more, grown) = turns_logged turns (record before { ledger = lowered }) served log is are in
+  call_logged turns memory2 late trap before after given (Err e) events tail log is (inl (short, none, kept)) = same log before.log after.log is (ap (λ (s : HostSide T). s.log) kept)
+  call_logged turns memory2 late trap before after given (Err e) events tail log is (inr (inl (no_start, stops, kept))) = same log before.log after.log is (ap (λ (s : HostSide T). s.log) kept)
+  call_logged turns memory2 late trap before after given (Err e) events tail log is (inr (inr (lowered, takes, (served, are, stops)))) =
+      let (more, grown) = turns_logged gives callee fuel turns (record before { ledger = lowered }) served log is are in
       let (others, all) = stopped_later e memory2 late trap served after (log ++ more) tail grown stops in
       (more ++ others, all ∙ ap Some (append_assoc log more others))
 

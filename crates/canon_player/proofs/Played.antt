@@ -1,22 +1,25 @@
 -- The record of a call, from what the call ensures.
-use Rattle.std.proofs.Common.{◌≡◌, ◌≢◌, ◌++◌, ◌∷◌, ◌∙◌, Bool, Err, List, None, Ok, Result, Some, [], ap, drop, false, length, map, refl, subst, sym, true, true≢false, ℕ}
+use Rattle.std.proofs.Common.{◌≡◌, ◌≢◌, ◌++◌, ◌∷◌, ◌∙◌, Bool, Err, List, None, Ok, Option, Result, Some, [], ap, drop, false, length, map, refl, subst, sym, true, true≢false, ℕ}
 use Rattle.std.specs.Prelude.{IfSome, IsNone, OnErr, OnOk, Vec, is_err, unwrap_or}
 use Rattle.std.specs.Vec.{with_items}
 use Rattle.std.specs.declared.alloc.Global.{Global}
 use Rattle.std.proofs.lemmas.List.{length-map, with_items_is}
 use Rattle.std.proofs.lemmas.Option.{none-some}
-use Rattle.canon_host.specs.HostSide.{Giving, HostSide, host_side}
+use Rattle.canon_host.specs.HostSide.{HostSide, host_side}
 use Rattle.canon_imports.specs.Imports.{GivesAnswers, entries_of}
 use Rattle.canon_memory.specs.declared.event.Event.{Event}
-use Rattle.canon_memory.specs.Guest.{Moment, Recorded, Seen, of_guest}
+use Rattle.canon_memory.specs.Guest.{Recorded, Seen, of_guest}
+use Rattle.canon_scripted.specs.declared.actions.Action.{Action}
+use Rattle.canon_scripted.specs.declared.orders.Ordered.{Ordered}
 use Rattle.canon_scripted.specs.Allocator.{Allocator}
 use Rattle.canon_scripted.specs.Scripted.{CarriesOut, Doing, Plan, ScriptMoves, seen_of, traps_after}
 use Rattle.canon_context.specs.Core.{Parts, guest_of, moment_of}
 use Rattle.canon_context.specs.declared.fault.Fault.TheVariants as fault
 use Rattle.canon_value.specs.declared.val.Val.{Val}
 use Rattle.canon_types.specs.Refusal.{first_error}
-use Rattle.canon_func.specs.Call.{Adding, IsCall, OnAnswered, refusal, refused_by}
-use Rattle.canon_func.specs.Asks.{Limits}
+use Rattle.canon_func.specs.Call.{Adding, IsCall, IsCallOf, OnAnswered, dynamic, dynamic_results, refusal, refused_by, with_results}
+use Rattle.canon_func.specs.Passing.{Arguments, Returns}
+use Rattle.canon_func.specs.Typed.{done_by}
 use Rattle.canon_func.specs.Stores.{Callee, Named, callee_of}
 use Rattle.canon_func.specs.declared.error.Error.{Error}
 use Rattle.canon_func.specs.declared.error.Error.TheVariants as error
@@ -27,7 +30,7 @@ use Rattle.canon_transcript.specs.declared.transcript.Answer.{Answer}
 use Rattle.canon_transcript.specs.declared.transcript.Answer.TheVariants as answer
 use Rattle.canon_transcript.specs.declared.transcript.Head.TheVariants as head
 use Rattle.canon_transcript.specs.declared.transcript.Record.{Record}
-use Rattle.canon_player.specs.Session.{Called, LeavesSame, State, WasCalled, answer_values, entry_view, host_of, outcome, plan_of, served_view}
+use Rattle.canon_player.specs.Session.{Called, Idle, IsEnd, LeavesSame, State, Tells, Themselves, WasCalled, answer_values, entry_view, host_of, outcome, plan_of, plan_with, served_view}
 use Rattle.canon_player.specs.Steps.{CallsOnce}
 use Rattle.canon_player.specs.Session as session
 use Rattle.canon_player.specs.Stores.{ScriptStore, answers_of, callee_at, limits_of, state_of, with_plan}
@@ -52,56 +55,30 @@ error_in (Err e) other = e
 pub answers_error : (a : Answer) (e : Error) → outcome a ≡ Err e → a ≡ answer.Err e
 unfolding error_in
 answers_error (answer.Ok vals) e h = absurd (true≢false (sym (ap is_err h)))
+answers_error answer.Typecheck e h = absurd (true≢false (sym (ap is_err h)))
 answers_error answer.Skipped e h = absurd (true≢false (sym (ap is_err h)))
 answers_error (answer.Err x) e h = ap (λ o. answer.Err (error_in o x)) h
 
 -- ---- a call
 
 -- it isn't out of memory
-abbrev pub IsOther : Result (Unit {0}) Error → Type 0
-IsOther called = called ≢ Err (error.Fault fault.OutOfMemory)
+abbrev pub IsOther : {R : Type 0} → Result R Error → Type 0
+IsOther {R} called = called ≢ Err (error.Fault fault.OutOfMemory)
 
-pub on_answered : (called : Result (Unit {0}) Error) (P : Type 0) → called ≢ Err (error.Fault fault.OutOfMemory) → OnAnswered called P → P
+pub on_answered : {R : Type 0} (called : Result R Error) (P : Type 0) → IsOther called → OnAnswered called P → P
 on_answered (Ok x) P n p = p
 on_answered (Err (error.Fault fault.OutOfMemory)) P n p = absurd (n refl)
 on_answered (Err e) P n p = p
 
--- the same call, with its results said another way
-recalled : (gives : Giving (Unit {0})) (callee : Callee) (limits : Limits) (params : List Val) (before after : Moment) (host host2 : HostSide (Unit {0})) (called : Result (Unit {0}) Error) (results others : List Val) (events : List Event)
-    → OnOk called (others ≡ results) → IsCall LeavesSame gives callee limits params before after host host2 called results events → IsCall LeavesSame gives callee limits params before after host host2 called others events
-recalled gives callee limits params before after host host2 (Ok x) results others events e h = subst (λ (vs : List Val). IsCall LeavesSame gives callee limits params before after host host2 (Ok x) vs events) (sym e) h
-recalled gives callee limits params before after host host2 (Err x) results others events e h = record {
-  one_run = h.one_run;
-  prefix = h.prefix;
-  advances = h.advances;
-  grows = h.grows;
-  answers = h.answers;
-  trap = h.trap;
-  later = h.later;
-  in_parts = h.in_parts;
-  turns = h.turns;
-  late = h.late;
-  late_trap = h.late_trap;
-  tail = h.tail;
-  starts = h.starts;
-  asks = h.asks;
-  accepted = h.accepted;
-  marks = h.marks;
-  requested = h.requested;
-  quiet = h.quiet;
-  given = h.given;
-  handles = h.handles;
-  start = h.start;
-  only_results = tt;
-  posted = h.posted;
-  leaves = tt;
-  cause = h.cause;
-  valid = h.valid;
-}
-
-trapped_by : (called : Result (Unit {0}) Error) (before after : Bool) → before ≡ false → OnOk called (after ≡ before) → OnErr called (after ≡ true) → after ≡ is_err called
+trapped_by : {R : Type 0} (called : Result R Error) (before after : Bool) → before ≡ false → OnOk called (after ≡ before) → OnErr called (after ≡ true) → after ≡ is_err called
 trapped_by (Ok x) before after free runs traps = runs ∙ free
 trapped_by (Err e) before after free runs traps = traps
+
+told_error : {R : Type 0} (Told : R → List Val → Type 0) (e : Error) (a : Answer) → Tells Told (Err e) a → a ≡ answer.Err e
+told_error Told e (answer.Ok values) h = absurd h
+told_error Told e (answer.Err f) h = ap answer.Err (sym h)
+told_error Told e answer.Typecheck h = absurd h
+told_error Told e answer.Skipped h = absurd h
 
 -- how a journaled guest is seen
 abbrev pub journaled : Recorded Doing → Seen
@@ -112,100 +89,139 @@ abbrev pub side_of : ScriptStore → HostSide (Unit {0})
 side_of s = host_side s.core (Some (entries_of s.imports.lines.items)) s.imports.refusals
 
 -- what the call ensures once the guest was entered
-abbrev pub Entered : Callee → List Val → ScriptStore → ScriptStore → Result (Unit {0}) Error → List Val → Type 0
-Entered callee params loaded left called results = Adding (moment_of journaled loaded.core) (moment_of journaled left.core)
+abbrev pub Entered : {R : Type 0} → Arguments → Returns R → Callee → ScriptStore → ScriptStore → Result R Error → Type 0
+Entered args its callee loaded left called = Adding (moment_of journaled loaded.core) (moment_of journaled left.core)
     (λ events. OnAnswered called (ScriptMoves (of_guest (guest_of loaded.core)) events (of_guest (guest_of left.core))))
-    (λ events. IsCall LeavesSame (GivesAnswers (answers_of loaded)) callee (limits_of loaded) params (moment_of journaled loaded.core) (moment_of journaled left.core) (side_of loaded) (side_of left) called results events)
+    (λ events. IsCallOf args its LeavesSame (GivesAnswers (answers_of loaded)) callee (limits_of loaded) (moment_of journaled loaded.core) (moment_of journaled left.core) (side_of loaded) (side_of left) called events)
+
+-- what became of a call, where it was refused before the guest was entered or not
+abbrev pub Became : {R : Type 0} → Arguments → Returns R → (R → List Val → Type 0) → Callee → (Allocator → Plan) → ScriptStore → ScriptStore → Record → Option Error → Type 0
+Became args its Told callee plan s left r (Some e) = Idle (state_of s) (state_of left) r (answer.Err e)
+Became args its Told callee plan s left r None = WasCalled args its Told callee (limits_of s) (answers_of s) plan (state_of s) (state_of left) r
 
 -- There were so many lines before the call.
-module _ (callee : Callee) (call : ScriptCall) (list : List Any) (r : Record) (s left : ScriptStore) (params results : List Val) (called : Result (Unit {0}) Error) (asked : ℕ)
-    (empty : s.core.guest.events ≡ []) (events : r.events ≡ left.core.guest.events)
-    (out : outcome r.answer ≡ called) (vals : OnOk called (answer_values r.answer ≡ results)) (short : called ≢ Err (error.Fault fault.OutOfMemory))
-    (their : literals_view params ≡ map (replaced (listed list)) call.params) (played : r.answer ≢ answer.Skipped)
-    (lines : asked ≡ length s.imports.lines.items) (told : map served_view r.served.items ≡ map entry_view (drop asked (entries_of left.imports.lines.items))) where
+module _ {R : Type 0} (args : Arguments) (its : Returns R) (Told : R → List Val → Type 0) (callee : Callee) (guest : List Action) (reallocs : List Ordered) (post_trap : Bool)
+    (r : Record) (s left : ScriptStore) (called : Result R Error) (asked : ℕ)
+    (empty : s.core.guest.events ≡ []) (events : r.events ≡ left.core.guest.events) (told : Tells Told called r.answer) (short : IsOther called)
+    (lines : asked ≡ length s.imports.lines.items) (serves : map served_view r.served.items ≡ map entry_view (drop asked (entries_of left.imports.lines.items))) where
+  abbrev plan : Allocator → Plan
+  plan = plan_with guest reallocs post_trap
+
   abbrev pub loaded : ScriptStore
-  loaded = with_plan s (plan_of call s.core.guest.guest.plan.allocator)
+  loaded = with_plan s (plan s.core.guest.guest.plan.allocator)
 
-  -- the call, by the events before it, those that are printed after it, its answer and results, and the events that it added
-  abbrev Tells : List Event → List Event → Result (Unit {0}) Error → List Val → List Event → Type 0
-  Tells earlier later answer vs added = IsCall LeavesSame (GivesAnswers (answers_of s)) callee (limits_of s) params (session.moment_of (state_of s) earlier) (session.moment_of (state_of left) later)
-      (host_of (state_of s)) (host_of (state_of left)) answer vs added
+  -- the call, by the events before it, those that are printed after it, and the events that it added
+  abbrev Calls : List Event → List Event → List Event → Type 0
+  Calls earlier later added = IsCallOf args its LeavesSame (GivesAnswers (answers_of s)) callee (limits_of s) (session.moment_of (state_of s) earlier) (session.moment_of (state_of left) later)
+      (host_of (state_of s)) (host_of (state_of left)) called added
 
-  was_called : refusal callee (length call.params) call.slots s.trapped ≡ None → Entered callee params loaded left called results
-      → OnOk called (left.trapped ≡ s.trapped) → OnErr called (left.trapped ≡ true) → WasCalled callee (limits_of s) (answers_of s) call list (state_of s) (state_of left) r
+  was_called : s.trapped ≡ false → Entered args its callee loaded left called → OnOk called (left.trapped ≡ s.trapped) → OnErr called (left.trapped ≡ true)
+      → WasCalled args its Told callee (limits_of s) (answers_of s) plan (state_of s) (state_of left) r
   was_called free entered runs traps =
       let before = state_of s in
       let after = state_of left in
       let gained : left.core.guest.events ≡ s.core.guest.events ++ entered.events = ap (λ o. unwrap_or o []) entered.added in
       let all : r.events ≡ entered.events = events ∙ (gained ∙ ap (λ (es : List Event). es ++ entered.events) empty) in
-      let one : Tells [] left.core.guest.events called results entered.events = subst (λ (es : List Event). Tells es left.core.guest.events called results entered.events) empty entered.so in
-      let two : Tells [] r.events called results entered.events = subst (λ (es : List Event). Tells [] es called results entered.events) (sym events) one in
-      let three : Tells [] r.events called results r.events = subst (λ (es : List Event). Tells [] r.events called results es) (sym all) two in
-      let four : Tells [] r.events called (answer_values r.answer) r.events = recalled (GivesAnswers (answers_of s)) callee (limits_of s) params (session.moment_of before []) (session.moment_of after r.events)
-      (host_of before) (host_of after) called results (answer_values r.answer) r.events vals three in
+      let one : Calls [] left.core.guest.events entered.events = subst (λ (es : List Event). Calls es left.core.guest.events entered.events) empty entered.so in
+      let two : Calls [] r.events entered.events = subst (λ (es : List Event). Calls [] es entered.events) (sym events) one in
       let moved : ScriptMoves (of_guest (guest_of loaded.core)) entered.events (of_guest (guest_of left.core)) = on_answered called _ short (entered.moves refl) in
       record {
-        params = params;
-        params_are = their;
-        called = subst (λ (a : Result (Unit {0}) Error). Tells [] r.events a (answer_values r.answer) r.events) (sym out) four;
+        ended = called;
+        told = told;
+        called = subst (λ (es : List Event). Calls [] r.events es) (sym all) two;
         served = served_logs s.imports.lines.items left.imports.lines.items r.served.items asked
-            (call_logged (GivesAnswers (answers_of s)) callee s.core.fuel params one.turns left.core.memory one.late one.late_trap (host_of before) (host_of after) one.given called results entered.events one.tail before.log refl one.handles) lines told;
+            (call_logged args its (GivesAnswers (answers_of s)) callee s.core.fuel one.turns left.core.memory one.late one.late_trap (host_of before) (host_of after)
+            one.given called entered.events one.tail before.log refl one.handles) lines serves;
         left = left.core.guest.guest.plan;
         new_marks = moved.new_marks;
-        does = subst (λ (es : List Event). CarriesOut (plan_of call before.allocator) (length before.memory) es moved.new_marks left.core.guest.guest.plan (length after.memory)) (sym all) moved.does;
+        does = subst (λ (es : List Event). CarriesOut (plan before.allocator) (length before.memory) es moved.new_marks left.core.guest.guest.plan (length after.memory)) (sym all) moved.does;
         allocator = refl;
         marks = moved.marks;
         traps = subst (λ (es : List Event). after.traps ≡ traps_after before.traps es) (sym all) moved.traps;
-        trapped = trapped_by called s.trapped left.trapped (not_trapped callee (length call.params) call.slots s.trapped free) runs traps ∙ ap is_err (sym out);
-        sufficed = λ e. short (sym out ∙ ap outcome e);
-        played = played;
+        trapped = trapped_by called s.trapped left.trapped free runs traps;
+        sufficed = short;
       }
 
-  was_refused : (e : Error) → called ≡ Err e → left ≡ loaded → Called callee (limits_of s) (answers_of s) call list (state_of s) (state_of left) r (Some e)
+  was_refused : (e : Error) → called ≡ Err e → left ≡ loaded → Idle (state_of s) (state_of left) r (answer.Err e)
   was_refused e h same = (
-    answers_error r.answer e (out ∙ h),
+    told_error Told e r.answer (subst (λ (c : Result R Error). Tells Told c r.answer) h told),
     (
       events ∙ (ap (λ (k : ScriptStore). k.core.guest.events) same ∙ empty),
-      none_served s.imports.lines.items r.served.items asked lines (subst (λ (k : ScriptStore). map served_view r.served.items ≡ map entry_view (drop asked (entries_of k.imports.lines.items))) same told),
+      none_served s.imports.lines.items r.served.items asked lines (subst (λ (k : ScriptStore). map served_view r.served.items ≡ map entry_view (drop asked (entries_of k.imports.lines.items))) same serves),
     ),
     ap state_of same,
   )
 
-  abbrev Refused : Result (Unit {0}) Error → Type 0
-  Refused c = IfSome (refused_by c) (λ e. left ≡ loaded)
+  -- by the reason of a refusal, where a call that has none finds the store not trapped
+  module _ (why : Option Error) (free : why ≡ None → s.trapped ≡ false) where
+    became : (c : Result R Error) → called ≡ c → refused_by (done_by c) ≡ why → IfSome (refused_by (done_by c)) (λ e. left ≡ loaded)
+        → (IsNone (refused_by (done_by c)) → Entered args its callee loaded left called) → OnOk called (left.trapped ≡ s.trapped) → (IsNone (refused_by (done_by c)) → OnErr called (left.trapped ≡ true))
+        → Became args its Told callee plan s left r (refused_by (done_by c))
+    became (Ok x) h is same entered runs traps = was_called (free (sym is)) (entered refl) runs (traps refl)
+    became (Err error.WrongCount) h is same entered runs traps = was_refused error.WrongCount h same
+    became (Err error.AsyncLifted) h is same entered runs traps = was_refused error.AsyncLifted h same
+    became (Err error.CannotEnterComponent) h is same entered runs traps = was_refused error.CannotEnterComponent h same
+    became (Err error.WrongWords) h is same entered runs traps = was_called (free (sym is)) (entered refl) runs (traps refl)
+    became (Err (error.UnknownImport n)) h is same entered runs traps = was_called (free (sym is)) (entered refl) runs (traps refl)
+    became (Err error.TurnsExhausted) h is same entered runs traps = was_called (free (sym is)) (entered refl) runs (traps refl)
+    became (Err (error.HostRefused n)) h is same entered runs traps = was_called (free (sym is)) (entered refl) runs (traps refl)
+    became (Err (error.ImportFault n f)) h is same entered runs traps = was_called (free (sym is)) (entered refl) runs (traps refl)
+    became (Err (error.Fault f)) h is same entered runs traps = was_called (free (sym is)) (entered refl) runs (traps refl)
 
-  happened : (c : Result (Unit {0}) Error) → called ≡ c → refused_by c ≡ refusal callee (length call.params) call.slots s.trapped → Refused c
-      → (IsNone (refused_by c) → Entered callee params loaded left called results) → OnOk called (left.trapped ≡ s.trapped) → (IsNone (refused_by c) → OnErr called (left.trapped ≡ true))
-      → Called callee (limits_of s) (answers_of s) call list (state_of s) (state_of left) r (refused_by c)
-  happened (Ok x) h why same entered runs traps = was_called (sym why) (entered refl) runs (traps refl)
-  happened (Err error.WrongCount) h why same entered runs traps = was_refused error.WrongCount h same
-  happened (Err error.AsyncLifted) h why same entered runs traps = was_refused error.AsyncLifted h same
-  happened (Err error.CannotEnterComponent) h why same entered runs traps = was_refused error.CannotEnterComponent h same
-  happened (Err error.WrongWords) h why same entered runs traps = was_called (sym why) (entered refl) runs (traps refl)
-  happened (Err (error.UnknownImport n)) h why same entered runs traps = was_called (sym why) (entered refl) runs (traps refl)
-  happened (Err error.TurnsExhausted) h why same entered runs traps = was_called (sym why) (entered refl) runs (traps refl)
-  happened (Err (error.HostRefused n)) h why same entered runs traps = was_called (sym why) (entered refl) runs (traps refl)
-  happened (Err (error.ImportFault n f)) h why same entered runs traps = was_called (sym why) (entered refl) runs (traps refl)
-  happened (Err (error.Fault f)) h why same entered runs traps = was_called (sym why) (entered refl) runs (traps refl)
+    -- the store was loaded so before the call
+    pub call_became : (before : ScriptStore) → before ≡ loaded → refused_by (done_by called) ≡ why → IfSome (refused_by (done_by called)) (λ e. left ≡ before)
+        → (IsNone (refused_by (done_by called)) → Entered args its callee before left called) → OnOk called (left.trapped ≡ before.trapped) → (IsNone (refused_by (done_by called)) → OnErr called (left.trapped ≡ true))
+        → Became args its Told callee plan s left r why
+    call_became before is cause same entered runs traps =
+        subst (λ o. Became args its Told callee plan s left r o) cause (became called refl cause
+        (subst (λ (k : ScriptStore). IfSome (refused_by (done_by called)) (λ e. left ≡ k)) is same)
+        (λ none. subst (λ (k : ScriptStore). Entered args its callee k left called) is (entered none))
+        (subst (λ (k : ScriptStore). OnOk called (left.trapped ≡ k.trapped)) is runs)
+        traps)
 
-  made : (before : ScriptStore) (count : ℕ) → r.head ≡ head.Call call.func → r.live ≡ left.core.ledger.handles.counter.live → before ≡ loaded → count ≡ call.slots
-      → refused_by called ≡ refusal callee (length params) count before.trapped → IfSome (refused_by called) (λ e. left ≡ before)
-      → (IsNone (refused_by called) → Entered callee params before left called results) → OnOk called (left.trapped ≡ before.trapped) → (IsNone (refused_by called) → OnErr called (left.trapped ≡ true))
-      → CallsOnce callee (limits_of s) (answers_of s) call list (state_of s) (state_of left) r
-  made before count hd lv is slots why same entered runs traps =
-      let many : length params ≡ length call.params = sym (length-map params literal_view) ∙ (ap length their ∙ length-map call.params (replaced (listed list))) in
-      let why2 : refused_by called ≡ refusal callee (length call.params) call.slots s.trapped =
-      why ∙ (ap (λ n. refusal callee n count before.trapped) many ∙ (ap (λ n. refusal callee (length call.params) n before.trapped) slots ∙ ap (λ (k : ScriptStore). refusal callee (length call.params) call.slots k.trapped) is)) in
-      let all : Called callee (limits_of s) (answers_of s) call list (state_of s) (state_of left) r (refused_by called) = happened called refl why2
-      (subst (λ (k : ScriptStore). IfSome (refused_by called) (λ e. left ≡ k)) is same)
-      (λ none. subst (λ (k : ScriptStore). Entered callee params k left called results) is (entered none))
-      (subst (λ (k : ScriptStore). OnOk called (left.trapped ≡ k.trapped)) is runs)
-      traps in
-      record {
-        head = hd;
-        called = subst (λ o. Called callee (limits_of s) (answers_of s) call list (state_of s) (state_of left) r o) why2 all;
-        live = lv;
-      }
+-- ---- a call with dynamic values
+
+-- its answer with its results
+done_with : (called : Result (Unit {0}) Error) (results : List Val) → done_by (with_results called results) ≡ called
+done_with (Ok x) results = refl
+done_with (Err e) results = refl
+
+told_with : (called : Result (Unit {0}) Error) (results : List Val) (a : Answer) → outcome a ≡ called → OnOk called (answer_values a ≡ results) → IsEnd a → Tells Themselves (with_results called results) a
+unfolding error_in
+told_with (Ok x) results (answer.Ok values) e h is = h
+told_with (Ok x) results (answer.Err f) e h is = absurd (true≢false (ap is_err e))
+told_with (Err f) results (answer.Ok values) e h is = absurd (true≢false (sym (ap is_err e)))
+told_with (Err f) results (answer.Err g) e h is = sym (ap (λ o. error_in o f) e)
+told_with called results answer.Typecheck e h is = absurd is
+told_with called results answer.Skipped e h is = absurd is
+
+other_with : (called : Result (Unit {0}) Error) (results : List Val) → IsOther called → IsOther (with_results called results)
+other_with (Ok x) results n e = absurd (true≢false (sym (ap is_err e)))
+other_with (Err f) results n e = n (ap done_by e)
+
+on_ok_with : (called : Result (Unit {0}) Error) (results : List Val) (P : Type 0) → OnOk called P → OnOk (with_results called results) P
+on_ok_with (Ok x) results P p = p
+on_ok_with (Err e) results P p = tt
+
+on_err_with : (called : Result (Unit {0}) Error) (results : List Val) (P : Type 0) → OnErr called P → OnErr (with_results called results) P
+on_err_with (Ok x) results P p = tt
+on_err_with (Err e) results P p = p
+
+on_answered_with : (called : Result (Unit {0}) Error) (results : List Val) (P : Type 0) → OnAnswered called P → OnAnswered (with_results called results) P
+on_answered_with (Ok x) results P p = p
+on_answered_with (Err (error.Fault fault.OutOfMemory)) results P p = tt
+on_answered_with (Err (error.Fault f)) results P p = p
+on_answered_with (Err e) results P p = p
+
+-- what a call of dynamic values ensures once the guest was entered
+abbrev pub EnteredWith : Callee → List Val → ScriptStore → ScriptStore → Result (Unit {0}) Error → List Val → Type 0
+EnteredWith callee params loaded left called results = Adding (moment_of journaled loaded.core) (moment_of journaled left.core)
+    (λ events. OnAnswered called (ScriptMoves (of_guest (guest_of loaded.core)) events (of_guest (guest_of left.core))))
+    (λ events. IsCall LeavesSame (GivesAnswers (answers_of loaded)) callee (limits_of loaded) params (moment_of journaled loaded.core) (moment_of journaled left.core) (side_of loaded) (side_of left) called results events)
+
+entered_with : (callee : Callee) (params : List Val) (before left : ScriptStore) (called : Result (Unit {0}) Error) (results : List Val) → EnteredWith callee params before left called results
+    → Entered (dynamic callee params) (dynamic_results callee) callee before left (with_results called results)
+entered_with callee params before left called results h = record { events = h.events; added = h.added; moves = λ some. on_answered_with called results _ (h.moves some); so = h.so }
 
 -- results in a vector that was lent as a slice
 kept_results : (called : Result (Unit {0}) Error) (v : Vec Val Global) (ws vs : List Val) → length ws ≡ v.len → OnOk called (vs ≡ (with_items v ws).items) → OnOk called (vs ≡ ws)
@@ -226,18 +242,36 @@ taken_is left core told after a b c = simp (c, b, a)
 -- The store is `s` before the guest is loaded, `before` when the function is called, `left` as the call leaves it, and `final` once
 -- the journal is taken.
 module _ (call : ScriptCall) (list : List Any) (r : Record) (s before left final : ScriptStore) (f : Named) (params results : List Val) (slots : Vec Val Global) (called : Result (Unit {0}) Error) (asked : ℕ) where
+  with_params : (callee : Callee) (why : Option Error) → literals_view params ≡ map (replaced (listed list)) call.params
+      → Became (dynamic callee params) (dynamic_results callee) Themselves callee (plan_of call) s left r why → Called callee (limits_of s) (answers_of s) call list (state_of s) (state_of left) r why
+  with_params callee (Some e) their h = h
+  with_params callee None their h = record { params = params; params_are = their; called = h }
+
   pub record_is : s.core.guest.events ≡ [] → before ≡ with_plan s (plan_of call s.core.guest.guest.plan.allocator) → f.export ≡ call.func → state_of final ≡ state_of left
       → literals_view params ≡ map (replaced (listed list)) call.params → length slots.items ≡ call.slots
       → refused_by called ≡ refusal (callee_of before f) (length params) (length slots.items) before.trapped → IfSome (refused_by called) (λ e. left ≡ before)
-      → (IsNone (refused_by called) → Entered (callee_of before f) params before left called results) → OnOk called (left.trapped ≡ before.trapped) → (IsNone (refused_by called) → OnErr called (left.trapped ≡ true))
+      → (IsNone (refused_by called) → EnteredWith (callee_of before f) params before left called results) → OnOk called (left.trapped ≡ before.trapped) → (IsNone (refused_by called) → OnErr called (left.trapped ≡ true))
       → r.head ≡ head.Call call.func → r.live ≡ left.core.ledger.handles.counter.live → r.events ≡ left.core.guest.events → outcome r.answer ≡ called
-      → length results ≡ slots.len → OnOk called (answer_values r.answer ≡ (with_items slots results).items) → called ≢ Err (error.Fault fault.OutOfMemory) → r.answer ≢ answer.Skipped
+      → length results ≡ slots.len → OnOk called (answer_values r.answer ≡ (with_items slots results).items) → IsOther called → IsEnd r.answer
       → asked ≡ length s.imports.lines.items → map served_view r.served.items ≡ map entry_view (drop asked (entries_of left.imports.lines.items))
       → CallsOnce (callee_at s.core.component call.func) (limits_of s) (answers_of s) call list (state_of s) (state_of final) r
-  record_is empty is export end their count why same entered runs traps hd lv events out many vals short skipped lines told =
-      let it : callee_of before f ≡ callee_at s.core.component call.func = ap (λ (k : ScriptStore). callee_of k f) is ∙ ap (λ n. callee_at s.core.component n) export in
-      let one : CallsOnce (callee_of before f) (limits_of s) (answers_of s) call list (state_of s) (state_of left) r =
-      made (callee_of before f) call list r s left params results called asked empty events out (kept_results called slots results (answer_values r.answer) many vals) short their skipped lines told
-      before (length slots.items) hd lv is count why same entered runs traps in
-      subst (λ (d : Callee). CallsOnce d (limits_of s) (answers_of s) call list (state_of s) (state_of final) r) it
-      (subst (λ (k : State). CallsOnce (callee_of before f) (limits_of s) (answers_of s) call list (state_of s) k r) (sym end) one)
+  record_is empty is export end their count why same entered runs traps hd lv events out many vals short ended lines serves =
+      let callee = callee_at s.core.component call.func in
+      let it : callee_of before f ≡ callee = ap (λ (k : ScriptStore). callee_of k f) is ∙ ap (λ n. callee_at s.core.component n) export in
+      let many2 : length params ≡ length call.params = sym (length-map params literal_view) ∙ (ap length their ∙ length-map call.params (replaced (listed list))) in
+      let all = with_results called results in
+      let done : refused_by (done_by all) ≡ refused_by called = ap refused_by (done_with called results) in
+      let why2 : refused_by (done_by all) ≡ refusal callee (length call.params) call.slots s.trapped =
+      done ∙ (why ∙ (ap (λ (c : Callee). refusal c (length params) (length slots.items) before.trapped) it ∙ (ap (λ n. refusal callee n (length slots.items) before.trapped) many2
+      ∙ (ap (λ n. refusal callee (length call.params) n before.trapped) count ∙ ap (λ (k : ScriptStore). refusal callee (length call.params) call.slots k.trapped) is)))) in
+      let undone : (IsNone (refused_by (done_by all))) → IsNone (refused_by called) = λ none. subst IsNone done none in
+      let became : Became (dynamic callee params) (dynamic_results callee) Themselves callee (plan_of call) s left r (refusal callee (length call.params) call.slots s.trapped) =
+      call_became (dynamic callee params) (dynamic_results callee) Themselves callee call.guest call.reallocs call.post_trap r s left all asked empty events
+      (told_with called results r.answer out (kept_results called slots results (answer_values r.answer) many vals) ended) (other_with called results short) lines serves
+      (refusal callee (length call.params) call.slots s.trapped) (not_trapped callee (length call.params) call.slots s.trapped) before is why2
+      (subst (λ o. IfSome o (λ e. left ≡ before)) (sym done) same)
+      (λ none. entered_with callee params before left called results (subst (λ (c : Callee). EnteredWith c params before left called results) it (entered (undone none))))
+      (on_ok_with called results _ runs)
+      (λ none. on_err_with called results _ (traps (undone none))) in
+      subst (λ (k : State). CallsOnce callee (limits_of s) (answers_of s) call list (state_of s) k r) (sym end)
+      (record { head = hd; called = with_params callee (refusal callee (length call.params) call.slots s.trapped) their became; live = lv })

@@ -9,14 +9,14 @@ use Rattle.canon_func.specs.Call.{refusal}
 use Rattle.canon_func.specs.Asks.{Limits, allowed}
 use Rattle.canon_func.specs.Stores.{Callee}
 use Rattle.canon_script.specs.Imports.{HostAnswer, answers_view}
-use Rattle.canon_script.specs.Script.{IsWellFormed, ItemStands, Play, ScriptItem, call_item, drop_item, item_view, new_item}
+use Rattle.canon_script.specs.Script.{IsWellFormed, ItemStands, Play, ScriptItem, call_item, drop_item, item_view, new_item, typed_item}
 use Rattle.canon_script.specs.declared.script.Item.{Item}
 use Rattle.canon_imports.specs.Imports.{entries_of}
 use Rattle.canon_imports.specs.declared.imports.ScriptedImports.{ScriptedImports}
 use Rattle.canon_transcript.specs.declared.transcript.Record.{Record}
-use Rattle.canon_player.specs.Session.{Called, Happened, IsPlayed, Plays, Session, State, answer_values, at_first, played_callee, skips}
+use Rattle.canon_player.specs.Session.{Called, WasTyped, Happened, IsPlayed, Plays, Session, State, answer_values, at_first, played_callee, skips}
 use Rattle.canon_player.specs.Stores.{IsPlayable, IsScripted, ScriptStore, answers_of, callee_at, fresh_store, limits_of, state_of}
-use Rattle.canon_player.proofs.Components.{export_count, scripted_callee}
+use Rattle.canon_player.proofs.Components.{export_count, export_type, scripted_callee}
 
 -- ---- on one store
 
@@ -75,6 +75,7 @@ playing_last first items now left list records e h =
 -- a call is of the same callee
 abbrev SameCallee : (ℕ → Callee) → (ℕ → Callee) → ScriptItem → Type 0
 SameCallee callees others (call_item c) = callees c.func ≡ others c.func
+SameCallee callees others (typed_item c) = callees c.func ≡ others c.func
 SameCallee callees others (new_item n) = Unit {0}
 SameCallee callees others (drop_item d) = Unit {0}
 
@@ -83,6 +84,7 @@ happened_same : (callees others : ℕ → Callee) (limits : Limits) (answers : L
 happened_same callees others limits answers i list s after r true same h = h
 happened_same callees others limits answers (call_item c) list s after r false same h =
     subst (λ (d : Callee). Called d limits answers c list s after r (refusal d (length c.params) c.slots s.trapped)) same h
+happened_same callees others limits answers (typed_item c) list s after r false same h = subst (λ (d : Callee). WasTyped c.params d limits answers c s after r) same h
 happened_same callees others limits answers (new_item n) list s after r false same h = h
 happened_same callees others limits answers (drop_item d) list s after r false same h = h
 
@@ -105,6 +107,7 @@ module _ (play : Play) (c : Component) (imports : ScriptedImports) (store : Scri
 
   known : (i : ScriptItem) → ItemStands (length play.posts) i → SameCallee (callee_at c) (played_callee play) i
   known (call_item call) stands = scripted_callee play c h sound.posts_told call.func stands.0
+  known (typed_item call) stands = scripted_callee play c h sound.posts_told call.func stands.0
   known (new_item n) stands = tt
   known (drop_item d) stands = tt
 
@@ -114,6 +117,11 @@ module _ (play : Play) (c : Component) (imports : ScriptedImports) (store : Scri
   stands_playable : (i : ScriptItem) → ItemStands (length play.posts) i → IsPlayable c i
   stands_playable (call_item call) stands = record {
     export = omega (arith, stands.0, export_count play.types play.encoding play.posts play.imports c h);
+    orders = stands.1;
+  }
+  stands_playable (typed_item call) stands = record {
+    export = omega (arith, stands.0, export_count play.types play.encoding play.posts play.imports c h);
+    type = export_type play.types play.encoding play.posts play.imports c h call.func stands.0;
     orders = stands.1;
   }
   stands_playable (new_item n) stands = tt

@@ -1,4 +1,5 @@
 pub mod Options
 pub mod Session
+pub mod Signatures
 pub mod Steps
 pub mod Stores

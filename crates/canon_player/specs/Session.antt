@@ -1,5 +1,5 @@
 -- What a script, played, leaves: one record for each item, in order, and the store between them.
-use Rattle.std.specs.Prelude.{Bool, Err, List, None, Ok, Option, Result, Some, [], false, is_err, length, map, nat_lt, not, replicate, slice_get, true, ℕ, ⊤, ◌++◌, ◌∷◌, ◌≡◌, ◌≢◌, ◌||◌}
+use Rattle.std.specs.Prelude.{Bool, Err, List, None, Ok, Option, Result, Some, [], false, is_err, length, map, nat_lt, not, replicate, slice_get, true, ℕ, ⊤, ◌⊎◌, ◌++◌, ◌∷◌, ◌≡◌, ◌≢◌, ◌||◌}
 use Rattle.canon_model.specs.Shape.{no_members}
 use Rattle.canon_indices.specs.Options.{encoding_of}
 use Rattle.canon_types.specs.Instance.{Instance}
@@ -10,6 +10,8 @@ use Rattle.canon_memory.specs.declared.event.Event.{Event}
 use Rattle.canon_memory.specs.Guest.{Mark, Moment, moment}
 use Rattle.canon_scripted.specs.Allocator.{Allocator}
 use Rattle.canon_scripted.specs.Scripted.{CarriesOut, Plan, traps_after}
+use Rattle.canon_scripted.specs.declared.actions.Action.{Action}
+use Rattle.canon_scripted.specs.declared.orders.Ordered.{Ordered}
 use Rattle.canon_ledger.specs.Index.{GivenIndex}
 use Rattle.canon_ledger.specs.Ledger.{Done, LedgerState, given, host_resource_drop, host_resource_lower_own, new_ledger}
 use Rattle.canon_ledger.specs.declared.fault.ResourceFault.{ResourceFault}
@@ -22,14 +24,17 @@ use Rattle.canon_value.specs.declared.val.Val.{Val}
 use Rattle.canon_value.specs.declared.val.Val.TheVariants as val
 use Rattle.canon_host.specs.HostSide.{Entry, HostSide}
 use Rattle.canon_func.specs.Asks.{Limits, allowed}
-use Rattle.canon_func.specs.Call.{IsCall, refusal}
+use Rattle.canon_func.specs.Call.{IsCallOf, dynamic, dynamic_results, entry_refusal, refusal}
 use Rattle.canon_func.specs.Drop.{IsCutOff, IsDropped, destructor_at, destructor_events, drop_refusal}
+use Rattle.canon_func.specs.Passing.{Arguments, Returns}
 use Rattle.canon_func.specs.Stores.{Callee}
+use Rattle.canon_func.specs.Typed.{FitsParams, FitsResults, params_shape, typed_args, typed_results}
 use Rattle.canon_func.specs.declared.error.Error.{Error}
 use Rattle.canon_func.specs.declared.error.Error.TheVariants as error
 use Rattle.canon_script.specs.Imports.{HostAnswer}
 use Rattle.canon_script.specs.Literals.{Literal, all_known, held_among, listed, literals_view, replaced}
-use Rattle.canon_script.specs.Script.{Play, ScriptCall, ScriptItem, call_item, drop_item, new_item}
+use Rattle.canon_script.specs.Script.{Play, ScriptCall, ScriptItem, ScriptTyped, call_item, drop_item, new_item, typed_item}
+use Rattle.canon_script.specs.Typed.{TypedValues, a_number, a_text, the_numbers, the_pairs}
 use Rattle.canon_script.specs.declared.script.NewItem.{NewItem}
 use Rattle.canon_imports.specs.Imports.{GivesAnswers}
 use Rattle.canon_transcript.specs.Text.{Served}
@@ -39,6 +44,7 @@ use Rattle.canon_transcript.specs.declared.transcript.Head.{Head}
 use Rattle.canon_transcript.specs.declared.transcript.Head.TheVariants as head
 use Rattle.canon_transcript.specs.declared.transcript.Record.{Record}
 use Rattle.canon_player.specs.Options.{post_of, script_options}
+use Rattle.canon_player.specs.Signatures.{Passing, Returning, Signature, number_signature, numbers_signature, pairs_signature, text_signature}
 
 -- ---- the functions of a script
 
@@ -112,25 +118,48 @@ moment_of s events = moment (record { journal = Some events; marks = s.marks; li
 abbrev pub host_of : State → HostSide (Unit {0})
 host_of s = record { state = tt; ledger = s.ledger; log = Some s.log; refusals = s.refusals }
 
--- what the guest is to do in a call, and in a drop
+-- what the guest is to do in a call: these actions, with these answers of `realloc`
+abbrev pub plan_with : List Action → List Ordered → Bool → Allocator → Plan
+plan_with guest reallocs post_trap allocator = record { actions = guest; reallocs = reallocs; post_trap = post_trap; dtor_trap = false; allocator = allocator }
+
 abbrev pub plan_of : ScriptCall → Allocator → Plan
-plan_of call allocator = record { actions = call.guest; reallocs = call.reallocs; post_trap = call.post_trap; dtor_trap = false; allocator = allocator }
+plan_of call = plan_with call.guest call.reallocs call.post_trap
+
+abbrev pub typed_plan : ScriptTyped → Allocator → Plan
+typed_plan call = plan_with call.guest call.reallocs call.post_trap
+
+-- and in a drop
 
 abbrev pub drop_plan : Bool → Allocator → Plan
 drop_plan dtor_trap allocator = record { actions = []; reallocs = []; post_trap = false; dtor_trap = dtor_trap; allocator = allocator }
 
 -- ---- answers
 
--- how an item ended that wasn't skipped, and the results that it left
+-- it tells how the item ended: that was done, and a typed call's types were the function's
+abbrev pub IsEnd : Answer → Type 0
+IsEnd (answer.Ok results) = ⊤
+IsEnd (answer.Err e) = ⊤
+IsEnd answer.Typecheck = ⊥
+IsEnd answer.Skipped = ⊥
+
+-- how it ended, and the results that it left
 abbrev pub outcome : Answer → Result (Unit {0}) Error
 outcome (answer.Ok results) = Ok tt
 outcome (answer.Err e) = Err e
+outcome answer.Typecheck = Ok tt
 outcome answer.Skipped = Ok tt
 
 abbrev pub answer_values : Answer → List Val
 answer_values (answer.Ok results) = results.items
 answer_values (answer.Err e) = []
+answer_values answer.Typecheck = []
 answer_values answer.Skipped = []
+
+-- it tells how a call ended: which values stand for its results, or its error
+abbrev pub Tells : {R : Type 0} → (R → List Val → Type 0) → Result R Error → Answer → Type 0
+Tells Told (Ok results) (answer.Ok values) = Told results values.items
+Tells Told (Err e) (answer.Err f) = e ≡ f
+Tells Told ended a = ⊥
 
 -- the guest did nothing, and no function of the host served an ask
 abbrev pub IsSilent : Record → Type 0
@@ -142,7 +171,7 @@ Idle before after r a = (r.answer ≡ a) × IsSilent r × (after ≡ before)
 
 -- it answered Ok with these values
 abbrev pub AnswersOk : Answer → List Val → Type 0
-AnswersOk a vs = (a ≢ answer.Skipped) × (outcome a ≡ Ok tt) × (answer_values a ≡ vs)
+AnswersOk a vs = IsEnd a × (outcome a ≡ Ok tt) × (answer_values a ≡ vs)
 
 -- ---- served asks
 
@@ -168,37 +197,87 @@ LeavesSame memory after = after ≡ memory
 -- The guest was entered, and acted by its plan in its memory, from the length before to the length after; its traps are counted;
 -- the asks and the results were within these limits; the store is trapped where the call was refused. After an answer that is Ok, memory is
 -- that of the return; after a refusal nothing reads its bytes, since every later call is refused. The memory that the run has
--- sufficed. The parameters are those of the script, with the resources of the list in the place of their numbers. Functions of the host
--- give these answers, by the asks that they served so far, and the record lists those that they served in this call.
-pub record WasCalled (callee : Callee) (limits : Limits) (answers : List (List HostAnswer)) (call : ScriptCall) (list : List Any) (before after : State) (r : Record) : Type 0 where
-  pub params : List Val
-  pub params_are : literals_view params ≡ map (replaced (listed list)) call.params
-  pub called : IsCall LeavesSame (GivesAnswers answers) callee limits params (moment_of before []) (moment_of after r.events) (host_of before) (host_of after) (outcome r.answer) (answer_values r.answer) r.events
+-- sufficed. Functions of the host give these answers, by the asks that they served so far, and the record lists those that they served in
+-- this call. The record's answer tells how the call ended, by these values in the place of the results.
+pub record WasCalled {R : Type 0} (args : Arguments) (its : Returns R) (Told : R → List Val → Type 0) (callee : Callee) (limits : Limits) (answers : List (List HostAnswer)) (plan : Allocator → Plan)
+    (before after : State) (r : Record) : Type 0 where
+  pub ended : Result R Error
+  pub told : Tells Told ended r.answer
+  pub called : IsCallOf args its LeavesSame (GivesAnswers answers) callee limits (moment_of before []) (moment_of after r.events) (host_of before) (host_of after) ended r.events
   pub served : Logs before.log after.log r.served.items
   pub left : Plan
   pub new_marks : List Mark
-  pub does : CarriesOut (plan_of call before.allocator) (length before.memory) r.events new_marks left (length after.memory)
+  pub does : CarriesOut (plan before.allocator) (length before.memory) r.events new_marks left (length after.memory)
   pub allocator : after.allocator ≡ left.allocator
   pub marks : after.marks ≡ before.marks ++ new_marks
   pub traps : after.traps ≡ traps_after before.traps r.events
-  pub trapped : after.trapped ≡ is_err (outcome r.answer)
-  pub sufficed : r.answer ≢ answer.Err (error.Fault fault.OutOfMemory)
-  pub played : r.answer ≢ answer.Skipped
+  pub trapped : after.trapped ≡ is_err ended
+  pub sufficed : ended ≢ Err (error.Fault fault.OutOfMemory)
+
+-- the values are the results themselves
+abbrev pub Themselves : List Val → List Val → Type 0
+Themselves results values = values ≡ results
+
+-- A call with dynamic values: its parameters are those of the script, with the resources of the list in the place of their numbers.
+pub record WasCalledWith (callee : Callee) (limits : Limits) (answers : List (List HostAnswer)) (call : ScriptCall) (list : List Any) (before after : State) (r : Record) : Type 0 where
+  pub params : List Val
+  pub params_are : literals_view params ≡ map (replaced (listed list)) call.params
+  pub called : WasCalled (dynamic callee params) (dynamic_results callee) Themselves callee limits answers (plan_of call) before after r
 
 -- It was refused before the guest was entered, which leaves everything as it was; else it was called.
 abbrev pub Called : Callee → Limits → List (List HostAnswer) → ScriptCall → List Any → State → State → Record → Option Error → Type 0
 Called callee limits answers call list before after r (Some e) = Idle before after r (answer.Err e)
-Called callee limits answers call list before after r None = WasCalled callee limits answers call list before after r
+Called callee limits answers call list before after r None = WasCalledWith callee limits answers call list before after r
+
+-- ---- a typed call
+
+-- the type of a function, by its number: those of a script are the first of its table
+abbrev pub func_type : Callee → ℕ → Option TypeFunc
+func_type callee func = slice_get callee.types.types.funcs func
+
+module _ {P R : Type 0} (passing : Passing P) (returning : Returning R) where
+  -- the function's parameters and results are of the signature's types
+  abbrev pub HasSignature : Callee → ℕ → Type 0
+  HasSignature callee func = FitsParams passing.fits callee.types (func_type callee func) × FitsResults returning.fits callee.types (func_type callee func)
+
+  -- the values have the literals of the results
+  abbrev pub Printed : R → List Val → Type 0
+  Printed results values = literals_view values ≡ returning.literals results
+
+  -- With these parameters: refused before the guest was entered, or called. No result is a text or a list that stays in memory, which alone
+  -- would name the options and the store by their numbers.
+  abbrev pub TypedCalled : Callee → Limits → List (List HostAnswer) → (Allocator → Plan) → P → State → State → Record → Option Error → Type 0
+  TypedCalled callee limits answers plan params before after r (Some e) = Idle before after r (answer.Err e)
+  TypedCalled callee limits answers plan params before after r None = (options store : ℕ)
+      × WasCalled (typed_args (passing.walks params) (passing.gives callee.types (params_shape callee) params) callee) (typed_results returning.reading options store callee) Printed callee limits answers plan before after r
+
+  -- Where the function has another signature, nothing was done.
+  abbrev pub TypedWith : ℕ → Callee → Limits → List (List HostAnswer) → (Allocator → Plan) → P → State → State → Record → Type 0
+  TypedWith func callee limits answers plan params before after r =
+      ((¬ HasSignature callee func) × Idle before after r answer.Typecheck)
+      ⊎ (HasSignature callee func × TypedCalled callee limits answers plan params before after r (entry_refusal callee before.trapped))
+
+-- with parameters that are the values of the script
+abbrev pub TypedBy : {P R : Type 0} → Signature P R → Callee → Limits → List (List HostAnswer) → ScriptTyped → State → State → Record → Type 0
+TypedBy {P} sig callee limits answers call before after r =
+    (params : P) × (sig.values params ≡ call.params) × TypedWith sig.passing sig.returning call.func callee limits answers (typed_plan call) params before after r
+
+-- by the signature of the values
+abbrev pub WasTyped : TypedValues → Callee → Limits → List (List HostAnswer) → ScriptTyped → State → State → Record → Type 0
+WasTyped (a_number n) = TypedBy number_signature
+WasTyped (a_text s) = TypedBy text_signature
+WasTyped (the_numbers ns) = TypedBy numbers_signature
+WasTyped (the_pairs ps flag) = TypedBy pairs_signature
 
 -- ---- a new resource
 
 -- a resource of the host of a type that a number gives
-abbrev pub dynamic : ResourceAnyHandle → ℕ → Val
-dynamic handle ty = val.Resource (any handle (HostDynamic ty))
+abbrev pub dynamic_resource : ResourceAnyHandle → ℕ → Val
+dynamic_resource handle ty = val.Resource (any handle (HostDynamic ty))
 
 -- what the insertion of its handle answered
 abbrev pub Inserted : ℕ → Result GivenIndex ResourceFault → Answer → Type 0
-Inserted ty (Ok x) a = AnswersOk a (dynamic (table_handle x true) ty ∷ [])
+Inserted ty (Ok x) a = AnswersOk a (dynamic_resource (table_handle x true) ty ∷ [])
 Inserted ty (Err e) a = a ≡ answer.Err (error.Fault (fault.Resource e))
 
 -- An own handle was put into the host's table; or the ledger refused it.
@@ -209,7 +288,7 @@ pub record WasInserted (n : NewItem) (step : Done GivenIndex) (before after : St
 
 -- a borrow has no handle
 abbrev pub WasMade : Bool → NewItem → State → State → Record → Type 0
-WasMade true n before after r = AnswersOk r.answer (dynamic (Synthetic n.rep) n.ty ∷ []) × IsSilent r × (after ≡ before)
+WasMade true n before after r = AnswersOk r.answer (dynamic_resource (Synthetic n.rep) n.ty ∷ []) × IsSilent r × (after ≡ before)
 WasMade false n before after r = WasInserted n (given before.ledger (host_resource_lower_own before.ledger n.rep None None)) before after r
 
 -- ---- a drop
@@ -225,7 +304,7 @@ Removed x before after (Err _) = ⊥
 -- it. A destructor that traps leaves the store trapped, and nothing reads memory any more.
 pub record WasRemoved (x : GivenIndex) (dtor_trap : Bool) (before after : State) (r : Record) : Type 0 where
   pub removed : Removed x before after (outcome r.answer)
-  pub played : r.answer ≢ answer.Skipped
+  pub played : IsEnd r.answer
   pub no_values : answer_values r.answer ≡ []
   pub ran : r.events ≡ destructor_events (destructor_at before.ledger x) before.memory (outcome r.answer)
   pub left : Plan
@@ -256,18 +335,22 @@ WasDropped (Some x) dtor_trap before after r = DroppedBy (host_index x.handle) d
 
 abbrev pub head_of : ScriptItem → Head
 head_of (call_item c) = head.Call c.func
+head_of (typed_item c) = head.Typed c.func
 head_of (new_item n) = head.New
 head_of (drop_item d) = head.Drop d.resource
 
 -- An item is skipped that names a number which no resource of the list has; after the store was trapped, each new resource and each drop.
+-- A typed call never is.
 abbrev pub skips : ScriptItem → List Any → State → Bool
 skips (call_item c) list before = not (all_known (length list) (held_among c.params))
+skips (typed_item c) list before = false
 skips (new_item n) list before = before.trapped
 skips (drop_item d) list before = before.trapped || not (nat_lt d.resource (length list))
 
 abbrev pub WasPlayed : (ℕ → Callee) → Limits → List (List HostAnswer) → ScriptItem → List Any → State → State → Record → Type 0
 WasPlayed callees limits answers (call_item c) list before after r =
     Called (callees c.func) limits answers c list before after r (refusal (callees c.func) (length c.params) c.slots before.trapped)
+WasPlayed callees limits answers (typed_item c) list before after r = WasTyped c.params (callees c.func) limits answers c before after r
 WasPlayed callees limits answers (new_item n) list before after r = WasMade n.borrow n before after r
 WasPlayed callees limits answers (drop_item d) list before after r = WasDropped (slice_get list d.resource) d.dtor_trap before after r
 

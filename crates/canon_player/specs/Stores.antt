@@ -4,15 +4,16 @@ use Rattle.canon_memory.specs.Guest.{Recorded}
 use Rattle.canon_indices.specs.declared.options.StringEncoding.{StringEncoding}
 use Rattle.canon_types.specs.Table.{Table}
 use Rattle.canon_scripted.specs.Orders.{AreNarrow}
+use Rattle.canon_scripted.specs.declared.orders.Ordered.{Ordered}
 use Rattle.canon_scripted.specs.Scripted.{Doing, Plan}
 use Rattle.canon_context.specs.declared.component.Component.{Component}
 use Rattle.canon_context.specs.declared.component.Export.{Export}
 use Rattle.canon_context.specs.declared.component.Import.{Import}
 use Rattle.canon_func.specs.Asks.{Limits, allowed}
-use Rattle.canon_func.specs.Stores.{Callee, StoreView, callee_in}
+use Rattle.canon_func.specs.Stores.{Callee, StoreView, callee_in, type_in}
 use Rattle.canon_ledger.specs.Ledger.{new_ledger}
 use Rattle.canon_script.specs.Imports.{HostAnswer, answers_view}
-use Rattle.canon_script.specs.Script.{ScriptCall, ScriptItem, call_item, drop_item, new_item}
+use Rattle.canon_script.specs.Script.{ScriptCall, ScriptItem, call_item, drop_item, new_item, typed_item}
 use Rattle.canon_imports.specs.Imports.{entries_of}
 use Rattle.canon_imports.specs.declared.imports.ScriptedImports.{ScriptedImports}
 use Rattle.canon_player.specs.Options.{script_options}
@@ -46,8 +47,15 @@ pub record IsCallable (component : Component) (call : ScriptCall) : Type 0 where
   pub export : call.func < length component.exports.items
   pub orders : AreNarrow call.reallocs
 
+-- A typed call too; and the type of the export is that of the function of its number in the table.
+pub record IsTypable (component : Component) (func : ℕ) (reallocs : List Ordered) : Type 0 where
+  pub export : func < length component.exports.items
+  pub type : type_in component (slice_get component.exports.items func) ≡ slice_get component.types.types.funcs func
+  pub orders : AreNarrow reallocs
+
 abbrev pub IsPlayable : Component → ScriptItem → Type 0
 IsPlayable component (call_item c) = IsCallable component c
+IsPlayable component (typed_item c) = IsTypable component c.func c.reallocs
 IsPlayable component (new_item n) = Unit {0}
 IsPlayable component (drop_item d) = Unit {0}
 

@@ -4,5 +4,7 @@
 mod component;
 mod player;
 mod served;
+mod told;
+mod typed;
 
 pub use player::play;

@@ -3,12 +3,13 @@
 ghost use Rattle.std.specs.Prelude.{◌≡◌, ◌≢◌, ◌++◌, [], All, Err, IfOk, OnErr, OnOk, Some, length, map};
 ghost use Rattle.canon_value.specs.Resources.{all_resources};
 ghost use Rattle.canon_script.specs.Script.{IsWellFormed, call_item, call_item_view, drop_item, item_view, new_item, play_of};
-ghost use Rattle.canon_player.specs.Session.{Session, WasDropped, answer_values, outcome};
+ghost use Rattle.canon_player.specs.Session.{IsEnd, Session, WasDropped, answer_values, outcome};
 ghost use Rattle.canon_player.specs.Steps.{MadeAnswer, MakesCall, MakesResource, PlaysItem, PlaysItems};
 ghost use Rattle.canon_player.specs.Stores.{IsCallable, IsPlayable, answers_of, limits_of, state_of};
 
 use crate::component::{ScriptStore, component_of, store_of};
 use crate::served::served_after;
+use crate::typed::play_typed;
 use canon_func::{Error, resource_drop};
 use canon_imports::ScriptedImports;
 use canon_ledger::ResourceFault;
@@ -87,6 +88,7 @@ fn add_resources(
             Ok(())
         }
         Answer::Err(_) => Ok(()),
+        Answer::Typecheck => Ok(()),
         Answer::Skipped => Ok(()),
     }
 }
@@ -108,13 +110,14 @@ fn play_item(
 {
     match item {
         Item::Call(call) => play_call(alloc, store, list, call),
+        Item::Typed(call) => play_typed(alloc, store, call),
         Item::New(new) => play_new(alloc, store, list, new),
         Item::Drop(drop) => play_drop(alloc, store, list, drop),
     }
 }
 
 /// The record of an item that did nothing.
-fn idle_record(alloc: Global, store: &ScriptStore, head: Head, answer: Answer) -> Record
+pub(crate) fn idle_record(alloc: Global, store: &ScriptStore, head: Head, answer: Answer) -> Record
     ensures head { result.head ≡ head }
     ensures answer { result.answer ≡ answer }
     ensures events { result.events ≡ [] }
@@ -323,7 +326,7 @@ fn answer_of(called: Result<(), Error>, results: Vec<Val>) -> Result<Answer, Out
     ensures outcome { IfOk result (λ answer. outcome answer ≡ called) }
     ensures values { IfOk result (λ answer. OnOk called (answer_values answer ≡ results.items)) }
     ensures memory_left { IfOk result (λ answer. called ≢ Err (Error.Fault Fault.OutOfMemory)) }
-    ensures played { IfOk result (λ answer. answer ≢ Answer.Skipped) }
+    ensures played { IfOk result IsEnd }
 {
     match called {
         Ok(()) => Ok(Answer::Ok(results)),

@@ -6,5 +6,6 @@ pub mod Imported
 pub mod Members
 pub mod Same
 pub mod Sound
+pub mod TypedForm
 pub mod Views
 pub mod Work

@@ -16,7 +16,7 @@ use Rattle.canon_script.specs.Actions.{action_of, ordered_of}
 use Rattle.canon_scripted.specs.declared.orders.Ordered.{Ordered}
 use Rattle.canon_scripted.specs.declared.orders.Ordered.TheVariants as order
 use Rattle.canon_scripted.specs.Orders.{AreNarrow, IsNarrow}
-use Rattle.canon_script.specs.Script.{IsWellFormed, ItemStands, Play, ScriptCall, ScriptItem, call_item, call_item_of, call_of_func, call_with, drop_item, drop_item_of, encoding_of, final_memory, fits, fuel_of, handles_of, heap_of, if_fits, item_of, max_memory, max_work, memory_len_of, new_item, new_item_of, optional_call_members, other_item_of, play_of, play_with, played, played_over, reallocs_of, settings_of, settings_with, slots_of, times_entered, turns_of}
+use Rattle.canon_script.specs.Script.{IsWellFormed, ItemStands, Play, ScriptCall, ScriptItem, ScriptTyped, call_item, call_item_of, call_of_func, call_with, called_item_of, drop_item, drop_item_of, encoding_of, final_memory, fits, fuel_of, handles_of, heap_of, if_fits, item_of, max_memory, max_work, memory_len_of, new_item, new_item_of, optional_call_members, other_item_of, play_of, play_with, played, played_over, reallocs_of, settings_of, settings_with, slots_of, times_entered, turns_of, typed_item, typed_item_of, typed_of_func, typed_params_of, typed_with, optional_typed_members}
 use Rattle.canon_script.specs.declared.script.Settings.{Settings}
 use Rattle.canon_script.specs.Imports.{result_count}
 use Rattle.canon_script.specs.Numbers.{if_below}
@@ -67,6 +67,27 @@ call_stands t count d c e =
     option_and_then_some (call_of_func d func) (result_count t func) c e2 (λ results s2 e3.
     option_and_then_some (if_below count) (option_and_then u32_of (get (codes "call") d)) func s1 (λ n s3 e4. called count d func results c (below count n func e4) e3))))
 
+typed_called : (count : ℕ) (d : Data) (func : ℕ) (c : ScriptTyped) → func < count → typed_of_func d func ≡ Some c → ItemStands count (typed_item c)
+typed_called count d func c known e =
+    option_and_then_some _ (typed_params_of d) c e (λ params s1 e1.
+    option_and_then_some _ (option_and_then (each_of action_of) (get (codes "guest") d)) c e1 (λ guest s2 e2.
+    option_and_then_some _ (reallocs_of (get (codes "reallocs") d)) c e2 (λ reallocs s3 e3.
+    by_map (typed_with func params guest reallocs) (option_map_or as_bool (get (codes "post_trap") d) (Some false)) c e3 (λ post s4 is.
+    subst (λ (x : ScriptTyped). ItemStands count (typed_item x)) is (known, reallocs_narrow (get (codes "reallocs") d) reallocs s3)))))
+
+typed_stands : (count : ℕ) (d : Data) (c : ScriptTyped) → typed_item_of count d ≡ Some c → ItemStands count (typed_item c)
+typed_stands count d c e =
+    by_test (has_len (4 + optional_typed_members d) (as_object d)) _ c e (λ counted e1.
+    option_and_then_some (typed_of_func d) (option_and_then (if_below count) (option_and_then u32_of (get (codes "call") d))) c e1 (λ func s1 e2.
+    option_and_then_some (if_below count) (option_and_then u32_of (get (codes "call") d)) func s1 (λ n s2 e3. typed_called count d func c (below count n func e3) e2)))
+
+called_stands : (t : Table) (count : ℕ) (d : Data) (i : ScriptItem) → called_item_of t count d ≡ Some i → ItemStands count i
+called_stands t count d i e = by_cases (is_some (get (codes "typed") d)) e
+  where
+    by_cases : (b : Bool) → (if b then option_map typed_item (typed_item_of count d) else option_map call_item (call_item_of t count d)) ≡ Some i → ItemStands count i
+    by_cases true e = by_map typed_item (typed_item_of count d) i e (λ c s is. subst (ItemStands count) is (typed_stands count d c s))
+    by_cases false e = by_map call_item (call_item_of t count d) i e (λ c s is. subst (ItemStands count) is (call_stands t count d c s))
+
 other_stands : (t : Table) (count : ℕ) (d : Data) (i : ScriptItem) → other_item_of t d ≡ Some i → ItemStands count i
 other_stands t count d i e = by_cases (is_some (get (codes "new") d)) e
   where
@@ -77,8 +98,8 @@ other_stands t count d i e = by_cases (is_some (get (codes "new") d)) e
 item_stands : (t : Table) (count : ℕ) (d : Data) (i : ScriptItem) → item_of t count d ≡ Some i → ItemStands count i
 item_stands t count d i e = by_cases (is_some (get (codes "call") d)) e
   where
-    by_cases : (b : Bool) → (if b then option_map call_item (call_item_of t count d) else other_item_of t d) ≡ Some i → ItemStands count i
-    by_cases true e = by_map call_item (call_item_of t count d) i e (λ c s is. subst (ItemStands count) is (call_stands t count d c s))
+    by_cases : (b : Bool) → (if b then called_item_of t count d else other_item_of t d) ≡ Some i → ItemStands count i
+    by_cases true e = called_stands t count d i e
     by_cases false e = other_stands t count d i e
 
 -- ---- all of it

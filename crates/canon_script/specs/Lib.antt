@@ -4,5 +4,6 @@ pub mod Literals
 pub mod Numbers
 pub mod Resources
 pub mod Script
+pub mod Typed
 pub mod Types
 pub mod Values

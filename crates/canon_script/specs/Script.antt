@@ -18,6 +18,7 @@ use Rattle.canon_script.specs.Actions.{action_of, ask_count, growth, ordered_of}
 use Rattle.canon_script.specs.Imports.{HaveAnswers, HostAnswer, ImportStands, answers_view, result_count}
 use Rattle.canon_script.specs.Literals.{Literal, literals_view}
 use Rattle.canon_script.specs.Numbers.{if_below, number_to}
+use Rattle.canon_script.specs.Typed.{TypedValues, typed_values, typed_view}
 use Rattle.canon_script.specs.Types.{Declared, declared_of}
 use Rattle.canon_script.specs.Values.{value_of}
 use Rattle.canon_script.specs.declared.script.CallItem.{CallItem}
@@ -27,6 +28,7 @@ use Rattle.canon_script.specs.declared.script.Item.TheVariants as item
 use Rattle.canon_script.specs.declared.script.NewItem.{NewItem}
 use Rattle.canon_script.specs.declared.script.Script.{Script}
 use Rattle.canon_script.specs.declared.script.Settings.{Settings}
+use Rattle.canon_script.specs.declared.script.TypedItem.{TypedItem}
 
 -- ---- items
 
@@ -37,6 +39,14 @@ pub record ScriptCall : Type 0 where
   pub params : List Literal
   pub guest : List Action
   pub slots : ℕ
+  pub reallocs : List Ordered
+  pub post_trap : Bool
+
+-- one typed call: the same, but with values of a signature, and room for its results
+pub record ScriptTyped : Type 0 where
+  pub func : ℕ
+  pub params : TypedValues
+  pub guest : List Action
   pub reallocs : List Ordered
   pub post_trap : Bool
 
@@ -68,6 +78,35 @@ call_item_of t count d =
     if has_len (3 + optional_call_members d) (as_object d)
     then option_and_then (λ func. option_and_then (call_of_func d func) (result_count t func))
     (option_and_then (if_below count) (option_and_then u32_of (get (codes "call") d)))
+    else None
+
+abbrev pub typed_with : ℕ → TypedValues → List Action → List Ordered → Bool → ScriptTyped
+typed_with func params guest reallocs post_trap = record { func = func; params = params; guest = guest; reallocs = reallocs; post_trap = post_trap }
+
+abbrev pub optional_typed_members : Data → ℕ
+optional_typed_members d = there (get (codes "reallocs") d) + there (get (codes "post_trap") d)
+
+-- the parameters of a typed call, by the number of its signature
+abbrev pub typed_params_of : Data → Option TypedValues
+typed_params_of d =
+    option_and_then (λ xs. option_and_then (λ signature. typed_values signature xs)
+    (option_and_then word_of (get (codes "typed") d)))
+    (option_and_then (each_of value_of) (get (codes "params") d))
+
+-- a typed call of the function of this number
+abbrev pub typed_of_func : Data → ℕ → Option ScriptTyped
+typed_of_func d func =
+    option_and_then (λ params. option_and_then (λ guest. option_and_then (λ reallocs. option_map (typed_with func params guest reallocs)
+    (option_map_or as_bool (get (codes "post_trap") d) (Some false)))
+    (reallocs_of (get (codes "reallocs") d)))
+    (option_and_then (each_of action_of) (get (codes "guest") d)))
+    (typed_params_of d)
+
+-- an object that calls one of the first functions of the table so, of which there are so many
+abbrev pub typed_item_of : ℕ → Data → Option ScriptTyped
+typed_item_of count d =
+    if has_len (4 + optional_typed_members d) (as_object d)
+    then option_and_then (typed_of_func d) (option_and_then (if_below count) (option_and_then u32_of (get (codes "call") d)))
     else None
 
 -- the number that gives the type of a resource of the host
@@ -106,25 +145,32 @@ drop_item_of d =
 
 pub data ScriptItem : Type 0 where
   call_item : ScriptCall → ScriptItem
+  typed_item : ScriptTyped → ScriptItem
   new_item : NewItem → ScriptItem
   drop_item : DropItem → ScriptItem
 
 abbrev pub other_item_of : Table → Data → Option ScriptItem
 other_item_of t d = if is_some (get (codes "new") d) then option_map new_item (new_item_of t d) else option_map drop_item (drop_item_of d)
 
+-- a call, with Rust values where it has the member `typed`
+abbrev pub called_item_of : Table → ℕ → Data → Option ScriptItem
+called_item_of t count d = if is_some (get (codes "typed") d) then option_map typed_item (typed_item_of count d) else option_map call_item (call_item_of t count d)
+
 -- an item: one member names its kind
 abbrev pub item_of : Table → ℕ → Data → Option ScriptItem
-item_of t count d = if is_some (get (codes "call") d) then option_map call_item (call_item_of t count d) else other_item_of t d
+item_of t count d = if is_some (get (codes "call") d) then called_item_of t count d else other_item_of t d
 
 -- what the guest does in an item
 abbrev pub guest_in : ScriptItem → List Action
 guest_in (call_item c) = c.guest
+guest_in (typed_item c) = c.guest
 guest_in (new_item n) = []
 guest_in (drop_item d) = []
 
 -- a call starts the guest
 abbrev pub starts : ScriptItem → ℕ
 starts (call_item c) = 1
+starts (typed_item c) = 1
 starts (new_item n) = 0
 starts (drop_item d) = 0
 
@@ -264,8 +310,12 @@ script_of d =
 abbrev pub call_item_view : CallItem → ScriptCall
 call_item_view c = call_with c.func (literals_view c.params.items) c.guest.items c.slots c.reallocs.items c.post_trap
 
+abbrev pub typed_item_view : TypedItem → ScriptTyped
+typed_item_view c = typed_with c.func (typed_view c.params) c.guest.items c.reallocs.items c.post_trap
+
 abbrev pub item_view : Item → ScriptItem
 item_view (item.Call c) = call_item (call_item_view c)
+item_view (item.Typed c) = typed_item (typed_item_view c)
 item_view (item.New n) = new_item n
 item_view (item.Drop d) = drop_item d
 
@@ -288,6 +338,7 @@ play_of s =
 -- A call is one of a function, of which there are so many, and each ordered answer of `realloc` is below 2 ^ 32.
 abbrev pub ItemStands : ℕ → ScriptItem → Type 0
 ItemStands count (call_item c) = (c.func < count) × AreNarrow c.reallocs
+ItemStands count (typed_item c) = (c.func < count) × AreNarrow c.reallocs
 ItemStands count (new_item n) = Unit {0}
 ItemStands count (drop_item d) = Unit {0}
 

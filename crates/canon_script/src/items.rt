@@ -1,16 +1,18 @@
 //! Reads the items of a script from JSON: calls, new resources and drops.
 
-ghost use Rattle.std.specs.Prelude.{◌≡◌, length, Some, option_map, option_and_then};
+ghost use Rattle.std.specs.Prelude.{◌≡◌, ◌≤◌, length, Some, option_map, option_and_then};
 ghost use Rattle.std.specs.Option.{option_map_or};
 ghost use Rattle.serde_json.specs.Find.{as_object};
 ghost use Rattle.serde_json.specs.View.{view};
-ghost use Rattle.canon_json.specs.Json.{Gives, u32_of};
+ghost use Rattle.canon_json.specs.Json.{Gives, u32_of, word_of};
 ghost use Rattle.canon_script.specs.Imports.{result_count};
 ghost use Rattle.canon_script.specs.Numbers.{if_below};
 ghost use Rattle.canon_script.specs.Script as spec;
+ghost use Rattle.canon_script.specs.Typed.{typed_view};
 
 use crate::actions::{Actions, Orders};
-use crate::script::{CallItem, DropItem, Item, NewItem};
+use crate::script::{CallItem, DropItem, Item, NewItem, TypedItem, TypedParams};
+use crate::typed_params::typed_params;
 use crate::values::Values;
 use canon_indices::TypeFuncIndex;
 use canon_json::{Reader, ScriptError, bool_or, each_of, has_len, there, u32_of};
@@ -53,13 +55,29 @@ fn item_of(
     ensures { Gives spec.item_view result (spec.item_of types.now funcs (view v.now)) }
 {
     if v.get("call").is_some() {
-        let call = call_item_of(alloc, types, funcs, v)?;
-        return Ok(Item::Call(call));
+        return called_item_of(alloc, types, funcs, v);
     }
     match other_item_of(types, v) {
         Some(item) => Ok(item),
         None => Err(ScriptError::BadScript),
     }
+}
+
+/// A call, with Rust values where it has the member `typed`.
+fn called_item_of(
+    alloc: Global,
+    types: &ComponentTypes,
+    funcs: usize,
+    v: &Value,
+) -> Result<Item, ScriptError>
+    ensures { Gives spec.item_view result (spec.called_item_of types.now funcs (view v.now)) }
+{
+    if v.get("typed").is_some() {
+        let call = typed_item_of(alloc, funcs, v)?;
+        return Ok(Item::Typed(call));
+    }
+    let call = call_item_of(alloc, types, funcs, v)?;
+    Ok(Item::Call(call))
 }
 
 /// An item that calls nothing.
@@ -184,6 +202,62 @@ fn call_of_func(alloc: Global, v: &Value, func: u32, results: u64) -> Result<Cal
         reallocs,
         post_trap,
     })
+}
+
+/// A typed call of one of the first `funcs` functions.
+fn typed_item_of(alloc: Global, funcs: usize, v: &Value) -> Result<TypedItem, ScriptError>
+    ensures { Gives spec.typed_item_view result (spec.typed_item_of funcs (view v.now)) }
+{
+    if !has_len(v, 4 + optional_typed_members(v)) {
+        return Err(ScriptError::BadScript);
+    }
+    match called_func(funcs, v.get("call")) {
+        Some(func) => typed_of_func(alloc, v, func),
+        None => Err(ScriptError::BadScript),
+    }
+}
+
+fn optional_typed_members(v: &Value) -> usize
+    ensures count { result ≡ spec.optional_typed_members (view v.now) }
+    ensures few { result ≤ 2 }
+{
+    there(v.get("reallocs")) + there(v.get("post_trap"))
+}
+
+/// A typed call of the function of this number.
+fn typed_of_func(alloc: Global, v: &Value, func: u32) -> Result<TypedItem, ScriptError>
+    ensures { Gives spec.typed_item_view result (spec.typed_of_func (view v.now) func) }
+{
+    let params = typed_params_of(alloc, v)?;
+    let guest = each_of(alloc, &Actions, v.get("guest"))?;
+    let reallocs = reallocs_of(alloc, v.get("reallocs"))?;
+    let Some(post_trap) = bool_or(v.get("post_trap"), false) else {
+        return Err(ScriptError::BadScript);
+    };
+    Ok(TypedItem {
+        func,
+        params,
+        guest,
+        reallocs,
+        post_trap,
+    })
+}
+
+/// The parameters of a typed call, by the number of its signature.
+fn typed_params_of(alloc: Global, v: &Value) -> Result<TypedParams, ScriptError>
+    ensures { Gives typed_view result (spec.typed_params_of (view v.now)) }
+{
+    let values = each_of(alloc, &Values, v.get("params"))?;
+    match word_in(v.get("typed")) {
+        Some(signature) => typed_params(alloc, signature, &values),
+        None => Err(ScriptError::BadScript),
+    }
+}
+
+fn word_in(v: Option<&Value>) -> Option<u64>
+    ensures { result ≡ option_and_then word_of (option_map (λ x. view x.now) v.entry) }
+{
+    v?.as_u64()
 }
 
 fn slots_of(v: Option<&Value>, results: u64) -> Option<u64>

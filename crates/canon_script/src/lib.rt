@@ -30,11 +30,14 @@
 //!   [answer, ..]}`, a function of the host that gives these answers in order and then refuses; or `{"builtin": "new", "resource":
 //!   resource}`, or so with `"rep"` or `"drop"`, with the number of an entry of `resources`: a call on the handles of that resource
 //!   type. An answer is an array of as many values as there are results, in which no resource stands, or `"refuse"`.
-//! - An item is a call, a new resource or a drop.
+//! - An item is a call, typed or not, a new resource or a drop.
 //! - A call is `{"call": number, "params": [value, ..], "guest": [action, ..]}`, and may have `slots` (how many results
 //!   there is room for, at most 1,000; where it is missing, the number of the function's results), `reallocs` (how
 //!   `realloc` is answered, call by call: a number below 2^32, `"trap"`, or `null` for the allocator's answer) and
 //!   `post_trap` (whether the post-return function traps).
+//! - A call that has the member `typed` too, a number from 1 to 4, passes and returns Rust values, and has no `slots`. Its `params` are
+//!   exactly: for 1 a `u32`; for 2 a `string`; for 3 a `list` of `u32`; for 4 a `list` of `tuple`s, each of a `string` and a `u64`, and
+//!   then an `option` of a `bool`.
 //! - A new resource is `{"new": resource, "rep": representation}`, of an entry of `resources` that is dynamic, and may have `borrow`
 //!   (whether it is a borrow and no own handle). A drop is `{"drop": number}`, of a resource by its number in the list of all that were
 //!   made and answered so far, and may have `dtor_trap` (whether the destructor traps).
@@ -60,11 +63,13 @@ mod limits;
 mod reading;
 mod resources;
 mod script;
+mod typed_params;
 mod types;
 mod values;
 
 pub use actions::actions_of_json;
 pub use reading::script_of_json;
 pub use resources::{are_known, copies_of, resources_in, with_resources};
-pub use script::{CallItem, DropItem, Item, NewItem, Script};
+pub use script::{CallItem, DropItem, Item, NewItem, Script, TypedItem, TypedParams};
+pub use typed_params::typed_form;
 pub use values::value_of_json;

@@ -107,8 +107,8 @@ fn started(times: u64, item: &Item) -> Option<u64>
     ensures { MatchOption result (spec.max_work < times + spec.starts (spec.item_view item.now)) (λ n. (n ≡ times + spec.starts (spec.item_view item.now)) × (n ≤ spec.max_work)) }
 {
     match item {
-        Item::Call(_) if times >= MAX_WORK => None,
-        Item::Call(_) => Some(times + 1),
+        Item::Call(_) | Item::Typed(_) if times >= MAX_WORK => None,
+        Item::Call(_) | Item::Typed(_) => Some(times + 1),
         Item::New(_) | Item::Drop(_) => Some(times),
     }
 }
@@ -119,6 +119,7 @@ fn guest_of(item: &Item) -> &[Action]
 {
     match item {
         Item::Call(call) => &call.guest,
+        Item::Typed(call) => &call.guest,
         Item::New(_) | Item::Drop(_) => &[],
     }
 }

@@ -23,6 +23,30 @@ pub struct CallItem {
     pub post_trap: bool,
 }
 
+/// The parameters of a typed call, by its signature.
+#[derive(Debug, Drop)]
+pub enum TypedParams {
+    Number(u32),
+    Text(String),
+    Numbers(Vec<u32>),
+    Pairs(Vec<(String, u64)>, Option<bool>),
+}
+
+/// One call of a function with Rust types.
+#[derive(Debug, Drop)]
+pub struct TypedItem {
+    /// The number of the function, as of a call.
+    pub func: u32,
+    /// The parameters, whether they are of the function's types or not.
+    pub params: TypedParams,
+    /// What the guest does.
+    pub guest: Vec<Action>,
+    /// How the first calls of `realloc` are answered.
+    pub reallocs: Vec<Ordered>,
+    /// Whether the post-return function traps.
+    pub post_trap: bool,
+}
+
 /// A new resource of the host.
 #[derive(Clone, Copy, Debug, PartialEq, Eq)]
 pub struct NewItem {
@@ -46,6 +70,7 @@ pub struct DropItem {
 #[derive(Debug, Drop)]
 pub enum Item {
     Call(CallItem),
+    Typed(TypedItem),
     New(NewItem),
     Drop(DropItem),
 }

@@ -183,6 +183,82 @@ fn a_whole_script_is_read(rt: HostRuntime) -> Result<(), Fail> {
 }
 
 #[test]
+fn typed_calls_are_read_by_their_signatures(rt: HostRuntime) -> Result<(), Fail> {
+    let text = r#"{"funcs":[{"params":[],"results":[]}],"items":[
+{"call":0,"typed":1,"params":[{"u32":4294967295}],"guest":[]},
+{"call":0,"typed":2,"params":[{"string":"é"}],"guest":[{"trap":true}],"post_trap":true},
+{"call":0,"typed":3,"params":[{"list":[{"u32":2},{"u32":1}]}],"guest":[],"reallocs":["trap",null]},
+{"call":0,"typed":4,"params":[{"list":[{"tuple":[{"string":"a"},{"u64":1}]},{"tuple":[{"string":""},{"u64":18446744073709551615}]}]},{"option":{"bool":true}}],"guest":[]},
+{"call":0,"typed":4,"params":[{"list":[]},{"option":null}],"guest":[]}]}"#;
+    let script = script(rt.alloc(), text)?.expect(&rt, "a script");
+    let [
+        Item::Typed(first),
+        Item::Typed(second),
+        Item::Typed(third),
+        Item::Typed(fourth),
+        Item::Typed(fifth),
+    ] = script.items.as_slice()
+    else {
+        return Err(Fail::new("five typed calls"));
+    };
+    let params = [
+        &first.params,
+        &second.params,
+        &third.params,
+        &fourth.params,
+        &fifth.params,
+    ];
+    let told = format!(in rt.alloc(); "{params:?}")?;
+    assert!(rt;
+        told.as_str()
+            == r#"[Number(4294967295), Text("é"), Numbers([2, 1]), Pairs([("a", 1), ("", 18446744073709551615)], Some(true)), Pairs([], None)]"#
+    );
+    assert!(rt; second.post_trap && second.guest.len() == 1 && !first.post_trap);
+    assert!(rt; third.reallocs.as_slice() == [Ordered::Trap, Ordered::Free].as_slice());
+    Ok(())
+}
+
+/// What is no typed call of the first function.
+const NO_TYPED: &str = r#"[
+    {"call":0,"typed":0,"params":[],"guest":[]},
+    {"call":0,"typed":5,"params":[{"u32":1}],"guest":[]},
+    {"call":0,"typed":"1","params":[{"u32":1}],"guest":[]},
+    {"call":0,"typed":null,"params":[{"u32":1}],"guest":[]},
+    {"call":0,"typed":1,"params":[{"u32":1}],"guest":[],"slots":1},
+    {"call":1,"typed":1,"params":[{"u32":1}],"guest":[]},
+    {"call":0,"typed":1,"params":[{"u32":1}]},
+    {"call":0,"typed":1,"guest":[]},
+    {"call":0,"typed":1,"params":[{"u64":1}],"guest":[]},
+    {"call":0,"typed":1,"params":[{"resource":0}],"guest":[]},
+    {"call":0,"typed":1,"params":[{"tuple":[{"u32":1}]}],"guest":[]},
+    {"call":0,"typed":1,"params":[{"u32":1},{"u32":2}],"guest":[]},
+    {"call":0,"typed":2,"params":[{"enum":"a"}],"guest":[]},
+    {"call":0,"typed":2,"params":[{"list":[{"char":"a"}]}],"guest":[]},
+    {"call":0,"typed":3,"params":[{"list":[{"u32":1},{"u16":2}]}],"guest":[]},
+    {"call":0,"typed":3,"params":[{"fixed":[{"u32":1}]}],"guest":[]},
+    {"call":0,"typed":4,"params":[{"list":[]}],"guest":[]},
+    {"call":0,"typed":4,"params":[{"option":null},{"list":[]}],"guest":[]},
+    {"call":0,"typed":4,"params":[{"map":[[{"string":"a"},{"u64":1}]]},{"option":null}],"guest":[]},
+    {"call":0,"typed":4,"params":[{"list":[{"tuple":[{"string":"a"}]}]},{"option":null}],"guest":[]},
+    {"call":0,"typed":4,"params":[{"list":[{"tuple":[{"u64":1},{"string":"a"}]}]},{"option":null}],"guest":[]},
+    {"call":0,"typed":4,"params":[{"list":[]},{"option":{"u8":1}}],"guest":[]},
+    {"typed":1,"params":[{"u32":1}],"guest":[]}
+]"#;
+
+#[test]
+fn what_is_no_typed_call_is_refused(rt: HostRuntime) -> Result<(), Fail> {
+    let tree = Value::from_str(rt.alloc(), NO_TYPED)?;
+    for item in items_of(Some(&tree)).ok_or("an array")? {
+        let text = format!(in rt.alloc();
+            r#"{{"funcs":[{{"params":[],"results":[]}}],"items":[{item}]}}"#
+        )?;
+        let read = script(rt.alloc(), &text)?;
+        assert!(rt; matches!(read, Err(ScriptError::BadScript)), "{item}");
+    }
+    Ok(())
+}
+
+#[test]
 fn entries_of_every_kind_are_taken(rt: HostRuntime) -> Result<(), Fail> {
     let text =
         r#"{"types":[{"map":["string","u8"]},{"variant":[["a"],["b",0]]},{"enum":["x"]},{"option":1},{"result":[null,3]},{"flags":["f"]}],"funcs":[{"params":[2,4],"results":[5]}]}"#;
@@ -282,13 +358,15 @@ fn scripts_reach_their_limits(rt: HostRuntime) -> Result<(), Fail> {
     Ok(())
 }
 
-/// What is no script: the first five pass a limit.
+/// What is no script: the first seven pass a limit.
 const NO_SCRIPTS: &str = r#"[
     {"memory":67108865},
     {"memory":1023},
     {"memory":4096,"heap":4097},
     {"memory":67108863,"funcs":[{"params":[],"results":[]}],"items":[{"call":0,"params":[],"guest":[{"grow":1},{"grow":1}]}]},
     {"memory":67108864,"funcs":[{"params":[],"results":[]}],"items":[{"call":0,"params":[],"guest":[{"ask":0,"words":[]},{"ask":0,"words":[]},{"ask":0,"words":[]},{"ask":0,"words":[]},{"ask":0,"words":[]},{"ask":0,"words":[]},{"ask":0,"words":[]},{"ask":0,"words":[]}]}]},
+    {"memory":67108864,"funcs":[{"params":[],"results":[]}],"items":[{"call":0,"typed":1,"params":[{"u32":1}],"guest":[{"ask":0,"words":[]},{"ask":0,"words":[]},{"ask":0,"words":[]},{"ask":0,"words":[]},{"ask":0,"words":[]},{"ask":0,"words":[]},{"ask":0,"words":[]},{"ask":0,"words":[]}]}]},
+    {"memory":67108863,"funcs":[{"params":[],"results":[]}],"items":[{"call":0,"typed":1,"params":[{"u32":1}],"guest":[{"grow":2}]}]},
     [],
     {"fuel":-1},
     {"fuel":18446744073709551616},

@@ -161,6 +161,7 @@ each_value (v ∷ vs) = (adds_value v, each_value vs)
 adds_answer : (a : Answer) → Adds (answer_printing a) (given a)
 adds_answer (answer.Ok values) = adds_between (codes "ok") end (values_printing values.items) (all_resources values.items) (adds_each (codes " ") _ _ (each_value values.items))
 adds_answer (answer.Err e) = adds_text (codes "error " ++ error_text e ++ end)
+adds_answer answer.Typecheck = adds_text (codes "error TypecheckFailed" ++ end)
 adds_answer answer.Skipped = adds_text (codes "skipped" ++ end)
 
 -- the records, one after the other

@@ -355,12 +355,14 @@ events_text bs asked served (e ∷ es) = text_before asked served e ++ event_tex
 
 abbrev pub head_text : Head → List ℕ
 head_text (head.Call func) = codes "call " ++ decimal func ++ end
+head_text (head.Typed func) = codes "typed " ++ decimal func ++ end
 head_text head.New = codes "new" ++ end
 head_text (head.Drop resource) = codes "drop " ++ decimal resource ++ end
 
 abbrev pub answer_printing : Answer → Printing
 answer_printing (answer.Ok values) = between (codes "ok") (values_printing values.items) end
 answer_printing (answer.Err e) = write (codes "error " ++ error_text e ++ end)
+answer_printing answer.Typecheck = write (codes "error TypecheckFailed" ++ end)
 answer_printing answer.Skipped = write (codes "skipped" ++ end)
 
 -- the line of an answer whose first resource has this number
@@ -385,6 +387,7 @@ record_text first r = head_text r.head ++ acts_text r ++ answer_text first r.ans
 abbrev pub given : Answer → List Any
 given (answer.Ok values) = all_resources values.items
 given (answer.Err e) = []
+given answer.Typecheck = []
 given answer.Skipped = []
 
 -- the number after those of these resources

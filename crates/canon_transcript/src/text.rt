@@ -61,6 +61,7 @@ fn print_head(text: &mut String, head: Head) -> Result<(), AllocError>
 {
     match head {
         Head::Call(func) => writeln!(text, "call {func}"),
+        Head::Typed(func) => writeln!(text, "typed {func}"),
         Head::New => text.push_str("new\n"),
         Head::Drop(resource) => writeln!(text, "drop {resource}"),
     }
@@ -78,12 +79,14 @@ fn print_answer(
         Answer::Ok(values) => {
             text.push_str("ok")?;
             print_values(text, next, values)?;
+            text.push_str("\n")
         }
         Answer::Err(error) => {
             text.push_str("error ")?;
             print_error(text, *error)?;
+            text.push_str("\n")
         }
-        Answer::Skipped => text.push_str("skipped")?,
+        Answer::Typecheck => text.push_str("error TypecheckFailed\n"),
+        Answer::Skipped => text.push_str("skipped\n"),
     }
-    text.push_str("\n")
 }

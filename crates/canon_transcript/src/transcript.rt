@@ -10,20 +10,23 @@ use canon_value::Val;
 use std::alloc::Global;
 use std::marker::Model;
 
-/// What an item of a script was: a call of this function, a new resource of the host, or a drop of the resource of this
-/// number.
+/// What an item of a script was: a call of this function, one with Rust types, a new resource of the host, or a drop of the resource of
+/// this number.
 #[derive(Clone, Copy, Debug, PartialEq, Eq)]
 pub enum Head {
     Call(u32),
+    Typed(u32),
     New,
     Drop(u32),
 }
 
-/// What an item answered: its results (the resource that it made, of a new one), why it failed, or that it was not done.
+/// What an item answered: its results (the resource that it made, of a new one), why it failed, that the Rust types of a typed call are
+/// not the function's, or that it was not done.
 #[derive(Debug, Drop)]
 pub enum Answer {
     Ok(Vec<Val>),
     Err(Error),
+    Typecheck,
     Skipped,
 }
 

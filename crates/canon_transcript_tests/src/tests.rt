@@ -369,16 +369,18 @@ fn with_resources(alloc: Global) -> Result<Transcript, Fail> {
     transcript.push(record_of(alloc, Head::Call(2), results(alloc)?))?;
     transcript.push(record_of(alloc, Head::Drop(9), Answer::Err(Error::WrongCount)))?;
     transcript.push(record_of(alloc, Head::Call(2), Answer::Skipped))?;
+    transcript.push(record_of(alloc, Head::Typed(3), Answer::Typecheck))?;
     transcript.push(record_of(alloc, Head::New, made(alloc)?))?;
     Ok(transcript)
 }
 
-const NUMBERED_LINES: [&str; 6] = [
+const NUMBERED_LINES: [&str; 7] = [
     "new\nok #0\nlive 3\n",
     "drop 0\nok\nlive 3\n",
     "call 2\nok (#1,map[#2=#3],7) [#4]\nlive 3\n",
     "drop 9\nerror WrongCount\nlive 3\n",
     "call 2\nskipped\nlive 3\n",
+    "typed 3\nerror TypecheckFailed\nlive 3\n",
     "new\nok #5\nlive 3\n",
 ];
 
