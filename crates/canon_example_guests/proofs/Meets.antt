@@ -24,12 +24,13 @@ free (Err fault.OutOfMemory) = tt
 abbrev pub seen_of : Arena → Seen
 seen_of a = record { journal = None; marks = replicate a.answers (record { lawful = true; tidy = true }); live = a.blocks.live; traps = a.traps; shortages = a.shortages }
 
-module _ (a b : Arena) (m n : List ℕ) (same : n ≡ m) where
+-- where memory keeps its length
+module _ (a b : Arena) (m n : List ℕ) (same : length n ≡ length m) where
   -- no answer of `realloc`
   quiet : a.traps ≤ b.traps → a.shortages ≤ b.shortages → b.answers ≡ a.answers → (events : List Event) → Goes (moment (seen_of a) m) (moment (seen_of b) n) [] events
   quiet traps shortages answers events =
       record {
-        no_shorter = omega (arith, ap length same);
+        no_shorter = omega (arith, same);
         traps_later = traps;
         shortages_later = shortages;
         marks = ap (λ (k : ℕ). replicate k marked) answers ∙ sym (append-nil _);
@@ -49,6 +50,8 @@ module _ (a b : Arena) (m n : List ℕ) (same : n ≡ m) where
   caused (Err fault.Trap) (e, le, rose) = rose
   caused (Err fault.OutOfMemory) (e, le, rose) = rose
 
+-- and where it stays
+module _ (a b : Arena) (m n : List ℕ) (same : n ≡ m) where
   pub reallocates : (c : Call) (r : Result ℕ GuestFault) → Answers r a b → IfOk r (λ at. ReallocLaw a.blocks.live b.blocks.live m n c at) → Reallocates (moment (seen_of a) m) (moment (seen_of b) n) c r
   reallocates c (Ok at) e law = (
     marked,
@@ -64,5 +67,5 @@ module _ (a b : Arena) (m n : List ℕ) (same : n ≡ m) where
       tidy = λ _ i lt out. ap (λ (xs : List ℕ). slice_index xs i) same;
     },
   )
-  reallocates c (Err fault.Trap) counts law = record { goes = faulted fault.Trap counts _; rose = counts.2 }
-  reallocates c (Err fault.OutOfMemory) counts law = record { goes = faulted fault.OutOfMemory counts _; rose = counts.2 }
+  reallocates c (Err fault.Trap) counts law = record { goes = faulted a b m n (ap length same) fault.Trap counts _; rose = counts.2 }
+  reallocates c (Err fault.OutOfMemory) counts law = record { goes = faulted a b m n (ap length same) fault.OutOfMemory counts _; rose = counts.2 }

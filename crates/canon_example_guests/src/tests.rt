@@ -1,6 +1,6 @@
 //! Each guest once.
 
-use crate::{Arena, Echo};
+use crate::{Arena, Echo, Mirror};
 use canon_memory::{Event, Guest, GuestFault, Journaled, Memory, Step, ValRaw};
 use std::test::Fail;
 
@@ -49,5 +49,20 @@ fn an_arena_gives_each_block_behind_the_others(rt: HostRuntime) -> Result<(), Fa
         return Err(Fail::from("no return"));
     };
     assert!(rt; words.as_slice() == [ValRaw::u32(5)].as_slice());
+    Ok(())
+}
+
+#[test]
+fn a_mirror_returns_where_the_list_that_it_was_passed_stands(rt: HostRuntime) -> Result<(), Fail> {
+    let alloc = rt.alloc();
+    let mut memory = Memory::new(alloc, 65_536)?;
+    let mut guest = Mirror::new(alloc);
+    assert!(rt; guest.realloc(&mut memory, 0, 0, 4, 8)? == 8);
+    let step = guest.start(&mut memory, 0, &[ValRaw::u32(8), ValRaw::u32(2)])?;
+    let Step::Return(words) = &step else {
+        return Err(Fail::from("no return"));
+    };
+    assert!(rt; words.as_slice() == [ValRaw::u32(0)].as_slice());
+    assert!(rt; memory.as_slice().get(0..8) == Some([8, 0, 0, 0, 2, 0, 0, 0].as_slice()));
     Ok(())
 }

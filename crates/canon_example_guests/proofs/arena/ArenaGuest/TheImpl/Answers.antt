@@ -1,3 +1,4 @@
+use Rattle.std.proofs.Common.{ap, length}
 use Rattle.canon_memory.specs.Realloc.{call}
 use Rattle.canon_example_guests.proofs.Meets.{caused, free, reallocates, started}
 use Rattle.canon_example_guests.proofs.arena.ArenaGuest.TheImpl.Goals as goal
@@ -7,9 +8,9 @@ start-tells c =
     let a = c.args.self.now in
     let b = c.new.self.now in
     record {
-      goes = started a b c.args.memory.now c.new.memory.now c.ensures.memory c.result c.ensures.counts _;
+      goes = started a b c.args.memory.now c.new.memory.now (ap length c.ensures.memory) c.result c.ensures.counts _;
       moves = free c.result;
-      cause = caused a b c.args.memory.now c.new.memory.now c.ensures.memory c.result c.ensures.counts;
+      cause = caused a b c.args.memory.now c.new.memory.now (ap length c.ensures.memory) c.result c.ensures.counts;
     }
 
 pub realloc-tells : goal.realloc-tells
