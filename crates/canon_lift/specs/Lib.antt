@@ -13,6 +13,7 @@ pub mod MapsOfTrees
 pub mod Handles
 pub mod HostHandles
 pub mod Views
+pub mod Iteration
 pub mod Integers
 pub mod Scopes
 pub mod OwnScopes

@@ -15,10 +15,12 @@ mod scalars;
 mod texts;
 mod tuples;
 mod wasm_list;
+mod wasm_list_iter;
 mod wasm_str;
 mod words;
 
 pub use laws::lifts_exactly;
 pub use lift::Lift;
 pub use wasm_list::WasmList;
+pub use wasm_list_iter::WasmListIter;
 pub use wasm_str::WasmStr;

@@ -32,7 +32,8 @@ pub trait Lift: ComponentType {
 
     /// Lifts the value of a type at an address, where it is aligned and inside memory (CanonicalABI.md, "load"), and takes what it
     /// costs from the fuel. Handles go through the ledger, in order. Answers the fault of a pointer, a text, a char or a discriminant
-    /// that was reached, `Resource` where the ledger refused a handle, or `HostcallFuelExhausted`; the fuel is then what was left.
+    /// that was reached, `Resource` where the ledger refused a handle, or `HostcallFuelExhausted`. After an error the fuel isn't more
+    /// than before.
     fn linear_lift_from_memory<U, G>(
         alloc: Global,
         cx: &mut LiftContext<'_, U, G>,

@@ -1,6 +1,6 @@
 //! Lists that stay in memory.
 
-ghost use Rattle.std.specs.Prelude.{◌≡◌, ◌↔◌, ◌≤◌, ◌<◌, ◌+◌, ◌*◌, ◌%◌, ◌^◌, IfSome, IsNone, IsTrue, false, length, ℕ};
+ghost use Rattle.std.specs.Prelude.{◌≡◌, ◌↔◌, ◌≤◌, ◌<◌, ◌+◌, ◌*◌, ◌%◌, ◌^◌, IfNone, IfSome, IsNone, IsTrue, false, length, ℕ};
 ghost use Rattle.canon_context.specs.Core.{types_of};
 ghost use Rattle.std.proofs.Common.{refl};
 ghost use Rattle.canon_lift.specs.Scopes.{plain_kept};
@@ -141,7 +141,7 @@ impl<T: ComponentType> WasmList<T> {
     }
 
     /// Whether the list is of the core's store, its items are of the Rust type, and they lie aligned inside memory, which is the
-    /// condition of `get`.
+    /// condition of `get` and `iter`.
     pub fn fits_core<U, G>(&self, core: &Core<U, G>) -> bool
         ensures { IsTrue result ↔ IsListOfCore T.fits core.now self.now }
     {
@@ -190,6 +190,7 @@ impl<T: Lift> WasmList<T> {
         ensures item { IfSome result (λ r. (left : ℕ) × Lifts T.reading (setting_in core.old self.now.options)
             (item_spot (narrow core.old.memory) (shape_of (types_of core.old) self.now.element) (stored self.now.pointer) index) (shape_of (types_of core.old) self.now.element)
             core.old.ledger core.old.fuel r core.new.ledger left) }
+        ensures unread { IfNone result (core.new ≡ core.old) }
         ensures same { core.new ≡ record core.old { ledger = core.new.ledger } }
     {
         if self.count <= index {
