@@ -1,3 +1,5 @@
 pub mod Near
 pub mod Far
+pub mod Tuples
 pub mod Areas
+pub mod Exactly

@@ -43,6 +43,10 @@ reading_by false R = area_reading R
 abbrev pub passed_reading : {A : Type 0} → ℕ → Shape → Reading A → Reading A
 passed_reading most s R = reading_by (nat_le (flat s) most) R
 
--- how many words results take
+-- how many words that is, of the members of a tuple: theirs in a row, or one that points to the tuple
+abbrev pub passed_count : ℕ → Members → ℕ
+passed_count most ms = if nat_le (members_flat ms) most then members_flat ms else 1
+
+-- of results
 abbrev pub result_count : Members → ℕ
-result_count ms = if nat_le (members_flat ms) max_results then members_flat ms else 1
+result_count ms = passed_count max_results ms

@@ -1,20 +1,20 @@
 //! The results of a call, as the guest returned them.
 
-ghost use Rattle.std.specs.Prelude.{◌≡◌, ◌≤◌, ◌<◌, length};
-ghost use Rattle.canon_args.specs.Returned.{area_reading, passed_reading, result_count};
+ghost use Rattle.std.specs.Prelude.{◌≡◌, length};
+ghost use Rattle.canon_args.specs.Returned.{passed_reading, result_count};
 ghost use Rattle.canon_context.specs.Core.{types_of};
 ghost use Rattle.canon_lift.specs.Reading.{Lifts, setting_in};
 ghost use Rattle.canon_lift.specs.Spots.{flat_in};
 ghost use Rattle.canon_model.specs.Flat.{max_results};
-ghost use Rattle.canon_model.specs.Layout.{members_flat};
 ghost use Rattle.canon_model.specs.Shape.{of_places, product};
 ghost use Rattle.canon_types.specs.Table.{HasTuple, tuple_members};
 ghost use Rattle.canon_types.specs.declared.types.InterfaceType.TheVariants.{Tuple};
 
-use canon_context::{At, Fault, LiftContext};
+use crate::passed::lift_passed;
+use canon_context::{Fault, LiftContext};
 use canon_lift::Lift;
 use canon_memory::ValRaw;
-use canon_types::{InterfaceType, MAX_FLAT_RESULTS, TypeTupleIndex};
+use canon_types::{MAX_FLAT_RESULTS, TypeTupleIndex};
 use std::alloc::Global;
 
 /// Lifts a function's results, whose types are those of the tuple, from the words that it returned (CanonicalABI.md,
@@ -36,37 +36,5 @@ pub fn lift_results<U, G, R: Lift>(
     ensures same_reference { cx.new.core.ghost_name ≡ cx.old.core.ghost_name }
     ensures same_options { cx.new.options ≡ cx.old.options }
 {
-    let abi = cx.types().tuple(ty).abi;
-    if abi.flat_count(u64::from(MAX_FLAT_RESULTS)).is_some() {
-        R::lift_words(alloc, cx, InterfaceType::Tuple(ty), src, 0)
-    } else {
-        lift_heap_result(alloc, cx, ty, src)
-    }
-}
-
-/// Lifts the tuple that the only word points to.
-fn lift_heap_result<U, G, R: Lift>(
-    alloc: Global,
-    cx: &mut LiftContext<'_, U, G>,
-    ty: TypeTupleIndex,
-    src: &[ValRaw],
-) -> Result<R, Fault>
-    requires tuple { HasTuple (types_of cx.old.core.now) ty }
-    requires fits { R.fits cx.old.core.now.component.types (Tuple ty) }
-    requires word { length src.now ≡ 1 }
-    ensures lifts { Lifts (area_reading R.reading) (setting_in cx.old.core.now cx.old.options) (flat_in src.now 0)
-        (product of_places (tuple_members (types_of cx.old.core.now) ty)) cx.old.core.now.ledger cx.old.fuel result cx.new.core.now.ledger cx.new.fuel }
-    ensures same_core { cx.new.core.now ≡ record cx.old.core.now { ledger = cx.new.core.now.ledger } }
-    ensures same_reference { cx.new.core.ghost_name ≡ cx.old.core.ghost_name }
-    ensures same_options { cx.new.options ≡ cx.old.options }
-{
-    let abi = cx.types().tuple(ty).abi;
-    let at = u64::from(src[0].get_u32());
-    if at % u64::from(abi.align32) != 0 {
-        return Err(Fault::PointerMisaligned(At::Word(0)));
-    }
-    if at + u64::from(abi.size32) > cx.memory().len() as u64 {
-        return Err(Fault::PointerOutOfBounds(At::Word(0)));
-    }
-    R::linear_lift_from_memory(alloc, cx, InterfaceType::Tuple(ty), at)
+    lift_passed(alloc, cx, ty, src, MAX_FLAT_RESULTS)
 }

@@ -53,25 +53,36 @@ pub record Returns {F V X R : Type 0} (g : Closure F V X R) (f : F) (v : V) (ty 
   pub view_left_is : view_left.now ≡ v2
   pub room_left_is : room_left.now ≡ slots2
 
+-- the words of one over Rust types: it takes a view and its parameters, and changes the view
+abbrev pub StaticClosure : Type 0 → Type 0 → Type 0 → Type 0 → Type 1
+StaticClosure F V P R = Shared F (MutBor V × (P × Unit {0})) (R × (MutBor V × Unit {0}))
+
+-- At such a view and parameters it may give r, and leave this view.
+pub record StaticReturns {F V P R : Type 0} (g : StaticClosure F V P R) (f : F) (v : V) (params : P) (r : R) (v2 : V) : Type 0 where
+  pub view : MutBor V
+  pub view_is : view.now ≡ v
+  pub view_left : MutBor V
+  pub met : g.post f (view, (params, tt)) (r, (view_left, tt))
+  pub view_left_is : view_left.now ≡ v2
+
 -- the view is of no call: no types of a component are known, and there is no scope
 pub record IsOutside {T : Type 0} (v : HostView T) : Type 0 where
   pub no_types : known_in v.tables ≡ None
   pub no_scope : scope_in v.tables ≡ None
 
-module _ {F T X R : Type 0} (g : Closure F (HostView T) X R) (f : F) where
-  -- It may be called outside any call. Whatever it does then, its view is of the same data and the same ledger after it, and the
-  -- ledger took the host's steps alone.
-  pub record Keeps : Type 0 where
-    pub callable : (v : MutBor (HostView T)) (ty : Bor TypeFunc) (ps : Bor (List X)) (xs : MutBor (List X)) → IsOutside v.now → g.pre f (v, (ty, (ps, (xs, tt))))
-    pub state : (v w : HostView T) (ty : TypeFunc) (ps xs ys : List X) (r : R) → IsOutside v → Returns g f v ty ps xs r w ys → w.state.ghost_name ≡ v.state.ghost_name
-    pub tables : (v w : HostView T) (ty : TypeFunc) (ps xs ys : List X) (r : R) → IsOutside v → Returns g f v ty ps xs r w ys → reference_in w.tables ≡ reference_in v.tables
-    pub steps : (v w : HostView T) (ty : TypeFunc) (ps xs ys : List X) (r : R) → IsOutside v → Returns g f v ty ps xs r w ys → HostSteps (ledger_in v.tables) (ledger_in w.tables)
+-- what may be done with a view: how it is before, and after
+module _ {T : Type 0} (May : HostView T → HostView T → Type 0) where
+  -- Outside any call the view is of the same data and the same ledger after it, and the ledger took the host's steps alone.
+  pub record KeepsView : Type 0 where
+    pub state : (v w : HostView T) → IsOutside v → May v w → w.state.ghost_name ≡ v.state.ghost_name
+    pub tables : (v w : HostView T) → IsOutside v → May v w → reference_in w.tables ≡ reference_in v.tables
+    pub steps : (v w : HostView T) → IsOutside v → May v w → HostSteps (ledger_in v.tables) (ledger_in w.tables)
 
-  -- It was called once, over the data, the ledger, the memory and the component of one core, and left those of another.
-  pub record Gave {G : Type 0} (before after : Parts T G) (ty : TypeFunc) (ps xs : List X) (r : R) (ys : List X) : Type 0 where
+  -- It was done once, over the data, the ledger, the memory and the component of one core, and left those of another.
+  pub record DoneOver {G : Type 0} (before after : Parts T G) : Type 0 where
     pub view : HostView T
     pub left : HostView T
-    pub returned : Returns g f view ty ps xs r left ys
+    pub returned : May view left
     pub outside : IsOutside view
     pub state_is : view.state.now ≡ before.state
     pub ledger_is : ledger_in view.tables ≡ before.ledger
@@ -80,3 +91,22 @@ module _ {F T X R : Type 0} (g : Closure F (HostView T) X R) (f : F) where
     pub id_is : view.memory.id ≡ before.id
     pub state_left : left.state.now ≡ after.state
     pub ledger_left : ledger_in left.tables ≡ after.ledger
+
+module _ {F T X R : Type 0} (g : Closure F (HostView T) X R) (f : F) where
+  -- It may be called outside any call, and keeps its view whatever it does.
+  pub record Keeps : Type 0 where
+    pub callable : (v : MutBor (HostView T)) (ty : Bor TypeFunc) (ps : Bor (List X)) (xs : MutBor (List X)) → IsOutside v.now → g.pre f (v, (ty, (ps, (xs, tt))))
+    pub each : (ty : TypeFunc) (ps xs ys : List X) (r : R) → KeepsView (λ v w. Returns g f v ty ps xs r w ys)
+
+  -- It was called once, with these slots, and left those.
+  abbrev pub Gave : {G : Type 0} → Parts T G → Parts T G → TypeFunc → List X → List X → R → List X → Type 0
+  Gave before after ty ps xs r ys = DoneOver (λ v w. Returns g f v ty ps xs r w ys) before after
+
+-- the same of one over Rust types
+module _ {F T P R : Type 0} (g : StaticClosure F (HostView T) P R) (f : F) where
+  pub record StaticKeeps : Type 0 where
+    pub callable : (v : MutBor (HostView T)) (params : P) → IsOutside v.now → g.pre f (v, (params, tt))
+    pub each : (params : P) (r : R) → KeepsView (λ v w. StaticReturns g f v params r w)
+
+  abbrev pub StaticGave : {G : Type 0} → Parts T G → Parts T G → P → R → Type 0
+  StaticGave before after params r = DoneOver (λ v w. StaticReturns g f v params r w) before after

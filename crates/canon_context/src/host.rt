@@ -3,7 +3,7 @@
 ghost use Rattle.std.specs.Prelude.{◌≡◌, ◌↔◌, IsTrue, Some, length, slice_get};
 ghost use Rattle.canon_ledger.specs.Reached.{ledger_in, reference_in};
 ghost use Rattle.canon_context.specs.Component.{HasOptions};
-ghost use Rattle.canon_context.specs.Host.{HostSteps, IsOutside, Keeps, Returns, lenders_in};
+ghost use Rattle.canon_context.specs.Host.{HostSteps, IsOutside, Keeps, Returns, StaticKeeps, StaticReturns, lenders_in};
 
 use crate::Component;
 use canon_ledger::HostResourceTables;
@@ -91,4 +91,21 @@ pub(crate) fn call<
     ensures returns { Returns F.Fn f.now view.old ty.now params.now results.old result view.new results.new }
 {
     f(view, ty, params, results)
+}
+
+/// The same of a function over Rust types.
+pub(crate) fn call_static<T, P, R, F: Fn(&mut HostView<'_, '_, T>, P) -> Result<R, HostStop>>(
+    f: &F,
+    view: &mut HostView<'_, '_, T>,
+    params: P,
+) -> Result<R, HostStop>
+    requires keeps { StaticKeeps F.Fn f.now }
+    requires outside { IsOutside view.old }
+    ensures same_state { view.new.state.ghost_name ≡ view.old.state.ghost_name }
+    ensures same_ledger { reference_in view.new.tables ≡ reference_in view.old.tables }
+    ensures steps { HostSteps (ledger_in view.old.tables) (ledger_in view.new.tables) }
+    ensures scopes { lenders_in (ledger_in view.new.tables) ≡ lenders_in (ledger_in view.old.tables) }
+    ensures returns { StaticReturns F.Fn f.now view.old params result view.new }
+{
+    f(view, params)
 }

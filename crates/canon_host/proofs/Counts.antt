@@ -86,3 +86,8 @@ enough_words params results words h =
       pointer = λ many. omega (arith, most.0, far_pointer results many);
       room = λ few. omega (arith, most.1, near_row results few);
     }
+
+-- there is room for results in a row
+pub row_within : (params results : Members) (words : List ℕ) → AreEnough params results words → row_words results ≤ length words
+row_within params results words room =
+    ⊎_elim (λ far. omega (arith, far_row results far)) (λ near. omega (arith, near_row results near, room.room near)) (cases_lt max_results (members_flat results))

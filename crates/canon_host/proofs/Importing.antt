@@ -1,11 +1,11 @@
 -- Imports whose functions are called by `entrypoint`.
-use Rattle.std.proofs.Common.{Err, List, None, Ok, Option, Result, Some, Vec, ap, arith, inl, length, refl, subst₂, sym, ⊎_elim, ℕ, ◌++◌, ◌∙◌, ◌≡◌, ◌≢◌}
+use Rattle.std.proofs.Common.{Err, List, None, Ok, Option, Result, Some, Vec, ap, arith, false, inl, inr, length, refl, subst₂, sym, ⊎_elim, ℕ, ◌++◌, ◌∙◌, ◌≡◌, ◌≢◌}
 use Rattle.std.proofs.lemmas.Option.{none-some, slice_get_cases}
 use Rattle.std.proofs.Math.Seq.{drop-append_seam, take-append_seam}
 use Rattle.std.specs.Prelude.{IfSome, drop, slice_get, take}
 use Rattle.std.specs.declared.alloc.Global.{Global}
 use Rattle.canon_context.specs.Core.{Parts, types_of}
-use Rattle.canon_context.specs.Host.{Closure, IsOutside, Returns}
+use Rattle.canon_context.specs.Host.{Closure, IsOutside, Returns, StaticClosure}
 use Rattle.canon_context.specs.declared.fault.Fault.{Fault}
 use Rattle.canon_context.specs.declared.fault.Fault.TheVariants as fault
 use Rattle.canon_context.specs.declared.host.HostStop.{HostStop}
@@ -19,13 +19,15 @@ use Rattle.canon_model.specs.Shape.{member_count}
 use Rattle.canon_types.specs.Table.{HasFunc, param_members}
 use Rattle.canon_types.specs.declared.types.TypeFunc.{TypeFunc}
 use Rattle.canon_value.specs.declared.val.Val.{Val}
+use Rattle.canon_host.specs.Forms.{IsOfOthers, RustTypes, over_values}
 use Rattle.canon_host.specs.HostSide.{Entry, Giving, outcome}
-use Rattle.canon_host.specs.Imports.{CallsImport, GivesOnly, ServesImport, ServesWith, entry_of, logged}
-use Rattle.canon_host.specs.Serves.{AskValues, CallsBlank, InRow, ServesInRow, values_of}
+use Rattle.canon_host.specs.Imports.{CallsImport, CallsUnlogged, Declines, GivesOnly, LiftsOf, ServedByTyped, ServesForm, ServesTypes, ServesWith, entry_of, logged, steps_of_types}
+use Rattle.canon_host.specs.Serves.{AskValues, CallsBlank, InRow, LiftsAsked, Serves, ServesBy, ServesInRow, Values, value_steps, values_of}
+use Rattle.canon_host.specs.ServesTyped.{AreTyped, CallsTyped, ServesTyped, typed_steps}
 use Rattle.canon_host.specs.declared.asked.Asked.{Asked}
 use Rattle.canon_host.specs.declared.error.HostError.{HostError}
 use Rattle.canon_host.specs.declared.error.HostError.TheVariants as error
-use Rattle.canon_host.proofs.Serving.{serves_more, told_count}
+use Rattle.canon_host.proofs.Serving.{serves_changed, told_count}
 
 -- what is asked for by a type and options
 abbrev pub asked_by : ℕ → TypeFunc → ℕ → Asked
@@ -33,16 +35,16 @@ asked_by ty func options = record { ty = ty; func = func; options = options }
 
 -- The function that is called answers only what the import may answer.
 module _ {F T G : Type 0} (g : Closure F (HostView T) Val (Result (Unit {0}) HostStop)) (f : F) (gives : Giving T) (log : Option (List Entry)) (n : ℕ) (seen : G → Seen) (moves : GuestIn G → List Event → GuestIn G → Type 0)
-    (only : IfSome log (λ entries. GivesOnly g f (gives entries n))) where
-  gave_only : (o : Option (List Entry)) → IfSome o (λ entries. GivesOnly g f (gives entries n)) → (v w : HostView T) (type : TypeFunc) (params slots results : List Val) (r : Result (Unit {0}) HostStop) → IsOutside v → Returns g f v type params slots r w results
-      → IfSome o (λ entries. (ledger_in w.tables ≡ ledger_in v.tables) × gives entries n v.state.now params (outcome r results) w.state.now)
+    (only : IfSome log (λ entries. GivesOnly g f (gives.answers entries n))) where
+  gave_only : (o : Option (List Entry)) → IfSome o (λ entries. GivesOnly g f (gives.answers entries n)) → (v w : HostView T) (type : TypeFunc) (params slots results : List Val) (r : Result (Unit {0}) HostStop) → IsOutside v → Returns g f v type params slots r w results
+      → IfSome o (λ entries. (ledger_in w.tables ≡ ledger_in v.tables) × gives.answers entries n v.state.now params (outcome r results) w.state.now)
   gave_only (Some entries) h v w type params slots results r outside returned = h v w type params slots results r outside returned
   gave_only None h v w type params slots results r outside returned = tt
 
   moved_to : (params : List Val) (answer : Result (List Val) HostStop) (s s2 t t2 : T) (l l2 m m2 : LedgerState) → s ≡ s2 → t ≡ t2 → l ≡ l2 → m ≡ m2
-      → IfSome log (λ entries. (m ≡ l) × gives entries n s params answer t) → IfSome log (λ entries. (m2 ≡ l2) × gives entries n s2 params answer t2)
+      → IfSome log (λ entries. (m ≡ l) × gives.answers entries n s params answer t) → IfSome log (λ entries. (m2 ≡ l2) × gives.answers entries n s2 params answer t2)
   moved_to params answer s s2 t t2 l l2 m m2 es et el em h =
-      subst₂ (λ x y. IfSome log (λ entries. (y ≡ x) × gives entries n s2 params answer t2)) el em (subst₂ (λ x y. IfSome log (λ entries. (m ≡ l) × gives entries n x params answer y)) es et h)
+      subst₂ (λ x y. IfSome log (λ entries. (y ≡ x) × gives.answers entries n s2 params answer t2)) el em (subst₂ (λ x y. IfSome log (λ entries. (m ≡ l) × gives.answers entries n x params answer y)) es et h)
 
   calls_import : (asked : Asked) (b a : Parts T G) (params results : List Val) (r : Result (Unit {0}) HostStop) → CallsBlank g f asked b params r a results → CallsImport gives log n b params r a results
   calls_import asked b a params results r h = record {
@@ -52,10 +54,16 @@ module _ {F T G : Type 0} (g : Closure F (HostView T) Val (Result (Unit {0}) Hos
         (gave_only log only h.gave.view h.gave.left asked.func params _ results r h.gave.outside h.gave.returned);
   }
 
+  serves_import : (asked : Asked) (before after : Parts T G) (words words2 : List ℕ) (r : Result AskValues HostError) → Serves (CallsBlank g f asked) seen moves asked before words r after words2 → ServesWith gives log n seen moves asked before words r after words2
+  serves_import asked before after words words2 r h =
+      serves_changed (value_steps (CallsBlank g f asked) seen moves asked) (λ b e. e ≡ error.Fault fault.OutOfMemory) (LiftsAsked asked) (λ b params a results. CallsImport gives log n b params (Ok tt) a results)
+      (λ b params why a results. CallsImport gives log n b params (Err why) a results) asked before (λ e is. is) (λ a ws x lifts. lifts)
+      (λ b a params results calls. calls_import asked b a params results (Ok tt) calls) (λ b a params why results calls. calls_import asked b a params results (Err why) calls) after words words2 r h
+
   pub served_import : (asked : Asked) (before after : Parts T G) (words words2 : List ℕ) (r : Result (Vec Val Global) HostError) → ServesInRow g f seen moves asked before words r after words2
       → InRow (λ told. ServesWith gives log n seen moves asked before words told after words2) r
-  served_import asked before after words words2 (Ok values) h = (h.0, h.1, serves_more (CallsBlank g f asked) (CallsImport gives log n) seen moves asked after (calls_import asked) before words words2 (Ok h.0) h.2)
-  served_import asked before after words words2 (Err e) h = serves_more (CallsBlank g f asked) (CallsImport gives log n) seen moves asked after (calls_import asked) before words words2 (Err e) h
+  served_import asked before after words words2 (Ok values) h = (h.0, h.1, serves_import asked before after words words2 (Ok h.0) h.2)
+  served_import asked before after words words2 (Err e) h = serves_import asked before after words words2 (Err e) h
 
   -- of a type that was found
   pub found_import : (ty options : ℕ) (before after : Parts T G) (words words2 : List ℕ) (r : Result (Vec Val Global) HostError) (o : Option TypeFunc) → IfSome o (λ t. ServesInRow g f seen moves (asked_by ty t options) before words r after words2)
@@ -75,7 +83,7 @@ module _ {T G : Type 0} (gives : Giving T) (log : Option (List Entry)) (n : ℕ)
       let back : drop count values ≡ told.results = ap (drop count) row ∙ (ap (λ k. drop k (told.params ++ told.results)) parts ∙ drop-append_seam told.params told.results) in
       ap (λ ps. entry_of n (values_of ps (drop count values))) front ∙ ap (λ rs. entry_of n (values_of told.params rs)) back
 
--- ---- one ask, by what was done
+-- ---- one ask over values, by what was done
 
 module _ {T G : Type 0} (gives : Giving T) (log log2 : Option (List Entry)) (n : ℕ) (seen : G → Seen) (moves : GuestIn G → List Event → GuestIn G → Type 0) (ty options r r2 : ℕ) (before after : Parts T G) (words words2 : List ℕ) where
   -- what was done, by its values in a row
@@ -83,7 +91,7 @@ module _ {T G : Type 0} (gives : Giving T) (log log2 : Option (List Entry)) (n :
   Done result t = InRow (λ told. ServesWith gives log n seen moves (asked_by ty t options) before words told after words2) result
 
   abbrev pub Answered : Result (Unit {0}) HostError → TypeFunc → Type 0
-  Answered result t = ServesImport gives log n seen moves (asked_by ty t options) log2 r r2 before words result after words2
+  Answered result t = ServesForm gives log n seen moves (asked_by ty t options) over_values log2 r r2 before words result after words2
 
   pub logs : (o : Option TypeFunc) (values : Vec Val Global) (count : ℕ) → IfSome o (Done (Ok values)) → IfSome o (λ t. count ≡ member_count (param_members (types_of before) t))
       → log2 ≡ logged log (entry_of n (values_of (take count values.items) (drop count values.items))) → r2 ≡ r → IfSome o (Answered (Ok tt))
@@ -100,13 +108,13 @@ module _ {T G : Type 0} (gives : Giving T) (log log2 : Option (List Entry)) (n :
   faults None e done same count = tt
 
   -- nothing was done since memory ran out
-  pub wants : (o : Option TypeFunc) → after ≡ before → log2 ≡ log → r2 ≡ r → IfSome o (Answered (Err (error.Fault fault.OutOfMemory)))
-  wants (Some t) same none count = (none, count, inl (refl, same))
-  wants None same none count = tt
+  pub wants : (o : Option TypeFunc) → after ≡ before → words2 ≡ words → log2 ≡ log → r2 ≡ r → IfSome o (Answered (Err (error.Fault fault.OutOfMemory)))
+  wants (Some t) same words_same none count = (none, count, inl (refl, same, words_same))
+  wants None same words_same none count = tt
 
 -- ---- what its function gave
 
-module _ {T G : Type 0} (gives : Giving T) (entries : List Entry) (n : ℕ) (seen : G → Seen) (moves : GuestIn G → List Event → GuestIn G → Type 0) (P : Type 0) (gave : (s t : T) (params results : List Val) → gives entries n s params (Ok results) t → P)
+module _ {T G : Type 0} (gives : Giving T) (entries : List Entry) (n : ℕ) (seen : G → Seen) (moves : GuestIn G → List Event → GuestIn G → Type 0) (P : Type 0) (gave : (s t : T) (params results : List Val) → gives.answers entries n s params (Ok results) t → P)
     (before after : Parts T G) (words words2 : List ℕ) where
   gave_in : (asked : Asked) (told : AskValues) → ServesWith gives (Some entries) n seen moves asked before words (Ok told) after words2 → P
   gave_in asked told h = let (params, lifted, lifts, (called, same, c, ends)) = h in gave _ _ _ _ c.may_give.1
@@ -119,3 +127,62 @@ module _ {T G : Type 0} (gives : Giving T) (entries : List Entry) (n : ℕ) (see
 -- a function of the table is found
 pub there : {G T : Type 0} (before : Parts T G) (ty : ℕ) → HasFunc (types_of before) ty → slice_get (types_of before).funcs ty ≢ None
 there before ty inside none = ⊎_elim (λ at. absurd (none-some at.0 (sym none ∙ at.2))) (λ past. absurd (omega (arith, inside, past.0))) (slice_get_cases (types_of before).funcs ty).1
+
+-- ---- one ask over Rust types
+
+module _ {F T G P R : Type 0} (g : StaticClosure F (HostView T) P (Result R HostStop)) (f : F) (types : RustTypes P R) (seen : G → Seen) (moves : GuestIn G → List Event → GuestIn G → Type 0) where
+  calls_unlogged : (b a : Parts T G) (params : P) (r : Result R HostStop) → CallsTyped g f b params r a → CallsUnlogged None b a
+  calls_unlogged b a params r h = record { steps = h.steps; same = h.same; unlogged = refl }
+
+  typed_import : (asked : Asked) (before after : Parts T G) (words words2 : List ℕ) (r : Result (Values P R) HostError) → AreTyped types.fits_params types.fits_results before.component.types asked.func
+      → ServesBy (typed_steps g f types.reading types.walks types.gives seen moves asked) asked before words r after words2 → ServesBy (steps_of_types types None seen moves asked) asked before words r after words2
+  typed_import asked before after words words2 r fits h =
+      serves_changed (typed_steps g f types.reading types.walks types.gives seen moves asked) (Declines types None asked) (LiftsOf types asked) (λ b params a results. CallsUnlogged None b a) (λ b params why a left. CallsUnlogged None b a)
+      asked before (λ e is. inl is) (λ a ws x lifts. (fits, lifts))
+      (λ b a params results calls. calls_unlogged b a params (Ok results) calls) (λ b a params why left calls. calls_unlogged b a params (Err why) calls) after words words2 r h
+
+  module _ (ty options : ℕ) (before after : Parts T G) (words words2 : List ℕ) where
+    -- what `entrypoint` says of a function of a type
+    abbrev pub DoneTyped : Result (Unit {0}) HostError → TypeFunc → Type 0
+    DoneTyped result t = ServesTyped g f types.reading types.walks types.gives seen moves (asked_by ty t options) before words result after words2
+
+    abbrev pub Fits : TypeFunc → Type 0
+    Fits t = AreTyped types.fits_params types.fits_results before.component.types t
+
+    abbrev pub AreOthers : TypeFunc → Type 0
+    AreOthers t = IsOfOthers types before.component.types t
+
+    -- this closure served the ask, or the type was refused
+    abbrev pub ServedTyped : Result (Unit {0}) HostError → TypeFunc → Type 0
+    ServedTyped result t = ServedByTyped g f types seen moves (asked_by ty t options) before words result after words2
+
+    -- which closure served
+    pub served_typed : (o : Option TypeFunc) (result : Result (Unit {0}) HostError) → IfSome o Fits → IfSome o (DoneTyped result) → IfSome o (ServedTyped result)
+    served_typed (Some t) result fits done = inr (fits, done)
+    served_typed None result fits done = tt
+
+    pub declined_typed : (o : Option TypeFunc) → IfSome o AreOthers → after ≡ before → words2 ≡ words → IfSome o (ServedTyped (Err error.Refused))
+    declined_typed (Some t) other same words_same = inl (refl, other, same, words_same)
+    declined_typed None other same words_same = tt
+
+    -- with the counts of refusals
+    module _ (r r2 : ℕ) where
+      abbrev pub AnsweredTyped : Result (Unit {0}) HostError → TypeFunc → Type 0
+      AnsweredTyped result t = ServesTypes types None seen moves (asked_by ty t options) None r r2 before words result after words2
+
+      pub typed_serves : (o : Option TypeFunc) → IfSome o Fits → IfSome o (DoneTyped (Ok tt)) → r2 ≡ r → IfSome o (AnsweredTyped (Ok tt))
+      typed_serves (Some t) fits (told, served) same = (told, typed_import (asked_by ty t options) before after words words2 (Ok told) fits served, refl, same)
+      typed_serves None fits done same = tt
+
+      pub typed_refuses : (o : Option TypeFunc) → IfSome o Fits → IfSome o (DoneTyped (Err error.Refused)) → Rose r r2 → IfSome o (AnsweredTyped (Err error.Refused))
+      typed_refuses (Some t) fits done rose = (refl, rose, typed_import (asked_by ty t options) before after words words2 (Err error.Refused) fits done)
+      typed_refuses None fits done rose = tt
+
+      pub typed_faults : (o : Option TypeFunc) (e : Fault) → IfSome o Fits → IfSome o (DoneTyped (Err (error.Fault e))) → r2 ≡ r → IfSome o (AnsweredTyped (Err (error.Fault e)))
+      typed_faults (Some t) e fits done same = (refl, same, typed_import (asked_by ty t options) before after words words2 (Err (error.Fault e)) fits done)
+      typed_faults None e fits done same = tt
+
+      -- nothing was done since `typecheck` refused the type
+      pub typed_declines : (o : Option TypeFunc) → IfSome o AreOthers → after ≡ before → words2 ≡ words → Rose r r2 → IfSome o (AnsweredTyped (Err error.Refused))
+      typed_declines (Some t) other same words_same rose = (refl, rose, inl (inr (refl, refl, other), same, words_same))
+      typed_declines None other same words_same rose = tt

@@ -2,3 +2,7 @@ pub mod Counts
 pub mod Importing
 pub mod Leaving
 pub mod Serving
+pub mod ServingTyped
+pub mod TypedAsked
+pub mod TypedSteps
+pub mod TypedAnswers

@@ -13,7 +13,7 @@ use Rattle.canon_context.specs.Quiet.{have_block, have_handle}
 use Rattle.canon_context.specs.declared.fault.Fault.{Fault}
 use Rattle.canon_context.specs.declared.host.HostStop.{HostStop}
 use Rattle.canon_context.specs.declared.host.HostView.{HostView}
-use Rattle.canon_ledger.specs.Ledger.{LedgerState, enter, leave}
+use Rattle.canon_ledger.specs.Ledger.{LedgerState, enter}
 use Rattle.canon_lowering.specs.Attempt.{LowersMembers}
 use Rattle.canon_lowering.specs.Lowering.{Ending}
 use Rattle.canon_memory.specs.Guest.{GuestIn, Moment, Seen}
@@ -32,7 +32,8 @@ use Rattle.canon_value.specs.Value.{HaveTrees}
 use Rattle.canon_value.specs.declared.val.Val.{Val}
 use Rattle.canon_value.specs.declared.val.Val.TheVariants as val
 use Rattle.canon_value.proofs.Values.{have_count}
-use Rattle.canon_host.specs.Serves.{Answers, AskValues, Calling, Calls, CallsBlank, Concludes, Ends, InRow, IsPlace, LiftsAsked, LowersGiven, Serves, ServesEntered, ServesInRow, blank, values_of}
+use Rattle.canon_host.specs.Asked.{RestStays, row_words}
+use Rattle.canon_host.specs.Serves.{Answers, AnswersBy, AskValues, Calling, Calls, CallsBlank, Concludes, ConcludesBy, EndsAsk, InRow, LiftsAsked, Lowering, LowersGiven, Serves, ServesBy, ServesEntered, ServesEnteredBy, Steps, Values, blank, value_steps, values_of}
 use Rattle.canon_host.specs.declared.asked.Asked.{Asked}
 use Rattle.canon_host.specs.declared.error.HostError.{HostError}
 use Rattle.canon_host.specs.declared.error.HostError.TheVariants as error
@@ -103,11 +104,23 @@ module _ {T G : Type 0} (seen : G → Seen) (moves : GuestIn G → List Event �
     same = same;
   })
 
-  -- the ask ends
-  pub concluded : (before ended left after : Parts T G) (at : ℕ) (results : List Val) (words words2 : List ℕ) (r : Result (Unit {0}) Fault) → IsPlace (types_of before) asked before.memory words at → Ends before (Ok tt) ended
-      → left ≡ record ended { ledger = leave ended.ledger } → LowersGiven seen moves asked left at results r after words2 → Concludes seen moves asked before results words r after words2
-  concluded before ended left after at results words words2 (Ok x) place ends is h = (at, ended, place, ends, subst (λ k. LowersGiven seen moves asked k at results (Ok tt) after words2) is h)
-  concluded before ended left after at results words words2 (Err e) place ends is h = inr (at, place, inr (ended, ends, subst (λ k. LowersGiven seen moves asked k at results (Err e) after words2) is h))
+-- the words behind the first ones stay
+pub rest_stays : (results : Members) (words ws : List ℕ) (n : ℕ) → n ≡ row_words results → length ws ≡ n → RestStays results words (ws ++ drop n words)
+rest_stays results words ws n is count =
+    ap (λ k. drop k (ws ++ drop n words)) (sym is ∙ sym count) ∙ (drop-append_seam ws (drop n words) ∙ ap (λ k. drop k words) is)
+
+-- the ask ends
+module _ {T G R : Type 0} (L : Lowering T G R) (asked : Asked) where
+  pub concluded : (before left after : Parts T G) (at : ℕ) (results : R) (words words2 : List ℕ) (r : Result (Unit {0}) Fault) → EndsAsk asked before words (Ok at) left → L left at results r after words2
+      → RestStays (result_members (types_of left) asked.func) words words2 → ConcludesBy L asked before results words r after words2
+  concluded before left after at results words words2 (Ok x) (place, (ended, ends, is)) h rest =
+      (at, ended, place, ends, subst (λ k. L k at results (Ok tt) after words2) is h, subst (λ (k : Parts T G). RestStays (result_members (types_of k) asked.func) words words2) is rest)
+  concluded before left after at results words words2 (Err e) (place, (ended, ends, is)) h rest =
+      inr (at, place, inr (ended, ends, subst (λ k. L k at results (Err e) after words2) is h, subst (λ (k : Parts T G). RestStays (result_members (types_of k) asked.func) words words2) is rest))
+
+  pub not_ended : (before after : Parts T G) (results : R) (words : List ℕ) (e : Fault) → EndsAsk asked before words (Err e) after → ConcludesBy L asked before results words (Err e) after words
+  not_ended before after results words e (inl (bad, same)) = inl (bad, same, refl)
+  not_ended before after results words e (inr (at, place, (x, is, ends))) = inr (at, place, inl (x, is, ends, refl))
 
 -- a core whose ledger alone differs
 pub with_ledger : {T G : Type 0} (before after : Parts T G) (l : LedgerState) → after ≡ record before { ledger = after.ledger } → after.ledger ≡ l → after ≡ record before { ledger = l }
@@ -142,16 +155,27 @@ module _ {F T G : Type 0} (g : Closure F (HostView T) Val (Result (Unit {0}) Hos
 
 -- ---- the whole ask
 
+module _ {T G A P R S : Type 0} (how : Steps T G A P R S) (asked : Asked) where
+  pub entered_by : (before lifted after : Parts T G) (words words2 : List ℕ) (params : A) (r : Result (Values P R) HostError) → how.lifts before words (Ok params) lifted
+      → AnswersBy how asked lifted (how.told params) words r after words2 → ServesEnteredBy how asked before words r after words2
+  entered_by before lifted after words words2 params (Ok told) lifts h = (params, lifted, lifts, h)
+  entered_by before lifted after words words2 params (Err e) lifts h = inr (params, lifted, lifts, h)
+
+  pub served_by : (before mid after : Parts T G) (words words2 : List ℕ) (r : Result (Values P R) HostError) → mid ≡ record before { ledger = enter before.ledger }
+      → ServesEnteredBy how asked mid words r after words2 → ServesBy how asked before words r after words2
+  served_by before mid after words words2 (Ok told) is h = subst (λ k. ServesEnteredBy how asked k words (Ok told) after words2) is h
+  served_by before mid after words words2 (Err e) is h = inr (subst (λ k. ServesEnteredBy how asked k words (Err e) after words2) is h)
+
 module _ {T G : Type 0} (C : Calling T G) (seen : G → Seen) (moves : GuestIn G → List Event → GuestIn G → Type 0) (asked : Asked) where
   pub entered : (before lifted after : Parts T G) (words words2 : List ℕ) (params : Vec Val Global) (r : Result (Vec Val Global) HostError) → LiftsAsked asked before words (Ok params) lifted
       → InRow (λ told. Answers C seen moves asked lifted params.items words told after words2) r → InRow (λ told. ServesEntered C seen moves asked before words told after words2) r
-  entered before lifted after words words2 params (Ok values) lifts h = (h.0, h.1, (params, lifted, lifts, h.2))
-  entered before lifted after words words2 params (Err e) lifts h = inr (params, lifted, lifts, h)
+  entered before lifted after words words2 params (Ok values) lifts h = (h.0, h.1, entered_by (value_steps C seen moves asked) asked before lifted after words words2 params (Ok h.0) lifts h.2)
+  entered before lifted after words words2 params (Err e) lifts h = entered_by (value_steps C seen moves asked) asked before lifted after words words2 params (Err e) lifts h
 
   pub served : (before mid after : Parts T G) (words words2 : List ℕ) (r : Result (Vec Val Global) HostError) → mid ≡ record before { ledger = enter before.ledger }
       → InRow (λ told. ServesEntered C seen moves asked mid words told after words2) r → InRow (λ told. Serves C seen moves asked before words told after words2) r
-  served before mid after words words2 (Ok values) is h = (h.0, h.1, subst (λ k. ServesEntered C seen moves asked k words (Ok h.0) after words2) is h.2)
-  served before mid after words words2 (Err e) is h = inr (subst (λ k. ServesEntered C seen moves asked k words (Err e) after words2) is h)
+  served before mid after words words2 (Ok values) is h = (h.0, h.1, served_by (value_steps C seen moves asked) asked before mid after words words2 (Ok h.0) is h.2)
+  served before mid after words words2 (Err e) is h = served_by (value_steps C seen moves asked) asked before mid after words words2 (Err e) is h
 
   -- there are as many parameters as the type has
   pub params_count : (before lifted : Parts T G) (words : List ℕ) (params : Vec Val Global) → LiftsAsked asked before words (Ok params) lifted → length params.items ≡ member_count (param_members (types_of before) asked.func)
@@ -161,15 +185,11 @@ module _ {T G : Type 0} (C : Calling T G) (seen : G → Seen) (moves : GuestIn G
   told_count before after words words2 told h = ap length h.3.1 ∙ params_count (record before { ledger = enter before.ledger }) h.1 words h.0 h.2
 
 -- of the type that was found
-pub found_serves : {F T G : Type 0} (g : Closure F (HostView T) Val (Result (Unit {0}) HostStop)) (f f2 : F) (seen : G → Seen) (moves : GuestIn G → List Event → GuestIn G → Type 0) (asked : Asked)
-    (ty options : ℕ) (before made after : Parts T G) (words words2 words3 : List ℕ) (r : Result (Vec Val Global) HostError) (o : Option TypeFunc) → f ≡ f2 → o ≡ Some asked.func → asked.ty ≡ ty → asked.options ≡ options
-    → ServesInRow g f seen moves asked before words r made words2 → after ≡ made → words3 ≡ words2
-    → IfSome o (λ t. ServesInRow g f2 seen moves (record { ty = ty; func = t; options = options }) before words r after words3)
-found_serves g f f2 seen moves asked ty options before made after words words2 words3 r o ef found ety eopt h ea ew =
-    let told : ServesInRow g f2 seen moves (record { ty = ty; func = asked.func; options = options }) before words r made words2 =
-    subst₂ (λ a b. ServesInRow g f2 seen moves (record { ty = a; func = asked.func; options = b }) before words r made words2) ety eopt (subst (λ x. ServesInRow g x seen moves asked before words r made words2) ef h) in
-    subst (λ p. IfSome p (λ t. ServesInRow g f2 seen moves (record { ty = ty; func = t; options = options }) before words r after words3)) (sym found)
-    (subst₂ (λ k ws. ServesInRow g f2 seen moves (record { ty = ty; func = asked.func; options = options }) before words r k ws) (sym ea) (sym ew) told)
+pub found_at : {Q T G : Type 0} (Is : Q → Asked → Parts T G → List ℕ → Type 0) (f f2 : Q) (asked : Asked) (ty options : ℕ) (made after : Parts T G) (words2 words3 : List ℕ) (o : Option TypeFunc)
+    → f ≡ f2 → o ≡ Some asked.func → asked.ty ≡ ty → asked.options ≡ options → Is f asked made words2 → after ≡ made → words3 ≡ words2 → IfSome o (λ t. Is f2 (record { ty = ty; func = t; options = options }) after words3)
+found_at Is f f2 asked ty options made after words2 words3 o ef found ety eopt h ea ew =
+    let told : Is f2 (record { ty = ty; func = asked.func; options = options }) made words2 = subst₂ (λ a b. Is f2 (record { ty = a; func = asked.func; options = b }) made words2) ety eopt (subst (λ x. Is x asked made words2) ef h) in
+    subst (λ p. IfSome p (λ t. Is f2 (record { ty = ty; func = t; options = options }) after words3)) (sym found) (subst₂ (λ k ws. Is f2 (record { ty = ty; func = asked.func; options = options }) k ws) (sym ea) (sym ew) told)
 
 -- ---- the data of the host
 
@@ -177,25 +197,35 @@ found_serves g f f2 seen moves asked ty options before made after words words2 w
 pub concluded_state : {T G : Type 0} (seen : G → Seen) (moves : GuestIn G → List Event → GuestIn G → Type 0) (asked : Asked) (before after : Parts T G) (results : List Val) (words words2 : List ℕ) (r : Result (Unit {0}) Fault)
     → Concludes seen moves asked before results words r after words2 → after.state ≡ before.state
 concluded_state {T} {G} seen moves asked before after results words words2 (Ok x) h = ap (λ (k : Parts T G). k.state) h.4.same ∙ ap (λ (k : Parts T G). k.state) h.3.1
-concluded_state {T} {G} seen moves asked before after results words words2 (Err e) (inl (none, same)) = ap (λ (k : Parts T G). k.state) same
-concluded_state {T} {G} seen moves asked before after results words words2 (Err e) (inr (at, place, inl (x, is, ends))) = ap (λ (k : Parts T G). k.state) ends.1
-concluded_state {T} {G} seen moves asked before after results words words2 (Err e) (inr (at, place, inr (ended, ends, lowered))) = ap (λ (k : Parts T G). k.state) lowered.same ∙ ap (λ (k : Parts T G). k.state) ends.1
+concluded_state {T} {G} seen moves asked before after results words words2 (Err e) (inl (none, same, words_same)) = ap (λ (k : Parts T G). k.state) same
+concluded_state {T} {G} seen moves asked before after results words words2 (Err e) (inr (at, place, inl (x, is, ends, words_same))) = ap (λ (k : Parts T G). k.state) ends.1
+concluded_state {T} {G} seen moves asked before after results words words2 (Err e) (inr (at, place, inr (ended, ends, lowered, rest))) = ap (λ (k : Parts T G). k.state) lowered.same ∙ ap (λ (k : Parts T G). k.state) ends.1
 
--- what is served by one relation of a call is served by each that holds of the same calls
-module _ {T G : Type 0} (C D : Calling T G) (seen : G → Seen) (moves : GuestIn G → List Event → GuestIn G → Type 0) (asked : Asked) (after : Parts T G)
-    (more : (b a : Parts T G) (params results : List Val) (r : Result (Unit {0}) HostStop) → C b params r a results → D b params r a results) where
-  answers_more : (lifted : Parts T G) (params : List Val) (words words2 : List ℕ) (r : Result AskValues HostError) → Answers C seen moves asked lifted params words r after words2 → Answers D seen moves asked lifted params words r after words2
-  answers_more lifted params words words2 (Ok told) h = (h.0, h.1, more lifted h.0 params told.results (Ok tt) h.2, h.3)
-  answers_more lifted params words words2 (Err e) (inl h) = inl h
-  answers_more lifted params words words2 (Err e) (inr (inl (results, why, is, called))) = inr (inl (results, why, is, more lifted after params results (Err why) called))
-  answers_more lifted params words words2 (Err e) (inr (inr (results, mid, x, is, called, ends))) = inr (inr (results, mid, x, is, more lifted mid params results (Ok tt) called, ends))
+-- what is served by some steps is served by steps that do the same, or more that is so
+module _ {T G A P R S : Type 0} (how : Steps T G A P R S) (Declines : Parts T G → HostError → Type 0) (Lifts : Parts T G → List ℕ → Result A Fault → Parts T G → Type 0) (Gives : Parts T G → P → Parts T G → R → Type 0)
+    (Stops : Parts T G → P → HostStop → Parts T G → S → Type 0) (asked : Asked) (before : Parts T G) (declines : (e : HostError) → how.declines before e → Declines before e)
+    (lift : (a : Parts T G) (words : List ℕ) (r : Result A Fault) → how.lifts (record before { ledger = enter before.ledger }) words r a → Lifts (record before { ledger = enter before.ledger }) words r a)
+    (gives : (b a : Parts T G) (params : P) (results : R) → how.gives b params a results → Gives b params a results)
+    (stops : (b a : Parts T G) (params : P) (why : HostStop) (left : S) → how.stops b params why a left → Stops b params why a left) where
+  -- those steps
+  abbrev pub changed : Steps T G A P R S
+  changed = record how { declines = Declines; lifts = Lifts; gives = Gives; stops = Stops }
 
-  entered_more : (entered : Parts T G) (words words2 : List ℕ) (r : Result AskValues HostError) → ServesEntered C seen moves asked entered words r after words2 → ServesEntered D seen moves asked entered words r after words2
-  entered_more entered words words2 (Ok told) h = (h.0, h.1, h.2, answers_more h.1 h.0.items words words2 (Ok told) h.3)
-  entered_more entered words words2 (Err e) (inl h) = inl h
-  entered_more entered words words2 (Err e) (inr (params, lifted, lifts, h)) = inr (params, lifted, lifts, answers_more lifted params.items words words2 (Err e) h)
+  abbrev begun : Parts T G
+  begun = record before { ledger = enter before.ledger }
 
-  pub serves_more : (before : Parts T G) (words words2 : List ℕ) (r : Result AskValues HostError) → Serves C seen moves asked before words r after words2 → Serves D seen moves asked before words r after words2
-  serves_more before words words2 (Ok told) h = entered_more (record before { ledger = enter before.ledger }) words words2 (Ok told) h
-  serves_more before words words2 (Err e) (inl h) = inl h
-  serves_more before words words2 (Err e) (inr h) = inr (entered_more (record before { ledger = enter before.ledger }) words words2 (Err e) h)
+  answers_by : (lifted after : Parts T G) (params : P) (words words2 : List ℕ) (r : Result (Values P R) HostError) → AnswersBy how asked lifted params words r after words2 → AnswersBy changed asked lifted params words r after words2
+  answers_by lifted after params words words2 (Ok told) (called, is, gave, ends) = (called, is, gives lifted called params told.results gave, ends)
+  answers_by lifted after params words words2 (Err e) (inl h) = inl h
+  answers_by lifted after params words words2 (Err e) (inr (inl (left, why, is, stopped, same))) = inr (inl (left, why, is, stops lifted after params why left stopped, same))
+  answers_by lifted after params words words2 (Err e) (inr (inr (results, called, x, is, gave, ends))) = inr (inr (results, called, x, is, gives lifted called params results gave, ends))
+
+  entered_changed : (after : Parts T G) (words words2 : List ℕ) (r : Result (Values P R) HostError) → ServesEnteredBy how asked begun words r after words2 → ServesEnteredBy changed asked begun words r after words2
+  entered_changed after words words2 (Ok told) (params, lifted, lifts, h) = (params, lifted, lift lifted words (Ok params) lifts, answers_by lifted after (how.told params) words words2 (Ok told) h)
+  entered_changed after words words2 (Err e) (inl (x, is, lifts, same)) = inl (x, is, lift after words (Err x) lifts, same)
+  entered_changed after words words2 (Err e) (inr (params, lifted, lifts, h)) = inr (params, lifted, lift lifted words (Ok params) lifts, answers_by lifted after (how.told params) words words2 (Err e) h)
+
+  pub serves_changed : (after : Parts T G) (words words2 : List ℕ) (r : Result (Values P R) HostError) → ServesBy how asked before words r after words2 → ServesBy changed asked before words r after words2
+  serves_changed after words words2 (Ok told) h = entered_changed after words words2 (Ok told) h
+  serves_changed after words words2 (Err e) (inl (why, same, words_same)) = inl (declines e why, same, words_same)
+  serves_changed after words words2 (Err e) (inr h) = inr (entered_changed after words words2 (Err e) h)

@@ -1,5 +1,5 @@
 -- What is asked for, and with how many words.
-use Rattle.std.specs.Prelude.{IfSome, List, Some, if◌then◌else◌, length, max, nat_le, slice_get, ℕ, ◌+◌, ◌<◌, ◌≡◌, ◌≤◌}
+use Rattle.std.specs.Prelude.{IfSome, List, Some, drop, if◌then◌else◌, length, max, nat_le, slice_get, ℕ, ◌+◌, ◌<◌, ◌≡◌, ◌≤◌}
 use Rattle.canon_model.specs.Flat.{max_results}
 use Rattle.canon_model.specs.Layout.{members_flat}
 use Rattle.canon_model.specs.Shape.{Members}
@@ -38,6 +38,10 @@ pub record AreEnough (params results : Members) (words : List ℕ) : Type 0 wher
   pub given : args_words params ≤ length words
   pub pointer : max_results < members_flat results → args_words params < length words
   pub room : members_flat results ≤ max_results → members_flat results ≤ length words
+
+-- the words behind those that results take in a row stay
+abbrev pub RestStays : Members → List ℕ → List ℕ → Type 0
+RestStays results words words2 = drop (row_words results) words2 ≡ drop (row_words results) words
 
 abbrev pub HasRoom : Table → Asked → List ℕ → Type 0
 HasRoom types asked words = AreEnough (param_members types asked.func) (result_members types asked.func) words

@@ -4,6 +4,7 @@ use Rattle.canon_ledger.specs.Ledger.{LedgerState}
 use Rattle.canon_context.specs.Core.{Parts}
 use Rattle.canon_context.specs.declared.host.HostStop.{HostStop}
 use Rattle.canon_value.specs.declared.val.Val.{Val}
+use Rattle.canon_host.specs.Forms.{Form, RustTypes, over_types, over_values}
 
 -- an ask that was served: the number of its import, its parameters and its results
 pub record Entry : Type 0 where
@@ -21,8 +22,22 @@ outcome (Err why) results = Err why
 
 -- What the function of an import may answer: by the asks that were served before, its number, the data of the store, its parameters, its
 -- results or why it gave none, and the data after.
-abbrev pub Giving : Type 0 → Type 1
-Giving T = List Entry → ℕ → T → List Val → Result (List Val) HostStop → T → Type 0
+abbrev pub Answering : Type 0 → Type 1
+Answering T = List Entry → ℕ → T → List Val → Result (List Val) HostStop → T → Type 0
+
+-- What is said of the functions of imports: what those over values may answer, where the asks that were served are exposed, and by its
+-- number the form of each.
+pub record Giving (T : Type 0) : Type 1 where
+  pub answers : Answering T
+  pub form : ℕ → Form
+
+-- all of them are over values
+abbrev pub gives_values : {T : Type 0} → Answering T → Giving T
+gives_values answers = record { answers = answers; form = λ n. over_values }
+
+-- all of them are over these Rust types
+abbrev pub gives_types : {T P R : Type 0} → RustTypes P R → Giving T
+gives_types types = record { answers = λ log n before params result after. ⊥; form = λ n. over_types types }
 
 -- The data of a store, the ledger of its handles, and what its imports expose: the asks that they served, if they expose them, and how often
 -- they refused one for no fault.

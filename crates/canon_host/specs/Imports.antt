@@ -1,8 +1,11 @@
 -- What the imports of a component do with one ask.
-use Rattle.std.specs.Prelude.{Err, IfSome, List, Ok, Option, Result, [], option_map, ℕ, ◌++◌, ◌∷◌, ◌≡◌}
+use Rattle.std.specs.Prelude.{Err, IfSome, List, None, Ok, Option, Result, Vec, [], min, option_map, ℕ, ◌+◌, ◌++◌, ◌-◌, ◌^◌, ◌∷◌, ◌≡◌, ◌⊎◌}
+use Rattle.std.specs.declared.alloc.Global.{Global}
 use Rattle.canon_context.specs.Core.{Parts}
 use Rattle.canon_ledger.specs.Reached.{ledger_in}
-use Rattle.canon_context.specs.Host.{Closure, HostSteps, IsOutside, Returns}
+use Rattle.canon_context.specs.Host.{Closure, HostSteps, IsOutside, Returns, StaticClosure}
+use Rattle.canon_context.specs.declared.fault.Fault.{Fault}
+use Rattle.canon_context.specs.declared.fault.Fault.TheVariants as fault
 use Rattle.canon_context.specs.declared.host.HostStop.TheVariants as stop
 use Rattle.canon_context.specs.declared.host.HostStop.{HostStop}
 use Rattle.canon_context.specs.declared.host.HostView.{HostView}
@@ -11,8 +14,10 @@ use Rattle.canon_memory.specs.Guest.{GuestIn, Seen}
 use Rattle.canon_memory.specs.declared.event.Event.{Event}
 use Rattle.canon_types.specs.declared.types.TypeFunc.{TypeFunc}
 use Rattle.canon_value.specs.declared.val.Val.{Val}
-use Rattle.canon_host.specs.HostSide.{Entry, Giving, entry, outcome}
-use Rattle.canon_host.specs.Serves.{AskValues, Serves}
+use Rattle.canon_host.specs.Forms.{Form, IsOfOthers, RustTypes, over_types, over_values}
+use Rattle.canon_host.specs.HostSide.{Answering, Entry, Giving, entry, gives_values, outcome}
+use Rattle.canon_host.specs.Serves.{AskValues, Serves, ServesBy, Steps, Values, value_steps}
+use Rattle.canon_host.specs.ServesTyped.{AreTyped, LiftsTyped, ServesTyped, typed_steps_by}
 use Rattle.canon_host.specs.declared.asked.Asked.{Asked}
 use Rattle.canon_host.specs.declared.error.HostError.{HostError}
 use Rattle.canon_host.specs.declared.error.HostError.TheVariants as error
@@ -33,7 +38,13 @@ logged log last = option_map (λ entries. entries ++ last ∷ []) log
 pub record CallsImport {T G : Type 0} (gives : Giving T) (log : Option (List Entry)) (n : ℕ) (before : Parts T G) (params : List Val) (result : Result (Unit {0}) HostStop) (after : Parts T G) (results : List Val) : Type 0 where
   pub steps : HostSteps before.ledger after.ledger
   pub same : after ≡ record before { state = after.state; ledger = after.ledger }
-  pub may_give : IfSome log (λ entries. (after.ledger ≡ before.ledger) × gives entries n before.state params (outcome result results) after.state)
+  pub may_give : IfSome log (λ entries. (after.ledger ≡ before.ledger) × gives.answers entries n before.state params (outcome result results) after.state)
+
+-- The same of a function over Rust types, whose parameters and results are of no values: its imports expose no log.
+pub record CallsUnlogged {T G : Type 0} (log : Option (List Entry)) (before after : Parts T G) : Type 0 where
+  pub steps : HostSteps before.ledger after.ledger
+  pub same : after ≡ record before { state = after.state; ledger = after.ledger }
+  pub unlogged : log ≡ None
 
 -- whatever a function answers to any data and parameters is so, and leaves the ledger
 abbrev pub GivesOnly : {F T : Type 0} → Closure F (HostView T) Val (Result (Unit {0}) HostStop) → F → (T → List Val → Result (List Val) HostStop → T → Type 0) → Type 0
@@ -41,20 +52,64 @@ GivesOnly {F} {T} g f P = (v w : HostView T) (type : TypeFunc) (params slots res
     → (ledger_in w.tables ≡ ledger_in v.tables) × P v.state.now params (outcome r results) w.state.now
 
 -- no function is called: each ask is refused, and nothing changes
+abbrev pub Refuses : {T : Type 0} → Answering T
+Refuses log n before params result after = (result ≡ Err stop.Refused) × (after ≡ before)
+
 abbrev pub RefusesAll : {T : Type 0} → Giving T
-RefusesAll log n before params result after = (result ≡ Err stop.Refused) × (after ≡ before)
+RefusesAll = gives_values Refuses
+
+-- a refusal counts once; the count stays at the last number of a `u64`
+abbrev pub CountsOnce : Result (Unit {0}) HostError → ℕ → ℕ → Type 0
+CountsOnce (Err error.Refused) before after = after ≡ min (before + 1) (2 ^ 64 - 1)
+CountsOnce (Err (error.Fault e)) before after = after ≡ before
+CountsOnce (Ok x) before after = after ≡ before
 
 -- ---- the ask
 
+-- One ask, from one log and count of refusals to the next, served by steps of a form; `Logged` is the log after an ask that was served. The
+-- count rises where the function refused, and stays else.
+module _ {T G A P R S : Type 0} (how : Steps T G A P R S) (Logged : Values P R → Option (List Entry)) (asked : Asked) (log log2 : Option (List Entry)) (refusals refusals2 : ℕ) where
+  abbrev pub ServesLogged : Parts T G → List ℕ → Result (Unit {0}) HostError → Parts T G → List ℕ → Type 0
+  ServesLogged before words (Ok x) after words2 = (told : Values P R) × ServesBy how asked before words (Ok told) after words2 × (log2 ≡ Logged told) × (refusals2 ≡ refusals)
+  ServesLogged before words (Err error.Refused) after words2 = (log2 ≡ log) × Rose refusals refusals2 × ServesBy how asked before words (Err error.Refused) after words2
+  ServesLogged before words (Err (error.Fault e)) after words2 = (log2 ≡ log) × (refusals2 ≡ refusals) × ServesBy how asked before words (Err (error.Fault e)) after words2
+
+-- of Rust types: memory for the scope is wanting, or the function is of other types, which is refused where no log is exposed
+abbrev pub Declines : {T G P R : Type 0} → RustTypes P R → Option (List Entry) → Asked → Parts T G → HostError → Type 0
+Declines types log asked before e = (e ≡ error.Fault fault.OutOfMemory) ⊎ ((e ≡ error.Refused) × (log ≡ None) × IsOfOthers types before.component.types asked.func)
+
+-- the function is of these types, and its parameters are lifted
+abbrev pub LiftsOf : {T G P R : Type 0} → RustTypes P R → Asked → Parts T G → List ℕ → Result P Fault → Parts T G → Type 0
+LiftsOf types asked before words result after = AreTyped types.fits_params types.fits_results before.component.types asked.func × LiftsTyped types.reading asked before words result after
+
+-- It is refused since the function is of other types, and nothing is done; or it is of these, and this closure serves the ask.
+abbrev pub ServedByTyped : {F T G P R : Type 0} → StaticClosure F (HostView T) P (Result R HostStop) → F → RustTypes P R → (G → Seen) → (GuestIn G → List Event → GuestIn G → Type 0) → Asked
+    → Parts T G → List ℕ → Result (Unit {0}) HostError → Parts T G → List ℕ → Type 0
+ServedByTyped g f types seen moves asked before words result after words2 =
+    ((result ≡ Err error.Refused) × IsOfOthers types before.component.types asked.func × (after ≡ before) × (words2 ≡ words))
+    ⊎ (AreTyped types.fits_params types.fits_results before.component.types asked.func × ServesTyped g f types.reading types.walks types.gives seen moves asked before words result after words2)
+
+-- how a function over Rust types is served
+module _ {T G P R : Type 0} (types : RustTypes P R) (log : Option (List Entry)) (seen : G → Seen) (moves : GuestIn G → List Event → GuestIn G → Type 0) (asked : Asked) where
+  abbrev pub steps_of_types : Steps T G P P R (Unit {0})
+  steps_of_types = typed_steps_by (Declines types log asked) (LiftsOf types asked) (λ before params result after. CallsUnlogged log before after) types.walks types.gives seen moves asked
+
+  abbrev pub ServesTypes : Option (List Entry) → ℕ → ℕ → Parts T G → List ℕ → Result (Unit {0}) HostError → Parts T G → List ℕ → Type 0
+  ServesTypes log2 refusals refusals2 = ServesLogged steps_of_types (λ told. log) asked log log2 refusals refusals2
+
 module _ {T G : Type 0} (gives : Giving T) (log : Option (List Entry)) (n : ℕ) (seen : G → Seen) (moves : GuestIn G → List Event → GuestIn G → Type 0) (asked : Asked) where
-  -- the ask was served by such a call
+  -- how a function over values is served
+  abbrev pub steps_of_values : Steps T G (Vec Val Global) (List Val) (List Val) (List Val)
+  steps_of_values = value_steps (CallsImport gives log n) seen moves asked
+
+  -- the ask was served by such a call of a function over values
   abbrev pub ServesWith : Parts T G → List ℕ → Result AskValues HostError → Parts T G → List ℕ → Type 0
   ServesWith before words result after words2 = Serves (CallsImport gives log n) seen moves asked before words result after words2
 
-  -- What is answered, from one log and count of refusals to the next. The count rises where the function refused, and stays else.
+  -- The import was served in its form. The values of an ask over values are added to an exposed log.
+  abbrev pub ServesForm : Form → Option (List Entry) → ℕ → ℕ → Parts T G → List ℕ → Result (Unit {0}) HostError → Parts T G → List ℕ → Type 0
+  ServesForm over_values log2 refusals refusals2 = ServesLogged steps_of_values (λ told. logged log (entry_of n told)) asked log log2 refusals refusals2
+  ServesForm (over_types types) log2 refusals refusals2 = ServesTypes types log seen moves asked log2 refusals refusals2
+
   abbrev pub ServesImport : Option (List Entry) → ℕ → ℕ → Parts T G → List ℕ → Result (Unit {0}) HostError → Parts T G → List ℕ → Type 0
-  ServesImport log2 refusals refusals2 before words (Ok x) after words2 =
-      (told : AskValues) × ServesWith before words (Ok told) after words2 × (log2 ≡ logged log (entry_of n told)) × (refusals2 ≡ refusals)
-  ServesImport log2 refusals refusals2 before words (Err error.Refused) after words2 =
-      (log2 ≡ log) × Rose refusals refusals2 × ServesWith before words (Err error.Refused) after words2
-  ServesImport log2 refusals refusals2 before words (Err (error.Fault e)) after words2 = (log2 ≡ log) × (refusals2 ≡ refusals) × ServesWith before words (Err (error.Fault e)) after words2
+  ServesImport log2 refusals refusals2 before words result after words2 = ServesForm (gives.form n) log2 refusals refusals2 before words result after words2

@@ -1,4 +1,7 @@
 pub mod Asked
+pub mod Forms
 pub mod HostSide
 pub mod Imports
 pub mod Serves
+pub mod ServesTyped
+pub mod TypedAsks

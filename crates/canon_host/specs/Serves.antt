@@ -31,11 +31,97 @@ use Rattle.canon_value.specs.Resources.{Crosses, QuietBut, all_passes}
 use Rattle.canon_value.specs.Value.{HaveTrees}
 use Rattle.canon_value.specs.declared.val.Val.{Val}
 use Rattle.canon_value.specs.declared.val.Val.TheVariants as val
+use Rattle.canon_host.specs.Asked.{RestStays}
 use Rattle.canon_host.specs.declared.asked.Asked.{Asked}
 use Rattle.canon_host.specs.declared.error.HostError.{HostError}
 use Rattle.canon_host.specs.declared.error.HostError.TheVariants as error
 
--- ---- the steps
+-- ---- the steps of every form
+
+-- where the results are to be stored, if they don't go in a row
+abbrev pub IsPlace : Table → Asked → List ℕ → List ℕ → ℕ → Type 0
+IsPlace types asked bytes words at = max_results < members_flat (result_members types asked.func) → IsArea bytes (result_members types asked.func) words (args_words (param_members types asked.func)) at
+
+abbrev pub IsNoPlace : Table → Asked → List ℕ → List ℕ → Fault → Type 0
+IsNoPlace types asked bytes words e = (max_results < members_flat (result_members types asked.func)) × IsNoArea bytes (result_members types asked.func) words (args_words (param_members types asked.func)) e
+
+-- the scope of the ask ends
+abbrev pub Ends : {T G : Type 0} → Parts T G → Result (Unit {0}) ResourceFault → Parts T G → Type 0
+Ends before result after = DidSurely (validate_scope_exit (top_scope before.ledger.handles) before.ledger) result after.ledger × SameButLedger before after
+
+-- The pointer is tested, and the scope ends and is left. It is told where the results are to be stored.
+module _ {T G : Type 0} (asked : Asked) where
+  abbrev pub EndsAsk : Parts T G → List ℕ → Result ℕ Fault → Parts T G → Type 0
+  EndsAsk before words (Ok at) after = IsPlace (types_of before) asked before.memory words at × ((ended : Parts T G) × Ends before (Ok tt) ended × (after ≡ record ended { ledger = leave ended.ledger }))
+  EndsAsk before words (Err e) after =
+      (IsNoPlace (types_of before) asked before.memory words e × (after ≡ before))
+      ⊎ ((at : ℕ) × IsPlace (types_of before) asked before.memory words at × ((x : ResourceFault) × (e ≡ fault.Resource x) × Ends before (Err x) after))
+
+-- How results of the type R are lowered to the first words, or stored at an address: the core before, the address, the results, the answer,
+-- and the core and the words after.
+abbrev pub Lowering : Type 0 → Type 0 → Type 0 → Type 1
+Lowering T G R = Parts T G → ℕ → R → Result (Unit {0}) Fault → Parts T G → List ℕ → Type 0
+
+-- The pointer is tested, the scope ends and is left, and the results are lowered as L says. Words behind those that results take stay, and
+-- all words where it ends before.
+module _ {T G R : Type 0} (L : Lowering T G R) (asked : Asked) where
+  abbrev pub ConcludesBy : Parts T G → R → List ℕ → Result (Unit {0}) Fault → Parts T G → List ℕ → Type 0
+  ConcludesBy before results words (Ok x) after words2 =
+      (at : ℕ) × (ended : Parts T G) × IsPlace (types_of before) asked before.memory words at × Ends before (Ok tt) ended × L (record ended { ledger = leave ended.ledger }) at results (Ok tt) after words2
+      × RestStays (result_members (types_of ended) asked.func) words words2
+  ConcludesBy before results words (Err e) after words2 =
+      (IsNoPlace (types_of before) asked before.memory words e × (after ≡ before) × (words2 ≡ words))
+      ⊎ ((at : ℕ) × IsPlace (types_of before) asked before.memory words at
+      × (((x : ResourceFault) × (e ≡ fault.Resource x) × Ends before (Err x) after × (words2 ≡ words))
+      ⊎ ((ended : Parts T G) × Ends before (Ok tt) ended × L (record ended { ledger = leave ended.ledger }) at results (Err e) after words2 × RestStays (result_members (types_of ended) asked.func) words words2)))
+
+-- How a function in one of its forms is served. Parameters are lifted as a value of the type A; P is what is told of them, R the results,
+-- and S what a call leaves that gives none.
+pub record Steps (T G A P R S : Type 0) : Type 1 where
+  -- why nothing is done, by the core before
+  pub declines : Parts T G → HostError → Type 0
+  -- the parameters are lifted from the first words
+  pub lifts : Parts T G → List ℕ → Result A Fault → Parts T G → Type 0
+  pub told : A → P
+  -- why the function isn't called
+  pub fails : Parts T G → HostError → Parts T G → Type 0
+  -- it is called once, and gives results, or none
+  pub gives : Parts T G → P → Parts T G → R → Type 0
+  pub stops : Parts T G → P → HostStop → Parts T G → S → Type 0
+  pub lowers : Lowering T G R
+
+abbrev pub stopped : HostStop → HostError
+stopped stop.Refused = error.Refused
+stopped stop.OutOfMemory = error.Fault fault.OutOfMemory
+
+-- the values of an ask that was served: its parameters, and the results that the function gave
+pub record Values (P R : Type 0) : Type 0 where
+  pub params : P
+  pub results : R
+
+module _ {T G A P R S : Type 0} (how : Steps T G A P R S) (asked : Asked) where
+  -- The function is called with these parameters, and the ask ends.
+  abbrev pub AnswersBy : Parts T G → P → List ℕ → Result (Values P R) HostError → Parts T G → List ℕ → Type 0
+  AnswersBy before params words (Ok told) after words2 =
+      (called : Parts T G) × (told.params ≡ params) × how.gives before params called told.results × ConcludesBy how.lowers asked called told.results words (Ok tt) after words2
+  AnswersBy before params words (Err e) after words2 =
+      (how.fails before e after × (words2 ≡ words))
+      ⊎ (((left : S) × (why : HostStop) × (e ≡ stopped why) × how.stops before params why after left × (words2 ≡ words))
+      ⊎ ((results : R) × (called : Parts T G) × (x : Fault) × (e ≡ error.Fault x) × how.gives before params called results × ConcludesBy how.lowers asked called results words (Err x) after words2))
+
+  -- its parameters are lifted before
+  abbrev pub ServesEnteredBy : Parts T G → List ℕ → Result (Values P R) HostError → Parts T G → List ℕ → Type 0
+  ServesEnteredBy before words (Err e) after words2 =
+      ((x : Fault) × (e ≡ error.Fault x) × how.lifts before words (Err x) after × (words2 ≡ words))
+      ⊎ ((params : A) × (lifted : Parts T G) × how.lifts before words (Ok params) lifted × AnswersBy lifted (how.told params) words (Err e) after words2)
+  ServesEnteredBy before words result after words2 = (params : A) × (lifted : Parts T G) × how.lifts before words (Ok params) lifted × AnswersBy lifted (how.told params) words result after words2
+
+  -- and a scope is entered before that, unless nothing is done
+  abbrev pub ServesBy : Parts T G → List ℕ → Result (Values P R) HostError → Parts T G → List ℕ → Type 0
+  ServesBy before words (Err e) after words2 = (how.declines before e × (after ≡ before) × (words2 ≡ words)) ⊎ ServesEnteredBy (record before { ledger = enter before.ledger }) words (Err e) after words2
+  ServesBy before words result after words2 = ServesEnteredBy (record before { ledger = enter before.ledger }) words result after words2
+
+-- ---- the steps of a function over values
 
 -- the parameters are lifted from the first words
 abbrev pub LiftsAsked : {T G : Type 0} → Asked → Parts T G → List ℕ → Result (Vec Val Global) Fault → Parts T G → Type 0
@@ -61,17 +147,6 @@ pub record Calls {F T G : Type 0} (g : Closure F (HostView T) Val (Result (Unit 
 abbrev pub CallsBlank : {F T G : Type 0} → Closure F (HostView T) Val (Result (Unit {0}) HostStop) → F → Asked → Parts T G → List Val → Result (Unit {0}) HostStop → Parts T G → List Val → Type 0
 CallsBlank g f asked before params result after results = Calls g f asked before params (blank (types_of before) asked) result after results
 
--- where the results are to be stored, if they don't go in a row
-abbrev pub IsPlace : Table → Asked → List ℕ → List ℕ → ℕ → Type 0
-IsPlace types asked bytes words at = max_results < members_flat (result_members types asked.func) → IsArea bytes (result_members types asked.func) words (args_words (param_members types asked.func)) at
-
-abbrev pub IsNoPlace : Table → Asked → List ℕ → List ℕ → Fault → Type 0
-IsNoPlace types asked bytes words e = (max_results < members_flat (result_members types asked.func)) × IsNoArea bytes (result_members types asked.func) words (args_words (param_members types asked.func)) e
-
--- the scope of the ask ends
-abbrev pub Ends : {T G : Type 0} → Parts T G → Result (Unit {0}) ResourceFault → Parts T G → Type 0
-Ends before result after = DidSurely (validate_scope_exit (top_scope before.ledger.handles) before.ledger) result after.ledger × SameButLedger before after
-
 -- the results are lowered to the first words, or stored at an address
 module _ {T G : Type 0} (seen : G → Seen) (moves : GuestIn G → List Event → GuestIn G → Type 0) (asked : Asked) where
   pub record LowersGiven (before : Parts T G) (at : ℕ) (results : List Val) (result : Result (Unit {0}) Fault) (after : Parts T G) (words : List ℕ) : Type 0 where
@@ -87,25 +162,13 @@ module _ {T G : Type 0} (seen : G → Seen) (moves : GuestIn G → List Event �
     pub moved : Moves seen moves (guest_of before) (guest_of after) (ending_of result)
     pub same : SameButHandles before after
 
-  -- the pointer is tested, the scope ends and is left, and the results are lowered
   abbrev pub Concludes : Parts T G → List Val → List ℕ → Result (Unit {0}) Fault → Parts T G → List ℕ → Type 0
-  Concludes before results words (Ok x) after words2 =
-      (at : ℕ) × (ended : Parts T G) × IsPlace (types_of before) asked before.memory words at × Ends before (Ok tt) ended × LowersGiven (record ended { ledger = leave ended.ledger }) at results (Ok tt) after words2
-  Concludes before results words (Err e) after words2 =
-      (IsNoPlace (types_of before) asked before.memory words e × (after ≡ before))
-      ⊎ ((at : ℕ) × IsPlace (types_of before) asked before.memory words at
-      × (((x : ResourceFault) × (e ≡ fault.Resource x) × Ends before (Err x) after) ⊎ ((ended : Parts T G) × Ends before (Ok tt) ended × LowersGiven (record ended { ledger = leave ended.ledger }) at results (Err e) after words2)))
+  Concludes before results words result after words2 = ConcludesBy LowersGiven asked before results words result after words2
 
 -- ---- all of them
 
-abbrev pub stopped : HostStop → HostError
-stopped stop.Refused = error.Refused
-stopped stop.OutOfMemory = error.Fault fault.OutOfMemory
-
--- the values of an ask that was served: its parameters, and the results that the function gave
-pub record AskValues : Type 0 where
-  pub params : List Val
-  pub results : List Val
+abbrev pub AskValues : Type 0
+AskValues = Values (List Val) (List Val)
 
 abbrev pub values_of : List Val → List Val → AskValues
 values_of params results = record { params = params; results = results }
@@ -115,28 +178,27 @@ abbrev pub InRow : (Result AskValues HostError → Type 0) → Result (Vec Val G
 InRow Is (Ok values) = (told : AskValues) × (values.items ≡ told.params ++ told.results) × Is (Ok told)
 InRow Is (Err e) = Is (Err e)
 
--- the function is called as C says
 module _ {T G : Type 0} (C : Calling T G) (seen : G → Seen) (moves : GuestIn G → List Event → GuestIn G → Type 0) (asked : Asked) where
-  -- It is called with these parameters, and the ask ends. Room for the slots may be wanting.
+  -- the function is called as C says; memory for the scope may be wanting, and room for the slots
+  abbrev pub value_steps : Steps T G (Vec Val Global) (List Val) (List Val) (List Val)
+  value_steps = record {
+    declines = λ before e. e ≡ error.Fault fault.OutOfMemory;
+    lifts = LiftsAsked asked;
+    told = λ params. params.items;
+    fails = λ before e after. (e ≡ error.Fault fault.OutOfMemory) × (after ≡ before);
+    gives = λ before params after results. C before params (Ok tt) after results;
+    stops = λ before params why after results. C before params (Err why) after results;
+    lowers = LowersGiven seen moves asked;
+  }
+
   abbrev pub Answers : Parts T G → List Val → List ℕ → Result AskValues HostError → Parts T G → List ℕ → Type 0
-  Answers before params words (Ok told) after words2 =
-      (called : Parts T G) × (told.params ≡ params) × C before params (Ok tt) called told.results × Concludes seen moves asked called told.results words (Ok tt) after words2
-  Answers before params words (Err e) after words2 =
-      ((e ≡ error.Fault fault.OutOfMemory) × (after ≡ before))
-      ⊎ (((results : List Val) × (why : HostStop) × (e ≡ stopped why) × C before params (Err why) after results)
-      ⊎ ((results : List Val) × (called : Parts T G) × (x : Fault) × (e ≡ error.Fault x) × C before params (Ok tt) called results × Concludes seen moves asked called results words (Err x) after words2))
+  Answers before params words result after words2 = AnswersBy value_steps asked before params words result after words2
 
-  -- its parameters are lifted before
   abbrev pub ServesEntered : Parts T G → List ℕ → Result AskValues HostError → Parts T G → List ℕ → Type 0
-  ServesEntered before words (Err e) after words2 =
-      ((x : Fault) × (e ≡ error.Fault x) × LiftsAsked asked before words (Err x) after)
-      ⊎ ((params : Vec Val Global) × (lifted : Parts T G) × LiftsAsked asked before words (Ok params) lifted × Answers lifted params.items words (Err e) after words2)
-  ServesEntered before words result after words2 = (params : Vec Val Global) × (lifted : Parts T G) × LiftsAsked asked before words (Ok params) lifted × Answers lifted params.items words result after words2
+  ServesEntered before words result after words2 = ServesEnteredBy value_steps asked before words result after words2
 
-  -- and a scope is entered before that, for which memory may be wanting
   abbrev pub Serves : Parts T G → List ℕ → Result AskValues HostError → Parts T G → List ℕ → Type 0
-  Serves before words (Err e) after words2 = ((e ≡ error.Fault fault.OutOfMemory) × (after ≡ before)) ⊎ ServesEntered (record before { ledger = enter before.ledger }) words (Err e) after words2
-  Serves before words result after words2 = ServesEntered (record before { ledger = enter before.ledger }) words result after words2
+  Serves before words result after words2 = ServesBy value_steps asked before words result after words2
 
 -- a function over values does so, and gives the values of the ask in a row
 abbrev pub ServesInRow : {F T G : Type 0} → Closure F (HostView T) Val (Result (Unit {0}) HostStop) → F → (G → Seen) → (GuestIn G → List Event → GuestIn G → Type 0) → Asked

@@ -4,11 +4,11 @@ ghost use Rattle.std.specs.Prelude.{◌≡◌, ◌≤◌, ◌<◌, IfErr, IfOk, 
 ghost use Rattle.canon_model.specs.Flat.{max_results};
 ghost use Rattle.canon_model.specs.Layout.{members_flat};
 ghost use Rattle.canon_model.specs.Shape.{member_count};
-ghost use Rattle.canon_types.specs.Table.{tuple_members};
+ghost use Rattle.canon_types.specs.Table.{result_members, tuple_members};
 ghost use Rattle.canon_context.specs.Asks.{SameButHandles};
-ghost use Rattle.canon_context.specs.Core.{types_of};
-ghost use Rattle.canon_host.specs.Asked.{HasRoom, IsAsked};
-ghost use Rattle.canon_host.specs.Serves.{Concludes, IsPlace, IsNoPlace, LowersGiven};
+ghost use Rattle.canon_context.specs.Core.{SameButLedger, types_of};
+ghost use Rattle.canon_host.specs.Asked.{HasRoom, IsAsked, RestStays};
+ghost use Rattle.canon_host.specs.Serves.{Concludes, EndsAsk, IsNoPlace, IsPlace, LowersGiven};
 
 use crate::Asked;
 use crate::asked::{first_words, params_words, results_words};
@@ -28,6 +28,24 @@ pub(crate) fn conclude<T, G: Guest>(
     ensures concludes { Concludes G.seen G.moves asked.now core.old results.now storage.old result core.new storage.new }
     ensures same { SameButHandles core.old core.new }
 {
+    match end_ask(core, asked, storage) {
+        Ok(at) => lower(core, asked, at, results, storage),
+        Err(fault) => Err(fault),
+    }
+}
+
+/// Tests the pointer for the results, ends the scope of the ask and leaves it. Answers the address at which results are to be stored that
+/// don't go in a row.
+pub(crate) fn end_ask<T, G>(
+    core: &mut Core<T, G>,
+    asked: &Asked,
+    storage: &[ValRaw],
+) -> Result<u64, Fault>
+    requires asked { IsAsked core.old.component asked.now }
+    requires room { HasRoom (types_of core.old) asked.now storage.now }
+    ensures ends { EndsAsk asked.now core.old storage.now result core.new }
+    ensures same { SameButLedger core.old core.new }
+{
     let at = match place_of(core, asked, storage) {
         Ok(at) => at,
         Err(fault) => return Err(fault),
@@ -36,7 +54,7 @@ pub(crate) fn conclude<T, G: Guest>(
         return Err(Fault::Resource(fault));
     }
     core.leave();
-    lower(core, asked, at, results, storage)
+    Ok(at)
 }
 
 /// The address at which results are to be stored that don't go in a row; the last of an ask's words gives it.
@@ -67,6 +85,7 @@ fn lower<T, G: Guest>(
     requires place { IsPlace (types_of core.old) asked.now core.old.memory storage.old at }
     requires count { length results.now ≡ member_count (tuple_members (types_of core.old) asked.now.func.results) }
     ensures lowers { LowersGiven G.seen G.moves asked.now core.old at results.now result core.new storage.new }
+    ensures rest { RestStays (result_members (types_of core.old) asked.now.func) storage.old storage.new }
     ensures same { SameButHandles core.old core.new }
 {
     let tuple = asked.func.results;

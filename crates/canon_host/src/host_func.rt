@@ -1,6 +1,7 @@
 //! Functions of the host.
 
 ghost use Rattle.std.specs.Prelude.{◌≡◌, IfErr, IfSome, List, OnOk, Result, false, slice_get, true, ℕ};
+ghost use Rattle.canon_types.specs.Instance.{Instance};
 ghost use Rattle.canon_types.specs.Table.{HasFunc};
 ghost use Rattle.canon_context.specs.Component.{HasOptions};
 ghost use Rattle.canon_context.specs.Core.{Parts, types_of};
@@ -26,6 +27,9 @@ pub trait HostFn<T, G: Guest> {
     /// It may be called, and keeps what it must.
     ghost ready: { Self → Type 0 };
 
+    /// It may serve asks for functions of this type of an instance.
+    ghost fits: { Self → Instance → ℕ → Type 0 };
+
     /// What is asked for, the core and the words before, the answer, and the core and the words after.
     ghost serves: { Self → Asked → Parts T G → List ℕ → Result Self.Log HostError → Parts T G → List ℕ → Type 0 };
 
@@ -36,6 +40,7 @@ pub trait HostFn<T, G: Guest> {
         storage: &mut [ValRaw],
     ) -> Result<Self::Log, HostError>
         requires ready { ready self.now }
+        requires fits { fits self.now cx.core.now.component.types cx.ty }
         requires func { HasFunc (types_of cx.core.now) cx.ty }
         requires options { HasOptions cx.core.now.component cx.options }
         requires room { HasRoomFor (types_of cx.core.now) cx.ty storage.old }
@@ -72,6 +77,8 @@ impl<
 
     ghost ready = { λ f. Keeps F.Fn f };
 
+    ghost fits = { λ f i ty. Unit {0} };
+
     ghost serves = { λ f asked before words r after words2. ServesInRow F.Fn f G.seen G.moves asked before words r after words2 };
 
     fn serve(
@@ -81,6 +88,7 @@ impl<
         storage: &mut [ValRaw],
     ) -> Result<Vec<Val>, HostError>
         requires ready { Keeps F.Fn self.now }
+        requires fits { Unit {0} }
         requires func { HasFunc (types_of cx.core.now) cx.ty }
         requires options { HasOptions cx.core.now.component cx.options }
         requires room { HasRoomFor (types_of cx.core.now) cx.ty storage.old }
@@ -96,7 +104,7 @@ impl<
 /// A function of the host. Contracts see its form.
 #[derive(Drop)]
 pub struct HostFunc<H> {
-    h: H,
+    pub(crate) h: H,
 }
 
 impl<H> Model for HostFunc<H> {
@@ -139,6 +147,7 @@ impl<H> HostFunc<H> {
     where
         H: HostFn<T, G>,
         requires ready { H.ready self.now }
+        requires fits { H.fits self.now cx.core.now.component.types cx.ty }
         requires func { HasFunc (types_of cx.core.now) cx.ty }
         requires options { HasOptions cx.core.now.component cx.options }
         requires room { HasRoomFor (types_of cx.core.now) cx.ty storage.old }

@@ -5,6 +5,7 @@ ghost use Rattle.canon_types.specs.Table.{HasFunc};
 ghost use Rattle.canon_context.specs.Component.{HasOptions};
 ghost use Rattle.canon_context.specs.Core.{types_of};
 ghost use Rattle.canon_host.specs.Asked.{HasRoomFor};
+ghost use Rattle.canon_host.specs.Forms.{IsLawful};
 ghost use Rattle.canon_host.specs.HostSide.{Entry, Giving};
 ghost use Rattle.canon_host.specs.Imports.{ServesImport};
 
@@ -28,8 +29,9 @@ pub trait Imports<T, G: Guest> {
     /// How many asks were refused for no fault.
     ghost refusals: { Self → ℕ };
 
-    /// By this plan and the log so far, the function of an import may answer so: for the data of the store and these parameters with
-    /// these results, also where they aren't of their types, or with why there are none, leaving this data.
+    /// By this plan and the log so far, the function of an import over values may answer so: for the data of the store and these
+    /// parameters with these results, also where they aren't of their types, or with why there are none, leaving this data. And by this
+    /// plan the import of a number has this form. Functions over Rust types expose no log.
     ghost gives: { Self.Plan → Giving T };
 
     /// Serves one ask of the import of this number.
@@ -49,4 +51,7 @@ pub trait Imports<T, G: Guest> {
         ensures refusals { refusals self.old ≤ refusals self.new }
         ensures serves { IfSome (slice_get (types_of cx.entry.core.now).funcs cx.entry.ty) (λ t. ServesImport (gives (plan self.old)) (log self.old) n G.seen G.moves (record { ty = cx.entry.ty; func = t; options = cx.entry.options }) (log self.new) (refusals self.old) (refusals self.new) cx.entry.core.now storage.old result cx.exit.0.now storage.new) }
         ensures same { cx.exit.0.now ≡ record cx.entry.core.now { state = cx.exit.0.now.state; guest = cx.exit.0.now.guest; memory = cx.exit.0.now.memory; ledger = cx.exit.0.now.ledger } };
+
+    // those over Rust types keep the laws of the traits `ComponentType`, `Lift` and `Lower`
+    ghost lawful: { (p : Self.Plan) (n : ℕ) → IsLawful ((gives p).form n) };
 }

@@ -6,8 +6,12 @@ mod conclude;
 mod error;
 mod host_func;
 mod imports;
+mod laws;
 mod no_imports;
 mod serve;
+mod serve_typed;
+mod static_host;
+mod typed_import;
 
 pub use asked::{
     Asked, HostCx, asked_of, asked_words, first_words, param_count, storage_for, storage_words,
@@ -17,4 +21,7 @@ pub use canon_named::TypecheckFailed;
 pub use error::HostError;
 pub use host_func::{DynamicHostFn, HostFn, HostFunc};
 pub use imports::Imports;
+pub use laws::{typed_answers_are_represented, typed_ask_is_steps, typed_asks_are_exact};
 pub use no_imports::NoImports;
+pub use static_host::StaticHostFn;
+pub use typed_import::serve_typed_import;

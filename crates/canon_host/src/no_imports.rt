@@ -6,7 +6,7 @@ ghost use Rattle.canon_context.specs.Component.{HasOptions};
 ghost use Rattle.canon_context.specs.Core.{types_of};
 ghost use Rattle.canon_context.specs.Host.{Keeps};
 ghost use Rattle.canon_host.specs.Asked.{HasRoomFor};
-ghost use Rattle.canon_host.specs.Imports.{GivesOnly, RefusesAll, ServesWith};
+ghost use Rattle.canon_host.specs.Imports.{GivesOnly, Refuses, RefusesAll, ServesWith};
 
 use crate::{DynamicHostFn, HostCx, HostError, HostFunc, HostStop, HostView, Imports};
 use canon_memory::{Guest, ValRaw};
@@ -40,7 +40,7 @@ fn refuse_by<
     storage: &mut [ValRaw],
 ) -> HostError
     requires keeps { Keeps F.Fn func.now }
-    requires gives { GivesOnly F.Fn func.now (RefusesAll [] 0) }
+    requires gives { GivesOnly F.Fn func.now (Refuses [] 0) }
     requires func { HasFunc (types_of cx.core.now) cx.ty }
     requires options { HasOptions cx.core.now.component cx.options }
     requires room { HasRoomFor (types_of cx.core.now) cx.ty storage.old }
@@ -116,4 +116,6 @@ impl<T, G: Guest> Imports<T, G> for NoImports {
             HostError::Fault(fault) => Err(HostError::Fault(fault)),
         }
     }
+
+    ghost lawful = { λ plan n. tt {0} };
 }

@@ -3,10 +3,10 @@
 ghost use Rattle.std.specs.Prelude.{◌≡◌, ◌≤◌, ◌^◌, IfSome, length, slice_get};
 ghost use Rattle.canon_types.specs.Table.{HasFunc};
 ghost use Rattle.canon_context.specs.Core.{types_of};
-ghost use Rattle.canon_context.specs.Host.{Gave, HostSteps, Keeps, lenders_in};
+ghost use Rattle.canon_context.specs.Host.{Gave, HostSteps, Keeps, StaticGave, StaticKeeps, lenders_in};
 
 use super::Core;
-use crate::host::call;
+use crate::host::{call, call_static};
 use crate::{HostStop, HostView, MemoryView};
 use canon_ledger::{HostResourceTables, KnownTypes, ResourceTables};
 use canon_types::{TypeFunc, TypeFuncIndex};
@@ -55,5 +55,35 @@ impl<T, G> Core<T, G> {
             },
         };
         call(f, &mut view, &func, params, results)
+    }
+
+    /// The same of a function over Rust types.
+    pub fn host_call_static<P, R, F: Fn(&mut HostView<'_, '_, T>, P) -> Result<R, HostStop>>(
+        &mut self,
+        f: &F,
+        params: P,
+    ) -> Result<R, HostStop>
+        requires keeps { StaticKeeps F.Fn f.now }
+        ensures gave { StaticGave F.Fn f.now self.old self.new params result }
+        ensures steps { HostSteps self.old.ledger self.new.ledger }
+        ensures scopes { lenders_in self.new.ledger ≡ lenders_in self.old.ledger }
+        ensures same { self.new ≡ record self.old { state = self.new.state; ledger = self.new.ledger } }
+    {
+        let mut view = HostView {
+            state: &mut self.state,
+            tables: HostResourceTables {
+                tables: ResourceTables {
+                    ledger: &mut self.ledger,
+                    types: KnownTypes::none(),
+                    current_scope: None,
+                },
+            },
+            memory: MemoryView {
+                bytes: self.memory.as_slice(),
+                component: &self.component,
+                id: self.id,
+            },
+        };
+        call_static(f, &mut view, params)
     }
 }

@@ -11,9 +11,9 @@ use Rattle.canon_types.specs.declared.types.InterfaceType.TheVariants as ty
 use Rattle.canon_value.proofs.Far.{tuple_shape_of_now}
 use Rattle.canon_value.proofs.Pointed.{tuple_align, tuple_size}
 use Rattle.canon_args.proofs.Areas.{area_misaligned, area_outside}
-use Rattle.canon_args.proofs.results.lift_heap_result.Given.{Over}
-use Rattle.canon_args.proofs.results.lift_heap_result.Goals.{After-tuple}
-use Rattle.canon_args.proofs.results.lift_heap_result.Goals as goal
+use Rattle.canon_args.proofs.passed.lift_pointed.Given.{Over}
+use Rattle.canon_args.proofs.passed.lift_pointed.Goals.{After-tuple}
+use Rattle.canon_args.proofs.passed.lift_pointed.Goals as goal
 
 -- the shape of the tuple
 shape : (g : Over) (c : After-tuple g) → shape_of c.types.result.now (ty.Tuple c.args.ty) ≡ product of_places (tuple_members (types_of c.args.cx.now.core.now) c.args.ty)
@@ -31,7 +31,7 @@ returns-then-at-from-ne0-clause-lifts g c =
     let found : c.index-src-0.result ≡ slice_index c.args.src.now 0 = c.index-src-0.is ∙ get_or_default c.args.src.now 0 _ 0 (omega (arith, c.requires.word)) in
     let there : c.from-at.result ≡ low (slice_index c.args.src.now 0) = c.from-at.ensures ∙ (c.get_u32.ensures ∙ ap low found) in
     let by_align : c.from.result ≡ align false (product of_places ms) = c.from.ensures ∙ tuple_align _ _ _ c.tuple.ensures.abi is in
-    area_misaligned g.R.Lift.reading (setting_in core c.args.cx.now.options) c.args.src.now (product of_places ms) core.ledger c.args.cx.now.fuel c.from-at.result there
+    area_misaligned g.V.Lift.reading (setting_in core c.args.cx.now.options) c.args.src.now (product of_places ms) core.ledger c.args.cx.now.fuel c.from-at.result there
     (subst (λ (n : ℕ). c.from-at.result % n ≡ 0 → ⊥) by_align c.if-at-from-ne0.true)
 
 pub returns-then-at-from-clause-lifts : goal.returns-then-at-from-clause-lifts
@@ -43,5 +43,5 @@ returns-then-at-from-clause-lifts g c =
     let found : c.index-src-0.result ≡ slice_index c.args.src.now 0 = c.index-src-0.is ∙ get_or_default c.args.src.now 0 _ 0 (omega (arith, c.requires.word)) in
     let there : c.from-at.result ≡ low (slice_index c.args.src.now 0) = c.from-at.ensures ∙ (c.get_u32.ensures ∙ ap low found) in
     let by_size : c.from-2.result ≡ size false (product of_places ms) = c.from-2.ensures ∙ tuple_size _ _ _ c.tuple.ensures.abi is in
-    area_outside g.R.Lift.reading (setting_in core c.args.cx.now.options) c.args.src.now (product of_places ms) core.ledger c.args.cx.now.fuel c.from-at.result there
+    area_outside g.V.Lift.reading (setting_in core c.args.cx.now.options) c.args.src.now (product of_places ms) core.ledger c.args.cx.now.fuel c.from-at.result there
     (subst (λ (n : ℕ). c.from-at.result % n ≡ 0) (c.from.ensures ∙ tuple_align _ _ _ c.tuple.ensures.abi is) c.if-at-from-ne0.false) (λ inside. omega (arith, inside, by_size, c.if-at-from.true, ap length c.memory.ensures))

@@ -1,0 +1,142 @@
+-- What an ask that a function over Rust types serves is answered with.
+use Rattle.std.proofs.Common.{List, Ok, Option, Result, ap, arith, inl, inr, refl, subst, sym, true, ⊎_elim, ℕ, ◌<◌, ◌∙◌, ◌∷◌, ◌≡◌, ◌≤◌, []}
+use Rattle.std.specs.Prelude.{false, take}
+use Rattle.std.proofs.lemmas.Bool.{cases_lt}
+use Rattle.canon_args.specs.Params.{InParts}
+use Rattle.canon_args.specs.Results.{StoresTuple}
+use Rattle.canon_context.specs.Core.{Parts, encoding_by, moment_of, types_of}
+use Rattle.canon_context.specs.Host.{StaticClosure}
+use Rattle.canon_context.specs.declared.host.HostStop.{HostStop}
+use Rattle.canon_context.specs.declared.host.HostView.{HostView}
+use Rattle.canon_host.proofs.TypedSteps.{was_called}
+use Rattle.canon_host.specs.Serves.{Ends, IsPlace}
+use Rattle.canon_host.specs.ServesTyped.{CallsTyped, LiftsTyped, LowersTyped}
+use Rattle.canon_host.specs.TypedAsks.{AskAnswered, ServedIsAnswered, WasCalled, given_parts}
+use Rattle.canon_host.specs.declared.asked.Asked.{Asked}
+use Rattle.canon_leaves.specs.Parts.{LeavesTake, Part}
+use Rattle.canon_ledger.specs.Handles.{top_scope}
+use Rattle.canon_ledger.specs.Ledger.{ExitScope, LedgerState, do_step, enter, leave}
+use Rattle.canon_lift.specs.Reading.{AreTaken, Reading}
+use Rattle.canon_lower.specs.Lowers.{EndsBy}
+use Rattle.canon_lowering.specs.Attempt.{AreHeld, LowersMembers, handle_numbers, value_place}
+use Rattle.canon_lowering.specs.Lowering.{AllLawful, Ending, Requested, Trap, done}
+use Rattle.canon_lowering.specs.Storing.{narrow}
+use Rattle.canon_memory.specs.Guest.{GuestIn, Seen}
+use Rattle.canon_memory.specs.declared.event.Event.{Event}
+use Rattle.canon_model.proofs.Frames.{blocks_are_read}
+use Rattle.canon_model.specs.Flat.{RepFlatAt, max_results}
+use Rattle.canon_model.specs.Layout.{members_flat}
+use Rattle.canon_model.specs.Leaves.{members_leaves}
+use Rattle.canon_model.specs.Rep.{RepMem}
+use Rattle.canon_model.specs.Requests.{members_requests}
+use Rattle.canon_model.specs.Shape.{Members, Shape, of_places, product}
+use Rattle.canon_model.specs.Text.{Encoding}
+use Rattle.canon_model.specs.Tree.{Tree, parts}
+use Rattle.canon_types.specs.Instance.{Instance}
+use Rattle.canon_types.specs.Table.{result_members}
+
+done_by : (gives : List (List Part)) (ending : Ending) → EndsBy {T = Unit {0}} gives (Ok tt) ending → ending ≡ done
+done_by gives ending (inl is) = is
+done_by gives ending (inr (is, some, refused)) = absurd (cc)
+
+module _ {F T G P R : Type 0} (g : StaticClosure F (HostView T) P (Result R HostStop)) (f : F) (reading : Reading P) (walks : R → Tree → Type 0) (gives : Instance → Shape → R → List (List Part))
+    (seen : G → Seen) (moves : GuestIn G → List Event → GuestIn G → Type 0) where
+  module _ (asked : Asked) (before after : Parts T G) (words words2 : List ℕ) (params : P) (results : R) (lifted called : Parts T G) (was : WasCalled g f reading walks gives seen moves asked before words params (Ok results) lifted called)
+      (at : ℕ) (place : IsPlace (types_of before) asked before.memory words at) (ended : LedgerState) (left : ended ≡ (do_step (ExitScope (top_scope called.ledger.handles)) called.ledger).after)
+      (h : LowersTyped seen moves walks gives asked (record before { state = called.state; ledger = leave ended }) at results (Ok tt) after words2) where
+    abbrev ms : Members
+    ms = result_members (types_of before) asked.func
+
+    abbrev s : Shape
+    s = product of_places ms
+
+    abbrev enc : Encoding
+    enc = encoding_by before asked.options
+
+    is_done : h.ending ≡ done
+    is_done = done_by (given_parts gives asked before results) h.ending h.ends
+
+    -- the handles of what was lowered are those that the ledger gave
+    given_so : (hs : List ℕ) → hs ≡ h.handles → LeavesTake (leave (do_step (ExitScope (top_scope called.ledger.handles)) called.ledger).after) (given_parts gives asked before results) hs after.ledger
+    given_so hs is = subst (λ (ks : List ℕ). LeavesTake (leave (do_step (ExitScope (top_scope called.ledger.handles)) called.ledger).after) (given_parts gives asked before results) ks after.ledger) (sym is)
+        (subst (λ (l : LedgerState). LeavesTake (leave l) (given_parts gives asked before results) h.handles after.ledger) left h.passed)
+
+    -- ---- in a row
+
+    in_row : members_flat ms ≤ max_results → LowersMembers false (moment_of seen before) (moment_of seen after) enc ms (take (members_flat ms) words2) 0 (InParts (walks results)) h.handles done
+    in_row few = subst (λ e. LowersMembers false (moment_of seen before) (moment_of seen after) enc ms (take (members_flat ms) words2) 0 (InParts (walks results)) h.handles e) is_done (h.lowered.near few)
+
+    row_shown : (few : members_flat ms ≤ max_results) → AllLawful (in_row few).answers → RepFlatAt true enc (narrow after.memory) (take (members_flat ms) words2) 0 s (parts (in_row few).shown.it)
+    row_shown few lawful = blocks_are_read.flat (in_row few).fresh true enc (narrow after.memory) (take (members_flat ms) words2) 0 s (parts (in_row few).shown.it)
+        ((in_row few).shown.it, refl, (in_row few).shown.rep lawful (inl (λ i none. absurd none)))
+
+    row_answered : members_flat ms ≤ max_results → AskAnswered g f reading walks gives seen moves asked before after words words2
+    row_answered few = record {
+      params = params;
+      results = results;
+      lifted = lifted;
+      called = called;
+      was = was;
+      at = at;
+      place = place;
+      trees = (in_row few).shown.it;
+      walked = (in_row few).shown.is;
+      answers = (in_row few).answers;
+      marks = (in_row few).lowering.goes.marks;
+      requested = subst (λ (t : Option Trap). Requested (members_requests false enc ms (in_row few).shown.it) done (in_row few).answers t) (in_row few).lowering.cause
+          ((in_row few).requested (in_row few).shown.it (in_row few).shown.is);
+      given = given_so (handle_numbers (members_leaves ms (in_row few).shown.it)) (in_row few).shown.handles;
+      near = λ n. row_shown few;
+      far = λ many. absurd (omega (arith, few, many));
+    }
+
+    -- ---- by a pointer
+
+    in_area : max_results < members_flat ms → StoresTuple (moment_of seen before) (moment_of seen after) enc ms at (InParts (walks results)) h.handles done
+    in_area many = subst (λ e. StoresTuple (moment_of seen before) (moment_of seen after) enc ms at (InParts (walks results)) h.handles e) is_done (h.lowered.far many)
+
+    area_shown : (many : max_results < members_flat ms) → AllLawful (in_area many).answers → AreHeld (moment_of seen before) (in_area many).answers (value_place false s at ∷ [])
+        → RepMem true enc (narrow after.memory) at s (parts (in_area many).shown.it)
+    area_shown many lawful held = blocks_are_read.memory (value_place false s at ∷ (in_area many).fresh) true enc (narrow after.memory) at s (parts (in_area many).shown.it)
+        ((omega (arith, (place many).2, (in_area many).lowering.goes.no_shorter), λ i l u. inl (l, u)), ((in_area many).shown.it, refl, (in_area many).shown.rep lawful held))
+
+    area_answered : max_results < members_flat ms → AskAnswered g f reading walks gives seen moves asked before after words words2
+    area_answered many = record {
+      params = params;
+      results = results;
+      lifted = lifted;
+      called = called;
+      was = was;
+      at = at;
+      place = place;
+      trees = (in_area many).shown.it;
+      walked = (in_area many).shown.is;
+      answers = (in_area many).answers;
+      marks = (in_area many).lowering.goes.marks;
+      requested = subst (λ (t : Option Trap). Requested (members_requests false enc ms (in_area many).shown.it) done (in_area many).answers t) (in_area many).lowering.cause
+          ((in_area many).requested (in_area many).shown.it (in_area many).shown.is);
+      given = given_so (handle_numbers (members_leaves ms (in_area many).shown.it)) (in_area many).shown.handles;
+      near = λ few. absurd (omega (arith, few, many));
+      far = λ n. area_shown many;
+    }
+
+    pub lowered_answered : AskAnswered g f reading walks gives seen moves asked before after words words2
+    lowered_answered = ⊎_elim area_answered row_answered (cases_lt max_results (members_flat ms))
+
+  -- the core once the scope ended
+  ended_core : (asked : Asked) (before lifted called ended : Parts T G) (words : List ℕ) (params : P) (results : R) → LiftsTyped reading asked (record before { ledger = enter before.ledger }) words (Ok params) lifted
+      → CallsTyped g f lifted params (Ok results) called → Ends called (Ok tt) ended → ended ≡ record before { state = called.state; ledger = ended.ledger }
+  ended_core asked before lifted called ended words params results lifts calls e =
+      e.1 ∙ (ap (λ (x : Parts T G). record x { ledger = ended.ledger }) calls.same ∙ ap (λ (x : Parts T G). record x { state = called.state; ledger = ended.ledger }) lifts.1)
+
+  called_core : (asked : Asked) (before lifted called : Parts T G) (words : List ℕ) (params : P) (results : R) → LiftsTyped reading asked (record before { ledger = enter before.ledger }) words (Ok params) lifted
+      → CallsTyped g f lifted params (Ok results) called → called ≡ record before { state = called.state; ledger = called.ledger }
+  called_core asked before lifted called words params results lifts calls = calls.same ∙ ap (λ (x : Parts T G). record x { state = called.state; ledger = called.ledger }) lifts.1
+
+  pub served_answered : AreTaken reading → ServedIsAnswered g f reading walks gives seen moves
+  served_answered law asked before after words words2 (told, (params, lifted, lifts, (called, same, calls, (at, ended, place, e, lowers, rest)))) =
+      lowered_answered asked before after words words2 params told.results lifted called
+      (was_called g f reading walks gives seen moves law asked before after words words2 params (Ok told.results) lifted called lifts calls) at
+      (subst (λ (x : Parts T G). IsPlace (types_of x) asked x.memory words at) (called_core asked before lifted called words params told.results lifts calls) place) ended.ledger e.0.1
+      (subst (λ (x : Parts T G). LowersTyped seen moves walks gives asked (record x { ledger = leave ended.ledger }) at told.results (Ok tt) after words2)
+      (ended_core asked before lifted called ended words params told.results lifts calls e) lowers)
