@@ -27,13 +27,16 @@ use Rattle.canon_host.specs.Asked.{IsAsked}
 use Rattle.canon_host.specs.declared.asked.Asked.{Asked}
 use Rattle.canon_func.specs.Asks.{AskStops, IsAskOf, IsServed, Limits, ask_step, builtin_of, host_words, import_words}
 use Rattle.canon_host.specs.Asked.{row_words}
-use Rattle.canon_func.specs.HostAsks.{HostStops, IsHostAsk, IsHostServed, NothingAsked, asked_error, asked_results}
+use Rattle.canon_func.specs.AskForms.{ask_at}
+use Rattle.canon_func.specs.HostAsks.{HostStops, IsHostAsk, IsHostServed, NothingAsked, asked_error}
+use Rattle.canon_func.specs.AskValues.{asked_results}
 use Rattle.canon_func.specs.Runs.{answers_in}
 use Rattle.canon_func.specs.Steps.{MayRun, HostAsked, Proceeds, Resumed, Resumes, RisesAt, SameButHost, Serves, Serving, Started, Stepping, TrapsLate, ask_turn, so_far}
 use Rattle.canon_func.specs.Stores.{Callee, export_callee}
 use Rattle.canon_func.specs.declared.asks.Builtin.{Builtin}
 use Rattle.canon_func.specs.declared.error.Error.{Error}
 use Rattle.canon_func.specs.declared.error.Error.TheVariants as error
+use Rattle.canon_func.proofs.FormLaws.{form_sound}
 use Rattle.canon_func.proofs.HostStopped.{host_tells}
 use Rattle.canon_func.proofs.Turns.{asked_none, done_is, marks_then, ran_exhausted, ran_refused, ran_returned, told_after}
 
@@ -145,15 +148,15 @@ builtin_resumed gives callee fuel index words a b l n called is answer result M 
 module _ {T : Type 0} (gives : Giving T) (callee : Callee) (fuel : ℕ) (asked : Asked) (index : ℕ) (words : List ℕ) where
   stops_so : (a b : Moment) (l n : HostSide T) (e : Error) (answers : List Answer) (es : List Event) (trap : Option Trap) → HostStops gives callee fuel asked index words a.bytes b.bytes answers trap l n e → es ≡ events_of answers trap → TrapsLate (length a.bytes) trap → RisesAt e a b
       → Serves gives callee fuel index words a b l n (Err e) answers es
-  stops_so a b l n (error.ImportFault k f) answers es trap h are late rises = (trap, (host_tells gives callee fuel asked index words a.bytes b.bytes answers trap l n (error.ImportFault k f) h, inr (asked, h)), are, late, rises)
-  stops_so a b l n (error.HostRefused k) answers es trap h are late rises = (trap, (host_tells gives callee fuel asked index words a.bytes b.bytes answers trap l n (error.HostRefused k) h, (asked, h)), are, late, rises)
+  stops_so a b l n (error.ImportFault k f) answers es trap h are late rises = (trap, (host_tells (ask_at gives index) (form_sound (gives.form index)) gives.answers callee fuel asked index words a.bytes b.bytes answers trap l n (error.ImportFault k f) h, inr (asked, h)), are, late, rises)
+  stops_so a b l n (error.HostRefused k) answers es trap h are late rises = (trap, (host_tells (ask_at gives index) (form_sound (gives.form index)) gives.answers callee fuel asked index words a.bytes b.bytes answers trap l n (error.HostRefused k) h, (asked, h)), are, late, rises)
   stops_so a b l n (error.Fault fault.OutOfMemory) answers es trap h are late rises = (trap, inr (inl (asked, h)), are, late, rises)
-  stops_so a b l n e answers es trap h are late rises = absurd (host_tells gives callee fuel asked index words a.bytes b.bytes answers trap l n e h)
+  stops_so a b l n e answers es trap h are late rises = absurd (host_tells (ask_at gives index) (form_sound (gives.form index)) gives.answers callee fuel asked index words a.bytes b.bytes answers trap l n e h)
 
   -- there was no room for its storage
   pub no_storage : (s : Seen) (bytes : List ℕ) (l : HostSide T) (M : List Event → Type 0) → M [] → IsHostAsk callee index words asked → Serving (moment s bytes) (moment s bytes) M (Serves gives callee fuel index words (moment s bytes) (moment s bytes) l l (Err (error.Fault fault.OutOfMemory)))
   no_storage s bytes l M stays is = nothing s bytes M (Serves gives callee fuel index words (moment s bytes) (moment s bytes) l l (Err (error.Fault fault.OutOfMemory))) stays
-      (None, inr (inl (asked, record { is = is; stops = inl (refl, refl, refl, none_asked bytes); told = refl; counted = refl })), refl, tt, tt)
+      (None, inr (inl (asked, record { is = is; stops = inl ((form_sound (gives.form index)).short callee asked index _, refl, refl, none_asked bytes); told = refl; counted = refl })), refl, tt, tt)
 
   -- it wasn't served
   pub asked_stopped : (a b : Moment) (l n : HostSide T) (storage : List ℕ) (e : Error) (M N : List Event → Type 0) → ((es : List Event) → M es → N es)

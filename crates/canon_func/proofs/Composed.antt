@@ -16,6 +16,7 @@ use Rattle.canon_lowering.specs.Attempt.{LowersArgs}
 use Rattle.canon_lowering.specs.Lowering.{Answer, done, events_of, marks_of}
 use Rattle.canon_context.specs.declared.fault.Fault.{Fault}
 use Rattle.canon_context.specs.declared.fault.Fault.TheVariants as fault
+use Rattle.canon_host.specs.Forms.{IsLawful}
 use Rattle.canon_host.specs.HostSide.{Giving, HostSide}
 use Rattle.canon_func.specs.Asks.{Limits}
 use Rattle.canon_func.specs.Call.{Adding, IsCallOf, Left, OnAnswered}
@@ -88,34 +89,36 @@ module _ {T R : Type 0} (its : Returns R) (gives : Giving T) (callee : Callee) (
             m.ledger out.ends.0 out.ends.1 answer second.events second.so);
       }
 
-  rest_stopped : (a b : Moment) (l l2 : HostSide T) (e : Error) (answers : List Answer) (xs : List Event) → length a.bytes ≤ length b.bytes → MayRun gives callee limits words a b l l2 (Err e) answers xs
-      → IsRest its gives callee limits Leaves words a b l l2 (Err e) answers xs
-  rest_stopped a b l l2 e answers xs longer (inl (is, none, quiet, same)) =
-      subst (λ k. IsRest its gives callee limits Leaves words a b l k (Err e) answers xs) (sym same) (subst (λ es. IsRest its gives callee limits Leaves words a b l l (Err e) answers es) (sym none)
-      (subst (λ ys. IsRest its gives callee limits Leaves words a b l l (Err e) ys []) (sym quiet)
-      (subst (λ r. IsRest its gives callee limits Leaves words a b l l (Err r) [] []) (sym (err_same {T = List ℕ} e (error.Fault fault.OutOfMemory) is)) (rest_of_none its gives callee limits Leaves words a b l longer))))
-  rest_stopped a b l l2 e answers xs longer (inr ran) = subst (λ es. IsRest its gives callee limits Leaves words a b l l2 (Err e) answers es) (sym ran.is)
-      (rest_of_tail its gives callee limits Leaves words a b l ran.served l2 ran.turns ran.len ran.asked (Err e) answers ran.late ran.late_trap ran.tail ran.answers_are
-      (stopped_rest its gives callee limits Leaves a b (length ran.turns) ran.len ran.served l2 e ran.late ran.late_trap ran.tail ran.longer ran.few ran.stopped))
+  -- the guest stopped
+  module _ (lawful_forms : (n : ℕ) → IsLawful (gives.form n)) where
+    rest_stopped : (a b : Moment) (l l2 : HostSide T) (e : Error) (answers : List Answer) (xs : List Event) → length a.bytes ≤ length b.bytes → MayRun gives callee limits words a b l l2 (Err e) answers xs
+        → IsRest its gives callee limits Leaves words a b l l2 (Err e) answers xs
+    rest_stopped a b l l2 e answers xs longer (inl (is, none, quiet, same)) =
+        subst (λ k. IsRest its gives callee limits Leaves words a b l k (Err e) answers xs) (sym same) (subst (λ es. IsRest its gives callee limits Leaves words a b l l (Err e) answers es) (sym none)
+        (subst (λ ys. IsRest its gives callee limits Leaves words a b l l (Err e) ys []) (sym quiet)
+        (subst (λ r. IsRest its gives callee limits Leaves words a b l l (Err r) [] []) (sym (err_same {T = List ℕ} e (error.Fault fault.OutOfMemory) is)) (rest_of_none its gives callee limits Leaves words a b l longer))))
+    rest_stopped a b l l2 e answers xs longer (inr ran) = subst (λ es. IsRest its gives callee limits Leaves words a b l l2 (Err e) answers es) (sym ran.is)
+        (rest_of_tail its gives callee limits Leaves words a b l ran.served l2 ran.turns ran.len ran.asked (Err e) answers ran.late ran.late_trap ran.tail ran.answers_are
+        (stopped_rest its gives lawful_forms callee limits Leaves a b (length ran.turns) ran.len ran.served l2 e ran.late ran.late_trap ran.tail ran.longer ran.few ran.stopped))
 
-  -- the guest stopped, or it returned and the scope didn't end
-  rest_refused : (a b : Moment) (l l2 : HostSide T) (e : Error) (answers : List Answer) (xs : List Event) → length a.bytes ≤ length b.bytes → RunsToEnd gives callee limits words a b l l2 (Err e) answers xs
-      → IsRest its gives callee limits Leaves words a b l l2 (Err e) answers xs
-  rest_refused a b l l2 e answers xs longer (inl ran) = rest_stopped a b l l2 e answers xs longer ran
-  rest_refused a b l l2 e answers xs longer (inr (returned, out)) =
-      subst (λ es. IsRest its gives callee limits Leaves words a b l l2 (Err e) answers es) (append-nil xs)
-      (rest_of_ran a b b l out.ran l2 returned (Err e) answers xs [] out.run
-      (unended_tail its gives callee limits Leaves law a b (length out.run.turns) out.run.len out.ran l2 out.kept returned b.bytes out.run.few out.run.longer (same_le (length b.bytes)) e out.ends))
+    -- the guest stopped, or it returned and the scope didn't end
+    rest_refused : (a b : Moment) (l l2 : HostSide T) (e : Error) (answers : List Answer) (xs : List Event) → length a.bytes ≤ length b.bytes → RunsToEnd gives callee limits words a b l l2 (Err e) answers xs
+        → IsRest its gives callee limits Leaves words a b l l2 (Err e) answers xs
+    rest_refused a b l l2 e answers xs longer (inl ran) = rest_stopped a b l l2 e answers xs longer ran
+    rest_refused a b l l2 e answers xs longer (inr (returned, out)) =
+        subst (λ es. IsRest its gives callee limits Leaves words a b l l2 (Err e) answers es) (append-nil xs)
+        (rest_of_ran a b b l out.ran l2 returned (Err e) answers xs [] out.run
+        (unended_tail its gives callee limits Leaves law a b (length out.run.turns) out.run.len out.ran l2 out.kept returned b.bytes out.run.few out.run.longer (same_le (length b.bytes)) e out.ends))
 
-  pub run_refused : (a b : Moment) (l l2 : HostSide T) (e : Error) (M N : List Event → Type 0) → ((es : List Event) → M es → N es) → Serving a b M (RunsToEnd gives callee limits words a b l l2 (Err e))
-      → Serving a b N (IsRest its gives callee limits Leaves words a b l l2 (Err e))
-  run_refused a b l l2 e M N f first = record {
-    answers = first.answers;
-    events = first.events;
-    goes = first.goes;
-    moves = λ told. f first.events (first.moves told);
-    so = rest_refused a b l l2 e first.answers first.events first.goes.no_shorter first.so;
-  }
+    pub run_refused : (a b : Moment) (l l2 : HostSide T) (e : Error) (M N : List Event → Type 0) → ((es : List Event) → M es → N es) → Serving a b M (RunsToEnd gives callee limits words a b l l2 (Err e))
+        → Serving a b N (IsRest its gives callee limits Leaves words a b l l2 (Err e))
+    run_refused a b l l2 e M N f first = record {
+      answers = first.answers;
+      events = first.events;
+      goes = first.goes;
+      moves = λ told. f first.events (first.moves told);
+      so = rest_refused a b l l2 e first.answers first.events first.goes.no_shorter first.so;
+    }
 
 -- ---- the end of the scope
 

@@ -1,10 +1,10 @@
 -- What became of the handles of a call.
-use Rattle.std.proofs.Common.{Err, List, None, Ok, Result, Some, [], ap, inl, inr, refl, subst, sym, ℕ, ◌∙◌, ◌∷◌, ◌≡◌}
+use Rattle.std.proofs.Common.{Err, List, None, Ok, Result, Some, [], ap, inl, inr, refl, subst, sym, ℕ, ◌∙◌, ◌≡◌}
 use Rattle.std.proofs.lemmas.List.{append-nil}
 use Rattle.canon_ledger.specs.Ledger.{Done, LedgerState}
 use Rattle.canon_ledger.specs.declared.fault.ResourceFault.{ResourceFault}
 use Rattle.canon_leaves.proofs.Leaves.{leaves_excluded, leaves_stop_then}
-use Rattle.canon_leaves.specs.Parts.{LeavesStop, LeavesTake, Part, Stops, Takes, do_part}
+use Rattle.canon_leaves.specs.Parts.{LeavesStop}
 use Rattle.canon_func.specs.Call.{LiftsReturned, StopsReturned, scope_exit}
 use Rattle.canon_func.specs.Passing.{Returns}
 use Rattle.canon_func.specs.Stores.{Callee}

@@ -10,8 +10,9 @@ use Rattle.canon_memory.specs.Counts.{Rose}
 use Rattle.canon_memory.specs.Guest.{Goes, GuestIn, Moment, Seen}
 use Rattle.canon_ledger.specs.Ledger.{LedgerState}
 use Rattle.canon_ledger.specs.declared.fault.ResourceFault.TheVariants as resource
-use Rattle.canon_lowering.specs.Lowering.{Answer, CauseOf, Ending, Trap, done, events_of, marks_of, misaligned, out_of_bounds, refused, short, trapped}
-use Rattle.canon_context.specs.Lowers.{fault_ending}
+use Rattle.canon_lowering.specs.Lowering.{AllLawful, Answer, CauseOf, Ending, Trap, done, events_of, marks_of, misaligned, out_of_bounds, refused, short, trapped}
+use Rattle.canon_context.specs.Core.{Parts, guest_of, moment_of}
+use Rattle.canon_context.specs.Lowers.{ending_of, fault_ending}
 use Rattle.canon_context.specs.Moves.{Moves}
 use Rattle.canon_context.specs.Quiet.{have_handle}
 use Rattle.canon_context.specs.declared.fault.Fault.{Fault}
@@ -28,10 +29,14 @@ use Rattle.canon_host.specs.declared.asked.Asked.{Asked}
 use Rattle.canon_host.specs.declared.error.HostError.{HostError}
 use Rattle.canon_host.specs.declared.error.HostError.TheVariants as host
 use Rattle.canon_func.specs.Call.{OnAnswered}
-use Rattle.canon_func.specs.HostAsks.{AskLowers, Counted, LowersInto, asked_error, asked_origin, asked_results, stopped_error}
+use Rattle.canon_func.specs.HostAsks.{Counted, asked_error, host_error, stopped_error}
+use Rattle.canon_func.specs.AskValues.{asked_origin, asked_results, AskLowers, LowersInto}
 use Rattle.canon_func.specs.Steps.{RisesAt, TrapsLate}
 use Rattle.canon_func.specs.Stores.{Callee}
+use Rattle.canon_func.specs.AskForms.{ask_values}
+use Rattle.canon_func.proofs.AskLaws.{LowersAs}
 use Rattle.canon_func.proofs.Lowered.{ending_quiet, untrapped}
+use Rattle.canon_func.proofs.Prefixes.{last_lawful}
 
 -- ---- words
 
@@ -65,7 +70,7 @@ pub record IntoBy (callee : Callee) (asked : Asked) (at : ℕ) (a b : Moment) (r
   pub goes : Goes a b (marks_of answers) (events_of answers trap)
   pub cause : CauseOf a b answers trap ending
 
-not_far : (n : ℕ) → n ≤ max_results → max_results < n → ⊥
+pub not_far : (n : ℕ) → n ≤ max_results → max_results < n → ⊥
 not_far n a b = omega (arith, a, b)
 
 module _ (callee : Callee) (asked : Asked) (at : ℕ) (a b : Moment) (results : List Val) (words : List ℕ) where
@@ -144,6 +149,10 @@ fault_counted index (fault.Resource resource.OutOfMemory) same = same
 fault_counted index (fault.Resource r) same = same
 fault_counted index f same = same
 
+pub host_counted : (before after index : ℕ) (e : HostError) → CountsHost before after e → Counted (host_error index e) before after
+host_counted before after index host.Refused rose = rose
+host_counted before after index (host.Fault f) same = fault_counted index f same
+
 pub stopped_counted : (before after index : ℕ) (why : HostStop) → CountsHost before after (stopped why) → Counted (stopped_error index why) before after
 stopped_counted before after index stop.Refused rose = rose
 stopped_counted before after index stop.OutOfMemory same = same
@@ -154,3 +163,38 @@ pub quiet_trap : (r : Result (Unit {0}) Fault) (some : Bool) (ps : List Passed) 
     → IfErr r (λ e. (fault_ending e ≡ refused) ⊎ (UsesLedger some ps × (e ≡ fault.OutOfMemory))) → CauseOf a b answers trap ending → trap ≡ None
 quiet_trap (Ok x) some ps a b answers trap ending ends why cause = subst (λ e. CauseOf a b answers trap e) ends cause
 quiet_trap (Err f) some ps a b answers trap ending ends why cause = untrapped a b answers trap ending cause (ending_quiet some ps f ending ends why)
+
+-- ---- a lowering that isn't refused
+
+pub no_lawful : (a b : Moment) (answers : List Answer) (trap : Option Trap) (at : ℕ) → AllLawful answers → CauseOf a b answers trap (fault_ending (fault.ReallocMisaligned at)) → ⊥
+no_lawful a b answers trap at lawful cause = last_lawful answers at _ (λ x bad. bad.1) cause.1 lawful
+
+pub no_lawful_end : (a b : Moment) (answers : List Answer) (trap : Option Trap) (at : ℕ) → AllLawful answers → CauseOf a b answers trap (fault_ending (fault.ReallocOutOfBounds at)) → ⊥
+no_lawful_end a b answers trap at lawful cause = last_lawful answers at _ (λ x bad. bad.2) cause.1 lawful
+
+-- ---- what is asked of steps
+
+module _ {T G : Type 0} (seen : G → Seen) (moves : GuestIn G → List Event → GuestIn G → Type 0) (index : ℕ) (a b : Parts T G) (callee : Callee) (asked : Asked) (at : ℕ) (results : List Val) (words storage2 : List ℕ) (are : words ≡ take (members_flat (asked_results callee asked)) storage2)
+    (l : LedgerState) where
+  pub lowered_as : (r : Result (Unit {0}) Fault) → AskLowered callee asked at (moment_of seen a) (moment_of seen b) results words l b.ledger r → Moves seen moves (guest_of a) (guest_of b) (ending_of r)
+      → LowersAs ask_values seen moves index a b callee asked storage2 at results l r
+  lowered_as (Ok x) by moved = record {
+    answers = by.answers;
+    trap = by.trap;
+    lowers = subst (λ ws. AskLowers callee asked at a.memory b.memory results ws by.answers by.trap l b.ledger (Ok tt)) are by.lowers;
+    goes = by.goes;
+    done = subst (λ e. CauseOf (moment_of seen a) (moment_of seen b) by.answers by.trap e) by.ends by.cause;
+    late = traps_late (moment_of seen a) (moment_of seen b) by.answers by.trap by.ending by.cause;
+    rises = tt;
+    moved = moved;
+  }
+  lowered_as (Err f) by moved = record {
+    answers = by.answers;
+    trap = by.trap;
+    lowers = subst (λ ws. AskLowers callee asked at a.memory b.memory results ws by.answers by.trap l b.ledger (Err f)) are by.lowers;
+    goes = by.goes;
+    done = tt;
+    late = traps_late (moment_of seen a) (moment_of seen b) by.answers by.trap by.ending by.cause;
+    rises = rises index _ _ f (moment_of seen a) (moment_of seen b) by.answers by.trap by.ending by.ends by.cause;
+    moved = asked_moves (Unit {0}) seen moves (guest_of a) (guest_of b) index f moved;
+  }

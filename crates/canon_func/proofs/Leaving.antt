@@ -7,22 +7,13 @@ use Rattle.canon_handles.specs.Calls.{raw_index, resource_undo_lend}
 use Rattle.canon_handles.specs.Step.{refuse_if}
 use Rattle.canon_handles.specs.Table.{Counter, Table}
 use Rattle.canon_handles.specs.declared.handle.Entry.{Entry}
-use Rattle.canon_handles.specs.declared.handle.RemovedResource.{RemovedResource}
-use Rattle.canon_handles.specs.declared.handle.RemovedResource.TheVariants.{Borrow, Own}
-use Rattle.canon_handles.specs.declared.handle.TypedResource.{TypedResource}
-use Rattle.canon_handles.specs.declared.handle.TypedResource.TheVariants.{Host}
-use Rattle.canon_handles.specs.declared.handle.TypedResourceIndex.{TypedResourceIndex}
-use Rattle.canon_handles.specs.declared.handle.TypedResourceIndex.TheVariants.{Component as ComponentIndex}
 use Rattle.canon_ledger.proofs.HandlesLemmas.{if_ok-finished}
-use Rattle.canon_ledger.proofs.LedgerLemmas.{after-inserting, after-removing}
-use Rattle.canon_ledger.proofs.StepLemmas.{if_ok-then, if_ok_always}
-use Rattle.canon_ledger.specs.Handles as handles
-use Rattle.canon_ledger.specs.Handles.{Handles, Lender, OpenScope, StepAnswer, can_leave, exit_scope, give_back, host_table, is_empty_scope, lifted_own, no_scope, on_table, opened, removing_resource, scope_at, top_scope, undone, with_scope, with_table}
-use Rattle.canon_ledger.specs.Ledger as ledger
+use Rattle.canon_ledger.proofs.StepLemmas.{if_ok_always}
+use Rattle.canon_ledger.specs.Handles.{Handles, Lender, OpenScope, StepAnswer, can_leave, exit_scope, give_back, is_empty_scope, no_scope, on_table, opened, scope_at, top_scope, undone, with_scope}
 use Rattle.canon_ledger.specs.Ledger.{Done, LedgerState, plainly}
 use Rattle.canon_ledger.specs.declared.fault.ResourceFault.{ResourceFault}
 use Rattle.canon_ledger.specs.declared.fault.ResourceFault.TheVariants as fault
-use Rattle.canon_leaves.specs.Parts.{LeafTakes, LeavesLift, dtor_for, instance_for, lift_parts, lifted_parts, refusal_of, table_for}
+use Rattle.canon_leaves.specs.Parts.{LeafTakes, LeavesLift, lift_parts, lifted_parts, refusal_of}
 use Rattle.canon_model.specs.Leaves.{Leaf}
 use Rattle.canon_resources.specs.Held.{Any}
 use Rattle.canon_types.specs.Instance.{Instance}

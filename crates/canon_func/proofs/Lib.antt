@@ -1,9 +1,12 @@
+pub mod AskLaws
 pub mod Asking
 pub mod Calls
 pub mod Composed
 pub mod Counts
 pub mod DropLemmas
 pub mod Finishing
+pub mod FormLaws
+pub mod FormsAsked
 pub mod Handled
 pub mod HostAccepts
 pub mod HostLowered
@@ -23,6 +26,8 @@ pub mod Tails
 pub mod Throughs
 pub mod Turns
 pub mod Unserved
+pub mod TypesAsked
+pub mod ValuesAsked
 pub mod TupleLowered
 pub mod TupleLifted
 pub mod TypedExact

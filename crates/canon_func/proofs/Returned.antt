@@ -1,6 +1,6 @@
 -- What lifting the results did.
 use Rattle.std.proofs.Common.{Err, Global, List, Ok, Result, Some, Vec, ap, length, subst, sym, ℕ, ◌∙◌, ◌≡◌}
-use Rattle.std.specs.Prelude.{All, IfErr, IfOk, false, slice_get, true}
+use Rattle.std.specs.Prelude.{All, IfOk, false, slice_get, true}
 use Rattle.std.proofs.lemmas.List.Elements.{All-get_or}
 use Rattle.std.proofs.lemmas.Option.{get_or_from_slice_get, slice_get_within}
 use Rattle.canon_model.specs.Flat.{max_results}
@@ -22,7 +22,6 @@ use Rattle.canon_value.specs.declared.val.Val.{Val}
 use Rattle.canon_func.specs.Call.{dynamic_results, returned_leaves}
 use Rattle.canon_func.specs.Steps.{Lifted, LiftsIn, items_in}
 use Rattle.canon_func.specs.Stores.{Callee, export_callee, results_in}
-use Rattle.canon_func.specs.declared.error.Error.{Error}
 use Rattle.canon_func.proofs.Leaving.{lifts_scopes}
 use Rattle.canon_func.proofs.Owned.{values_owned}
 

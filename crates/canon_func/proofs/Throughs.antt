@@ -1,26 +1,29 @@
 -- The ledger of a call, step after step.
-use Rattle.std.proofs.Common.{List, Ok, Option, [], ap, inl, inr, refl, subst, sym, true, ℕ, ◌++◌, ◌∷◌, ◌≡◌}
+use Rattle.std.proofs.Common.{List, None, Ok, Option, [], ap, inl, inr, refl, subst, sym, true, ℕ, ◌++◌, ◌∷◌, ◌≡◌}
 use Rattle.canon_memory.specs.declared.event.Event.{Event}
 use Rattle.canon_memory.specs.declared.event.Event.TheVariants as event
 use Rattle.canon_lowering.specs.Lowering.{Answer, Trap}
 use Rattle.canon_ledger.specs.Handles.{can_leave, top_scope}
 use Rattle.canon_ledger.specs.Ledger.{Done, ExitScope, Leave, LedgerState, LedgerStep, Through, do_step, enter, leave, leaving, numbered}
 use Rattle.canon_ledger.proofs.LedgerLemmas.{compose}
-use Rattle.canon_leaves.proofs.Lifts.{lifts_take}
 use Rattle.canon_leaves.proofs.Through.{leaves_through}
 use Rattle.canon_leaves.specs.Parts.{LeavesTake, Part}
 use Rattle.canon_leaves.specs.Steps.{leaves_steps}
 use Rattle.canon_func.proofs.Leaving.{ended_leaves}
-use Rattle.canon_host.specs.HostSide.{Giving, HostSide}
+use Rattle.canon_host.specs.Forms.{IsLawful}
+use Rattle.canon_host.specs.HostSide.{Answering, Giving, HostSide}
+use Rattle.canon_func.specs.AskForms.{AskForm, ask_at}
 use Rattle.canon_func.specs.Asks.{AreServed}
 use Rattle.canon_func.specs.Call.{Concludes, HandlesPassOf, dynamic, dynamic_results}
-use Rattle.canon_func.specs.HostAsks.{IsHostServed, asked_exit}
-use Rattle.canon_func.specs.Laws.{AskThrough, AsksThrough, CallIsThrough, CallThrough, PassesThrough, asked_parts, given_parts, last_steps}
+use Rattle.canon_func.specs.HostAsks.{IsHostServed, IsHostServedBy, asked_exit}
+use Rattle.canon_func.specs.Laws.{AskThrough, AsksThrough, CallIsThrough, CallThrough, HostThrough, PassesThrough, last_steps}
 use Rattle.canon_func.specs.Passing.{Arguments, Returns}
 use Rattle.canon_func.specs.Runs.{AskTurn, Each, OnReturn}
 use Rattle.canon_func.specs.Stores.{Callee}
 use Rattle.canon_func.specs.Dynamic.{dynamic_reads}
 use Rattle.canon_func.specs.Passed.{ReadsRightly}
+use Rattle.canon_func.proofs.AskLaws.{AskLawful, AskSound}
+use Rattle.canon_func.proofs.FormLaws.{form_lawful, form_sound}
 
 each_return : (P Q : List ℕ → List ℕ → Type 0) → ((ws m : List ℕ) → P ws m → Q ws m) → (events : List Event) → Each (OnReturn P) events → Each (OnReturn Q) events
 each_return P Q f [] h = tt
@@ -45,40 +48,45 @@ ended_is l ended ends = sym (ap (λ (d : Done (Unit {0})). d.after) ends)
 pub ended_can_leave : (l ended : LedgerState) → asked_exit l ≡ record { answer = Ok tt; after = ended } → can_leave ended.handles ≡ true
 ended_can_leave l ended ends = ended_leaves l ended ends
 
-module _ {T : Type 0} (gives : Giving T) (callee : Callee) (fuel : ℕ) where
-  pub host_through : (t : AskTurn) (l n : HostSide T) → IsHostServed gives callee fuel t l n → AskThrough callee t l.ledger n.ledger
-  host_through t l n h =
-      let lifts = lifts_take callee.types (enter l.ledger) h.lifted _ _ h.lifts.1.handles in
-      let lowered : LeavesTake (leave h.ended) (given_parts callee h.asked h.results) h.lowers.crosses.given n.ledger = h.lowers.crosses.passed in
-      inr (record {
+module _ {T : Type 0} (its : AskForm) (sound : AskSound its) (lawful : AskLawful its) (answers_so : Answering T) (callee : Callee) (fuel : ℕ) where
+  pub form_through : (t : AskTurn) (l n : HostSide T) → IsHostServedBy its answers_so callee fuel t l n → HostThrough its callee t l.ledger n.ledger
+  form_through t l n h =
+      let lifts = lawful.taken callee fuel h.asked t.words t.memory (enter l.ledger) h.lifted h.params h.lifts in
+      let gave = sound.given callee h.asked h.at t.memory t.resumed_memory h.results h.words t.answers None (leave h.ended) n.ledger h.lowers in
+      record {
         asked = h.asked;
         is = h.is;
+        store = lifts.0;
         results = h.results;
         lifted = h.lifted;
         called = h.called;
-        first = (0, refl, leaves_through (enter l.ledger) h.lifted (asked_parts callee h.asked t.words t.memory) lifts.0 lifts.1);
+        first = (0, refl, leaves_through (enter l.ledger) h.lifted (its.parts lifts.0 callee h.asked t.words t.memory) lifts.1 lifts.2);
         steps = h.steps;
-        last = subst (λ k. Through h.called (ExitScope (top_scope h.called.handles) ∷ Leave ∷ leaves_steps (leave k) (given_parts callee h.asked h.results)) n.ledger) (ended_is h.called h.ended h.ends)
-            (ended_through h.called h.ended n.ledger (Leave ∷ leaves_steps (leave h.ended) (given_parts callee h.asked h.results)) h.ends
-            (compose h.ended (leave h.ended) n.ledger (Leave ∷ []) (leaves_steps (leave h.ended) (given_parts callee h.asked h.results)) (left_through h.ended (leave h.ended) (ended_can_leave h.called h.ended h.ends) refl)
-            (leaves_through (leave h.ended) n.ledger (given_parts callee h.asked h.results) h.lowers.crosses.given lowered)));
-      })
+        last = subst (λ k. Through h.called (ExitScope (top_scope h.called.handles) ∷ Leave ∷ leaves_steps (leave k) (its.gives callee h.asked h.results)) n.ledger) (ended_is h.called h.ended h.ends)
+            (ended_through h.called h.ended n.ledger (Leave ∷ leaves_steps (leave h.ended) (its.gives callee h.asked h.results)) h.ends
+            (compose h.ended (leave h.ended) n.ledger (Leave ∷ []) (leaves_steps (leave h.ended) (its.gives callee h.asked h.results)) (left_through h.ended (leave h.ended) (ended_can_leave h.called h.ended h.ends) refl)
+            (leaves_through (leave h.ended) n.ledger (its.gives callee h.asked h.results) gave.0 gave.1)));
+      }
 
-  pub turns_through : (turns : List AskTurn) (l n : HostSide T) → AreServed gives callee fuel turns l n → AsksThrough callee turns l.ledger n.ledger
+module _ {T : Type 0} (gives : Giving T) (lawful : (n : ℕ) → IsLawful (gives.form n)) (callee : Callee) (fuel : ℕ) where
+  pub host_through : (t : AskTurn) (l n : HostSide T) → IsHostServed gives callee fuel t l n → AskThrough gives.form callee t l.ledger n.ledger
+  host_through t l n h = inr (form_through (ask_at gives t.index) (form_sound (gives.form t.index)) (form_lawful (gives.form t.index) (lawful t.index)) gives.answers callee fuel t l n h)
+
+  pub turns_through : (turns : List AskTurn) (l n : HostSide T) → AreServed gives callee fuel turns l n → AsksThrough gives.form callee turns l.ledger n.ledger
   turns_through [] l n h = ap (λ s. s.ledger) h
   turns_through (t ∷ turns) l n (mid, inl is, rest) =
       (mid.ledger, inl (is.called, is.is.known, (is.answer, ap (λ (d : Done ℕ). d.answer) is.taken, sym (ap (λ (d : Done ℕ). d.after) is.taken))), turns_through turns mid n rest)
   turns_through (t ∷ turns) l n (mid, inr is, rest) = (mid.ledger, host_through t l mid is, turns_through turns mid n rest)
 
   pub call_through : (parts : List (List Part)) (turns : List AskTurn) (before served : HostSide T) (given : List ℕ) (lowered : LedgerState) → LeavesTake (enter before.ledger) parts given lowered
-      → AreServed gives callee fuel turns (record before { ledger = lowered }) served → CallThrough callee parts turns before.ledger served.ledger
+      → AreServed gives callee fuel turns (record before { ledger = lowered }) served → CallThrough gives.form callee parts turns before.ledger served.ledger
   call_through parts turns before served given lowered took serves = record {
     lowered = lowered;
     first = (0, refl, leaves_through (enter before.ledger) lowered parts given took);
     asks = turns_through turns (record before { ledger = lowered }) served serves;
   }
 
-module _ {T R : Type 0} (args : Arguments) (its : Returns R) (gives : Giving T) (callee : Callee) (fuel : ℕ) (law : ReadsRightly callee its) where
+module _ {T R : Type 0} (args : Arguments) (its : Returns R) (gives : Giving T) (lawful : (n : ℕ) → IsLawful (gives.form n)) (callee : Callee) (fuel : ℕ) (law : ReadsRightly callee its) where
   last_through : (words memory : List ℕ) (results : R) (l n : LedgerState) → Concludes its callee words memory results l n → Through l (last_steps (its.parts words memory) l) n
   last_through words memory results l n h =
       let taken = law.taken words memory h.lifts.ended h.lifted (law.accepted words memory h.lifts.ended h.lifted results h.lifts.lifts) in
@@ -87,10 +95,10 @@ module _ {T R : Type 0} (args : Arguments) (its : Returns R) (gives : Giving T) 
       (compose h.lifts.ended h.lifted n (leaves_steps h.lifts.ended (its.parts words memory)) (Leave ∷ []) (leaves_through h.lifts.ended h.lifted (its.parts words memory) taken.0 taken.1) (left_through h.lifted n h.empty h.left)))
 
   pub passes_through : (turns : List AskTurn) (memory2 : List ℕ) (late : List Answer) (trap : Option Trap) (before after : HostSide T) (given : List ℕ) (results : R) (events tail : List Event)
-      → HandlesPassOf args its gives callee fuel turns memory2 late trap before after given (Ok results) events tail → PassesThrough callee args.parts its.parts turns before.ledger after.ledger tail
+      → HandlesPassOf args its gives callee fuel turns memory2 late trap before after given (Ok results) events tail → PassesThrough gives.form callee args.parts its.parts turns before.ledger after.ledger tail
   passes_through turns memory2 late trap before after given results events tail (lowered, took, (served, serves, (each, kept))) =
-      (served.ledger, call_through gives callee fuel args.parts turns before served given lowered took serves, each_return _ _ (λ ws m h. last_through ws m results served.ledger after.ledger h) tail each)
+      (served.ledger, call_through gives lawful callee fuel args.parts turns before served given lowered took serves, each_return _ _ (λ ws m h. last_through ws m results served.ledger after.ledger h) tail each)
 
-pub call_is_through : {T : Type 0} (gives : Giving T) → CallIsThrough gives
-call_is_through gives callee fuel params turns memory2 late trap before after given results events tail h =
-    passes_through (dynamic callee params) (dynamic_results callee) gives callee fuel (dynamic_reads callee) turns memory2 late trap before after given results events tail h
+pub call_is_through : {T : Type 0} (gives : Giving T) → ((n : ℕ) → IsLawful (gives.form n)) → CallIsThrough gives
+call_is_through gives lawful callee fuel params turns memory2 late trap before after given results events tail h =
+    passes_through (dynamic callee params) (dynamic_results callee) gives lawful callee fuel (dynamic_reads callee) turns memory2 late trap before after given results events tail h

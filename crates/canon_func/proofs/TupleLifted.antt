@@ -1,6 +1,6 @@
 -- What lifting the results as a Rust tuple did.
-use Rattle.std.proofs.Common.{Err, List, Ok, Result, length, inl, inr, refl, subst, sym, ℕ, ◌<◌, ◌≡◌, ◌⊎◌}
-use Rattle.std.specs.Prelude.{false, nat_le, slice_get, Some}
+use Rattle.std.proofs.Common.{Err, List, Ok, Result, length, refl, subst, sym, ℕ, ◌≡◌}
+use Rattle.std.specs.Prelude.{false, nat_le}
 use Rattle.canon_args.specs.Areas.{passed_kept, passed_taken}
 use Rattle.canon_args.specs.Returned.{passed_reading}
 use Rattle.canon_context.proofs.Told.{blamed_by}
@@ -26,7 +26,6 @@ use Rattle.canon_types.specs.Depth.{has_borrow, member_borrows}
 use Rattle.canon_types.specs.Instance.{Instance}
 use Rattle.canon_types.specs.Table.{shape_of}
 use Rattle.canon_types.specs.declared.types.InterfaceType.{InterfaceType}
-use Rattle.canon_types.specs.declared.types.InterfaceType.TheVariants as ty
 use Rattle.canon_value.specs.Resources as value
 use Rattle.canon_func.specs.Call.{result_words}
 use Rattle.canon_func.specs.Steps.{Lifted}
@@ -39,7 +38,7 @@ place_named (at.Word k) (reach.address b) h = absurd h
 place_named (at.Address a) (reach.word i) h = absurd h
 place_named (at.Address a) (reach.address b) h = h
 
-same_stop : (e : Fault) → lifting.stop_of e ≡ value.stop_of e
+pub same_stop : (e : Fault) → lifting.stop_of e ≡ value.stop_of e
 same_stop (fault.TypeMismatch k) = refl
 same_stop (fault.LengthMismatch k) = refl
 same_stop (fault.FieldName k) = refl

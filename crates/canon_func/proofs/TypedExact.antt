@@ -3,19 +3,18 @@ use Rattle.std.proofs.Common.{Bool, List, ap, arith, inl, inr, length, nat_le, r
 use Rattle.std.specs.Prelude.{false, slice_index}
 use Rattle.std.proofs.lemmas.Bool.{cases_lt, cond-false, cond-true, le-leb, lt-leb}
 use Rattle.canon_args.specs.Areas.{good_area}
-use Rattle.canon_args.specs.Returned.{IsGoodArea, area_reading, reading_by}
+use Rattle.canon_args.specs.Returned.{IsGoodArea, reading_by}
 use Rattle.canon_lift.specs.OfTrees.{IsFaulted, IsOfTrees, IsPriced}
 use Rattle.canon_lift.specs.Reading.{Reading, Setting}
 use Rattle.canon_lift.specs.Spots.{Faulty, Represents, Spot, flat_in, stored}
 use Rattle.canon_lowering.specs.Storing.{narrow}
 use Rattle.canon_ledger.specs.Ledger.{LedgerState}
 use Rattle.canon_model.proofs.Faults.{fault_excludes}
-use Rattle.canon_model.specs.Flat.{IsPointed, MembersFlat, RepFlatAt, RepResults, max_results}
-use Rattle.canon_model.specs.Layout.{align, flat, members_align, members_flat, size}
-use Rattle.canon_model.specs.Memory.{Inside, Memory, ptr}
+use Rattle.canon_model.specs.Flat.{RepResults, max_results}
+use Rattle.canon_model.specs.Layout.{align, flat, members_flat}
+use Rattle.canon_model.specs.Memory.{Memory, ptr}
 use Rattle.canon_model.specs.Reach as reach
 use Rattle.canon_model.specs.Reach.{Kind}
-use Rattle.canon_model.specs.Rep.{RepMem, Stored}
 use Rattle.canon_model.specs.Shape.{Members, Shape, of_places, product}
 use Rattle.canon_model.specs.Tree.{Tree, Trees, parts}
 use Rattle.canon_types.specs.Instance.{Instance}

@@ -15,9 +15,11 @@ use Rattle.canon_context.specs.declared.fault.Fault.{Fault}
 use Rattle.canon_context.specs.declared.fault.Fault.TheVariants as fault
 use Rattle.canon_context.specs.declared.component.Import.{Import}
 use Rattle.canon_context.specs.declared.component.Import.TheVariants as import
+use Rattle.canon_host.specs.Forms.{IsLawful}
 use Rattle.canon_host.specs.HostSide.{Giving, HostSide}
 use Rattle.canon_host.specs.declared.asked.Asked.{Asked}
 use Rattle.canon_func.specs.Asks.{AcceptsAsk, AskStops, BuiltinStops, IsAskOf, Limits, ask_step, builtin_at, builtin_of, host_words, import_words}
+use Rattle.canon_func.specs.AskForms.{ask_at}
 use Rattle.canon_func.specs.HostAsks.{AcceptsHost, HostStops, IsHostAsk}
 use Rattle.canon_func.specs.Passing.{Returns}
 use Rattle.canon_func.specs.Runs.{EndsIn, IsNoPost, IsNoResume, IsNoStart, IsTrap, MayTrap, asks_in, last_len, posts}
@@ -26,6 +28,7 @@ use Rattle.canon_func.specs.Stores.{Callee}
 use Rattle.canon_func.specs.declared.asks.Builtin.{Builtin}
 use Rattle.canon_func.specs.declared.error.Error.{Error}
 use Rattle.canon_func.specs.declared.error.Error.TheVariants as error
+use Rattle.canon_func.proofs.FormLaws.{form_lawful, form_sound}
 use Rattle.canon_func.proofs.HostAccepts.{asked_excluded, is_asked}
 use Rattle.canon_func.proofs.HostStopped.{asked_traps, none_more, refused_alone}
 use Rattle.canon_func.proofs.Prefixes.{asks_answers, each_answer, ends_after, ends_in_trap, events_of-trap, grows_request, last_len_answers}
@@ -123,7 +126,7 @@ not_both_kinds o b t p h g = let w : option_and_then builtin_of (Some (import.Ho
 same_builtin : (o : Option Builtin) (a b : Builtin) → o ≡ Some a → o ≡ Some b → a ≡ b
 same_builtin o a b h g = cc
 
-module _ {T R : Type 0} (its : Returns R) (gives : Giving T) (callee : Callee) (limits : Limits) (Leaves : List ℕ → List ℕ → Type 0) (before after : Moment) (count len : ℕ) (served left : HostSide T) where
+module _ {T R : Type 0} (its : Returns R) (gives : Giving T) (lawful_forms : (n : ℕ) → IsLawful (gives.form n)) (callee : Callee) (limits : Limits) (Leaves : List ℕ → List ℕ → Type 0) (before after : Moment) (count len : ℕ) (served left : HostSide T) where
   trapped_tail : len ≤ length after.bytes → Rose before.guest.traps after.guest.traps → count ≤ limits.turns → left ≡ served
       → IsTail its gives callee limits Leaves before after count len served left (Err (error.Fault fault.GuestTrap)) [] None (trap_event len ∷ [])
   trapped_tail longer rose few same = record {
@@ -186,7 +189,7 @@ module _ {T R : Type 0} (its : Returns R) (gives : Giving T) (callee : Callee) (
         → AcceptsAsk gives callee limits.fuel index asked memory served → e ≡ error.Fault fault.OutOfMemory
     host_excluded e a h lawful none few (inl (b, is, more)) = absurd (not_both_kinds (slice_get callee.imports index) b a.ty a.options is.known h.is.known)
     host_excluded e a h lawful none few (inr (b, ok)) =
-        asked_excluded gives callee limits.fuel a index asked memory after.bytes late trap served left lawful none e h
+        asked_excluded (ask_at gives index) (form_sound (gives.form index)) (form_lawful (gives.form index) (lawful_forms index)) gives.answers callee limits.fuel a index asked memory after.bytes late trap served left lawful none e h
         (subst (λ k. AcceptsHost gives callee limits.fuel k index asked memory served) (is_asked callee index asked a b h.is ok.is) ok) few
 
     fault_excluded : (n : ℕ) (f : Fault) → AskStops gives callee limits.fuel (error.ImportFault n f) index asked memory after.bytes late trap served left → AllLawful late → trap ≡ None → ¬ Rose served.refusals left.refusals
@@ -215,7 +218,7 @@ module _ {T R : Type 0} (its : Returns R) (gives : Giving T) (callee : Callee) (
     trap_ends : (n : ℕ) (f : Fault) (xs : List Event) → AskStops gives callee limits.fuel (error.ImportFault n f) index asked memory after.bytes late trap served left → f ≡ fault.GuestTrap → EndsIn IsTrap (xs ++ tail)
     trap_ends n f xs (same, inl (h, quiet)) trapped = absurd (no_builtin_trap n f trapped h)
     trap_ends n f xs (same, inr (a, h)) trapped =
-        let (t, is) = asked_traps gives callee limits.fuel a index asked memory after.bytes late trap served left n
+        let (t, is) = asked_traps (ask_at gives index) (form_sound (gives.form index)) gives.answers callee limits.fuel a index asked memory after.bytes late trap served left n
         (subst (λ g. HostStops gives callee limits.fuel a index asked memory after.bytes late trap served left (error.ImportFault n g)) trapped h) in
         ends_after IsTrap xs tail (ends_after IsTrap (event.Ask index asked memory ∷ []) (events_of late trap) (subst (λ o. EndsIn IsTrap (events_of late o)) (sym is) (ends_in_trap late t)))
 
@@ -235,7 +238,7 @@ module _ {T R : Type 0} (its : Returns R) (gives : Giving T) (callee : Callee) (
         (λ lawful quiet rest within accepted. fault_excluded n f stops lawful quiet rest accepted)
     stopped_tail (error.HostRefused n) few stops rises other =
         asked_tail (error.HostRefused n) (λ none. few) stops
-        (λ xs told. (sym stops.0, refused_alone gives callee limits.fuel stops.1.0 index asked memory after.bytes late trap served left n stops.1.1, (stops.1.0.ty, stops.1.0.options, stops.1.1.is.known)))
+        (λ xs told. (sym stops.0, refused_alone (ask_at gives index) (form_sound (gives.form index)) gives.answers callee limits.fuel stops.1.0 index asked memory after.bytes late trap served left n stops.1.1, (stops.1.0.ty, stops.1.0.options, stops.1.1.is.known)))
         (λ lawful quiet rest within accepted. host_excluded (error.HostRefused n) stops.1.0 stops.1.1 lawful quiet rest accepted)
     stopped_tail (error.Fault fault.OutOfMemory) few stops rises other = asked_tail (error.Fault fault.OutOfMemory) (λ none. few) stops (λ xs told. tt) (λ lawful quiet rest within accepted. refl)
     stopped_tail error.TurnsExhausted few stops rises other = absurd (other refl)

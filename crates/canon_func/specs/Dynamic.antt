@@ -1,22 +1,17 @@
 -- What is said of dynamic parameters and results is as it has to be.
 use Rattle.std.proofs.Common.{List, arith, length, ℕ, ⊎_elim, ◌≡◌, ◌≤◌}
-use Rattle.std.specs.Prelude.{false, ⊤}
+use Rattle.std.specs.Prelude.{false}
 use Rattle.std.proofs.lemmas.Bool.{cases_lt, le-leb, lt-leb}
 use Rattle.canon_model.specs.Flat.{RepResults, max_results}
 use Rattle.canon_model.specs.Layout.{members_flat}
 use Rattle.canon_model.specs.Memory.{Memory}
-use Rattle.canon_model.specs.Reach as reach
-use Rattle.canon_model.specs.Reach.{Kind}
 use Rattle.canon_model.specs.Shape.{Members}
 use Rattle.canon_model.specs.Text.{Encoding}
 use Rattle.canon_model.specs.Tree.{Trees}
 use Rattle.canon_model.proofs.Faults.{fault_excludes}
 use Rattle.canon_model.proofs.Reached.{reach_is_the_cost}
-use Rattle.canon_ledger.specs.Ledger.{LedgerState}
 use Rattle.canon_leaves.proofs.Lifts.{lifts_take}
-use Rattle.canon_leaves.specs.Parts.{LeavesTake}
 use Rattle.canon_lowering.specs.Storing.{narrow}
-use Rattle.canon_context.specs.declared.fault.Fault.{Fault}
 use Rattle.canon_context.specs.declared.fault.Fault.TheVariants as fault
 use Rattle.canon_value.proofs.Values.{failure_excludes}
 use Rattle.canon_value.specs.Fails.{field_name, mismatch, payload_expected, payload_not_expected, unknown_case, unknown_flag, wrong_length}

@@ -1,7 +1,6 @@
 -- Laws of the definitions of a call.
-use Rattle.std.specs.Prelude.{Err, List, Ok, Option, Some, [], false, map, slice_index, take, ℕ, ◌++◌, ◌+◌, ◌∷◌, ◌≡◌, ◌≤◌, ◌⊎◌}
-use Rattle.canon_model.specs.Flat.{RepResults, max_params}
-use Rattle.canon_model.specs.Leaves.{values_leaves}
+use Rattle.std.specs.Prelude.{Err, List, Ok, Option, Some, [], false, slice_index, ℕ, ◌++◌, ◌+◌, ◌∷◌, ◌≡◌, ◌≤◌, ◌⊎◌}
+use Rattle.canon_model.specs.Flat.{RepResults}
 use Rattle.canon_model.specs.Memory.{low}
 use Rattle.canon_model.specs.Shape.{Shape}
 use Rattle.canon_model.specs.Tree as tree
@@ -9,14 +8,13 @@ use Rattle.canon_model.specs.Tree.{Tree, Trees}
 use Rattle.canon_memory.specs.declared.event.Event.{Event}
 use Rattle.canon_ledger.specs.Handles.{top_scope}
 use Rattle.canon_ledger.specs.Ledger.{Enter, ExitScope, Leave, LedgerState, LedgerStep, Partway, Through, do_step, enter, leave}
-use Rattle.canon_leaves.specs.Parts.{Part, lift_parts, lower_parts}
+use Rattle.canon_leaves.specs.Parts.{Part}
 use Rattle.canon_leaves.specs.Steps.{leaves_steps}
 use Rattle.canon_lowering.specs.Lowering.{Answer, Trap}
 use Rattle.canon_lowering.specs.Storing.{narrow}
 use Rattle.canon_context.specs.Host.{HostSteps}
-use Rattle.canon_value.specs.Args.{args_words}
-use Rattle.canon_value.specs.Resources.{all_passes}
 use Rattle.canon_value.specs.declared.val.Val.{Val}
+use Rattle.canon_host.specs.Forms.{Form}
 use Rattle.canon_host.specs.HostSide.{Giving, HostSide}
 use Rattle.canon_host.specs.declared.asked.Asked.{Asked}
 use Rattle.canon_func.specs.Asks.{builtin_at, builtin_step}
@@ -26,7 +24,8 @@ use Rattle.canon_types.specs.Table.{shape_of}
 use Rattle.canon_types.specs.declared.types.InterfaceType.{InterfaceType}
 use Rattle.canon_types.specs.declared.types.InterfaceType.TheVariants as ty
 use Rattle.canon_func.specs.Call.{HandlesPass, HandlesPassOf, param_parts, result_parts}
-use Rattle.canon_func.specs.HostAsks.{IsHostAsk, asked_params, asked_results}
+use Rattle.canon_func.specs.AskForms.{AskForm, ask_form}
+use Rattle.canon_func.specs.HostAsks.{IsHostAsk}
 use Rattle.canon_func.specs.Passing.{Arguments, Returns}
 use Rattle.canon_func.specs.Typed.{params_shape, results_shape, typed_args, typed_results}
 use Rattle.canon_func.specs.Runs.{AskTurn, BeginsInAsk, Each, IsNoStart, OnReturn, SomeReturn}
@@ -36,47 +35,41 @@ use Rattle.canon_func.specs.declared.error.Error.{Error}
 
 -- ---- the steps of an ask
 
--- what the handles of its parameters do, and those of the results that a function of the host gave
-abbrev pub asked_parts : Callee → Asked → List ℕ → List ℕ → List (List Part)
-asked_parts callee asked words memory = map (lift_parts callee.types) (values_leaves (narrow memory) (take (args_words (asked_params callee asked)) words) max_params (asked_params callee asked))
-
-abbrev pub given_parts : Callee → Asked → List Val → List (List Part)
-given_parts callee asked results = map (lower_parts callee.types) (all_passes (asked_results callee asked) results)
-
 -- the step of a builtin
 abbrev pub ask_steps : Callee → Builtin → List ℕ → List LedgerStep
 ask_steps callee called words = builtin_step callee.types called (low (slice_index words 0)) ∷ []
 
 -- up to the call of a function of the host: a scope is opened, and the handles of the parameters are lifted
-abbrev pub asked_steps : Callee → Asked → List ℕ → List ℕ → LedgerState → List LedgerStep
-asked_steps callee asked words memory l = Enter ∷ leaves_steps (enter l) (asked_parts callee asked words memory)
+abbrev pub asked_steps : AskForm → ℕ → Callee → Asked → List ℕ → List ℕ → LedgerState → List LedgerStep
+asked_steps its store callee asked words memory l = Enter ∷ leaves_steps (enter l) (its.parts store callee asked words memory)
 
 -- from then on: the scope ends and is left, and the handles of the results are lowered
-abbrev pub given_steps : Callee → Asked → List Val → LedgerState → List LedgerStep
-given_steps callee asked results l =
+abbrev pub given_steps : (its : AskForm) → Callee → Asked → its.Results → LedgerState → List LedgerStep
+given_steps its callee asked results l =
     let exit : LedgerStep = ExitScope (top_scope l.handles) in
-    exit ∷ Leave ∷ leaves_steps (leave (do_step exit l).after) (given_parts callee asked results)
+    exit ∷ Leave ∷ leaves_steps (leave (do_step exit l).after) (its.gives callee asked results)
 
--- A function of the host was asked for, and the ledger went through these steps, each of which it accepted, but for those that the
--- function took itself, which may be refused.
-pub record HostThrough (callee : Callee) (t : AskTurn) (before after : LedgerState) : Type 0 where
+-- A function of the host was asked for, in a store of some number, and the ledger went through these steps, each of which it accepted, but
+-- for those that the function took itself, which may be refused.
+pub record HostThrough (its : AskForm) (callee : Callee) (t : AskTurn) (before after : LedgerState) : Type 0 where
   pub asked : Asked
   pub is : IsHostAsk callee t.index t.words asked
-  pub results : List Val
+  pub store : ℕ
+  pub results : its.Results
   pub lifted : LedgerState
   pub called : LedgerState
-  pub first : Through before (asked_steps callee asked t.words t.memory before) lifted
+  pub first : Through before (asked_steps its store callee asked t.words t.memory before) lifted
   pub steps : HostSteps lifted called
-  pub last : Through called (given_steps callee asked results called) after
+  pub last : Through called (given_steps its callee asked results called) after
 
 -- an ask that was served: the builtin's one step, or those of a function of the host
-abbrev pub AskThrough : Callee → AskTurn → LedgerState → LedgerState → Type 0
-AskThrough callee t before after = ((called : Builtin) × (builtin_at callee t.index ≡ Some called) × Through before (ask_steps callee called t.words) after) ⊎ HostThrough callee t before after
+abbrev pub AskThrough : (ℕ → Form) → Callee → AskTurn → LedgerState → LedgerState → Type 0
+AskThrough form callee t before after = ((called : Builtin) × (builtin_at callee t.index ≡ Some called) × Through before (ask_steps callee called t.words) after) ⊎ HostThrough (ask_form (form t.index)) callee t before after
 
 -- each of them, in order
-abbrev pub AsksThrough : Callee → List AskTurn → LedgerState → LedgerState → Type 0
-AsksThrough callee [] before after = after ≡ before
-AsksThrough callee (t ∷ turns) before after = (mid : LedgerState) × AskThrough callee t before mid × AsksThrough callee turns mid after
+abbrev pub AsksThrough : (ℕ → Form) → Callee → List AskTurn → LedgerState → LedgerState → Type 0
+AsksThrough form callee [] before after = after ≡ before
+AsksThrough form callee (t ∷ turns) before after = (mid : LedgerState) × AskThrough form callee t before mid × AsksThrough form callee turns mid after
 
 -- ---- the steps of a call
 
@@ -91,48 +84,54 @@ last_steps parts l =
     exit ∷ leaves_steps (do_step exit l).after parts ++ Leave ∷ []
 
 -- the ledger from before a call, the handles of whose parameters do these parts, to its return, or to its last ask
-pub record CallThrough (callee : Callee) (parts : List (List Part)) (turns : List AskTurn) (before served : LedgerState) : Type 0 where
+pub record CallThrough (form : ℕ → Form) (callee : Callee) (parts : List (List Part)) (turns : List AskTurn) (before served : LedgerState) : Type 0 where
   pub lowered : LedgerState
   pub first : Through before (first_steps parts before) lowered
-  pub asks : AsksThrough callee turns lowered served
+  pub asks : AsksThrough form callee turns lowered served
 
 -- of a call that is Ok, to its end
-abbrev pub PassesThrough : Callee → List (List Part) → (List ℕ → List ℕ → List (List Part)) → List AskTurn → LedgerState → LedgerState → List Event → Type 0
-PassesThrough callee first last turns before after tail =
-    (served : LedgerState) × CallThrough callee first turns before served × Each (OnReturn (λ words memory. Through served (last_steps (last words memory) served) after)) tail
+abbrev pub PassesThrough : (ℕ → Form) → Callee → List (List Part) → (List ℕ → List ℕ → List (List Part)) → List AskTurn → LedgerState → LedgerState → List Event → Type 0
+PassesThrough form callee first last turns before after tail =
+    (served : LedgerState) × CallThrough form callee first turns before served × Each (OnReturn (λ words memory. Through served (last_steps (last words memory) served) after)) tail
 
 -- The ledger of a call that is Ok went through these steps, one after another, each of which it accepted.
 abbrev pub CallIsThrough : {T : Type 0} → Giving T → Type 0
 CallIsThrough {T} gives = (callee : Callee) (fuel : ℕ) (params : List Val) (turns : List AskTurn) (memory2 : List ℕ) (late : List Answer) (trap : Option Trap) (before after : HostSide T) (given : List ℕ) (results : List Val) (events tail : List Event)
     → HandlesPass gives callee fuel params turns memory2 late trap before after given (Ok tt) results events tail
-    → PassesThrough callee (param_parts callee params) (result_parts callee) turns before.ledger after.ledger tail
+    → PassesThrough gives.form callee (param_parts callee params) (result_parts callee) turns before.ledger after.ledger tail
+
+-- A function of the host was asked for, in a store of some number, up to some step: one before its call, one that it took itself, or one
+-- from its results on.
+abbrev pub HostPartway : AskForm → Callee → ℕ → List ℕ → List ℕ → LedgerState → LedgerState → Type 0
+HostPartway its callee index words memory served after = (asked : Asked) × (store : ℕ) × IsHostAsk callee index words asked
+    × (Partway served (asked_steps its store callee asked words memory served) after
+    ⊎ ((lifted : LedgerState) × Through served (asked_steps its store callee asked words memory served) lifted × HostSteps lifted after)
+    ⊎ ((results : its.Results) × (lifted called : LedgerState) × Through served (asked_steps its store callee asked words memory served) lifted × HostSteps lifted called × Partway called (given_steps its callee asked results called) after))
 
 -- an ask that wasn't resumed: up to some step of a builtin or of a function of the host
-abbrev pub AskPartway : Callee → ℕ → List ℕ → List ℕ → LedgerState → LedgerState → Type 0
-AskPartway callee index words memory served after =
+abbrev pub AskPartway : (ℕ → Form) → Callee → ℕ → List ℕ → List ℕ → LedgerState → LedgerState → Type 0
+AskPartway form callee index words memory served after =
     (after ≡ served)
     ⊎ ((called : Builtin) × (builtin_at callee index ≡ Some called) × Partway served (ask_steps callee called words) after)
-    ⊎ ((asked : Asked) × IsHostAsk callee index words asked
-    × (Partway served (asked_steps callee asked words memory served) after
-    ⊎ ((results : List Val) × (lifted called : LedgerState) × Through served (asked_steps callee asked words memory served) lifted × HostSteps lifted called × Partway called (given_steps callee asked results called) after)))
+    ⊎ HostPartway (ask_form (form index)) callee index words memory served after
 
 -- from the last turn on, of a call that was refused after its start: nothing, or up to some step of its last ask, or from its return on
-abbrev pub GoesOn : Callee → (List ℕ → List ℕ → List (List Part)) → LedgerState → LedgerState → List Event → Type 0
-GoesOn callee last served after tail = (after ≡ served)
-    ⊎ BeginsInAsk (λ index words memory more. AskPartway callee index words memory served after) tail
+abbrev pub GoesOn : (ℕ → Form) → Callee → (List ℕ → List ℕ → List (List Part)) → LedgerState → LedgerState → List Event → Type 0
+GoesOn form callee last served after tail = (after ≡ served)
+    ⊎ BeginsInAsk (λ index words memory more. AskPartway form callee index words memory served after) tail
     ⊎ SomeReturn (λ words memory. Partway served (last_steps (last words memory) served) after) tail
 
 -- of a call that is refused, up to some step
-abbrev pub PassesPartway : Callee → List (List Part) → (List ℕ → List ℕ → List (List Part)) → List AskTurn → LedgerState → LedgerState → List Event → List Event → Type 0
-PassesPartway callee first last turns before after events tail =
+abbrev pub PassesPartway : (ℕ → Form) → Callee → List (List Part) → (List ℕ → List ℕ → List (List Part)) → List AskTurn → LedgerState → LedgerState → List Event → List Event → Type 0
+PassesPartway form callee first last turns before after events tail =
     (Each IsNoStart events × Partway before (first_steps first before) after)
-    ⊎ ((served : LedgerState) × CallThrough callee first turns before served × GoesOn callee last served after tail)
+    ⊎ ((served : LedgerState) × CallThrough form callee first turns before served × GoesOn form callee last served after tail)
 
 -- The ledger of a call that is refused went through the same steps up to some step, which is one of those that the events determine.
 abbrev pub RefusedIsPartway : {T : Type 0} → Giving T → Type 0
 RefusedIsPartway {T} gives = (callee : Callee) (fuel : ℕ) (params : List Val) (turns : List AskTurn) (memory2 : List ℕ) (late : List Answer) (trap : Option Trap) (before after : HostSide T) (given : List ℕ) (e : Error) (results : List Val) (events tail : List Event)
     → HandlesPass gives callee fuel params turns memory2 late trap before after given (Err e) results events tail
-    → PassesPartway callee (param_parts callee params) (result_parts callee) turns before.ledger after.ledger events tail
+    → PassesPartway gives.form callee (param_parts callee params) (result_parts callee) turns before.ledger after.ledger events tail
 
 -- ---- of a typed call
 
@@ -140,11 +139,11 @@ RefusedIsPartway {T} gives = (callee : Callee) (fuel : ℕ) (params : List Val) 
 module _ {T R : Type 0} (args : Arguments) (its : Returns R) (gives : Giving T) (callee : Callee) where
   abbrev pub IsThrough : Type 0
   IsThrough = (fuel : ℕ) (turns : List AskTurn) (memory2 : List ℕ) (late : List Answer) (trap : Option Trap) (before after : HostSide T) (given : List ℕ) (results : R) (events tail : List Event)
-      → HandlesPassOf args its gives callee fuel turns memory2 late trap before after given (Ok results) events tail → PassesThrough callee args.parts its.parts turns before.ledger after.ledger tail
+      → HandlesPassOf args its gives callee fuel turns memory2 late trap before after given (Ok results) events tail → PassesThrough gives.form callee args.parts its.parts turns before.ledger after.ledger tail
 
   abbrev pub IsPartway : Type 0
   IsPartway = (fuel : ℕ) (turns : List AskTurn) (memory2 : List ℕ) (late : List Answer) (trap : Option Trap) (before after : HostSide T) (given : List ℕ) (e : Error) (events tail : List Event)
-      → HandlesPassOf args its gives callee fuel turns memory2 late trap before after given (Err e) events tail → PassesPartway callee args.parts its.parts turns before.ledger after.ledger events tail
+      → HandlesPassOf args its gives callee fuel turns memory2 late trap before after given (Err e) events tail → PassesPartway gives.form callee args.parts its.parts turns before.ledger after.ledger events tail
 
 module _ {T P R : Type 0} (gives : Giving T) (Walks : P → Tree → Type 0) (steps : Instance → Shape → P → List (List Part)) (reading : Reading R) where
   abbrev pub TypedIsThrough : Type 0

@@ -1,3 +1,6 @@
+pub mod AskForms
+pub mod AskTypes
+pub mod AskValues
 pub mod Asks
 pub mod Call
 pub mod Drop

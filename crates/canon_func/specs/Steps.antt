@@ -32,12 +32,14 @@ use Rattle.canon_context.specs.declared.fault.Fault.{Fault}
 use Rattle.canon_value.specs.Value.{HaveTrees}
 use Rattle.canon_context.specs.declared.fault.Fault.TheVariants as fault
 use Rattle.canon_value.specs.declared.val.Val.{Val}
-use Rattle.canon_host.specs.HostSide.{Giving, HostSide}
+use Rattle.canon_host.specs.HostSide.{Answering, Giving, HostSide}
 use Rattle.canon_host.specs.Asked.{row_words}
 use Rattle.canon_host.specs.declared.asked.Asked.{Asked}
 use Rattle.canon_func.specs.Asks.{AreServed, AskStops, IsServed, Limits}
-use Rattle.canon_func.specs.HostAsks.{HostStops, IsHostServed, asked_results}
-use Rattle.canon_func.specs.Call.{AcceptsLater, AfterTurns, AskCause, AsksByTypes, Concludes, HasFault, IsCallOf, IsPastFuel, Left, StopsStartedOf, dynamic, dynamic_results, refused_by, result_words, scope_exit, words_within}
+use Rattle.canon_func.specs.AskForms.{AskForm, ask_at}
+use Rattle.canon_func.specs.HostAsks.{HostStopsBy, IsHostServedBy}
+use Rattle.canon_func.specs.AskValues.{asked_results}
+use Rattle.canon_func.specs.Call.{AcceptsLater, AfterTurns, AskCause, AsksByTypes, Concludes, HasFault, IsPastFuel, Left, StopsStartedOf, refused_by, result_words, scope_exit, words_within}
 use Rattle.canon_func.specs.Passing.{Arguments, Returns}
 use Rattle.canon_func.specs.Runs.{AskTurn, Each, EndsIn, Grows, IsNoPost, IsOneRun, IsPrefixOfRun, IsReturn, IsTrap, MayStart, OnReturn, OnStart, answers_in, asks_in, events_in, last_len, posts}
 use Rattle.canon_func.specs.Stores.{Callee}
@@ -131,6 +133,18 @@ abbrev pub RisesAt : Error → Moment → Moment → Type 0
 RisesAt (error.ImportFault n fault.GuestTrap) before after = Rose before.guest.traps after.guest.traps
 RisesAt _ before after = ⊤
 
+module _ {T : Type 0} (its : AskForm) (answers_so : Answering T) (callee : Callee) (fuel : ℕ) where
+  -- An ask of a function of the host was served, and storage has the words of the results that go in a row; or it wasn't served.
+  abbrev pub HostAskedBy : Asked → ℕ → List ℕ → Moment → Moment → HostSide T → HostSide T → List ℕ → Result (Unit {0}) Error → List Answer → List Event → Type 0
+  HostAskedBy asked index words before after host left storage (Ok x) answers events =
+      IsHostServedBy its answers_so callee fuel (ask_turn index words before.bytes answers (take (row_words (asked_results callee asked)) storage) after.bytes) host left × (events ≡ events_of answers None)
+  HostAskedBy asked index words before after host left storage (Err e) answers events =
+      (trap : Option Trap) × HostStopsBy its answers_so callee fuel asked index words before.bytes after.bytes answers trap host left e × (events ≡ events_of answers trap) × TrapsLate (length before.bytes) trap × RisesAt e before after
+
+-- by the form of its import
+abbrev pub HostAsked : {T : Type 0} → Giving T → Callee → ℕ → Asked → ℕ → List ℕ → Moment → Moment → HostSide T → HostSide T → List ℕ → Result (Unit {0}) Error → List Answer → List Event → Type 0
+HostAsked gives callee fuel asked index words before after host left storage answer answers events = HostAskedBy (ask_at gives index) gives.answers callee fuel asked index words before after host left storage answer answers events
+
 module _ {T : Type 0} (gives : Giving T) (callee : Callee) (fuel : ℕ) where
   -- an ask was served, and the guest resumed in a memory that isn't shorter
   pub record Resumes (index : ℕ) (words : List ℕ) (before after : Moment) (host left : HostSide T) (answers : List Answer) : Type 0 where
@@ -150,13 +164,6 @@ module _ {T : Type 0} (gives : Giving T) (callee : Callee) (fuel : ℕ) where
   Serves index words before after host left (Err error.TurnsExhausted) answers events = ⊥
   Serves index words before after host left (Err e) answers events =
       (trap : Option Trap) × AskStops gives callee fuel e index words before.bytes after.bytes answers trap host left × (events ≡ events_of answers trap) × TrapsLate (length before.bytes) trap × RisesAt e before after
-
-  -- An ask of a function of the host was served, and storage has the words of the results that go in a row; or it wasn't served.
-  abbrev pub HostAsked : Asked → ℕ → List ℕ → Moment → Moment → HostSide T → HostSide T → List ℕ → Result (Unit {0}) Error → List Answer → List Event → Type 0
-  HostAsked asked index words before after host left storage (Ok x) answers events =
-      IsHostServed gives callee fuel (ask_turn index words before.bytes answers (take (row_words (asked_results callee asked)) storage) after.bytes) host left × (events ≡ events_of answers None)
-  HostAsked asked index words before after host left storage (Err e) answers events =
-      (trap : Option Trap) × HostStops gives callee fuel asked index words before.bytes after.bytes answers trap host left e × (events ≡ events_of answers trap) × TrapsLate (length before.bytes) trap × RisesAt e before after
 
   -- The guest was started at the moment `before`, asked in these turns and was served; it was last let go in a memory of so many bytes.
   pub record TurnsTaken (before : Moment) (host served : HostSide T) (turns : List AskTurn) (len : ℕ) : Type 0 where

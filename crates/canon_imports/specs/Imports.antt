@@ -4,7 +4,7 @@ use Rattle.std.specs.Borrow.{Bor}
 use Rattle.canon_context.specs.declared.host.HostStop.{HostStop}
 use Rattle.canon_context.specs.declared.host.HostStop.TheVariants as stop
 use Rattle.canon_value.specs.declared.val.Val.{Val}
-use Rattle.canon_host.specs.HostSide.{Entry, Giving}
+use Rattle.canon_host.specs.HostSide.{Entry, Giving, gives_values}
 use Rattle.canon_script.specs.Imports.{HostAnswer, answer_after}
 use Rattle.canon_script.specs.Literals.{literals_view}
 use Rattle.canon_imports.specs.declared.imports.Line.{Line}
@@ -40,7 +40,7 @@ abbrev pub GivesAnswer : {T : Type 0} → HostAnswer → T → List Val → Resu
 GivesAnswer answer before params result after = IsAnsweredBy answer result × (after ≡ before)
 
 abbrev pub GivesAnswers : {T : Type 0} → List (List HostAnswer) → Giving T
-GivesAnswers answers log n before params result after = GivesAnswer (answer_next answers log n) before params result after
+GivesAnswers answers = gives_values (λ log n before params result after. GivesAnswer (answer_next answers log n) before params result after)
 
 -- an answer that is lent
 abbrev pub answer_told : Option (Bor (List Val)) → HostAnswer

@@ -214,4 +214,6 @@ impl<T, G: Guest> Imports<T, G> for ScriptedImports {
         self.lines.push_reserved(line);
         Ok(())
     }
+
+    ghost lawful = { λ plan n. tt {0} };
 }

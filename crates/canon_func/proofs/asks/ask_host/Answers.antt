@@ -1,5 +1,6 @@
 use Rattle.std.proofs.Common.{Err, subst, sym}
-use Rattle.canon_func.proofs.HostServed.{Asking, found_asked, has_room, imports_served, imports_stopped}
+use Rattle.canon_func.proofs.FormsAsked.{Asking, imports_served, imports_stopped}
+use Rattle.canon_func.proofs.HostServed.{found_asked, has_room}
 use Rattle.canon_func.proofs.asks.ask_host.Goals as goal
 
 pub returns-in-Ok-clause-did : goal.returns-in-Ok-clause-did

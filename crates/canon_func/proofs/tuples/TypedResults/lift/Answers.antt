@@ -1,7 +1,6 @@
-use Rattle.std.proofs.Common.{Err, Ok, Result, ap, subst, sym, ◌∙◌, ◌≡◌}
+use Rattle.std.proofs.Common.{Err, Ok, ap, subst, sym, ◌∙◌, ◌≡◌}
 use Rattle.std.specs.Prelude.{false, slice_get}
 use Rattle.canon_context.specs.Core.{types_of}
-use Rattle.canon_context.specs.declared.fault.Fault.{Fault}
 use Rattle.canon_model.specs.Shape.{Members, of_places, product}
 use Rattle.canon_types.specs.Depth.{member_borrows}
 use Rattle.canon_types.specs.Table.{Table, shape_of, tuple_members}

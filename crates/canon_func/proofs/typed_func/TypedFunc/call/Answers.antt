@@ -1,6 +1,5 @@
-use Rattle.std.proofs.Common.{Ok, subst, sym, ◌∙◌, ◌≡◌}
+use Rattle.std.proofs.Common.{subst, sym, ◌∙◌, ◌≡◌}
 use Rattle.std.specs.Prelude.{IfSome}
-use Rattle.canon_func.specs.Typed.{done_by}
 use Rattle.canon_func.proofs.typed_func.TypedFunc.call.Goals as goal
 
 pub returns-in-Err-clause-refused : goal.returns-in-Err-clause-refused

@@ -1,0 +1,55 @@
+-- How an ask of a function of the host was served in its form, from what the imports of a store did.
+use Rattle.std.proofs.Common.{Err, List, Ok, Option, Result, [], length, ℕ, ◌++◌, ◌≡◌, ◌≤◌}
+use Rattle.canon_memory.specs.declared.event.Event.{Event}
+use Rattle.canon_memory.specs.Guest.{GuestIn, Seen}
+use Rattle.canon_context.specs.Core.{Parts, guest_of}
+use Rattle.canon_context.specs.declared.component.Export.{Export}
+use Rattle.canon_host.specs.Asked.{row_words}
+use Rattle.canon_host.specs.Forms.{Form, over_types, over_values}
+use Rattle.canon_host.specs.HostSide.{Entry, Giving}
+use Rattle.canon_host.specs.Imports.{ServesForm, ServesImport, entry_of, logged, steps_of_types, steps_of_values}
+use Rattle.canon_host.specs.declared.asked.Asked.{Asked}
+use Rattle.canon_host.specs.declared.error.HostError.{HostError}
+use Rattle.canon_func.specs.AskForms.{AskForm, ask_form, ask_types, ask_values}
+use Rattle.canon_func.specs.AskValues.{asked_results}
+use Rattle.canon_func.specs.HostAsks.{IsHostAsk, host_error}
+use Rattle.canon_func.specs.Stores.{export_callee}
+use Rattle.canon_func.specs.declared.error.Error.{Error}
+use Rattle.canon_func.proofs.HostServed.{Out, logged_served, logged_stopped}
+use Rattle.canon_func.proofs.TypesAsked.{types_follow, types_sound}
+use Rattle.canon_func.proofs.ValuesAsked.{values_follow, values_sound}
+
+-- ---- from what the imports of a store did
+
+module _ {T G : Type 0} (seen : G → Seen) (moves : GuestIn G → List Event → GuestIn G → Type 0) (gives : Giving T) (log log2 : Option (List Entry)) (refusals refusals2 index : ℕ) (a b : Parts T G) (export : Export) (asked : Asked) (words pad storage storage2 : List ℕ)
+    (is : IsHostAsk (export_callee a.component export) index words asked) (front : storage ≡ words ++ pad) where
+  abbrev AskedBy : AskForm → Result (Unit {0}) Error → Type 0
+  AskedBy its r = Out its seen moves gives.answers log log2 refusals refusals2 index a b export asked words storage2 r
+
+  served_by : (form : Form) → row_words (asked_results (export_callee a.component export) asked) ≤ length storage2 → ServesForm gives log index seen moves asked form log2 refusals refusals2 a storage (Ok tt) b storage2 → AskedBy (ask_form form) (Ok tt)
+  served_by over_values room h =
+      logged_served ask_values values_sound seen moves gives.answers log log2 refusals refusals2 index a b export asked words pad storage2 is (steps_of_values gives log index seen moves asked) (λ told. logged log (entry_of index told))
+      (values_follow seen moves gives log index a b export asked words pad storage2 is) storage front room h
+  served_by (over_types types) room h =
+      logged_served (ask_types types) (types_sound types) seen moves gives.answers log log2 refusals refusals2 index a b export asked words pad storage2 is (steps_of_types types log seen moves asked) (λ told. log)
+      (types_follow types seen moves gives log index a b export asked words pad storage2 is) storage front room h
+
+  stopped_by : (form : Form) → moves (guest_of a) [] (guest_of a) → (e : HostError) → ServesForm gives log index seen moves asked form log2 refusals refusals2 a storage (Err e) b storage2 → AskedBy (ask_form form) (Err (host_error index e))
+  stopped_by over_values stays e h =
+      logged_stopped ask_values values_sound seen moves gives.answers log log2 refusals refusals2 index a b export asked words pad storage2 is (steps_of_values gives log index seen moves asked) (λ told. logged log (entry_of index told))
+      (values_follow seen moves gives log index a b export asked words pad storage2 is) storage front stays e h
+  stopped_by (over_types types) stays e h =
+      logged_stopped (ask_types types) (types_sound types) seen moves gives.answers log log2 refusals refusals2 index a b export asked words pad storage2 is (steps_of_types types log seen moves asked) (λ told. log)
+      (types_follow types seen moves gives log index a b export asked words pad storage2 is) storage front stays e h
+
+  abbrev pub Imported : Result (Unit {0}) HostError → Type 0
+  Imported r = ServesImport gives log index seen moves asked log2 refusals refusals2 a storage r b storage2
+
+  abbrev pub Asking : Result (Unit {0}) Error → Type 0
+  Asking r = AskedBy (ask_form (gives.form index)) r
+
+  pub imports_served : row_words (asked_results (export_callee a.component export) asked) ≤ length storage2 → Imported (Ok tt) → Asking (Ok tt)
+  imports_served room h = served_by (gives.form index) room h
+
+  pub imports_stopped : moves (guest_of a) [] (guest_of a) → (e : HostError) → Imported (Err e) → Asking (Err (host_error index e))
+  imports_stopped stays e h = stopped_by (gives.form index) stays e h
