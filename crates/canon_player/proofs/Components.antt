@@ -13,10 +13,11 @@ use Rattle.canon_context.specs.declared.component.Export.{Export}
 use Rattle.canon_context.specs.declared.component.Import.{Import}
 use Rattle.canon_context.specs.declared.component.Import.TheVariants as import
 use Rattle.canon_func.specs.Stores.{type_in}
+use Rattle.canon_func.specs.Typed as typed
 use Rattle.canon_script.specs.Imports.{ImportStands}
 use Rattle.canon_script.specs.Script.{Play}
 use Rattle.canon_player.specs.Session.{played_callee}
-use Rattle.canon_player.specs.Options.{host_options, options_for, options_from, script_options}
+use Rattle.canon_player.specs.Options.{host_options, options_for, options_from, options_number, script_options}
 use Rattle.canon_player.specs.Stores.{IsScripted, callee_at, export_for, exports_from}
 
 -- ---- the lists
@@ -66,6 +67,10 @@ module _ (t : Table) (encoding : StringEncoding) (posts : List Bool) (imports : 
   -- its type is that of the function of its number
   pub export_type : (i : ℕ) → i < length posts → type_in c (slice_get c.exports.items i) ≡ slice_get c.types.types.funcs i
   export_type i lt = ap (type_in c) (export_at i lt)
+
+  -- its options are that function's
+  pub export_number : (i : ℕ) → i < length posts → typed.export_options (slice_get c.exports.items i) ≡ options_number i
+  export_number i lt = ap typed.export_options (export_at i lt)
 
   -- the options of an export are one further than it
   export_options : (i : ℕ) (p : Bool) → slice_get posts i ≡ Some p → slice_get c.options.items (i + 1) ≡ Some (options_for t encoding i p)

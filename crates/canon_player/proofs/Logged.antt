@@ -3,6 +3,7 @@ use Rattle.std.proofs.Common.{Err, List, Ok, Option, Result, Some, [], ap, appen
 use Rattle.std.proofs.lemmas.List.{drop_all, drop_at, length-map, nil_from_length}
 use Rattle.std.specs.Prelude.{unwrap_or}
 use Rattle.canon_context.specs.declared.fault.Fault.TheVariants as fault
+use Rattle.canon_host.specs.Forms.{Form, over_types, over_values}
 use Rattle.canon_host.specs.HostSide.{Entry, Giving, HostSide, entry}
 use Rattle.canon_host.specs.Imports.{logged}
 use Rattle.canon_imports.specs.Imports.{entries_of, line_entry}
@@ -10,6 +11,7 @@ use Rattle.canon_imports.specs.declared.imports.Line.{Line}
 use Rattle.canon_lowering.specs.Lowering.{Answer, Trap}
 use Rattle.canon_memory.specs.declared.event.Event.{Event}
 use Rattle.canon_memory.specs.declared.event.Event.TheVariants as event
+use Rattle.canon_func.specs.AskForms.{ask_form}
 use Rattle.canon_func.specs.Asks.{AreServed, AskStops, IsServed}
 use Rattle.canon_func.specs.Call.{HandlesPassOf, StopsStartedOf}
 use Rattle.canon_func.specs.Passing.{Arguments, Returns}
@@ -32,10 +34,15 @@ same log log1 log2 is e = ([], e ∙ (is ∙ ap Some (sym (append-nil log))))
 one_more : (log : List Entry) (log1 log2 : Option (List Entry)) (x : Entry) → log1 ≡ Some log → log2 ≡ logged log1 x → Longer log log2
 one_more log log1 log2 x is e = (x ∷ [], e ∙ ap (λ o. logged o x) is)
 
+-- so is it after an ask that was served in a form
+told_more : (form : Form) (index : ℕ) (params : (ask_form form).Params) (results : (ask_form form).Results) (log : List Entry) (log1 log2 : Option (List Entry)) → log1 ≡ Some log → log2 ≡ (ask_form form).logged_with log1 index params results → Longer log log2
+told_more over_values index params results log log1 log2 is e = one_more log log1 log2 (entry index params.items results) is e
+told_more (over_types types) index params results log log1 log2 is e = same log log1 log2 is e
+
 module _ {T : Type 0} (gives : Giving T) (callee : Callee) (fuel : ℕ) where
   one : (t : AskTurn) (before after : HostSide T) (log : List Entry) → before.log ≡ Some log → IsServed gives callee fuel t before after → Longer log after.log
   one t before after log is (inl h) = same log before.log after.log is (ap (λ (s : HostSide T). s.log) h.kept)
-  one t before after log is (inr h) = one_more log before.log after.log (entry t.index h.params.items h.results) is h.told
+  one t before after log is (inr h) = told_more (gives.form t.index) t.index h.params h.results log before.log after.log is h.told
 
   turns_logged : (turns : List AskTurn) (before after : HostSide T) (log : List Entry) → before.log ≡ Some log → AreServed gives callee fuel turns before after → Longer log after.log
   turns_logged [] before after log is h = same log before.log after.log is (ap (λ (s : HostSide T). s.log) h)
@@ -55,7 +62,7 @@ module _ {T : Type 0} (gives : Giving T) (callee : Callee) (fuel : ℕ) where
   stopped (error.Fault fault.OutOfMemory) index words memory memory2 answers trap before after log is (inl (h, none, untrapped)) = same log before.log after.log is (ap (λ (s : HostSide T). s.log) h.kept)
   stopped (error.Fault fault.OutOfMemory) index words memory memory2 answers trap before after log is (inr (inl (asked, h))) = same log before.log after.log is h.told
   stopped (error.Fault fault.OutOfMemory) index words memory memory2 answers trap before after log is (inr (inr (resumed, memory3, untrapped, shorter, h))) =
-      one_more log before.log after.log (entry index h.params.items h.results) is h.told
+      told_more (gives.form index) index h.params h.results log before.log after.log is h.told
   stopped e index words memory memory2 answers trap before after log is h = absurd h
 
   stopped_asking : (e : Error) (memory2 : List ℕ) (late : List Answer) (trap : Option Trap) (before after : HostSide T) (log : List Entry) (tail : List Event) → before.log ≡ Some log

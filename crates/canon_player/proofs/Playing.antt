@@ -1,7 +1,8 @@
 -- The records of items, one after another.
-use Rattle.std.proofs.Common.{◌≡◌, ◌∙◌, ◌++◌, ℕ, All, Bool, List, [], ◌∷◌, append-nil, append_assoc, arith, false, length, map, refl, subst, sym, true}
+use Rattle.std.proofs.Common.{◌≡◌, ◌∙◌, ◌++◌, ℕ, All, Bool, List, [], ◌∷◌, ap, append-nil, append_assoc, arith, false, length, map, refl, subst, sym, true}
 use Rattle.std.proofs.lemmas.List.Elements.{All-tail}
 use Rattle.std.specs.Prelude.{slice_index_or}
+use Rattle.canon_types.specs.Instance.{Instance}
 use Rattle.canon_context.specs.declared.component.Component.{Component}
 use Rattle.canon_resources.specs.Held.{Any}
 use Rattle.canon_value.specs.Resources.{all_resources}
@@ -15,14 +16,15 @@ use Rattle.canon_imports.specs.Imports.{entries_of}
 use Rattle.canon_imports.specs.declared.imports.ScriptedImports.{ScriptedImports}
 use Rattle.canon_transcript.specs.declared.transcript.Record.{Record}
 use Rattle.canon_player.specs.Session.{Called, WasTyped, Happened, IsPlayed, Plays, Session, State, answer_values, at_first, played_callee, skips}
-use Rattle.canon_player.specs.Stores.{IsPlayable, IsScripted, ScriptStore, answers_of, callee_at, fresh_store, limits_of, state_of}
-use Rattle.canon_player.proofs.Components.{export_count, export_type, scripted_callee}
+use Rattle.canon_player.specs.Stores.{HasItsTypes, IsPlayable, IsScripted, ScriptStore, answers_of, callee_at, fresh_store, limits_of, state_of}
+use Rattle.canon_player.proofs.Components.{export_count, export_number, export_type, scripted_callee}
 
 -- ---- on one store
 
 -- Items were played, and these are left, with this list of resources: the rest completes the records.
 pub record IsPlaying (first : ScriptStore) (items : List Item) (now : ScriptStore) (left : List Item) (list : List Any) (records : List Record) : Type 0 where
   pub fresh : now.core.guest.events ≡ []
+  pub own_types : HasItsTypes now
   pub same : now.core.component ≡ first.core.component
   limits : limits_of now ≡ limits_of first
   answers : answers_of now ≡ answers_of first
@@ -30,12 +32,13 @@ pub record IsPlaying (first : ScriptStore) (items : List Item) (now : ScriptStor
   pub rest : (more : List Record) → Plays (callee_at first.core.component) (limits_of first) (answers_of first) (map item_view left) list (state_of now) more
       → Plays (callee_at first.core.component) (limits_of first) (answers_of first) (map item_view items) [] (state_of first) (records ++ more)
 
-pub playing_first : (first : ScriptStore) (items left : List Item) (list : List Any) (records : List Record) → left ≡ items → list ≡ [] → records ≡ [] → first.core.guest.events ≡ [] → All (IsPlayable first.core.component) (map item_view items)
+pub playing_first : (first : ScriptStore) (items left : List Item) (list : List Any) (records : List Record) → left ≡ items → list ≡ [] → records ≡ []
+    → first.core.guest.events ≡ [] → HasItsTypes first → All (IsPlayable first.core.component) (map item_view items)
     → IsPlaying first items first left list records
-playing_first first items left list records e empty none fresh playable =
+playing_first first items left list records e empty none fresh own playable =
     subst (λ (xs : List Item). IsPlaying first items first xs list records) (sym e)
     (subst (λ (ys : List Any). IsPlaying first items first items ys records) (sym empty)
-    (subst (λ (rs : List Record). IsPlaying first items first items [] rs) (sym none) (record { fresh = fresh; same = refl; limits = refl; answers = refl; playable = playable; rest = λ more h. h })))
+    (subst (λ (rs : List Record). IsPlaying first items first items [] rs) (sym none) (record { fresh = fresh; own_types = own; same = refl; limits = refl; answers = refl; playable = playable; rest = λ more h. h })))
 
 module _ (first : ScriptStore) (items : List Item) (now : ScriptStore) (all left : List Item) (item : Item) (list : List Any) (records : List Record) (next : all ≡ item ∷ left) (h : IsPlaying first items now all list records) where
   before : IsPlaying first items now (item ∷ left) list records
@@ -44,12 +47,14 @@ module _ (first : ScriptStore) (items : List Item) (now : ScriptStore) (all left
   pub playing_playable : IsPlayable now.core.component (item_view item)
   playing_playable = subst (λ (c : Component). IsPlayable c (item_view item)) (sym h.same) (before.playable 0 (item_view item) (omega arith))
 
-  pub playing_next : (after : ScriptStore) (r : Record) (longer : List Any) (more : List Record) → after.core.guest.events ≡ [] → after.core.component ≡ now.core.component → limits_of after ≡ limits_of now → answers_of after ≡ answers_of now
+  pub playing_next : (after : ScriptStore) (r : Record) (longer : List Any) (more : List Record) → after.core.guest.events ≡ [] → after.core.component ≡ now.core.component
+      → after.core.id ≡ now.core.id → limits_of after ≡ limits_of now → answers_of after ≡ answers_of now
       → IsPlayed (callee_at now.core.component) (limits_of now) (answers_of now) (item_view item) list (state_of now) (state_of after) r → longer ≡ list ++ all_resources (answer_values r.answer) → more ≡ records ++ r ∷ []
       → IsPlaying first items after left longer more
-  playing_next after r longer more fresh same kept answers played grown e =
+  playing_next after r longer more fresh same id kept answers played grown e =
       subst (λ (ys : List Any). IsPlaying first items after left ys more) (sym grown) (subst (λ (rs : List Record). IsPlaying first items after left (list ++ all_resources (answer_values r.answer)) rs) (sym e) (record {
         fresh = fresh;
+        own_types = id ∙ (h.own_types ∙ ap (λ (c : Component). c.types.store) (sym same));
         same = same ∙ h.same;
         limits = kept ∙ h.limits;
         answers = answers ∙ h.answers;
@@ -122,6 +127,7 @@ module _ (play : Play) (c : Component) (imports : ScriptedImports) (store : Scri
   stands_playable (typed_item call) stands = record {
     export = omega (arith, stands.0, export_count play.types play.encoding play.posts play.imports c h);
     type = export_type play.types play.encoding play.posts play.imports c h call.func stands.0;
+    options = export_number play.types play.encoding play.posts play.imports c h call.func stands.0;
     orders = stands.1;
   }
   stands_playable (new_item n) stands = tt
@@ -132,6 +138,9 @@ module _ (play : Play) (c : Component) (imports : ScriptedImports) (store : Scri
 
   pub script_playable : All (IsPlayable store.core.component) play.items
   script_playable = subst (λ (s : ScriptStore). All (IsPlayable s.core.component) play.items) (sym fresh) playable
+
+  pub script_own_types : HasItsTypes store
+  script_own_types = subst HasItsTypes (sym fresh) (ap (λ (i : Instance). i.store) (sym h.types))
 
   -- functions of the host that served nothing
   pub script_session : answers_view imports.answers.items ≡ play.answers → imports.lines.items ≡ [] → imports.refusals ≡ 0 → (records : List Record)

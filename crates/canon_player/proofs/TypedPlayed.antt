@@ -1,5 +1,5 @@
 -- The record of a typed call, from what the call ensures.
-use Rattle.std.proofs.Common.{◌≡◌, ◌∙◌, Bool, List, None, Option, Result, Some, [], ap, drop, false, length, map, refl, subst, sym, true, ◌∷◌, ℕ}
+use Rattle.std.proofs.Common.{◌≡◌, ◌∙◌, Bool, List, None, Option, Result, Some, [], ap, drop, false, length, map, refl, subst, subst₂, sym, true, ◌∷◌, ℕ}
 use Rattle.std.specs.Prelude.{IfOk, IfSome, IsNone, OnErr, OnOk, slice_get}
 use Rattle.std.proofs.lemmas.Option.{none-some}
 use Rattle.std.proofs.lemmas.Result.{IfOk-weaker}
@@ -22,13 +22,14 @@ use Rattle.canon_script.specs.Imports.{HostAnswer}
 use Rattle.canon_script.specs.Script.{typed_item_view}
 use Rattle.canon_script.specs.Typed.{TypedValues, typed_view}
 use Rattle.canon_script.specs.declared.script.TypedItem.{TypedItem}
-use Rattle.canon_func.specs.Typed.{FitsParams, FitsResults, done_by, options_in, params_shape, typed_args, typed_results}
+use Rattle.canon_func.specs.Typed.{FitsParams, FitsResults, done_by, export_options, options_in, params_shape, typed_args, typed_results}
 use Rattle.canon_func.specs.declared.error.Error.{Error}
 use Rattle.canon_func.specs.declared.error.Error.TheVariants as error
 use Rattle.canon_transcript.specs.declared.transcript.Record.{Record}
-use Rattle.canon_player.specs.Session.{HasSignature, Printed, State, Tells, TypedBy, TypedCalled, TypedWith, WasTyped, entry_view, plan_with, served_view}
+use Rattle.canon_player.specs.Session.{HasSignature, Printed, State, Tells, TypedBy, TypedCalled, TypedWith, WasCalled, WasTyped, entry_view, plan_with, served_view}
+use Rattle.canon_player.specs.Options.{options_number}
 use Rattle.canon_player.specs.Signatures.{Passing, Returning, Signature}
-use Rattle.canon_player.specs.Stores.{ScriptStore, answers_of, callee_at, limits_of, state_of, with_plan}
+use Rattle.canon_player.specs.Stores.{HasItsTypes, ScriptStore, answers_of, callee_at, limits_of, state_of, with_plan}
 use Rattle.canon_player.proofs.Played.{Became, Entered, IsOther, call_became}
 
 -- ---- its types
@@ -77,24 +78,30 @@ module _ {P R : Type 0} (passing : Passing P) (returning : Returning R) (func : 
   abbrev EnteredAt : Instance → Callee → Type 0
   EnteredAt types d = Entered (passed types d) (typed_results returning.reading (options_in before f) before.core.id d) d before left called
 
-  told_so : (why : Option Error) → Became (passed callee.types callee) (typed_results returning.reading (options_in before f) before.core.id callee) (Printed passing returning) callee plan s left r why
-      → TypedCalled passing returning callee (limits_of s) (answers_of s) plan params (state_of s) (state_of left) r why
-  told_so (Some e) h = h
-  told_so None h = (options_in before f, before.core.id, h)
+  told_so : options_in before f ≡ options_number func → before.core.id ≡ callee.types.store → (why : Option Error)
+      → Became (passed callee.types callee) (typed_results returning.reading (options_in before f) before.core.id callee) (Printed passing returning) callee plan s left r why
+      → TypedCalled passing returning func callee (limits_of s) (answers_of s) plan params (state_of s) (state_of left) r why
+  told_so options id (Some e) h = h
+  told_so options id None h =
+      subst₂ (λ n m. WasCalled (passed callee.types callee) (typed_results returning.reading n m callee) (Printed passing returning) callee (limits_of s) (answers_of s) plan (state_of s) (state_of left) r) options id h
 
-  pub typed_is : s.core.guest.events ≡ [] → before ≡ with_plan s (plan s.core.guest.guest.plan.allocator) → f.export ≡ func → state_of final ≡ state_of left
+  pub typed_is : s.core.guest.events ≡ [] → HasItsTypes s → export_options (slice_get s.core.component.exports.items func) ≡ options_number func
+      → before ≡ with_plan s (plan s.core.guest.guest.plan.allocator) → f.export ≡ func → state_of final ≡ state_of left
       → refused_by (done_by called) ≡ entry_refusal (callee_of before f) before.trapped → IfSome (refused_by (done_by called)) (λ e. left ≡ before)
       → (IsNone (refused_by (done_by called)) → EnteredAt before.core.component.types (callee_of before f)) → OnOk called (left.trapped ≡ before.trapped) → (IsNone (refused_by (done_by called)) → OnErr called (left.trapped ≡ true))
       → r.events ≡ left.core.guest.events → Tells (Printed passing returning) called r.answer → IsOther called
       → asked ≡ length s.imports.lines.items → map served_view r.served.items ≡ map entry_view (drop asked (entries_of left.imports.lines.items))
-      → TypedCalled passing returning callee (limits_of s) (answers_of s) plan params (state_of s) (state_of final) r (entry_refusal callee s.trapped)
-  typed_is empty is export end why same entered runs traps events told short lines serves =
+      → TypedCalled passing returning func callee (limits_of s) (answers_of s) plan params (state_of s) (state_of final) r (entry_refusal callee s.trapped)
+  typed_is empty own options is export end why same entered runs traps events told short lines serves =
       let it : callee_of before f ≡ callee = ap (λ (k : ScriptStore). callee_of k f) is ∙ ap (λ n. callee_at s.core.component n) export in
+      let its_options : options_in before f ≡ options_number func =
+      ap (λ (k : ScriptStore). options_in k f) is ∙ (ap (λ n. export_options (slice_get s.core.component.exports.items n)) export ∙ options) in
+      let its_store : before.core.id ≡ callee.types.store = ap (λ (k : ScriptStore). k.core.id) is ∙ (own ∙ ap (λ (i : Instance). i.store) (types_at s.core.component func)) in
       let its_types : before.core.component.types ≡ callee.types = ap (λ (k : ScriptStore). k.core.component.types) is ∙ types_at s.core.component func in
       let why2 : refused_by (done_by called) ≡ entry_refusal callee s.trapped =
       why ∙ (ap (λ (d : Callee). entry_refusal d before.trapped) it ∙ ap (λ (k : ScriptStore). entry_refusal callee k.trapped) is) in
-      subst (λ (k : State). TypedCalled passing returning callee (limits_of s) (answers_of s) plan params (state_of s) k r (entry_refusal callee s.trapped)) (sym end)
-      (told_so (entry_refusal callee s.trapped)
+      subst (λ (k : State). TypedCalled passing returning func callee (limits_of s) (answers_of s) plan params (state_of s) k r (entry_refusal callee s.trapped)) (sym end)
+      (told_so its_options its_store (entry_refusal callee s.trapped)
       (call_became (passed callee.types callee) (typed_results returning.reading (options_in before f) before.core.id callee) (Printed passing returning) callee guest reallocs post_trap r s left called asked
       empty events told short lines serves
       (entry_refusal callee s.trapped) (free_by callee s.trapped) before is why2 same

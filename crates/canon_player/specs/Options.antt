@@ -24,6 +24,10 @@ abbrev pub options_from : Table → StringEncoding → ℕ → List Bool → Lis
 options_from t encoding i [] = []
 options_from t encoding i (has_post ∷ posts) = options_for t encoding i has_post ∷ options_from t encoding (i + 1) posts
 
+-- the number of the options of function i: those of the functions of the host come first
+abbrev pub options_number : ℕ → ℕ
+options_number i = i + 1
+
 -- the options of the functions of the host
 abbrev pub host_options : StringEncoding → CanonicalOptions
 host_options encoding = record { instance = 0; string_encoding = encoding; async_ = false; post_return = None }

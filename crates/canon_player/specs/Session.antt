@@ -43,7 +43,7 @@ use Rattle.canon_transcript.specs.declared.transcript.Answer.TheVariants as answ
 use Rattle.canon_transcript.specs.declared.transcript.Head.{Head}
 use Rattle.canon_transcript.specs.declared.transcript.Head.TheVariants as head
 use Rattle.canon_transcript.specs.declared.transcript.Record.{Record}
-use Rattle.canon_player.specs.Options.{post_of, script_options}
+use Rattle.canon_player.specs.Options.{options_number, post_of, script_options}
 use Rattle.canon_player.specs.Signatures.{Passing, Returning, Signature, number_signature, numbers_signature, pairs_signature, text_signature}
 
 -- ---- the functions of a script
@@ -244,18 +244,19 @@ module _ {P R : Type 0} (passing : Passing P) (returning : Returning R) where
   abbrev pub Printed : R → List Val → Type 0
   Printed results values = literals_view values ≡ returning.literals results
 
-  -- With these parameters: refused before the guest was entered, or called. No result is a text or a list that stays in memory, which alone
-  -- would name the options and the store by their numbers.
-  abbrev pub TypedCalled : Callee → Limits → List (List HostAnswer) → (Allocator → Plan) → P → State → State → Record → Option Error → Type 0
-  TypedCalled callee limits answers plan params before after r (Some e) = Idle before after r (answer.Err e)
-  TypedCalled callee limits answers plan params before after r None = (options store : ℕ)
-      × WasCalled (typed_args (passing.walks params) (passing.gives callee.types (params_shape callee) params) callee) (typed_results returning.reading options store callee) Printed callee limits answers plan before after r
+  -- With these parameters: refused before the guest was entered, or called. The results are lifted by the function's own options, in the
+  -- store of its types.
+  abbrev pub TypedCalled : ℕ → Callee → Limits → List (List HostAnswer) → (Allocator → Plan) → P → State → State → Record → Option Error → Type 0
+  TypedCalled func callee limits answers plan params before after r (Some e) = Idle before after r (answer.Err e)
+  TypedCalled func callee limits answers plan params before after r None =
+      WasCalled (typed_args (passing.walks params) (passing.gives callee.types (params_shape callee) params) callee)
+      (typed_results returning.reading (options_number func) callee.types.store callee) Printed callee limits answers plan before after r
 
   -- Where the function has another signature, nothing was done.
   abbrev pub TypedWith : ℕ → Callee → Limits → List (List HostAnswer) → (Allocator → Plan) → P → State → State → Record → Type 0
   TypedWith func callee limits answers plan params before after r =
       ((¬ HasSignature callee func) × Idle before after r answer.Typecheck)
-      ⊎ (HasSignature callee func × TypedCalled callee limits answers plan params before after r (entry_refusal callee before.trapped))
+      ⊎ (HasSignature callee func × TypedCalled func callee limits answers plan params before after r (entry_refusal callee before.trapped))
 
 -- with parameters that are the values of the script
 abbrev pub TypedBy : {P R : Type 0} → Signature P R → Callee → Limits → List (List HostAnswer) → ScriptTyped → State → State → Record → Type 0

@@ -11,12 +11,13 @@ use Rattle.canon_context.specs.declared.component.Export.{Export}
 use Rattle.canon_context.specs.declared.component.Import.{Import}
 use Rattle.canon_func.specs.Asks.{Limits, allowed}
 use Rattle.canon_func.specs.Stores.{Callee, StoreView, callee_in, type_in}
+use Rattle.canon_func.specs.Typed.{export_options}
 use Rattle.canon_ledger.specs.Ledger.{new_ledger}
 use Rattle.canon_script.specs.Imports.{HostAnswer, answers_view}
 use Rattle.canon_script.specs.Script.{ScriptCall, ScriptItem, call_item, drop_item, new_item, typed_item}
 use Rattle.canon_imports.specs.Imports.{entries_of}
 use Rattle.canon_imports.specs.declared.imports.ScriptedImports.{ScriptedImports}
-use Rattle.canon_player.specs.Options.{script_options}
+use Rattle.canon_player.specs.Options.{options_number, script_options}
 use Rattle.canon_player.specs.Session.{State}
 
 -- ---- its component
@@ -47,10 +48,11 @@ pub record IsCallable (component : Component) (call : ScriptCall) : Type 0 where
   pub export : call.func < length component.exports.items
   pub orders : AreNarrow call.reallocs
 
--- A typed call too; and the type of the export is that of the function of its number in the table.
+-- A typed call too; and the type of the export is that of the function of its number in the table, and its options are that function's.
 pub record IsTypable (component : Component) (func : ℕ) (reallocs : List Ordered) : Type 0 where
   pub export : func < length component.exports.items
   pub type : type_in component (slice_get component.exports.items func) ≡ slice_get component.types.types.funcs func
+  pub options : export_options (slice_get component.exports.items func) ≡ options_number func
   pub orders : AreNarrow reallocs
 
 abbrev pub IsPlayable : Component → ScriptItem → Type 0
@@ -63,6 +65,10 @@ IsPlayable component (drop_item d) = Unit {0}
 
 abbrev pub ScriptStore : Type 0
 ScriptStore = StoreView (Unit {0}) (Recorded Doing) ScriptedImports
+
+-- the types of its component are those of its store
+abbrev pub HasItsTypes : ScriptStore → Type 0
+HasItsTypes s = s.core.id ≡ s.core.component.types.store
 
 -- nothing was done, with these functions of the host
 abbrev pub fresh_store : ℕ → ℕ → ℕ → ℕ → ℕ → Component → ScriptedImports → ScriptStore

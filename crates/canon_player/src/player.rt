@@ -5,7 +5,7 @@ ghost use Rattle.canon_value.specs.Resources.{all_resources};
 ghost use Rattle.canon_script.specs.Script.{IsWellFormed, call_item, call_item_view, drop_item, item_view, new_item, play_of};
 ghost use Rattle.canon_player.specs.Session.{IsEnd, Session, WasDropped, answer_values, outcome};
 ghost use Rattle.canon_player.specs.Steps.{MadeAnswer, MakesCall, MakesResource, PlaysItem, PlaysItems};
-ghost use Rattle.canon_player.specs.Stores.{IsCallable, IsPlayable, answers_of, limits_of, state_of};
+ghost use Rattle.canon_player.specs.Stores.{HasItsTypes, IsCallable, IsPlayable, answers_of, limits_of, state_of};
 
 use crate::component::{ScriptStore, component_of, store_of};
 use crate::served::served_after;
@@ -59,6 +59,7 @@ fn play_items(
     items: Vec<Item>,
 ) -> Result<Transcript, OutOfMemory>
     requires fresh { store.core.guest.events ≡ [] }
+    requires own_types { HasItsTypes store }
     requires playable { All (IsPlayable store.core.component) (map item_view items.items) }
     ensures { IfOk result (λ records. PlaysItems store (map item_view items.items) records) }
 {
@@ -101,10 +102,12 @@ fn play_item(
     item: Item,
 ) -> Result<Record, OutOfMemory>
     requires fresh { store.old.core.guest.events ≡ [] }
+    requires own_types { HasItsTypes store.old }
     requires playable { IsPlayable store.old.core.component (item_view item) }
     ensures played { IfOk result (PlaysItem store.old (item_view item) list.now store.new) }
     ensures fresh { store.new.core.guest.events ≡ [] }
     ensures same { store.new.core.component ≡ store.old.core.component }
+    ensures id { store.new.core.id ≡ store.old.core.id }
     ensures limits { limits_of store.new ≡ limits_of store.old }
     ensures answers { answers_of store.new ≡ answers_of store.old }
 {
@@ -145,6 +148,7 @@ fn play_call(
     ensures played { IfOk result (PlaysItem store.old (call_item (call_item_view call)) list.now store.new) }
     ensures fresh { store.new.core.guest.events ≡ [] }
     ensures same { store.new.core.component ≡ store.old.core.component }
+    ensures id { store.new.core.id ≡ store.old.core.id }
     ensures limits { limits_of store.new ≡ limits_of store.old }
     ensures answers { answers_of store.new ≡ answers_of store.old }
 {
@@ -167,6 +171,7 @@ fn make_call(
     ensures called { IfOk result (MakesCall store.old (call_item_view call) list.now store.new) }
     ensures fresh { store.new.core.guest.events ≡ [] }
     ensures same { store.new.core.component ≡ store.old.core.component }
+    ensures id { store.new.core.id ≡ store.old.core.id }
     ensures limits { limits_of store.new ≡ limits_of store.old }
     ensures answers { answers_of store.new ≡ answers_of store.old }
 {
@@ -209,6 +214,7 @@ fn play_new(
     ensures played { IfOk result (PlaysItem store.old (new_item item) list.now store.new) }
     ensures fresh { store.new.core.guest.events ≡ [] }
     ensures same { store.new.core.component ≡ store.old.core.component }
+    ensures id { store.new.core.id ≡ store.old.core.id }
     ensures limits { limits_of store.new ≡ limits_of store.old }
     ensures answers { answers_of store.new ≡ answers_of store.old }
 {
@@ -266,6 +272,7 @@ fn play_drop(
     ensures played { IfOk result (PlaysItem store.old (drop_item item) list.now store.new) }
     ensures fresh { store.new.core.guest.events ≡ [] }
     ensures same { store.new.core.component ≡ store.old.core.component }
+    ensures id { store.new.core.id ≡ store.old.core.id }
     ensures limits { limits_of store.new ≡ limits_of store.old }
     ensures answers { answers_of store.new ≡ answers_of store.old }
 {
@@ -292,6 +299,7 @@ fn make_drop(
     ensures live { IfOk result (λ r. r.live ≡ store.new.core.ledger.handles.counter.live) }
     ensures fresh { store.new.core.guest.events ≡ [] }
     ensures same { store.new.core.component ≡ store.old.core.component }
+    ensures id { store.new.core.id ≡ store.old.core.id }
     ensures limits { limits_of store.new ≡ limits_of store.old }
     ensures answers { answers_of store.new ≡ answers_of store.old }
 {

@@ -8,7 +8,7 @@ ghost use Rattle.canon_script.specs.Literals.{literals_view};
 ghost use Rattle.canon_script.specs.Script.{typed_item_view};
 ghost use Rattle.canon_script.specs.Typed.{typed_view};
 ghost use Rattle.canon_player.specs.Session.{Tells, TypedCalled, TypedWith, WasTyped, plan_with};
-ghost use Rattle.canon_player.specs.Stores.{IsTypable, answers_of, callee_at, limits_of, state_of};
+ghost use Rattle.canon_player.specs.Stores.{HasItsTypes, IsTypable, answers_of, callee_at, limits_of, state_of};
 
 use crate::component::ScriptStore;
 use crate::player::idle_record;
@@ -41,6 +41,7 @@ pub(crate) fn play_typed(
     item: TypedItem,
 ) -> Result<Record, OutOfMemory>
     requires fresh { store.old.core.guest.events ≡ [] }
+    requires own_types { HasItsTypes store.old }
     requires typable { IsTypable store.old.core.component item.func item.reallocs.items }
     ensures head { IfOk result (λ r. r.head ≡ Head.Typed item.func) }
     ensures typed { IfOk result (WasTyped (typed_view item.params) (callee_at store.old.core.component item.func) (limits_of store.old) (answers_of store.old) (typed_item_view item)
@@ -48,6 +49,7 @@ pub(crate) fn play_typed(
     ensures live { IfOk result (λ r. r.live ≡ store.new.core.ledger.handles.counter.live) }
     ensures fresh { store.new.core.guest.events ≡ [] }
     ensures same { store.new.core.component ≡ store.old.core.component }
+    ensures id { store.new.core.id ≡ store.old.core.id }
     ensures limits { limits_of store.new ≡ limits_of store.old }
     ensures answers { answers_of store.new ≡ answers_of store.old }
 {
@@ -89,6 +91,7 @@ fn make_typed<P: ComponentNamedList + Lower, R: ComponentNamedList + Lift + Told
     params: P,
 ) -> Result<Record, OutOfMemory>
     requires fresh { store.old.core.guest.events ≡ [] }
+    requires own_types { HasItsTypes store.old }
     requires typable { IsTypable store.old.core.component call.func call.reallocs.items }
     ensures head { IfOk result (λ r. r.head ≡ Head.Typed call.func) }
     ensures typed { IfOk result (TypedWith (record { fits = P.fits; walks = P.walks; gives = P.gives }) (record { fits = R.fits; reading = R.reading; literals = R.literals })
@@ -96,6 +99,7 @@ fn make_typed<P: ComponentNamedList + Lower, R: ComponentNamedList + Lift + Told
     ensures live { IfOk result (λ r. r.live ≡ store.new.core.ledger.handles.counter.live) }
     ensures fresh { store.new.core.guest.events ≡ [] }
     ensures same { store.new.core.component ≡ store.old.core.component }
+    ensures id { store.new.core.id ≡ store.old.core.id }
     ensures limits { limits_of store.new ≡ limits_of store.old }
     ensures answers { answers_of store.new ≡ answers_of store.old }
 {
@@ -119,17 +123,19 @@ fn call_typed<P: ComponentNamedList + Lower, R: ComponentNamedList + Lift + Told
     params: P,
 ) -> Result<Record, OutOfMemory>
     requires fresh { store.old.core.guest.events ≡ [] }
+    requires own_types { HasItsTypes store.old }
     requires typable { IsTypable store.old.core.component call.func call.reallocs.items }
     requires func { f.func ≡ record { store = store.old.core.id; export = call.func } }
     requires params { FitsParams P.fits store.old.core.component.types (type_of store.old f.func) }
     requires results { FitsResults R.fits store.old.core.component.types (type_of store.old f.func) }
     ensures head { IfOk result (λ r. r.head ≡ Head.Typed call.func) }
     ensures called { IfOk result (λ r. TypedCalled (record { fits = P.fits; walks = P.walks; gives = P.gives }) (record { fits = R.fits; reading = R.reading; literals = R.literals })
-        (callee_at store.old.core.component call.func) (limits_of store.old) (answers_of store.old) (plan_with call.guest.items call.reallocs.items call.post_trap) params
+        call.func (callee_at store.old.core.component call.func) (limits_of store.old) (answers_of store.old) (plan_with call.guest.items call.reallocs.items call.post_trap) params
         (state_of store.old) (state_of store.new) r (entry_refusal (callee_at store.old.core.component call.func) store.old.trapped)) }
     ensures live { IfOk result (λ r. r.live ≡ store.new.core.ledger.handles.counter.live) }
     ensures fresh { store.new.core.guest.events ≡ [] }
     ensures same { store.new.core.component ≡ store.old.core.component }
+    ensures id { store.new.core.id ≡ store.old.core.id }
     ensures limits { limits_of store.new ≡ limits_of store.old }
     ensures answers { answers_of store.new ≡ answers_of store.old }
 {

@@ -16,7 +16,8 @@ returns-clause-called g c =
     let left : ScriptStore = c.call-called.new.store in
     let final : ScriptStore = record { core = record c.core_mut-2.result.now { guest = c.take_journal-events.new.self }; imports = left.imports; turns = left.turns; trapped = left.trapped } in
     typed_is (record { fits = g.P.ComponentType.fits; walks = g.P.ComponentType.walks; gives = g.P.Lower.gives }) (record { fits = g.R.ComponentType.fits; reading = g.R.Lift.reading; literals = g.R.Told.literals })
-    c.args.call.func c.args.call.guest.items c.args.call.reallocs.items c.args.call.post_trap c.args.params _ s before left final c.args.f.func c.call-called.result (length c.lines-asked.result.now) c.requires.fresh
+    c.args.call.func c.args.call.guest.items c.args.call.reallocs.items c.args.call.post_trap c.args.params _ s before left final c.args.f.func c.call-called.result (length c.lines-asked.result.now)
+    c.requires.fresh c.requires.own_types c.requires.typable.options
     (loaded_is plan s c.core_mut.result.now c.guest_mut.result.now c.guest_mut-scripted.result.now c.load.new.self c.core_mut.ensures.value c.guest_mut.ensures.value c.guest_mut-scripted.ensures.value c.load.ensures)
     (ap (λ n. n.export) c.requires.func)
     (taken_is left c.core_mut-2.result.now c.guest_mut-2.result.now c.take_journal-events.new.self c.core_mut-2.ensures.value c.guest_mut-2.ensures.value c.take_journal-events.ensures.left)
