@@ -15,7 +15,7 @@ use std::test::Fail;
 type AskStore = Store<(), Journaled<ScriptedGuest>, ScriptedImports>;
 
 /// A component with a function from nothing to a number, core function 7, and one import, from these parameters to a number.
-fn component_of(alloc: Global, params: &[InterfaceType]) -> Result<Component, Fail> {
+pub(crate) fn component_of(alloc: Global, params: &[InterfaceType]) -> Result<Component, Fail> {
     let mut builder = TypeBuilder::new(alloc);
     let number = [InterfaceType::U32];
     let ty = builder.add_func(Vec::new(alloc), number.to_vec(alloc)?, false)?;
@@ -58,12 +58,12 @@ fn ask_store(
 }
 
 /// An ask for the import, with these words.
-fn asking(alloc: Global, words: &[ValRaw]) -> Result<Action, Fail> {
+pub(crate) fn asking(alloc: Global, words: &[ValRaw]) -> Result<Action, Fail> {
     Ok(Action::Ask(0, Words::from_slice(alloc, words)?))
 }
 
 /// A return of this word.
-fn returning(alloc: Global, word: u32) -> Result<Action, Fail> {
+pub(crate) fn returning(alloc: Global, word: u32) -> Result<Action, Fail> {
     let words = Words::from_slice(alloc, &[ValRaw::u32(word)])?;
     Ok(Action::Return(words))
 }

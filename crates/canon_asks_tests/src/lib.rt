@@ -3,3 +3,8 @@
 
 #[cfg(test)]
 mod asks;
+mod imported;
+#[cfg(test)]
+mod typed;
+
+pub use imported::OneTyped;

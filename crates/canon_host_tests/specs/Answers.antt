@@ -4,7 +4,7 @@ use Rattle.canon_value.specs.declared.val.Val.{Val}
 use Rattle.canon_value.specs.declared.val.Val.TheVariants as val
 use Rattle.canon_context.specs.declared.host.HostStop.{HostStop}
 use Rattle.canon_context.specs.declared.host.HostStop.TheVariants as stop
-use Rattle.canon_host.specs.HostSide.{Entry, Giving}
+use Rattle.canon_host.specs.HostSide.{Entry, Giving, gives_values}
 use Rattle.canon_host_tests.specs.declared.answers.Line.{Line}
 
 -- the first values of a line are the parameters, and the others the results
@@ -21,4 +21,4 @@ GivesFirst number (Err why) = (why ≡ stop.Refused) × (number ≡ None)
 
 -- to each ask it is the number whose place is that of the ask, and the data stays
 abbrev pub GivesNumber : {T : Type 0} → List ℕ → Giving T
-GivesNumber numbers log n before params result after = GivesFirst (slice_get numbers (length log)) result × (after ≡ before)
+GivesNumber numbers = gives_values (λ log n before params result after. GivesFirst (slice_get numbers (length log)) result × (after ≡ before))

@@ -159,4 +159,6 @@ impl<T, G: Guest> Imports<T, G> for Answers {
         self.lines.push_reserved(line);
         Ok(())
     }
+
+    ghost lawful = { λ plan n. tt {0} };
 }

@@ -5,6 +5,7 @@ ghost use Rattle.std.specs.Prelude.{◌≡◌, [], None};
 mod functions;
 mod imports;
 mod views;
+mod wrapped;
 
 use canon_host::{HostCx, HostError, HostFn, HostFunc, Imports, storage_for};
 use canon_memory::{Guest, GuestFault, Memory, Step, ValRaw};
@@ -74,7 +75,10 @@ impl Guest for Trapper {
     }
 }
 
-/// A core of these types, whose data is a count from 0.
+/// The text "h\u{e9}llo" in UTF-8.
+const TEXT: [u8; 6] = *b"h\xc3\xa9llo";
+
+/// A core of these types, whose data is a count from 0, and whose memory begins with the text.
 fn core_of(alloc: Global, types: ComponentTypes) -> Result<Core<u64, Trapper>, Fail> {
     let id = StoreId::from_u64(1);
     let mut options = Vec::new(alloc);
@@ -94,7 +98,8 @@ fn core_of(alloc: Global, types: ComponentTypes) -> Result<Core<u64, Trapper>, F
         return Err(Fail::from("an index is outside its table"));
     }
     let guest = Trapper { traps: 0 };
-    let memory = Memory::new(alloc, 65_536)?;
+    let mut memory = Memory::new(alloc, 65_536)?;
+    memory.as_slice_mut()[..6].copy_from_slice(&TEXT);
     let core = Core::new(alloc, id, 0, guest, memory, component, 8, 1_000_000)?;
     Ok(core)
 }
@@ -118,7 +123,8 @@ fn ask<T, G: Guest, H: HostFn<T, G>>(
     ty: TypeFuncIndex,
     words: &[ValRaw],
 ) -> Result<Answered<H::Log>, Fail>
-    requires { H.ready func.now }
+    requires ready { H.ready func.now }
+    requires fits { H.fits func.now core.old.component.types ty }
 {
     let component = core.component();
     let types = component.types.types();

@@ -13,7 +13,7 @@ pub returns-then-is_err-clause-serves : goal.returns-then-is_err-clause-serves
 returns-then-is_err-clause-serves g c =
     let s = c.args.self.now in
     wants (GivesNumber s.numbers.items) (log_of s.lines.items) (log_of c.reserve.new.self.items) c.args.n g.G.Guest.seen g.G.Guest.moves c.args.cx.ty c.args.cx.options s.refusals s.refusals c.args.cx.core.now _ c.args.storage.now _ _
-    refl (log_same s.lines.items c.reserve.new.self.items c.reserve.ensures.items) refl
+    refl refl (log_same s.lines.items c.reserve.new.self.items c.reserve.ensures.items) refl
 
 pub returns-in-Err-Refused-clause-serves : goal.returns-in-Err-Refused-clause-serves
 returns-in-Err-Refused-clause-serves g c =
