@@ -6,8 +6,8 @@ ghost use Rattle.canon_context.specs.Component.{HasOptions};
 ghost use Rattle.canon_context.specs.Core.{types_of};
 ghost use Rattle.canon_context.specs.Host.{Keeps};
 ghost use Rattle.canon_host.specs.Asked.{HasRoomFor};
-ghost use Rattle.canon_host.specs.Imports.{ServesImport};
-ghost use Rattle.canon_example.specs.Imported.{AnyAnswer, CountsOnce, ServedBy};
+ghost use Rattle.canon_host.specs.Imports.{CountsOnce, ServesImport};
+ghost use Rattle.canon_example.specs.Imported.{AnyAnswer, ServedBy};
 
 use canon_host::{DynamicHostFn, HostCx, HostError, HostFunc, HostStop, HostView, Imports};
 use canon_memory::{Guest, ValRaw};
@@ -34,8 +34,8 @@ impl<
     ghost use Rattle.canon_context.specs.Core.{types_of};
     ghost use Rattle.canon_context.specs.Host.{Keeps};
     ghost use Rattle.canon_host.specs.Asked.{HasRoomFor};
-    ghost use Rattle.canon_host.specs.Imports.{ServesImport};
-    ghost use Rattle.canon_example.specs.Imported.{AnyAnswer, CountsOnce, ServedBy};
+    ghost use Rattle.canon_host.specs.Imports.{CountsOnce, ServesImport};
+    ghost use Rattle.canon_example.specs.Imported.{AnyAnswer, ServedBy};
 
     type Plan = ();
 
@@ -74,6 +74,8 @@ impl<
         // A component with several functions has a field for each, and `n` says which import is asked for.
         serve_by(&self.func, &mut self.refusals, alloc, n, cx, storage)
     }
+
+    ghost lawful = { λ plan n. tt {0} };
 }
 
 /// Serves one ask by a function, and counts a refusal.

@@ -1,6 +1,6 @@
 //! The parameters of typed calls, from a script's values.
 
-ghost use Rattle.std.specs.Prelude.{◌≡◌, ◌++◌, ◌∷◌, [], List, IfErr, IfOk, None, OnOk, Option, Some, map, option_and_then, option_map, string_bytes, ℕ};
+ghost use Rattle.std.specs.Prelude.{◌≡◌, ◌++◌, ◌∷◌, [], List, IfErr, OnOk, Some, map, option_map, string_bytes, ℕ};
 ghost use Rattle.canon_json.specs.Json.{Gives};
 ghost use Rattle.canon_json.specs.declared.error.ScriptError.TheVariants as refused;
 ghost use Rattle.canon_script.specs.Literals.{Literal, literal_view, literals_of, literals_view, payload_view};
