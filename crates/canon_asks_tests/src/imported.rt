@@ -6,6 +6,7 @@ ghost use Rattle.canon_context.specs.Component.{HasOptions};
 ghost use Rattle.canon_context.specs.Core.{types_of};
 ghost use Rattle.canon_context.specs.Host.{StaticKeeps};
 ghost use Rattle.canon_host.specs.Asked.{HasRoomFor};
+ghost use Rattle.canon_host.specs.Forms.{MayGive};
 ghost use Rattle.canon_host.specs.HostSide.{gives_types};
 ghost use Rattle.canon_host.specs.Imports.{CountsOnce, ServedByTyped, ServesImport};
 
@@ -18,7 +19,7 @@ use canon_memory::{Guest, ValRaw};
 use canon_typed::ComponentNamedList;
 use std::alloc::Global;
 
-/// Each import is this function over Rust types. No log is exposed.
+/// Each import is this function over Rust types, which is their plan. No log is exposed.
 #[derive(Drop)]
 pub struct OneTyped<F, P, R> {
     pub func: HostFunc<StaticHostFn<F, P, R>>,
@@ -38,21 +39,22 @@ impl<
     ghost use Rattle.canon_context.specs.Core.{types_of};
     ghost use Rattle.canon_context.specs.Host.{StaticKeeps};
     ghost use Rattle.canon_host.specs.Asked.{HasRoomFor};
+    ghost use Rattle.canon_host.specs.Forms.{MayGive};
     ghost use Rattle.canon_host.specs.HostSide.{gives_types};
     ghost use Rattle.canon_host.specs.Imports.{CountsOnce, ServedByTyped, ServesImport};
 
-    type Plan = ();
+    type Plan = F;
 
     // The function keeps what it must.
     ghost ready = { λ s. StaticKeeps F.Fn s.func };
 
-    ghost plan = { λ s. tt {0} };
+    ghost plan = { λ s. s.func };
 
     ghost log = { λ s. None };
 
     ghost refusals = { λ s. s.refusals };
 
-    ghost gives = { λ plan. gives_types (record { fits_params = P.fits; fits_results = R.fits; reading = P.reading; told = P.is_told; lifts = P.lifts; cost = P.cost; means = R.means; walks = R.walks; gives = R.gives }) };
+    ghost gives = { λ f. gives_types (record { fits_params = P.fits; fits_results = R.fits; reading = P.reading; told = P.is_told; lifts = P.lifts; cost = P.cost; means = R.means; walks = R.walks; gives = R.gives }) (MayGive F.Fn f) };
 
     fn serve(
         &mut self,
@@ -66,9 +68,9 @@ impl<
         requires options { HasOptions cx.core.now.component cx.options }
         requires room { HasRoomFor (types_of cx.core.now) cx.ty storage.old }
         ensures still_ready { StaticKeeps F.Fn self.new.func }
-        ensures plan { tt {0} ≡ tt {0} }
+        ensures plan { self.new.func ≡ self.old.func }
         ensures refusals { self.old.refusals ≤ self.new.refusals }
-        ensures serves { IfSome (slice_get (types_of cx.entry.core.now).funcs cx.entry.ty) (λ t. ServesImport (gives_types (record { fits_params = P.fits; fits_results = R.fits; reading = P.reading; told = P.is_told; lifts = P.lifts; cost = P.cost; means = R.means; walks = R.walks; gives = R.gives })) None _n G.seen G.moves (record { ty = cx.entry.ty; func = t; options = cx.entry.options }) None self.old.refusals self.new.refusals cx.entry.core.now storage.old result cx.exit.0.now storage.new) }
+        ensures serves { IfSome (slice_get (types_of cx.entry.core.now).funcs cx.entry.ty) (λ t. ServesImport (gives_types (record { fits_params = P.fits; fits_results = R.fits; reading = P.reading; told = P.is_told; lifts = P.lifts; cost = P.cost; means = R.means; walks = R.walks; gives = R.gives }) (MayGive F.Fn self.old.func)) None _n G.seen G.moves (record { ty = cx.entry.ty; func = t; options = cx.entry.options }) None self.old.refusals self.new.refusals cx.entry.core.now storage.old result cx.exit.0.now storage.new) }
         ensures served { IfSome (slice_get (types_of cx.entry.core.now).funcs cx.entry.ty) (λ t. ServedByTyped F.Fn self.old.func (record { fits_params = P.fits; fits_results = R.fits; reading = P.reading; told = P.is_told; lifts = P.lifts; cost = P.cost; means = R.means; walks = R.walks; gives = R.gives }) G.seen G.moves (record { ty = cx.entry.ty; func = t; options = cx.entry.options }) cx.entry.core.now storage.old result cx.exit.0.now storage.new) }
         ensures counts { CountsOnce result self.old.refusals self.new.refusals }
         ensures same { cx.exit.0.now ≡ record cx.entry.core.now { state = cx.exit.0.now.state; guest = cx.exit.0.now.guest; memory = cx.exit.0.now.memory; ledger = cx.exit.0.now.ledger } }

@@ -1,6 +1,6 @@
 -- What is asked of what is said of an ask of a function of the host, and of the steps of its form.
 use Rattle.std.proofs.Common.{Err, List, None, Ok, Option, Result, Some, length, ℕ, ◌++◌, ◌≡◌, ◌⊎◌}
-use Rattle.std.specs.Prelude.{IfErr, IfSome, OnOk, take}
+use Rattle.std.specs.Prelude.{IfErr, OnOk, take}
 use Rattle.canon_model.specs.Layout.{members_flat}
 use Rattle.canon_memory.specs.declared.event.Event.{Event}
 use Rattle.canon_memory.specs.Guest.{Goes, GuestIn, Seen}
@@ -13,6 +13,7 @@ use Rattle.canon_context.specs.declared.fault.Fault.{Fault}
 use Rattle.canon_context.specs.declared.fault.Fault.TheVariants as fault
 use Rattle.canon_context.specs.declared.host.HostStop.{HostStop}
 use Rattle.canon_value.specs.Resources.{stop_of}
+use Rattle.canon_host.specs.Forms.{in_view}
 use Rattle.canon_host.specs.HostSide.{Answering, Entry}
 use Rattle.canon_host.specs.Serves.{Steps, Values}
 use Rattle.canon_host.specs.declared.asked.Asked.{Asked}
@@ -28,7 +29,7 @@ use Rattle.canon_func.specs.declared.error.Error.{Error}
 use Rattle.canon_func.specs.declared.error.Error.TheVariants as error
 
 -- of each form
-pub record AskSound (its : AskForm) : Type 0 where
+pub record AskSound {T : Type 0} (its : AskForm T) : Type 0 where
   -- memory may always be wanting, and nothing is done else for a refusal alone
   pub short : (callee : Callee) (asked : Asked) (index : ℕ) (log : Option (List Entry)) → its.declines callee asked index log (error.Fault fault.OutOfMemory)
   pub declined : (callee : Callee) (asked : Asked) (index : ℕ) (log : Option (List Entry)) (e : Error) → its.declines callee asked index log e → (e ≡ error.Fault fault.OutOfMemory) ⊎ (e ≡ error.HostRefused index)
@@ -47,7 +48,7 @@ pub record AskSound (its : AskForm) : Type 0 where
       → its.lowers callee asked at memory memory2 results low answers trap l n (Err fault.GuestTrap) → (t : Trap) × (trap ≡ Some t)
 
 -- of each form that is lawful
-pub record AskLawful (its : AskForm) : Type 0 where
+pub record AskLawful {T : Type 0} (its : AskForm T) : Type 0 where
   -- handles of parameters are taken by their parts
   pub taken : (callee : Callee) (fuel : ℕ) (asked : Asked) (words memory : List ℕ) (l n : LedgerState) (params : its.Params) → its.lifts callee fuel asked words memory l (Ok params) n
       → (store : ℕ) × (hs : List ℕ) × LeavesTake l (its.parts store callee asked words memory) hs n
@@ -61,7 +62,7 @@ asked_answer index (Ok x) = Ok tt
 asked_answer index (Err f) = Err (asked_error index f)
 
 -- Results were lowered on the way from one core to another, from this ledger.
-pub record LowersAs {T G : Type 0} (its : AskForm) (seen : G → Seen) (moves : GuestIn G → List Event → GuestIn G → Type 0) (index : ℕ) (a b : Parts T G) (callee : Callee) (asked : Asked) (storage2 : List ℕ) (at : ℕ) (results : its.Results) (l : LedgerState)
+pub record LowersAs {T G : Type 0} (its : AskForm T) (seen : G → Seen) (moves : GuestIn G → List Event → GuestIn G → Type 0) (index : ℕ) (a b : Parts T G) (callee : Callee) (asked : Asked) (storage2 : List ℕ) (at : ℕ) (results : its.Results) (l : LedgerState)
     (r : Result (Unit {0}) Fault) : Type 0 where
   pub answers : List Answer
   pub trap : Option Trap
@@ -73,7 +74,7 @@ pub record LowersAs {T G : Type 0} (its : AskForm) (seen : G → Seen) (moves : 
   pub moved : (l es : List Event) → (seen a.guest).journal ≡ Some l → (seen b.guest).journal ≡ Some (l ++ es) → OnAnswered {T = Unit {0}} (asked_answer index r) (moves (guest_of a) es (guest_of b))
 
 -- The steps of a form, of an ask on the way from one core to another, say what is said of it; `Logged` is the log after an ask that was served.
-pub record FollowsSteps {T G P S : Type 0} (its : AskForm) (answers_so : Answering T) (how : Steps T G its.Params P its.Results S) (Logged : Values P its.Results → Option (List Entry)) (seen : G → Seen) (moves : GuestIn G → List Event → GuestIn G → Type 0)
+pub record FollowsSteps {T G P S : Type 0} (its : AskForm T) (answers_so : Answering T) (how : Steps T G its.Params P its.Results S) (Logged : Values P its.Results → Option (List Entry)) (seen : G → Seen) (moves : GuestIn G → List Event → GuestIn G → Type 0)
     (log : Option (List Entry)) (index : ℕ) (a b : Parts T G) (callee : Callee) (asked : Asked) (words pad storage2 : List ℕ) : Type 0 where
   pub declines : (e : HostError) → how.declines a e → its.declines callee asked index log (host_error index e)
   pub lifts : (l : LedgerState) (r : Result its.Params Fault) (lifted : Parts T G) → how.lifts (record a { ledger = l }) (words ++ pad) r lifted
@@ -81,10 +82,10 @@ pub record FollowsSteps {T G P S : Type 0} (its : AskForm) (answers_so : Answeri
   pub fails : (before after : Parts T G) (e : HostError) → how.fails before e after → (e ≡ host.Fault fault.OutOfMemory) × (after ≡ before)
   pub gives : (before after : Parts T G) (params : its.Params) (results : its.Results) → how.gives before (how.told params) after results
       → HostSteps before.ledger after.ledger × (after ≡ record before { state = after.state; ledger = after.ledger })
-      × IfSome log (λ entries. (after.ledger ≡ before.ledger) × its.answered (answers_so entries index before.state) params (Ok results) after.state)
+      × its.gave answers_so index log (in_view before) params (Ok results) after.state after.ledger
   pub stops : (before after : Parts T G) (params : its.Params) (why : HostStop) (left : S) → how.stops before (how.told params) why after left
       → HostSteps before.ledger after.ledger × (after ≡ record before { state = after.state; ledger = after.ledger })
-      × IfSome log (λ entries. (after.ledger ≡ before.ledger) × its.answered (answers_so entries index before.state) params (Err why) after.state)
+      × its.gave answers_so index log (in_view before) params (Err why) after.state after.ledger
   pub logs : (params : its.Params) (told : Values P its.Results) → told.params ≡ how.told params → Logged told ≡ its.logged_with log index params told.results
   pub lowers : (s : T) (l : LedgerState) (at : ℕ) (results : its.Results) (r : Result (Unit {0}) Fault) → how.lowers (record a { state = s; ledger = l }) at results r b storage2
       → LowersAs its seen moves index a b callee asked storage2 at results l r

@@ -5,10 +5,10 @@ use Rattle.canon_func.proofs.AskLaws.{AskLawful, AskSound}
 use Rattle.canon_func.proofs.TypesAsked.{types_lawful, types_sound}
 use Rattle.canon_func.proofs.ValuesAsked.{values_lawful, values_sound}
 
-pub form_sound : (form : Form) → AskSound (ask_form form)
+pub form_sound : {T : Type 0} (form : Form T) → AskSound (ask_form form)
 form_sound over_values = values_sound
-form_sound (over_types types) = types_sound types
+form_sound (over_types types may) = types_sound types may
 
-pub form_lawful : (form : Form) → IsLawful form → AskLawful (ask_form form)
+pub form_lawful : {T : Type 0} (form : Form T) → IsLawful form → AskLawful (ask_form form)
 form_lawful over_values lawful = values_lawful
-form_lawful (over_types types) lawful = types_lawful types lawful.taken lawful.walkable
+form_lawful (over_types types may) lawful = types_lawful types may lawful.taken lawful.walkable

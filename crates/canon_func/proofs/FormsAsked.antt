@@ -23,24 +23,24 @@ use Rattle.canon_func.proofs.ValuesAsked.{values_follow, values_sound}
 
 module _ {T G : Type 0} (seen : G → Seen) (moves : GuestIn G → List Event → GuestIn G → Type 0) (gives : Giving T) (log log2 : Option (List Entry)) (refusals refusals2 index : ℕ) (a b : Parts T G) (export : Export) (asked : Asked) (words pad storage storage2 : List ℕ)
     (is : IsHostAsk (export_callee a.component export) index words asked) (front : storage ≡ words ++ pad) where
-  abbrev AskedBy : AskForm → Result (Unit {0}) Error → Type 0
+  abbrev AskedBy : AskForm T → Result (Unit {0}) Error → Type 0
   AskedBy its r = Out its seen moves gives.answers log log2 refusals refusals2 index a b export asked words storage2 r
 
-  served_by : (form : Form) → row_words (asked_results (export_callee a.component export) asked) ≤ length storage2 → ServesForm gives log index seen moves asked form log2 refusals refusals2 a storage (Ok tt) b storage2 → AskedBy (ask_form form) (Ok tt)
+  served_by : (form : Form T) → row_words (asked_results (export_callee a.component export) asked) ≤ length storage2 → ServesForm gives log index seen moves asked form log2 refusals refusals2 a storage (Ok tt) b storage2 → AskedBy (ask_form form) (Ok tt)
   served_by over_values room h =
       logged_served ask_values values_sound seen moves gives.answers log log2 refusals refusals2 index a b export asked words pad storage2 is (steps_of_values gives log index seen moves asked) (λ told. logged log (entry_of index told))
       (values_follow seen moves gives log index a b export asked words pad storage2 is) storage front room h
-  served_by (over_types types) room h =
-      logged_served (ask_types types) (types_sound types) seen moves gives.answers log log2 refusals refusals2 index a b export asked words pad storage2 is (steps_of_types types log seen moves asked) (λ told. log)
-      (types_follow types seen moves gives log index a b export asked words pad storage2 is) storage front room h
+  served_by (over_types types may) room h =
+      logged_served (ask_types types may) (types_sound types may) seen moves gives.answers log log2 refusals refusals2 index a b export asked words pad storage2 is (steps_of_types types may log seen moves asked) (λ told. log)
+      (types_follow types may seen moves gives log index a b export asked words pad storage2 is) storage front room h
 
-  stopped_by : (form : Form) → moves (guest_of a) [] (guest_of a) → (e : HostError) → ServesForm gives log index seen moves asked form log2 refusals refusals2 a storage (Err e) b storage2 → AskedBy (ask_form form) (Err (host_error index e))
+  stopped_by : (form : Form T) → moves (guest_of a) [] (guest_of a) → (e : HostError) → ServesForm gives log index seen moves asked form log2 refusals refusals2 a storage (Err e) b storage2 → AskedBy (ask_form form) (Err (host_error index e))
   stopped_by over_values stays e h =
       logged_stopped ask_values values_sound seen moves gives.answers log log2 refusals refusals2 index a b export asked words pad storage2 is (steps_of_values gives log index seen moves asked) (λ told. logged log (entry_of index told))
       (values_follow seen moves gives log index a b export asked words pad storage2 is) storage front stays e h
-  stopped_by (over_types types) stays e h =
-      logged_stopped (ask_types types) (types_sound types) seen moves gives.answers log log2 refusals refusals2 index a b export asked words pad storage2 is (steps_of_types types log seen moves asked) (λ told. log)
-      (types_follow types seen moves gives log index a b export asked words pad storage2 is) storage front stays e h
+  stopped_by (over_types types may) stays e h =
+      logged_stopped (ask_types types may) (types_sound types may) seen moves gives.answers log log2 refusals refusals2 index a b export asked words pad storage2 is (steps_of_types types may log seen moves asked) (λ told. log)
+      (types_follow types may seen moves gives log index a b export asked words pad storage2 is) storage front stays e h
 
   abbrev pub Imported : Result (Unit {0}) HostError → Type 0
   Imported r = ServesImport gives log index seen moves asked log2 refusals refusals2 a storage r b storage2

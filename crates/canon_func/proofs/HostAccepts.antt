@@ -48,7 +48,7 @@ area_excludes bytes ms ws k at f area (inr (e, aligned, past)) = let same : at �
 told_short : (index : ℕ) (f : Fault) → f ≡ fault.OutOfMemory → asked_error index f ≡ error.Fault fault.OutOfMemory
 told_short index f is = ap (asked_error index) is
 
-module _ {T : Type 0} (its : AskForm) (sound : AskSound its) (lawful : AskLawful its) (answers_so : Answering T) (callee : Callee) (fuel : ℕ) (asked : Asked) (index : ℕ) (words memory memory2 : List ℕ) (answers : List Answer) (trap : Option Trap) (before after : HostSide T)
+module _ {T : Type 0} (its : AskForm T) (sound : AskSound its) (lawful : AskLawful its) (answers_so : Answering T) (callee : Callee) (fuel : ℕ) (asked : Asked) (index : ℕ) (words memory memory2 : List ℕ) (answers : List Answer) (trap : Option Trap) (before after : HostSide T)
     (kept : AllLawful answers) (none : trap ≡ None) where
   given_excluded : (results : its.Results) (called : LedgerState) (e : Error) → AcceptsGiven its answers_so callee fuel asked words memory results called
       → StopsGiven its answers_so callee fuel asked index words memory memory2 answers trap before after e results called → e ≡ error.Fault fault.OutOfMemory

@@ -23,6 +23,7 @@ use Rattle.canon_context.specs.declared.host.HostStop.{HostStop}
 use Rattle.canon_context.specs.declared.host.HostStop.TheVariants as stop
 use Rattle.canon_value.specs.Args.{args_words}
 use Rattle.canon_host.specs.Asked.{AreEnough, row_words}
+use Rattle.canon_host.specs.Forms.{in_view}
 use Rattle.canon_host.specs.HostSide.{Answering, Entry, HostSide, host_side}
 use Rattle.canon_host.specs.Imports.{ServesLogged}
 use Rattle.canon_host.specs.Serves.{AnswersBy, ConcludesBy, IsNoPlace, IsPlace, ServesBy, Steps, Values, stopped}
@@ -32,7 +33,7 @@ use Rattle.canon_host.specs.declared.error.HostError.TheVariants as host
 use Rattle.canon_func.specs.AskForms.{AskForm}
 use Rattle.canon_func.specs.AskValues.{asked_params, asked_results}
 use Rattle.canon_func.specs.Call.{OnAnswered}
-use Rattle.canon_func.specs.HostAsks.{Counted, HostStopsBy, IsHostAsk, NothingAsked, StopsAt, StopsGiven, asked_error, asked_exit, host_error, stopped_error}
+use Rattle.canon_func.specs.HostAsks.{Counted, HostStopsBy, IsHostAsk, NothingAsked, StopsAt, StopsGiven, asked_error, asked_exit, called_on, host_error, stopped_error}
 use Rattle.canon_func.specs.Steps.{HostAskedBy, RisesAt, Serving}
 use Rattle.canon_func.specs.Stores.{Callee, export_callee}
 use Rattle.canon_func.specs.declared.error.Error.{Error}
@@ -44,14 +45,14 @@ use Rattle.canon_func.proofs.Lowered.{told as told_moves}
 use Rattle.canon_func.proofs.Turns.{done_is}
 
 -- how it ended: on the way from one core to another, with the words of the results in storage
-abbrev pub Out : {T G : Type 0} (its : AskForm) (seen : G → Seen) (moves : GuestIn G → List Event → GuestIn G → Type 0) (answers_so : Answering T) (log log2 : Option (List Entry)) (refusals refusals2 index : ℕ) (a b : Parts T G) (export : Export) (asked : Asked) (words storage2 : List ℕ)
+abbrev pub Out : {T G : Type 0} (its : AskForm T) (seen : G → Seen) (moves : GuestIn G → List Event → GuestIn G → Type 0) (answers_so : Answering T) (log log2 : Option (List Entry)) (refusals refusals2 index : ℕ) (a b : Parts T G) (export : Export) (asked : Asked) (words storage2 : List ℕ)
     → Result (Unit {0}) Error → Type 0
 Out its seen moves answers_so log log2 refusals refusals2 index a b export asked words storage2 r = Serving (moment_of seen a) (moment_of seen b) (λ es. OnAnswered r (moves (guest_of a) es (guest_of b)))
     (λ answers es. HostAskedBy its answers_so (export_callee a.component export) a.fuel asked index words (moment_of seen a) (moment_of seen b) (host_side a log refusals) (host_side b log2 refusals2) storage2 r answers es)
 
 -- ---- the chain of steps, said of the ask
 
-module _ {T G P S : Type 0} (its : AskForm) (sound : AskSound its) (seen : G → Seen) (moves : GuestIn G → List Event → GuestIn G → Type 0) (answers_so : Answering T) (log log2 : Option (List Entry)) (refusals refusals2 index : ℕ) (a b : Parts T G) (export : Export) (asked : Asked)
+module _ {T G P S : Type 0} (its : AskForm T) (sound : AskSound its) (seen : G → Seen) (moves : GuestIn G → List Event → GuestIn G → Type 0) (answers_so : Answering T) (log log2 : Option (List Entry)) (refusals refusals2 index : ℕ) (a b : Parts T G) (export : Export) (asked : Asked)
     (words pad storage2 : List ℕ) (is : IsHostAsk (export_callee a.component export) index words asked) (how : Steps T G its.Params P its.Results S) (Logged : Values P its.Results → Option (List Entry))
     (law : FollowsSteps its answers_so how Logged seen moves log index a b (export_callee a.component export) asked words pad storage2) where
   abbrev callee : Callee
@@ -87,10 +88,10 @@ module _ {T G P S : Type 0} (its : AskForm) (sound : AskSound its) (seen : G →
     ),
   )
 
-  -- what the function may answer, by the data before and after
-  gave_so : (params : its.Params) (answer : Result its.Results HostStop) (l m : LedgerState) (s t : T) → s ≡ a.state → t ≡ b.state
-      → IfSome log (λ entries. (m ≡ l) × its.answered (answers_so entries index s) params answer t) → IfSome log (λ entries. (m ≡ l) × its.answered (answers_so entries index a.state) params answer b.state)
-  gave_so params answer l m s t es et h = subst₂ (λ x y. IfSome log (λ entries. (m ≡ l) × its.answered (answers_so entries index x) params answer y)) es et h
+  -- what the function may answer, by what it reaches and the data after
+  gave_so : (params : its.Params) (answer : Result its.Results HostStop) (lifted : Parts T G) (m : LedgerState) (t : T) → lifted ≡ record a { ledger = lifted.ledger } → t ≡ b.state
+      → its.gave answers_so index log (in_view lifted) params answer t m → its.gave answers_so index log (called_on callee a.memory a.state lifted.ledger) params answer b.state m
+  gave_so params answer lifted m t same et h = subst₂ (λ x y. its.gave answers_so index log x params answer y m) (ap in_view same) et h
 
   -- ---- how it ended
 
@@ -151,7 +152,7 @@ module _ {T G P S : Type 0} (its : AskForm) (sound : AskSound its) (seen : G →
             words = take (members_flat (asked_results callee asked)) storage2;
             lifts = lifting.0;
             steps = gave.0;
-            gave = gave_so params (Ok told.results) lifted.ledger called.ledger lifted.state called.state (ap (λ (k : Parts T G). k.state) lifting.1) (sym (concluded_state called.state called.ledger told.results (Ok tt) ended_so)) gave.2;
+            gave = gave_so params (Ok told.results) lifted called.ledger called.state lifting.1 (sym (concluded_state called.state called.ledger told.results (Ok tt) ended_so)) gave.2;
             place = place at placed;
             ends = exit_is called.ledger ended.ledger (Ok tt) ends.0;
             lowers = subst (λ o. its.lowers callee asked at a.memory b.memory told.results (take (members_flat (asked_results callee asked)) storage2) by.answers o (leave ended.ledger) b.ledger (Ok tt)) none by.lowers;
@@ -242,14 +243,14 @@ module _ {T G P S : Type 0} (its : AskForm) (sound : AskSound its) (seen : G →
         let is_why : host_error index e ≡ stopped_error index why = ap (host_error index) told ∙ stopped_is why in
         let core_is = called_core a.state (enter a.ledger) lifted b same gave.1 in
         subst (λ err. Ends (Err err)) (sym is_why) (quiet b.state b.ledger (stopped_error index why) (stopped_counted refusals refusals2 index why (subst (CountsHost refusals refusals2) told counts)) core_is (stopped_calm why)
-        (inr (inr (params, lifted.ledger, lift, inr (inl (why, refl, gave.0, gave_so params (Err why) lifted.ledger b.ledger lifted.state b.state (ap (λ (k : Parts T G). k.state) same) refl gave.2, nothing_asked b.state b.ledger core_is))))))
+        (inr (inr (params, lifted.ledger, lift, inr (inl (why, refl, gave.0, gave_so params (Err why) lifted b.ledger b.state same refl gave.2, nothing_asked b.state b.ledger core_is))))))
     stopped_called e counts params lifted same lift (inr (inr (results, called, x, told, calls, concludes))) =
         let gave = law.gives lifted called params results calls in
         let is_fault : host_error index e ≡ asked_error index x = ap (host_error index) told in
         let core_is = called_core a.state (enter a.ledger) lifted called same gave.1 in
         let ended_so = subst (λ k. ConcludesBy how.lowers asked k results (words ++ pad) (Err x) b storage2) core_is concludes in
         subst (λ err. Ends (Err err)) (sym is_fault) (stopped_given called.state called.ledger results x (subst (CountsHost refusals refusals2) told counts)
-        (λ answers trap h. inr (inr (params, lifted.ledger, lift, inr (inr (results, called.ledger, gave.0, gave_so params (Ok results) lifted.ledger called.ledger lifted.state called.state (ap (λ (k : Parts T G). k.state) same) (sym (concluded_state called.state called.ledger results (Err x) ended_so)) gave.2, h)))))
+        (λ answers trap h. inr (inr (params, lifted.ledger, lift, inr (inr (results, called.ledger, gave.0, gave_so params (Ok results) lifted called.ledger called.state same (sym (concluded_state called.state called.ledger results (Err x) ended_so)) gave.2, h)))))
         ended_so)
 
     pub ask_stopped : (e : HostError) → CountsHost refusals refusals2 e → ServesBy how asked a (words ++ pad) (Err e) b storage2 → Ends (Err (host_error index e))

@@ -64,7 +64,7 @@ ended_partway_of l ended n steps ends rest = inr (inr (0, ap (λ (d : Done (Unit
 
 -- ---- an ask of a function of the host
 
-module _ {T : Type 0} (its : AskForm) (sound : AskSound its) (lawful : AskLawful its) (answers_so : Answering T) (callee : Callee) (fuel : ℕ) (asked : Asked) (index : ℕ) (words memory memory2 : List ℕ) (answers : List Answer) (trap : Option Trap) (before after : HostSide T) (e : Error)
+module _ {T : Type 0} (its : AskForm T) (sound : AskSound its) (lawful : AskLawful its) (answers_so : Answering T) (callee : Callee) (fuel : ℕ) (asked : Asked) (index : ℕ) (words memory memory2 : List ℕ) (answers : List Answer) (trap : Option Trap) (before after : HostSide T) (e : Error)
     (is : IsHostAsk callee index words asked) where
   -- it stopped after the parameters were lifted
   whole_first : (store : ℕ) (lifted : LedgerState) → Through before.ledger (asked_steps its store callee asked words memory before.ledger) lifted → after.ledger ≡ lifted → Partway before.ledger (asked_steps its store callee asked words memory before.ledger) after.ledger
@@ -103,7 +103,7 @@ module _ {T : Type 0} (its : AskForm) (sound : AskSound its) (lawful : AskLawful
   host_partway (inr (inr (params, lifted, lift, stops))) = inr (called_partway params lifted lift stops)
 
 -- what was served went through all steps
-through_host : (its : AskForm) (callee : Callee) (t : AskTurn) (l n : LedgerState) → HostThrough its callee t l n → HostPartway its callee t.index t.words t.memory l n
+through_host : {T : Type 0} (its : AskForm T) (callee : Callee) (t : AskTurn) (l n : LedgerState) → HostThrough its callee t l n → HostPartway its callee t.index t.words t.memory l n
 through_host its callee t l n h = (h.asked, h.store, h.is, inr (inr (h.results, h.lifted, h.called, h.first, h.steps, through_partway h.called n (given_steps its callee h.asked h.results h.called) h.last)))
 
 module _ {T : Type 0} (gives : Giving T) (lawful : (n : ℕ) → IsLawful (gives.form n)) (callee : Callee) (fuel : ℕ) where

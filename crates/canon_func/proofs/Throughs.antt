@@ -48,7 +48,7 @@ ended_is l ended ends = sym (ap (λ (d : Done (Unit {0})). d.after) ends)
 pub ended_can_leave : (l ended : LedgerState) → asked_exit l ≡ record { answer = Ok tt; after = ended } → can_leave ended.handles ≡ true
 ended_can_leave l ended ends = ended_leaves l ended ends
 
-module _ {T : Type 0} (its : AskForm) (sound : AskSound its) (lawful : AskLawful its) (answers_so : Answering T) (callee : Callee) (fuel : ℕ) where
+module _ {T : Type 0} (its : AskForm T) (sound : AskSound its) (lawful : AskLawful its) (answers_so : Answering T) (callee : Callee) (fuel : ℕ) where
   pub form_through : (t : AskTurn) (l n : HostSide T) → IsHostServedBy its answers_so callee fuel t l n → HostThrough its callee t l.ledger n.ledger
   form_through t l n h =
       let lifts = lawful.taken callee fuel h.asked t.words t.memory (enter l.ledger) h.lifted h.params h.lifts in

@@ -2,7 +2,7 @@
 use Rattle.std.proofs.Common.{Err, List, None, Ok, Option, Result, Some, [], ap, arith, inl, inr, length, refl, subst, sym, ℕ, ⊎_elim, ◌++◌, ◌<◌, ◌∙◌, ◌≡◌, ◌≤◌, ◌⊎◌}
 use Rattle.std.proofs.lemmas.Bool.{cases_lt}
 use Rattle.std.proofs.lemmas.List.{take-append-le}
-use Rattle.std.specs.Prelude.{IfErr, IfSome, false, nat_le, take}
+use Rattle.std.specs.Prelude.{IfErr, false, nat_le, take}
 use Rattle.canon_args.specs.Areas.{passed_taken}
 use Rattle.canon_args.specs.Params.{InParts}
 use Rattle.canon_args.specs.Results.{LowersTuple}
@@ -30,7 +30,7 @@ use Rattle.canon_context.specs.declared.component.Export.{Export}
 use Rattle.canon_context.specs.declared.fault.Fault.{Fault}
 use Rattle.canon_context.specs.declared.fault.Fault.TheVariants as fault
 use Rattle.canon_value.specs.Args.{args_words}
-use Rattle.canon_host.specs.Forms.{IsOfOthers, RustTypes}
+use Rattle.canon_host.specs.Forms.{IsOfOthers, RustTypes, TypedAnswering}
 use Rattle.canon_host.specs.HostSide.{Entry, Giving}
 use Rattle.canon_host.specs.Imports.{Declines, steps_of_types}
 use Rattle.canon_host.specs.ServesTyped.{LiftsTyped, LowersTyped}
@@ -136,12 +136,12 @@ module _ (Has : Tree → Type 0) (gives : List (List Part)) (callee : Callee) (a
 
 -- ---- the laws
 
-module _ {P R : Type 0} (types : RustTypes P R) where
+module _ {T P R : Type 0} (types : RustTypes P R) (May : TypedAnswering T P R) where
   declined_so : (A B C D : Type 0) → A ⊎ (B × C × D) → A ⊎ B
   declined_so A B C D (inl h) = inl h
   declined_so A B C D (inr h) = inr h.0
 
-  pub types_sound : AskSound (ask_types types)
+  pub types_sound : AskSound (ask_types types May)
   types_sound = record {
     short = λ callee asked index log. inl refl;
     declined = λ callee asked index log e why. declined_so _ _ _ _ why;
@@ -153,7 +153,7 @@ module _ {P R : Type 0} (types : RustTypes P R) where
     traps = λ callee asked at memory memory2 results. typed_traps (types.walks results) (typed_given types callee asked results) callee asked at memory memory2;
   }
 
-  pub types_lawful : AreTaken types.reading → ((v : R) → (t : Tree) × types.walks v t) → AskLawful (ask_types types)
+  pub types_lawful : AreTaken types.reading → ((v : R) → (t : Tree) × types.walks v t) → AskLawful (ask_types types May)
   types_lawful taken walkable = record {
     taken = λ callee fuel asked words memory l n params h.
         let takes = passed_taken types.reading taken (nat_le (flat (asked_shape callee asked)) max_params) (asked_setting callee asked memory h.1.0) (flat_in (take (args_words (asked_params callee asked)) words) 0) (asked_shape callee asked) l n params h.1.2.0 in
@@ -210,10 +210,7 @@ tuple_moves : {G : Type 0} (seen : G → Seen) (moves : GuestIn G → List Event
 tuple_moves seen moves g h index gives f ending (inl is) m = asked_moves (Unit {0}) seen moves g h index f (subst (λ e. Moves seen moves g h e) is m)
 tuple_moves seen moves g h index gives f ending (inr both) m = λ l es p q. subst (λ x. OnAnswered {T = Unit {0}} (Err (asked_error index x)) (moves g es h)) (sym (same_fault f fault.OutOfMemory both.0)) tt
 
-none_so : {A : Type 0} (o : Option A) (Q : A → Type 0) → o ≡ None → IfSome o Q
-none_so o Q is = subst (λ p. IfSome p Q) (sym is) tt
-
-module _ {T G P R : Type 0} (types : RustTypes P R) (seen : G → Seen) (moves : GuestIn G → List Event → GuestIn G → Type 0) (gives : Giving T) (log : Option (List Entry)) (index : ℕ) (a b : Parts T G) (export : Export) (asked : Asked) (words pad storage2 : List ℕ)
+module _ {T G P R : Type 0} (types : RustTypes P R) (May : TypedAnswering T P R) (seen : G → Seen) (moves : GuestIn G → List Event → GuestIn G → Type 0) (gives : Giving T) (log : Option (List Entry)) (index : ℕ) (a b : Parts T G) (export : Export) (asked : Asked) (words pad storage2 : List ℕ)
     (is : IsHostAsk (export_callee a.component export) index words asked) where
   abbrev callee : Callee
   callee = export_callee a.component export
@@ -247,7 +244,7 @@ module _ {T G P R : Type 0} (types : RustTypes P R) (seen : G → Seen) (moves :
         λ near. ap (λ (k : Parts T G). k.memory) (h.quiet_near near none).0,
       )
 
-  lowered : (s : T) (l : LedgerState) (at : ℕ) (results : R) (r : Result (Unit {0}) Fault) → Lowered s l at results r → LowersAs (ask_types types) seen moves index a b callee asked storage2 at results l r
+  lowered : (s : T) (l : LedgerState) (at : ℕ) (results : R) (r : Result (Unit {0}) Fault) → Lowered s l at results r → LowersAs (ask_types types May) seen moves index a b callee asked storage2 at results l r
   lowered s l at results (Ok x) h =
       let by = tuple_by callee asked at (moment_of seen a) (moment_of seen b) (types.walks results) (take (members_flat (asked_results callee asked)) storage2) h.handles h.ending h.lowered in
       let over = ends_done (typed_given types callee asked results) tt h.ending h.ends in
@@ -300,13 +297,13 @@ module _ {T G P R : Type 0} (types : RustTypes P R) (seen : G → Seen) (moves :
         moved = tuple_moves seen moves (guest_of a) (guest_of b) index (typed_given types callee asked results) f h.ending h.ends h.moved;
       }
 
-  pub types_follow : FollowsSteps (ask_types types) gives.answers (steps_of_types types log seen moves asked) (λ told. log) seen moves log index a b callee asked words pad storage2
+  pub types_follow : FollowsSteps (ask_types types May) gives.answers (steps_of_types types May log seen moves asked) (λ told. log) seen moves log index a b callee asked words pad storage2
   types_follow = record {
     declines = declines;
     lifts = λ l r lifted h. ((h.0, lifts l r lifted h.1), h.1.1);
     fails = λ before after e h. absurd h;
-    gives = λ before after params results h. (h.steps, h.same, none_so log _ h.unlogged);
-    stops = λ before after params why left h. (h.steps, h.same, none_so log _ h.unlogged);
+    gives = λ before after params results h. (h.steps, h.same, (h.unlogged, h.may_give));
+    stops = λ before after params why left h. (h.steps, h.same, (h.unlogged, h.may_give));
     logs = λ params told same. refl;
     lowers = lowered;
     state = λ s l at results r h. ap (λ (k : Parts T G). k.state) h.same;

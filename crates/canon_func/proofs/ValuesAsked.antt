@@ -119,7 +119,7 @@ module _ (enc : Encoding) (ms : Members) (vs : List Val) (ts : Trees) (have : Ha
 
 -- ---- the laws
 
-pub values_sound : AskSound ask_values
+pub values_sound : {T : Type 0} → AskSound {T = T} ask_values
 values_sound = record {
   short = λ callee asked index log. refl;
   declined = λ callee asked index log e is. inl is;
@@ -131,7 +131,7 @@ values_sound = record {
   traps = trapped_last;
 }
 
-pub values_lawful : AskLawful ask_values
+pub values_lawful : {T : Type 0} → AskLawful {T = T} ask_values
 values_lawful = record {
   taken = λ callee fuel asked words memory l n params h. let taken = lifts_take callee.types l n _ _ h.1.handles in (0, taken.0, taken.1);
   lower_excluded = λ callee asked at memory memory2 results low answers trap l n f ok h lawful none.

@@ -1,5 +1,5 @@
 -- What is said of an ask of a function of the host, whatever its form is.
-use Rattle.std.specs.Prelude.{List, None, Option, Result, Vec, ℕ, ◌≡◌, ◌⊎◌}
+use Rattle.std.specs.Prelude.{IfSome, List, None, Option, Result, Vec, ℕ, ◌≡◌, ◌⊎◌}
 use Rattle.std.specs.declared.alloc.Global.{Global}
 use Rattle.canon_ledger.specs.Ledger.{LedgerState}
 use Rattle.canon_leaves.specs.Parts.{Part}
@@ -8,8 +8,8 @@ use Rattle.canon_context.specs.declared.fault.Fault.{Fault}
 use Rattle.canon_context.specs.declared.fault.Fault.TheVariants as fault
 use Rattle.canon_context.specs.declared.host.HostStop.{HostStop}
 use Rattle.canon_value.specs.declared.val.Val.{Val}
-use Rattle.canon_host.specs.Forms.{Form, IsOfOthers, RustTypes, over_types, over_values}
-use Rattle.canon_host.specs.HostSide.{Entry, Giving, entry}
+use Rattle.canon_host.specs.Forms.{Form, InView, IsOfOthers, RustTypes, TypedAnswering, over_types, over_values}
+use Rattle.canon_host.specs.HostSide.{Answering, Entry, Giving, entry}
 use Rattle.canon_host.specs.Imports.{logged}
 use Rattle.canon_host.specs.ServesTyped.{AreTyped}
 use Rattle.canon_host.specs.declared.asked.Asked.{Asked}
@@ -19,8 +19,8 @@ use Rattle.canon_func.specs.Stores.{Callee}
 use Rattle.canon_func.specs.declared.error.Error.{Error}
 use Rattle.canon_func.specs.declared.error.Error.TheVariants as error
 
--- `Params` are what parameters are lifted as, and `Results` what the function gives.
-pub record AskForm : Type 1 where
+-- `Params` are what parameters are lifted as, and `Results` what the function gives; `T` is the data of the store.
+pub record AskForm (T : Type 0) : Type 1 where
   pub Params : Type 0
   pub Results : Type 0
   -- why nothing is done, by what is asked for, the number of its import and the log
@@ -32,8 +32,9 @@ pub record AskForm : Type 1 where
   pub liftable : Callee → ℕ → Asked → List ℕ → List ℕ → LedgerState → Type 0
   -- what their handles do, in order, where they are lifted in a store of this number
   pub parts : ℕ → Callee → Asked → List ℕ → List ℕ → List (List Part)
-  -- the function answered so, by what one over values may answer
-  pub answered : {T : Type 0} → (List Val → Result (List Val) HostStop → T → Type 0) → Params → Result Results HostStop → T → Type 0
+  -- The function answered so, as it may: by what one over values may answer, the number of its import, the log, what it reached and its
+  -- parameters; its answer, and the data and the ledger after.
+  pub gave : Answering T → ℕ → Option (List Entry) → InView T → Params → Result Results HostStop → T → LedgerState → Type 0
   -- the log after an ask that was served, by the log before and the number of its import
   pub logged_with : Option (List Entry) → ℕ → Params → Results → Option (List Entry)
   -- Results were lowered to these words, or at the place, or why not: by what is asked for, the place, the memory before and after, the
@@ -44,8 +45,8 @@ pub record AskForm : Type 1 where
   -- what their handles do, in order
   pub gives : Callee → Asked → Results → List (List Part)
 
--- over values
-abbrev pub ask_values : AskForm
+-- over values: of which something is said if the asks that were served are exposed, and then it left the ledger as it was
+abbrev pub ask_values : {T : Type 0} → AskForm T
 ask_values = record {
   Params = Vec Val Global;
   Results = List Val;
@@ -53,7 +54,7 @@ ask_values = record {
   lifts = AskLifts;
   liftable = AskLiftable;
   parts = λ store. asked_parts;
-  answered = λ {T} may params answer state. may params.items answer state;
+  gave = λ answers index log reached params answer state ledger. IfSome log (λ entries. (ledger ≡ reached.ledger) × answers entries index reached.state params.items answer state);
   logged_with = λ log index params results. logged log (entry index params.items results);
   lowers = AskLowers;
   lowerable = AskLowerable;
@@ -61,25 +62,25 @@ ask_values = record {
 }
 
 -- Over Rust types, which those of the function are; one of other types is refused. Whoever exposes a log has no such function.
-abbrev pub ask_types : {P R : Type 0} → RustTypes P R → AskForm
-ask_types {P} {R} types = record {
+abbrev pub ask_types : {T P R : Type 0} → RustTypes P R → TypedAnswering T P R → AskForm T
+ask_types {T} {P} {R} types May = record {
   Params = P;
   Results = R;
   declines = λ callee asked index log e. (e ≡ error.Fault fault.OutOfMemory) ⊎ ((e ≡ error.HostRefused index) × (log ≡ None) × IsOfOthers types callee.types asked.func);
   lifts = λ callee fuel asked words memory before result after. AreTyped types.fits_params types.fits_results callee.types asked.func × TypedAskLifts types.reading callee asked words memory fuel before result after;
   liftable = λ callee fuel asked words memory before. (store : ℕ) → TypedAskLiftable types.reading callee asked words memory fuel before store;
   parts = λ store callee asked words memory. typed_parts types.reading callee asked words memory store;
-  answered = λ {T} may params answer state. ⊥;
+  gave = λ answers index log reached params answer state ledger. (log ≡ None) × May reached params answer state ledger;
   logged_with = λ log index params results. log;
   lowers = λ callee asked at memory memory2 results. TypedAskLowers (types.walks results) (typed_given types callee asked results) callee asked at memory memory2;
   lowerable = λ callee asked memory results. TypedAskLowerable (types.walks results) (typed_given types callee asked results) callee asked memory;
   gives = typed_given types;
 }
 
-abbrev pub ask_form : Form → AskForm
+abbrev pub ask_form : {T : Type 0} → Form T → AskForm T
 ask_form over_values = ask_values
-ask_form (over_types types) = ask_types types
+ask_form (over_types types may) = ask_types types may
 
 -- of the import of a number
-abbrev pub ask_at : {T : Type 0} → Giving T → ℕ → AskForm
+abbrev pub ask_at : {T : Type 0} → Giving T → ℕ → AskForm T
 ask_at gives index = ask_form (gives.form index)

@@ -1,5 +1,5 @@
 -- How an ask for a function of the host is served (CanonicalABI.md, "canon lower").
-use Rattle.std.specs.Prelude.{Err, IfSome, List, None, Ok, Option, Result, Some, [], if◌then◌else◌, nat_le, slice_get, length, ℕ, ◌≡◌, ◌⊎◌}
+use Rattle.std.specs.Prelude.{Err, List, None, Ok, Option, Result, Some, [], if◌then◌else◌, nat_le, slice_get, length, ℕ, ◌≡◌, ◌⊎◌}
 use Rattle.canon_model.specs.Flat.{max_results}
 use Rattle.canon_model.specs.Layout.{members_flat}
 use Rattle.canon_memory.specs.Counts.{Rose}
@@ -15,6 +15,7 @@ use Rattle.canon_context.specs.declared.fault.Fault.TheVariants as fault
 use Rattle.canon_context.specs.declared.host.HostStop.{HostStop}
 use Rattle.canon_context.specs.declared.host.HostStop.TheVariants as stop
 use Rattle.canon_host.specs.Asked.{asked_words, row_words}
+use Rattle.canon_host.specs.Forms.{InView}
 use Rattle.canon_host.specs.HostSide.{Answering, Giving, HostSide}
 use Rattle.canon_host.specs.Serves.{IsNoPlace, IsPlace}
 use Rattle.canon_host.specs.declared.asked.Asked.{Asked}
@@ -68,10 +69,14 @@ abbrev pub Counted : Error → ℕ → ℕ → Type 0
 Counted (error.HostRefused n) before after = Rose before after
 Counted _ before after = after ≡ before
 
-module _ {T : Type 0} (its : AskForm) (answers_so : Answering T) (callee : Callee) (fuel : ℕ) where
-  -- if the asks that were served are exposed, the function may answer so, leaving this data, and left the ledger as it was
-  abbrev pub Gives : HostSide T → ℕ → LedgerState → its.Params → Result its.Results HostStop → T → LedgerState → Type 0
-  Gives before index lifted params answer state called = IfSome before.log (λ log. (called ≡ lifted) × its.answered (answers_so log index before.state) params answer state)
+-- what a function reaches that is called in a memory, over data and a ledger
+abbrev pub called_on : {T : Type 0} → Callee → List ℕ → T → LedgerState → InView T
+called_on callee memory state ledger = record { memory = memory; options = callee.options; types = callee.types; state = state; ledger = ledger }
+
+module _ {T : Type 0} (its : AskForm T) (answers_so : Answering T) (callee : Callee) (fuel : ℕ) where
+  -- the function may answer so, by its form, leaving this data and this ledger
+  abbrev pub Gives : HostSide T → ℕ → List ℕ → LedgerState → its.Params → Result its.Results HostStop → T → LedgerState → Type 0
+  Gives before index memory lifted params answer state called = its.gave answers_so index before.log (called_on callee memory before.state lifted) params answer state called
 
   -- ---- an ask that was resumed
 
@@ -89,7 +94,7 @@ module _ {T : Type 0} (its : AskForm) (answers_so : Answering T) (callee : Calle
     pub words : List ℕ
     pub lifts : its.lifts callee fuel asked t.words t.memory (enter before.ledger) (Ok params) lifted
     pub steps : HostSteps lifted called
-    pub gave : Gives before t.index lifted params (Ok results) after.state called
+    pub gave : Gives before t.index t.memory lifted params (Ok results) after.state called
     pub place : IsPlace callee.types.types asked t.memory t.words at
     pub ends : asked_exit called ≡ record { answer = Ok tt; after = ended }
     pub lowers : its.lowers callee asked at t.memory t.resumed_memory results words t.answers None (leave ended) after.ledger (Ok tt)
@@ -114,8 +119,8 @@ module _ {T : Type 0} (its : AskForm) (answers_so : Answering T) (callee : Calle
     abbrev pub StopsCalled : its.Params → LedgerState → Type 0
     StopsCalled params lifted =
         ((e ≡ error.Fault fault.OutOfMemory) × (after.ledger ≡ lifted) × (after.state ≡ before.state) × NothingAsked memory memory2 answers trap)
-        ⊎ ((why : HostStop) × (e ≡ stopped_error index why) × HostSteps lifted after.ledger × Gives before index lifted params (Err why) after.state after.ledger × NothingAsked memory memory2 answers trap)
-        ⊎ ((results : its.Results) × (called : LedgerState) × HostSteps lifted called × Gives before index lifted params (Ok results) after.state called × StopsGiven results called)
+        ⊎ ((why : HostStop) × (e ≡ stopped_error index why) × HostSteps lifted after.ledger × Gives before index memory lifted params (Err why) after.state after.ledger × NothingAsked memory memory2 answers trap)
+        ⊎ ((results : its.Results) × (called : LedgerState) × HostSteps lifted called × Gives before index memory lifted params (Ok results) after.state called × StopsGiven results called)
 
     -- Where it stopped, in order: nothing was done, as where there was no room for a scope; the parameters weren't lifted; or it stopped later.
     abbrev pub StopsAt : Type 0
@@ -146,7 +151,7 @@ module _ {T : Type 0} (its : AskForm) (answers_so : Answering T) (callee : Calle
     pub is : IsHostAsk callee index words asked
     pub liftable : its.liftable callee fuel asked words memory (enter before.ledger)
     pub given : (params : its.Params) (results : its.Results) (from called : LedgerState) (state : T) → its.lifts callee fuel asked words memory (enter before.ledger) (Ok params) from
-        → HostSteps from called → Gives before index from params (Ok results) state called → AcceptsGiven asked words memory results called
+        → HostSteps from called → Gives before index memory from params (Ok results) state called → AcceptsGiven asked words memory results called
 
 -- ---- by the form of the import
 

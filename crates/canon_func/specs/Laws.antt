@@ -40,18 +40,18 @@ abbrev pub ask_steps : Callee → Builtin → List ℕ → List LedgerStep
 ask_steps callee called words = builtin_step callee.types called (low (slice_index words 0)) ∷ []
 
 -- up to the call of a function of the host: a scope is opened, and the handles of the parameters are lifted
-abbrev pub asked_steps : AskForm → ℕ → Callee → Asked → List ℕ → List ℕ → LedgerState → List LedgerStep
+abbrev pub asked_steps : {T : Type 0} → AskForm T → ℕ → Callee → Asked → List ℕ → List ℕ → LedgerState → List LedgerStep
 asked_steps its store callee asked words memory l = Enter ∷ leaves_steps (enter l) (its.parts store callee asked words memory)
 
 -- from then on: the scope ends and is left, and the handles of the results are lowered
-abbrev pub given_steps : (its : AskForm) → Callee → Asked → its.Results → LedgerState → List LedgerStep
+abbrev pub given_steps : {T : Type 0} → (its : AskForm T) → Callee → Asked → its.Results → LedgerState → List LedgerStep
 given_steps its callee asked results l =
     let exit : LedgerStep = ExitScope (top_scope l.handles) in
     exit ∷ Leave ∷ leaves_steps (leave (do_step exit l).after) (its.gives callee asked results)
 
 -- A function of the host was asked for, in a store of some number, and the ledger went through these steps, each of which it accepted, but
 -- for those that the function took itself, which may be refused.
-pub record HostThrough (its : AskForm) (callee : Callee) (t : AskTurn) (before after : LedgerState) : Type 0 where
+pub record HostThrough {T : Type 0} (its : AskForm T) (callee : Callee) (t : AskTurn) (before after : LedgerState) : Type 0 where
   pub asked : Asked
   pub is : IsHostAsk callee t.index t.words asked
   pub store : ℕ
@@ -63,11 +63,11 @@ pub record HostThrough (its : AskForm) (callee : Callee) (t : AskTurn) (before a
   pub last : Through called (given_steps its callee asked results called) after
 
 -- an ask that was served: the builtin's one step, or those of a function of the host
-abbrev pub AskThrough : (ℕ → Form) → Callee → AskTurn → LedgerState → LedgerState → Type 0
+abbrev pub AskThrough : {T : Type 0} → (ℕ → Form T) → Callee → AskTurn → LedgerState → LedgerState → Type 0
 AskThrough form callee t before after = ((called : Builtin) × (builtin_at callee t.index ≡ Some called) × Through before (ask_steps callee called t.words) after) ⊎ HostThrough (ask_form (form t.index)) callee t before after
 
 -- each of them, in order
-abbrev pub AsksThrough : (ℕ → Form) → Callee → List AskTurn → LedgerState → LedgerState → Type 0
+abbrev pub AsksThrough : {T : Type 0} → (ℕ → Form T) → Callee → List AskTurn → LedgerState → LedgerState → Type 0
 AsksThrough form callee [] before after = after ≡ before
 AsksThrough form callee (t ∷ turns) before after = (mid : LedgerState) × AskThrough form callee t before mid × AsksThrough form callee turns mid after
 
@@ -84,13 +84,13 @@ last_steps parts l =
     exit ∷ leaves_steps (do_step exit l).after parts ++ Leave ∷ []
 
 -- the ledger from before a call, the handles of whose parameters do these parts, to its return, or to its last ask
-pub record CallThrough (form : ℕ → Form) (callee : Callee) (parts : List (List Part)) (turns : List AskTurn) (before served : LedgerState) : Type 0 where
+pub record CallThrough {T : Type 0} (form : ℕ → Form T) (callee : Callee) (parts : List (List Part)) (turns : List AskTurn) (before served : LedgerState) : Type 0 where
   pub lowered : LedgerState
   pub first : Through before (first_steps parts before) lowered
   pub asks : AsksThrough form callee turns lowered served
 
 -- of a call that is Ok, to its end
-abbrev pub PassesThrough : (ℕ → Form) → Callee → List (List Part) → (List ℕ → List ℕ → List (List Part)) → List AskTurn → LedgerState → LedgerState → List Event → Type 0
+abbrev pub PassesThrough : {T : Type 0} → (ℕ → Form T) → Callee → List (List Part) → (List ℕ → List ℕ → List (List Part)) → List AskTurn → LedgerState → LedgerState → List Event → Type 0
 PassesThrough form callee first last turns before after tail =
     (served : LedgerState) × CallThrough form callee first turns before served × Each (OnReturn (λ words memory. Through served (last_steps (last words memory) served) after)) tail
 
@@ -102,27 +102,27 @@ CallIsThrough {T} gives = (callee : Callee) (fuel : ℕ) (params : List Val) (tu
 
 -- A function of the host was asked for, in a store of some number, up to some step: one before its call, one that it took itself, or one
 -- from its results on.
-abbrev pub HostPartway : AskForm → Callee → ℕ → List ℕ → List ℕ → LedgerState → LedgerState → Type 0
+abbrev pub HostPartway : {T : Type 0} → AskForm T → Callee → ℕ → List ℕ → List ℕ → LedgerState → LedgerState → Type 0
 HostPartway its callee index words memory served after = (asked : Asked) × (store : ℕ) × IsHostAsk callee index words asked
     × (Partway served (asked_steps its store callee asked words memory served) after
     ⊎ ((lifted : LedgerState) × Through served (asked_steps its store callee asked words memory served) lifted × HostSteps lifted after)
     ⊎ ((results : its.Results) × (lifted called : LedgerState) × Through served (asked_steps its store callee asked words memory served) lifted × HostSteps lifted called × Partway called (given_steps its callee asked results called) after))
 
 -- an ask that wasn't resumed: up to some step of a builtin or of a function of the host
-abbrev pub AskPartway : (ℕ → Form) → Callee → ℕ → List ℕ → List ℕ → LedgerState → LedgerState → Type 0
+abbrev pub AskPartway : {T : Type 0} → (ℕ → Form T) → Callee → ℕ → List ℕ → List ℕ → LedgerState → LedgerState → Type 0
 AskPartway form callee index words memory served after =
     (after ≡ served)
     ⊎ ((called : Builtin) × (builtin_at callee index ≡ Some called) × Partway served (ask_steps callee called words) after)
     ⊎ HostPartway (ask_form (form index)) callee index words memory served after
 
 -- from the last turn on, of a call that was refused after its start: nothing, or up to some step of its last ask, or from its return on
-abbrev pub GoesOn : (ℕ → Form) → Callee → (List ℕ → List ℕ → List (List Part)) → LedgerState → LedgerState → List Event → Type 0
+abbrev pub GoesOn : {T : Type 0} → (ℕ → Form T) → Callee → (List ℕ → List ℕ → List (List Part)) → LedgerState → LedgerState → List Event → Type 0
 GoesOn form callee last served after tail = (after ≡ served)
     ⊎ BeginsInAsk (λ index words memory more. AskPartway form callee index words memory served after) tail
     ⊎ SomeReturn (λ words memory. Partway served (last_steps (last words memory) served) after) tail
 
 -- of a call that is refused, up to some step
-abbrev pub PassesPartway : (ℕ → Form) → Callee → List (List Part) → (List ℕ → List ℕ → List (List Part)) → List AskTurn → LedgerState → LedgerState → List Event → List Event → Type 0
+abbrev pub PassesPartway : {T : Type 0} → (ℕ → Form T) → Callee → List (List Part) → (List ℕ → List ℕ → List (List Part)) → List AskTurn → LedgerState → LedgerState → List Event → List Event → Type 0
 PassesPartway form callee first last turns before after events tail =
     (Each IsNoStart events × Partway before (first_steps first before) after)
     ⊎ ((served : LedgerState) × CallThrough form callee first turns before served × GoesOn form callee last served after tail)

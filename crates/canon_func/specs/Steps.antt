@@ -133,7 +133,7 @@ abbrev pub RisesAt : Error → Moment → Moment → Type 0
 RisesAt (error.ImportFault n fault.GuestTrap) before after = Rose before.guest.traps after.guest.traps
 RisesAt _ before after = ⊤
 
-module _ {T : Type 0} (its : AskForm) (answers_so : Answering T) (callee : Callee) (fuel : ℕ) where
+module _ {T : Type 0} (its : AskForm T) (answers_so : Answering T) (callee : Callee) (fuel : ℕ) where
   -- An ask of a function of the host was served, and storage has the words of the results that go in a row; or it wasn't served.
   abbrev pub HostAskedBy : Asked → ℕ → List ℕ → Moment → Moment → HostSide T → HostSide T → List ℕ → Result (Unit {0}) Error → List Answer → List Event → Type 0
   HostAskedBy asked index words before after host left storage (Ok x) answers events =

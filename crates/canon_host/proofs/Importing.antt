@@ -6,6 +6,7 @@ use Rattle.std.specs.Prelude.{IfSome, drop, slice_get, take}
 use Rattle.std.specs.declared.alloc.Global.{Global}
 use Rattle.canon_context.specs.Core.{Parts, types_of}
 use Rattle.canon_context.specs.Host.{Closure, IsOutside, Returns, StaticClosure}
+use Rattle.canon_context.specs.declared.component.Component.{Component}
 use Rattle.canon_context.specs.declared.fault.Fault.{Fault}
 use Rattle.canon_context.specs.declared.fault.Fault.TheVariants as fault
 use Rattle.canon_context.specs.declared.host.HostStop.{HostStop}
@@ -19,7 +20,7 @@ use Rattle.canon_model.specs.Shape.{member_count}
 use Rattle.canon_types.specs.Table.{HasFunc, param_members}
 use Rattle.canon_types.specs.declared.types.TypeFunc.{TypeFunc}
 use Rattle.canon_value.specs.declared.val.Val.{Val}
-use Rattle.canon_host.specs.Forms.{IsOfOthers, RustTypes, over_values}
+use Rattle.canon_host.specs.Forms.{IsOfOthers, MayGive, RustTypes, TypedAnswering, in_view, over_values}
 use Rattle.canon_host.specs.HostSide.{Entry, Giving, outcome}
 use Rattle.canon_host.specs.Imports.{CallsImport, CallsUnlogged, Declines, GivesOnly, LiftsOf, ServedByTyped, ServesForm, ServesTypes, ServesWith, entry_of, logged, steps_of_types}
 use Rattle.canon_host.specs.Serves.{AskValues, CallsBlank, InRow, LiftsAsked, Serves, ServesBy, ServesInRow, Values, value_steps, values_of}
@@ -131,13 +132,32 @@ there before ty inside none = ⊎_elim (λ at. absurd (none-some at.0 (sym none 
 -- ---- one ask over Rust types
 
 module _ {F T G P R : Type 0} (g : StaticClosure F (HostView T) P (Result R HostStop)) (f : F) (types : RustTypes P R) (seen : G → Seen) (moves : GuestIn G → List Event → GuestIn G → Type 0) where
-  calls_unlogged : (b a : Parts T G) (params : P) (r : Result R HostStop) → CallsTyped g f b params r a → CallsUnlogged None b a
-  calls_unlogged b a params r h = record { steps = h.steps; same = h.same; unlogged = refl }
+  -- it gave what it may
+  may_give : (b a : Parts T G) (params : P) (r : Result R HostStop) → CallsTyped g f b params r a → MayGive g f (in_view b) params r a.state a.ledger
+  may_give b a params r h = record {
+    view = h.gave.view;
+    left = h.gave.left;
+    returned = h.gave.returned;
+    outside = h.gave.outside;
+    memory_is = h.gave.memory_is;
+    options_is = ap (λ (x : Component). x.options.items) h.gave.component_is;
+    types_is = ap (λ (x : Component). x.types) h.gave.component_is;
+    state_is = h.gave.state_is;
+    ledger_is = h.gave.ledger_is;
+    state_left = h.gave.state_left;
+    ledger_left = h.gave.ledger_left;
+  }
+
+  abbrev May : TypedAnswering T P R
+  May = MayGive g f
+
+  calls_unlogged : (b a : Parts T G) (params : P) (r : Result R HostStop) → CallsTyped g f b params r a → CallsUnlogged May None b params r a
+  calls_unlogged b a params r h = record { steps = h.steps; same = h.same; may_give = may_give b a params r h; unlogged = refl }
 
   typed_import : (asked : Asked) (before after : Parts T G) (words words2 : List ℕ) (r : Result (Values P R) HostError) → AreTyped types.fits_params types.fits_results before.component.types asked.func
-      → ServesBy (typed_steps g f types.reading types.walks types.gives seen moves asked) asked before words r after words2 → ServesBy (steps_of_types types None seen moves asked) asked before words r after words2
+      → ServesBy (typed_steps g f types.reading types.walks types.gives seen moves asked) asked before words r after words2 → ServesBy (steps_of_types types May None seen moves asked) asked before words r after words2
   typed_import asked before after words words2 r fits h =
-      serves_changed (typed_steps g f types.reading types.walks types.gives seen moves asked) (Declines types None asked) (LiftsOf types asked) (λ b params a results. CallsUnlogged None b a) (λ b params why a left. CallsUnlogged None b a)
+      serves_changed (typed_steps g f types.reading types.walks types.gives seen moves asked) (Declines types None asked) (LiftsOf types asked) (λ b params a results. CallsUnlogged May None b params (Ok results) a) (λ b params why a left. CallsUnlogged May None b params (Err why) a)
       asked before (λ e is. inl is) (λ a ws x lifts. (fits, lifts))
       (λ b a params results calls. calls_unlogged b a params (Ok results) calls) (λ b a params why left calls. calls_unlogged b a params (Err why) calls) after words words2 r h
 
@@ -168,7 +188,7 @@ module _ {F T G P R : Type 0} (g : StaticClosure F (HostView T) P (Result R Host
     -- with the counts of refusals
     module _ (r r2 : ℕ) where
       abbrev pub AnsweredTyped : Result (Unit {0}) HostError → TypeFunc → Type 0
-      AnsweredTyped result t = ServesTypes types None seen moves (asked_by ty t options) None r r2 before words result after words2
+      AnsweredTyped result t = ServesTypes types May None seen moves (asked_by ty t options) None r r2 before words result after words2
 
       pub typed_serves : (o : Option TypeFunc) → IfSome o Fits → IfSome o (DoneTyped (Ok tt)) → r2 ≡ r → IfSome o (AnsweredTyped (Ok tt))
       typed_serves (Some t) fits (told, served) same = (told, typed_import (asked_by ty t options) before after words words2 (Ok told) fits served, refl, same)

@@ -1,6 +1,13 @@
 -- The forms that a function of the host may have.
-use Rattle.std.specs.Prelude.{Bool, IsTrue, List, false, ℕ, ⊤, ◌≡◌}
+use Rattle.std.specs.Prelude.{Bool, IsTrue, List, Result, false, ℕ, ⊤, ◌≡◌}
+use Rattle.canon_context.specs.Core.{Parts}
+use Rattle.canon_context.specs.Host.{IsOutside, StaticClosure, StaticReturns}
+use Rattle.canon_context.specs.declared.host.HostStop.{HostStop}
+use Rattle.canon_context.specs.declared.host.HostView.{HostView}
+use Rattle.canon_indices.specs.declared.options.CanonicalOptions.{CanonicalOptions}
 use Rattle.canon_leaves.specs.Parts.{Part}
+use Rattle.canon_ledger.specs.Ledger.{LedgerState}
+use Rattle.canon_ledger.specs.Reached.{ledger_in}
 use Rattle.canon_lift.specs.Apart.{IsApart}
 use Rattle.canon_lift.specs.OfTrees.{IsFaulted, IsOfTrees, IsPriced}
 use Rattle.canon_lift.specs.Reading.{AreTaken, Reading}
@@ -27,10 +34,44 @@ pub record RustTypes (P R : Type 0) : Type 1 where
   pub walks : R → Tree → Type 0
   pub gives : Instance → Shape → R → List (List Part)
 
--- a function over values, or over Rust types
-pub data Form : Type 1 where
-  over_values : Form
-  over_types : {P R : Type 0} → RustTypes P R → Form
+-- ---- what a function over Rust types may answer
+
+-- What a function reaches when it is called: the memory, the options and the types of its component, the data of the store, and the ledger
+-- of its handles.
+pub record InView (T : Type 0) : Type 0 where
+  pub memory : List ℕ
+  pub options : List CanonicalOptions
+  pub types : Instance
+  pub state : T
+  pub ledger : LedgerState
+
+abbrev pub in_view : {T G : Type 0} → Parts T G → InView T
+in_view core = record { memory = core.memory; options = core.component.options.items; types = core.component.types; state = core.state; ledger = core.ledger }
+
+-- By what it reaches and its parameters: its results or why it gave none, and the data and the ledger after.
+abbrev pub TypedAnswering : Type 0 → Type 0 → Type 0 → Type 1
+TypedAnswering T P R = InView T → P → Result R HostStop → T → LedgerState → Type 0
+
+-- What a closure may answer: called once on a view of this, outside any call, it may give this, and leave this data and this ledger.
+pub record MayGive {F T P R : Type 0} (g : StaticClosure F (HostView T) P (Result R HostStop)) (f : F) (reached : InView T) (params : P) (answer : Result R HostStop) (state : T) (ledger : LedgerState) : Type 0 where
+  pub view : HostView T
+  pub left : HostView T
+  pub returned : StaticReturns g f view params answer left
+  pub outside : IsOutside view
+  pub memory_is : view.memory.bytes.now ≡ reached.memory
+  pub options_is : view.memory.component.now.options.items ≡ reached.options
+  pub types_is : view.memory.component.now.types ≡ reached.types
+  pub state_is : view.state.now ≡ reached.state
+  pub ledger_is : ledger_in view.tables ≡ reached.ledger
+  pub state_left : left.state.now ≡ state
+  pub ledger_left : ledger_in left.tables ≡ ledger
+
+-- ---- the form
+
+-- a function over values, or over Rust types, which may answer so
+pub data Form (T : Type 0) : Type 1 where
+  over_values : Form T
+  over_types : {P R : Type 0} → RustTypes P R → TypedAnswering T P R → Form T
 
 -- the laws of the traits `ComponentType`, `Lift` and `Lower`
 pub record AreLawful {P R : Type 0} (types : RustTypes P R) : Type 0 where
@@ -44,9 +85,9 @@ pub record AreLawful {P R : Type 0} (types : RustTypes P R) : Type 0 where
   pub walkable : (v : R) → (t : Tree) × types.walks v t
 
 -- Rust types keep them
-abbrev pub IsLawful : Form → Type 0
+abbrev pub IsLawful : {T : Type 0} → Form T → Type 0
 IsLawful over_values = ⊤
-IsLawful (over_types types) = AreLawful types
+IsLawful (over_types types may) = AreLawful types
 
 -- a function type that isn't async is of other types
 abbrev pub IsOfOthers : {P R : Type 0} → RustTypes P R → Instance → TypeFunc → Type 0

@@ -4,7 +4,7 @@ use Rattle.canon_ledger.specs.Ledger.{LedgerState}
 use Rattle.canon_context.specs.Core.{Parts}
 use Rattle.canon_context.specs.declared.host.HostStop.{HostStop}
 use Rattle.canon_value.specs.declared.val.Val.{Val}
-use Rattle.canon_host.specs.Forms.{Form, RustTypes, over_types, over_values}
+use Rattle.canon_host.specs.Forms.{Form, RustTypes, TypedAnswering, over_types, over_values}
 
 -- an ask that was served: the number of its import, its parameters and its results
 pub record Entry : Type 0 where
@@ -26,18 +26,18 @@ abbrev pub Answering : Type 0 → Type 1
 Answering T = List Entry → ℕ → T → List Val → Result (List Val) HostStop → T → Type 0
 
 -- What is said of the functions of imports: what those over values may answer, where the asks that were served are exposed, and by its
--- number the form of each.
+-- number the form of each, which says of one over Rust types what it may answer.
 pub record Giving (T : Type 0) : Type 1 where
   pub answers : Answering T
-  pub form : ℕ → Form
+  pub form : ℕ → Form T
 
 -- all of them are over values
 abbrev pub gives_values : {T : Type 0} → Answering T → Giving T
 gives_values answers = record { answers = answers; form = λ n. over_values }
 
--- all of them are over these Rust types
-abbrev pub gives_types : {T P R : Type 0} → RustTypes P R → Giving T
-gives_types types = record { answers = λ log n before params result after. ⊥; form = λ n. over_types types }
+-- all of them are over these Rust types, and may answer so
+abbrev pub gives_types : {T P R : Type 0} → RustTypes P R → TypedAnswering T P R → Giving T
+gives_types types may = record { answers = λ log n before params result after. ⊥; form = λ n. over_types types may }
 
 -- The data of a store, the ledger of its handles, and what its imports expose: the asks that they served, if they expose them, and how often
 -- they refused one for no fault.

@@ -14,7 +14,7 @@ use Rattle.canon_memory.specs.Guest.{GuestIn, Seen}
 use Rattle.canon_memory.specs.declared.event.Event.{Event}
 use Rattle.canon_types.specs.declared.types.TypeFunc.{TypeFunc}
 use Rattle.canon_value.specs.declared.val.Val.{Val}
-use Rattle.canon_host.specs.Forms.{Form, IsOfOthers, RustTypes, over_types, over_values}
+use Rattle.canon_host.specs.Forms.{Form, IsOfOthers, RustTypes, TypedAnswering, in_view, over_types, over_values}
 use Rattle.canon_host.specs.HostSide.{Answering, Entry, Giving, entry, gives_values, outcome}
 use Rattle.canon_host.specs.Serves.{AskValues, Serves, ServesBy, Steps, Values, value_steps}
 use Rattle.canon_host.specs.ServesTyped.{AreTyped, LiftsTyped, ServesTyped, typed_steps_by}
@@ -40,10 +40,11 @@ pub record CallsImport {T G : Type 0} (gives : Giving T) (log : Option (List Ent
   pub same : after ≡ record before { state = after.state; ledger = after.ledger }
   pub may_give : IfSome log (λ entries. (after.ledger ≡ before.ledger) × gives.answers entries n before.state params (outcome result results) after.state)
 
--- The same of a function over Rust types, whose parameters and results are of no values: its imports expose no log.
-pub record CallsUnlogged {T G : Type 0} (log : Option (List Entry)) (before after : Parts T G) : Type 0 where
+-- The same of a function over Rust types, whose parameters and results are of no values: it answered as it may, and its imports expose no log.
+pub record CallsUnlogged {T G P R : Type 0} (May : TypedAnswering T P R) (log : Option (List Entry)) (before : Parts T G) (params : P) (result : Result R HostStop) (after : Parts T G) : Type 0 where
   pub steps : HostSteps before.ledger after.ledger
   pub same : after ≡ record before { state = after.state; ledger = after.ledger }
+  pub may_give : May (in_view before) params result after.state after.ledger
   pub unlogged : log ≡ None
 
 -- whatever a function answers to any data and parameters is so, and leaves the ledger
@@ -89,10 +90,10 @@ ServedByTyped g f types seen moves asked before words result after words2 =
     ((result ≡ Err error.Refused) × IsOfOthers types before.component.types asked.func × (after ≡ before) × (words2 ≡ words))
     ⊎ (AreTyped types.fits_params types.fits_results before.component.types asked.func × ServesTyped g f types.reading types.walks types.gives seen moves asked before words result after words2)
 
--- how a function over Rust types is served
-module _ {T G P R : Type 0} (types : RustTypes P R) (log : Option (List Entry)) (seen : G → Seen) (moves : GuestIn G → List Event → GuestIn G → Type 0) (asked : Asked) where
+-- how a function over Rust types is served, that may answer so
+module _ {T G P R : Type 0} (types : RustTypes P R) (May : TypedAnswering T P R) (log : Option (List Entry)) (seen : G → Seen) (moves : GuestIn G → List Event → GuestIn G → Type 0) (asked : Asked) where
   abbrev pub steps_of_types : Steps T G P P R (Unit {0})
-  steps_of_types = typed_steps_by (Declines types log asked) (LiftsOf types asked) (λ before params result after. CallsUnlogged log before after) types.walks types.gives seen moves asked
+  steps_of_types = typed_steps_by (Declines types log asked) (LiftsOf types asked) (CallsUnlogged May log) types.walks types.gives seen moves asked
 
   abbrev pub ServesTypes : Option (List Entry) → ℕ → ℕ → Parts T G → List ℕ → Result (Unit {0}) HostError → Parts T G → List ℕ → Type 0
   ServesTypes log2 refusals refusals2 = ServesLogged steps_of_types (λ told. log) asked log log2 refusals refusals2
@@ -107,9 +108,9 @@ module _ {T G : Type 0} (gives : Giving T) (log : Option (List Entry)) (n : ℕ)
   ServesWith before words result after words2 = Serves (CallsImport gives log n) seen moves asked before words result after words2
 
   -- The import was served in its form. The values of an ask over values are added to an exposed log.
-  abbrev pub ServesForm : Form → Option (List Entry) → ℕ → ℕ → Parts T G → List ℕ → Result (Unit {0}) HostError → Parts T G → List ℕ → Type 0
+  abbrev pub ServesForm : Form T → Option (List Entry) → ℕ → ℕ → Parts T G → List ℕ → Result (Unit {0}) HostError → Parts T G → List ℕ → Type 0
   ServesForm over_values log2 refusals refusals2 = ServesLogged steps_of_values (λ told. logged log (entry_of n told)) asked log log2 refusals refusals2
-  ServesForm (over_types types) log2 refusals refusals2 = ServesTypes types log seen moves asked log2 refusals refusals2
+  ServesForm (over_types types may) log2 refusals refusals2 = ServesTypes types may log seen moves asked log2 refusals refusals2
 
   abbrev pub ServesImport : Option (List Entry) → ℕ → ℕ → Parts T G → List ℕ → Result (Unit {0}) HostError → Parts T G → List ℕ → Type 0
   ServesImport log2 refusals refusals2 before words result after words2 = ServesForm (gives.form n) log2 refusals refusals2 before words result after words2

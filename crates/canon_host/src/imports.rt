@@ -31,7 +31,8 @@ pub trait Imports<T, G: Guest> {
 
     /// By this plan and the log so far, the function of an import over values may answer so: for the data of the store and these
     /// parameters with these results, also where they aren't of their types, or with why there are none, leaving this data. And by this
-    /// plan the import of a number has this form. Functions over Rust types expose no log.
+    /// plan the import of a number has this form: one over Rust types says what its function may answer, whether a log is exposed or not.
+    /// Functions over Rust types expose none.
     ghost gives: { Self.Plan → Giving T };
 
     /// Serves one ask of the import of this number.

@@ -6,6 +6,7 @@ ghost use Rattle.canon_context.specs.Component.{HasOptions};
 ghost use Rattle.canon_context.specs.Core.{types_of};
 ghost use Rattle.canon_context.specs.Host.{StaticKeeps};
 ghost use Rattle.canon_host.specs.Asked.{HasRoomFor};
+ghost use Rattle.canon_host.specs.Forms.{MayGive};
 ghost use Rattle.canon_host.specs.Imports.{CountsOnce, ServedByTyped, ServesTypes};
 ghost use Rattle.canon_host.specs.ServesTyped.{FitsFunc};
 
@@ -17,7 +18,7 @@ use canon_typed::ComponentNamedList;
 use std::alloc::Global;
 
 /// Serves one ask of an import by a function over Rust types, and counts a refusal once, up to the greatest count. A type that `typecheck`
-/// refuses is refused, and nothing is done. The imports expose no log.
+/// refuses is refused, and nothing is done. What it answers is what this very function may give (`MayGive`). The imports expose no log.
 pub fn serve_typed_import<
     T,
     G: Guest,
@@ -37,7 +38,7 @@ pub fn serve_typed_import<
     requires room { HasRoomFor (types_of cx.core.now) cx.ty storage.old }
     ensures refusals { refusals.old ≤ refusals.new }
     ensures counts { CountsOnce result refusals.old refusals.new }
-    ensures serves { IfSome (slice_get (types_of cx.entry.core.now).funcs cx.entry.ty) (λ t. ServesTypes (record { fits_params = P.fits; fits_results = R.fits; reading = P.reading; told = P.is_told; lifts = P.lifts; cost = P.cost; means = R.means; walks = R.walks; gives = R.gives }) None G.seen G.moves (record { ty = cx.entry.ty; func = t; options = cx.entry.options }) None refusals.old refusals.new cx.entry.core.now storage.old result cx.exit.0.now storage.new) }
+    ensures serves { IfSome (slice_get (types_of cx.entry.core.now).funcs cx.entry.ty) (λ t. ServesTypes (record { fits_params = P.fits; fits_results = R.fits; reading = P.reading; told = P.is_told; lifts = P.lifts; cost = P.cost; means = R.means; walks = R.walks; gives = R.gives }) (MayGive F.Fn func.now) None G.seen G.moves (record { ty = cx.entry.ty; func = t; options = cx.entry.options }) None refusals.old refusals.new cx.entry.core.now storage.old result cx.exit.0.now storage.new) }
     ensures served { IfSome (slice_get (types_of cx.entry.core.now).funcs cx.entry.ty) (λ t. ServedByTyped F.Fn func.now (record { fits_params = P.fits; fits_results = R.fits; reading = P.reading; told = P.is_told; lifts = P.lifts; cost = P.cost; means = R.means; walks = R.walks; gives = R.gives }) G.seen G.moves (record { ty = cx.entry.ty; func = t; options = cx.entry.options }) cx.entry.core.now storage.old result cx.exit.0.now storage.new) }
     ensures same { cx.exit.0.now ≡ record cx.entry.core.now { state = cx.exit.0.now.state; guest = cx.exit.0.now.guest; memory = cx.exit.0.now.memory; ledger = cx.exit.0.now.ledger } }
 {
@@ -74,7 +75,7 @@ fn serve_fitting<
     requires room { HasRoomFor (types_of cx.core.now) cx.ty storage.old }
     ensures refusals { refusals.old ≤ refusals.new }
     ensures counts { CountsOnce result refusals.old refusals.new }
-    ensures serves { IfSome (slice_get (types_of cx.entry.core.now).funcs cx.entry.ty) (λ t. ServesTypes (record { fits_params = P.fits; fits_results = R.fits; reading = P.reading; told = P.is_told; lifts = P.lifts; cost = P.cost; means = R.means; walks = R.walks; gives = R.gives }) None G.seen G.moves (record { ty = cx.entry.ty; func = t; options = cx.entry.options }) None refusals.old refusals.new cx.entry.core.now storage.old result cx.exit.0.now storage.new) }
+    ensures serves { IfSome (slice_get (types_of cx.entry.core.now).funcs cx.entry.ty) (λ t. ServesTypes (record { fits_params = P.fits; fits_results = R.fits; reading = P.reading; told = P.is_told; lifts = P.lifts; cost = P.cost; means = R.means; walks = R.walks; gives = R.gives }) (MayGive F.Fn func.now) None G.seen G.moves (record { ty = cx.entry.ty; func = t; options = cx.entry.options }) None refusals.old refusals.new cx.entry.core.now storage.old result cx.exit.0.now storage.new) }
     ensures served { IfSome (slice_get (types_of cx.entry.core.now).funcs cx.entry.ty) (λ t. ServedByTyped F.Fn func.now (record { fits_params = P.fits; fits_results = R.fits; reading = P.reading; told = P.is_told; lifts = P.lifts; cost = P.cost; means = R.means; walks = R.walks; gives = R.gives }) G.seen G.moves (record { ty = cx.entry.ty; func = t; options = cx.entry.options }) cx.entry.core.now storage.old result cx.exit.0.now storage.new) }
     ensures same { cx.exit.0.now ≡ record cx.entry.core.now { state = cx.exit.0.now.state; guest = cx.exit.0.now.guest; memory = cx.exit.0.now.memory; ledger = cx.exit.0.now.ledger } }
 {
