@@ -159,9 +159,12 @@ impl<A: ComponentType, B: ComponentType> ComponentType for (A, B) {
         }
     }
 
-    ghost typed = { tuple_typed (A.fits ∷ B.fits ∷ []) (λ p. FirstAnd (A.means p.0) (FirstAnd (B.means p.1) NoTrees)) (λ p. first_typed A.fits (B.fits ∷ []) (A.means p.0) (FirstAnd (B.means p.1) NoTrees) (A.typed p.0) (first_typed B.fits [] (B.means p.1) NoTrees (B.typed p.1) none_typed)) };
+    ghost typed = { tuple_typed (A.fits ∷ B.fits ∷ []) (λ p. FirstAnd (A.means p.0) (FirstAnd (B.means p.1) NoTrees)) (λ p. first_typed A.fits
+        (B.fits ∷ []) (A.means p.0) (FirstAnd (B.means p.1) NoTrees) (A.typed p.0) (first_typed B.fits [] (B.means p.1) NoTrees (B.typed p.1) none_typed)) };
 
-    ghost walked = { λ p. product_walked (FirstAnd (A.walks p.0) (FirstAnd (B.walks p.1) NoTrees)) (FirstAnd (A.means p.0) (FirstAnd (B.means p.1) NoTrees)) (first_walked (A.walks p.0) (A.means p.0) (FirstAnd (B.walks p.1) NoTrees) (FirstAnd (B.means p.1) NoTrees) (A.walked p.0) (first_walked (B.walks p.1) (B.means p.1) NoTrees NoTrees (B.walked p.1) none_walked)) };
+    ghost walked = { λ p. product_walked (FirstAnd (A.walks p.0) (FirstAnd (B.walks p.1) NoTrees)) (FirstAnd (A.means p.0) (FirstAnd
+        (B.means p.1) NoTrees)) (first_walked (A.walks p.0) (A.means p.0) (FirstAnd (B.walks p.1) NoTrees) (FirstAnd (B.means p.1) NoTrees)
+        (A.walked p.0) (first_walked (B.walks p.1) (B.means p.1) NoTrees NoTrees (B.walked p.1) none_walked)) };
 }
 
 impl<A: ComponentType, B: ComponentType> ComponentNamedList for (A, B) {}
@@ -220,9 +223,16 @@ impl<A: ComponentType, B: ComponentType, C: ComponentType> ComponentType for (A,
         }
     }
 
-    ghost typed = { tuple_typed (A.fits ∷ B.fits ∷ C.fits ∷ []) (λ p. FirstAnd (A.means p.0) (FirstAnd (B.means p.1) (FirstAnd (C.means p.2) NoTrees))) (λ p. first_typed A.fits (B.fits ∷ C.fits ∷ []) (A.means p.0) (FirstAnd (B.means p.1) (FirstAnd (C.means p.2) NoTrees)) (A.typed p.0) (first_typed B.fits (C.fits ∷ []) (B.means p.1) (FirstAnd (C.means p.2) NoTrees) (B.typed p.1) (first_typed C.fits [] (C.means p.2) NoTrees (C.typed p.2) none_typed))) };
+    ghost typed = { tuple_typed (A.fits ∷ B.fits ∷ C.fits ∷ []) (λ p. FirstAnd (A.means p.0) (FirstAnd (B.means p.1) (FirstAnd
+        (C.means p.2) NoTrees))) (λ p. first_typed A.fits (B.fits ∷ C.fits ∷ []) (A.means p.0) (FirstAnd (B.means p.1) (FirstAnd
+        (C.means p.2) NoTrees)) (A.typed p.0) (first_typed B.fits (C.fits ∷ []) (B.means p.1) (FirstAnd (C.means p.2) NoTrees) (B.typed p.1)
+        (first_typed C.fits [] (C.means p.2) NoTrees (C.typed p.2) none_typed))) };
 
-    ghost walked = { λ p. product_walked (FirstAnd (A.walks p.0) (FirstAnd (B.walks p.1) (FirstAnd (C.walks p.2) NoTrees))) (FirstAnd (A.means p.0) (FirstAnd (B.means p.1) (FirstAnd (C.means p.2) NoTrees))) (first_walked (A.walks p.0) (A.means p.0) (FirstAnd (B.walks p.1) (FirstAnd (C.walks p.2) NoTrees)) (FirstAnd (B.means p.1) (FirstAnd (C.means p.2) NoTrees)) (A.walked p.0) (first_walked (B.walks p.1) (B.means p.1) (FirstAnd (C.walks p.2) NoTrees) (FirstAnd (C.means p.2) NoTrees) (B.walked p.1) (first_walked (C.walks p.2) (C.means p.2) NoTrees NoTrees (C.walked p.2) none_walked))) };
+    ghost walked = { λ p. product_walked (FirstAnd (A.walks p.0) (FirstAnd (B.walks p.1) (FirstAnd (C.walks p.2) NoTrees))) (FirstAnd (A.means p.0)
+        (FirstAnd (B.means p.1) (FirstAnd (C.means p.2) NoTrees))) (first_walked (A.walks p.0) (A.means p.0) (FirstAnd (B.walks p.1) (FirstAnd
+        (C.walks p.2) NoTrees)) (FirstAnd (B.means p.1) (FirstAnd (C.means p.2) NoTrees)) (A.walked p.0) (first_walked (B.walks p.1) (B.means p.1)
+        (FirstAnd (C.walks p.2) NoTrees) (FirstAnd (C.means p.2) NoTrees) (B.walked p.1) (first_walked (C.walks p.2) (C.means p.2) NoTrees NoTrees
+        (C.walked p.2) none_walked))) };
 }
 
 impl<A: ComponentType, B: ComponentType, C: ComponentType> ComponentNamedList for (A, B, C) {}
@@ -286,9 +296,19 @@ impl<A: ComponentType, B: ComponentType, C: ComponentType, D: ComponentType> Com
         }
     }
 
-    ghost typed = { tuple_typed (A.fits ∷ B.fits ∷ C.fits ∷ D.fits ∷ []) (λ p. FirstAnd (A.means p.0) (FirstAnd (B.means p.1) (FirstAnd (C.means p.2) (FirstAnd (D.means p.3) NoTrees)))) (λ p. first_typed A.fits (B.fits ∷ C.fits ∷ D.fits ∷ []) (A.means p.0) (FirstAnd (B.means p.1) (FirstAnd (C.means p.2) (FirstAnd (D.means p.3) NoTrees))) (A.typed p.0) (first_typed B.fits (C.fits ∷ D.fits ∷ []) (B.means p.1) (FirstAnd (C.means p.2) (FirstAnd (D.means p.3) NoTrees)) (B.typed p.1) (first_typed C.fits (D.fits ∷ []) (C.means p.2) (FirstAnd (D.means p.3) NoTrees) (C.typed p.2) (first_typed D.fits [] (D.means p.3) NoTrees (D.typed p.3) none_typed)))) };
+    ghost typed = { tuple_typed (A.fits ∷ B.fits ∷ C.fits ∷ D.fits ∷ []) (λ p. FirstAnd (A.means p.0) (FirstAnd (B.means p.1) (FirstAnd
+        (C.means p.2) (FirstAnd (D.means p.3) NoTrees)))) (λ p. first_typed A.fits (B.fits ∷ C.fits ∷ D.fits ∷ []) (A.means p.0) (FirstAnd
+        (B.means p.1) (FirstAnd (C.means p.2) (FirstAnd (D.means p.3) NoTrees))) (A.typed p.0) (first_typed B.fits (C.fits ∷ D.fits ∷ [])
+        (B.means p.1) (FirstAnd (C.means p.2) (FirstAnd (D.means p.3) NoTrees)) (B.typed p.1) (first_typed C.fits (D.fits ∷ []) (C.means p.2)
+        (FirstAnd (D.means p.3) NoTrees) (C.typed p.2) (first_typed D.fits [] (D.means p.3) NoTrees (D.typed p.3) none_typed)))) };
 
-    ghost walked = { λ p. product_walked (FirstAnd (A.walks p.0) (FirstAnd (B.walks p.1) (FirstAnd (C.walks p.2) (FirstAnd (D.walks p.3) NoTrees)))) (FirstAnd (A.means p.0) (FirstAnd (B.means p.1) (FirstAnd (C.means p.2) (FirstAnd (D.means p.3) NoTrees)))) (first_walked (A.walks p.0) (A.means p.0) (FirstAnd (B.walks p.1) (FirstAnd (C.walks p.2) (FirstAnd (D.walks p.3) NoTrees))) (FirstAnd (B.means p.1) (FirstAnd (C.means p.2) (FirstAnd (D.means p.3) NoTrees))) (A.walked p.0) (first_walked (B.walks p.1) (B.means p.1) (FirstAnd (C.walks p.2) (FirstAnd (D.walks p.3) NoTrees)) (FirstAnd (C.means p.2) (FirstAnd (D.means p.3) NoTrees)) (B.walked p.1) (first_walked (C.walks p.2) (C.means p.2) (FirstAnd (D.walks p.3) NoTrees) (FirstAnd (D.means p.3) NoTrees) (C.walked p.2) (first_walked (D.walks p.3) (D.means p.3) NoTrees NoTrees (D.walked p.3) none_walked)))) };
+    ghost walked = { λ p. product_walked (FirstAnd (A.walks p.0) (FirstAnd (B.walks p.1) (FirstAnd (C.walks p.2) (FirstAnd (D.walks p.3) NoTrees))))
+        (FirstAnd (A.means p.0) (FirstAnd (B.means p.1) (FirstAnd (C.means p.2) (FirstAnd (D.means p.3) NoTrees)))) (first_walked (A.walks p.0)
+        (A.means p.0) (FirstAnd (B.walks p.1) (FirstAnd (C.walks p.2) (FirstAnd (D.walks p.3) NoTrees))) (FirstAnd (B.means p.1) (FirstAnd
+        (C.means p.2) (FirstAnd (D.means p.3) NoTrees))) (A.walked p.0) (first_walked (B.walks p.1) (B.means p.1) (FirstAnd (C.walks p.2) (FirstAnd
+        (D.walks p.3) NoTrees)) (FirstAnd (C.means p.2) (FirstAnd (D.means p.3) NoTrees)) (B.walked p.1) (first_walked (C.walks p.2) (C.means p.2)
+        (FirstAnd (D.walks p.3) NoTrees) (FirstAnd (D.means p.3) NoTrees) (C.walked p.2) (first_walked (D.walks p.3) (D.means p.3) NoTrees NoTrees
+        (D.walked p.3) none_walked)))) };
 }
 
 impl<A: ComponentType, B: ComponentType, C: ComponentType, D: ComponentType> ComponentNamedList
@@ -362,9 +382,23 @@ impl<
         }
     }
 
-    ghost typed = { tuple_typed (A.fits ∷ B.fits ∷ C.fits ∷ D.fits ∷ E.fits ∷ []) (λ p. FirstAnd (A.means p.0) (FirstAnd (B.means p.1) (FirstAnd (C.means p.2) (FirstAnd (D.means p.3) (FirstAnd (E.means p.4) NoTrees))))) (λ p. first_typed A.fits (B.fits ∷ C.fits ∷ D.fits ∷ E.fits ∷ []) (A.means p.0) (FirstAnd (B.means p.1) (FirstAnd (C.means p.2) (FirstAnd (D.means p.3) (FirstAnd (E.means p.4) NoTrees)))) (A.typed p.0) (first_typed B.fits (C.fits ∷ D.fits ∷ E.fits ∷ []) (B.means p.1) (FirstAnd (C.means p.2) (FirstAnd (D.means p.3) (FirstAnd (E.means p.4) NoTrees))) (B.typed p.1) (first_typed C.fits (D.fits ∷ E.fits ∷ []) (C.means p.2) (FirstAnd (D.means p.3) (FirstAnd (E.means p.4) NoTrees)) (C.typed p.2) (first_typed D.fits (E.fits ∷ []) (D.means p.3) (FirstAnd (E.means p.4) NoTrees) (D.typed p.3) (first_typed E.fits [] (E.means p.4) NoTrees (E.typed p.4) none_typed))))) };
+    ghost typed = { tuple_typed (A.fits ∷ B.fits ∷ C.fits ∷ D.fits ∷ E.fits ∷ []) (λ p. FirstAnd (A.means p.0) (FirstAnd (B.means p.1) (FirstAnd
+        (C.means p.2) (FirstAnd (D.means p.3) (FirstAnd (E.means p.4) NoTrees))))) (λ p. first_typed A.fits (B.fits ∷ C.fits ∷ D.fits ∷ E.fits ∷ [])
+        (A.means p.0) (FirstAnd (B.means p.1) (FirstAnd (C.means p.2) (FirstAnd (D.means p.3) (FirstAnd (E.means p.4) NoTrees)))) (A.typed p.0)
+        (first_typed B.fits (C.fits ∷ D.fits ∷ E.fits ∷ []) (B.means p.1) (FirstAnd (C.means p.2) (FirstAnd (D.means p.3) (FirstAnd
+        (E.means p.4) NoTrees))) (B.typed p.1) (first_typed C.fits (D.fits ∷ E.fits ∷ []) (C.means p.2) (FirstAnd (D.means p.3) (FirstAnd
+        (E.means p.4) NoTrees)) (C.typed p.2) (first_typed D.fits (E.fits ∷ []) (D.means p.3) (FirstAnd (E.means p.4) NoTrees) (D.typed p.3)
+        (first_typed E.fits [] (E.means p.4) NoTrees (E.typed p.4) none_typed))))) };
 
-    ghost walked = { λ p. product_walked (FirstAnd (A.walks p.0) (FirstAnd (B.walks p.1) (FirstAnd (C.walks p.2) (FirstAnd (D.walks p.3) (FirstAnd (E.walks p.4) NoTrees))))) (FirstAnd (A.means p.0) (FirstAnd (B.means p.1) (FirstAnd (C.means p.2) (FirstAnd (D.means p.3) (FirstAnd (E.means p.4) NoTrees))))) (first_walked (A.walks p.0) (A.means p.0) (FirstAnd (B.walks p.1) (FirstAnd (C.walks p.2) (FirstAnd (D.walks p.3) (FirstAnd (E.walks p.4) NoTrees)))) (FirstAnd (B.means p.1) (FirstAnd (C.means p.2) (FirstAnd (D.means p.3) (FirstAnd (E.means p.4) NoTrees)))) (A.walked p.0) (first_walked (B.walks p.1) (B.means p.1) (FirstAnd (C.walks p.2) (FirstAnd (D.walks p.3) (FirstAnd (E.walks p.4) NoTrees))) (FirstAnd (C.means p.2) (FirstAnd (D.means p.3) (FirstAnd (E.means p.4) NoTrees))) (B.walked p.1) (first_walked (C.walks p.2) (C.means p.2) (FirstAnd (D.walks p.3) (FirstAnd (E.walks p.4) NoTrees)) (FirstAnd (D.means p.3) (FirstAnd (E.means p.4) NoTrees)) (C.walked p.2) (first_walked (D.walks p.3) (D.means p.3) (FirstAnd (E.walks p.4) NoTrees) (FirstAnd (E.means p.4) NoTrees) (D.walked p.3) (first_walked (E.walks p.4) (E.means p.4) NoTrees NoTrees (E.walked p.4) none_walked))))) };
+    ghost walked = { λ p. product_walked (FirstAnd (A.walks p.0) (FirstAnd (B.walks p.1) (FirstAnd (C.walks p.2) (FirstAnd (D.walks p.3) (FirstAnd
+        (E.walks p.4) NoTrees))))) (FirstAnd (A.means p.0) (FirstAnd (B.means p.1) (FirstAnd (C.means p.2) (FirstAnd (D.means p.3) (FirstAnd
+        (E.means p.4) NoTrees))))) (first_walked (A.walks p.0) (A.means p.0) (FirstAnd (B.walks p.1) (FirstAnd (C.walks p.2) (FirstAnd (D.walks p.3)
+        (FirstAnd (E.walks p.4) NoTrees)))) (FirstAnd (B.means p.1) (FirstAnd (C.means p.2) (FirstAnd (D.means p.3) (FirstAnd
+        (E.means p.4) NoTrees)))) (A.walked p.0) (first_walked (B.walks p.1) (B.means p.1) (FirstAnd (C.walks p.2) (FirstAnd (D.walks p.3) (FirstAnd
+        (E.walks p.4) NoTrees))) (FirstAnd (C.means p.2) (FirstAnd (D.means p.3) (FirstAnd (E.means p.4) NoTrees))) (B.walked p.1) (first_walked
+        (C.walks p.2) (C.means p.2) (FirstAnd (D.walks p.3) (FirstAnd (E.walks p.4) NoTrees)) (FirstAnd (D.means p.3) (FirstAnd
+        (E.means p.4) NoTrees)) (C.walked p.2) (first_walked (D.walks p.3) (D.means p.3) (FirstAnd (E.walks p.4) NoTrees) (FirstAnd
+        (E.means p.4) NoTrees) (D.walked p.3) (first_walked (E.walks p.4) (E.means p.4) NoTrees NoTrees (E.walked p.4) none_walked))))) };
 }
 
 impl<
@@ -448,9 +482,28 @@ impl<
         }
     }
 
-    ghost typed = { tuple_typed (A.fits ∷ B.fits ∷ C.fits ∷ D.fits ∷ E.fits ∷ F.fits ∷ []) (λ p. FirstAnd (A.means p.0) (FirstAnd (B.means p.1) (FirstAnd (C.means p.2) (FirstAnd (D.means p.3) (FirstAnd (E.means p.4) (FirstAnd (F.means p.5) NoTrees)))))) (λ p. first_typed A.fits (B.fits ∷ C.fits ∷ D.fits ∷ E.fits ∷ F.fits ∷ []) (A.means p.0) (FirstAnd (B.means p.1) (FirstAnd (C.means p.2) (FirstAnd (D.means p.3) (FirstAnd (E.means p.4) (FirstAnd (F.means p.5) NoTrees))))) (A.typed p.0) (first_typed B.fits (C.fits ∷ D.fits ∷ E.fits ∷ F.fits ∷ []) (B.means p.1) (FirstAnd (C.means p.2) (FirstAnd (D.means p.3) (FirstAnd (E.means p.4) (FirstAnd (F.means p.5) NoTrees)))) (B.typed p.1) (first_typed C.fits (D.fits ∷ E.fits ∷ F.fits ∷ []) (C.means p.2) (FirstAnd (D.means p.3) (FirstAnd (E.means p.4) (FirstAnd (F.means p.5) NoTrees))) (C.typed p.2) (first_typed D.fits (E.fits ∷ F.fits ∷ []) (D.means p.3) (FirstAnd (E.means p.4) (FirstAnd (F.means p.5) NoTrees)) (D.typed p.3) (first_typed E.fits (F.fits ∷ []) (E.means p.4) (FirstAnd (F.means p.5) NoTrees) (E.typed p.4) (first_typed F.fits [] (F.means p.5) NoTrees (F.typed p.5) none_typed)))))) };
+    ghost typed = { tuple_typed (A.fits ∷ B.fits ∷ C.fits ∷ D.fits ∷ E.fits ∷ F.fits ∷ []) (λ p. FirstAnd (A.means p.0) (FirstAnd (B.means p.1)
+        (FirstAnd (C.means p.2) (FirstAnd (D.means p.3) (FirstAnd (E.means p.4) (FirstAnd (F.means p.5) NoTrees)))))) (λ p. first_typed A.fits
+        (B.fits ∷ C.fits ∷ D.fits ∷ E.fits ∷ F.fits ∷ []) (A.means p.0) (FirstAnd (B.means p.1) (FirstAnd (C.means p.2) (FirstAnd (D.means p.3)
+        (FirstAnd (E.means p.4) (FirstAnd (F.means p.5) NoTrees))))) (A.typed p.0) (first_typed B.fits (C.fits ∷ D.fits ∷ E.fits ∷ F.fits ∷ [])
+        (B.means p.1) (FirstAnd (C.means p.2) (FirstAnd (D.means p.3) (FirstAnd (E.means p.4) (FirstAnd (F.means p.5) NoTrees)))) (B.typed p.1)
+        (first_typed C.fits (D.fits ∷ E.fits ∷ F.fits ∷ []) (C.means p.2) (FirstAnd (D.means p.3) (FirstAnd (E.means p.4) (FirstAnd
+        (F.means p.5) NoTrees))) (C.typed p.2) (first_typed D.fits (E.fits ∷ F.fits ∷ []) (D.means p.3) (FirstAnd (E.means p.4) (FirstAnd
+        (F.means p.5) NoTrees)) (D.typed p.3) (first_typed E.fits (F.fits ∷ []) (E.means p.4) (FirstAnd (F.means p.5) NoTrees) (E.typed p.4)
+        (first_typed F.fits [] (F.means p.5) NoTrees (F.typed p.5) none_typed)))))) };
 
-    ghost walked = { λ p. product_walked (FirstAnd (A.walks p.0) (FirstAnd (B.walks p.1) (FirstAnd (C.walks p.2) (FirstAnd (D.walks p.3) (FirstAnd (E.walks p.4) (FirstAnd (F.walks p.5) NoTrees)))))) (FirstAnd (A.means p.0) (FirstAnd (B.means p.1) (FirstAnd (C.means p.2) (FirstAnd (D.means p.3) (FirstAnd (E.means p.4) (FirstAnd (F.means p.5) NoTrees)))))) (first_walked (A.walks p.0) (A.means p.0) (FirstAnd (B.walks p.1) (FirstAnd (C.walks p.2) (FirstAnd (D.walks p.3) (FirstAnd (E.walks p.4) (FirstAnd (F.walks p.5) NoTrees))))) (FirstAnd (B.means p.1) (FirstAnd (C.means p.2) (FirstAnd (D.means p.3) (FirstAnd (E.means p.4) (FirstAnd (F.means p.5) NoTrees))))) (A.walked p.0) (first_walked (B.walks p.1) (B.means p.1) (FirstAnd (C.walks p.2) (FirstAnd (D.walks p.3) (FirstAnd (E.walks p.4) (FirstAnd (F.walks p.5) NoTrees)))) (FirstAnd (C.means p.2) (FirstAnd (D.means p.3) (FirstAnd (E.means p.4) (FirstAnd (F.means p.5) NoTrees)))) (B.walked p.1) (first_walked (C.walks p.2) (C.means p.2) (FirstAnd (D.walks p.3) (FirstAnd (E.walks p.4) (FirstAnd (F.walks p.5) NoTrees))) (FirstAnd (D.means p.3) (FirstAnd (E.means p.4) (FirstAnd (F.means p.5) NoTrees))) (C.walked p.2) (first_walked (D.walks p.3) (D.means p.3) (FirstAnd (E.walks p.4) (FirstAnd (F.walks p.5) NoTrees)) (FirstAnd (E.means p.4) (FirstAnd (F.means p.5) NoTrees)) (D.walked p.3) (first_walked (E.walks p.4) (E.means p.4) (FirstAnd (F.walks p.5) NoTrees) (FirstAnd (F.means p.5) NoTrees) (E.walked p.4) (first_walked (F.walks p.5) (F.means p.5) NoTrees NoTrees (F.walked p.5) none_walked)))))) };
+    ghost walked = { λ p. product_walked (FirstAnd (A.walks p.0) (FirstAnd (B.walks p.1) (FirstAnd (C.walks p.2) (FirstAnd (D.walks p.3) (FirstAnd
+        (E.walks p.4) (FirstAnd (F.walks p.5) NoTrees)))))) (FirstAnd (A.means p.0) (FirstAnd (B.means p.1) (FirstAnd (C.means p.2) (FirstAnd
+        (D.means p.3) (FirstAnd (E.means p.4) (FirstAnd (F.means p.5) NoTrees)))))) (first_walked (A.walks p.0) (A.means p.0) (FirstAnd
+        (B.walks p.1) (FirstAnd (C.walks p.2) (FirstAnd (D.walks p.3) (FirstAnd (E.walks p.4) (FirstAnd (F.walks p.5) NoTrees))))) (FirstAnd
+        (B.means p.1) (FirstAnd (C.means p.2) (FirstAnd (D.means p.3) (FirstAnd (E.means p.4) (FirstAnd (F.means p.5) NoTrees))))) (A.walked p.0)
+        (first_walked (B.walks p.1) (B.means p.1) (FirstAnd (C.walks p.2) (FirstAnd (D.walks p.3) (FirstAnd (E.walks p.4) (FirstAnd
+        (F.walks p.5) NoTrees)))) (FirstAnd (C.means p.2) (FirstAnd (D.means p.3) (FirstAnd (E.means p.4) (FirstAnd (F.means p.5) NoTrees))))
+        (B.walked p.1) (first_walked (C.walks p.2) (C.means p.2) (FirstAnd (D.walks p.3) (FirstAnd (E.walks p.4) (FirstAnd (F.walks p.5) NoTrees)))
+        (FirstAnd (D.means p.3) (FirstAnd (E.means p.4) (FirstAnd (F.means p.5) NoTrees))) (C.walked p.2) (first_walked (D.walks p.3) (D.means p.3)
+        (FirstAnd (E.walks p.4) (FirstAnd (F.walks p.5) NoTrees)) (FirstAnd (E.means p.4) (FirstAnd (F.means p.5) NoTrees)) (D.walked p.3)
+        (first_walked (E.walks p.4) (E.means p.4) (FirstAnd (F.walks p.5) NoTrees) (FirstAnd (F.means p.5) NoTrees) (E.walked p.4) (first_walked
+        (F.walks p.5) (F.means p.5) NoTrees NoTrees (F.walked p.5) none_walked)))))) };
 }
 
 impl<
