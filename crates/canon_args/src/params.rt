@@ -19,8 +19,8 @@ use canon_types::{InterfaceType, MAX_FLAT_PARAMS, TypeTupleIndex};
 
 /// Lowers the parameters of a function, whose types are those of the tuple, into words (CanonicalABI.md, "lower_flat_values"): in a row
 /// up to MAX_FLAT_PARAMS words, else as a tuple into a block that the guest is asked for, and one word that points to it. Answers the
-/// errors of `Lower`, and `ReallocMisaligned` or `ReallocOutOfBounds` where the guest's block isn't one. At an error `dst` and the
-/// blocks may have changed.
+/// errors of `Lower`, and those of `LowerContext::realloc` for the tuple's block. At an error `dst`, the blocks and the handles may have
+/// changed.
 pub fn lower_params<D, G: Guest, P: Lower>(
     cx: &mut LowerContext<'_, D, G>,
     params: &mut P,

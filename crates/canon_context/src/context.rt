@@ -36,6 +36,7 @@ impl<'a, T, G: Guest> LowerContext<'a, T, G> {
     ghost use Rattle.canon_memory.specs.Memory.{written_over};
     ghost use Rattle.canon_context.specs.contracts.context.LowerContext.{the_row};
 
+    /// A context of the core under these options.
     pub fn new(core: &'a mut Core<T, G>, options: OptionsIndex) -> Self
         requires { HasOptions core.old.component options }
         ensures same_reference { result.core.ghost_name ≡ core.entry.ghost_name }
@@ -61,12 +62,14 @@ impl<'a, T, G: Guest> LowerContext<'a, T, G> {
         self.options().instance
     }
 
+    /// The component's type table.
     pub fn types(&self) -> &ComponentTypes
         ensures { result.now ≡ types_of self.now.core.now }
     {
         self.core.component().types.types()
     }
 
+    /// The component's types, in their store.
     pub fn instance_type(&self) -> &InstanceType
         ensures { result.now ≡ self.now.core.now.component.types }
     {
@@ -106,7 +109,7 @@ impl<'a, T, G: Guest> LowerContext<'a, T, G> {
         self.core.as_slice_mut()
     }
 
-    /// The `N` bytes at an address. What becomes of memory once they are written only `as_slice_mut` says.
+    /// The `N` bytes at an address. What becomes of the core once they are written no clause says; `as_slice_mut` does.
     pub fn get<const N: usize>(&mut self, offset: u64) -> &mut [u8; N]
         requires { offset + N ≤ length self.old.core.now.memory }
         ensures bytes { result.now ≡ take N (drop offset self.old.core.now.memory) }
@@ -198,6 +201,7 @@ impl<'a, T, G> LiftContext<'a, T, G> {
         &self.core.component().options[self.options.as_u32() as usize]
     }
 
+    /// The number of the options.
     pub fn options_index(&self) -> OptionsIndex
         ensures { result ≡ self.now.options }
     {
@@ -212,24 +216,28 @@ impl<'a, T, G> LiftContext<'a, T, G> {
         self.options().instance
     }
 
+    /// The guest's memory.
     pub fn memory(&self) -> &[u8]
         ensures { result.now ≡ self.now.core.now.memory }
     {
         self.core.memory().as_slice()
     }
 
+    /// The number of the store.
     pub fn store_id(&self) -> StoreId
         ensures { result ≡ self.now.core.now.id }
     {
         self.core.id()
     }
 
+    /// The component's type table.
     pub fn types(&self) -> &ComponentTypes
         ensures { result.now ≡ types_of self.now.core.now }
     {
         self.core.component().types.types()
     }
 
+    /// The component's types, in their store.
     pub fn instance_type(&self) -> &InstanceType
         ensures { result.now ≡ self.now.core.now.component.types }
     {

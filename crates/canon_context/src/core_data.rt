@@ -81,12 +81,14 @@ impl<T, G> Core<T, G> {
     ghost use Rattle.canon_context.specs.Component.{IsComponent};
     ghost use Rattle.canon_context.specs.contracts.core_data.Core.{the_row};
 
+    /// The number of the store.
     pub fn id(&self) -> StoreId
         ensures { result ≡ self.now.id }
     {
         self.id
     }
 
+    /// The host's data, to be changed.
     pub fn data_mut(&mut self) -> &mut T
         ensures* writes_back { sem 𝓛 (Lends (the_row T.row G.row) T.row self.entry result (λ x. record self.old { state = x })) }
         ensures value { result.now ≡ self.old.state }
@@ -94,6 +96,7 @@ impl<T, G> Core<T, G> {
         &mut self.state
     }
 
+    /// The guest, to be changed.
     pub fn guest_mut(&mut self) -> &mut G
         ensures* writes_back { sem 𝓛 (Lends (the_row T.row G.row) G.row self.entry result (λ g. record self.old { guest = g })) }
         ensures value { result.now ≡ self.old.guest }
@@ -108,12 +111,14 @@ impl<T, G> Core<T, G> {
         self.fuel
     }
 
+    /// Sets the fuel that each lifting begins with.
     pub fn set_fuel(&mut self, v: u64)
         ensures { self.new ≡ record self.old { fuel = v } }
     {
         self.fuel = v;
     }
 
+    /// The component, whose indexes are all inside their tables.
     pub fn component(&self) -> &Component
         ensures component { result.now ≡ self.now.component }
         ensures sound { IsComponent result.now }
@@ -121,7 +126,7 @@ impl<T, G> Core<T, G> {
         &self.component
     }
 
-    // How texts are spelled under the options of a number.
+    /// How texts are spelled under the options of a number: as UTF-8 where there are none of that number.
     pub fn encoding(&self, options: OptionsIndex) -> StringEncoding
         ensures { encoding_of result ≡ encoding_by self.now options }
     {
@@ -131,6 +136,7 @@ impl<T, G> Core<T, G> {
         }
     }
 
+    /// The guest's memory.
     pub fn memory(&self) -> &Memory
         ensures memory { result.now ≡ self.now.memory }
         ensures small { length self.now.memory ≤ 2 ^ 32 }
@@ -139,6 +145,7 @@ impl<T, G> Core<T, G> {
         &self.memory
     }
 
+    /// The bytes of memory, to be written.
     pub fn as_slice_mut(&mut self) -> &mut [u8]
         ensures* writes_back { sem 𝓛 (Lends (the_row T.row G.row) (Array u8 0) self.entry result (λ w. record self.old { memory = written_over self.old.memory w })) }
         ensures value { result.now ≡ self.old.memory }
@@ -152,7 +159,7 @@ impl<T, G> Core<T, G> {
 impl<T, G> Core<T, G> {
     ghost use Rattle.canon_context.specs.Lifter.{IsAfterSteps, origin_in};
 
-    // Has something lifted.
+    /// Has something lifted, with the ledger lent to it.
     pub fn lift_by<L: Lifter>(
         &mut self,
         alloc: Global,
@@ -219,7 +226,7 @@ impl<T, G: Guest> Core<T, G> {
         self.guest.dtor(&mut self.memory, func, rep)
     }
 
-    // Asks the guest for a block once, and tests its answer.
+    /// Asks the guest for a block once, and tests its answer, as `LowerContext::realloc`.
     pub fn realloc(
         &mut self,
         old: u64,

@@ -52,7 +52,7 @@ pub enum Fault {
     /// The variant or the result at this place has a payload, and its case has none.
     #[error("PayloadNotExpected {0}")]
     PayloadNotExpected(u64),
-    /// A text has this many UTF-8 bytes, more than 2^31 - 1.
+    /// A text has this many UTF-8 bytes. They, or twice as many where it may be written as UTF-16, are more than 2^31 - 1.
     #[error("StringTooLong {0}")]
     StringTooLong(u64),
     /// A list or a map has this many items: more than 2^32 - 1, or its block would have more than 2^32 - 1 bytes.
@@ -64,6 +64,7 @@ pub enum Fault {
     /// The guest's `realloc` answered this address, and the block there passes the end of memory.
     #[error("ReallocOutOfBounds {0}")]
     ReallocOutOfBounds(u64),
+    /// The guest trapped.
     #[error("GuestTrap")]
     GuestTrap,
     /// The pointer that stands there isn't a multiple of the alignment of what it points to.
@@ -90,6 +91,7 @@ pub enum Fault {
     /// A handle is refused by the ledger. `Display` writes its refusal alone.
     #[error("{0}")]
     Resource(ResourceFault),
+    /// Memory ran out: the host's, or, for a request, the guest's.
     #[error("OutOfMemory")]
     OutOfMemory,
 }

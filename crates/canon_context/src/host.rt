@@ -12,7 +12,9 @@ use canon_types::{CanonicalOptions, InstanceType, OptionsIndex, StoreId, TypeFun
 /// Why a function of the host gave no results.
 #[derive(Clone, Copy, Debug, PartialEq, Eq)]
 pub enum HostStop {
+    /// It refused.
     Refused,
+    /// Memory ran out.
     OutOfMemory,
 }
 
@@ -25,6 +27,7 @@ pub struct MemoryView<'a> {
 }
 
 impl<'a> MemoryView<'a> {
+    /// The bytes of memory.
     pub fn memory(&self) -> &'a [u8]
         ensures { result.now ≡ self.now.bytes.now }
     {
@@ -53,6 +56,7 @@ impl<'a> MemoryView<'a> {
         &self.component.types
     }
 
+    /// The number of the store.
     pub fn store_id(&self) -> StoreId
         ensures { result ≡ self.now.id }
     {

@@ -12,12 +12,16 @@ use std::alloc::Global;
 /// Something that is lifted from the words or the memory of a guest, with the handles in it taken through the ledger. A core lends
 /// these to it at once (`LiftContext::lift_by`). A lifter does nothing to the ledger but steps of it.
 pub trait Lifter {
+    /// What it is lifted to.
     type Lifted;
 
+    // when it can be lifted
     ghost ready: { Self → Origin → Type 0 };
 
+    // what lifting it does, to the ledger and the fuel too
     ghost gives: { Self → Origin → LedgerState → ℕ → Result Self.Lifted Fault → LedgerState → ℕ → Type 0 };
 
+    /// Lifts it.
     fn lift(
         &self,
         alloc: Global,

@@ -1,5 +1,7 @@
 -- The laws of a point: those of a tuple, over the laws of its coordinates.
 use Rattle.std.specs.Prelude.{[], ◌∷◌, ◌≡◌, pos, refl, ℕ}
+use Rattle.canon_lower.specs.Given.{IsGiven, first_given, none_given, scalar_given, tuple_given}
+use Rattle.canon_lower.specs.Gives.{no_handles, product_gives}
 use Rattle.canon_model.specs.Shape as shape
 use Rattle.canon_model.specs.Tree.{Tree, number}
 use Rattle.canon_types.specs.Instance.{Instance}
@@ -73,6 +75,9 @@ number_kept = plain_kept (λ w at s. refl)
 number_faulted : IsFaulted IsNumberType number_reading
 number_faulted = tree_faulted {Lifts = IsNumber}
 
+number_given : IsGiven IsNumberType IsNumber no_handles
+number_given = scalar_given ty.U32 shape.u32 _ (λ i. refl)
+
 number_told : IsOfTrees IsNumberType number_reading IsNumber
 number_told = scalar_told ty.U32 shape.u32 (λ w. refl)
 
@@ -105,3 +110,6 @@ point_priced = priced_by IsNumberType number_reading free (scalar_priced {Lifts 
 
 pub point_told : IsOfTrees IsPointType point_reading IsPoint
 point_told = told_by IsNumberType number_reading IsNumber number_told
+
+pub point_given : IsGiven IsPointType IsPoint (λ i s p. product_gives ((λ u. no_handles i u p.x) ∷ (λ u. no_handles i u p.y) ∷ []) s)
+point_given = tuple_given (IsNumberType ∷ IsNumberType ∷ []) _ (λ p. first_given (IsNumberType ∷ []) _ _ (number_given p.x) (first_given [] _ _ (number_given p.y) none_given))

@@ -1,7 +1,7 @@
 //! A point, which crosses as the tuple of its coordinates.
 
 ghost use Rattle.std.specs.Prelude.{false, refl};
-ghost use Rattle.canon_example_typed.specs.Points.{point_apart, point_faulted, point_kept, point_priced, point_taken, point_told, point_typed};
+ghost use Rattle.canon_example_typed.specs.Points.{point_apart, point_faulted, point_given, point_kept, point_priced, point_taken, point_told, point_typed};
 ghost use Rattle.canon_lift.specs.Readings.{read_as};
 ghost use Rattle.canon_lower.specs.Walkable.{first_walkable, none_walkable, product_walkable};
 
@@ -87,6 +87,8 @@ impl Lower for Point {
     }
 
     ghost walkable = { λ p. product_walkable (first_walkable (_, refl) (first_walkable (_, refl) none_walkable)) };
+
+    ghost given = { point_given };
 }
 
 impl LowerShared for Point {
@@ -111,6 +113,8 @@ impl LowerShared for Point {
     }
 
     ghost walkable = { λ p. product_walkable (first_walkable (_, refl) (first_walkable (_, refl) none_walkable)) };
+
+    ghost given = { point_given };
 }
 
 impl Lift for Point {

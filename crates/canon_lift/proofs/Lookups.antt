@@ -11,7 +11,7 @@ use Rattle.canon_types.specs.Keeps.{HasPair}
 use Rattle.canon_types.specs.declared.types.TypeMap.{TypeMap}
 use Rattle.canon_types.specs.declared.types.InterfaceType.{InterfaceType}
 use Rattle.canon_types.specs.declared.types.InterfaceType.TheVariants as ty
-use Rattle.canon_typed.specs.Types.{IsFixedOf, IsListOf, IsMapOf, IsOptionOf}
+use Rattle.canon_typed.specs.Types.{IsFixedOf, IsListOf, IsMapOf}
 use Rattle.canon_lift.specs.OfTrees.{second_shape, two_cases}
 use Rattle.canon_lift.specs.Readings.{fixed_element}
 use Rattle.canon_lift.proofs.CaseLifting.{IsOfCases}
@@ -73,14 +73,6 @@ module _ (t t2 : Table) (j : ℕ) (type some : InterfaceType) (info : VariantInf
 
   pub option_known : Knows t some
   option_known = subst (λ (x : Table). Knows x some) same (d.known 0 some (omega arith))
-
-pub option_fits : (Fit : Instance → InterfaceType → Type 0) (i : Instance) (t2 : Table) (j : ℕ) (type some : InterfaceType) → t2 ≡ i.types → type ≡ ty.Option j → IsDefined t2 (ty.Option j) (OptionType some) → IsOptionOf Fit i type → Fit i some
-option_fits Fit i t2 j type some same is d f =
-    let (other, d2, fits) = subst (λ x. IsOptionOf Fit i x) is f in
-    let here = subst (λ (x : Table). IsDefined x (ty.Option j) (OptionType some)) same d in
-    let both : Some (OptionType other) ≡ Some (OptionType some) = sym d2.definition ∙ here.definition in
-    let one : other ≡ some = cc in
-    subst (λ x. Fit i x) one fits
 
 -- ---- lists of fixed length
 

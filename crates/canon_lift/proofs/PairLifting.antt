@@ -1,5 +1,5 @@
 -- The pair of a key and a value in memory.
-use Rattle.std.proofs.Common.{◌≡◌, ◌≤◌, ◌+◌, ◌*◌, ◌%◌, ◌++◌, ◌∙◌, Bool, Err, List, None, Ok, Result, Some, [], ◌∷◌, ap, arith, false, length, refl, subst, sym, ℕ}
+use Rattle.std.proofs.Common.{◌≡◌, ◌≤◌, ◌+◌, ◌*◌, ◌%◌, ◌++◌, ◌∙◌, Bool, Err, List, None, Result, Some, [], ◌∷◌, ap, arith, false, length, refl, subst, sym, ℕ}
 use Rattle.std.proofs.Math.Nat.{zero-mod}
 use Rattle.std.proofs.lemmas.Nat.Gcd.{dvd_of_mod-eq-zero}
 use Rattle.std.proofs.lemmas.Map.{update_all_push}
@@ -112,14 +112,6 @@ module _ {D G K V : Type 0} (R : Reading K) (S : Reading V) (core : Parts D G) (
         let h = others_refused first_in rest_in R (first_reading first_in rest_in S (none_reading {A = Unit {0}})) w (stored_from at 0) [] ks (member [] vs no_members) both before fuel taken x now.ledger mid
         (subst (λ p. R.reads w p ks before x now.ledger) key_place read) (subst (λ p. fuel ≡ mid + R.reach w p ks) key_place spent) e after left both second in
         record { cause = h.cause; memory = h.memory; stops = h.stops; falls = h.falls }
-
-    pub pair_lifted : (y : V) → Lifts S (setting_in now o2) (stored (at + offset)) (shape_of (types_of now) value) now.ledger mid (Ok y) after left → at + size false both ≤ length core.memory
-        → Lifts (pair_reading R S) w (stored at) both before fuel (Ok (x, y)) after left
-    pair_lifted y r room =
-        let (second, cost) = value_lifts (Ok y) r in (
-          (room, (now.ledger, subst (λ p. R.reads w p ks before x now.ledger) key_place read, (after, second, refl))),
-          omega (arith, subst (λ p. fuel ≡ mid + R.reach w p ks) key_place spent, cost),
-        )
 
 -- ---- pairs in a row
 

@@ -1,4 +1,4 @@
-//! Lifting of Rust values: from the memory of a guest, and texts and lists that stay there.
+//! Values of Rust types, lifted from a guest's words and memory without a `Val` in between, and texts and lists that stay in memory.
 #![tactic(auto)]
 
 mod compounds;

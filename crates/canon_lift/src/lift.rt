@@ -32,8 +32,8 @@ pub trait Lift: ComponentType {
 
     /// Lifts the value of a type at an address, where it is aligned and inside memory (CanonicalABI.md, "load"), and takes what it
     /// costs from the fuel. Handles go through the ledger, in order. Answers the fault of a pointer, a text, a char or a discriminant
-    /// that was reached, `Resource` where the ledger refused a handle, or `HostcallFuelExhausted`. After an error the fuel isn't more
-    /// than before.
+    /// that was reached, `Resource` where the ledger refused a handle, `HostcallFuelExhausted`, or `OutOfMemory` where lifting takes
+    /// memory. After an error the fuel isn't more than before.
     fn linear_lift_from_memory<U, G>(
         alloc: Global,
         cx: &mut LiftContext<'_, U, G>,
@@ -91,7 +91,7 @@ pub trait Lift: ComponentType {
         Self::lift_words(alloc, cx, ty, src, at as usize)
     }
 
-    /// Lifts the items of a list.
+    /// Lifts the items of a list, whose own charge was taken when the list was lifted.
     fn linear_lift_list_from_memory<U, G>(
         alloc: Global,
         cx: &mut LiftContext<'_, U, G>,

@@ -116,7 +116,7 @@ impl<T> WasmList<T> {
 }
 
 impl<T: ComponentType> WasmList<T> {
-    /// Whether the list is of the view's store, its items are of the Rust type, and they lie aligned inside the view's memory, which is
+    /// Whether the list is of the view's store, its options are the component's, its items are of the Rust type, and they lie aligned inside the view's memory, which is
     /// the condition of `as_le_slice` and `to_le_vec`.
     pub fn fits(&self, view: &MemoryView<'_>) -> bool
         ensures { IsTrue result ↔ ListFits T.fits view.now self.now }
@@ -140,7 +140,7 @@ impl<T: ComponentType> WasmList<T> {
         }
     }
 
-    /// Whether the list is of the core's store, its items are of the Rust type, and they lie aligned inside memory, which is the
+    /// Whether the list is of the core's store, its options are the component's, its items are of the Rust type, and they lie aligned inside memory, which is the
     /// condition of `get` and `iter`.
     pub fn fits_core<U, G>(&self, core: &Core<U, G>) -> bool
         ensures { IsTrue result ↔ IsListOfCore T.fits core.now self.now }

@@ -1,7 +1,8 @@
 //! The items of a list that stays in memory, one after another.
 
-ghost use Rattle.std.specs.Prelude.{◌≡◌};
-ghost use Rattle.std.specs.Iterator.{at_most};
+ghost use Rattle.std.specs.Prelude.{◌≡◌, IfSome, Some};
+ghost use Rattle.std.specs.Iterator.{UpTo, at_most};
+ghost use Rattle.std.specs.Iterator.SizeHint.{IsWithinCount};
 ghost use Rattle.canon_lift.specs.Iteration.{NextGives, items_left};
 ghost use Rattle.canon_lift.specs.Ranges.{IsListOfCore};
 
@@ -60,7 +61,12 @@ impl<T: Lift, U, G> Iterator for WasmListIter<'_, T, U, G> {
         Some(item)
     }
 
-    fn size_hint(&self) -> (usize, Option<usize>) {
+    /// Exactly how many items are still to come.
+    fn size_hint(&self) -> (usize, Option<usize>)
+        ensures lower { IsWithinCount result.0 (at_most (items_left self.now)) }
+        ensures upper { IfSome result.1 (UpTo (at_most (items_left self.now))) }
+        ensures exact { (result.0 ≡ items_left self.now) × (result.1 ≡ Some (items_left self.now)) }
+    {
         let left = self.list.count.saturating_sub(self.index) as usize;
         (left, Some(left))
     }

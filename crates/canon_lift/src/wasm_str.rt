@@ -38,7 +38,8 @@ pub struct WasmStr {
 }
 
 impl WasmStr {
-    /// Whether the text is of the view's store and its range lies inside the view's memory, which is the condition of `to_str`.
+    /// Whether the text is of the view's store, its options are the component's, and its range lies inside the view's memory, which is the
+    /// condition of `to_str`.
     pub fn fits(&self, view: &MemoryView<'_>) -> bool
         ensures { IsTrue result ↔ TextFits view.now self.now }
     {

@@ -1,19 +1,11 @@
--- A fault that blames a part of the value is one of two, so an error is one of these or comes from elsewhere.
-use Rattle.std.proofs.Common.{Err, List, Ok, Result, inl, inr, suc, zero, ℕ, ◌⊎◌, Bool}
-use Rattle.std.specs.Prelude.{IfErr}
-use Rattle.canon_context.specs.Core.{Parts}
+-- A fault that blames a part of the value is one of two.
+use Rattle.std.proofs.Common.{inl, inr, suc, zero, ℕ}
 use Rattle.canon_context.specs.declared.fault.Fault.{Fault}
 use Rattle.canon_context.specs.declared.fault.Fault.TheVariants as fault
-use Rattle.canon_leaves.specs.Parts.{Part}
-use Rattle.canon_lowering.specs.Attempt.{Aim}
-use Rattle.canon_memory.specs.Guest.{GuestIn, Seen}
-use Rattle.canon_memory.specs.declared.event.Event.{Event}
-use Rattle.canon_model.specs.Memory.{Block}
 use Rattle.canon_model.specs.Shape.{Cases, Members, Shape, bare, borrow, fixed, flags, list, member, no_cases, no_members, own, payload, product, scalar, string, variant}
 use Rattle.canon_model.specs.Text.{Encoding}
 use Rattle.canon_model.specs.Tree.{Tree, Trees, case_number, no_trees, payload_of, tree, trees_of}
-use Rattle.canon_lower.specs.Blames.{HasLarge, HaveLarge, IsElsewhere, IsLargeFault, IsTooLarge, SomeCase, SomeMember, SomePart, SomeTree}
-use Rattle.canon_lower.specs.Lowers.{TypedAttempt}
+use Rattle.canon_lower.specs.Blames.{HaveLarge, IsLargeFault, IsTooLarge, SomeCase, SomeMember, SomePart, SomeTree}
 
 -- what follows of each part that is so, follows of some part that is so
 module _ (P : Shape → Tree → Type 0) (Q : Type 0) (law : (s : Shape) (t : Tree) → P s t → Q) where
@@ -53,20 +45,5 @@ too_large_fault enc (fault.SizeOverflow n) s t h = tt
 too_large_fault enc (fault.StringTooLong n) s t h = tt
 too_large_fault enc _ s t h = h
 
--- of a value, and of members in a row
-pub part_fault : (enc : Encoding) (s : Shape) (e : Fault) (t : Tree) → HasLarge enc s e t → IsLargeFault e
-part_fault enc s e t h = of_part (IsTooLarge enc e) (IsLargeFault e) (too_large_fault enc e) s t h
-
 pub large_fault : (enc : Encoding) (ms : Members) (e : Fault) (ts : Trees) → HaveLarge enc ms e ts → IsLargeFault e
 large_fault enc ms e ts h = of_member (IsTooLarge enc e) (IsLargeFault e) (too_large_fault enc e) ms ts h
-
--- what was aimed at is something, so an error has one of these causes
-pub blamed : {D G X : Type 0} (seen : G → Seen) (moves : GuestIn G → List Event → GuestIn G → Type 0) (before after : Parts D G) (places : List Block) (aim : Aim X) (gives : List (List Part)) (blocks : Bool) (still : Type 0)
-    (Large : Fault → X → Type 0) (result : Result (Unit {0}) Fault) → ((e : Fault) (x : X) → Large e x → IsLargeFault e) → (x : X) → aim.Is x
-    → TypedAttempt seen moves before after places aim gives blocks still Large result → IfErr result (λ e. IsElsewhere e ⊎ IsLargeFault e)
-blamed seen moves before after places aim gives blocks still Large (Ok u) faults x is h = tt
-blamed seen moves before after places aim gives blocks still Large (Err e) faults x is h = either (h.cause x is)
-  where
-    either : IsElsewhere e ⊎ Large e x → IsElsewhere e ⊎ IsLargeFault e
-    either (inl elsewhere) = inl elsewhere
-    either (inr large) = inr (faults e x large)

@@ -67,12 +67,6 @@ module _ (i : Instance) (r : ℕ) (kind : ResourceType) (rep : ℕ) (l n : Ledge
   pub own_moved : (st : ResourceState) (x : GivenIndex) (q : Result ℕ ResourceFault) → st ≡ state.Index x → LeafMoves l n (lower_parts i (passed true r (any (handle.Own x) kind))) q → Moved true st n q
   own_moved st x q is h = subst (λ (y : ResourceState). Moved true y n q) (sym is) h
 
-  pub lent_moved : (st : ResourceState) (x : GivenIndex) (q : Result ℕ ResourceFault) → st ≡ state.Index x → LeafMoves l n (lower_parts i (passed false r (any (handle.Own x) kind))) q → Moved false st n q
-  lent_moved st x q is h = subst (λ (y : ResourceState). Moved false y n q) (sym is) h
-
-  pub borrow_moved : (st : ResourceState) (q : Result ℕ ResourceFault) → st ≡ state.Borrow → LeafMoves l n (lower_parts i (passed false r (any (handle.Synthetic rep) kind))) q → Moved false st n q
-  borrow_moved st q is h = subst (λ (y : ResourceState). Moved false y n q) (sym is) h
-
 -- ---- one that is in no table is put into the host's, and lent from there
 
 generation_kept : (q : StepAnswer ℕ) (l : LedgerState) → (inserting zero None None q l).after.host.generation ≡ l.host.generation

@@ -83,10 +83,6 @@ payload_fits unit F i p type is h = of_some unit (subst (IsPayloadOf unit F i) i
     of_some false k = k
     of_some true k = absurd k
 
-pub pick_later : {A : Type 0} (d : ℕ) (x y : A) → 0 < d → pick d x y ≡ y
-pick_later zero x y h = absurd (omega arith)
-pick_later (suc d) x y h = refl
-
 -- a payload alone, where its type is the unit or not
 module _ {D G : Type 0} (L : GuestLaws G) (options : ℕ) {A : Type 0} (Walks : A → Tree → Type 0) (gives : Instance → Shape → A → List (List Part)) (F : Instance → InterfaceType → Type 0) (x : A) (unit : Bool) (a : Parts D G) (p : Option InterfaceType) (at : ℕ) (fits : IsPayloadOf unit F a.component.types p) where
   abbrev pub Payload : Parts D G → Option InterfaceType → Result (Unit {0}) Fault → Type 0

@@ -1,6 +1,7 @@
 pub mod Blames
 pub mod CasePuts
 pub mod Cases
+pub mod Given
 pub mod Gives
 pub mod Handles
 pub mod Lists

@@ -1,5 +1,6 @@
 //! Options and results.
 
+ghost use Rattle.canon_lower.specs.Given.{option_given, result_given};
 ghost use Rattle.canon_lower.specs.Gives.{option_gives, result_gives};
 ghost use Rattle.canon_lower.specs.Walkable.{option_walkable, result_walkable};
 
@@ -52,6 +53,8 @@ impl<T: Lower> Lower for Option<T> {
     }
 
     ghost walkable = { option_walkable T.walks T.walkable };
+
+    ghost given = { option_given T.fits T.walks T.gives T.given };
 }
 
 impl<T: LowerShared> LowerShared for Option<T> {
@@ -76,6 +79,8 @@ impl<T: LowerShared> LowerShared for Option<T> {
     }
 
     ghost walkable = { option_walkable T.walks T.walkable };
+
+    ghost given = { option_given T.fits T.walks T.gives T.given };
 }
 
 impl<T: Lower, E: Lower> Lower for Result<T, E> {
@@ -117,6 +122,8 @@ impl<T: Lower, E: Lower> Lower for Result<T, E> {
     }
 
     ghost walkable = { result_walkable T.is_unit T.walks E.is_unit E.walks T.walkable E.walkable };
+
+    ghost given = { result_given T.is_unit T.fits T.walks T.gives T.given E.is_unit E.fits E.walks E.gives E.given };
 }
 
 impl<T: LowerShared, E: LowerShared> LowerShared for Result<T, E> {
@@ -158,4 +165,6 @@ impl<T: LowerShared, E: LowerShared> LowerShared for Result<T, E> {
     }
 
     ghost walkable = { result_walkable T.is_unit T.walks E.is_unit E.walks T.walkable E.walkable };
+
+    ghost given = { result_given T.is_unit T.fits T.walks T.gives T.given E.is_unit E.fits E.walks E.gives E.given };
 }

@@ -2,6 +2,7 @@
 
 ghost use Rattle.std.specs.Prelude.{◌≡◌, ◌≤◌, flat_map, length};
 ghost use Rattle.canon_context.specs.Core.{types_of};
+ghost use Rattle.canon_lower.specs.Given.{fixed_given};
 ghost use Rattle.canon_lower.specs.Gives.{item_shape};
 ghost use Rattle.canon_lower.specs.Lists.{IsElementOf};
 ghost use Rattle.canon_lower.specs.Words.{TypedMembersLower};
@@ -113,6 +114,8 @@ impl<T: Lower, const N: usize> Lower for FixedList<T, N> {
     }
 
     ghost walkable = { λ v. row_walkable T.walks T.walkable v.items.items };
+
+    ghost given = { λ v. fixed_given T.fits T.walks T.gives T.given N v.items.items };
 }
 
 impl<T: LowerShared, const N: usize> LowerShared for FixedList<T, N> {
@@ -139,4 +142,6 @@ impl<T: LowerShared, const N: usize> LowerShared for FixedList<T, N> {
     }
 
     ghost walkable = { λ v. row_walkable T.walks T.walkable v.items.items };
+
+    ghost given = { λ v. fixed_given T.fits T.walks T.gives T.given N v.items.items };
 }

@@ -4,6 +4,7 @@ ghost use Rattle.std.specs.Prelude.{◌≡◌, ◌≤◌, ◌+◌, false, is_ok,
 ghost use Rattle.canon_context.specs.Core.{SameButLedger, types_of};
 ghost use Rattle.canon_leaves.specs.Parts as parts;
 ghost use Rattle.canon_leaves.specs.Parts.{LeafMoves};
+ghost use Rattle.canon_lower.specs.Given.{held_given};
 ghost use Rattle.canon_lower.specs.Handles.{GivesNumber, HeldAfter, StateAfter, held_gives, held_parts};
 ghost use Rattle.canon_lower.specs.Stores.{TypedStores};
 ghost use Rattle.canon_lower.specs.Words.{TypedLowers};
@@ -362,6 +363,8 @@ impl<T: HostResourceType<R>, R: Copy> Lower for HostResource<T, R> {
     }
 
     ghost walkable = { λ v. handle_walkable };
+
+    ghost given = { λ v. held_given T.checked (T.type_of v.ty) v.state v.rep };
 }
 
 impl<T: HostType> Lower for Resource<T> {
@@ -411,6 +414,8 @@ impl<T: HostType> Lower for Resource<T> {
     }
 
     ghost walkable = { λ v. handle_walkable };
+
+    ghost given = { λ v. held_given (as_host T.ID) (Host T.ID) v.state v.rep };
 }
 
 impl Lower for ResourceDynamic {
@@ -460,4 +465,6 @@ impl Lower for ResourceDynamic {
     }
 
     ghost walkable = { λ v. handle_walkable };
+
+    ghost given = { λ v. held_given as_host_dynamic (HostDynamic v.ty) v.state v.rep };
 }

@@ -2,6 +2,7 @@
 
 ghost use Rattle.std.specs.Prelude.{◌≡◌, ◌≤◌, ◌+◌, false, flat_map, length};
 ghost use Rattle.canon_context.specs.Core.{types_of};
+ghost use Rattle.canon_lower.specs.Given.{list_given};
 ghost use Rattle.canon_lower.specs.Gives.{item_shape};
 ghost use Rattle.canon_lower.specs.Lists.{IsElementOf};
 ghost use Rattle.canon_lower.specs.Places.{TypedPlaces};
@@ -116,6 +117,8 @@ impl<T: Lower> Lower for Vec<T> {
     }
 
     ghost walkable = { λ v. list_walkable T.walks T.walkable v.items };
+
+    ghost given = { λ v. list_given T.fits T.walks T.gives T.given v.items };
 }
 
 impl<T: LowerShared> LowerShared for Vec<T> {
@@ -152,4 +155,6 @@ impl<T: LowerShared> LowerShared for Vec<T> {
     }
 
     ghost walkable = { λ v. list_walkable T.walks T.walkable v.items };
+
+    ghost given = { λ v. list_given T.fits T.walks T.gives T.given v.items };
 }

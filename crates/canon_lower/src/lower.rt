@@ -3,6 +3,7 @@
 ghost use Rattle.std.specs.Prelude.{◌≡◌, ◌≤◌, ◌+◌, ◌*◌, List, false, flat_map, length};
 ghost use Rattle.canon_context.specs.Core.{types_of};
 ghost use Rattle.canon_leaves.specs.Parts.{Part};
+ghost use Rattle.canon_lower.specs.Given.{IsGiven};
 ghost use Rattle.canon_lower.specs.Stores.{TypedMembersStore, TypedStores};
 ghost use Rattle.canon_lower.specs.Words.{TypedLowers};
 ghost use Rattle.canon_lowering.specs.Copies.{copies};
@@ -23,7 +24,8 @@ use canon_types::InterfaceType;
 /// Texts and lists are put into blocks that the guest is asked for, resources become handles of the guest. A call is Ok only
 /// where no part is too large: `StringTooLong` says that a text's block might need 2^31 bytes or more, `SizeOverflow` that a
 /// list's items, or their bytes, pass 2^32 - 1. The other errors are the faults of `LowerContext::realloc` and the ledger's
-/// refusals. After an error the place, the blocks and the handles may have been changed in part.
+/// refusals. After an error the place, the blocks and the handles may have been changed in part. What a value is afterwards only the
+/// resources of the host say.
 pub trait Lower: ComponentType {
     // what a value's handles do to the ledger, in order, where its type has this shape
     ghost gives: { Instance → Shape → Self → List (List Part) };
@@ -90,6 +92,9 @@ pub trait Lower: ComponentType {
 
     // Each value walks a tree, so what the contracts say of all trees that a value walks is said of one at least.
     ghost walkable: { (v : Self) → (t : Tree) × Self.walks v t };
+
+    // What its handles do are the ways of the handles of its trees.
+    ghost given: { IsGiven Self.fits Self.walks gives };
 }
 
 /// A Rust type whose values are lowered from a shared reference: the calls of `Lower`, with the same errors. Values behind
@@ -160,4 +165,7 @@ pub trait LowerShared: ComponentType {
 
     // as of `Lower`
     ghost walkable: { (v : Self) → (t : Tree) × Self.walks v t };
+
+    // as of `Lower`
+    ghost given: { IsGiven Self.fits Self.walks gives };
 }

@@ -2,6 +2,7 @@
 
 ghost use Rattle.std.specs.Prelude.{◌≡◌, ◌≤◌, ◌+◌, ◌*◌, false, flat_map, length};
 ghost use Rattle.canon_context.specs.Core.{types_of};
+ghost use Rattle.canon_lower.specs.Given.{map_given};
 ghost use Rattle.canon_lower.specs.Gives.{map_gives, pair_gives};
 ghost use Rattle.canon_lower.specs.Pairs.{IsPairType, pair_in};
 ghost use Rattle.canon_lower.specs.Places.{TypedPlaces};
@@ -202,6 +203,8 @@ impl<K: LowerShared + Eq + Hash, V: LowerShared> Lower for HashMap<K, V> {
     }
 
     ghost walkable = { map_walkable K.walks V.walks K.walkable V.walkable };
+
+    ghost given = { map_given K.fits V.fits K.walks V.walks K.gives V.gives K.given V.given };
 }
 
 impl<K: LowerShared + Eq + Hash, V: LowerShared> LowerShared for HashMap<K, V> {
@@ -226,4 +229,6 @@ impl<K: LowerShared + Eq + Hash, V: LowerShared> LowerShared for HashMap<K, V> {
     }
 
     ghost walkable = { map_walkable K.walks V.walks K.walkable V.walkable };
+
+    ghost given = { map_given K.fits V.fits K.walks V.walks K.gives V.gives K.given V.given };
 }

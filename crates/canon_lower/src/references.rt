@@ -27,6 +27,8 @@ impl<T: Lower> Lower for Box<T> {
     }
 
     ghost walkable = { λ r. T.walkable r.value };
+
+    ghost given = { λ r. T.given r.value };
 }
 
 impl<T: LowerShared> LowerShared for Box<T> {
@@ -51,6 +53,8 @@ impl<T: LowerShared> LowerShared for Box<T> {
     }
 
     ghost walkable = { λ r. T.walkable r.value };
+
+    ghost given = { λ r. T.given r.value };
 }
 
 impl<'a, T: LowerShared> Lower for &'a T {
@@ -75,6 +79,8 @@ impl<'a, T: LowerShared> Lower for &'a T {
     }
 
     ghost walkable = { λ r. T.walkable r.now };
+
+    ghost given = { λ r. T.given r.now };
 }
 
 impl<'a, T: LowerShared> LowerShared for &'a T {
@@ -99,4 +105,6 @@ impl<'a, T: LowerShared> LowerShared for &'a T {
     }
 
     ghost walkable = { λ r. T.walkable r.now };
+
+    ghost given = { λ r. T.given r.now };
 }

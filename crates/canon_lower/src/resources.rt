@@ -3,6 +3,7 @@
 ghost use Rattle.std.specs.Prelude.{◌≡◌, ◌≤◌, ◌<◌, ◌+◌, ◌^◌, IfOk, false, length};
 ghost use Rattle.canon_context.specs.Core.{types_of};
 ghost use Rattle.canon_context.specs.Faults.{faulted as as_fault};
+ghost use Rattle.canon_lower.specs.Given.{handle_given};
 ghost use Rattle.canon_lower.specs.Handles.{GivesNumber, handle_gives};
 ghost use Rattle.canon_lower.specs.Stores.{TypedStores};
 ghost use Rattle.canon_lower.specs.Words.{TypedLowers};
@@ -123,6 +124,8 @@ impl Lower for ResourceAny {
     }
 
     ghost walkable = { λ v. handle_walkable };
+
+    ghost given = { handle_given };
 }
 
 impl LowerShared for ResourceAny {
@@ -147,4 +150,6 @@ impl LowerShared for ResourceAny {
     }
 
     ghost walkable = { λ v. handle_walkable };
+
+    ghost given = { handle_given };
 }

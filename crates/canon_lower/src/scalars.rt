@@ -1,6 +1,7 @@
 //! Scalars: integers, floats by their bits, `bool` and `char`.
 
 ghost use Rattle.std.specs.Prelude.{pos, refl};
+ghost use Rattle.canon_lower.specs.Given.{scalar_given};
 ghost use Rattle.canon_lower.specs.Gives.{no_handles};
 ghost use Rattle.canon_lower.specs.Scalars.{scalar_of};
 ghost use Rattle.canon_model.specs.Shape as scalar;
@@ -48,6 +49,8 @@ impl Lower for i8 {
     }
 
     ghost walkable = { λ n. (number n, refl) };
+
+    ghost given = { scalar_given ty.S8 scalar.s8 _ (λ i. refl) };
 }
 
 impl LowerShared for i8 {
@@ -74,6 +77,8 @@ impl LowerShared for i8 {
     }
 
     ghost walkable = { λ n. (number n, refl) };
+
+    ghost given = { scalar_given ty.S8 scalar.s8 _ (λ i. refl) };
 }
 
 impl WordScalar for u8 {
@@ -110,6 +115,8 @@ impl Lower for u8 {
     }
 
     ghost walkable = { λ n. (number (pos n), refl) };
+
+    ghost given = { scalar_given ty.U8 scalar.u8 _ (λ i. refl) };
 }
 
 impl LowerShared for u8 {
@@ -136,6 +143,8 @@ impl LowerShared for u8 {
     }
 
     ghost walkable = { λ n. (number (pos n), refl) };
+
+    ghost given = { scalar_given ty.U8 scalar.u8 _ (λ i. refl) };
 }
 
 impl WordScalar for i16 {
@@ -172,6 +181,8 @@ impl Lower for i16 {
     }
 
     ghost walkable = { λ n. (number n, refl) };
+
+    ghost given = { scalar_given ty.S16 scalar.s16 _ (λ i. refl) };
 }
 
 impl LowerShared for i16 {
@@ -198,6 +209,8 @@ impl LowerShared for i16 {
     }
 
     ghost walkable = { λ n. (number n, refl) };
+
+    ghost given = { scalar_given ty.S16 scalar.s16 _ (λ i. refl) };
 }
 
 impl WordScalar for u16 {
@@ -234,6 +247,8 @@ impl Lower for u16 {
     }
 
     ghost walkable = { λ n. (number (pos n), refl) };
+
+    ghost given = { scalar_given ty.U16 scalar.u16 _ (λ i. refl) };
 }
 
 impl LowerShared for u16 {
@@ -260,6 +275,8 @@ impl LowerShared for u16 {
     }
 
     ghost walkable = { λ n. (number (pos n), refl) };
+
+    ghost given = { scalar_given ty.U16 scalar.u16 _ (λ i. refl) };
 }
 
 impl WordScalar for i32 {
@@ -296,6 +313,8 @@ impl Lower for i32 {
     }
 
     ghost walkable = { λ n. (number n, refl) };
+
+    ghost given = { scalar_given ty.S32 scalar.s32 _ (λ i. refl) };
 }
 
 impl LowerShared for i32 {
@@ -322,6 +341,8 @@ impl LowerShared for i32 {
     }
 
     ghost walkable = { λ n. (number n, refl) };
+
+    ghost given = { scalar_given ty.S32 scalar.s32 _ (λ i. refl) };
 }
 
 impl WordScalar for u32 {
@@ -358,6 +379,8 @@ impl Lower for u32 {
     }
 
     ghost walkable = { λ n. (number (pos n), refl) };
+
+    ghost given = { scalar_given ty.U32 scalar.u32 _ (λ i. refl) };
 }
 
 impl LowerShared for u32 {
@@ -384,6 +407,8 @@ impl LowerShared for u32 {
     }
 
     ghost walkable = { λ n. (number (pos n), refl) };
+
+    ghost given = { scalar_given ty.U32 scalar.u32 _ (λ i. refl) };
 }
 
 impl WordScalar for i64 {
@@ -420,6 +445,8 @@ impl Lower for i64 {
     }
 
     ghost walkable = { λ n. (number n, refl) };
+
+    ghost given = { scalar_given ty.S64 scalar.s64 _ (λ i. refl) };
 }
 
 impl LowerShared for i64 {
@@ -446,6 +473,8 @@ impl LowerShared for i64 {
     }
 
     ghost walkable = { λ n. (number n, refl) };
+
+    ghost given = { scalar_given ty.S64 scalar.s64 _ (λ i. refl) };
 }
 
 impl WordScalar for u64 {
@@ -482,6 +511,8 @@ impl Lower for u64 {
     }
 
     ghost walkable = { λ n. (number (pos n), refl) };
+
+    ghost given = { scalar_given ty.U64 scalar.u64 _ (λ i. refl) };
 }
 
 impl LowerShared for u64 {
@@ -508,6 +539,8 @@ impl LowerShared for u64 {
     }
 
     ghost walkable = { λ n. (number (pos n), refl) };
+
+    ghost given = { scalar_given ty.U64 scalar.u64 _ (λ i. refl) };
 }
 
 impl WordScalar for Float32Bits {
@@ -544,6 +577,8 @@ impl Lower for Float32Bits {
     }
 
     ghost walkable = { λ n. (number (pos n.0), refl) };
+
+    ghost given = { scalar_given ty.Float32 scalar.f32 _ (λ i. refl) };
 }
 
 impl LowerShared for Float32Bits {
@@ -570,6 +605,8 @@ impl LowerShared for Float32Bits {
     }
 
     ghost walkable = { λ n. (number (pos n.0), refl) };
+
+    ghost given = { scalar_given ty.Float32 scalar.f32 _ (λ i. refl) };
 }
 
 impl WordScalar for Float64Bits {
@@ -606,6 +643,8 @@ impl Lower for Float64Bits {
     }
 
     ghost walkable = { λ n. (number (pos n.0), refl) };
+
+    ghost given = { scalar_given ty.Float64 scalar.f64 _ (λ i. refl) };
 }
 
 impl LowerShared for Float64Bits {
@@ -632,6 +671,8 @@ impl LowerShared for Float64Bits {
     }
 
     ghost walkable = { λ n. (number (pos n.0), refl) };
+
+    ghost given = { scalar_given ty.Float64 scalar.f64 _ (λ i. refl) };
 }
 
 impl WordScalar for bool {
@@ -668,6 +709,8 @@ impl Lower for bool {
     }
 
     ghost walkable = { λ b. (truth b, refl) };
+
+    ghost given = { scalar_given ty.Bool scalar.bool _ (λ i. refl) };
 }
 
 impl LowerShared for bool {
@@ -694,6 +737,8 @@ impl LowerShared for bool {
     }
 
     ghost walkable = { λ b. (truth b, refl) };
+
+    ghost given = { scalar_given ty.Bool scalar.bool _ (λ i. refl) };
 }
 
 impl WordScalar for char {
@@ -730,6 +775,8 @@ impl Lower for char {
     }
 
     ghost walkable = { λ c. (code_point c, refl) };
+
+    ghost given = { scalar_given ty.Char scalar.char _ (λ i. refl) };
 }
 
 impl LowerShared for char {
@@ -756,4 +803,6 @@ impl LowerShared for char {
     }
 
     ghost walkable = { λ c. (code_point c, refl) };
+
+    ghost given = { scalar_given ty.Char scalar.char _ (λ i. refl) };
 }

@@ -2,6 +2,7 @@
 
 ghost use Rattle.std.specs.Prelude.{◌≡◌, ◌≤◌, ◌+◌, [], false, length};
 ghost use Rattle.canon_context.specs.Core.{types_of};
+ghost use Rattle.canon_lower.specs.Given.{text_given};
 ghost use Rattle.canon_lower.specs.Gives.{no_handles};
 ghost use Rattle.canon_lower.specs.Places.{TypedPlaces};
 ghost use Rattle.canon_lower.specs.Stores.{TypedStores};
@@ -105,6 +106,8 @@ impl Lower for String {
     }
 
     ghost walkable = { text_walkable };
+
+    ghost given = { text_given _ };
 }
 
 impl LowerShared for String {
@@ -129,4 +132,6 @@ impl LowerShared for String {
     }
 
     ghost walkable = { text_walkable };
+
+    ghost given = { text_given _ };
 }

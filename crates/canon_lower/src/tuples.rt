@@ -1,6 +1,7 @@
 //! Tuples: a member at a time.
 
 ghost use Rattle.std.specs.Prelude.{◌∷◌, []};
+ghost use Rattle.canon_lower.specs.Given.{empty_given, first_given, none_given, tuple_given};
 ghost use Rattle.canon_lower.specs.Gives.{no_handles, product_gives};
 ghost use Rattle.canon_lower.specs.Walkable.{first_walkable, none_walkable, product_walkable};
 
@@ -34,6 +35,8 @@ impl Lower for () {
     }
 
     ghost walkable = { λ p. product_walkable none_walkable };
+
+    ghost given = { empty_given };
 }
 
 impl LowerShared for () {
@@ -60,6 +63,8 @@ impl LowerShared for () {
     }
 
     ghost walkable = { λ p. product_walkable none_walkable };
+
+    ghost given = { empty_given };
 }
 
 impl<A: Lower> Lower for (A,) {
@@ -84,6 +89,8 @@ impl<A: Lower> Lower for (A,) {
     }
 
     ghost walkable = { λ p. product_walkable (first_walkable (A.walkable p.0) none_walkable) };
+
+    ghost given = { tuple_given (A.fits ∷ []) _ (λ p. first_given [] _ _ (A.given p.0) none_given) };
 }
 
 impl<A: LowerShared> LowerShared for (A,) {
@@ -108,6 +115,8 @@ impl<A: LowerShared> LowerShared for (A,) {
     }
 
     ghost walkable = { λ p. product_walkable (first_walkable (A.walkable p.0) none_walkable) };
+
+    ghost given = { tuple_given (A.fits ∷ []) _ (λ p. first_given [] _ _ (A.given p.0) none_given) };
 }
 
 impl<A: Lower, B: Lower> Lower for (A, B) {
@@ -132,6 +141,9 @@ impl<A: Lower, B: Lower> Lower for (A, B) {
     }
 
     ghost walkable = { λ p. product_walkable (first_walkable (A.walkable p.0) (first_walkable (B.walkable p.1) none_walkable)) };
+
+    ghost given = { tuple_given (A.fits ∷ B.fits ∷ []) _ (λ p. first_given (B.fits ∷ []) _ _ (A.given p.0)
+        (first_given [] _ _ (B.given p.1) none_given)) };
 }
 
 impl<A: LowerShared, B: LowerShared> LowerShared for (A, B) {
@@ -156,6 +168,9 @@ impl<A: LowerShared, B: LowerShared> LowerShared for (A, B) {
     }
 
     ghost walkable = { λ p. product_walkable (first_walkable (A.walkable p.0) (first_walkable (B.walkable p.1) none_walkable)) };
+
+    ghost given = { tuple_given (A.fits ∷ B.fits ∷ []) _ (λ p. first_given (B.fits ∷ []) _ _ (A.given p.0)
+        (first_given [] _ _ (B.given p.1) none_given)) };
 }
 
 impl<A: Lower, B: Lower, C: Lower> Lower for (A, B, C) {
@@ -181,6 +196,9 @@ impl<A: Lower, B: Lower, C: Lower> Lower for (A, B, C) {
 
     ghost walkable = { λ p. product_walkable (first_walkable (A.walkable p.0) (first_walkable (B.walkable p.1)
         (first_walkable (C.walkable p.2) none_walkable))) };
+
+    ghost given = { tuple_given (A.fits ∷ B.fits ∷ C.fits ∷ []) _ (λ p. first_given (B.fits ∷ C.fits ∷ []) _ _ (A.given p.0)
+        (first_given (C.fits ∷ []) _ _ (B.given p.1) (first_given [] _ _ (C.given p.2) none_given))) };
 }
 
 impl<A: LowerShared, B: LowerShared, C: LowerShared> LowerShared for (A, B, C) {
@@ -206,6 +224,9 @@ impl<A: LowerShared, B: LowerShared, C: LowerShared> LowerShared for (A, B, C) {
 
     ghost walkable = { λ p. product_walkable (first_walkable (A.walkable p.0) (first_walkable (B.walkable p.1)
         (first_walkable (C.walkable p.2) none_walkable))) };
+
+    ghost given = { tuple_given (A.fits ∷ B.fits ∷ C.fits ∷ []) _ (λ p. first_given (B.fits ∷ C.fits ∷ []) _ _ (A.given p.0)
+        (first_given (C.fits ∷ []) _ _ (B.given p.1) (first_given [] _ _ (C.given p.2) none_given))) };
 }
 
 impl<A: Lower, B: Lower, C: Lower, E: Lower> Lower for (A, B, C, E) {
@@ -235,6 +256,10 @@ impl<A: Lower, B: Lower, C: Lower, E: Lower> Lower for (A, B, C, E) {
 
     ghost walkable = { λ p. product_walkable (first_walkable (A.walkable p.0) (first_walkable (B.walkable p.1) (first_walkable (C.walkable p.2)
         (first_walkable (E.walkable p.3) none_walkable)))) };
+
+    ghost given = { tuple_given (A.fits ∷ B.fits ∷ C.fits ∷ E.fits ∷ []) _ (λ p. first_given (B.fits ∷ C.fits ∷ E.fits ∷ []) _ _ (A.given p.0)
+        (first_given (C.fits ∷ E.fits ∷ []) _ _ (B.given p.1) (first_given (E.fits ∷ []) _ _ (C.given p.2)
+        (first_given [] _ _ (E.given p.3) none_given)))) };
 }
 
 impl<A: LowerShared, B: LowerShared, C: LowerShared, E: LowerShared> LowerShared for (A, B, C, E) {
@@ -260,6 +285,10 @@ impl<A: LowerShared, B: LowerShared, C: LowerShared, E: LowerShared> LowerShared
 
     ghost walkable = { λ p. product_walkable (first_walkable (A.walkable p.0) (first_walkable (B.walkable p.1) (first_walkable (C.walkable p.2)
         (first_walkable (E.walkable p.3) none_walkable)))) };
+
+    ghost given = { tuple_given (A.fits ∷ B.fits ∷ C.fits ∷ E.fits ∷ []) _ (λ p. first_given (B.fits ∷ C.fits ∷ E.fits ∷ []) _ _ (A.given p.0)
+        (first_given (C.fits ∷ E.fits ∷ []) _ _ (B.given p.1) (first_given (E.fits ∷ []) _ _ (C.given p.2)
+        (first_given [] _ _ (E.given p.3) none_given)))) };
 }
 
 impl<A: Lower, B: Lower, C: Lower, E: Lower, F: Lower> Lower for (A, B, C, E, F) {
@@ -293,6 +322,10 @@ impl<A: Lower, B: Lower, C: Lower, E: Lower, F: Lower> Lower for (A, B, C, E, F)
 
     ghost walkable = { λ p. product_walkable (first_walkable (A.walkable p.0) (first_walkable (B.walkable p.1) (first_walkable (C.walkable p.2)
         (first_walkable (E.walkable p.3) (first_walkable (F.walkable p.4) none_walkable))))) };
+
+    ghost given = { tuple_given (A.fits ∷ B.fits ∷ C.fits ∷ E.fits ∷ F.fits ∷ []) _ (λ p. first_given (B.fits ∷ C.fits ∷ E.fits ∷ F.fits ∷ []) _ _ (A.given p.0)
+        (first_given (C.fits ∷ E.fits ∷ F.fits ∷ []) _ _ (B.given p.1) (first_given (E.fits ∷ F.fits ∷ []) _ _ (C.given p.2)
+        (first_given (F.fits ∷ []) _ _ (E.given p.3) (first_given [] _ _ (F.given p.4) none_given))))) };
 }
 
 impl<A: LowerShared, B: LowerShared, C: LowerShared, E: LowerShared, F: LowerShared> LowerShared
@@ -329,6 +362,10 @@ impl<A: LowerShared, B: LowerShared, C: LowerShared, E: LowerShared, F: LowerSha
 
     ghost walkable = { λ p. product_walkable (first_walkable (A.walkable p.0) (first_walkable (B.walkable p.1) (first_walkable (C.walkable p.2)
         (first_walkable (E.walkable p.3) (first_walkable (F.walkable p.4) none_walkable))))) };
+
+    ghost given = { tuple_given (A.fits ∷ B.fits ∷ C.fits ∷ E.fits ∷ F.fits ∷ []) _ (λ p. first_given (B.fits ∷ C.fits ∷ E.fits ∷ F.fits ∷ []) _ _ (A.given p.0)
+        (first_given (C.fits ∷ E.fits ∷ F.fits ∷ []) _ _ (B.given p.1) (first_given (E.fits ∷ F.fits ∷ []) _ _ (C.given p.2)
+        (first_given (F.fits ∷ []) _ _ (E.given p.3) (first_given [] _ _ (F.given p.4) none_given))))) };
 }
 
 impl<A: Lower, B: Lower, C: Lower, E: Lower, F: Lower, H: Lower> Lower for (A, B, C, E, F, H) {
@@ -368,6 +405,11 @@ impl<A: Lower, B: Lower, C: Lower, E: Lower, F: Lower, H: Lower> Lower for (A, B
 
     ghost walkable = { λ p. product_walkable (first_walkable (A.walkable p.0) (first_walkable (B.walkable p.1) (first_walkable (C.walkable p.2)
         (first_walkable (E.walkable p.3) (first_walkable (F.walkable p.4) (first_walkable (H.walkable p.5) none_walkable)))))) };
+
+    ghost given = { tuple_given (A.fits ∷ B.fits ∷ C.fits ∷ E.fits ∷ F.fits ∷ H.fits ∷ []) _ (λ p. first_given (B.fits ∷ C.fits ∷ E.fits ∷ F.fits ∷ H.fits ∷ []) _ _ (A.given p.0)
+        (first_given (C.fits ∷ E.fits ∷ F.fits ∷ H.fits ∷ []) _ _ (B.given p.1)
+        (first_given (E.fits ∷ F.fits ∷ H.fits ∷ []) _ _ (C.given p.2) (first_given (F.fits ∷ H.fits ∷ []) _ _ (E.given p.3)
+        (first_given (H.fits ∷ []) _ _ (F.given p.4) (first_given [] _ _ (H.given p.5) none_given)))))) };
 }
 
 impl<
@@ -410,4 +452,9 @@ impl<
 
     ghost walkable = { λ p. product_walkable (first_walkable (A.walkable p.0) (first_walkable (B.walkable p.1) (first_walkable (C.walkable p.2)
         (first_walkable (E.walkable p.3) (first_walkable (F.walkable p.4) (first_walkable (H.walkable p.5) none_walkable)))))) };
+
+    ghost given = { tuple_given (A.fits ∷ B.fits ∷ C.fits ∷ E.fits ∷ F.fits ∷ H.fits ∷ []) _ (λ p. first_given (B.fits ∷ C.fits ∷ E.fits ∷ F.fits ∷ H.fits ∷ []) _ _ (A.given p.0)
+        (first_given (C.fits ∷ E.fits ∷ F.fits ∷ H.fits ∷ []) _ _ (B.given p.1)
+        (first_given (E.fits ∷ F.fits ∷ H.fits ∷ []) _ _ (C.given p.2) (first_given (F.fits ∷ H.fits ∷ []) _ _ (E.given p.3)
+        (first_given (H.fits ∷ []) _ _ (F.given p.4) (first_given [] _ _ (H.given p.5) none_given)))))) };
 }
