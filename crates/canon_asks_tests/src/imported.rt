@@ -6,7 +6,7 @@ ghost use Rattle.canon_context.specs.Component.{HasOptions};
 ghost use Rattle.canon_context.specs.Core.{types_of};
 ghost use Rattle.canon_context.specs.Host.{StaticKeeps};
 ghost use Rattle.canon_host.specs.Asked.{HasRoomFor};
-ghost use Rattle.canon_host.specs.Forms.{MayGive};
+ghost use Rattle.canon_host.specs.Forms.{MayGive, rust_types};
 ghost use Rattle.canon_host.specs.HostSide.{gives_types};
 ghost use Rattle.canon_host.specs.Imports.{CountsOnce, ServedByTyped, ServesImport};
 
@@ -39,7 +39,7 @@ impl<
     ghost use Rattle.canon_context.specs.Core.{types_of};
     ghost use Rattle.canon_context.specs.Host.{StaticKeeps};
     ghost use Rattle.canon_host.specs.Asked.{HasRoomFor};
-    ghost use Rattle.canon_host.specs.Forms.{MayGive};
+    ghost use Rattle.canon_host.specs.Forms.{MayGive, rust_types};
     ghost use Rattle.canon_host.specs.HostSide.{gives_types};
     ghost use Rattle.canon_host.specs.Imports.{CountsOnce, ServedByTyped, ServesImport};
 
@@ -54,7 +54,7 @@ impl<
 
     ghost refusals = { λ s. s.refusals };
 
-    ghost gives = { λ f. gives_types (record { fits_params = P.fits; fits_results = R.fits; reading = P.reading; told = P.is_told; lifts = P.lifts; cost = P.cost; means = R.means; walks = R.walks; gives = R.gives }) (MayGive F.Fn f) };
+    ghost gives = { λ f. gives_types (rust_types P.fits R.fits P.reading P.is_told P.lifts P.cost R.means R.walks R.gives) (MayGive F.Fn f) };
 
     fn serve(
         &mut self,
@@ -70,13 +70,13 @@ impl<
         ensures still_ready { StaticKeeps F.Fn self.new.func }
         ensures plan { self.new.func ≡ self.old.func }
         ensures refusals { self.old.refusals ≤ self.new.refusals }
-        ensures serves { IfSome (slice_get (types_of cx.entry.core.now).funcs cx.entry.ty) (λ t. ServesImport (gives_types (record { fits_params = P.fits; fits_results = R.fits; reading = P.reading; told = P.is_told; lifts = P.lifts; cost = P.cost; means = R.means; walks = R.walks; gives = R.gives }) (MayGive F.Fn self.old.func)) None _n G.seen G.moves (record { ty = cx.entry.ty; func = t; options = cx.entry.options }) None self.old.refusals self.new.refusals cx.entry.core.now storage.old result cx.exit.0.now storage.new) }
-        ensures served { IfSome (slice_get (types_of cx.entry.core.now).funcs cx.entry.ty) (λ t. ServedByTyped F.Fn self.old.func (record { fits_params = P.fits; fits_results = R.fits; reading = P.reading; told = P.is_told; lifts = P.lifts; cost = P.cost; means = R.means; walks = R.walks; gives = R.gives }) G.seen G.moves (record { ty = cx.entry.ty; func = t; options = cx.entry.options }) cx.entry.core.now storage.old result cx.exit.0.now storage.new) }
+        ensures serves { IfSome (slice_get (types_of cx.entry.core.now).funcs cx.entry.ty) (λ t. ServesImport (gives_types (rust_types P.fits R.fits P.reading P.is_told P.lifts P.cost R.means R.walks R.gives) (MayGive F.Fn self.old.func)) None _n G.seen G.moves (record { ty = cx.entry.ty; func = t; options = cx.entry.options }) None self.old.refusals self.new.refusals cx.entry.core.now storage.old result cx.exit.0.now storage.new) }
+        ensures served { IfSome (slice_get (types_of cx.entry.core.now).funcs cx.entry.ty) (λ t. ServedByTyped F.Fn self.old.func (rust_types P.fits R.fits P.reading P.is_told P.lifts P.cost R.means R.walks R.gives) G.seen G.moves (record { ty = cx.entry.ty; func = t; options = cx.entry.options }) cx.entry.core.now storage.old result cx.exit.0.now storage.new) }
         ensures counts { CountsOnce result self.old.refusals self.new.refusals }
         ensures same { cx.exit.0.now ≡ record cx.entry.core.now { state = cx.exit.0.now.state; guest = cx.exit.0.now.guest; memory = cx.exit.0.now.memory; ledger = cx.exit.0.now.ledger } }
     {
         serve_typed_import(&self.func, &mut self.refusals, alloc, cx, storage)
     }
 
-    ghost lawful = { λ plan n. record { taken = P.taken; apart = P.apart; faulted = P.faulted; priced = P.priced; of_trees = P.told; typed = R.typed; walked = R.walked; walkable = R.walkable } };
+    ghost lawful = { λ plan n. record { taken = P.taken; apart = P.apart; faulted = P.faulted; priced = P.priced; of_trees = P.told; typed = R.typed; walked = R.walked; walkable = R.walkable; given = R.given } };
 }

@@ -20,7 +20,7 @@ use Rattle.canon_model.specs.Shape.{member_count}
 use Rattle.canon_types.specs.Table.{HasFunc, param_members}
 use Rattle.canon_types.specs.declared.types.TypeFunc.{TypeFunc}
 use Rattle.canon_value.specs.declared.val.Val.{Val}
-use Rattle.canon_host.specs.Forms.{IsOfOthers, MayGive, RustTypes, TypedAnswering, in_view, over_values}
+use Rattle.canon_host.specs.Forms.{IsOfOthers, IsOfThese, MayGive, RustTypes, TypedAnswering, in_view, over_values}
 use Rattle.canon_host.specs.HostSide.{Entry, Giving, outcome}
 use Rattle.canon_host.specs.Imports.{CallsImport, CallsUnlogged, Declines, GivesOnly, LiftsOf, ServedByTyped, ServesForm, ServesTypes, ServesWith, entry_of, logged, steps_of_types}
 use Rattle.canon_host.specs.Serves.{AskValues, CallsBlank, InRow, LiftsAsked, Serves, ServesBy, ServesInRow, Values, value_steps, values_of}
@@ -139,6 +139,7 @@ module _ {F T G P R : Type 0} (g : StaticClosure F (HostView T) P (Result R Host
     left = h.gave.left;
     returned = h.gave.returned;
     outside = h.gave.outside;
+    id_is = h.gave.id_is;
     memory_is = h.gave.memory_is;
     options_is = ap (λ (x : Component). x.options.items) h.gave.component_is;
     types_is = ap (λ (x : Component). x.types) h.gave.component_is;
@@ -154,7 +155,7 @@ module _ {F T G P R : Type 0} (g : StaticClosure F (HostView T) P (Result R Host
   calls_unlogged : (b a : Parts T G) (params : P) (r : Result R HostStop) → CallsTyped g f b params r a → CallsUnlogged May None b params r a
   calls_unlogged b a params r h = record { steps = h.steps; same = h.same; may_give = may_give b a params r h; unlogged = refl }
 
-  typed_import : (asked : Asked) (before after : Parts T G) (words words2 : List ℕ) (r : Result (Values P R) HostError) → AreTyped types.fits_params types.fits_results before.component.types asked.func
+  typed_import : (asked : Asked) (before after : Parts T G) (words words2 : List ℕ) (r : Result (Values P R) HostError) → IsOfThese types before.component.types asked.func
       → ServesBy (typed_steps g f types.reading types.walks types.gives seen moves asked) asked before words r after words2 → ServesBy (steps_of_types types May None seen moves asked) asked before words r after words2
   typed_import asked before after words words2 r fits h =
       serves_changed (typed_steps g f types.reading types.walks types.gives seen moves asked) (Declines types None asked) (LiftsOf types asked) (λ b params a results. CallsUnlogged May None b params (Ok results) a) (λ b params why a left. CallsUnlogged May None b params (Err why) a)
@@ -169,6 +170,9 @@ module _ {F T G P R : Type 0} (g : StaticClosure F (HostView T) P (Result R Host
     abbrev pub Fits : TypeFunc → Type 0
     Fits t = AreTyped types.fits_params types.fits_results before.component.types t
 
+    abbrev pub IsSync : TypeFunc → Type 0
+    IsSync t = t.async_ ≡ false
+
     abbrev pub AreOthers : TypeFunc → Type 0
     AreOthers t = IsOfOthers types before.component.types t
 
@@ -177,9 +181,9 @@ module _ {F T G P R : Type 0} (g : StaticClosure F (HostView T) P (Result R Host
     ServedTyped result t = ServedByTyped g f types seen moves (asked_by ty t options) before words result after words2
 
     -- which closure served
-    pub served_typed : (o : Option TypeFunc) (result : Result (Unit {0}) HostError) → IfSome o Fits → IfSome o (DoneTyped result) → IfSome o (ServedTyped result)
-    served_typed (Some t) result fits done = inr (fits, done)
-    served_typed None result fits done = tt
+    pub served_typed : (o : Option TypeFunc) (result : Result (Unit {0}) HostError) → IfSome o IsSync → IfSome o Fits → IfSome o (DoneTyped result) → IfSome o (ServedTyped result)
+    served_typed (Some t) result sync fits done = inr ((sync, fits), done)
+    served_typed None result sync fits done = tt
 
     pub declined_typed : (o : Option TypeFunc) → IfSome o AreOthers → after ≡ before → words2 ≡ words → IfSome o (ServedTyped (Err error.Refused))
     declined_typed (Some t) other same words_same = inl (refl, other, same, words_same)
@@ -190,17 +194,17 @@ module _ {F T G P R : Type 0} (g : StaticClosure F (HostView T) P (Result R Host
       abbrev pub AnsweredTyped : Result (Unit {0}) HostError → TypeFunc → Type 0
       AnsweredTyped result t = ServesTypes types May None seen moves (asked_by ty t options) None r r2 before words result after words2
 
-      pub typed_serves : (o : Option TypeFunc) → IfSome o Fits → IfSome o (DoneTyped (Ok tt)) → r2 ≡ r → IfSome o (AnsweredTyped (Ok tt))
-      typed_serves (Some t) fits (told, served) same = (told, typed_import (asked_by ty t options) before after words words2 (Ok told) fits served, refl, same)
-      typed_serves None fits done same = tt
+      pub typed_serves : (o : Option TypeFunc) → IfSome o IsSync → IfSome o Fits → IfSome o (DoneTyped (Ok tt)) → r2 ≡ r → IfSome o (AnsweredTyped (Ok tt))
+      typed_serves (Some t) sync fits (told, served) same = (told, typed_import (asked_by ty t options) before after words words2 (Ok told) (sync, fits) served, refl, same)
+      typed_serves None sync fits done same = tt
 
-      pub typed_refuses : (o : Option TypeFunc) → IfSome o Fits → IfSome o (DoneTyped (Err error.Refused)) → Rose r r2 → IfSome o (AnsweredTyped (Err error.Refused))
-      typed_refuses (Some t) fits done rose = (refl, rose, typed_import (asked_by ty t options) before after words words2 (Err error.Refused) fits done)
-      typed_refuses None fits done rose = tt
+      pub typed_refuses : (o : Option TypeFunc) → IfSome o IsSync → IfSome o Fits → IfSome o (DoneTyped (Err error.Refused)) → Rose r r2 → IfSome o (AnsweredTyped (Err error.Refused))
+      typed_refuses (Some t) sync fits done rose = (refl, rose, typed_import (asked_by ty t options) before after words words2 (Err error.Refused) (sync, fits) done)
+      typed_refuses None sync fits done rose = tt
 
-      pub typed_faults : (o : Option TypeFunc) (e : Fault) → IfSome o Fits → IfSome o (DoneTyped (Err (error.Fault e))) → r2 ≡ r → IfSome o (AnsweredTyped (Err (error.Fault e)))
-      typed_faults (Some t) e fits done same = (refl, same, typed_import (asked_by ty t options) before after words words2 (Err (error.Fault e)) fits done)
-      typed_faults None e fits done same = tt
+      pub typed_faults : (o : Option TypeFunc) (e : Fault) → IfSome o IsSync → IfSome o Fits → IfSome o (DoneTyped (Err (error.Fault e))) → r2 ≡ r → IfSome o (AnsweredTyped (Err (error.Fault e)))
+      typed_faults (Some t) e sync fits done same = (refl, same, typed_import (asked_by ty t options) before after words words2 (Err (error.Fault e)) (sync, fits) done)
+      typed_faults None e sync fits done same = tt
 
       -- nothing was done since `typecheck` refused the type
       pub typed_declines : (o : Option TypeFunc) → IfSome o AreOthers → after ≡ before → words2 ≡ words → Rose r r2 → IfSome o (AnsweredTyped (Err error.Refused))

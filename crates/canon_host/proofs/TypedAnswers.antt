@@ -8,32 +8,35 @@ use Rattle.canon_context.specs.Core.{Parts, encoding_by, moment_of, types_of}
 use Rattle.canon_context.specs.Host.{StaticClosure}
 use Rattle.canon_context.specs.declared.host.HostStop.{HostStop}
 use Rattle.canon_context.specs.declared.host.HostView.{HostView}
-use Rattle.canon_host.proofs.TypedSteps.{was_called}
+use Rattle.canon_host.proofs.TypedSteps.{concluded_through, was_called}
 use Rattle.canon_host.specs.Serves.{Ends, IsPlace}
 use Rattle.canon_host.specs.ServesTyped.{CallsTyped, LiftsTyped, LowersTyped}
-use Rattle.canon_host.specs.TypedAsks.{AskAnswered, ServedIsAnswered, WasCalled, given_parts}
+use Rattle.canon_host.specs.TypedAsks.{AnswersAreGiven, AskAnswered, AskThrough, ServedIsAnswered, WasCalled, given_parts, given_steps}
 use Rattle.canon_host.specs.declared.asked.Asked.{Asked}
 use Rattle.canon_leaves.specs.Parts.{LeavesTake, Part}
 use Rattle.canon_ledger.specs.Handles.{top_scope}
-use Rattle.canon_ledger.specs.Ledger.{ExitScope, LedgerState, do_step, enter, leave}
+use Rattle.canon_ledger.specs.Ledger.{ExitScope, LedgerState, Through, do_step, enter, leave}
 use Rattle.canon_lift.specs.Reading.{AreTaken, Reading}
+use Rattle.canon_lower.specs.Given.{AreGivenBy, IsGiven}
 use Rattle.canon_lower.specs.Lowers.{EndsBy}
 use Rattle.canon_lowering.specs.Attempt.{AreHeld, LowersMembers, handle_numbers, value_place}
-use Rattle.canon_lowering.specs.Lowering.{AllLawful, Ending, Requested, Trap, done}
+use Rattle.canon_lowering.specs.Lowering.{AllLawful, Ending, Requested, Trap, done, events_of, marks_of}
 use Rattle.canon_lowering.specs.Storing.{narrow}
-use Rattle.canon_memory.specs.Guest.{GuestIn, Seen}
+use Rattle.canon_memory.specs.Guest.{Goes, GuestIn, Seen}
 use Rattle.canon_memory.specs.declared.event.Event.{Event}
 use Rattle.canon_model.proofs.Frames.{blocks_are_read}
 use Rattle.canon_model.specs.Flat.{RepFlatAt, max_results}
 use Rattle.canon_model.specs.Layout.{members_flat}
-use Rattle.canon_model.specs.Leaves.{members_leaves}
+use Rattle.canon_model.specs.Leaves.{leaves, members_leaves}
 use Rattle.canon_model.specs.Rep.{RepMem}
 use Rattle.canon_model.specs.Requests.{members_requests}
 use Rattle.canon_model.specs.Shape.{Members, Shape, of_places, product}
 use Rattle.canon_model.specs.Text.{Encoding}
-use Rattle.canon_model.specs.Tree.{Tree, parts}
+use Rattle.canon_model.specs.Tree.{Tree, Trees, parts}
 use Rattle.canon_types.specs.Instance.{Instance}
-use Rattle.canon_types.specs.Table.{result_members}
+use Rattle.canon_types.specs.Table.{result_members, shape_of}
+use Rattle.canon_types.specs.declared.types.InterfaceType.{InterfaceType}
+use Rattle.canon_types.specs.declared.types.InterfaceType.TheVariants.{Tuple}
 
 done_by : (gives : List (List Part)) (ending : Ending) → EndsBy {T = Unit {0}} gives (Ok tt) ending → ending ≡ done
 done_by gives ending (inl is) = is
@@ -42,8 +45,12 @@ done_by gives ending (inr (is, some, refused)) = absurd (cc)
 module _ {F T G P R : Type 0} (g : StaticClosure F (HostView T) P (Result R HostStop)) (f : F) (reading : Reading P) (walks : R → Tree → Type 0) (gives : Instance → Shape → R → List (List Part))
     (seen : G → Seen) (moves : GuestIn G → List Event → GuestIn G → Type 0) where
   module _ (asked : Asked) (before after : Parts T G) (words words2 : List ℕ) (params : P) (results : R) (lifted called : Parts T G) (was : WasCalled g f reading walks gives seen moves asked before words params (Ok results) lifted called)
+      (last : Through called.ledger (given_steps (given_parts gives asked before results) called.ledger) after.ledger)
       (at : ℕ) (place : IsPlace (types_of before) asked before.memory words at) (ended : LedgerState) (left : ended ≡ (do_step (ExitScope (top_scope called.ledger.handles)) called.ledger).after)
       (h : LowersTyped seen moves walks gives asked (record before { state = called.state; ledger = leave ended }) at results (Ok tt) after words2) where
+    abbrev through : AskThrough g f reading walks gives seen moves asked before after words
+    through = record { params = params; results = results; lifted = lifted; called = called; was = was; last = last }
+
     abbrev ms : Members
     ms = result_members (types_of before) asked.func
 
@@ -72,17 +79,14 @@ module _ {F T G P R : Type 0} (g : StaticClosure F (HostView T) P (Result R Host
 
     row_answered : members_flat ms ≤ max_results → AskAnswered g f reading walks gives seen moves asked before after words words2
     row_answered few = record {
-      params = params;
-      results = results;
-      lifted = lifted;
-      called = called;
-      was = was;
+      through = through;
+      state = ap (λ (k : Parts T G). k.state) h.same;
       at = at;
       place = place;
       trees = (in_row few).shown.it;
       walked = (in_row few).shown.is;
       answers = (in_row few).answers;
-      marks = (in_row few).lowering.goes.marks;
+      goes = subst (λ (t : Option Trap). Goes (moment_of seen before) (moment_of seen after) (marks_of (in_row few).answers) (events_of (in_row few).answers t)) (in_row few).lowering.cause (in_row few).lowering.goes;
       requested = subst (λ (t : Option Trap). Requested (members_requests false enc ms (in_row few).shown.it) done (in_row few).answers t) (in_row few).lowering.cause
           ((in_row few).requested (in_row few).shown.it (in_row few).shown.is);
       given = given_so (handle_numbers (members_leaves ms (in_row few).shown.it)) (in_row few).shown.handles;
@@ -102,17 +106,14 @@ module _ {F T G P R : Type 0} (g : StaticClosure F (HostView T) P (Result R Host
 
     area_answered : max_results < members_flat ms → AskAnswered g f reading walks gives seen moves asked before after words words2
     area_answered many = record {
-      params = params;
-      results = results;
-      lifted = lifted;
-      called = called;
-      was = was;
+      through = through;
+      state = ap (λ (k : Parts T G). k.state) h.same;
       at = at;
       place = place;
       trees = (in_area many).shown.it;
       walked = (in_area many).shown.is;
       answers = (in_area many).answers;
-      marks = (in_area many).lowering.goes.marks;
+      goes = subst (λ (t : Option Trap). Goes (moment_of seen before) (moment_of seen after) (marks_of (in_area many).answers) (events_of (in_area many).answers t)) (in_area many).lowering.cause (in_area many).lowering.goes;
       requested = subst (λ (t : Option Trap). Requested (members_requests false enc ms (in_area many).shown.it) done (in_area many).answers t) (in_area many).lowering.cause
           ((in_area many).requested (in_area many).shown.it (in_area many).shown.is);
       given = given_so (handle_numbers (members_leaves ms (in_area many).shown.it)) (in_area many).shown.handles;
@@ -136,7 +137,21 @@ module _ {F T G P R : Type 0} (g : StaticClosure F (HostView T) P (Result R Host
   pub served_answered : AreTaken reading → ServedIsAnswered g f reading walks gives seen moves
   served_answered law asked before after words words2 (told, (params, lifted, lifts, (called, same, calls, (at, ended, place, e, lowers, rest)))) =
       lowered_answered asked before after words words2 params told.results lifted called
-      (was_called g f reading walks gives seen moves law asked before after words words2 params (Ok told.results) lifted called lifts calls) at
+      (was_called g f reading walks gives seen moves law asked before after words words2 params (Ok told.results) lifted called lifts calls)
+      (concluded_through g f reading walks gives seen moves law asked before after words words2 params told.results lifted called lifts calls (at, ended, place, e, lowers, rest)) at
       (subst (λ (x : Parts T G). IsPlace (types_of x) asked x.memory words at) (called_core asked before lifted called words params told.results lifts calls) place) ended.ledger e.0.1
       (subst (λ (x : Parts T G). LowersTyped seen moves walks gives asked (record x { ledger = leave ended.ledger }) at told.results (Ok tt) after words2)
       (ended_core asked before lifted called ended words params told.results lifts calls e) lowers)
+
+-- ---- the ways of their handles
+
+-- of a tuple, over its members
+pub members_given : {R : Type 0} (i : Instance) (s : Shape) (row : Members) (gives : Instance → Shape → R → List (List Part)) (results : R) (trees : Trees) → s ≡ product of_places row → AreGivenBy i (leaves s (parts trees)) (gives i s results)
+    → AreGivenBy i (members_leaves row trees) (gives i (product of_places row) results)
+unfolding leaves
+members_given i s row gives results trees is h = subst (λ (u : Shape). AreGivenBy i (leaves u (parts trees)) (gives i u results)) is h
+
+pub answers_given : (T G : Type 0) {R : Type 0} (Fit : Instance → InterfaceType → Type 0) (walks : R → Tree → Type 0) (gives : Instance → Shape → R → List (List Part)) → IsGiven Fit walks gives → AnswersAreGiven T G Fit walks gives
+answers_given T G Fit walks gives law asked before results trees fits is walked =
+    let i : Instance = before.component.types in
+    members_given i (shape_of i.types (Tuple asked.func.results)) (result_members (types_of before) asked.func) gives results trees is (law results i (Tuple asked.func.results) (parts trees) fits walked)

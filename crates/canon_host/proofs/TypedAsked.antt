@@ -19,6 +19,12 @@ use Rattle.canon_types.specs.declared.types.InterfaceType.{InterfaceType}
 use Rattle.canon_types.specs.declared.types.InterfaceType.TheVariants.{Tuple}
 use Rattle.canon_value.specs.Args.{args_words}
 
+-- what is left is of no account
+pub its_lifted : {P : Type 0} (reading : Reading P) (Means : P → Tree → Type 0) (price : Tree → ℕ) (t : Tree) (end after : LedgerState) (fuel left : ℕ) (result : Result P Fault)
+    → IsLifted reading Means price t end fuel result after left → IsTreeLifted reading Means t end result after
+its_lifted reading Means price t end after fuel left (Ok params) h = (h.0, h.2)
+its_lifted reading Means price t end after fuel left (Err e) h = h
+
 module _ (T G : Type 0) {P : Type 0} (Fit : Instance → InterfaceType → Type 0) (reading : Reading P) (Means : P → Tree → Type 0) (price : Tree → ℕ)
     (faulted : IsFaulted Fit reading) (priced : IsPriced Fit reading price) (told : IsOfTrees Fit reading Means) (taken : AreTaken reading) where
   pub only_asked : OnlyAsked T G Fit reading Means price
@@ -29,12 +35,8 @@ module _ (T G : Type 0) {P : Type 0} (Fit : Instance → InterfaceType → Type 
       (length-take-le (args_words ms) words are.given) before.ledger after.ledger before.fuel left params lifts in
       record { trees = h.trees; represented = h.represented; means = h.means; within = omega (arith, h.spent); steps = h.steps; taken = h.taken }
 
-  its_lifted : (t : Tree) (end after : LedgerState) (fuel left : ℕ) (result : Result P Fault) → IsLifted reading Means price t end fuel result after left → IsTreeLifted reading Means t end result after
-  its_lifted t end after fuel left (Ok params) h = (h.0, h.2)
-  its_lifted t end after fuel left (Err e) h = h
-
   pub asked_enough : AskedIsEnough T G Fit reading Means price
   asked_enough asked before after words result trees hs end are rep few took ((left, lifts), same) =
-      its_lifted (parts trees) end after.ledger before.fuel left result
+      its_lifted reading Means price (parts trees) end after.ledger before.fuel left result
       (always_passed faulted priced told taken max_params (setting_in before asked.options) (Tuple asked.func.params) (param_members (types_of before) asked.func) (param_words asked before words) are.fits are.shape
       before.ledger after.ledger end before.fuel left result trees hs rep few took lifts)

@@ -99,7 +99,7 @@ module _ {F T G P R : Type 0} (g : StaticClosure F (HostView T) P (Result R Host
       abbrev Handles : Component → List (List Part)
       Handles c = gives c.types (product of_places (result_members c.types.types asked.func)) results
 
-      concluded_through : ConcludesBy (LowersTyped seen moves walks gives asked) asked called results words (Ok tt) after words2 → Through called.ledger (given_steps (given_parts gives asked before results) called.ledger) after.ledger
+      pub concluded_through : ConcludesBy (LowersTyped seen moves walks gives asked) asked called results words (Ok tt) after words2 → Through called.ledger (given_steps (given_parts gives asked before results) called.ledger) after.ledger
       concluded_through (at, ended, place, e, lowers, rest) =
           given_through called.ledger ended.ledger e.0 after.ledger (given_parts gives asked before results) lowers.handles
           (subst (λ c. LeavesTake (leave ended.ledger) (Handles c) lowers.handles after.ledger) (same_component ended e) lowers.passed)

@@ -11,6 +11,7 @@ use Rattle.canon_ledger.specs.Reached.{ledger_in}
 use Rattle.canon_lift.specs.Apart.{IsApart}
 use Rattle.canon_lift.specs.OfTrees.{IsFaulted, IsOfTrees, IsPriced}
 use Rattle.canon_lift.specs.Reading.{AreTaken, Reading}
+use Rattle.canon_lower.specs.Given.{IsGiven}
 use Rattle.canon_model.specs.Shape.{Shape}
 use Rattle.canon_model.specs.Tree.{Tree}
 use Rattle.canon_typed.specs.Typed.{IsTyped}
@@ -34,11 +35,26 @@ pub record RustTypes (P R : Type 0) : Type 1 where
   pub walks : R → Tree → Type 0
   pub gives : Instance → Shape → R → List (List Part)
 
+abbrev pub rust_types : {P R : Type 0} → (Instance → InterfaceType → Type 0) → (Instance → InterfaceType → Type 0) → Reading P → Bool → (P → Tree → Type 0) → (Tree → ℕ) → (R → Tree → Type 0) → (R → Tree → Type 0)
+    → (Instance → Shape → R → List (List Part)) → RustTypes P R
+rust_types fits_params fits_results reading told lifts cost means walks gives = record {
+  fits_params = fits_params;
+  fits_results = fits_results;
+  reading = reading;
+  told = told;
+  lifts = lifts;
+  cost = cost;
+  means = means;
+  walks = walks;
+  gives = gives;
+}
+
 -- ---- what a function over Rust types may answer
 
--- What a function reaches when it is called: the memory, the options and the types of its component, the data of the store, and the ledger
--- of its handles.
+-- What a function reaches when it is called: the number of the store and its memory, the options and the types of its component, the data
+-- of the store, and the ledger of its handles.
 pub record InView (T : Type 0) : Type 0 where
+  pub store : ℕ
   pub memory : List ℕ
   pub options : List CanonicalOptions
   pub types : Instance
@@ -46,7 +62,7 @@ pub record InView (T : Type 0) : Type 0 where
   pub ledger : LedgerState
 
 abbrev pub in_view : {T G : Type 0} → Parts T G → InView T
-in_view core = record { memory = core.memory; options = core.component.options.items; types = core.component.types; state = core.state; ledger = core.ledger }
+in_view core = record { store = core.id; memory = core.memory; options = core.component.options.items; types = core.component.types; state = core.state; ledger = core.ledger }
 
 -- By what it reaches and its parameters: its results or why it gave none, and the data and the ledger after.
 abbrev pub TypedAnswering : Type 0 → Type 0 → Type 0 → Type 1
@@ -58,6 +74,7 @@ pub record MayGive {F T P R : Type 0} (g : StaticClosure F (HostView T) P (Resul
   pub left : HostView T
   pub returned : StaticReturns g f view params answer left
   pub outside : IsOutside view
+  pub id_is : view.memory.id ≡ reached.store
   pub memory_is : view.memory.bytes.now ≡ reached.memory
   pub options_is : view.memory.component.now.options.items ≡ reached.options
   pub types_is : view.memory.component.now.types ≡ reached.types
@@ -83,12 +100,17 @@ pub record AreLawful {P R : Type 0} (types : RustTypes P R) : Type 0 where
   pub typed : IsTyped types.fits_results types.means
   pub walked : (v : R) (t : Tree) → types.walks v t → types.means v t
   pub walkable : (v : R) → (t : Tree) × types.walks v t
+  pub given : IsGiven types.fits_results types.walks types.gives
 
 -- Rust types keep them
 abbrev pub IsLawful : {T : Type 0} → Form T → Type 0
 IsLawful over_values = ⊤
 IsLawful (over_types types may) = AreLawful types
 
--- a function type that isn't async is of other types
+-- a function type is of these types, and isn't async
+abbrev pub IsOfThese : {P R : Type 0} → RustTypes P R → Instance → TypeFunc → Type 0
+IsOfThese types i func = (func.async_ ≡ false) × AreTyped types.fits_params types.fits_results i func
+
+-- one that isn't async is of other types
 abbrev pub IsOfOthers : {P R : Type 0} → RustTypes P R → Instance → TypeFunc → Type 0
 IsOfOthers types i func = func.async_ ≡ false → AreTyped types.fits_params types.fits_results i func → ⊥

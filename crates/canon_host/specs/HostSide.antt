@@ -39,13 +39,14 @@ gives_values answers = record { answers = answers; form = λ n. over_values }
 abbrev pub gives_types : {T P R : Type 0} → RustTypes P R → TypedAnswering T P R → Giving T
 gives_types types may = record { answers = λ log n before params result after. ⊥; form = λ n. over_types types may }
 
--- The data of a store, the ledger of its handles, and what its imports expose: the asks that they served, if they expose them, and how often
+-- The number of a store, its data, the ledger of its handles, and what its imports expose: the asks that they served, if they expose them, and how often
 -- they refused one for no fault.
 pub record HostSide (T : Type 0) : Type 0 where
+  pub store : ℕ
   pub state : T
   pub ledger : LedgerState
   pub log : Option (List Entry)
   pub refusals : ℕ
 
 abbrev pub host_side : {T G : Type 0} → Parts T G → Option (List Entry) → ℕ → HostSide T
-host_side core log refusals = record { state = core.state; ledger = core.ledger; log = log; refusals = refusals }
+host_side core log refusals = record { store = core.id; state = core.state; ledger = core.ledger; log = log; refusals = refusals }

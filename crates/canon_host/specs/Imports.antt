@@ -14,10 +14,10 @@ use Rattle.canon_memory.specs.Guest.{GuestIn, Seen}
 use Rattle.canon_memory.specs.declared.event.Event.{Event}
 use Rattle.canon_types.specs.declared.types.TypeFunc.{TypeFunc}
 use Rattle.canon_value.specs.declared.val.Val.{Val}
-use Rattle.canon_host.specs.Forms.{Form, IsOfOthers, RustTypes, TypedAnswering, in_view, over_types, over_values}
+use Rattle.canon_host.specs.Forms.{Form, IsOfOthers, IsOfThese, RustTypes, TypedAnswering, in_view, over_types, over_values}
 use Rattle.canon_host.specs.HostSide.{Answering, Entry, Giving, entry, gives_values, outcome}
 use Rattle.canon_host.specs.Serves.{AskValues, Serves, ServesBy, Steps, Values, value_steps}
-use Rattle.canon_host.specs.ServesTyped.{AreTyped, LiftsTyped, ServesTyped, typed_steps_by}
+use Rattle.canon_host.specs.ServesTyped.{LiftsTyped, ServesTyped, typed_steps_by}
 use Rattle.canon_host.specs.declared.asked.Asked.{Asked}
 use Rattle.canon_host.specs.declared.error.HostError.{HostError}
 use Rattle.canon_host.specs.declared.error.HostError.TheVariants as error
@@ -79,16 +79,16 @@ module _ {T G A P R S : Type 0} (how : Steps T G A P R S) (Logged : Values P R �
 abbrev pub Declines : {T G P R : Type 0} → RustTypes P R → Option (List Entry) → Asked → Parts T G → HostError → Type 0
 Declines types log asked before e = (e ≡ error.Fault fault.OutOfMemory) ⊎ ((e ≡ error.Refused) × (log ≡ None) × IsOfOthers types before.component.types asked.func)
 
--- the function is of these types, and its parameters are lifted
+-- the function is of these types and isn't async, and its parameters are lifted
 abbrev pub LiftsOf : {T G P R : Type 0} → RustTypes P R → Asked → Parts T G → List ℕ → Result P Fault → Parts T G → Type 0
-LiftsOf types asked before words result after = AreTyped types.fits_params types.fits_results before.component.types asked.func × LiftsTyped types.reading asked before words result after
+LiftsOf types asked before words result after = IsOfThese types before.component.types asked.func × LiftsTyped types.reading asked before words result after
 
--- It is refused since the function is of other types, and nothing is done; or it is of these, and this closure serves the ask.
+-- It is refused since the function is async or of other types, and nothing is done; or it is of these, and this closure serves the ask.
 abbrev pub ServedByTyped : {F T G P R : Type 0} → StaticClosure F (HostView T) P (Result R HostStop) → F → RustTypes P R → (G → Seen) → (GuestIn G → List Event → GuestIn G → Type 0) → Asked
     → Parts T G → List ℕ → Result (Unit {0}) HostError → Parts T G → List ℕ → Type 0
 ServedByTyped g f types seen moves asked before words result after words2 =
     ((result ≡ Err error.Refused) × IsOfOthers types before.component.types asked.func × (after ≡ before) × (words2 ≡ words))
-    ⊎ (AreTyped types.fits_params types.fits_results before.component.types asked.func × ServesTyped g f types.reading types.walks types.gives seen moves asked before words result after words2)
+    ⊎ (IsOfThese types before.component.types asked.func × ServesTyped g f types.reading types.walks types.gives seen moves asked before words result after words2)
 
 -- how a function over Rust types is served, that may answer so
 module _ {T G P R : Type 0} (types : RustTypes P R) (May : TypedAnswering T P R) (log : Option (List Entry)) (seen : G → Seen) (moves : GuestIn G → List Event → GuestIn G → Type 0) (asked : Asked) where

@@ -1,5 +1,5 @@
 -- Laws of an ask that a function over Rust types serves: what its parameters are, and what its ledger goes through.
-use Rattle.std.specs.Prelude.{Err, List, None, Ok, Result, [], false, length, take, true, ℕ, ◌++◌, ◌<◌, ◌∷◌, ◌≡◌, ◌≤◌, ◌⊎◌}
+use Rattle.std.specs.Prelude.{Err, List, None, Ok, Result, [], false, length, take, true, ℕ, ◌<◌, ◌∷◌, ◌≡◌, ◌≤◌, ◌⊎◌}
 use Rattle.canon_args.specs.Exactly.{passed_steps}
 use Rattle.canon_context.specs.Core.{Parts, encoding_by, moment_of, types_of}
 use Rattle.canon_context.specs.Host.{HostSteps, StaticClosure}
@@ -17,10 +17,11 @@ use Rattle.canon_ledger.specs.Handles.{top_scope}
 use Rattle.canon_ledger.specs.Ledger.{Enter, ExitScope, Leave, LedgerState, LedgerStep, Partway, Through, do_step, enter, leave}
 use Rattle.canon_lift.specs.Reading.{Reading, setting_in}
 use Rattle.canon_lift.specs.Ways.{AreLiftedBy}
+use Rattle.canon_lower.specs.Given.{AreGivenBy}
 use Rattle.canon_lowering.specs.Attempt.{AreHeld, handle_numbers, value_place}
-use Rattle.canon_lowering.specs.Lowering.{AllLawful, Answer, Requested, done, marks_of}
+use Rattle.canon_lowering.specs.Lowering.{AllLawful, Answer, Requested, done, events_of, marks_of}
 use Rattle.canon_lowering.specs.Storing.{narrow}
-use Rattle.canon_memory.specs.Guest.{GuestIn, Seen}
+use Rattle.canon_memory.specs.Guest.{Goes, GuestIn, Seen}
 use Rattle.canon_memory.specs.declared.event.Event.{Event}
 use Rattle.canon_model.specs.Flat.{RepArgs, RepFlatAt, max_params, max_results}
 use Rattle.canon_model.specs.Layout.{members_flat}
@@ -138,22 +139,19 @@ module _ {F T G P R : Type 0} (g : StaticClosure F (HostView T) P (Result R Host
 module _ {F T G P R : Type 0} (g : StaticClosure F (HostView T) P (Result R HostStop)) (f : F) (reading : Reading P) (walks : R → Tree → Type 0) (gives : Instance → Shape → R → List (List Part))
     (seen : G → Seen) (moves : GuestIn G → List Event → GuestIn G → Type 0) where
   -- What the function gave was lowered: trees that it walks, by their requests, all of which were answered, and with the handles that the
-  -- ledger gave. As far as the answers kept the law of `realloc`, the words in a row represent the trees strictly, and so does memory where
-  -- the pointer says, if that place lived or no answer came near it.
+  -- ledger gave; nothing else was asked of the guest. As far as the answers kept the law of `realloc`, the words in a row represent the trees
+  -- strictly, and so does memory where the pointer says, if that place lived or no answer came near it.
   pub record AskAnswered (asked : Asked) (before after : Parts T G) (words words2 : List ℕ) : Type 0 where
-    pub params : P
-    pub results : R
-    pub lifted : Parts T G
-    pub called : Parts T G
-    pub was : WasCalled g f reading walks gives seen moves asked before words params (Ok results) lifted called
+    pub through : AskThrough g f reading walks gives seen moves asked before after words
+    pub state : after.state ≡ through.called.state
     pub at : ℕ
     pub place : IsPlace (types_of before) asked before.memory words at
     pub trees : Trees
-    pub walked : walks results (parts trees)
+    pub walked : walks through.results (parts trees)
     pub answers : List Answer
-    pub marks : (seen after.guest).marks ≡ (seen before.guest).marks ++ marks_of answers
+    pub goes : Goes (moment_of seen before) (moment_of seen after) (marks_of answers) (events_of answers None)
     pub requested : Requested (members_requests false (encoding_by before asked.options) (result_members (types_of before) asked.func) trees) done answers None
-    pub given : LeavesTake (leave (do_step (ExitScope (top_scope called.ledger.handles)) called.ledger).after) (given_parts gives asked before results)
+    pub given : LeavesTake (leave (do_step (ExitScope (top_scope through.called.ledger.handles)) through.called.ledger).after) (given_parts gives asked before through.results)
         (handle_numbers (members_leaves (result_members (types_of before) asked.func) trees)) after.ledger
     pub near : members_flat (result_members (types_of before) asked.func) ≤ max_results → AllLawful answers
         → RepFlatAt true (encoding_by before asked.options) (narrow after.memory) (take (members_flat (result_members (types_of before) asked.func)) words2) 0 (product of_places (result_members (types_of before) asked.func)) (parts trees)
@@ -164,3 +162,10 @@ module _ {F T G P R : Type 0} (g : StaticClosure F (HostView T) P (Result R Host
   -- An ask that was served is answered so.
   abbrev pub ServedIsAnswered : Type 0
   ServedIsAnswered = (asked : Asked) (before after : Parts T G) (words words2 : List ℕ) → ServesTyped g f reading walks gives seen moves asked before words (Ok tt) after words2 → AskAnswered asked before after words words2
+
+module _ (T G : Type 0) {R : Type 0} (Fit : Instance → InterfaceType → Type 0) (walks : R → Tree → Type 0) (gives : Instance → Shape → R → List (List Part)) where
+  -- What the handles of results do are the ways of the handles of the trees that they walk, in order.
+  abbrev pub AnswersAreGiven : Type 0
+  AnswersAreGiven = (asked : Asked) (before : Parts T G) (results : R) (trees : Trees) → Fit before.component.types (Tuple asked.func.results)
+      → shape_of (types_of before) (Tuple asked.func.results) ≡ product of_places (result_members (types_of before) asked.func) → walks results (parts trees)
+      → AreGivenBy before.component.types (members_leaves (result_members (types_of before) asked.func) trees) (given_parts gives asked before results)

@@ -1,7 +1,7 @@
 //! Laws of the definitions.
 
 ghost use Rattle.std.specs.Prelude.{IsTrue};
-ghost use Rattle.canon_host.specs.TypedAsks.{AskedIsEnough, OnlyAsked, RefusedIsPartway, ServedIsAnswered, ServedIsThrough};
+ghost use Rattle.canon_host.specs.TypedAsks.{AnswersAreGiven, AskedIsEnough, OnlyAsked, RefusedIsPartway, ServedIsAnswered, ServedIsThrough};
 
 use crate::{HostFunc, HostStop, HostView, StaticHostFn};
 use canon_lift::Lift;
@@ -30,7 +30,7 @@ pub fn typed_ask_is_steps<
 {}
 
 /// An ask that a function over Rust types served is answered with what the function gave, as a tree that it walks: `realloc` got all of the
-/// tree's requests, and the handles are those that the ledger gave. As far as the answers of `realloc` kept its law, the words in a row, or
+/// tree's requests, and the handles are those that the ledger gave, each as a handle of its type is given. As far as the answers of `realloc` kept its law, the words in a row, or
 /// memory where the pointer says, represent the tree, as a lowering writes it.
 pub fn typed_answers_are_represented<
     T,
@@ -39,5 +39,6 @@ pub fn typed_answers_are_represented<
     R: ComponentNamedList + Lower,
     F: Fn(&mut HostView<'_, '_, T>, P) -> Result<R, HostStop>,
 >(_func: &HostFunc<StaticHostFn<F, P, R>>)
-    ensures { ServedIsAnswered F.Fn _func.now P.reading R.walks R.gives G.seen G.moves }
+    ensures answered { ServedIsAnswered F.Fn _func.now P.reading R.walks R.gives G.seen G.moves }
+    ensures given { AnswersAreGiven T G R.fits R.walks R.gives }
 {}

@@ -1,12 +1,12 @@
 //! An import that a function over Rust types serves.
 
-ghost use Rattle.std.specs.Prelude.{◌≡◌, ◌≤◌, IfSome, None, slice_get};
+ghost use Rattle.std.specs.Prelude.{◌≡◌, ◌≤◌, IfSome, None, false, slice_get};
 ghost use Rattle.canon_types.specs.Table.{HasFunc};
 ghost use Rattle.canon_context.specs.Component.{HasOptions};
 ghost use Rattle.canon_context.specs.Core.{types_of};
 ghost use Rattle.canon_context.specs.Host.{StaticKeeps};
 ghost use Rattle.canon_host.specs.Asked.{HasRoomFor};
-ghost use Rattle.canon_host.specs.Forms.{MayGive};
+ghost use Rattle.canon_host.specs.Forms.{MayGive, rust_types};
 ghost use Rattle.canon_host.specs.Imports.{CountsOnce, ServedByTyped, ServesTypes};
 ghost use Rattle.canon_host.specs.ServesTyped.{FitsFunc};
 
@@ -38,8 +38,8 @@ pub fn serve_typed_import<
     requires room { HasRoomFor (types_of cx.core.now) cx.ty storage.old }
     ensures refusals { refusals.old ≤ refusals.new }
     ensures counts { CountsOnce result refusals.old refusals.new }
-    ensures serves { IfSome (slice_get (types_of cx.entry.core.now).funcs cx.entry.ty) (λ t. ServesTypes (record { fits_params = P.fits; fits_results = R.fits; reading = P.reading; told = P.is_told; lifts = P.lifts; cost = P.cost; means = R.means; walks = R.walks; gives = R.gives }) (MayGive F.Fn func.now) None G.seen G.moves (record { ty = cx.entry.ty; func = t; options = cx.entry.options }) None refusals.old refusals.new cx.entry.core.now storage.old result cx.exit.0.now storage.new) }
-    ensures served { IfSome (slice_get (types_of cx.entry.core.now).funcs cx.entry.ty) (λ t. ServedByTyped F.Fn func.now (record { fits_params = P.fits; fits_results = R.fits; reading = P.reading; told = P.is_told; lifts = P.lifts; cost = P.cost; means = R.means; walks = R.walks; gives = R.gives }) G.seen G.moves (record { ty = cx.entry.ty; func = t; options = cx.entry.options }) cx.entry.core.now storage.old result cx.exit.0.now storage.new) }
+    ensures serves { IfSome (slice_get (types_of cx.entry.core.now).funcs cx.entry.ty) (λ t. ServesTypes (rust_types P.fits R.fits P.reading P.is_told P.lifts P.cost R.means R.walks R.gives) (MayGive F.Fn func.now) None G.seen G.moves (record { ty = cx.entry.ty; func = t; options = cx.entry.options }) None refusals.old refusals.new cx.entry.core.now storage.old result cx.exit.0.now storage.new) }
+    ensures served { IfSome (slice_get (types_of cx.entry.core.now).funcs cx.entry.ty) (λ t. ServedByTyped F.Fn func.now (rust_types P.fits R.fits P.reading P.is_told P.lifts P.cost R.means R.walks R.gives) G.seen G.moves (record { ty = cx.entry.ty; func = t; options = cx.entry.options }) cx.entry.core.now storage.old result cx.exit.0.now storage.new) }
     ensures same { cx.exit.0.now ≡ record cx.entry.core.now { state = cx.exit.0.now.state; guest = cx.exit.0.now.guest; memory = cx.exit.0.now.memory; ledger = cx.exit.0.now.ledger } }
 {
     let HostCx { core, ty, options } = cx;
@@ -69,14 +69,15 @@ fn serve_fitting<
     storage: &mut [ValRaw],
 ) -> Result<(), HostError>
     requires ready { StaticKeeps F.Fn func.now }
+    requires sync { IfSome (slice_get cx.core.now.component.types.types.funcs cx.ty) (λ t. t.async_ ≡ false) }
     requires fits { FitsFunc P.fits R.fits cx.core.now.component.types cx.ty }
     requires func { HasFunc (types_of cx.core.now) cx.ty }
     requires options { HasOptions cx.core.now.component cx.options }
     requires room { HasRoomFor (types_of cx.core.now) cx.ty storage.old }
     ensures refusals { refusals.old ≤ refusals.new }
     ensures counts { CountsOnce result refusals.old refusals.new }
-    ensures serves { IfSome (slice_get (types_of cx.entry.core.now).funcs cx.entry.ty) (λ t. ServesTypes (record { fits_params = P.fits; fits_results = R.fits; reading = P.reading; told = P.is_told; lifts = P.lifts; cost = P.cost; means = R.means; walks = R.walks; gives = R.gives }) (MayGive F.Fn func.now) None G.seen G.moves (record { ty = cx.entry.ty; func = t; options = cx.entry.options }) None refusals.old refusals.new cx.entry.core.now storage.old result cx.exit.0.now storage.new) }
-    ensures served { IfSome (slice_get (types_of cx.entry.core.now).funcs cx.entry.ty) (λ t. ServedByTyped F.Fn func.now (record { fits_params = P.fits; fits_results = R.fits; reading = P.reading; told = P.is_told; lifts = P.lifts; cost = P.cost; means = R.means; walks = R.walks; gives = R.gives }) G.seen G.moves (record { ty = cx.entry.ty; func = t; options = cx.entry.options }) cx.entry.core.now storage.old result cx.exit.0.now storage.new) }
+    ensures serves { IfSome (slice_get (types_of cx.entry.core.now).funcs cx.entry.ty) (λ t. ServesTypes (rust_types P.fits R.fits P.reading P.is_told P.lifts P.cost R.means R.walks R.gives) (MayGive F.Fn func.now) None G.seen G.moves (record { ty = cx.entry.ty; func = t; options = cx.entry.options }) None refusals.old refusals.new cx.entry.core.now storage.old result cx.exit.0.now storage.new) }
+    ensures served { IfSome (slice_get (types_of cx.entry.core.now).funcs cx.entry.ty) (λ t. ServedByTyped F.Fn func.now (rust_types P.fits R.fits P.reading P.is_told P.lifts P.cost R.means R.walks R.gives) G.seen G.moves (record { ty = cx.entry.ty; func = t; options = cx.entry.options }) cx.entry.core.now storage.old result cx.exit.0.now storage.new) }
     ensures same { cx.exit.0.now ≡ record cx.entry.core.now { state = cx.exit.0.now.state; guest = cx.exit.0.now.guest; memory = cx.exit.0.now.memory; ledger = cx.exit.0.now.ledger } }
 {
     match func.entrypoint(alloc, cx, storage) {

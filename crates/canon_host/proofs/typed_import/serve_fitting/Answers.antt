@@ -1,40 +1,46 @@
 use Rattle.std.proofs.Common.{arith, refl}
 use Rattle.canon_host.proofs.Importing.{served_typed, typed_faults, typed_refuses, typed_serves}
-use Rattle.canon_host.specs.Forms.{RustTypes}
+use Rattle.canon_host.specs.Forms.{RustTypes, rust_types}
 use Rattle.canon_host.proofs.typed_import.serve_fitting.Goals as goal
 
 pub returns-in-Ok-clause-serves : goal.returns-in-Ok-clause-serves
 returns-in-Ok-clause-serves g c =
-    let types : RustTypes g.row.P.Denot g.row.R.Denot = record { fits_params = g.P.ComponentType.fits; fits_results = g.R.ComponentType.fits; reading = g.P.Lift.reading; told = g.P.ComponentType.is_told; lifts = g.P.ComponentType.lifts; cost = g.P.ComponentType.cost; means = g.R.ComponentType.means; walks = g.R.ComponentType.walks; gives = g.R.Lower.gives } in
+    let types : RustTypes g.row.P.Denot g.row.R.Denot = rust_types g.P.ComponentType.fits g.R.ComponentType.fits g.P.Lift.reading g.P.ComponentType.is_told g.P.ComponentType.lifts g.P.ComponentType.cost
+    g.R.ComponentType.means g.R.ComponentType.walks g.R.Lower.gives in
     typed_serves g.F.Fn c.args.func.now types g.G.Guest.seen g.G.Guest.moves c.args.cx.ty c.args.cx.options c.args.cx.core.now c.entrypoint.new.cx.0 c.args.storage.now c.entrypoint.new.storage c.args.refusals.now c.args.refusals.now _
-    c.requires.fits c.in-Ok.ensures.serves refl
+    c.requires.sync c.requires.fits c.in-Ok.ensures.serves refl
 
 pub returns-in-Err-Refused-clause-serves : goal.returns-in-Err-Refused-clause-serves
 returns-in-Err-Refused-clause-serves g c =
-    let types : RustTypes g.row.P.Denot g.row.R.Denot = record { fits_params = g.P.ComponentType.fits; fits_results = g.R.ComponentType.fits; reading = g.P.Lift.reading; told = g.P.ComponentType.is_told; lifts = g.P.ComponentType.lifts; cost = g.P.ComponentType.cost; means = g.R.ComponentType.means; walks = g.R.ComponentType.walks; gives = g.R.Lower.gives } in
+    let types : RustTypes g.row.P.Denot g.row.R.Denot = rust_types g.P.ComponentType.fits g.R.ComponentType.fits g.P.Lift.reading g.P.ComponentType.is_told g.P.ComponentType.lifts g.P.ComponentType.cost
+    g.R.ComponentType.means g.R.ComponentType.walks g.R.Lower.gives in
     typed_refuses g.F.Fn c.args.func.now types g.G.Guest.seen g.G.Guest.moves c.args.cx.ty c.args.cx.options c.args.cx.core.now c.entrypoint.new.cx.0 c.args.storage.now c.entrypoint.new.storage c.args.refusals.now c.saturating_add.result _
-    c.requires.fits (rw c.in-Err-Refused.field-0-is at c.in-Err-Refused.ensures.serves) (omega (arith, c.saturating_add.ensures))
+    c.requires.sync c.requires.fits (rw c.in-Err-Refused.field-0-is at c.in-Err-Refused.ensures.serves) (omega (arith, c.saturating_add.ensures))
 
 pub returns-in-Err-Fault-clause-serves : goal.returns-in-Err-Fault-clause-serves
 returns-in-Err-Fault-clause-serves g c =
-    let types : RustTypes g.row.P.Denot g.row.R.Denot = record { fits_params = g.P.ComponentType.fits; fits_results = g.R.ComponentType.fits; reading = g.P.Lift.reading; told = g.P.ComponentType.is_told; lifts = g.P.ComponentType.lifts; cost = g.P.ComponentType.cost; means = g.R.ComponentType.means; walks = g.R.ComponentType.walks; gives = g.R.Lower.gives } in
+    let types : RustTypes g.row.P.Denot g.row.R.Denot = rust_types g.P.ComponentType.fits g.R.ComponentType.fits g.P.Lift.reading g.P.ComponentType.is_told g.P.ComponentType.lifts g.P.ComponentType.cost
+    g.R.ComponentType.means g.R.ComponentType.walks g.R.Lower.gives in
     typed_faults g.F.Fn c.args.func.now types g.G.Guest.seen g.G.Guest.moves c.args.cx.ty c.args.cx.options c.args.cx.core.now c.entrypoint.new.cx.0 c.args.storage.now c.entrypoint.new.storage c.args.refusals.now c.args.refusals.now _
-    c.in-Err-Fault.fault c.requires.fits (rw c.in-Err-Fault.field-0-is at c.in-Err-Fault.ensures.serves) refl
+    c.in-Err-Fault.fault c.requires.sync c.requires.fits (rw c.in-Err-Fault.field-0-is at c.in-Err-Fault.ensures.serves) refl
 
 pub returns-in-Ok-clause-served : goal.returns-in-Ok-clause-served
 returns-in-Ok-clause-served g c =
-    let types : RustTypes g.row.P.Denot g.row.R.Denot = record { fits_params = g.P.ComponentType.fits; fits_results = g.R.ComponentType.fits; reading = g.P.Lift.reading; told = g.P.ComponentType.is_told; lifts = g.P.ComponentType.lifts; cost = g.P.ComponentType.cost; means = g.R.ComponentType.means; walks = g.R.ComponentType.walks; gives = g.R.Lower.gives } in
+    let types : RustTypes g.row.P.Denot g.row.R.Denot = rust_types g.P.ComponentType.fits g.R.ComponentType.fits g.P.Lift.reading g.P.ComponentType.is_told g.P.ComponentType.lifts g.P.ComponentType.cost
+    g.R.ComponentType.means g.R.ComponentType.walks g.R.Lower.gives in
     served_typed g.F.Fn c.args.func.now types g.G.Guest.seen g.G.Guest.moves c.args.cx.ty c.args.cx.options c.args.cx.core.now c.entrypoint.new.cx.0 c.args.storage.now c.entrypoint.new.storage _
-    _ c.requires.fits c.in-Ok.ensures.serves
+    _ c.requires.sync c.requires.fits c.in-Ok.ensures.serves
 
 pub returns-in-Err-Refused-clause-served : goal.returns-in-Err-Refused-clause-served
 returns-in-Err-Refused-clause-served g c =
-    let types : RustTypes g.row.P.Denot g.row.R.Denot = record { fits_params = g.P.ComponentType.fits; fits_results = g.R.ComponentType.fits; reading = g.P.Lift.reading; told = g.P.ComponentType.is_told; lifts = g.P.ComponentType.lifts; cost = g.P.ComponentType.cost; means = g.R.ComponentType.means; walks = g.R.ComponentType.walks; gives = g.R.Lower.gives } in
+    let types : RustTypes g.row.P.Denot g.row.R.Denot = rust_types g.P.ComponentType.fits g.R.ComponentType.fits g.P.Lift.reading g.P.ComponentType.is_told g.P.ComponentType.lifts g.P.ComponentType.cost
+    g.R.ComponentType.means g.R.ComponentType.walks g.R.Lower.gives in
     served_typed g.F.Fn c.args.func.now types g.G.Guest.seen g.G.Guest.moves c.args.cx.ty c.args.cx.options c.args.cx.core.now c.entrypoint.new.cx.0 c.args.storage.now c.entrypoint.new.storage _
-    _ c.requires.fits (rw c.in-Err-Refused.field-0-is at c.in-Err-Refused.ensures.serves)
+    _ c.requires.sync c.requires.fits (rw c.in-Err-Refused.field-0-is at c.in-Err-Refused.ensures.serves)
 
 pub returns-in-Err-Fault-clause-served : goal.returns-in-Err-Fault-clause-served
 returns-in-Err-Fault-clause-served g c =
-    let types : RustTypes g.row.P.Denot g.row.R.Denot = record { fits_params = g.P.ComponentType.fits; fits_results = g.R.ComponentType.fits; reading = g.P.Lift.reading; told = g.P.ComponentType.is_told; lifts = g.P.ComponentType.lifts; cost = g.P.ComponentType.cost; means = g.R.ComponentType.means; walks = g.R.ComponentType.walks; gives = g.R.Lower.gives } in
+    let types : RustTypes g.row.P.Denot g.row.R.Denot = rust_types g.P.ComponentType.fits g.R.ComponentType.fits g.P.Lift.reading g.P.ComponentType.is_told g.P.ComponentType.lifts g.P.ComponentType.cost
+    g.R.ComponentType.means g.R.ComponentType.walks g.R.Lower.gives in
     served_typed g.F.Fn c.args.func.now types g.G.Guest.seen g.G.Guest.moves c.args.cx.ty c.args.cx.options c.args.cx.core.now c.entrypoint.new.cx.0 c.args.storage.now c.entrypoint.new.storage _
-    _ c.requires.fits (rw c.in-Err-Fault.field-0-is at c.in-Err-Fault.ensures.serves)
+    _ c.requires.sync c.requires.fits (rw c.in-Err-Fault.field-0-is at c.in-Err-Fault.ensures.serves)
