@@ -34,10 +34,10 @@ pub record AskSound {T : Type 0} (its : AskForm T) : Type 0 where
   pub short : (callee : Callee) (asked : Asked) (index : ℕ) (log : Option (List Entry)) → its.declines callee asked index log (error.Fault fault.OutOfMemory)
   pub declined : (callee : Callee) (asked : Asked) (index : ℕ) (log : Option (List Entry)) (e : Error) → its.declines callee asked index log e → (e ≡ error.Fault fault.OutOfMemory) ⊎ (e ≡ error.HostRefused index)
   -- lifting doesn't trap, goes through the handles up to some step, and isn't refused where nothing but memory is wanting
-  pub calm : (callee : Callee) (fuel : ℕ) (asked : Asked) (words memory : List ℕ) (l n : LedgerState) (f : Fault) → its.lifts callee fuel asked words memory l (Err f) n → ¬ (f ≡ fault.GuestTrap)
-  pub unlifted : (callee : Callee) (fuel : ℕ) (asked : Asked) (words memory : List ℕ) (l n : LedgerState) (f : Fault) → its.lifts callee fuel asked words memory l (Err f) n
-      → (store : ℕ) × LeavesStop (stop_of f) l (its.parts store callee asked words memory) n
-  pub lift_excluded : (callee : Callee) (fuel : ℕ) (asked : Asked) (words memory : List ℕ) (l n : LedgerState) (index : ℕ) (f : Fault) → its.liftable callee fuel asked words memory l → its.lifts callee fuel asked words memory l (Err f) n
+  pub calm : (store : ℕ) (callee : Callee) (fuel : ℕ) (asked : Asked) (words memory : List ℕ) (l n : LedgerState) (f : Fault) → its.lifts store callee fuel asked words memory l (Err f) n → ¬ (f ≡ fault.GuestTrap)
+  pub unlifted : (store : ℕ) (callee : Callee) (fuel : ℕ) (asked : Asked) (words memory : List ℕ) (l n : LedgerState) (f : Fault) → its.lifts store callee fuel asked words memory l (Err f) n
+      → LeavesStop (stop_of f) l (its.parts store callee asked words memory) n
+  pub lift_excluded : (store : ℕ) (callee : Callee) (fuel : ℕ) (asked : Asked) (words memory : List ℕ) (l n : LedgerState) (index : ℕ) (f : Fault) → its.liftable store callee fuel asked words memory l → its.lifts store callee fuel asked words memory l (Err f) n
       → asked_error index f ≡ error.Fault fault.OutOfMemory
   -- lowering goes through the handles, or up to some step; and where the guest trapped, the last request did
   pub given : (callee : Callee) (asked : Asked) (at : ℕ) (memory memory2 : List ℕ) (results : its.Results) (low : List ℕ) (answers : List Answer) (trap : Option Trap) (l n : LedgerState)
@@ -50,8 +50,8 @@ pub record AskSound {T : Type 0} (its : AskForm T) : Type 0 where
 -- of each form that is lawful
 pub record AskLawful {T : Type 0} (its : AskForm T) : Type 0 where
   -- handles of parameters are taken by their parts
-  pub taken : (callee : Callee) (fuel : ℕ) (asked : Asked) (words memory : List ℕ) (l n : LedgerState) (params : its.Params) → its.lifts callee fuel asked words memory l (Ok params) n
-      → (store : ℕ) × (hs : List ℕ) × LeavesTake l (its.parts store callee asked words memory) hs n
+  pub taken : (store : ℕ) (callee : Callee) (fuel : ℕ) (asked : Asked) (words memory : List ℕ) (l n : LedgerState) (params : its.Params) → its.lifts store callee fuel asked words memory l (Ok params) n
+      → (hs : List ℕ) × LeavesTake l (its.parts store callee asked words memory) hs n
   -- lowering isn't refused where nothing but memory is wanting
   pub lower_excluded : (callee : Callee) (asked : Asked) (at : ℕ) (memory memory2 : List ℕ) (results : its.Results) (low : List ℕ) (answers : List Answer) (trap : Option Trap) (l n : LedgerState) (f : Fault)
       → its.lowerable callee asked memory results l → its.lowers callee asked at memory memory2 results low answers trap l n (Err f) → AllLawful answers → trap ≡ None → f ≡ fault.OutOfMemory
@@ -78,7 +78,7 @@ pub record FollowsSteps {T G P S : Type 0} (its : AskForm T) (answers_so : Answe
     (log : Option (List Entry)) (index : ℕ) (a b : Parts T G) (callee : Callee) (asked : Asked) (words pad storage2 : List ℕ) : Type 0 where
   pub declines : (e : HostError) → how.declines a e → its.declines callee asked index log (host_error index e)
   pub lifts : (l : LedgerState) (r : Result its.Params Fault) (lifted : Parts T G) → how.lifts (record a { ledger = l }) (words ++ pad) r lifted
-      → its.lifts callee a.fuel asked words a.memory l r lifted.ledger × (lifted ≡ record a { ledger = lifted.ledger })
+      → its.lifts a.id callee a.fuel asked words a.memory l r lifted.ledger × (lifted ≡ record a { ledger = lifted.ledger })
   pub fails : (before after : Parts T G) (e : HostError) → how.fails before e after → (e ≡ host.Fault fault.OutOfMemory) × (after ≡ before)
   pub gives : (before after : Parts T G) (params : its.Params) (results : its.Results) → how.gives before (how.told params) after results
       → HostSteps before.ledger after.ledger × (after ≡ record before { state = after.state; ledger = after.ledger })
@@ -90,3 +90,4 @@ pub record FollowsSteps {T G P S : Type 0} (its : AskForm T) (answers_so : Answe
   pub lowers : (s : T) (l : LedgerState) (at : ℕ) (results : its.Results) (r : Result (Unit {0}) Fault) → how.lowers (record a { state = s; ledger = l }) at results r b storage2
       → LowersAs its seen moves index a b callee asked storage2 at results l r
   pub state : (s : T) (l : LedgerState) (at : ℕ) (results : its.Results) (r : Result (Unit {0}) Fault) → how.lowers (record a { state = s; ledger = l }) at results r b storage2 → b.state ≡ s
+  pub id : (s : T) (l : LedgerState) (at : ℕ) (results : its.Results) (r : Result (Unit {0}) Fault) → how.lowers (record a { state = s; ledger = l }) at results r b storage2 → b.id ≡ a.id

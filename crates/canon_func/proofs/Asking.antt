@@ -156,7 +156,7 @@ module _ {T : Type 0} (gives : Giving T) (callee : Callee) (fuel : ℕ) (asked :
   -- there was no room for its storage
   pub no_storage : (s : Seen) (bytes : List ℕ) (l : HostSide T) (M : List Event → Type 0) → M [] → IsHostAsk callee index words asked → Serving (moment s bytes) (moment s bytes) M (Serves gives callee fuel index words (moment s bytes) (moment s bytes) l l (Err (error.Fault fault.OutOfMemory)))
   no_storage s bytes l M stays is = nothing s bytes M (Serves gives callee fuel index words (moment s bytes) (moment s bytes) l l (Err (error.Fault fault.OutOfMemory))) stays
-      (None, inr (inl (asked, record { is = is; stops = inl ((form_sound (gives.form index)).short callee asked index _, refl, refl, none_asked bytes); told = refl; counted = refl })), refl, tt, tt)
+      (None, inr (inl (asked, record { is = is; stops = inl ((form_sound (gives.form index)).short callee asked index _, refl, refl, none_asked bytes); told = refl; counted = refl; same_store = refl })), refl, tt, tt)
 
   -- it wasn't served
   pub asked_stopped : (a b : Moment) (l n : HostSide T) (storage : List ℕ) (e : Error) (M N : List Event → Type 0) → ((es : List Event) → M es → N es)

@@ -10,7 +10,6 @@ use Rattle.canon_model.specs.Tree.{Trees}
 use Rattle.canon_model.proofs.Frames.{blocks_are_read}
 use Rattle.canon_memory.specs.declared.event.Event.{Event}
 use Rattle.canon_memory.specs.declared.event.Event.TheVariants as event
-use Rattle.canon_memory.specs.Counts.{Rose}
 use Rattle.canon_memory.specs.Guest.{Goes, Mark, Moment}
 use Rattle.canon_ledger.specs.Ledger.{enter}
 use Rattle.canon_leaves.proofs.Leaves.{leaves_same}
@@ -167,9 +166,6 @@ module _ {T R : Type 0} (args : Arguments) (its : Returns R) (gives : Giving T) 
       let lowered_is = (leaves_same (enter l0.ledger) l1.ledger lowered args.parts given hs took takes).1 in
       accepts served (subst (λ k. AreServed gives callee limits.fuel turns (record l0 { ledger = k }) served) lowered_is (subst (λ (k : HostSide T). AreServed gives callee limits.fuel turns k served) same serves))
 
-  refusals_same : l1.refusals ≡ l0.refusals
-  refusals_same = ap (λ (k : HostSide T). k.refusals) same
-
   -- from the start on, said of the host that lowered the parameters
   after_turns : (turns : List AskTurn) (P : HostSide T → Type 0) → AfterTurns gives callee limits.fuel turns l1 P → AfterTurns gives callee limits.fuel turns (record l0 { ledger = l1.ledger }) P
   after_turns turns P h = subst (λ (k : HostSide T). AfterTurns gives callee limits.fuel turns k P) same h
@@ -235,6 +231,6 @@ module _ {T R : Type 0} (args : Arguments) (its : Returns R) (gives : Giving T) 
     posted = posted_after rest.posted;
     leaves = tt;
     cause = cause_after args its callee limits entry mid after (events_of answers None) later rest.tail e asks_later goes.traps_later rest.cause;
-    valid = λ ts have small lawful none calm few right accepted. rest.valid (lawful_second answers rest.late lawful) (subst (λ n. ¬ Rose n l2.refusals) (sym refusals_same) none) (λ h. calm (ends_after IsTrap first later h))
+    valid = λ ts have small lawful none calm few right accepted. rest.valid (lawful_second answers rest.late lawful) none (λ h. calm (ends_after IsTrap first later h))
         (at_most (asks_in later) (asks_in (first ++ later)) limits.turns (sym asks_later) few) (each_after _ first later right) (accepts_rest rest.turns rest.tail took accepted);
   }

@@ -4,7 +4,6 @@ use Rattle.std.specs.Prelude.{false, slice_get, slice_index}
 use Rattle.canon_model.specs.Layout.{members_align}
 use Rattle.canon_model.specs.Memory.{low}
 use Rattle.canon_model.specs.Shape.{Members}
-use Rattle.canon_memory.specs.Counts.{Rose}
 use Rattle.canon_ledger.specs.Ledger.{LedgerState, enter, leave}
 use Rattle.canon_lowering.specs.Lowering.{AllLawful, Answer, Trap}
 use Rattle.canon_types.specs.declared.types.TypeFunc.{TypeFunc}
@@ -18,7 +17,7 @@ use Rattle.canon_host.specs.HostSide.{Answering, HostSide}
 use Rattle.canon_host.specs.declared.asked.Asked.{Asked}
 use Rattle.canon_func.specs.AskForms.{AskForm}
 use Rattle.canon_func.specs.AskValues.{asked_results}
-use Rattle.canon_func.specs.HostAsks.{AcceptsGiven, AcceptsHostBy, Counted, HostStopsBy, IsHostAsk, StopsAt, StopsCalled, StopsGiven, asked_error}
+use Rattle.canon_func.specs.HostAsks.{AcceptsGiven, AcceptsHostBy, HostStopsBy, IsHostAsk, IsUnrefused, StopsAt, StopsCalled, StopsGiven, asked_error}
 use Rattle.canon_func.specs.Stores.{Callee}
 use Rattle.canon_func.specs.declared.error.Error.{Error}
 use Rattle.canon_func.specs.declared.error.Error.TheVariants as error
@@ -58,24 +57,24 @@ module _ {T : Type 0} (its : AskForm T) (sound : AskSound its) (lawful : AskLawf
       let lowerable : its.lowerable callee asked memory results (leave ended) = subst (λ k. its.lowerable callee asked memory results (leave k)) (same_end called ok.ended ended ok.ends ends) ok.lowerable in
       told ∙ told_short index f (lawful.lower_excluded callee asked at memory memory2 results low answers trap (leave ended) after.ledger f lowerable lowers kept none)
 
-  called_excluded : (params : its.Params) (lifted : LedgerState) (e : Error) → AcceptsHostBy its answers_so callee fuel asked index words memory before → its.lifts callee fuel asked words memory (enter before.ledger) (Ok params) lifted
-      → Counted e before.refusals after.refusals → ¬ Rose before.refusals after.refusals → StopsCalled its answers_so callee fuel asked index words memory memory2 answers trap before after e params lifted → e ≡ error.Fault fault.OutOfMemory
-  called_excluded params lifted e ok lift counted few (inl (wants, left, same, quiet)) = wants
-  called_excluded params lifted e ok lift counted few (inr (inl (stop.Refused, told, steps, gave, quiet))) = absurd (few (subst (λ x. Counted x before.refusals after.refusals) told counted))
-  called_excluded params lifted e ok lift counted few (inr (inl (stop.OutOfMemory, told, steps, gave, quiet))) = told
-  called_excluded params lifted e ok lift counted few (inr (inr (results, called, steps, gave, given))) =
+  called_excluded : (params : its.Params) (lifted : LedgerState) (e : Error) → AcceptsHostBy its answers_so callee fuel asked index words memory before → its.lifts before.store callee fuel asked words memory (enter before.ledger) (Ok params) lifted
+      → IsUnrefused e → StopsCalled its answers_so callee fuel asked index words memory memory2 answers trap before after e params lifted → e ≡ error.Fault fault.OutOfMemory
+  called_excluded params lifted e ok lift unrefused (inl (wants, left, same, quiet)) = wants
+  called_excluded params lifted e ok lift unrefused (inr (inl (stop.Refused, told, steps, gave, quiet))) = absurd (unrefused index told)
+  called_excluded params lifted e ok lift unrefused (inr (inl (stop.OutOfMemory, told, steps, gave, quiet))) = told
+  called_excluded params lifted e ok lift unrefused (inr (inr (results, called, steps, gave, given))) =
       given_excluded results called e (ok.given params results lifted called after.state lift steps gave) given
 
-  declined_excluded : (e : Error) → Counted e before.refusals after.refusals → ¬ Rose before.refusals after.refusals → (e ≡ error.Fault fault.OutOfMemory) ⊎ (e ≡ error.HostRefused index) → e ≡ error.Fault fault.OutOfMemory
-  declined_excluded e counted few (inl is) = is
-  declined_excluded e counted few (inr is) = absurd (few (subst (λ x. Counted x before.refusals after.refusals) is counted))
+  declined_excluded : (e : Error) → IsUnrefused e → (e ≡ error.Fault fault.OutOfMemory) ⊎ (e ≡ error.HostRefused index) → e ≡ error.Fault fault.OutOfMemory
+  declined_excluded e unrefused (inl is) = is
+  declined_excluded e unrefused (inr is) = absurd (unrefused index is)
 
-  ends_so : (e : Error) → AcceptsHostBy its answers_so callee fuel asked index words memory before → Counted e before.refusals after.refusals → ¬ Rose before.refusals after.refusals
+  ends_so : (e : Error) → AcceptsHostBy its answers_so callee fuel asked index words memory before → IsUnrefused e
       → StopsAt its answers_so callee fuel asked index words memory memory2 answers trap before after e → e ≡ error.Fault fault.OutOfMemory
-  ends_so e ok counted few (inl (wants, left, same, quiet)) = declined_excluded e counted few (sound.declined callee asked index before.log e wants)
-  ends_so e ok counted few (inr (inl (f, told, lift, same, quiet))) = told ∙ sound.lift_excluded callee fuel asked words memory (enter before.ledger) after.ledger index f ok.liftable lift
-  ends_so e ok counted few (inr (inr (params, lifted, lift, stops))) = called_excluded params lifted e ok lift counted few stops
+  ends_so e ok unrefused (inl (wants, left, same, quiet)) = declined_excluded e unrefused (sound.declined callee asked index before.log e wants)
+  ends_so e ok unrefused (inr (inl (f, told, lift, same, quiet))) = told ∙ sound.lift_excluded before.store callee fuel asked words memory (enter before.ledger) after.ledger index f ok.liftable lift
+  ends_so e ok unrefused (inr (inr (params, lifted, lift, stops))) = called_excluded params lifted e ok lift unrefused stops
 
-  pub asked_excluded : (e : Error) → HostStopsBy its answers_so callee fuel asked index words memory memory2 answers trap before after e → AcceptsHostBy its answers_so callee fuel asked index words memory before → ¬ Rose before.refusals after.refusals
+  pub asked_excluded : (e : Error) → HostStopsBy its answers_so callee fuel asked index words memory memory2 answers trap before after e → AcceptsHostBy its answers_so callee fuel asked index words memory before → IsUnrefused e
       → e ≡ error.Fault fault.OutOfMemory
-  asked_excluded e h ok few = ends_so e ok h.counted few h.stops
+  asked_excluded e h ok unrefused = ends_so e ok unrefused h.stops

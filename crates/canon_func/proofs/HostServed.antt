@@ -90,7 +90,7 @@ module _ {T G P S : Type 0} (its : AskForm T) (sound : AskSound its) (seen : G �
 
   -- what the function may answer, by what it reaches and the data after
   gave_so : (params : its.Params) (answer : Result its.Results HostStop) (lifted : Parts T G) (m : LedgerState) (t : T) → lifted ≡ record a { ledger = lifted.ledger } → t ≡ b.state
-      → its.gave answers_so index log (in_view lifted) params answer t m → its.gave answers_so index log (called_on callee a.memory a.state lifted.ledger) params answer b.state m
+      → its.gave answers_so index log (in_view lifted) params answer t m → its.gave answers_so index log (called_on callee a.id a.memory a.state lifted.ledger) params answer b.state m
   gave_so params answer lifted m t same et h = subst₂ (λ x y. its.gave answers_so index log x params answer y m) (ap in_view same) et h
 
   -- ---- how it ended
@@ -120,6 +120,13 @@ module _ {T G P S : Type 0} (its : AskForm T) (sound : AskSound its) (seen : G �
   concluded_state s l results (Err e) (inl (none, same, words_same)) = ap (λ (k : Parts T G). k.state) same
   concluded_state s l results (Err e) (inr (at, placed, inl (x, is_x, ends, words_same))) = ap (λ (k : Parts T G). k.state) ends.1
   concluded_state s l results (Err e) (inr (at, placed, inr (ended, ends, low, rest))) = law.state s (leave ended.ledger) at results (Err e) (concluded_at s l at ended results (Err e) ends.1 low)
+
+  -- nor the number of the store
+  concluded_id : (s : T) (l : LedgerState) (results : its.Results) (r : Result (Unit {0}) Fault) → ConcludesBy how.lowers asked (with_host s l) results (words ++ pad) r b storage2 → b.id ≡ a.id
+  concluded_id s l results (Ok x) (at, ended, placed, ends, low, rest) = law.id s (leave ended.ledger) at results (Ok tt) (concluded_at s l at ended results (Ok tt) ends.1 low)
+  concluded_id s l results (Err e) (inl (none, same, words_same)) = ap (λ (k : Parts T G). k.id) same
+  concluded_id s l results (Err e) (inr (at, placed, inl (x, is_x, ends, words_same))) = ap (λ (k : Parts T G). k.id) ends.1
+  concluded_id s l results (Err e) (inr (at, placed, inr (ended, ends, low, rest))) = law.id s (leave ended.ledger) at results (Err e) (concluded_at s l at ended results (Err e) ends.1 low)
 
   -- it was served
   pub ask_served : (told : Values P its.Results) → row_words (asked_results callee asked) ≤ length storage2 → refusals2 ≡ refusals → log2 ≡ Logged told
@@ -160,6 +167,7 @@ module _ {T G P S : Type 0} (its : AskForm T) (sound : AskSound its) (seen : G �
             count = length-take-le (row_words (asked_results callee asked)) storage2 room;
             told = logs ∙ law.logs params told same;
             refused_none = none_refused;
+            same_store = concluded_id called.state called.ledger told.results (Ok tt) ended_so;
           },
           refl,
         );
@@ -168,8 +176,8 @@ module _ {T G P S : Type 0} (its : AskForm T) (sound : AskSound its) (seen : G �
   -- ---- it wasn't
 
   module _ (stays : moves (guest_of a) [] (guest_of a)) (kept : log2 ≡ log) where
-    stopped_with : (answers : List Answer) (trap : Option Trap) (e : Error) → Counted e refusals refusals2 → At answers trap e → Stops answers trap e
-    stopped_with answers trap e counts stops = record { is = is; stops = stops; told = kept; counted = counts }
+    stopped_with : (answers : List Answer) (trap : Option Trap) (e : Error) → Counted e refusals refusals2 → b.id ≡ a.id → At answers trap e → Stops answers trap e
+    stopped_with answers trap e counts id stops = record { is = is; stops = stops; told = kept; counted = counts; same_store = id }
 
     -- nothing was asked for
     quiet : (s : T) (l : LedgerState) (e : Error) → Counted e refusals refusals2 → b ≡ with_host s l → RisesAt e (moment_of seen a) (moment_of seen b) → At [] None e → Ends (Err e)
@@ -178,7 +186,7 @@ module _ {T G P S : Type 0} (its : AskForm T) (sound : AskSound its) (seen : G �
       events = [];
       goes = subst (λ (k : Parts T G). Goes (moment_of seen a) (moment_of seen k) [] []) (sym same) (goes_none (seen a.guest) a.memory a.memory (omega arith));
       moves = λ told. answered {T = Unit {0}} (Err e) (moves (guest_of a) [] (guest_of b)) (subst (λ (k : Parts T G). moves (guest_of a) [] (guest_of k)) (sym same) stays);
-      so = (None, stopped_with [] None e counts stops, refl, tt, rise);
+      so = (None, stopped_with [] None e counts (ap (λ (k : Parts T G). k.id) same) stops, refl, tt, rise);
     }
 
     nothing_asked : (s : T) (l : LedgerState) → b ≡ with_host s l → NothingAsked a.memory b.memory [] None
@@ -210,7 +218,7 @@ module _ {T G P S : Type 0} (its : AskForm T) (sound : AskSound its) (seen : G �
           moves = told_moves (seen a.guest).journal (seen b.guest).journal (events_of by.answers by.trap) (λ es. OnAnswered {T = Unit {0}} (Err (asked_error index x)) (moves (guest_of a) es (guest_of b))) by.goes.events by.moved;
           so = (
             by.trap,
-            stopped_with by.answers by.trap (asked_error index x) (fault_counted index x none_refused) (from by.answers by.trap (inr (at, place at placed, inr (ended.ledger, x, take (members_flat (asked_results callee asked)) storage2, exit_is l ended.ledger (Ok tt) ends.0, refl, by.lowers)))),
+            stopped_with by.answers by.trap (asked_error index x) (fault_counted index x none_refused) (law.id s (leave ended.ledger) at results (Err x) given_is) (from by.answers by.trap (inr (at, place at placed, inr (ended.ledger, x, take (members_flat (asked_results callee asked)) storage2, exit_is l ended.ledger (Ok tt) ends.0, refl, by.lowers)))),
             refl,
             by.late,
             by.rises,
@@ -231,7 +239,7 @@ module _ {T G P S : Type 0} (its : AskForm T) (sound : AskSound its) (seen : G �
 
     -- from the call on
     stopped_called : (e : HostError) → CountsHost refusals refusals2 e → (params : its.Params) (lifted : Parts T G) → lifted ≡ record a { ledger = lifted.ledger }
-        → its.lifts callee a.fuel asked words a.memory (enter a.ledger) (Ok params) lifted.ledger → AnswersBy how asked lifted (how.told params) (words ++ pad) (Err e) b storage2 → Ends (Err (host_error index e))
+        → its.lifts a.id callee a.fuel asked words a.memory (enter a.ledger) (Ok params) lifted.ledger → AnswersBy how asked lifted (how.told params) (words ++ pad) (Err e) b storage2 → Ends (Err (host_error index e))
     stopped_called e counts params lifted same lift (inl (wants, words_same)) =
         let short = law.fails lifted b e wants in
         let is_short : host_error index e ≡ error.Fault fault.OutOfMemory = ap (host_error index) short.0 in
@@ -262,7 +270,7 @@ module _ {T G P S : Type 0} (its : AskForm T) (sound : AskSound its) (seen : G �
         let is_fault : host_error index e ≡ asked_error index x = ap (host_error index) told in
         let mine = law.lifts (enter a.ledger) (Err x) b lift in
         subst (λ err. Ends (Err err)) (sym is_fault) (quiet a.state b.ledger (asked_error index x) (fault_counted index x (subst (CountsHost refusals refusals2) told counts)) mine.1
-        (no_rise index x (moment_of seen a) (moment_of seen b) (sound.calm callee a.fuel asked words a.memory (enter a.ledger) b.ledger x mine.0)) (inr (inl (x, refl, mine.0, state_is a.state b.ledger mine.1, nothing_asked a.state b.ledger mine.1))))
+        (no_rise index x (moment_of seen a) (moment_of seen b) (sound.calm a.id callee a.fuel asked words a.memory (enter a.ledger) b.ledger x mine.0)) (inr (inl (x, refl, mine.0, state_is a.state b.ledger mine.1, nothing_asked a.state b.ledger mine.1))))
     ask_stopped e counts (inr (inr (params, lifted, lift, rest))) =
         let lifting = law.lifts (enter a.ledger) (Ok params) lifted lift in
         stopped_called e counts params lifted lifting.1 lifting.0 rest

@@ -123,7 +123,7 @@ module _ {T : Type 0} (its : AskForm T) (sound : AskSound its) (answers_so : Ans
 
   trapped_so : (n : ℕ) → At (error.ImportFault n fault.GuestTrap) → Traps
   trapped_so n (inl (wants, left, same, quiet)) = absurd (trap_no_decline n (sound.declined callee asked index before.log (error.ImportFault n fault.GuestTrap) wants))
-  trapped_so n (inr (inl (f, told, lift, same, quiet))) = absurd (sound.calm callee fuel asked words memory (enter before.ledger) after.ledger f lift (trap_fault n index f told))
+  trapped_so n (inr (inl (f, told, lift, same, quiet))) = absurd (sound.calm before.store callee fuel asked words memory (enter before.ledger) after.ledger f lift (trap_fault n index f told))
   trapped_so n (inr (inr (params, lifted, lift, inl (none, left, same, quiet)))) = cc
   trapped_so n (inr (inr (params, lifted, lift, inr (inl (why, told, steps, gave, quiet))))) = absurd (trap_no_stop n index why told)
   trapped_so n (inr (inr (params, lifted, lift, inr (inr (results, called, steps, gave, given))))) = trapped_given n results called given

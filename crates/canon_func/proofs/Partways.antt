@@ -19,7 +19,7 @@ use Rattle.canon_func.specs.Asks.{AskStops, BuiltinIsShort, ask_step, builtin_at
 use Rattle.canon_func.specs.Call.{HandlesPassOf, LiftsReturned, StopsReturned, StopsStartedOf, dynamic, dynamic_results, scope_exit, stopped_by}
 use Rattle.canon_func.specs.HostAsks.{HostStops, IsHostAsk, StopsAt, StopsCalled, StopsGiven, asked_exit}
 use Rattle.canon_func.specs.AskForms.{AskForm, ask_at}
-use Rattle.canon_func.specs.Laws.{AskPartway, AskThrough, GoesOn, HostPartway, HostThrough, PassesPartway, RefusedIsPartway, ask_steps, asked_steps, given_steps, last_steps}
+use Rattle.canon_func.specs.Laws.{AskPartway, AskThrough, GoesOn, HostCalled, HostPartway, HostThrough, PassesPartway, RefusedIsPartway, ask_steps, asked_steps, given_steps, last_steps}
 use Rattle.canon_func.specs.Passing.{Arguments, Returns}
 use Rattle.canon_func.specs.Runs.{AskTurn, BeginsInAsk, Each, IsNoStart, SomeReturn}
 use Rattle.canon_func.specs.Steps.{ask_turn}
@@ -66,10 +66,18 @@ ended_partway_of l ended n steps ends rest = inr (inr (0, ap (λ (d : Done (Unit
 
 module _ {T : Type 0} (its : AskForm T) (sound : AskSound its) (lawful : AskLawful its) (answers_so : Answering T) (callee : Callee) (fuel : ℕ) (asked : Asked) (index : ℕ) (words memory memory2 : List ℕ) (answers : List Answer) (trap : Option Trap) (before after : HostSide T) (e : Error)
     (is : IsHostAsk callee index words asked) where
+  abbrev FirstSteps : List LedgerStep
+  FirstSteps = asked_steps its before.store callee asked words memory before.ledger
+
+  abbrev Stopped : Type 0
+  Stopped = HostPartway its answers_so callee fuel index words memory before after.ledger
+
+  abbrev Called : its.Params → LedgerState → LedgerState → Type 0
+  Called = HostCalled its answers_so callee fuel index words memory before asked
+
   -- it stopped after the parameters were lifted
-  whole_first : (store : ℕ) (lifted : LedgerState) → Through before.ledger (asked_steps its store callee asked words memory before.ledger) lifted → after.ledger ≡ lifted → Partway before.ledger (asked_steps its store callee asked words memory before.ledger) after.ledger
-  whole_first store lifted first same =
-      through_partway before.ledger after.ledger (asked_steps its store callee asked words memory before.ledger) (subst (λ k. Through before.ledger (asked_steps its store callee asked words memory before.ledger) k) (sym same) first)
+  whole_first : (lifted : LedgerState) → Through before.ledger FirstSteps lifted → after.ledger ≡ lifted → Partway before.ledger FirstSteps after.ledger
+  whole_first lifted first same = through_partway before.ledger after.ledger FirstSteps (subst (λ k. Through before.ledger FirstSteps k) (sym same) first)
 
   given_partway : (results : its.Results) (called : LedgerState) → StopsGiven its answers_so callee fuel asked index words memory memory2 answers trap before after e results called
       → Partway called (given_steps its callee asked results called) after.ledger
@@ -82,57 +90,72 @@ module _ {T : Type 0} (its : AskForm T) (sound : AskSound its) (lawful : AskLawf
       (compose_parts ended (leave ended) after.ledger (Leave ∷ []) (leaves_steps (leave ended) (its.gives callee asked results)) (left_through ended (leave ended) (ended_can_leave called ended ends) refl)
       (leaves_partway (stop_of f) (leave ended) after.ledger (its.gives callee asked results) (sound.ungiven callee asked at memory memory2 results low answers trap (leave ended) after.ledger f lowers))))
 
-  after_lifting : (params : its.Params) (lifted : LedgerState) (store : ℕ) → Through before.ledger (asked_steps its store callee asked words memory before.ledger) lifted
-      → StopsCalled its answers_so callee fuel asked index words memory memory2 answers trap before after e params lifted → HostPartway its callee index words memory before.ledger after.ledger
-  after_lifting params lifted store first (inl (short, left, same, quiet)) = (asked, store, is, inl (whole_first store lifted first left))
-  after_lifting params lifted store first (inr (inl (why, told, steps, gave, quiet))) = (asked, store, is, inr (inl (lifted, first, steps)))
-  after_lifting params lifted store first (inr (inr (results, called, steps, gave, given))) = (asked, store, is, inr (inr (results, lifted, called, first, steps, given_partway results called given)))
+  after_lifting : (params : its.Params) (lifted : LedgerState) → its.lifts before.store callee fuel asked words memory (enter before.ledger) (Ok params) lifted → Through before.ledger FirstSteps lifted
+      → StopsCalled its answers_so callee fuel asked index words memory memory2 answers trap before after e params lifted → Stopped
+  after_lifting params lifted lift first (inl (short, left, same, quiet)) = (asked, is, inl (whole_first lifted first left))
+  after_lifting params lifted lift first (inr (inl (why, told, steps, gave, quiet))) = (asked, is, inr (inl (params, lifted, record { lifts = lift; first = first; steps = steps })))
+  after_lifting params lifted lift first (inr (inr (results, called, steps, gave, given))) =
+      (asked, is, inr (inr (params, results, lifted, called, after.state, record { lifts = lift; first = first; steps = steps }, gave, given_partway results called given)))
 
-  called_partway : (params : its.Params) (lifted : LedgerState) → its.lifts callee fuel asked words memory (enter before.ledger) (Ok params) lifted
-      → StopsCalled its answers_so callee fuel asked index words memory memory2 answers trap before after e params lifted → HostPartway its callee index words memory before.ledger after.ledger
+  called_partway : (params : its.Params) (lifted : LedgerState) → its.lifts before.store callee fuel asked words memory (enter before.ledger) (Ok params) lifted
+      → StopsCalled its answers_so callee fuel asked index words memory memory2 answers trap before after e params lifted → Stopped
   called_partway params lifted lift stops =
-      let taken = lawful.taken callee fuel asked words memory (enter before.ledger) lifted params lift in
-      let first : Through before.ledger (asked_steps its taken.0 callee asked words memory before.ledger) lifted = (0, refl, leaves_through (enter before.ledger) lifted (its.parts taken.0 callee asked words memory) taken.1 taken.2) in
-      after_lifting params lifted taken.0 first stops
+      let taken = lawful.taken before.store callee fuel asked words memory (enter before.ledger) lifted params lift in
+      let first : Through before.ledger FirstSteps lifted = (0, refl, leaves_through (enter before.ledger) lifted (its.parts before.store callee asked words memory) taken.0 taken.1) in
+      after_lifting params lifted lift first stops
 
-  host_partway : StopsAt its answers_so callee fuel asked index words memory memory2 answers trap before after e → (after.ledger ≡ before.ledger) ⊎ HostPartway its callee index words memory before.ledger after.ledger
+  host_partway : StopsAt its answers_so callee fuel asked index words memory memory2 answers trap before after e → (after.ledger ≡ before.ledger) ⊎ Stopped
   host_partway (inl (why, left, same, quiet)) = inl left
   host_partway (inr (inl (f, told, lift, same, quiet))) =
-      let unlifted = sound.unlifted callee fuel asked words memory (enter before.ledger) after.ledger f lift in
-      inr (asked, unlifted.0, is, inl (inr (inr (0, refl, leaves_partway (stop_of f) (enter before.ledger) after.ledger (its.parts unlifted.0 callee asked words memory) unlifted.1))))
+      let unlifted = sound.unlifted before.store callee fuel asked words memory (enter before.ledger) after.ledger f lift in
+      inr (asked, is, inl (inr (inr (0, refl, leaves_partway (stop_of f) (enter before.ledger) after.ledger (its.parts before.store callee asked words memory) unlifted))))
   host_partway (inr (inr (params, lifted, lift, stops))) = inr (called_partway params lifted lift stops)
 
 -- what was served went through all steps
-through_host : {T : Type 0} (its : AskForm T) (callee : Callee) (t : AskTurn) (l n : LedgerState) → HostThrough its callee t l n → HostPartway its callee t.index t.words t.memory l n
-through_host its callee t l n h = (h.asked, h.store, h.is, inr (inr (h.results, h.lifted, h.called, h.first, h.steps, through_partway h.called n (given_steps its callee h.asked h.results h.called) h.last)))
+through_host : {T : Type 0} (its : AskForm T) (answers_so : Answering T) (callee : Callee) (fuel : ℕ) (t : AskTurn) (l n : HostSide T) → HostThrough its answers_so callee fuel t l n
+    → HostPartway its answers_so callee fuel t.index t.words t.memory l n.ledger
+through_host its answers_so callee fuel t l n h = (
+  h.served.asked,
+  h.served.is,
+  inr (inr (
+    h.served.params,
+    h.served.results,
+    h.served.lifted,
+    h.served.called,
+    n.state,
+    record { lifts = h.served.lifts; first = h.first; steps = h.served.steps },
+    h.served.gave,
+    through_partway h.served.called n.ledger (given_steps its callee h.served.asked h.served.results h.served.called) h.last,
+  )),
+)
 
 module _ {T : Type 0} (gives : Giving T) (lawful : (n : ℕ) → IsLawful (gives.form n)) (callee : Callee) (fuel : ℕ) where
   stops_partway : (asked : Asked) (index : ℕ) (words memory memory2 : List ℕ) (answers : List Answer) (trap : Option Trap) (l n : HostSide T) (e : Error) → HostStops gives callee fuel asked index words memory memory2 answers trap l n e
-      → AskPartway gives.form callee index words memory l.ledger n.ledger
+      → AskPartway gives callee fuel index words memory l n.ledger
   stops_partway asked index words memory memory2 answers trap l n e h =
       ⊎_elim (λ same. inl same) (λ part. inr (inr part))
       (host_partway (ask_at gives index) (form_sound (gives.form index)) (form_lawful (gives.form index) (lawful index)) gives.answers callee fuel asked index words memory memory2 answers trap l n e h.is h.stops)
 
-  served_partway : (t : AskTurn) (l n : HostSide T) → AskThrough gives.form callee t l.ledger n.ledger → AskPartway gives.form callee t.index t.words t.memory l.ledger n.ledger
+  served_partway : (t : AskTurn) (l n : HostSide T) → AskThrough gives callee fuel t l n → AskPartway gives callee fuel t.index t.words t.memory l n.ledger
   served_partway t l n (inl (called, known, through)) = inr (inl (called, known, through_partway l.ledger n.ledger (ask_steps callee called t.words) through))
-  served_partway t l n (inr h) = inr (inr (through_host (ask_at gives t.index) callee t l.ledger n.ledger h))
+  served_partway t l n (inr h) = inr (inr (through_host (ask_at gives t.index) gives.answers callee fuel t l n h))
 
   -- ---- any ask
 
-  builtin_partway : (index : ℕ) (words memory : List ℕ) (called : Builtin) (l n : LedgerState) → builtin_at callee index ≡ Some called → n ≡ (ask_step callee.types called words l).after → AskPartway gives.form callee index words memory l n
-  builtin_partway index words memory called l n known left = inr (inl (called, known, one_step l n _ _ refl left))
+  builtin_partway : (index : ℕ) (words memory : List ℕ) (called : Builtin) (l : HostSide T) (n : LedgerState) → builtin_at callee index ≡ Some called → n ≡ (ask_step callee.types called words l.ledger).after → AskPartway gives callee fuel index words memory l n
+  builtin_partway index words memory called l n known left = inr (inl (called, known, one_step l.ledger n _ _ refl left))
 
   short_partway : (index : ℕ) (words memory : List ℕ) (l n : HostSide T) (h : BuiltinIsShort callee index words l n) → (n.ledger ≡ l.ledger) ⊎ (n.ledger ≡ (ask_step callee.types h.called words l.ledger).after)
-      → AskPartway gives.form callee index words memory l.ledger n.ledger
+      → AskPartway gives callee fuel index words memory l n.ledger
   short_partway index words memory l n h (inl same) = inl same
-  short_partway index words memory l n h (inr left) = builtin_partway index words memory h.called l.ledger n.ledger h.is.known left
+  short_partway index words memory l n h (inr left) = builtin_partway index words memory h.called l n.ledger h.is.known left
 
   ask_stops : (e : Error) (l n : HostSide T) (index : ℕ) (words memory memory2 : List ℕ) (answers : List Answer) (trap : Option Trap) → AskStops gives callee fuel e index words memory memory2 answers trap l n
-      → AskPartway gives.form callee index words memory l.ledger n.ledger
+      → AskPartway gives callee fuel index words memory l n.ledger
   ask_stops error.TurnsExhausted l n index words memory memory2 answers trap h = inl (ap (λ s. s.ledger) h.0)
   ask_stops (error.UnknownImport k) l n index words memory memory2 answers trap h = inl (ap (λ s. s.ledger) h.2)
   ask_stops error.WrongWords l n index words memory memory2 answers trap h = inl (ap (λ s. s.ledger) h.3)
-  ask_stops (error.ImportFault k f) l n index words memory memory2 answers trap (same, inl (h, quiet)) = builtin_partway index words memory h.called l.ledger n.ledger h.is.known (sym (ap (λ (d : Done ℕ). d.after) h.refused))
+  ask_stops (error.ImportFault k f) l n index words memory memory2 answers trap (same, inl (h, quiet)) = builtin_partway index words memory h.called l n.ledger h.is.known (sym (ap (λ (d : Done ℕ). d.after) h.refused))
   ask_stops (error.ImportFault k f) l n index words memory memory2 answers trap (same, inr (asked, h)) = stops_partway asked index words memory memory2 answers trap l n (error.ImportFault k f) h
   ask_stops (error.HostRefused k) l n index words memory memory2 answers trap (same, (asked, h)) = stops_partway asked index words memory memory2 answers trap l n (error.HostRefused k) h
   ask_stops (error.Fault fault.OutOfMemory) l n index words memory memory2 answers trap (inl (h, none, quiet)) = short_partway index words memory l n h h.left
@@ -159,18 +182,18 @@ module _ {T R : Type 0} (args : Arguments) (its : Returns R) (gives : Giving T) 
         let taken = law.taken words memory lifts.ended n lifts.lifts in
         ended_partway lifts.ended lifts.ends (compose_parts lifts.ended n n (leaves_steps lifts.ended parts) (Leave ∷ []) (leaves_through lifts.ended n parts taken.0 taken.1) (inl refl))
 
-  goes_on : (e : Error) (memory2 : List ℕ) (late : List Answer) (trap : Option Trap) (l n : HostSide T) (tail : List Event) → StopsStartedOf its gives callee fuel e memory2 late trap l n tail → GoesOn gives.form callee its.parts l.ledger n.ledger tail
+  goes_on : (e : Error) (memory2 : List ℕ) (late : List Answer) (trap : Option Trap) (l n : HostSide T) (tail : List Event) → StopsStartedOf its gives callee fuel e memory2 late trap l n tail → GoesOn gives callee fuel its.parts l n.ledger tail
   goes_on e memory2 late trap l n tail (inl (inl (none, same, each, calm), kept)) = inl same
   goes_on e memory2 late trap l n tail (inl (inr (inl (untold, calm, some)), kept)) = inr (inr (some_return _ _ (λ ws m h. returned_partway ws m l.ledger n.ledger (stopped_by e) h.1) tail some))
   goes_on e memory2 late trap l n tail (inl (inr (inr (none, posts, some)), kept)) = inr (inr (some_return _ _ (λ ws m h. lifted_partway ws m l.ledger n.ledger h) tail some))
   goes_on e memory2 late trap l n tail (inr asked) = inr (inl (begins _ _ (λ index ws m more h. ask_stops gives lawful callee fuel e l n index ws m memory2 late trap h) tail asked))
 
   pub passes_partway : (turns : List AskTurn) (memory2 : List ℕ) (late : List Answer) (trap : Option Trap) (before after : HostSide T) (given : List ℕ) (e : Error) (events tail : List Event)
-      → HandlesPassOf args its gives callee fuel turns memory2 late trap before after given (Err e) events tail → PassesPartway gives.form callee args.parts its.parts turns before.ledger after.ledger events tail
+      → HandlesPassOf args its gives callee fuel turns memory2 late trap before after given (Err e) events tail → PassesPartway gives callee fuel args.parts its.parts turns before after.ledger events tail
   passes_partway turns memory2 late trap before after given e events tail (inl (short, none, same)) = inl (subst (λ es. Each IsNoStart es) (sym none) tt, inl (ap (λ s. s.ledger) same))
   passes_partway turns memory2 late trap before after given e events tail (inr (inl (unstarted, stops, kept))) = inl (unstarted, inr (inr (0, refl, leaves_partway (stopped_by e) (enter before.ledger) after.ledger args.parts stops)))
   passes_partway turns memory2 late trap before after given e events tail (inr (inr (lowered, took, (served, serves, stops)))) =
-      inr (served.ledger, call_through gives lawful callee fuel args.parts turns before served given lowered took serves, goes_on e memory2 late trap served after tail stops)
+      inr (served, call_through gives lawful callee fuel args.parts turns before served given lowered took serves, goes_on e memory2 late trap served after tail stops)
 
 pub refused_is_partway : {T : Type 0} (gives : Giving T) → ((n : ℕ) → IsLawful (gives.form n)) → RefusedIsPartway gives
 refused_is_partway gives lawful callee fuel params turns memory2 late trap before after given e results events tail h =

@@ -3,13 +3,13 @@ use Rattle.std.proofs.Common.{Err, List, None, Ok, Option, Result, [], ap, appen
 use Rattle.std.specs.Prelude.{IfErr, IfOk, IsOkUnless, OnOk, ◌≢◌}
 use Rattle.canon_memory.specs.declared.event.Event.{Event}
 use Rattle.canon_memory.specs.declared.event.Event.TheVariants as event
-use Rattle.canon_memory.specs.Counts.{Rose}
 use Rattle.canon_memory.specs.Guest.{Moment}
 use Rattle.canon_lowering.specs.Lowering.{AllLawful, Answer, Trap}
 use Rattle.canon_context.specs.declared.fault.Fault.TheVariants as fault
 use Rattle.canon_host.specs.HostSide.{Giving, HostSide}
-use Rattle.canon_func.specs.Asks.{AreServed, Limits}
+use Rattle.canon_func.specs.Asks.{Limits}
 use Rattle.canon_func.specs.Call.{AcceptsLater, Left}
+use Rattle.canon_func.specs.HostAsks.{IsUnrefused}
 use Rattle.canon_func.specs.Passing.{Returns}
 use Rattle.canon_func.specs.Runs.{AskTurn, Each, EndsAsking, EndsIn, Grows, IsNoPost, IsNoResume, IsNoStart, IsPrefixOfRun, IsTrap, MayTrap, OnReturn, OnStart, answers_in, asks_in, events_in, last_len, posts}
 use Rattle.canon_func.specs.Steps.{IsRest, RestCause, RestPasses, TurnsTaken, so_far}
@@ -48,7 +48,7 @@ pub record IsTail {T R : Type 0} (its : Returns R) (gives : Giving T) (callee : 
   pub leaves : OnOk answer (Each (OnReturn (λ ws m. Left Leaves callee.post m after.bytes)) tail)
   pub handles : RestPasses its gives callee limits after.bytes late late_trap served left answer tail
   pub cause : IfErr answer (λ e. (xs : List Event) → asks_in xs ≡ count → RestCause its callee limits before after (xs ++ tail) tail e)
-  pub valid : AllLawful late → ¬ Rose served.refusals left.refusals → ¬ EndsIn IsTrap tail → count + asks_in tail ≤ limits.turns
+  pub valid : AllLawful late → IfErr answer IsUnrefused → ¬ EndsIn IsTrap tail → count + asks_in tail ≤ limits.turns
       → Each (OnReturn (λ ws m. its.represent ws m limits.fuel)) tail
       → AcceptsLater its gives callee limits.fuel served tail → IsOkUnless answer (error.Fault fault.OutOfMemory)
 
@@ -71,21 +71,6 @@ no_starts : (P : List ℕ → List ℕ → Type 0) (xs : List Event) → Each Is
 no_starts P [] h = tt
 no_starts P (event.Start f ws m ∷ xs) h = absurd h.0
 no_starts P (e ∷ xs) h = (tt, no_starts P xs h.1)
-
--- refusals don't fall
-pub served_later : {T : Type 0} (gives : Giving T) (callee : Callee) (fuel : ℕ) (ts : List AskTurn) (l m : HostSide T) → AreServed gives callee fuel ts l m → l.refusals ≤ m.refusals
-served_later gives callee fuel [] l m h = let same : m.refusals ≡ l.refusals = ap (λ s. s.refusals) h in omega (arith, same)
-served_later gives callee fuel (t ∷ ts) l m (mid, inl is, rest) =
-    let one : mid.refusals ≡ l.refusals = ap (λ s. s.refusals) is.kept in
-    let later : mid.refusals ≤ m.refusals = served_later gives callee fuel ts mid m rest in
-    omega (arith, one, later)
-served_later gives callee fuel (t ∷ ts) l m (mid, inr is, rest) =
-    let later : mid.refusals ≤ m.refusals = served_later gives callee fuel ts mid m rest in
-    let one : mid.refusals ≡ l.refusals = is.refused_none in
-    omega (arith, one, later)
-
-rises_first : (a b c : ℕ) → a ≤ b → Rose b c → Rose a c
-rises_first a b c le rose = omega (arith, le, rose)
 
 sum_le : (a b c n k : ℕ) → a ≡ b + c → b ≡ n → n + c ≤ k → a ≤ k
 sum_le a b c n k e f h = omega (arith, e, f, h)
@@ -137,8 +122,8 @@ module _ {T R : Type 0} (its : Returns R) (gives : Giving T) (callee : Callee) (
     leaves = ok_then answer _ _ (λ each. return_then _ first tail early each) h.leaves;
     handles = (served, asked.serves, h.handles);
     cause = if_err_then answer _ _ (λ e because. because first count) h.cause;
-    valid = λ lawful same calm few right accepts.
-        h.valid lawful (λ rose. same (rises_first host.refusals served.refusals left.refusals (served_later gives callee limits.fuel turns host served asked.serves) rose))
+    valid = λ lawful unrefused calm few right accepts.
+        h.valid lawful unrefused
         (λ trapped. calm (ends_after IsTrap first tail trapped)) (le_sum (asks_in (first ++ tail)) (asks_in first) (asks_in tail) (length turns) limits.turns (asks_then first tail) count few) (each_after _ first tail right)
         (accepts served asked.serves);
   }

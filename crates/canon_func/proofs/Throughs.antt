@@ -49,19 +49,13 @@ pub ended_can_leave : (l ended : LedgerState) → asked_exit l ≡ record { answ
 ended_can_leave l ended ends = ended_leaves l ended ends
 
 module _ {T : Type 0} (its : AskForm T) (sound : AskSound its) (lawful : AskLawful its) (answers_so : Answering T) (callee : Callee) (fuel : ℕ) where
-  pub form_through : (t : AskTurn) (l n : HostSide T) → IsHostServedBy its answers_so callee fuel t l n → HostThrough its callee t l.ledger n.ledger
+  pub form_through : (t : AskTurn) (l n : HostSide T) → IsHostServedBy its answers_so callee fuel t l n → HostThrough its answers_so callee fuel t l n
   form_through t l n h =
-      let lifts = lawful.taken callee fuel h.asked t.words t.memory (enter l.ledger) h.lifted h.params h.lifts in
+      let lifts = lawful.taken l.store callee fuel h.asked t.words t.memory (enter l.ledger) h.lifted h.params h.lifts in
       let gave = sound.given callee h.asked h.at t.memory t.resumed_memory h.results h.words t.answers None (leave h.ended) n.ledger h.lowers in
       record {
-        asked = h.asked;
-        is = h.is;
-        store = lifts.0;
-        results = h.results;
-        lifted = h.lifted;
-        called = h.called;
-        first = (0, refl, leaves_through (enter l.ledger) h.lifted (its.parts lifts.0 callee h.asked t.words t.memory) lifts.1 lifts.2);
-        steps = h.steps;
+        served = h;
+        first = (0, refl, leaves_through (enter l.ledger) h.lifted (its.parts l.store callee h.asked t.words t.memory) lifts.0 lifts.1);
         last = subst (λ k. Through h.called (ExitScope (top_scope h.called.handles) ∷ Leave ∷ leaves_steps (leave k) (its.gives callee h.asked h.results)) n.ledger) (ended_is h.called h.ended h.ends)
             (ended_through h.called h.ended n.ledger (Leave ∷ leaves_steps (leave h.ended) (its.gives callee h.asked h.results)) h.ends
             (compose h.ended (leave h.ended) n.ledger (Leave ∷ []) (leaves_steps (leave h.ended) (its.gives callee h.asked h.results)) (left_through h.ended (leave h.ended) (ended_can_leave h.called h.ended h.ends) refl)
@@ -69,17 +63,17 @@ module _ {T : Type 0} (its : AskForm T) (sound : AskSound its) (lawful : AskLawf
       }
 
 module _ {T : Type 0} (gives : Giving T) (lawful : (n : ℕ) → IsLawful (gives.form n)) (callee : Callee) (fuel : ℕ) where
-  pub host_through : (t : AskTurn) (l n : HostSide T) → IsHostServed gives callee fuel t l n → AskThrough gives.form callee t l.ledger n.ledger
+  pub host_through : (t : AskTurn) (l n : HostSide T) → IsHostServed gives callee fuel t l n → AskThrough gives callee fuel t l n
   host_through t l n h = inr (form_through (ask_at gives t.index) (form_sound (gives.form t.index)) (form_lawful (gives.form t.index) (lawful t.index)) gives.answers callee fuel t l n h)
 
-  pub turns_through : (turns : List AskTurn) (l n : HostSide T) → AreServed gives callee fuel turns l n → AsksThrough gives.form callee turns l.ledger n.ledger
-  turns_through [] l n h = ap (λ s. s.ledger) h
+  pub turns_through : (turns : List AskTurn) (l n : HostSide T) → AreServed gives callee fuel turns l n → AsksThrough gives callee fuel turns l n
+  turns_through [] l n h = h
   turns_through (t ∷ turns) l n (mid, inl is, rest) =
-      (mid.ledger, inl (is.called, is.is.known, (is.answer, ap (λ (d : Done ℕ). d.answer) is.taken, sym (ap (λ (d : Done ℕ). d.after) is.taken))), turns_through turns mid n rest)
-  turns_through (t ∷ turns) l n (mid, inr is, rest) = (mid.ledger, host_through t l mid is, turns_through turns mid n rest)
+      (mid, inl (is.called, is.is.known, (is.answer, ap (λ (d : Done ℕ). d.answer) is.taken, sym (ap (λ (d : Done ℕ). d.after) is.taken))), turns_through turns mid n rest)
+  turns_through (t ∷ turns) l n (mid, inr is, rest) = (mid, host_through t l mid is, turns_through turns mid n rest)
 
   pub call_through : (parts : List (List Part)) (turns : List AskTurn) (before served : HostSide T) (given : List ℕ) (lowered : LedgerState) → LeavesTake (enter before.ledger) parts given lowered
-      → AreServed gives callee fuel turns (record before { ledger = lowered }) served → CallThrough gives.form callee parts turns before.ledger served.ledger
+      → AreServed gives callee fuel turns (record before { ledger = lowered }) served → CallThrough gives callee fuel parts turns before served
   call_through parts turns before served given lowered took serves = record {
     lowered = lowered;
     first = (0, refl, leaves_through (enter before.ledger) lowered parts given took);
@@ -95,9 +89,9 @@ module _ {T R : Type 0} (args : Arguments) (its : Returns R) (gives : Giving T) 
       (compose h.lifts.ended h.lifted n (leaves_steps h.lifts.ended (its.parts words memory)) (Leave ∷ []) (leaves_through h.lifts.ended h.lifted (its.parts words memory) taken.0 taken.1) (left_through h.lifted n h.empty h.left)))
 
   pub passes_through : (turns : List AskTurn) (memory2 : List ℕ) (late : List Answer) (trap : Option Trap) (before after : HostSide T) (given : List ℕ) (results : R) (events tail : List Event)
-      → HandlesPassOf args its gives callee fuel turns memory2 late trap before after given (Ok results) events tail → PassesThrough gives.form callee args.parts its.parts turns before.ledger after.ledger tail
+      → HandlesPassOf args its gives callee fuel turns memory2 late trap before after given (Ok results) events tail → PassesThrough gives callee fuel args.parts its.parts turns before after tail
   passes_through turns memory2 late trap before after given results events tail (lowered, took, (served, serves, (each, kept))) =
-      (served.ledger, call_through gives lawful callee fuel args.parts turns before served given lowered took serves, each_return _ _ (λ ws m h. last_through ws m results served.ledger after.ledger h) tail each)
+      (served, call_through gives lawful callee fuel args.parts turns before served given lowered took serves, each_return _ _ (λ ws m h. last_through ws m results served.ledger after.ledger h) tail each)
 
 pub call_is_through : {T : Type 0} (gives : Giving T) → ((n : ℕ) → IsLawful (gives.form n)) → CallIsThrough gives
 call_is_through gives lawful callee fuel params turns memory2 late trap before after given results events tail h =

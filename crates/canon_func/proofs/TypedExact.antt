@@ -1,14 +1,15 @@
 -- The results of a typed call are those that words and memory represent.
-use Rattle.std.proofs.Common.{Bool, List, ap, arith, inl, inr, length, nat_le, refl, subst, sym, true, ⊎_elim, ℕ, ◌+◌, ◌<◌, ◌∙◌, ◌≡◌, ◌≤◌}
+use Rattle.std.proofs.Common.{Bool, List, arith, inl, inr, nat_le, refl, subst, sym, true, ⊎_elim, ℕ, ◌<◌, ◌≡◌, ◌≤◌}
 use Rattle.std.specs.Prelude.{false, slice_index}
-use Rattle.std.proofs.lemmas.Bool.{cases_lt, cond-false, cond-true, le-leb, lt-leb}
+use Rattle.std.proofs.lemmas.Bool.{cases_lt, cond-true, le-leb, lt-leb}
 use Rattle.canon_args.specs.Areas.{good_area}
+use Rattle.canon_args.specs.Exactly.{IsPassed}
 use Rattle.canon_args.specs.Returned.{IsGoodArea, reading_by}
+use Rattle.canon_args.proofs.Exactly.{only_passed}
 use Rattle.canon_lift.specs.OfTrees.{IsFaulted, IsOfTrees, IsPriced}
-use Rattle.canon_lift.specs.Reading.{Reading, Setting}
+use Rattle.canon_lift.specs.Reading.{AreTaken, Reading, Setting}
 use Rattle.canon_lift.specs.Spots.{Faulty, Represents, Spot, flat_in, stored}
 use Rattle.canon_lowering.specs.Storing.{narrow}
-use Rattle.canon_ledger.specs.Ledger.{LedgerState}
 use Rattle.canon_model.proofs.Faults.{fault_excludes}
 use Rattle.canon_model.specs.Flat.{RepResults, max_results}
 use Rattle.canon_model.specs.Layout.{align, flat, members_flat}
@@ -21,7 +22,6 @@ use Rattle.canon_types.specs.Instance.{Instance}
 use Rattle.canon_types.specs.Table.{shape_of}
 use Rattle.canon_types.specs.declared.types.InterfaceType.{InterfaceType}
 use Rattle.canon_types.specs.declared.types.InterfaceType.TheVariants as ty
-use Rattle.canon_func.specs.Call.{result_words}
 use Rattle.canon_func.specs.Dynamic.{words_of_results}
 use Rattle.canon_func.specs.Laws.{OnlyRepresented, RepresentedIsEnough}
 use Rattle.canon_func.specs.Stores.{Callee}
@@ -51,10 +51,6 @@ module _ {R : Type 0} (Fit : Instance → InterfaceType → Type 0) (reading : R
   its_price : (at : Spot) (t : Tree) → Represents m callee.encoding at s t → reading.reach w at s ≡ price t
   its_price at t rep = subst (λ (z : Shape). reading.reach w at z ≡ price t) shape (priced.reach w at (ty.Tuple type) t fits (subst (λ (z : Shape). Represents m callee.encoding at z t) (sym shape) rep))
 
-  its_tree : (Means : R → Tree → Type 0) → IsOfTrees Fit reading Means → (at : Spot) (l n : LedgerState) (v : R) → reading.reads w at s l v n → (t : Tree) × Represents m callee.encoding at s t × Means v t
-  its_tree Means told at l n v read = subst (λ (z : Shape). (t : Tree) × Represents m callee.encoding at z t × Means v t) shape
-      (told.reads w at (ty.Tuple type) l n v fits (subst (λ (z : Shape). reading.reads w at z l v n) (sym shape) read))
-
   its_fault : IsFaulted Fit reading → (at : Spot) (k : Kind) (x : reach.At) → reading.faults w at s k x → Faulty m callee.encoding at s k x
   its_fault faulted at k x h = subst (λ (z : Shape). Faulty m callee.encoding at z k x) shape (faulted.faults w at (ty.Tuple type) k x fits (subst (λ (z : Shape). reading.faults w at z k x) (sym shape) h))
 
@@ -68,52 +64,13 @@ module _ {R : Type 0} (Fit : Instance → InterfaceType → Type 0) (reading : R
   unfolding flat
   by_pointer far = lt-leb (members_flat ms) max_results far
 
-  abbrev Read : Bool → LedgerState → R → LedgerState → Type 0
-  Read b l v n = (reading_by b reading).reads w p s l v n
-
   abbrev Reached : Bool → ℕ
   Reached b = (reading_by b reading).reach w p s
 
   abbrev Failed : Bool → Kind → reach.At → Type 0
   Failed b k x = (reading_by b reading).faults w p s k x
 
-  -- ---- only what is represented
-
-  module _ (Means : R → Tree → Type 0) (told : IsOfTrees Fit reading Means) (fuel left : ℕ) (v : R) where
-    abbrev Exact : Type 0
-    Exact = (ts : Trees) × RepResults false callee.encoding m words ms ts × Means v (parts ts) × (fuel ≡ left + price (parts ts))
-
-    row_exact : members_flat ms ≤ max_results → length words ≡ members_flat ms → (l n : LedgerState) → Read true l v n → fuel ≡ left + Reached true → Exact
-    row_exact near count l n read spent =
-        let (t, rep, means) = its_tree Means told p l n v read in
-        let (ts, e, there) = rep in
-        let cost : reading.reach w p s ≡ price (parts ts) = its_price p t rep ∙ ap price e in (
-          ts,
-          record { near = λ _. (count, there); far = λ far. absurd (omega (arith, near, far)) },
-          subst (λ u. Means v u) e means,
-          omega (arith, spent, cost),
-        )
-
-    pointed_exact : max_results < members_flat ms → length words ≡ 1 → (l n : LedgerState) → Read false l v n → fuel ≡ left + Reached false → Exact
-    unfolding align
-    pointed_exact far count l n (good, read) spent =
-        let (t, rep, means) = its_tree Means told (stored area) l n v read in
-        let (inside, (ts, e, there)) = rep in
-        let cost : reading.reach w (stored area) s ≡ price (parts ts) = its_price (stored area) t rep ∙ ap price e in
-        let reached : Reached false ≡ reading.reach w (stored area) s = cond-true _ _ _ (good_area w p s good) in (
-          ts,
-          record { near = λ near. absurd (omega (arith, near, far)); far = λ _. (count, record { aligned = good.0; stored = (inside, (ts, refl, there)); narrow = λ strict. cc }) },
-          subst (λ u. Means v u) e means,
-          omega (arith, spent, cost, reached),
-        )
-
-    exact : length words ≡ result_words ms → (l n : LedgerState) → Read (nat_le (flat s) max_results) l v n → fuel ≡ left + Reached (nat_le (flat s) max_results) → Exact
-    exact count l n read spent = ⊎_elim
-        (λ far. pointed_exact far (count ∙ cond-false _ _ _ (lt-leb (members_flat ms) max_results far)) l n (subst (λ b. Read b l v n) (by_pointer far) read) (subst (λ b. fuel ≡ left + Reached b) (by_pointer far) spent))
-        (λ near. row_exact near (count ∙ cond-true _ _ _ (le-leb (members_flat ms) max_results near)) l n (subst (λ b. Read b l v n) (in_row near) read) (subst (λ b. fuel ≡ left + Reached b) (in_row near) spent))
-        (cases_lt max_results (members_flat ms))
-
-  -- ---- and always there
+  -- ---- where they are represented
 
   module _ (faulted : IsFaulted Fit reading) (fuel : ℕ) (ts : Trees) (few : price (parts ts) ≤ fuel) (rep : RepResults false callee.encoding m words ms ts) where
     row_there : members_flat ms ≤ max_results → Represents m callee.encoding p s (parts ts)
@@ -152,9 +109,12 @@ module _ {R : Type 0} (Fit : Instance → InterfaceType → Type 0) (reading : R
     enough : (typed_results reading options store callee).represent words memory fuel
     enough = (words_of_results callee.encoding m words ms ts rep, λ k x (y, named, h). faultless k y h, within)
 
-pub only_represented : {R : Type 0} (Fit : Instance → InterfaceType → Type 0) (reading : Reading R) (price : Tree → ℕ) → IsPriced Fit reading price → (Means : R → Tree → Type 0) → IsOfTrees Fit reading Means → OnlyRepresented Fit reading price Means
-only_represented Fit reading price priced Means told callee options store type fuel left words memory v fits shape (count, (l, n, read), spent) =
-    exact Fit reading price priced callee options store type words memory fits shape Means told fuel left v count l n read spent
+pub only_represented : {R : Type 0} (Fit : Instance → InterfaceType → Type 0) (reading : Reading R) (price : Tree → ℕ) → IsFaulted Fit reading → IsPriced Fit reading price → (Means : R → Tree → Type 0) → IsOfTrees Fit reading Means → AreTaken reading
+    → OnlyRepresented Fit reading price Means
+only_represented Fit reading price faulted priced Means told taken callee options store type fuel left words memory v fits shape (count, (l, n, read), spent) =
+    let h : IsPassed reading Means price max_results (returned_setting callee options store memory) callee.results words l n fuel left v =
+    only_passed faulted priced told taken max_results (returned_setting callee options store memory) (ty.Tuple type) callee.results words fits shape count l n fuel left v (read, spent) in
+    (h.trees, h.represented, h.means, h.spent, h.steps)
 
 pub represented_enough : {R : Type 0} (Fit : Instance → InterfaceType → Type 0) (reading : Reading R) (price : Tree → ℕ) → IsPriced Fit reading price → IsFaulted Fit reading → RepresentedIsEnough Fit reading price
 represented_enough Fit reading price priced faulted callee options store type fuel words memory ts fits shape rep few = enough Fit reading price priced callee options store type words memory fits shape faulted fuel ts few rep

@@ -58,25 +58,25 @@ past_fuel fuel reach h few = omega (arith, h, few)
 
 -- ---- parameters
 
-module _ {P : Type 0} (reading : Reading P) (callee : Callee) (fuel : ℕ) (asked : Asked) (words memory : List ℕ) (l n : LedgerState) where
+module _ {P : Type 0} (reading : Reading P) (store : ℕ) (callee : Callee) (fuel : ℕ) (asked : Asked) (words memory : List ℕ) (l n : LedgerState) where
   abbrev Unlifted : Fault → Type 0
-  Unlifted f = TypedAskLifts reading callee asked words memory fuel l (Err f) n
+  Unlifted f = TypedAskLifts reading callee asked words memory store fuel l (Err f) n
 
   typed_calm : (f : Fault) → Unlifted f → ¬ (f ≡ fault.GuestTrap)
-  typed_calm f h is = (subst (λ g. Unlifted g) is h).2.cause
+  typed_calm f h is = (subst (λ g. Unlifted g) is h).1.cause
 
-  typed_lift_excluded : (index : ℕ) (f : Fault) → ((store : ℕ) → TypedAskLiftable reading callee asked words memory fuel l store) → Unlifted f → asked_error index f ≡ error.Fault fault.OutOfMemory
+  typed_lift_excluded : (index : ℕ) (f : Fault) → TypedAskLiftable reading callee asked words memory fuel l store → Unlifted f → asked_error index f ≡ error.Fault fault.OutOfMemory
   typed_lift_excluded index fault.OutOfMemory ok h = refl
-  typed_lift_excluded index (fault.PointerMisaligned at) ok h = absurd ((ok h.0).faultless _ h.2.cause.0 h.2.cause.2)
-  typed_lift_excluded index (fault.PointerOutOfBounds at) ok h = absurd ((ok h.0).faultless _ h.2.cause.0 h.2.cause.2)
-  typed_lift_excluded index (fault.InvalidUtf8 at) ok h = absurd ((ok h.0).faultless _ h.2.cause.0 h.2.cause.2)
-  typed_lift_excluded index (fault.InvalidUtf16 at) ok h = absurd ((ok h.0).faultless _ h.2.cause.0 h.2.cause.2)
-  typed_lift_excluded index (fault.InvalidChar at) ok h = absurd ((ok h.0).faultless _ h.2.cause.0 h.2.cause.2)
-  typed_lift_excluded index (fault.BadDiscriminant at d) ok h = absurd ((ok h.0).faultless _ h.2.cause.0 h.2.cause.2)
-  typed_lift_excluded index fault.HostcallFuelExhausted ok h = absurd (past_fuel fuel _ h.2.cause (ok h.0).within)
+  typed_lift_excluded index (fault.PointerMisaligned at) ok h = absurd (ok.faultless _ h.1.cause.0 h.1.cause.2)
+  typed_lift_excluded index (fault.PointerOutOfBounds at) ok h = absurd (ok.faultless _ h.1.cause.0 h.1.cause.2)
+  typed_lift_excluded index (fault.InvalidUtf8 at) ok h = absurd (ok.faultless _ h.1.cause.0 h.1.cause.2)
+  typed_lift_excluded index (fault.InvalidUtf16 at) ok h = absurd (ok.faultless _ h.1.cause.0 h.1.cause.2)
+  typed_lift_excluded index (fault.InvalidChar at) ok h = absurd (ok.faultless _ h.1.cause.0 h.1.cause.2)
+  typed_lift_excluded index (fault.BadDiscriminant at d) ok h = absurd (ok.faultless _ h.1.cause.0 h.1.cause.2)
+  typed_lift_excluded index fault.HostcallFuelExhausted ok h = absurd (past_fuel fuel _ h.1.cause ok.within)
   typed_lift_excluded index (fault.Resource resource.OutOfMemory) ok h = refl
-  typed_lift_excluded index (fault.Resource r) ok h = absurd (leaves_excluded r l n (ok h.0).lifted _ (ok h.0).handles h.2.stops (ok h.0).takes)
-  typed_lift_excluded index f ok h = absurd h.2.cause
+  typed_lift_excluded index (fault.Resource r) ok h = absurd (leaves_excluded r l n ok.lifted _ ok.handles h.1.stops ok.takes)
+  typed_lift_excluded index f ok h = absurd h.1.cause
 
 -- ---- results
 
@@ -145,9 +145,9 @@ module _ {T P R : Type 0} (types : RustTypes P R) (May : TypedAnswering T P R) w
   types_sound = record {
     short = λ callee asked index log. inl refl;
     declined = λ callee asked index log e why. declined_so _ _ _ _ why;
-    calm = λ callee fuel asked words memory l n f h. typed_calm types.reading callee fuel asked words memory l n f h.1;
-    unlifted = λ callee fuel asked words memory l n f h. (h.1.0, subst (λ why. LeavesStop why l (typed_parts types.reading callee asked words memory h.1.0) n) (same_stop f) h.1.2.stops);
-    lift_excluded = λ callee fuel asked words memory l n index f ok h. typed_lift_excluded types.reading callee fuel asked words memory l n index f ok h.1;
+    calm = λ store callee fuel asked words memory l n f h. typed_calm types.reading store callee fuel asked words memory l n f h.1;
+    unlifted = λ store callee fuel asked words memory l n f h. subst (λ why. LeavesStop why l (typed_parts types.reading callee asked words memory store) n) (same_stop f) h.1.1.stops;
+    lift_excluded = λ store callee fuel asked words memory l n index f ok h. typed_lift_excluded types.reading store callee fuel asked words memory l n index f ok h.1;
     given = λ callee asked at memory memory2 results low answers trap l n h. (h.handles, h.passed);
     ungiven = λ callee asked at memory memory2 results low answers trap l n f h. h.passed.0;
     traps = λ callee asked at memory memory2 results. typed_traps (types.walks results) (typed_given types callee asked results) callee asked at memory memory2;
@@ -155,9 +155,8 @@ module _ {T P R : Type 0} (types : RustTypes P R) (May : TypedAnswering T P R) w
 
   pub types_lawful : AreTaken types.reading → ((v : R) → (t : Tree) × types.walks v t) → AskLawful (ask_types types May)
   types_lawful taken walkable = record {
-    taken = λ callee fuel asked words memory l n params h.
-        let takes = passed_taken types.reading taken (nat_le (flat (asked_shape callee asked)) max_params) (asked_setting callee asked memory h.1.0) (flat_in (take (args_words (asked_params callee asked)) words) 0) (asked_shape callee asked) l n params h.1.2.0 in
-        (h.1.0, takes.0, takes.1);
+    taken = λ store callee fuel asked words memory l n params h.
+        passed_taken types.reading taken (nat_le (flat (asked_shape callee asked)) max_params) (asked_setting callee asked memory store) (flat_in (take (args_words (asked_params callee asked)) words) 0) (asked_shape callee asked) l n params h.1.1.0;
     lower_excluded = λ callee asked at memory memory2 results low answers trap l n f ok h lawful none.
         typed_lower_excluded (types.walks results) (typed_given types callee asked results) callee asked at memory memory2 low answers trap l n (walkable results) ok lawful none f h;
   }
@@ -218,9 +217,8 @@ module _ {T G P R : Type 0} (types : RustTypes P R) (May : TypedAnswering T P R)
   first_is : take (args_words (asked_params callee asked)) (words ++ pad) ≡ take (args_words (asked_params callee asked)) words
   first_is = take-append-le (args_words (asked_params callee asked)) words pad (pointer_counts (args_words (asked_params callee asked)) (members_flat (asked_results callee asked)) (length words) is.count).0
 
-  lifts : (l : LedgerState) (r : Result P Fault) (lifted : Parts T G) → LiftsTyped types.reading asked (record a { ledger = l }) (words ++ pad) r lifted → TypedAskLifts types.reading callee asked words a.memory a.fuel l r lifted.ledger
+  lifts : (l : LedgerState) (r : Result P Fault) (lifted : Parts T G) → LiftsTyped types.reading asked (record a { ledger = l }) (words ++ pad) r lifted → TypedAskLifts types.reading callee asked words a.memory a.id a.fuel l r lifted.ledger
   lifts l r lifted h = (
-    a.id,
     h.0.0,
     subst (λ ws. Lifts (asked_reading types.reading callee asked words a.memory) (asked_setting callee asked a.memory a.id) (flat_in ws 0) (asked_shape callee asked) l a.fuel r lifted.ledger h.0.0) first_is h.0.1,
   )
@@ -307,4 +305,5 @@ module _ {T G P R : Type 0} (types : RustTypes P R) (May : TypedAnswering T P R)
     logs = λ params told same. refl;
     lowers = lowered;
     state = λ s l at results r h. ap (λ (k : Parts T G). k.state) h.same;
+    id = λ s l at results r h. ap (λ (k : Parts T G). k.id) h.same;
   }

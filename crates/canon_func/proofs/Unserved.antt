@@ -20,7 +20,7 @@ use Rattle.canon_host.specs.HostSide.{Giving, HostSide}
 use Rattle.canon_host.specs.declared.asked.Asked.{Asked}
 use Rattle.canon_func.specs.Asks.{AcceptsAsk, AskStops, BuiltinStops, IsAskOf, Limits, ask_step, builtin_at, builtin_of, host_words, import_words}
 use Rattle.canon_func.specs.AskForms.{ask_at}
-use Rattle.canon_func.specs.HostAsks.{AcceptsHost, HostStops, IsHostAsk}
+use Rattle.canon_func.specs.HostAsks.{AcceptsHost, HostStops, IsHostAsk, IsUnrefused}
 use Rattle.canon_func.specs.Passing.{Returns}
 use Rattle.canon_func.specs.Runs.{EndsIn, IsNoPost, IsNoResume, IsNoStart, IsTrap, MayTrap, asks_in, last_len, posts}
 use Rattle.canon_func.specs.Steps.{RestCause, RisesAt, Stopped, StopsInAsk, TrapsLate, ask_turn}
@@ -151,7 +151,7 @@ module _ {T R : Type 0} (its : Returns R) (gives : Giving T) (lawful_forms : (n 
 
     asked_tail : (e : Error) → (◌≢◌ {A = Result R Error} (Err e) (Err error.TurnsExhausted) → count + 1 ≤ limits.turns) → AskStops gives callee limits.fuel e index asked memory after.bytes late trap served left
         → ((xs : List Event) → asks_in xs ≡ count → RestCause its callee limits before after (xs ++ tail) tail e)
-        → (AllLawful late → trap ≡ None → ¬ Rose served.refusals left.refusals → count + 1 ≤ limits.turns → AcceptsAsk gives callee limits.fuel index asked memory served → e ≡ error.Fault fault.OutOfMemory)
+        → (AllLawful late → trap ≡ None → IsUnrefused e → count + 1 ≤ limits.turns → AcceptsAsk gives callee limits.fuel index asked memory served → e ≡ error.Fault fault.OutOfMemory)
         → IsTail its gives callee limits Leaves before after count len served left (Err e) late trap tail
     asked_tail e few stops cause excluded = record {
       whole = tt;
@@ -185,14 +185,14 @@ module _ {T R : Type 0} (its : Returns R) (gives : Giving T) (lawful_forms : (n 
         (subst (λ k. ask_step callee.types k asked served.ledger ≡ record { answer = Ok answer; after = next }) (same_builtin (builtin_at callee index) b h.called is.known h.is.known) taken)
     builtin_excluded r h (inr (a, ok)) = not_both_kinds (slice_get callee.imports index) h.called a.ty a.options h.is.known ok.is.known
 
-    host_excluded : (e : Error) (a : Asked) → HostStops gives callee limits.fuel a index asked memory after.bytes late trap served left e → AllLawful late → trap ≡ None → ¬ Rose served.refusals left.refusals
+    host_excluded : (e : Error) (a : Asked) → HostStops gives callee limits.fuel a index asked memory after.bytes late trap served left e → AllLawful late → trap ≡ None → IsUnrefused e
         → AcceptsAsk gives callee limits.fuel index asked memory served → e ≡ error.Fault fault.OutOfMemory
     host_excluded e a h lawful none few (inl (b, is, more)) = absurd (not_both_kinds (slice_get callee.imports index) b a.ty a.options is.known h.is.known)
     host_excluded e a h lawful none few (inr (b, ok)) =
         asked_excluded (ask_at gives index) (form_sound (gives.form index)) (form_lawful (gives.form index) (lawful_forms index)) gives.answers callee limits.fuel a index asked memory after.bytes late trap served left lawful none e h
         (subst (λ k. AcceptsHost gives callee limits.fuel k index asked memory served) (is_asked callee index asked a b h.is ok.is) ok) few
 
-    fault_excluded : (n : ℕ) (f : Fault) → AskStops gives callee limits.fuel (error.ImportFault n f) index asked memory after.bytes late trap served left → AllLawful late → trap ≡ None → ¬ Rose served.refusals left.refusals
+    fault_excluded : (n : ℕ) (f : Fault) → AskStops gives callee limits.fuel (error.ImportFault n f) index asked memory after.bytes late trap served left → AllLawful late → trap ≡ None → IsUnrefused (error.ImportFault n f)
         → AcceptsAsk gives callee limits.fuel index asked memory served → error.ImportFault n f ≡ error.Fault fault.OutOfMemory
     fault_excluded n f (same, inl (h, quiet)) lawful none few accepted = absurd (builtin_excluded h.why (subst (λ err. BuiltinStops callee index asked served left err) h.fault h) accepted)
     fault_excluded n f (same, inr (a, h)) lawful none few accepted = host_excluded (error.ImportFault n f) a h lawful none few accepted

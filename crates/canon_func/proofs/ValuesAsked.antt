@@ -123,9 +123,9 @@ pub values_sound : {T : Type 0} → AskSound {T = T} ask_values
 values_sound = record {
   short = λ callee asked index log. refl;
   declined = λ callee asked index log e is. inl is;
-  calm = no_trap_lifted;
-  unlifted = λ callee fuel asked words memory l n f h. (0, h.1.handles);
-  lift_excluded = lift_excluded;
+  calm = λ store. no_trap_lifted;
+  unlifted = λ store callee fuel asked words memory l n f h. h.1.handles;
+  lift_excluded = λ store. lift_excluded;
   given = λ callee asked at memory memory2 results low answers trap l n h. (h.crosses.given, h.crosses.passed);
   ungiven = λ callee asked at memory memory2 results low answers trap l n f h. h.crosses.passed.0;
   traps = trapped_last;
@@ -133,7 +133,7 @@ values_sound = record {
 
 pub values_lawful : {T : Type 0} → AskLawful {T = T} ask_values
 values_lawful = record {
-  taken = λ callee fuel asked words memory l n params h. let taken = lifts_take callee.types l n _ _ h.1.handles in (0, taken.0, taken.1);
+  taken = λ store callee fuel asked words memory l n params h. lifts_take callee.types l n _ _ h.1.handles;
   lower_excluded = λ callee asked at memory memory2 results low answers trap l n f ok h lawful none.
       lowering_excluded (asked_origin callee asked memory).encoding (asked_results callee asked) results ok.trees ok.have ok.small _ _ h.from h.to answers trap lawful none l n ok.left _ ok.given ok.takes
       f h.crosses.ending h.crosses.ends (cause_into callee asked at memory memory2 results low answers trap l n f h) h.cause h.crosses.as_told h.crosses.passed.0;
@@ -194,4 +194,5 @@ module _ {T G : Type 0} (seen : G → Seen) (moves : GuestIn G → List Event �
     logs = λ params told same. ap (λ ps. logged log (entry index ps told.results)) same;
     lowers = lowered;
     state = λ s l at results r h. ap (λ (k : Parts T G). k.state) h.same;
+    id = λ s l at results r h. ap (λ (k : Parts T G). k.id) h.same;
   }

@@ -8,10 +8,9 @@ use Rattle.canon_context.specs.declared.fault.Fault.{Fault}
 use Rattle.canon_context.specs.declared.fault.Fault.TheVariants as fault
 use Rattle.canon_context.specs.declared.host.HostStop.{HostStop}
 use Rattle.canon_value.specs.declared.val.Val.{Val}
-use Rattle.canon_host.specs.Forms.{Form, InView, IsOfOthers, RustTypes, TypedAnswering, over_types, over_values}
+use Rattle.canon_host.specs.Forms.{Form, InView, IsOfOthers, IsOfThese, RustTypes, TypedAnswering, over_types, over_values}
 use Rattle.canon_host.specs.HostSide.{Answering, Entry, Giving, entry}
 use Rattle.canon_host.specs.Imports.{logged}
-use Rattle.canon_host.specs.ServesTyped.{AreTyped}
 use Rattle.canon_host.specs.declared.asked.Asked.{Asked}
 use Rattle.canon_func.specs.AskTypes.{TypedAskLiftable, TypedAskLifts, TypedAskLowerable, TypedAskLowers, typed_given, typed_parts}
 use Rattle.canon_func.specs.AskValues.{AskLiftable, AskLifts, AskLowerable, AskLowers, asked_parts, given_parts}
@@ -25,12 +24,12 @@ pub record AskForm (T : Type 0) : Type 1 where
   pub Results : Type 0
   -- why nothing is done, by what is asked for, the number of its import and the log
   pub declines : Callee → Asked → ℕ → Option (List Entry) → Error → Type 0
-  -- Parameters were lifted with this fuel from the first words, or why not: by what is asked for, its words and the memory, the ledger
-  -- before, the answer, and the ledger after.
-  pub lifts : Callee → ℕ → Asked → List ℕ → List ℕ → LedgerState → Result Params Fault → LedgerState → Type 0
+  -- Parameters were lifted in the store of a number with this fuel from the first words, or why not: by what is asked for, its words and the
+  -- memory, the ledger before, the answer, and the ledger after.
+  pub lifts : ℕ → Callee → ℕ → Asked → List ℕ → List ℕ → LedgerState → Result Params Fault → LedgerState → Type 0
   -- they can be: nothing but memory is wanting
-  pub liftable : Callee → ℕ → Asked → List ℕ → List ℕ → LedgerState → Type 0
-  -- what their handles do, in order, where they are lifted in a store of this number
+  pub liftable : ℕ → Callee → ℕ → Asked → List ℕ → List ℕ → LedgerState → Type 0
+  -- what their handles do, in order, by the number of the store
   pub parts : ℕ → Callee → Asked → List ℕ → List ℕ → List (List Part)
   -- The function answered so, as it may: by what one over values may answer, the number of its import, the log, what it reached and its
   -- parameters; its answer, and the data and the ledger after.
@@ -51,8 +50,8 @@ ask_values = record {
   Params = Vec Val Global;
   Results = List Val;
   declines = λ callee asked index log e. e ≡ error.Fault fault.OutOfMemory;
-  lifts = AskLifts;
-  liftable = AskLiftable;
+  lifts = λ store. AskLifts;
+  liftable = λ store. AskLiftable;
   parts = λ store. asked_parts;
   gave = λ answers index log reached params answer state ledger. IfSome log (λ entries. (ledger ≡ reached.ledger) × answers entries index reached.state params.items answer state);
   logged_with = λ log index params results. logged log (entry index params.items results);
@@ -67,8 +66,8 @@ ask_types {T} {P} {R} types May = record {
   Params = P;
   Results = R;
   declines = λ callee asked index log e. (e ≡ error.Fault fault.OutOfMemory) ⊎ ((e ≡ error.HostRefused index) × (log ≡ None) × IsOfOthers types callee.types asked.func);
-  lifts = λ callee fuel asked words memory before result after. AreTyped types.fits_params types.fits_results callee.types asked.func × TypedAskLifts types.reading callee asked words memory fuel before result after;
-  liftable = λ callee fuel asked words memory before. (store : ℕ) → TypedAskLiftable types.reading callee asked words memory fuel before store;
+  lifts = λ store callee fuel asked words memory before result after. IsOfThese types callee.types asked.func × TypedAskLifts types.reading callee asked words memory store fuel before result after;
+  liftable = λ store callee fuel asked words memory before. TypedAskLiftable types.reading callee asked words memory fuel before store;
   parts = λ store callee asked words memory. typed_parts types.reading callee asked words memory store;
   gave = λ answers index log reached params answer state ledger. (log ≡ None) × May reached params answer state ledger;
   logged_with = λ log index params results. log;

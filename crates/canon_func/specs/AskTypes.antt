@@ -47,9 +47,9 @@ module _ {P : Type 0} (reading : Reading P) (callee : Callee) (asked : Asked) (w
   abbrev pub typed_parts : ℕ → List (List Part)
   typed_parts store = asked_reading.steps (asked_setting callee asked memory store) (flat_in (take (args_words (asked_params callee asked)) words) 0) (asked_shape callee asked)
 
-  -- Parameters were lifted with this fuel, or why not. What was lifted isn't exposed, nor is the number of its store.
-  abbrev pub TypedAskLifts : ℕ → LedgerState → Result P Fault → LedgerState → Type 0
-  TypedAskLifts fuel before result after = (store left : ℕ) × Lifts asked_reading (asked_setting callee asked memory store) (flat_in (take (args_words (asked_params callee asked)) words) 0) (asked_shape callee asked) before fuel result after left
+  -- Parameters were lifted in the store of this number with this fuel, or why not.
+  abbrev pub TypedAskLifts : ℕ → ℕ → LedgerState → Result P Fault → LedgerState → Type 0
+  TypedAskLifts store fuel before result after = (left : ℕ) × Lifts asked_reading (asked_setting callee asked memory store) (flat_in (take (args_words (asked_params callee asked)) words) 0) (asked_shape callee asked) before fuel result after left
 
   -- No reached place has a fault, and the charges of all are no more than the fuel; the ledger accepts the handles.
   pub record TypedAskLiftable (fuel : ℕ) (before : LedgerState) (store : ℕ) : Type 0 where

@@ -41,6 +41,7 @@ use Rattle.canon_context.specs.declared.fault.Fault.TheVariants as fault
 use Rattle.canon_value.specs.declared.val.Val.{Val}
 use Rattle.canon_host.specs.HostSide.{Giving, HostSide}
 use Rattle.canon_func.specs.Asks.{AreServed, AskStops, AcceptsAsk, Limits, import_words}
+use Rattle.canon_func.specs.HostAsks.{IsUnrefused}
 use Rattle.canon_func.specs.Passing.{Arguments, Returns}
 use Rattle.canon_func.specs.Runs.{AskTurn, BeginsInAsk, Each, EndsIn, Grows, IsAnswer, IsNoPost, IsNoReturn, IsNoStart, IsOneRun, IsPrefixOfRun, IsReturn, IsTrap, MayStart, OnAsk, OnReturn, OnStart, SomeReturn, answers_in, asks_in}
 use Rattle.canon_func.specs.Stores.{Callee}
@@ -316,7 +317,7 @@ pub record IsCallOf {T R : Type 0} (args : Arguments) (its : Returns R) (Leaves 
   -- A valid call answers Ok or out of memory: the parameters are of their types, no text among them is too long and no
   -- list too large, `realloc` kept its law, the guest doesn't trap and doesn't ask too often, no function of the host refuses, what
   -- it returns represents results that cost no more than the fuel, the ledger accepts the handles, and each ask can be served.
-  pub valid : (ts : Trees) → args.are ts → args.small → AllLawful (answers ++ late) → ¬ Rose host.refusals left.refusals → ¬ EndsIn IsTrap events → asks_in events ≤ limits.turns
+  pub valid : (ts : Trees) → args.are ts → args.small → AllLawful (answers ++ late) → IfErr answer IsUnrefused → ¬ EndsIn IsTrap events → asks_in events ≤ limits.turns
       → Each (OnReturn (λ words m. its.represent words m limits.fuel)) events
       → Accepts args its gives callee limits.fuel turns host tail
       → IsOkUnless answer (error.Fault fault.OutOfMemory)

@@ -1,5 +1,5 @@
 -- How an ask for a function of the host is served (CanonicalABI.md, "canon lower").
-use Rattle.std.specs.Prelude.{Err, List, None, Ok, Option, Result, Some, [], if◌then◌else◌, nat_le, slice_get, length, ℕ, ◌≡◌, ◌⊎◌}
+use Rattle.std.specs.Prelude.{Err, List, None, Ok, Option, Result, Some, [], if◌then◌else◌, nat_le, slice_get, length, ℕ, ◌≡◌, ◌≢◌, ◌⊎◌}
 use Rattle.canon_model.specs.Flat.{max_results}
 use Rattle.canon_model.specs.Layout.{members_flat}
 use Rattle.canon_memory.specs.Counts.{Rose}
@@ -64,19 +64,23 @@ abbrev pub host_error : ℕ → HostError → Error
 host_error index host.Refused = error.HostRefused index
 host_error index (host.Fault f) = asked_error index f
 
+-- no function of the host refused
+abbrev pub IsUnrefused : Error → Type 0
+IsUnrefused e = (n : ℕ) → e ≢ error.HostRefused n
+
 -- a refusal for no fault is counted, and nothing else
 abbrev pub Counted : Error → ℕ → ℕ → Type 0
 Counted (error.HostRefused n) before after = Rose before after
 Counted _ before after = after ≡ before
 
--- what a function reaches that is called in a memory, over data and a ledger
-abbrev pub called_on : {T : Type 0} → Callee → List ℕ → T → LedgerState → InView T
-called_on callee memory state ledger = record { memory = memory; options = callee.options; types = callee.types; state = state; ledger = ledger }
+-- what a function reaches that is called in a store of this number, in a memory, over data and a ledger
+abbrev pub called_on : {T : Type 0} → Callee → ℕ → List ℕ → T → LedgerState → InView T
+called_on callee store memory state ledger = record { store = store; memory = memory; options = callee.options; types = callee.types; state = state; ledger = ledger }
 
 module _ {T : Type 0} (its : AskForm T) (answers_so : Answering T) (callee : Callee) (fuel : ℕ) where
   -- the function may answer so, by its form, leaving this data and this ledger
   abbrev pub Gives : HostSide T → ℕ → List ℕ → LedgerState → its.Params → Result its.Results HostStop → T → LedgerState → Type 0
-  Gives before index memory lifted params answer state called = its.gave answers_so index before.log (called_on callee memory before.state lifted) params answer state called
+  Gives before index memory lifted params answer state called = its.gave answers_so index before.log (called_on callee before.store memory before.state lifted) params answer state called
 
   -- ---- an ask that was resumed
 
@@ -92,7 +96,7 @@ module _ {T : Type 0} (its : AskForm T) (answers_so : Answering T) (callee : Cal
     pub ended : LedgerState
     pub at : ℕ
     pub words : List ℕ
-    pub lifts : its.lifts callee fuel asked t.words t.memory (enter before.ledger) (Ok params) lifted
+    pub lifts : its.lifts before.store callee fuel asked t.words t.memory (enter before.ledger) (Ok params) lifted
     pub steps : HostSteps lifted called
     pub gave : Gives before t.index t.memory lifted params (Ok results) after.state called
     pub place : IsPlace callee.types.types asked t.memory t.words at
@@ -102,6 +106,7 @@ module _ {T : Type 0} (its : AskForm T) (answers_so : Answering T) (callee : Cal
     pub count : length t.resumed_words ≡ row_words (asked_results callee asked)
     pub told : after.log ≡ its.logged_with before.log t.index params results
     pub refused_none : after.refusals ≡ before.refusals
+    pub same_store : after.store ≡ before.store
 
   -- ---- an ask that wasn't
 
@@ -126,8 +131,8 @@ module _ {T : Type 0} (its : AskForm T) (answers_so : Answering T) (callee : Cal
     abbrev pub StopsAt : Type 0
     StopsAt =
         (its.declines callee asked index before.log e × (after.ledger ≡ before.ledger) × (after.state ≡ before.state) × NothingAsked memory memory2 answers trap)
-        ⊎ ((f : Fault) × (e ≡ asked_error index f) × its.lifts callee fuel asked words memory (enter before.ledger) (Err f) after.ledger × (after.state ≡ before.state) × NothingAsked memory memory2 answers trap)
-        ⊎ ((params : its.Params) × (lifted : LedgerState) × its.lifts callee fuel asked words memory (enter before.ledger) (Ok params) lifted × StopsCalled params lifted)
+        ⊎ ((f : Fault) × (e ≡ asked_error index f) × its.lifts before.store callee fuel asked words memory (enter before.ledger) (Err f) after.ledger × (after.state ≡ before.state) × NothingAsked memory memory2 answers trap)
+        ⊎ ((params : its.Params) × (lifted : LedgerState) × its.lifts before.store callee fuel asked words memory (enter before.ledger) (Ok params) lifted × StopsCalled params lifted)
 
     -- the asks that are exposed stay
     pub record HostStopsBy : Type 0 where
@@ -135,6 +140,7 @@ module _ {T : Type 0} (its : AskForm T) (answers_so : Answering T) (callee : Cal
       pub stops : StopsAt
       pub told : after.log ≡ before.log
       pub counted : Counted e before.refusals after.refusals
+      pub same_store : after.store ≡ before.store
 
   -- ---- an ask that isn't refused
 
@@ -149,8 +155,8 @@ module _ {T : Type 0} (its : AskForm T) (answers_so : Answering T) (callee : Cal
 
   pub record AcceptsHostBy (asked : Asked) (index : ℕ) (words memory : List ℕ) (before : HostSide T) : Type 0 where
     pub is : IsHostAsk callee index words asked
-    pub liftable : its.liftable callee fuel asked words memory (enter before.ledger)
-    pub given : (params : its.Params) (results : its.Results) (from called : LedgerState) (state : T) → its.lifts callee fuel asked words memory (enter before.ledger) (Ok params) from
+    pub liftable : its.liftable before.store callee fuel asked words memory (enter before.ledger)
+    pub given : (params : its.Params) (results : its.Results) (from called : LedgerState) (state : T) → its.lifts before.store callee fuel asked words memory (enter before.ledger) (Ok params) from
         → HostSteps from called → Gives before index memory from params (Ok results) state called → AcceptsGiven asked words memory results called
 
 -- ---- by the form of the import

@@ -14,18 +14,19 @@ use Rattle.canon_lowering.specs.Lowering.{Answer, Trap}
 use Rattle.canon_lowering.specs.Storing.{narrow}
 use Rattle.canon_context.specs.Host.{HostSteps}
 use Rattle.canon_value.specs.declared.val.Val.{Val}
-use Rattle.canon_host.specs.Forms.{Form}
-use Rattle.canon_host.specs.HostSide.{Giving, HostSide}
+use Rattle.canon_host.specs.HostSide.{Answering, Giving, HostSide}
 use Rattle.canon_host.specs.declared.asked.Asked.{Asked}
 use Rattle.canon_func.specs.Asks.{builtin_at, builtin_step}
 use Rattle.canon_lift.specs.Reading.{Reading}
+use Rattle.canon_lift.specs.Ways.{AreLiftedBy}
+use Rattle.canon_model.specs.Leaves.{members_leaves}
 use Rattle.canon_types.specs.Instance.{Instance}
 use Rattle.canon_types.specs.Table.{shape_of}
 use Rattle.canon_types.specs.declared.types.InterfaceType.{InterfaceType}
 use Rattle.canon_types.specs.declared.types.InterfaceType.TheVariants as ty
 use Rattle.canon_func.specs.Call.{HandlesPass, HandlesPassOf, param_parts, result_parts}
-use Rattle.canon_func.specs.AskForms.{AskForm, ask_form}
-use Rattle.canon_func.specs.HostAsks.{IsHostAsk}
+use Rattle.canon_func.specs.AskForms.{AskForm, ask_at}
+use Rattle.canon_func.specs.HostAsks.{Gives, IsHostAsk, IsHostServedBy}
 use Rattle.canon_func.specs.Passing.{Arguments, Returns}
 use Rattle.canon_func.specs.Typed.{params_shape, results_shape, typed_args, typed_results}
 use Rattle.canon_func.specs.Runs.{AskTurn, BeginsInAsk, Each, IsNoStart, OnReturn, SomeReturn}
@@ -49,27 +50,24 @@ given_steps its callee asked results l =
     let exit : LedgerStep = ExitScope (top_scope l.handles) in
     exit ∷ Leave ∷ leaves_steps (leave (do_step exit l).after) (its.gives callee asked results)
 
--- A function of the host was asked for, in a store of some number, and the ledger went through these steps, each of which it accepted, but
--- for those that the function took itself, which may be refused.
-pub record HostThrough {T : Type 0} (its : AskForm T) (callee : Callee) (t : AskTurn) (before after : LedgerState) : Type 0 where
-  pub asked : Asked
-  pub is : IsHostAsk callee t.index t.words asked
-  pub store : ℕ
-  pub results : its.Results
-  pub lifted : LedgerState
-  pub called : LedgerState
-  pub first : Through before (asked_steps its store callee asked t.words t.memory before) lifted
-  pub steps : HostSteps lifted called
-  pub last : Through called (given_steps its callee asked results called) after
+-- A function of the host served the ask, and the ledger went through these steps, each of which it accepted, but for those that the function
+-- took itself, which may be refused. The parameters and the results are those of the ask.
+pub record HostThrough {T : Type 0} (its : AskForm T) (answers_so : Answering T) (callee : Callee) (fuel : ℕ) (t : AskTurn) (before after : HostSide T) : Type 0 where
+  pub served : IsHostServedBy its answers_so callee fuel t before after
+  pub first : Through before.ledger (asked_steps its before.store callee served.asked t.words t.memory before.ledger) served.lifted
+  pub last : Through served.called (given_steps its callee served.asked served.results served.called) after.ledger
 
--- an ask that was served: the builtin's one step, or those of a function of the host
-abbrev pub AskThrough : {T : Type 0} → (ℕ → Form T) → Callee → AskTurn → LedgerState → LedgerState → Type 0
-AskThrough form callee t before after = ((called : Builtin) × (builtin_at callee t.index ≡ Some called) × Through before (ask_steps callee called t.words) after) ⊎ HostThrough (ask_form (form t.index)) callee t before after
+module _ {T : Type 0} (gives : Giving T) (callee : Callee) (fuel : ℕ) where
+  -- an ask that was served: the builtin's one step, or those of a function of the host
+  abbrev pub AskThrough : AskTurn → HostSide T → HostSide T → Type 0
+  AskThrough t before after =
+      ((called : Builtin) × (builtin_at callee t.index ≡ Some called) × Through before.ledger (ask_steps callee called t.words) after.ledger)
+      ⊎ HostThrough (ask_at gives t.index) gives.answers callee fuel t before after
 
--- each of them, in order
-abbrev pub AsksThrough : {T : Type 0} → (ℕ → Form T) → Callee → List AskTurn → LedgerState → LedgerState → Type 0
-AsksThrough form callee [] before after = after ≡ before
-AsksThrough form callee (t ∷ turns) before after = (mid : LedgerState) × AskThrough form callee t before mid × AsksThrough form callee turns mid after
+  -- each of them, in order
+  abbrev pub AsksThrough : List AskTurn → HostSide T → HostSide T → Type 0
+  AsksThrough [] before after = after ≡ before
+  AsksThrough (t ∷ turns) before after = (mid : HostSide T) × AskThrough t before mid × AsksThrough turns mid after
 
 -- ---- the steps of a call
 
@@ -84,54 +82,63 @@ last_steps parts l =
     exit ∷ leaves_steps (do_step exit l).after parts ++ Leave ∷ []
 
 -- the ledger from before a call, the handles of whose parameters do these parts, to its return, or to its last ask
-pub record CallThrough {T : Type 0} (form : ℕ → Form T) (callee : Callee) (parts : List (List Part)) (turns : List AskTurn) (before served : LedgerState) : Type 0 where
+pub record CallThrough {T : Type 0} (gives : Giving T) (callee : Callee) (fuel : ℕ) (parts : List (List Part)) (turns : List AskTurn) (before served : HostSide T) : Type 0 where
   pub lowered : LedgerState
-  pub first : Through before (first_steps parts before) lowered
-  pub asks : AsksThrough form callee turns lowered served
+  pub first : Through before.ledger (first_steps parts before.ledger) lowered
+  pub asks : AsksThrough gives callee fuel turns (record before { ledger = lowered }) served
 
 -- of a call that is Ok, to its end
-abbrev pub PassesThrough : {T : Type 0} → (ℕ → Form T) → Callee → List (List Part) → (List ℕ → List ℕ → List (List Part)) → List AskTurn → LedgerState → LedgerState → List Event → Type 0
-PassesThrough form callee first last turns before after tail =
-    (served : LedgerState) × CallThrough form callee first turns before served × Each (OnReturn (λ words memory. Through served (last_steps (last words memory) served) after)) tail
+abbrev pub PassesThrough : {T : Type 0} → Giving T → Callee → ℕ → List (List Part) → (List ℕ → List ℕ → List (List Part)) → List AskTurn → HostSide T → HostSide T → List Event → Type 0
+PassesThrough {T} gives callee fuel first last turns before after tail =
+    (served : HostSide T) × CallThrough gives callee fuel first turns before served
+    × Each (OnReturn (λ words memory. Through served.ledger (last_steps (last words memory) served.ledger) after.ledger)) tail
 
 -- The ledger of a call that is Ok went through these steps, one after another, each of which it accepted.
 abbrev pub CallIsThrough : {T : Type 0} → Giving T → Type 0
 CallIsThrough {T} gives = (callee : Callee) (fuel : ℕ) (params : List Val) (turns : List AskTurn) (memory2 : List ℕ) (late : List Answer) (trap : Option Trap) (before after : HostSide T) (given : List ℕ) (results : List Val) (events tail : List Event)
     → HandlesPass gives callee fuel params turns memory2 late trap before after given (Ok tt) results events tail
-    → PassesThrough gives.form callee (param_parts callee params) (result_parts callee) turns before.ledger after.ledger tail
+    → PassesThrough gives callee fuel (param_parts callee params) (result_parts callee) turns before after tail
 
--- A function of the host was asked for, in a store of some number, up to some step: one before its call, one that it took itself, or one
--- from its results on.
-abbrev pub HostPartway : {T : Type 0} → AskForm T → Callee → ℕ → List ℕ → List ℕ → LedgerState → LedgerState → Type 0
-HostPartway its callee index words memory served after = (asked : Asked) × (store : ℕ) × IsHostAsk callee index words asked
-    × (Partway served (asked_steps its store callee asked words memory served) after
-    ⊎ ((lifted : LedgerState) × Through served (asked_steps its store callee asked words memory served) lifted × HostSteps lifted after)
-    ⊎ ((results : its.Results) × (lifted called : LedgerState) × Through served (asked_steps its store callee asked words memory served) lifted × HostSteps lifted called × Partway called (given_steps its callee asked results called) after))
+module _ {T : Type 0} (its : AskForm T) (answers_so : Answering T) (callee : Callee) (fuel : ℕ) (index : ℕ) (words memory : List ℕ) (served : HostSide T) where
+  -- A function of the host was called on these parameters, which were lifted before: the ledger went so far, and to here by the function itself.
+  pub record HostCalled (asked : Asked) (params : its.Params) (lifted called : LedgerState) : Type 0 where
+    pub lifts : its.lifts served.store callee fuel asked words memory (enter served.ledger) (Ok params) lifted
+    pub first : Through served.ledger (asked_steps its served.store callee asked words memory served.ledger) lifted
+    pub steps : HostSteps lifted called
 
--- an ask that wasn't resumed: up to some step of a builtin or of a function of the host
-abbrev pub AskPartway : {T : Type 0} → (ℕ → Form T) → Callee → ℕ → List ℕ → List ℕ → LedgerState → LedgerState → Type 0
-AskPartway form callee index words memory served after =
-    (after ≡ served)
-    ⊎ ((called : Builtin) × (builtin_at callee index ≡ Some called) × Partway served (ask_steps callee called words) after)
-    ⊎ HostPartway (ask_form (form index)) callee index words memory served after
+  -- It was asked for, up to some step: one before its call, one that it took itself, or one from the results on that it gave.
+  abbrev pub HostPartway : LedgerState → Type 0
+  HostPartway after = (asked : Asked) × IsHostAsk callee index words asked
+      × (Partway served.ledger (asked_steps its served.store callee asked words memory served.ledger) after
+      ⊎ ((params : its.Params) × (lifted : LedgerState) × HostCalled asked params lifted after)
+      ⊎ ((params : its.Params) × (results : its.Results) × (lifted called : LedgerState) × (state : T) × HostCalled asked params lifted called
+      × Gives its answers_so callee fuel served index memory lifted params (Ok results) state called × Partway called (given_steps its callee asked results called) after))
 
--- from the last turn on, of a call that was refused after its start: nothing, or up to some step of its last ask, or from its return on
-abbrev pub GoesOn : {T : Type 0} → (ℕ → Form T) → Callee → (List ℕ → List ℕ → List (List Part)) → LedgerState → LedgerState → List Event → Type 0
-GoesOn form callee last served after tail = (after ≡ served)
-    ⊎ BeginsInAsk (λ index words memory more. AskPartway form callee index words memory served after) tail
-    ⊎ SomeReturn (λ words memory. Partway served (last_steps (last words memory) served) after) tail
+module _ {T : Type 0} (gives : Giving T) (callee : Callee) (fuel : ℕ) where
+  -- an ask that wasn't resumed: up to some step of a builtin or of a function of the host
+  abbrev pub AskPartway : ℕ → List ℕ → List ℕ → HostSide T → LedgerState → Type 0
+  AskPartway index words memory served after =
+      (after ≡ served.ledger)
+      ⊎ ((called : Builtin) × (builtin_at callee index ≡ Some called) × Partway served.ledger (ask_steps callee called words) after)
+      ⊎ HostPartway (ask_at gives index) gives.answers callee fuel index words memory served after
 
--- of a call that is refused, up to some step
-abbrev pub PassesPartway : {T : Type 0} → (ℕ → Form T) → Callee → List (List Part) → (List ℕ → List ℕ → List (List Part)) → List AskTurn → LedgerState → LedgerState → List Event → List Event → Type 0
-PassesPartway form callee first last turns before after events tail =
-    (Each IsNoStart events × Partway before (first_steps first before) after)
-    ⊎ ((served : LedgerState) × CallThrough form callee first turns before served × GoesOn form callee last served after tail)
+  -- from the last turn on, of a call that was refused after its start: nothing, or up to some step of its last ask, or from its return on
+  abbrev pub GoesOn : (List ℕ → List ℕ → List (List Part)) → HostSide T → LedgerState → List Event → Type 0
+  GoesOn last served after tail = (after ≡ served.ledger)
+      ⊎ BeginsInAsk (λ index words memory more. AskPartway index words memory served after) tail
+      ⊎ SomeReturn (λ words memory. Partway served.ledger (last_steps (last words memory) served.ledger) after) tail
+
+  -- of a call that is refused, up to some step
+  abbrev pub PassesPartway : List (List Part) → (List ℕ → List ℕ → List (List Part)) → List AskTurn → HostSide T → LedgerState → List Event → List Event → Type 0
+  PassesPartway first last turns before after events tail =
+      (Each IsNoStart events × Partway before.ledger (first_steps first before.ledger) after)
+      ⊎ ((served : HostSide T) × CallThrough gives callee fuel first turns before served × GoesOn last served after tail)
 
 -- The ledger of a call that is refused went through the same steps up to some step, which is one of those that the events determine.
 abbrev pub RefusedIsPartway : {T : Type 0} → Giving T → Type 0
 RefusedIsPartway {T} gives = (callee : Callee) (fuel : ℕ) (params : List Val) (turns : List AskTurn) (memory2 : List ℕ) (late : List Answer) (trap : Option Trap) (before after : HostSide T) (given : List ℕ) (e : Error) (results : List Val) (events tail : List Event)
     → HandlesPass gives callee fuel params turns memory2 late trap before after given (Err e) results events tail
-    → PassesPartway gives.form callee (param_parts callee params) (result_parts callee) turns before.ledger after.ledger events tail
+    → PassesPartway gives callee fuel (param_parts callee params) (result_parts callee) turns before after.ledger events tail
 
 -- ---- of a typed call
 
@@ -139,11 +146,11 @@ RefusedIsPartway {T} gives = (callee : Callee) (fuel : ℕ) (params : List Val) 
 module _ {T R : Type 0} (args : Arguments) (its : Returns R) (gives : Giving T) (callee : Callee) where
   abbrev pub IsThrough : Type 0
   IsThrough = (fuel : ℕ) (turns : List AskTurn) (memory2 : List ℕ) (late : List Answer) (trap : Option Trap) (before after : HostSide T) (given : List ℕ) (results : R) (events tail : List Event)
-      → HandlesPassOf args its gives callee fuel turns memory2 late trap before after given (Ok results) events tail → PassesThrough gives.form callee args.parts its.parts turns before.ledger after.ledger tail
+      → HandlesPassOf args its gives callee fuel turns memory2 late trap before after given (Ok results) events tail → PassesThrough gives callee fuel args.parts its.parts turns before after tail
 
   abbrev pub IsPartway : Type 0
   IsPartway = (fuel : ℕ) (turns : List AskTurn) (memory2 : List ℕ) (late : List Answer) (trap : Option Trap) (before after : HostSide T) (given : List ℕ) (e : Error) (events tail : List Event)
-      → HandlesPassOf args its gives callee fuel turns memory2 late trap before after given (Err e) events tail → PassesPartway gives.form callee args.parts its.parts turns before.ledger after.ledger events tail
+      → HandlesPassOf args its gives callee fuel turns memory2 late trap before after given (Err e) events tail → PassesPartway gives callee fuel args.parts its.parts turns before after.ledger events tail
 
 module _ {T P R : Type 0} (gives : Giving T) (Walks : P → Tree → Type 0) (steps : Instance → Shape → P → List (List Part)) (reading : Reading R) where
   abbrev pub TypedIsThrough : Type 0
@@ -155,11 +162,13 @@ module _ {T P R : Type 0} (gives : Giving T) (Walks : P → Tree → Type 0) (st
       → IsPartway (typed_args (Walks params) (steps callee.types (params_shape callee) params) callee) (typed_results reading options store callee) gives callee
 
 module _ {R : Type 0} (Fit : Instance → InterfaceType → Type 0) (reading : Reading R) (price : Tree → ℕ) where
-  -- The results of a typed call mean trees that the returned words and memory represent, and their price was taken from the fuel.
+  -- The results of a typed call mean trees that the returned words and memory represent, and their price was taken from the fuel; their handles
+  -- do what lifting those of the trees does.
   abbrev pub OnlyRepresented : (R → Tree → Type 0) → Type 0
   OnlyRepresented Means = (callee : Callee) (options store type fuel left : ℕ) (words memory : List ℕ) (results : R) → Fit callee.types (ty.Tuple type) → shape_of callee.types.types (ty.Tuple type) ≡ results_shape callee
       → (typed_results reading options store callee).are words memory fuel left results
       → (ts : Trees) × RepResults false callee.encoding (narrow memory) words callee.results ts × Means results (tree.parts ts) × (fuel ≡ left + price (tree.parts ts))
+      × AreLiftedBy callee.types (members_leaves callee.results ts) ((typed_results reading options store callee).parts words memory)
 
   -- Where words and memory represent trees of a price within the fuel, a valid call answers.
   abbrev pub RepresentedIsEnough : Type 0

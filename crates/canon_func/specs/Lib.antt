@@ -1,3 +1,4 @@
+pub mod AskExactly
 pub mod AskForms
 pub mod AskTypes
 pub mod AskValues

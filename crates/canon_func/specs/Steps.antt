@@ -37,7 +37,7 @@ use Rattle.canon_host.specs.Asked.{row_words}
 use Rattle.canon_host.specs.declared.asked.Asked.{Asked}
 use Rattle.canon_func.specs.Asks.{AreServed, AskStops, IsServed, Limits}
 use Rattle.canon_func.specs.AskForms.{AskForm, ask_at}
-use Rattle.canon_func.specs.HostAsks.{HostStopsBy, IsHostServedBy}
+use Rattle.canon_func.specs.HostAsks.{HostStopsBy, IsHostServedBy, IsUnrefused}
 use Rattle.canon_func.specs.AskValues.{asked_results}
 use Rattle.canon_func.specs.Call.{AcceptsLater, AfterTurns, AskCause, AsksByTypes, Concludes, HasFault, IsPastFuel, Left, StopsStartedOf, refused_by, result_words, scope_exit, words_within}
 use Rattle.canon_func.specs.Passing.{Arguments, Returns}
@@ -323,7 +323,7 @@ module _ {T R : Type 0} (its : Returns R) (gives : Giving T) (callee : Callee) (
     pub leaves : OnOk answer (Each (OnReturn (λ ws m. Left Leaves callee.post m after.bytes)) events)
     pub handles : AfterTurns gives callee limits.fuel turns host (λ served. RestPasses after.bytes late late_trap served left answer tail)
     pub cause : IfErr answer (RestCause its callee limits before after events tail)
-    pub valid : AllLawful late → ¬ Rose host.refusals left.refusals → ¬ EndsIn IsTrap events → asks_in events ≤ limits.turns
+    pub valid : AllLawful late → IfErr answer IsUnrefused → ¬ EndsIn IsTrap events → asks_in events ≤ limits.turns
         → Each (OnReturn (λ ws m. its.represent ws m limits.fuel)) events
         → ((served : HostSide T) → AreServed gives callee limits.fuel turns host served → AcceptsLater its gives callee limits.fuel served tail)
         → IsOkUnless answer (error.Fault fault.OutOfMemory)

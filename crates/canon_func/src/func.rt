@@ -78,7 +78,7 @@ impl Func {
         Ok(())
     }
 
-    /// The function with Rust types for its parameters and its results: two tuples, of the types that `docs/TYPED.md` lists. Answers
+    /// The function with Rust types for its parameters and its results: two tuples, of types that have the traits (`docs/TYPED.md`). Answers
     /// `TypecheckFailed` exactly where the tuple of the parameters' types, or that of the results', isn't the Rust type's.
     pub fn typed<P: ComponentNamedList + Lower, R: ComponentNamedList + Lift, T, G, I>(
         &self,

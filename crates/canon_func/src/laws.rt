@@ -1,6 +1,7 @@
 //! Laws of the definitions.
 
-ghost use Rattle.std.specs.Prelude.{IsTrue};
+ghost use Rattle.std.specs.Prelude.{IsTrue, ℕ};
+ghost use Rattle.canon_func.specs.AskExactly.{IsExact};
 ghost use Rattle.canon_func.specs.Laws.{CallIsThrough, OnlyRepresented, RefusedIsPartway, RepresentedIsEnough, TypedIsPartway, TypedIsThrough};
 
 use canon_host::Imports;
@@ -29,8 +30,16 @@ pub fn typed_call_is_steps<
     ensures part { TypedIsPartway (I.gives (I.plan _imports.now)) P.walks P.gives R.reading }
 {}
 
-/// The results of a typed call whose type has trees mean trees that the returned words and memory represent, at exactly their price. And
-/// of any type, words that represent trees of a price within the fuel are results with which a valid call answers.
+/// An ask that a function over Rust types serves has parameters that mean trees which its words and memory represent, at a cost within the
+/// fuel and with these trees' handles, where their type has trees; and words that represent such trees are lifted, or memory runs out. Of any
+/// type, parameters that were lifted have no fault; and its results mean the trees that they walk, whose handles they give.
+pub fn asks_are_exact<T, G: Guest, I: Imports<T, G>>(_imports: &I)
+    ensures { (n : ℕ) → IsExact ((I.gives (I.plan _imports.now)).form n) }
+{}
+
+/// The results of a typed call whose type has trees mean trees that the returned words and memory represent, at exactly their cost, and
+/// their handles do what lifting these trees' handles does. And of any type, words that represent trees of a cost within the fuel are results
+/// with which a valid call answers.
 pub fn typed_results_are_exact<R: ComponentNamedList + Lift>()
     ensures only { IsTrue R.is_told → OnlyRepresented R.fits R.reading R.cost R.lifts }
     ensures enough { RepresentedIsEnough R.fits R.reading R.cost }

@@ -17,6 +17,6 @@ mod typed_func;
 pub use dropping::resource_drop;
 pub use error::Error;
 pub use func::Func;
-pub use laws::{call_is_steps, typed_call_is_steps, typed_results_are_exact};
+pub use laws::{asks_are_exact, call_is_steps, typed_call_is_steps, typed_results_are_exact};
 pub use store::Store;
 pub use typed_func::TypedFunc;

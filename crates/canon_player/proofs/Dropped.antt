@@ -59,7 +59,7 @@ Dropping i before left dropped = IsDrop journaled Moving LeavesSame i before lef
 -- The store is `s` before the guest is loaded, and `left` as the drop leaves it.
 module _ (x : Any) (dtor_trap : Bool) (r : Record) (s left : ScriptStore) (dropped : Result (Unit {0}) Error)
     (empty : s.core.guest.events ≡ []) (events : r.events ≡ left.core.guest.events) (out : outcome r.answer ≡ dropped) (vals : OnOk dropped (answer_values r.answer ≡ []))
-    (short : IsOther dropped) (played : IsEnd r.answer) (served : r.served.items ≡ []) (kept : left.imports ≡ s.imports) where
+    (short : IsOther dropped) (played : IsEnd r.answer) (served : r.served.items ≡ []) (kept : left.imports ≡ s.imports) (id : left.core.id ≡ s.core.id) where
   abbrev Drops : GivenIndex → Type 0
   Drops i = Dropping i (readied dtor_trap s) left dropped
 
@@ -83,6 +83,7 @@ module _ (x : Any) (dtor_trap : Bool) (r : Record) (s left : ScriptStore) (dropp
         does = subst (λ (xs : List Event). CarriesOut (drop_plan dtor_trap s.core.guest.guest.plan.allocator) (length s.core.memory) xs [] left.core.guest.guest.plan (length left.core.memory)) (sym all)
             (subst (λ (ms : List Mark). CarriesOut (drop_plan dtor_trap s.core.guest.guest.plan.allocator) (length s.core.memory) es ms left.core.guest.guest.plan (length left.core.memory)) none moved.does);
         served_none = served;
+        store = id;
         log = ap (λ (m : ScriptedImports). entries_of m.lines.items) kept;
         refusals = ap (λ (m : ScriptedImports). m.refusals) kept;
         allocator = refl;
@@ -102,13 +103,13 @@ module _ (x : Any) (dtor_trap : Bool) (r : Record) (s left : ScriptStore) (dropp
 -- the store is `before` when the resource is dropped, and `final` once the journal is taken
 module _ (x : Any) (dtor_trap : Bool) (r : Record) (s before left final : ScriptStore) (dropped : Result (Unit {0}) Error) where
   pub drop_is : s.core.guest.events ≡ [] → before ≡ readied dtor_trap s → state_of final ≡ state_of left → r.events ≡ left.core.guest.events → outcome r.answer ≡ dropped → OnOk dropped (answer_values r.answer ≡ [])
-      → IsOther dropped → IsEnd r.answer → r.served.items ≡ [] → left.imports ≡ before.imports → IfNone (host_index x.handle) ((dropped ≡ Ok tt) × (left ≡ before))
+      → IsOther dropped → IsEnd r.answer → r.served.items ≡ [] → left.imports ≡ before.imports → left.core.id ≡ before.core.id → IfNone (host_index x.handle) ((dropped ≡ Ok tt) × (left ≡ before))
       → IfSome (host_index x.handle) (λ i. IfSome (drop_refusal before.core.ledger before.trapped i) (λ e. (dropped ≡ Err e) × (left ≡ before)))
       → IfSome (host_index x.handle) (λ i. IfNone (drop_refusal before.core.ledger before.trapped i) (Dropping i before left dropped))
       → WasDropped (Some x) dtor_trap (state_of s) (state_of final) r
-  drop_is empty is end events out vals short played served kept none refused drops =
+  drop_is empty is end events out vals short played served kept id none refused drops =
       subst (λ (k : State). DroppedBy (host_index x.handle) dtor_trap (state_of s) k r) (sym end)
-      (dropped_by x dtor_trap r s left dropped empty events out vals short played served (kept ∙ ap (λ (k : ScriptStore). k.imports) is) (host_index x.handle)
+      (dropped_by x dtor_trap r s left dropped empty events out vals short played served (kept ∙ ap (λ (k : ScriptStore). k.imports) is) (id ∙ ap (λ (k : ScriptStore). k.core.id) is) (host_index x.handle)
       (subst (λ (k : ScriptStore). IfNone (host_index x.handle) ((dropped ≡ Ok tt) × (left ≡ k))) is none)
       (subst (λ (k : ScriptStore). IfSome (host_index x.handle) (λ i. IfSome (drop_refusal k.core.ledger k.trapped i) (λ e. (dropped ≡ Err e) × (left ≡ k)))) is refused)
       (subst (λ (k : ScriptStore). IfSome (host_index x.handle) (λ i. IfNone (drop_refusal k.core.ledger k.trapped i) (Dropping i k left dropped))) is drops))

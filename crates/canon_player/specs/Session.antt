@@ -82,10 +82,11 @@ played_callee play i = callee_with play i (slice_get play.types.funcs i)
 
 -- ---- the store between two items
 
--- Whether it is trapped, its memory, the ledger of its handles, the asks that functions of the host served so far and how many they
+-- Its number, whether it is trapped, its memory, the ledger of its handles, the asks that functions of the host served so far and how many they
 -- refused for no fault, and of its guest the allocator, a mark for each answer of `realloc` so far, and how often it trapped and answered
 -- out of memory. Out of memory alone is caused by the last count, and leaves no record.
 pub record State : Type 0 where
+  pub store : ℕ
   pub trapped : Bool
   pub memory : List ℕ
   pub ledger : LedgerState
@@ -99,6 +100,7 @@ pub record State : Type 0 where
 -- at first memory is zeros, no handle lives, of which there may be `handles`, no ask was served, and the allocator begins at `heap`
 abbrev pub at_first : Play → State
 at_first play = record {
+  store = 0;
   trapped = false;
   memory = replicate play.memory 0;
   ledger = new_ledger 256 play.handles 0;
@@ -116,7 +118,7 @@ moment_of s events = moment (record { journal = Some events; marks = s.marks; li
 
 -- what it has beside its guest: its functions of the host share no data
 abbrev pub host_of : State → HostSide (Unit {0})
-host_of s = record { state = tt; ledger = s.ledger; log = Some s.log; refusals = s.refusals }
+host_of s = record { store = s.store; state = tt; ledger = s.ledger; log = Some s.log; refusals = s.refusals }
 
 -- what the guest is to do in a call: these actions, with these answers of `realloc`
 abbrev pub plan_with : List Action → List Ordered → Bool → Allocator → Plan
@@ -311,6 +313,7 @@ pub record WasRemoved (x : GivenIndex) (dtor_trap : Bool) (before after : State)
   pub left : Plan
   pub does : CarriesOut (drop_plan dtor_trap before.allocator) (length before.memory) r.events [] left (length after.memory)
   pub served_none : r.served.items ≡ []
+  pub store : after.store ≡ before.store
   pub log : after.log ≡ before.log
   pub refusals : after.refusals ≡ before.refusals
   pub allocator : after.allocator ≡ left.allocator

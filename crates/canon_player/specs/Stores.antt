@@ -106,6 +106,7 @@ answers_of s = answers_view s.imports.answers.items
 
 abbrev pub state_of : ScriptStore → State
 state_of s = record {
+  store = s.core.id;
   trapped = s.trapped;
   memory = s.core.memory;
   ledger = s.core.ledger;

@@ -1,0 +1,88 @@
+-- Laws of an ask that a function over Rust types serves, by the types of its form: which parameters it has, and what its results are.
+use Rattle.std.specs.Prelude.{IsTrue, List, Ok, Result, false, length, take, ⊤, ℕ, ◌≡◌, ◌≤◌}
+use Rattle.canon_context.specs.declared.fault.Fault.{Fault}
+use Rattle.canon_func.specs.AskForms.{ask_types}
+use Rattle.canon_func.specs.AskTypes.{asked_reading, asked_setting, asked_shape, given_shape, typed_given, typed_parts}
+use Rattle.canon_func.specs.AskValues.{asked_origin, asked_params, asked_results}
+use Rattle.canon_func.specs.Stores.{Callee}
+use Rattle.canon_host.specs.Forms.{Form, RustTypes, TypedAnswering, over_types, over_values}
+use Rattle.canon_host.specs.TypedAsks.{IsTreeLifted}
+use Rattle.canon_host.specs.declared.asked.Asked.{Asked}
+use Rattle.canon_leaves.specs.Parts.{LeavesTake}
+use Rattle.canon_ledger.specs.Ledger.{LedgerState}
+use Rattle.canon_lift.specs.Spots.{flat_in}
+use Rattle.canon_lift.specs.Ways.{AreLiftedBy}
+use Rattle.canon_lower.specs.Given.{AreGivenBy}
+use Rattle.canon_lowering.specs.Storing.{narrow}
+use Rattle.canon_model.specs.Flat.{RepArgs}
+use Rattle.canon_model.specs.Leaves.{members_leaves}
+use Rattle.canon_model.specs.Reach as reach
+use Rattle.canon_model.specs.Reach.{Kind}
+use Rattle.canon_model.specs.Tree.{Trees, parts}
+use Rattle.canon_typed.specs.Trees.{IsTreeOf}
+use Rattle.canon_types.specs.Table.{shape_of}
+use Rattle.canon_types.specs.declared.types.InterfaceType.TheVariants.{Tuple}
+use Rattle.canon_value.specs.Args.{args_words}
+
+-- Words enough were given. The shapes of a table's tuples are those of their members, as `ComponentTypes::tuple` finds them.
+pub record AreEnough (callee : Callee) (asked : Asked) (words : List ℕ) : Type 0 where
+  pub params : shape_of callee.types.types (Tuple asked.func.params) ≡ asked_shape callee asked
+  pub given : args_words (asked_params callee asked) ≤ length words
+
+-- the words and memory of the ask represent these trees
+abbrev pub RepAsked : Callee → Asked → List ℕ → List ℕ → Trees → Type 0
+RepAsked callee asked words memory trees = RepArgs false (asked_origin callee asked memory).encoding (narrow memory) (take (args_words (asked_params callee asked)) words) (asked_params callee asked) trees
+
+module _ {T P R : Type 0} (types : RustTypes P R) (may : TypedAnswering T P R) where
+  -- parameters of an ask were lifted in the store of a number with this fuel, or why not
+  abbrev pub Lifts : ℕ → Callee → ℕ → Asked → List ℕ → List ℕ → LedgerState → Result P Fault → LedgerState → Type 0
+  Lifts = (ask_types types may).lifts
+
+  -- The words and memory represent trees of a cost within the fuel, which the parameters mean, and whose handles went through the ledger.
+  pub record AreMeant (store : ℕ) (callee : Callee) (fuel : ℕ) (asked : Asked) (words memory : List ℕ) (before : LedgerState) (params : P) (after : LedgerState) : Type 0 where
+    pub trees : Trees
+    pub represented : RepAsked callee asked words memory trees
+    pub means : types.lifts params (parts trees)
+    pub within : types.cost (parts trees) ≤ fuel
+    pub steps : AreLiftedBy callee.types (members_leaves (asked_params callee asked) trees) (typed_parts types.reading callee asked words memory store)
+    pub taken : (hs : List ℕ) × LeavesTake before (typed_parts types.reading callee asked words memory store) hs after
+
+  -- They are lifted only there.
+  abbrev pub OnlyMeant : Type 0
+  OnlyMeant = (store : ℕ) (callee : Callee) (fuel : ℕ) (asked : Asked) (words memory : List ℕ) (before after : LedgerState) (params : P) → AreEnough callee asked words
+      → Lifts store callee fuel asked words memory before (Ok params) after → AreMeant store callee fuel asked words memory before params after
+
+  -- And where trees of a cost within the fuel are represented whose handles the ledger accepts, they are lifted, or memory runs out.
+  abbrev pub MeantIsEnough : Type 0
+  MeantIsEnough = (store : ℕ) (callee : Callee) (fuel : ℕ) (asked : Asked) (words memory : List ℕ) (before after end : LedgerState) (result : Result P Fault) (trees : Trees) (hs : List ℕ) → AreEnough callee asked words
+      → RepAsked callee asked words memory trees → types.cost (parts trees) ≤ fuel → LeavesTake before (typed_parts types.reading callee asked words memory store) hs end
+      → Lifts store callee fuel asked words memory before result after → IsTreeLifted types.reading types.lifts (parts trees) end result after
+
+  -- Where they are lifted, no reached place has a fault.
+  abbrev pub LiftedIsFaultless : Type 0
+  LiftedIsFaultless = (store : ℕ) (callee : Callee) (fuel : ℕ) (asked : Asked) (words memory : List ℕ) (before after : LedgerState) (params : P) (k : Kind) (x : reach.At)
+      → Lifts store callee fuel asked words memory before (Ok params) after
+      → ¬ (asked_reading types.reading callee asked words memory).faults (asked_setting callee asked memory store) (flat_in (take (args_words (asked_params callee asked)) words) 0) (asked_shape callee asked) k x
+
+  -- Trees that results walk, of which the words or the area are one, are what they mean, and of the function's type; their handles are given
+  -- as those of the trees.
+  pub record AreWalked (callee : Callee) (asked : Asked) (results : R) (trees : Trees) : Type 0 where
+    pub means : types.means results (parts trees)
+    pub of_type : IsTreeOf (given_shape callee asked) (parts trees)
+    pub given : AreGivenBy callee.types (members_leaves (asked_results callee asked) trees) (typed_given types callee asked results)
+
+  abbrev pub GivenIsWalked : Type 0
+  GivenIsWalked = (callee : Callee) (asked : Asked) (results : R) (trees : Trees) → types.fits_results callee.types (Tuple asked.func.results)
+      → shape_of callee.types.types (Tuple asked.func.results) ≡ given_shape callee asked → types.walks results (parts trees) → AreWalked callee asked results trees
+
+  -- of parameters that have trees; and of any
+  pub record IsTypedExactly : Type 0 where
+    pub only : IsTrue types.told → OnlyMeant
+    pub enough : IsTrue types.told → MeantIsEnough
+    pub faultless : LiftedIsFaultless
+    pub results : GivenIsWalked
+
+-- of an ask in its form: one over values says it itself
+abbrev pub IsExact : {T : Type 0} → Form T → Type 0
+IsExact over_values = ⊤
+IsExact (over_types types may) = IsTypedExactly types may
