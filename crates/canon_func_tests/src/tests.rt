@@ -89,13 +89,13 @@ impl Guest for Returner {
 
 type CallStore = Store<(), Returner, NoImports>;
 
-/// A store of one function without parameters, core function 7 with post-return 8, whose guest returns this word.
-fn store_of(
+/// A core of this guest, and of one function of this type, core function 7 with post-return 8.
+fn core_of<G: Guest + Drop>(
     alloc: Global,
     types: ComponentTypes,
     ty: TypeFuncIndex,
-    word: u32,
-) -> Result<CallStore, Fail> {
+    guest: G,
+) -> Result<Core<(), G>, Fail> {
     let id = StoreId::from_u64(1);
     let mut options = Vec::new(alloc);
     options.push(CanonicalOptions {
@@ -119,14 +119,25 @@ fn store_of(
     if !component.check() {
         return Err(Fail::from("an index is outside its table"));
     }
+    let memory = Memory::new(alloc, 65_536)?;
+    let core = Core::new(alloc, id, (), guest, memory, component, 8, 1_000_000)?;
+    Ok(core)
+}
+
+/// A store of such a core, whose guest returns this word.
+fn store_of(
+    alloc: Global,
+    types: ComponentTypes,
+    ty: TypeFuncIndex,
+    word: u32,
+) -> Result<CallStore, Fail> {
     let guest = Returner {
         alloc,
         word,
         traps: 0,
         shortages: 0,
     };
-    let memory = Memory::new(alloc, 65_536)?;
-    let core = Core::new(alloc, id, (), guest, memory, component, 8, 1_000_000)?;
+    let core = core_of(alloc, types, ty, guest)?;
     Ok(Store::new(core, NoImports::new(), 100))
 }
 

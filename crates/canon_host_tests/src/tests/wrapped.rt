@@ -149,3 +149,49 @@ fn a_resource_that_was_taken_is_refused(rt: HostRuntime) -> Result<(), Fail> {
     assert!(rt; answer == Err(HostError::Fault(fault)));
     Ok(())
 }
+
+/// Six numbers, which are six words.
+type Six = (u32, u32, u32, u32, u32, u32);
+
+// More than 16 words of parameters come as a tuple in memory, which one word points to (CanonicalABI.md, "lift_flat_values").
+#[test]
+fn many_parameters_come_by_a_pointer(rt: HostRuntime) -> Result<(), Fail> {
+    let alloc = rt.alloc();
+    let mut builder = TypeBuilder::new(alloc);
+    let six = builder.add_tuple(vec![in alloc; InterfaceType::U32; 6]?)?;
+    let number = [InterfaceType::U32].to_vec(alloc)?;
+    let ty = builder.add_func(vec![in alloc; six; 3]?, number, false)?;
+    let mut core = core_of(alloc, builder.finish())?;
+    // From 4 on, the first number is the last two bytes of the text, and the eighteenth, at 72, is 1.
+    if let Some(byte) = core.as_slice_mut().get_mut(72) {
+        *byte = 1;
+    }
+    let func = HostFunc::func_wrap(|_view: &mut HostView<'_, '_, u64>, (first, _, last): (
+        Six,
+        Six,
+        Six,
+    )| -> Result<(u32,), HostStop> { Ok((first.0.wrapping_add(last.5),)) });
+    let (answer, storage) = ask_wrapped(alloc, &func, &mut core, ty, &[ValRaw::u32(4)])?;
+    assert!(rt; answer == Ok(()) && storage[..] == [ValRaw::u32(0x6f6d)]);
+    Ok(())
+}
+
+// More than one word of results goes as a tuple into memory, where the last word points to (CanonicalABI.md, "lower_flat_values").
+#[test]
+fn two_results_go_by_a_pointer(rt: HostRuntime) -> Result<(), Fail> {
+    let alloc = rt.alloc();
+    let mut builder = TypeBuilder::new(alloc);
+    let pair = [InterfaceType::U8, InterfaceType::U32].to_vec(alloc)?;
+    let ty = builder.add_func(Vec::new(alloc), pair, false)?;
+    let mut core = core_of(alloc, builder.finish())?;
+    let func = HostFunc::func_wrap(|_view: &mut HostView<'_, '_, u64>, _params: ()| -> Result<
+        (u8, u32),
+        HostStop,
+    > { Ok((1, 2)) });
+    let (answer, storage) = ask_wrapped(alloc, &func, &mut core, ty, &[ValRaw::u32(4)])?;
+    assert!(rt; answer == Ok(()) && storage[..] == [ValRaw::u32(4)]);
+    // Of the text what isn't written stays.
+    let memory = [0x68, 0xc3, 0xa9, 0x6c, 1, 0x6f, 0, 0, 2, 0, 0, 0, 0];
+    assert!(rt; core.memory().as_slice().starts_with(&memory));
+    Ok(())
+}
