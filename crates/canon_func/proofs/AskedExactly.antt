@@ -1,18 +1,19 @@
 -- The parameters of an ask over Rust types are those that its words and memory represent, and its results are what they walk.
-use Rattle.std.proofs.Common.{Bool, IsTrue, arith, false, inl, inr, subst, true}
+use Rattle.std.proofs.Common.{Bool, IsTrue, List, ℕ, arith, false, inl, inr, subst, true}
 use Rattle.std.specs.Prelude.{nat_le, take}
 use Rattle.std.proofs.lemmas.List.{length-take-le}
 use Rattle.canon_args.proofs.Exactly.{always_passed, only_passed}
 use Rattle.canon_args.specs.Exactly.{IsPassed}
 use Rattle.canon_args.specs.Returned.{reading_by}
-use Rattle.canon_func.specs.AskExactly.{GivenIsWalked, IsExact, IsTypedExactly, LiftedIsFaultless, MeantIsEnough, OnlyMeant}
+use Rattle.canon_func.specs.AskExactly.{GivenIsWalked, IsExact, IsTypedExactly, LiftedIsFaultless, MeantIsEnough, MeantIsLiftable, OnlyMeant}
 use Rattle.canon_func.specs.AskTypes.{asked_setting, asked_shape}
+use Rattle.canon_func.proofs.TypedExact.{faultless, within}
 use Rattle.canon_func.specs.AskValues.{asked_params, asked_results}
 use Rattle.canon_host.proofs.TypedAnswers.{members_given}
 use Rattle.canon_host.proofs.TypedAsked.{its_lifted}
 use Rattle.canon_host.specs.Forms.{AreLawful, Form, IsLawful, RustTypes, TypedAnswering, over_types, over_values}
 use Rattle.canon_lift.specs.Apart.{AreApart, IsApart}
-use Rattle.canon_lift.specs.Reading.{Reading}
+use Rattle.canon_lift.specs.Reading.{Reading, Setting}
 use Rattle.canon_lift.specs.Spots.{flat_in}
 use Rattle.canon_model.specs.Flat.{max_params}
 use Rattle.canon_model.specs.Layout.{align, flat}
@@ -48,6 +49,19 @@ module _ {T P R : Type 0} (types : RustTypes P R) (may : TypedAnswering T P R) (
       (always_passed law.faulted law.priced (law.of_trees told) law.taken max_params (asked_setting callee asked memory store) (Tuple asked.func.params) ms (take (args_words ms) words) fits.1.params are.params
       before after end fuel left result trees hs rep few took lifts)
 
+  meant_liftable : MeantIsLiftable types may
+  meant_liftable store callee fuel asked words memory before end trees hs are fits rep few took =
+      let w : Setting = asked_setting callee asked memory store in
+      let ms : Members = asked_params callee asked in
+      let front : List ℕ = take (args_words ms) words in
+      record {
+        faultless = faultless types.fits_params types.reading types.cost law.priced max_params w asked.func.params ms front fits are.params law.faulted fuel trees few rep;
+        within = within types.fits_params types.reading types.cost law.priced max_params w asked.func.params ms front fits are.params law.faulted fuel trees few rep;
+        handles = hs;
+        lifted = end;
+        takes = took;
+      }
+
   lifted_faultless : LiftedIsFaultless types may
   lifted_faultless store callee fuel asked words memory before after params k x (fits, (left, lifts)) f =
       passed_apart types.reading law.apart (nat_le (flat (asked_shape callee asked)) max_params) (asked_setting callee asked memory store) (flat_in (take (args_words (asked_params callee asked)) words) 0) (asked_shape callee asked)
@@ -64,7 +78,7 @@ module _ {T P R : Type 0} (types : RustTypes P R) (may : TypedAnswering T P R) (
       }
 
   typed_exactly : IsTypedExactly types may
-  typed_exactly = record { only = only_meant; enough = meant_enough; faultless = lifted_faultless; results = given_walked }
+  typed_exactly = record { only = only_meant; enough = meant_enough; liftable = meant_liftable; faultless = lifted_faultless; results = given_walked }
 
 pub form_exact : {T : Type 0} (form : Form T) → IsLawful form → IsExact form
 form_exact over_values law = tt

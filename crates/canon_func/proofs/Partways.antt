@@ -93,7 +93,7 @@ module _ {T : Type 0} (its : AskForm T) (sound : AskSound its) (lawful : AskLawf
   after_lifting : (params : its.Params) (lifted : LedgerState) → its.lifts before.store callee fuel asked words memory (enter before.ledger) (Ok params) lifted → Through before.ledger FirstSteps lifted
       → StopsCalled its answers_so callee fuel asked index words memory memory2 answers trap before after e params lifted → Stopped
   after_lifting params lifted lift first (inl (short, left, same, quiet)) = (asked, is, inl (whole_first lifted first left))
-  after_lifting params lifted lift first (inr (inl (why, told, steps, gave, quiet))) = (asked, is, inr (inl (params, lifted, record { lifts = lift; first = first; steps = steps })))
+  after_lifting params lifted lift first (inr (inl (why, told, steps, gave, quiet))) = (asked, is, inr (inl (params, lifted, why, after.state, record { lifts = lift; first = first; steps = steps }, gave)))
   after_lifting params lifted lift first (inr (inr (results, called, steps, gave, given))) =
       (asked, is, inr (inr (params, results, lifted, called, after.state, record { lifts = lift; first = first; steps = steps }, gave, given_partway results called given)))
 
@@ -137,7 +137,7 @@ module _ {T : Type 0} (gives : Giving T) (lawful : (n : ℕ) → IsLawful (gives
       (host_partway (ask_at gives index) (form_sound (gives.form index)) (form_lawful (gives.form index) (lawful index)) gives.answers callee fuel asked index words memory memory2 answers trap l n e h.is h.stops)
 
   served_partway : (t : AskTurn) (l n : HostSide T) → AskThrough gives callee fuel t l n → AskPartway gives callee fuel t.index t.words t.memory l n.ledger
-  served_partway t l n (inl (called, known, through)) = inr (inl (called, known, through_partway l.ledger n.ledger (ask_steps callee called t.words) through))
+  served_partway t l n (inl (builtin, through)) = inr (inl (builtin.called, builtin.is.known, through_partway l.ledger n.ledger (ask_steps callee builtin.called t.words) through))
   served_partway t l n (inr h) = inr (inr (through_host (ask_at gives t.index) gives.answers callee fuel t l n h))
 
   -- ---- any ask

@@ -69,7 +69,7 @@ module _ {T : Type 0} (gives : Giving T) (lawful : (n : ℕ) → IsLawful (gives
   pub turns_through : (turns : List AskTurn) (l n : HostSide T) → AreServed gives callee fuel turns l n → AsksThrough gives callee fuel turns l n
   turns_through [] l n h = h
   turns_through (t ∷ turns) l n (mid, inl is, rest) =
-      (mid, inl (is.called, is.is.known, (is.answer, ap (λ (d : Done ℕ). d.answer) is.taken, sym (ap (λ (d : Done ℕ). d.after) is.taken))), turns_through turns mid n rest)
+      (mid, inl (is, (is.answer, ap (λ (d : Done ℕ). d.answer) is.taken, sym (ap (λ (d : Done ℕ). d.after) is.taken))), turns_through turns mid n rest)
   turns_through (t ∷ turns) l n (mid, inr is, rest) = (mid, host_through t l mid is, turns_through turns mid n rest)
 
   pub call_through : (parts : List (List Part)) (turns : List AskTurn) (before served : HostSide T) (given : List ℕ) (lowered : LedgerState) → LeavesTake (enter before.ledger) parts given lowered
@@ -91,7 +91,7 @@ module _ {T R : Type 0} (args : Arguments) (its : Returns R) (gives : Giving T) 
   pub passes_through : (turns : List AskTurn) (memory2 : List ℕ) (late : List Answer) (trap : Option Trap) (before after : HostSide T) (given : List ℕ) (results : R) (events tail : List Event)
       → HandlesPassOf args its gives callee fuel turns memory2 late trap before after given (Ok results) events tail → PassesThrough gives callee fuel args.parts its.parts turns before after tail
   passes_through turns memory2 late trap before after given results events tail (lowered, took, (served, serves, (each, kept))) =
-      (served, call_through gives lawful callee fuel args.parts turns before served given lowered took serves, each_return _ _ (λ ws m h. last_through ws m results served.ledger after.ledger h) tail each)
+      (served, call_through gives lawful callee fuel args.parts turns before served given lowered took serves, each_return _ _ (λ ws m h. last_through ws m results served.ledger after.ledger h) tail each, kept)
 
 pub call_is_through : {T : Type 0} (gives : Giving T) → ((n : ℕ) → IsLawful (gives.form n)) → CallIsThrough gives
 call_is_through gives lawful callee fuel params turns memory2 late trap before after given results events tail h =

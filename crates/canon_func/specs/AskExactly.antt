@@ -58,6 +58,12 @@ module _ {T P R : Type 0} (types : RustTypes P R) (may : TypedAnswering T P R) w
       → RepAsked callee asked words memory trees → types.cost (parts trees) ≤ fuel → LeavesTake before (typed_parts types.reading callee asked words memory store) hs end
       → Lifts store callee fuel asked words memory before result after → IsTreeLifted types.reading types.lifts (parts trees) end result after
 
+  -- Of any type, where trees of a cost within the fuel are represented whose handles the ledger accepts, they can be lifted.
+  abbrev pub MeantIsLiftable : Type 0
+  MeantIsLiftable = (store : ℕ) (callee : Callee) (fuel : ℕ) (asked : Asked) (words memory : List ℕ) (before end : LedgerState) (trees : Trees) (hs : List ℕ) → AreEnough callee asked words
+      → types.fits_params callee.types (Tuple asked.func.params) → RepAsked callee asked words memory trees → types.cost (parts trees) ≤ fuel
+      → LeavesTake before (typed_parts types.reading callee asked words memory store) hs end → (ask_types types may).liftable store callee fuel asked words memory before
+
   -- Where they are lifted, no reached place has a fault.
   abbrev pub LiftedIsFaultless : Type 0
   LiftedIsFaultless = (store : ℕ) (callee : Callee) (fuel : ℕ) (asked : Asked) (words memory : List ℕ) (before after : LedgerState) (params : P) (k : Kind) (x : reach.At)
@@ -79,6 +85,7 @@ module _ {T P R : Type 0} (types : RustTypes P R) (may : TypedAnswering T P R) w
   pub record IsTypedExactly : Type 0 where
     pub only : IsTrue types.told → OnlyMeant
     pub enough : IsTrue types.told → MeantIsEnough
+    pub liftable : MeantIsLiftable
     pub faultless : LiftedIsFaultless
     pub results : GivenIsWalked
 

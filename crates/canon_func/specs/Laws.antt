@@ -13,12 +13,14 @@ use Rattle.canon_leaves.specs.Steps.{leaves_steps}
 use Rattle.canon_lowering.specs.Lowering.{Answer, Trap}
 use Rattle.canon_lowering.specs.Storing.{narrow}
 use Rattle.canon_context.specs.Host.{HostSteps}
+use Rattle.canon_context.specs.declared.host.HostStop.{HostStop}
 use Rattle.canon_value.specs.declared.val.Val.{Val}
 use Rattle.canon_host.specs.HostSide.{Answering, Giving, HostSide}
 use Rattle.canon_host.specs.declared.asked.Asked.{Asked}
-use Rattle.canon_func.specs.Asks.{builtin_at, builtin_step}
+use Rattle.canon_func.specs.Asks.{IsBuiltinServed, builtin_at, builtin_step}
 use Rattle.canon_lift.specs.Reading.{Reading}
 use Rattle.canon_lift.specs.Ways.{AreLiftedBy}
+use Rattle.canon_lower.specs.Given.{AreGivenBy}
 use Rattle.canon_model.specs.Leaves.{members_leaves}
 use Rattle.canon_types.specs.Instance.{Instance}
 use Rattle.canon_types.specs.Table.{shape_of}
@@ -61,7 +63,7 @@ module _ {T : Type 0} (gives : Giving T) (callee : Callee) (fuel : ℕ) where
   -- an ask that was served: the builtin's one step, or those of a function of the host
   abbrev pub AskThrough : AskTurn → HostSide T → HostSide T → Type 0
   AskThrough t before after =
-      ((called : Builtin) × (builtin_at callee t.index ≡ Some called) × Through before.ledger (ask_steps callee called t.words) after.ledger)
+      ((builtin : IsBuiltinServed callee t before after) × Through before.ledger (ask_steps callee builtin.called t.words) after.ledger)
       ⊎ HostThrough (ask_at gives t.index) gives.answers callee fuel t before after
 
   -- each of them, in order
@@ -92,6 +94,7 @@ abbrev pub PassesThrough : {T : Type 0} → Giving T → Callee → ℕ → List
 PassesThrough {T} gives callee fuel first last turns before after tail =
     (served : HostSide T) × CallThrough gives callee fuel first turns before served
     × Each (OnReturn (λ words memory. Through served.ledger (last_steps (last words memory) served.ledger) after.ledger)) tail
+    × (after ≡ record served { ledger = after.ledger })
 
 -- The ledger of a call that is Ok went through these steps, one after another, each of which it accepted.
 abbrev pub CallIsThrough : {T : Type 0} → Giving T → Type 0
@@ -106,11 +109,12 @@ module _ {T : Type 0} (its : AskForm T) (answers_so : Answering T) (callee : Cal
     pub first : Through served.ledger (asked_steps its served.store callee asked words memory served.ledger) lifted
     pub steps : HostSteps lifted called
 
-  -- It was asked for, up to some step: one before its call, one that it took itself, or one from the results on that it gave.
+  -- It was asked for, up to some step: one before its call, all that it took itself where it gave none, or one from the results on that it gave.
   abbrev pub HostPartway : LedgerState → Type 0
   HostPartway after = (asked : Asked) × IsHostAsk callee index words asked
       × (Partway served.ledger (asked_steps its served.store callee asked words memory served.ledger) after
-      ⊎ ((params : its.Params) × (lifted : LedgerState) × HostCalled asked params lifted after)
+      ⊎ ((params : its.Params) × (lifted : LedgerState) × (why : HostStop) × (state : T) × HostCalled asked params lifted after
+      × Gives its answers_so callee fuel served index memory lifted params (Err why) state after)
       ⊎ ((params : its.Params) × (results : its.Results) × (lifted called : LedgerState) × (state : T) × HostCalled asked params lifted called
       × Gives its answers_so callee fuel served index memory lifted params (Ok results) state called × Partway called (given_steps its callee asked results called) after))
 
@@ -160,6 +164,12 @@ module _ {T P R : Type 0} (gives : Giving T) (Walks : P → Tree → Type 0) (st
   abbrev pub TypedIsPartway : Type 0
   TypedIsPartway = (callee : Callee) (options store : ℕ) (params : P)
       → IsPartway (typed_args (Walks params) (steps callee.types (params_shape callee) params) callee) (typed_results reading options store callee) gives callee
+
+module _ {P : Type 0} (Fit : Instance → InterfaceType → Type 0) (Walks : P → Tree → Type 0) (steps : Instance → Shape → P → List (List Part)) where
+  -- What the handles of the parameters of a typed call do are the ways of the handles of the trees that they walk, in order.
+  abbrev pub ParamsAreGiven : Type 0
+  ParamsAreGiven = (callee : Callee) (type : ℕ) (params : P) (ts : Trees) → Fit callee.types (ty.Tuple type) → shape_of callee.types.types (ty.Tuple type) ≡ params_shape callee
+      → Walks params (tree.parts ts) → AreGivenBy callee.types (members_leaves callee.params ts) (steps callee.types (params_shape callee) params)
 
 module _ {R : Type 0} (Fit : Instance → InterfaceType → Type 0) (reading : Reading R) (price : Tree → ℕ) where
   -- The results of a typed call mean trees that the returned words and memory represent, and their price was taken from the fuel; their handles

@@ -2,7 +2,7 @@
 
 ghost use Rattle.std.specs.Prelude.{IsTrue, ℕ};
 ghost use Rattle.canon_func.specs.AskExactly.{IsExact};
-ghost use Rattle.canon_func.specs.Laws.{CallIsThrough, OnlyRepresented, RefusedIsPartway, RepresentedIsEnough, TypedIsPartway, TypedIsThrough};
+ghost use Rattle.canon_func.specs.Laws.{CallIsThrough, OnlyRepresented, ParamsAreGiven, RefusedIsPartway, RepresentedIsEnough, TypedIsPartway, TypedIsThrough};
 
 use canon_host::Imports;
 use canon_lift::Lift;
@@ -18,7 +18,7 @@ pub fn call_is_steps<T, G: Guest, I: Imports<T, G>>(_imports: &I)
     ensures part { RefusedIsPartway (I.gives (I.plan _imports.now)) }
 {}
 
-/// The same of a typed call.
+/// The same of a typed call; and the handles of its parameters are given as those of the trees that they walk.
 pub fn typed_call_is_steps<
     T,
     G: Guest,
@@ -28,6 +28,7 @@ pub fn typed_call_is_steps<
 >(_imports: &I)
     ensures whole { TypedIsThrough (I.gives (I.plan _imports.now)) P.walks P.gives R.reading }
     ensures part { TypedIsPartway (I.gives (I.plan _imports.now)) P.walks P.gives R.reading }
+    ensures given { ParamsAreGiven P.fits P.walks P.gives }
 {}
 
 /// An ask that a function over Rust types serves has parameters that mean trees which its words and memory represent, at a cost within the

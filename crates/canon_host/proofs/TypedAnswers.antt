@@ -4,6 +4,7 @@ use Rattle.std.specs.Prelude.{false, take}
 use Rattle.std.proofs.lemmas.Bool.{cases_lt}
 use Rattle.canon_args.specs.Params.{InParts}
 use Rattle.canon_args.specs.Results.{StoresTuple}
+use Rattle.canon_context.specs.Asks.{SameButHandles}
 use Rattle.canon_context.specs.Core.{Parts, encoding_by, moment_of, types_of}
 use Rattle.canon_context.specs.Host.{StaticClosure}
 use Rattle.canon_context.specs.declared.host.HostStop.{HostStop}
@@ -45,11 +46,14 @@ done_by gives ending (inr (is, some, refused)) = absurd (cc)
 module _ {F T G P R : Type 0} (g : StaticClosure F (HostView T) P (Result R HostStop)) (f : F) (reading : Reading P) (walks : R → Tree → Type 0) (gives : Instance → Shape → R → List (List Part))
     (seen : G → Seen) (moves : GuestIn G → List Event → GuestIn G → Type 0) where
   module _ (asked : Asked) (before after : Parts T G) (words words2 : List ℕ) (params : P) (results : R) (lifted called : Parts T G) (was : WasCalled g f reading walks gives seen moves asked before words params (Ok results) lifted called)
-      (last : Through called.ledger (given_steps (given_parts gives asked before results) called.ledger) after.ledger)
+      (last : Through called.ledger (given_steps (given_parts gives asked before results) called.ledger) after.ledger) (called_is : called ≡ record before { state = called.state; ledger = called.ledger })
       (at : ℕ) (place : IsPlace (types_of before) asked before.memory words at) (ended : LedgerState) (left : ended ≡ (do_step (ExitScope (top_scope called.ledger.handles)) called.ledger).after)
       (h : LowersTyped seen moves walks gives asked (record before { state = called.state; ledger = leave ended }) at results (Ok tt) after words2) where
     abbrev through : AskThrough g f reading walks gives seen moves asked before after words
     through = record { params = params; results = results; lifted = lifted; called = called; was = was; last = last }
+
+    same_but_handles : SameButHandles called after
+    same_but_handles = h.same ∙ ap (λ (k : Parts T G). record k { guest = after.guest; memory = after.memory; ledger = after.ledger }) (sym called_is)
 
     abbrev ms : Members
     ms = result_members (types_of before) asked.func
@@ -80,7 +84,7 @@ module _ {F T G P R : Type 0} (g : StaticClosure F (HostView T) P (Result R Host
     row_answered : members_flat ms ≤ max_results → AskAnswered g f reading walks gives seen moves asked before after words words2
     row_answered few = record {
       through = through;
-      state = ap (λ (k : Parts T G). k.state) h.same;
+      same = same_but_handles;
       at = at;
       place = place;
       trees = (in_row few).shown.it;
@@ -107,7 +111,7 @@ module _ {F T G P R : Type 0} (g : StaticClosure F (HostView T) P (Result R Host
     area_answered : max_results < members_flat ms → AskAnswered g f reading walks gives seen moves asked before after words words2
     area_answered many = record {
       through = through;
-      state = ap (λ (k : Parts T G). k.state) h.same;
+      same = same_but_handles;
       at = at;
       place = place;
       trees = (in_area many).shown.it;
@@ -138,7 +142,7 @@ module _ {F T G P R : Type 0} (g : StaticClosure F (HostView T) P (Result R Host
   served_answered law asked before after words words2 (told, (params, lifted, lifts, (called, same, calls, (at, ended, place, e, lowers, rest)))) =
       lowered_answered asked before after words words2 params told.results lifted called
       (was_called g f reading walks gives seen moves law asked before after words words2 params (Ok told.results) lifted called lifts calls)
-      (concluded_through g f reading walks gives seen moves law asked before after words words2 params told.results lifted called lifts calls (at, ended, place, e, lowers, rest)) at
+      (concluded_through g f reading walks gives seen moves law asked before after words words2 params told.results lifted called lifts calls (at, ended, place, e, lowers, rest)) (called_core asked before lifted called words params told.results lifts calls) at
       (subst (λ (x : Parts T G). IsPlace (types_of x) asked x.memory words at) (called_core asked before lifted called words params told.results lifts calls) place) ended.ledger e.0.1
       (subst (λ (x : Parts T G). LowersTyped seen moves walks gives asked (record x { ledger = leave ended.ledger }) at told.results (Ok tt) after words2)
       (ended_core asked before lifted called ended words params told.results lifts calls e) lowers)

@@ -1,6 +1,7 @@
 -- Laws of an ask that a function over Rust types serves: what its parameters are, and what its ledger goes through.
 use Rattle.std.specs.Prelude.{Err, List, None, Ok, Result, [], false, length, take, true, ℕ, ◌<◌, ◌∷◌, ◌≡◌, ◌≤◌, ◌⊎◌}
 use Rattle.canon_args.specs.Exactly.{passed_steps}
+use Rattle.canon_context.specs.Asks.{SameButHandles}
 use Rattle.canon_context.specs.Core.{Parts, encoding_by, moment_of, types_of}
 use Rattle.canon_context.specs.Host.{HostSteps, StaticClosure}
 use Rattle.canon_context.specs.declared.fault.Fault.{Fault}
@@ -143,7 +144,7 @@ module _ {F T G P R : Type 0} (g : StaticClosure F (HostView T) P (Result R Host
   -- strictly, and so does memory where the pointer says, if that place lived or no answer came near it.
   pub record AskAnswered (asked : Asked) (before after : Parts T G) (words words2 : List ℕ) : Type 0 where
     pub through : AskThrough g f reading walks gives seen moves asked before after words
-    pub state : after.state ≡ through.called.state
+    pub same : SameButHandles through.called after
     pub at : ℕ
     pub place : IsPlace (types_of before) asked before.memory words at
     pub trees : Trees
