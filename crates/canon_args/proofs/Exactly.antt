@@ -15,11 +15,11 @@ use Rattle.canon_leaves.specs.Parts.{LeavesStop, LeavesTake, Part}
 use Rattle.canon_ledger.specs.Ledger.{LedgerState}
 use Rattle.canon_ledger.specs.declared.fault.ResourceFault.{ResourceFault}
 use Rattle.canon_lift.proofs.Exactness.{lifts_exactly_there}
-use Rattle.canon_lift.specs.Laws.{IsLifted, LiftsExactly}
-use Rattle.canon_lift.specs.OfTrees.{IsFaulted, IsOfTrees, IsPriced}
-use Rattle.canon_lift.specs.Reading.{AreTaken, Lifts, Reading, Refused, Setting, stop_of}
-use Rattle.canon_lift.specs.Spots.{Represents, Spot, flat_in, stored}
-use Rattle.canon_lift.specs.Ways.{AreLiftedBy}
+use Rattle.canon_reading.specs.Laws.{IsLifted, LiftsExactly}
+use Rattle.canon_reading.specs.OfTrees.{IsFaulted, IsOfTrees, IsPriced}
+use Rattle.canon_reading.specs.Reading.{AreTaken, Lifts, Reading, Refused, Setting, stop_of}
+use Rattle.canon_reading.specs.Spots.{Represents, Spot, flat_in, stored}
+use Rattle.canon_reading.specs.Ways.{AreLiftedBy}
 use Rattle.canon_model.proofs.Faults.{fault_excludes}
 use Rattle.canon_model.specs.Flat.{RepValues}
 use Rattle.canon_model.specs.Layout.{align, flat, members_flat}

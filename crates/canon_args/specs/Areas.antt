@@ -2,9 +2,9 @@
 use Rattle.std.proofs.Common.{Bool, List, eq-eqb, false, subst, sym, true, ℕ, ◌≡◌}
 use Rattle.std.proofs.lemmas.Bool.{and_from, cond-true, le-leb}
 use Rattle.canon_leaves.specs.Parts.{LeavesTake, Part}
-use Rattle.canon_lift.specs.Reading.{AreTaken, Reading, Setting}
-use Rattle.canon_lift.specs.Scopes.{AllKeep, all_if, none_kept}
-use Rattle.canon_lift.specs.Spots.{Spot}
+use Rattle.canon_reading.specs.Reading.{AreTaken, Reading, Setting}
+use Rattle.canon_reading.specs.Scopes.{AllKeep, all_if, none_kept}
+use Rattle.canon_reading.specs.Spots.{Spot}
 use Rattle.canon_model.specs.Shape.{Shape}
 use Rattle.canon_args.specs.Returned.{IsGoodArea, area_in, area_reading, is_good_area, reading_by}
 

@@ -4,10 +4,10 @@ use Rattle.canon_args.specs.Returned.{passed_reading}
 use Rattle.canon_context.specs.declared.fault.Fault.{Fault}
 use Rattle.canon_leaves.specs.Parts.{LeavesTake, Part}
 use Rattle.canon_ledger.specs.Ledger.{LedgerState}
-use Rattle.canon_lift.specs.Laws.{IsLifted}
-use Rattle.canon_lift.specs.Reading.{Lifts, Reading, Setting}
-use Rattle.canon_lift.specs.Spots.{flat_in}
-use Rattle.canon_lift.specs.Ways.{AreLiftedBy}
+use Rattle.canon_reading.specs.Laws.{IsLifted}
+use Rattle.canon_reading.specs.Reading.{Lifts, Reading, Setting}
+use Rattle.canon_reading.specs.Spots.{flat_in}
+use Rattle.canon_reading.specs.Ways.{AreLiftedBy}
 use Rattle.canon_model.specs.Flat.{RepValues}
 use Rattle.canon_model.specs.Leaves.{members_leaves}
 use Rattle.canon_model.specs.Shape.{Members, of_places, product}

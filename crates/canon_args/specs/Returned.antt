@@ -1,7 +1,7 @@
 -- What is read from words that are in a row, or one that points to a tuple.
 use Rattle.std.specs.Prelude.{Bool, [], false, if◌then◌else◌, nat_le, true, ℕ, ◌%◌, ◌≡◌, ◌⊎◌}
-use Rattle.canon_lift.specs.Reading.{Reading, Setting}
-use Rattle.canon_lift.specs.Spots.{Spot, at_of, pointer_in, stored}
+use Rattle.canon_reading.specs.Reading.{Reading, Setting}
+use Rattle.canon_reading.specs.Spots.{Spot, at_of, pointer_in, stored}
 use Rattle.canon_model.specs.Flat.{max_results}
 use Rattle.canon_model.specs.Layout.{align, flat, members_flat, size}
 use Rattle.canon_model.specs.Memory.{Inside}

@@ -4,8 +4,8 @@ ghost use Rattle.std.specs.Prelude.{◌≡◌, ◌≤◌, ◌<◌, ◌+◌, fals
 ghost use Rattle.canon_args.specs.Results.{TypedResults};
 ghost use Rattle.canon_args.specs.Returned.{passed_reading};
 ghost use Rattle.canon_context.specs.Core.{types_of};
-ghost use Rattle.canon_lift.specs.Reading.{Lifts, setting_in};
-ghost use Rattle.canon_lift.specs.Spots.{flat_in};
+ghost use Rattle.canon_reading.specs.Reading.{Lifts, setting_in};
+ghost use Rattle.canon_reading.specs.Spots.{flat_in};
 ghost use Rattle.canon_model.specs.Flat.{max_params, max_results};
 ghost use Rattle.canon_model.specs.Layout.{members_flat, size};
 ghost use Rattle.canon_model.specs.Shape.{of_places, product};

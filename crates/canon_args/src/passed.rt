@@ -3,8 +3,8 @@
 ghost use Rattle.std.specs.Prelude.{◌≡◌, ◌≤◌, length};
 ghost use Rattle.canon_args.specs.Returned.{area_reading, passed_count, passed_reading};
 ghost use Rattle.canon_context.specs.Core.{types_of};
-ghost use Rattle.canon_lift.specs.Reading.{Lifts, setting_in};
-ghost use Rattle.canon_lift.specs.Spots.{flat_in};
+ghost use Rattle.canon_reading.specs.Reading.{Lifts, setting_in};
+ghost use Rattle.canon_reading.specs.Spots.{flat_in};
 ghost use Rattle.canon_model.specs.Shape.{of_places, product};
 ghost use Rattle.canon_types.specs.Table.{HasTuple, tuple_members};
 ghost use Rattle.canon_types.specs.declared.types.InterfaceType.TheVariants.{Tuple};

@@ -3,8 +3,8 @@
 ghost use Rattle.std.specs.Prelude.{◌≡◌, length};
 ghost use Rattle.canon_args.specs.Returned.{passed_reading, result_count};
 ghost use Rattle.canon_context.specs.Core.{types_of};
-ghost use Rattle.canon_lift.specs.Reading.{Lifts, setting_in};
-ghost use Rattle.canon_lift.specs.Spots.{flat_in};
+ghost use Rattle.canon_reading.specs.Reading.{Lifts, setting_in};
+ghost use Rattle.canon_reading.specs.Spots.{flat_in};
 ghost use Rattle.canon_model.specs.Flat.{max_results};
 ghost use Rattle.canon_model.specs.Shape.{of_places, product};
 ghost use Rattle.canon_types.specs.Table.{HasTuple, tuple_members};

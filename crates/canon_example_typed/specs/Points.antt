@@ -11,14 +11,14 @@ use Rattle.canon_typed.specs.Charges.{free, product_cost}
 use Rattle.canon_typed.specs.Meaning.{FirstAnd, NoTrees, ProductMeans}
 use Rattle.canon_typed.specs.Typed.{IsTyped, first_typed, none_typed, scalar_typed, tuple_typed}
 use Rattle.canon_typed.specs.Types.{IsTupleOf}
-use Rattle.canon_lift.specs.Apart.{IsApart, end_apart, more_apart, product_apart, tree_apart}
+use Rattle.canon_reading.specs.Apart.{IsApart, end_apart, more_apart, product_apart, tree_apart}
 use Rattle.canon_lift.specs.Firsts.{first_and, first_in, no_more, rest_in}
-use Rattle.canon_lift.specs.OfTrees.{IsFaulted, IsOfTrees, IsPriced, scalar_priced, scalar_told, tree_faulted}
-use Rattle.canon_lift.specs.Reading.{AreTaken, Reading}
-use Rattle.canon_lift.specs.Readings.{first_reading, none_reading, product_reading, scalar_reading}
-use Rattle.canon_lift.specs.RowsOfTrees.{end_faulted, end_priced, end_told, more_faulted, more_priced, more_told, tuple_faulted, tuple_priced, tuple_told}
-use Rattle.canon_lift.specs.Scopes.{IsKept, end_kept, more_kept, plain_kept, tuple_kept}
-use Rattle.canon_lift.specs.Taken.{end_taken, more_taken, product_taken, scalar_taken}
+use Rattle.canon_reading.specs.OfTrees.{IsFaulted, IsOfTrees, IsPriced, scalar_priced, scalar_told, tree_faulted}
+use Rattle.canon_reading.specs.Reading.{AreTaken, Reading}
+use Rattle.canon_reading.specs.Readings.{first_reading, none_reading, product_reading, scalar_reading}
+use Rattle.canon_reading.specs.RowsOfTrees.{end_faulted, end_priced, end_told, more_faulted, more_priced, more_told, tuple_faulted, tuple_priced, tuple_told}
+use Rattle.canon_reading.specs.Scopes.{IsKept, end_kept, more_kept, plain_kept, tuple_kept}
+use Rattle.canon_reading.specs.Taken.{end_taken, more_taken, product_taken, scalar_taken}
 use Rattle.canon_example_typed.specs.declared.point.Point.{Point}
 
 -- ---- over any reading of a coordinate

@@ -12,9 +12,9 @@ use Rattle.canon_func.specs.AskValues.{asked_params, asked_results}
 use Rattle.canon_host.proofs.TypedAnswers.{members_given}
 use Rattle.canon_host.proofs.TypedAsked.{its_lifted}
 use Rattle.canon_host.specs.Forms.{AreLawful, Form, IsLawful, RustTypes, TypedAnswering, over_types, over_values}
-use Rattle.canon_lift.specs.Apart.{AreApart, IsApart}
-use Rattle.canon_lift.specs.Reading.{Reading, Setting}
-use Rattle.canon_lift.specs.Spots.{flat_in}
+use Rattle.canon_reading.specs.Apart.{AreApart, IsApart}
+use Rattle.canon_reading.specs.Reading.{Reading, Setting}
+use Rattle.canon_reading.specs.Spots.{flat_in}
 use Rattle.canon_model.specs.Flat.{max_params}
 use Rattle.canon_model.specs.Layout.{align, flat}
 use Rattle.canon_model.specs.Shape.{Members, Shape}

@@ -17,7 +17,7 @@ use Rattle.canon_leaves.specs.Parts.{LeafTakes, LeavesLift, lift_parts, lifted_p
 use Rattle.canon_model.specs.Leaves.{Leaf}
 use Rattle.canon_resources.specs.Held.{Any}
 use Rattle.canon_types.specs.Instance.{Instance}
-use Rattle.canon_lift.specs.OwnScopes.{own_lifted}
+use Rattle.canon_reading.specs.OwnScopes.{own_lifted}
 use Rattle.canon_func.specs.Call.{scope_exit}
 use Rattle.canon_func.proofs.Owned.{AreOwned}
 

@@ -13,10 +13,10 @@ use Rattle.canon_context.specs.declared.fault.Fault.{Fault}
 use Rattle.canon_context.specs.declared.fault.Fault.TheVariants as fault
 use Rattle.canon_leaves.specs.Parts.{LeavesStop}
 use Rattle.canon_ledger.specs.Ledger.{LedgerState}
-use Rattle.canon_lift.specs.Reading as lifting
-use Rattle.canon_lift.specs.Reading.{AreTaken, Lifts, Reading, Setting, setting_in}
-use Rattle.canon_lift.specs.Scopes.{AllKeep, IsKept, keep_scopes}
-use Rattle.canon_lift.specs.Spots.{flat_in}
+use Rattle.canon_reading.specs.Reading as lifting
+use Rattle.canon_reading.specs.Reading.{AreTaken, Lifts, Reading, Setting, setting_in}
+use Rattle.canon_reading.specs.Scopes.{AllKeep, IsKept, keep_scopes}
+use Rattle.canon_reading.specs.Spots.{flat_in}
 use Rattle.canon_model.specs.Flat.{max_results}
 use Rattle.canon_model.specs.Layout.{flat}
 use Rattle.canon_model.specs.Reach as reach

@@ -6,9 +6,9 @@ use Rattle.canon_args.specs.Areas.{good_area}
 use Rattle.canon_args.specs.Exactly.{IsPassed}
 use Rattle.canon_args.specs.Returned.{IsGoodArea, reading_by}
 use Rattle.canon_args.proofs.Exactly.{only_passed}
-use Rattle.canon_lift.specs.OfTrees.{IsFaulted, IsOfTrees, IsPriced}
-use Rattle.canon_lift.specs.Reading.{AreTaken, Reading, Setting}
-use Rattle.canon_lift.specs.Spots.{Faulty, Represents, Spot, flat_in, stored}
+use Rattle.canon_reading.specs.OfTrees.{IsFaulted, IsOfTrees, IsPriced}
+use Rattle.canon_reading.specs.Reading.{AreTaken, Reading, Setting}
+use Rattle.canon_reading.specs.Spots.{Faulty, Represents, Spot, flat_in, stored}
 use Rattle.canon_lowering.specs.Storing.{narrow}
 use Rattle.canon_model.proofs.Faults.{fault_excludes}
 use Rattle.canon_model.specs.Flat.{RepValues, max_results}

@@ -15,8 +15,8 @@ use Rattle.canon_ledger.specs.Ledger.{LedgerState}
 use Rattle.canon_ledger.specs.declared.fault.ResourceFault.TheVariants as resource
 use Rattle.canon_leaves.proofs.Leaves.{leaves_excluded}
 use Rattle.canon_leaves.specs.Parts.{LeavesStop, Part}
-use Rattle.canon_lift.specs.Reading.{AreTaken, Lifts, Reading}
-use Rattle.canon_lift.specs.Spots.{flat_in}
+use Rattle.canon_reading.specs.Reading.{AreTaken, Lifts, Reading}
+use Rattle.canon_reading.specs.Spots.{flat_in}
 use Rattle.canon_lower.proofs.Attempts.{ends_done}
 use Rattle.canon_lower.specs.Blames.{IsElsewhere, IsLargeFault}
 use Rattle.canon_lower.specs.Lowers.{EndsBy}

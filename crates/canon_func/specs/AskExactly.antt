@@ -10,8 +10,8 @@ use Rattle.canon_host.specs.TypedAsks.{IsTreeLifted}
 use Rattle.canon_host.specs.declared.asked.Asked.{Asked}
 use Rattle.canon_leaves.specs.Parts.{LeavesTake}
 use Rattle.canon_ledger.specs.Ledger.{LedgerState}
-use Rattle.canon_lift.specs.Spots.{flat_in}
-use Rattle.canon_lift.specs.Ways.{AreLiftedBy}
+use Rattle.canon_reading.specs.Spots.{flat_in}
+use Rattle.canon_reading.specs.Ways.{AreLiftedBy}
 use Rattle.canon_lower.specs.Given.{AreGivenBy}
 use Rattle.canon_lowering.specs.Storing.{narrow}
 use Rattle.canon_model.specs.Flat.{RepArgs}

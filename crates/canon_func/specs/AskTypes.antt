@@ -12,8 +12,8 @@ use Rattle.canon_model.specs.Tree.{Tree}
 use Rattle.canon_memory.specs.Guest.{Moment}
 use Rattle.canon_ledger.specs.Ledger.{LedgerState}
 use Rattle.canon_leaves.specs.Parts.{LeavesTake, Part}
-use Rattle.canon_lift.specs.Reading.{Lifts, Reading, Setting}
-use Rattle.canon_lift.specs.Spots.{flat_in}
+use Rattle.canon_reading.specs.Reading.{Lifts, Reading, Setting}
+use Rattle.canon_reading.specs.Spots.{flat_in}
 use Rattle.canon_lower.specs.Lowers.{EndsBy, HandlesCross}
 use Rattle.canon_lowering.specs.Attempt.{LowersMembers}
 use Rattle.canon_lowering.specs.Lowering.{Answer, Ending, Trap}

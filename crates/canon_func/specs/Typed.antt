@@ -17,8 +17,8 @@ use Rattle.canon_ledger.specs.Ledger.{LedgerState}
 use Rattle.canon_leaves.specs.Parts.{LeavesTake, Part}
 use Rattle.canon_context.specs.declared.component.Export.{Export}
 use Rattle.canon_context.specs.declared.fault.Fault.{Fault}
-use Rattle.canon_lift.specs.Reading.{Lifts, Reading, Setting}
-use Rattle.canon_lift.specs.Spots.{flat_in}
+use Rattle.canon_reading.specs.Reading.{Lifts, Reading, Setting}
+use Rattle.canon_reading.specs.Spots.{flat_in}
 use Rattle.canon_func.specs.Call.{result_words}
 use Rattle.canon_func.specs.Passing.{Arguments, Returns}
 use Rattle.canon_func.specs.Stores.{Callee, Named, StoreView}

@@ -6,8 +6,8 @@ use Rattle.canon_args.specs.Params.{AreSmallIn, BlamesIn}
 use Rattle.canon_context.specs.declared.fault.Fault.{Fault}
 use Rattle.canon_context.specs.declared.fault.Fault.TheVariants as fault
 use Rattle.canon_leaves.specs.Parts.{Part}
-use Rattle.canon_lift.specs.Reading.{AreTaken, Reading}
-use Rattle.canon_lift.specs.Spots.{flat_in}
+use Rattle.canon_reading.specs.Reading.{AreTaken, Reading}
+use Rattle.canon_reading.specs.Spots.{flat_in}
 use Rattle.canon_lower.proofs.Blamed.{large_fault}
 use Rattle.canon_lower.specs.Blames.{IsElsewhere, IsLargeFault}
 use Rattle.canon_model.specs.Flat.{max_results}

@@ -15,7 +15,7 @@ use Rattle.canon_host.specs.declared.error.HostError.{HostError}
 use Rattle.canon_host.specs.declared.error.HostError.TheVariants as error
 use Rattle.canon_leaves.specs.Parts.{Part}
 use Rattle.canon_ledger.specs.Ledger.{enter}
-use Rattle.canon_lift.specs.Reading.{Reading}
+use Rattle.canon_reading.specs.Reading.{Reading}
 use Rattle.canon_memory.specs.Guest.{GuestIn, Seen}
 use Rattle.canon_memory.specs.declared.event.Event.{Event}
 use Rattle.canon_model.specs.Flat.{max_results}

@@ -7,9 +7,9 @@ use Rattle.canon_context.specs.Core.{types_of}
 use Rattle.canon_context.specs.declared.fault.Fault.{Fault}
 use Rattle.canon_host.specs.TypedAsks.{AskedIsEnough, IsTreeLifted, OnlyAsked, param_words}
 use Rattle.canon_ledger.specs.Ledger.{LedgerState}
-use Rattle.canon_lift.specs.Laws.{IsLifted}
-use Rattle.canon_lift.specs.OfTrees.{IsFaulted, IsOfTrees, IsPriced}
-use Rattle.canon_lift.specs.Reading.{AreTaken, Reading, setting_in}
+use Rattle.canon_reading.specs.Laws.{IsLifted}
+use Rattle.canon_reading.specs.OfTrees.{IsFaulted, IsOfTrees, IsPriced}
+use Rattle.canon_reading.specs.Reading.{AreTaken, Reading, setting_in}
 use Rattle.canon_model.specs.Flat.{max_params}
 use Rattle.canon_model.specs.Shape.{Members}
 use Rattle.canon_model.specs.Tree.{Tree, parts}

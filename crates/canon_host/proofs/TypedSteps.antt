@@ -20,9 +20,9 @@ use Rattle.canon_ledger.specs.Books.{DidSurely}
 use Rattle.canon_ledger.specs.Handles.{top_scope}
 use Rattle.canon_ledger.specs.Ledger.{Done, ExitScope, Leave, LedgerState, Partway, Through, do_step, enter, leave, leaving, numbered, validate_scope_exit}
 use Rattle.canon_ledger.specs.declared.fault.ResourceFault.{ResourceFault}
-use Rattle.canon_lift.specs.Reading as lifting
-use Rattle.canon_lift.specs.Reading.{AreTaken, Reading, setting_in}
-use Rattle.canon_lift.specs.Spots.{flat_in}
+use Rattle.canon_reading.specs.Reading as lifting
+use Rattle.canon_reading.specs.Reading.{AreTaken, Reading, setting_in}
+use Rattle.canon_reading.specs.Spots.{flat_in}
 use Rattle.canon_memory.specs.Guest.{GuestIn, Seen}
 use Rattle.canon_memory.specs.declared.event.Event.{Event}
 use Rattle.canon_model.specs.Flat.{max_params}

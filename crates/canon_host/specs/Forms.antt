@@ -8,9 +8,9 @@ use Rattle.canon_indices.specs.declared.options.CanonicalOptions.{CanonicalOptio
 use Rattle.canon_leaves.specs.Parts.{Part}
 use Rattle.canon_ledger.specs.Ledger.{LedgerState}
 use Rattle.canon_ledger.specs.Reached.{ledger_in}
-use Rattle.canon_lift.specs.Apart.{IsApart}
-use Rattle.canon_lift.specs.OfTrees.{IsFaulted, IsOfTrees, IsPriced}
-use Rattle.canon_lift.specs.Reading.{AreTaken, Reading}
+use Rattle.canon_reading.specs.Apart.{IsApart}
+use Rattle.canon_reading.specs.OfTrees.{IsFaulted, IsOfTrees, IsPriced}
+use Rattle.canon_reading.specs.Reading.{AreTaken, Reading}
 use Rattle.canon_lower.specs.Given.{IsGiven}
 use Rattle.canon_model.specs.Shape.{Shape}
 use Rattle.canon_model.specs.Tree.{Tree}

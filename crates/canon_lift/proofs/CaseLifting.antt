@@ -9,7 +9,7 @@ use Rattle.canon_model.specs.Layout.{align, payload_offset, payload_shape, size}
 use Rattle.canon_model.specs.Memory.{num}
 use Rattle.canon_model.specs.Shape.{Cases, Shape, VariantKind, case_count, variant}
 use Rattle.canon_types.specs.Depth.{variant_cases}
-use Rattle.canon_lift.specs.Spots.{payload_spot, stored, tag_in}
+use Rattle.canon_reading.specs.Spots.{payload_spot, stored, tag_in}
 
 -- ---- the bytes of a discriminant and of a payload
 

@@ -20,11 +20,11 @@ use Rattle.canon_model.specs.Tree.{Tree}
 use Rattle.canon_types.specs.Instance.{Instance}
 use Rattle.canon_types.specs.Table.{shape_of}
 use Rattle.canon_types.specs.declared.types.InterfaceType.{InterfaceType}
-use Rattle.canon_lift.specs.Laws.{IsLifted, LiftsExactly}
-use Rattle.canon_lift.specs.OfTrees.{IsFaulted, IsOfTrees, IsPriced}
-use Rattle.canon_lift.specs.Reading.{AreTaken, Lifts, NamedBy, Reading, Refused, Setting, stop_of}
-use Rattle.canon_lift.specs.Spots.{Faulty, Represents, Spot, flat_in, stored, leaves_in}
-use Rattle.canon_lift.specs.Ways.{AreLiftedBy}
+use Rattle.canon_reading.specs.Laws.{IsLifted, LiftsExactly}
+use Rattle.canon_reading.specs.OfTrees.{IsFaulted, IsOfTrees, IsPriced}
+use Rattle.canon_reading.specs.Reading.{AreTaken, Lifts, NamedBy, Reading, Refused, Setting, stop_of}
+use Rattle.canon_reading.specs.Spots.{Faulty, Represents, Spot, flat_in, stored, leaves_in}
+use Rattle.canon_reading.specs.Ways.{AreLiftedBy}
 
 -- ---- of one spot
 

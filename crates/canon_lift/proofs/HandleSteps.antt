@@ -24,9 +24,9 @@ use Rattle.canon_types.specs.Table.{shape_of}
 use Rattle.canon_types.specs.declared.types.InterfaceType.{InterfaceType}
 use Rattle.canon_types.specs.declared.types.InterfaceType.TheVariants as ty
 use Rattle.canon_typed.specs.Types.{IsHandleType}
-use Rattle.canon_lift.specs.Handles.{HandleLifts, IsRefusal, any_reading, leaf_at, leaf_of}
-use Rattle.canon_lift.specs.Reading.{Lifts, NamedBy, Setting, stop_of}
-use Rattle.canon_lift.specs.Spots.{HasRoom, Spot, handle_in}
+use Rattle.canon_reading.specs.Handles.{HandleLifts, IsRefusal, any_reading, leaf_at, leaf_of}
+use Rattle.canon_reading.specs.Reading.{Lifts, NamedBy, Setting, stop_of}
+use Rattle.canon_reading.specs.Spots.{HasRoom, Spot, handle_in}
 
 -- what was done to the ledger
 pub took_steps : (l n : LedgerState) (ps : List Part) (h : ℕ) → LeafTakes l ps h n → IsAfterSteps l n

@@ -19,11 +19,11 @@ use Rattle.canon_types.specs.declared.resource.ResourceType.{ResourceType}
 use Rattle.canon_types.specs.declared.types.InterfaceType.{InterfaceType}
 use Rattle.canon_types.specs.declared.types.InterfaceType.TheVariants as ty
 use Rattle.canon_typed.specs.Types.{IsHandleOf, IsHandleType}
-use Rattle.canon_lift.specs.Handles.{leaf_at, leaf_of}
-use Rattle.canon_lift.specs.HostHandles.{HeldLifts, RepLifts, held_reading}
-use Rattle.canon_lift.specs.Reading.{Lifts, NamedBy, Setting}
-use Rattle.canon_lift.specs.Spots.{HasRoom, Spot, handle_in}
-use Rattle.canon_lift.specs.Ways.{rep_parts}
+use Rattle.canon_reading.specs.Handles.{leaf_at, leaf_of}
+use Rattle.canon_reading.specs.HostHandles.{HeldLifts, RepLifts, held_reading}
+use Rattle.canon_reading.specs.Reading.{Lifts, NamedBy, Setting}
+use Rattle.canon_reading.specs.Spots.{HasRoom, Spot, handle_in}
+use Rattle.canon_reading.specs.Ways.{rep_parts}
 use Rattle.canon_lift.proofs.HandleSteps.{blames_none, is_refusal, same_leaf, stops_so, stopped_steps, took_steps}
 use Rattle.std.proofs.lemmas.Option.{none-some}
 

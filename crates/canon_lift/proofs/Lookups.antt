@@ -12,8 +12,8 @@ use Rattle.canon_types.specs.declared.types.TypeMap.{TypeMap}
 use Rattle.canon_types.specs.declared.types.InterfaceType.{InterfaceType}
 use Rattle.canon_types.specs.declared.types.InterfaceType.TheVariants as ty
 use Rattle.canon_typed.specs.Types.{IsFixedOf, IsListOf, IsMapOf}
-use Rattle.canon_lift.specs.OfTrees.{second_shape, two_cases}
-use Rattle.canon_lift.specs.Readings.{fixed_element}
+use Rattle.canon_reading.specs.OfTrees.{second_shape, two_cases}
+use Rattle.canon_reading.specs.Readings.{fixed_element}
 use Rattle.canon_lift.proofs.CaseLifting.{IsOfCases}
 
 -- ---- lists

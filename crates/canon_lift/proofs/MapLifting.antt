@@ -14,12 +14,12 @@ use Rattle.canon_types.specs.Depth.{element_shape}
 use Rattle.canon_types.specs.Instance.{Instance}
 use Rattle.canon_types.specs.Table.{shape_of}
 use Rattle.canon_types.specs.declared.types.InterfaceType.{InterfaceType}
-use Rattle.canon_lift.specs.Items.{vec_reading}
-use Rattle.canon_lift.specs.MapsOfTrees.{map_reading, pair_reading, pairs_reading}
+use Rattle.canon_reading.specs.Items.{vec_reading}
+use Rattle.canon_reading.specs.MapsOfTrees.{map_reading, pair_reading, pairs_reading}
 use Rattle.canon_lift.specs.Ranges.{IsListThere, list_range_reach}
-use Rattle.canon_lift.specs.Reading.{Lifts, Reading, Setting, setting_in, stop_of}
-use Rattle.canon_lift.specs.Readings.{IsGoodList, each_reach, each_steps, list_reading, read_as}
-use Rattle.canon_lift.specs.Spots.{HasRoom, Spot, length_in, pointer_in, stored}
+use Rattle.canon_reading.specs.Reading.{Lifts, Reading, Setting, setting_in, stop_of}
+use Rattle.canon_reading.specs.Readings.{IsGoodList, each_reach, each_steps, list_reading, read_as}
+use Rattle.canon_reading.specs.Spots.{HasRoom, Spot, length_in, pointer_in, stored}
 use Rattle.canon_lift.specs.declared.wasm_list.WasmList.{WasmList}
 use Rattle.canon_lift.proofs.Refusals.{named_in, refused_by}
 

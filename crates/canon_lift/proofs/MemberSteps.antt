@@ -22,10 +22,10 @@ use Rattle.canon_types.specs.declared.types.InterfaceType.{InterfaceType}
 use Rattle.canon_types.specs.declared.types.InterfaceType.TheVariants as ty
 use Rattle.std.specs.Option.{option_map_or}
 use Rattle.canon_typed.specs.Types.{AreOf, IsTupleOf}
-use Rattle.canon_lift.specs.Reading.{AreTaken, Lifts, NamedBy, Reading, Refused, Setting, setting_in, stop_of}
-use Rattle.canon_lift.specs.Readings.{RestReading, first_reading}
-use Rattle.canon_lift.specs.Rests.{rest_reading}
-use Rattle.canon_lift.specs.Spots.{Rest, Spot, first_spot, flat_from, flat_in, others, stored, stored_from}
+use Rattle.canon_reading.specs.Reading.{AreTaken, Lifts, NamedBy, Reading, Refused, Setting, setting_in, stop_of}
+use Rattle.canon_reading.specs.Readings.{RestReading, first_reading}
+use Rattle.canon_reading.specs.Rests.{rest_reading}
+use Rattle.canon_reading.specs.Spots.{Rest, Spot, first_spot, flat_from, flat_in, others, stored, stored_from}
 use Rattle.canon_lift.proofs.CaseLifting.{or_left, or_right}
 use Rattle.canon_lift.proofs.Refusals.{named_by, refused_by, stops_first, stops_second}
 

@@ -14,13 +14,12 @@ use Rattle.canon_model.specs.Layout.{align, begins, ends, members_align, members
 use Rattle.canon_model.specs.Shape.{Shape, member, no_members, of_places, tuple}
 use Rattle.canon_types.specs.Table.{Table, members_of, shape_of}
 use Rattle.canon_types.specs.declared.types.InterfaceType.{InterfaceType}
-use Rattle.canon_lift.specs.Firsts.{first_in, rest_in}
 use Rattle.canon_typed.specs.Maps.{IsFilledWith}
-use Rattle.canon_lift.specs.Items.{vec_reading}
-use Rattle.canon_lift.specs.MapsOfTrees.{pair_reading, pair_taken, pairs_reading}
-use Rattle.canon_lift.specs.Reading.{AreTaken, Lifts, Reading, Refused, Setting, setting_in}
-use Rattle.canon_lift.specs.Readings.{first_reading, item_spot, none_reading}
-use Rattle.canon_lift.specs.Spots.{Spot, stored, stored_from}
+use Rattle.canon_reading.specs.Items.{vec_reading}
+use Rattle.canon_reading.specs.MapsOfTrees.{of_key, of_none, of_value, pair_reading, pair_taken, pairs_reading, value_reading, itself}
+use Rattle.canon_reading.specs.Reading.{AreTaken, Lifts, Reading, Refused, Setting, setting_in}
+use Rattle.canon_reading.specs.Readings.{item_spot, none_reading}
+use Rattle.canon_reading.specs.Spots.{Spot, stored, stored_from}
 use Rattle.canon_lift.proofs.MemberSteps.{first_aligned, first_inside, member_refused, others_refused, rest_aligned, rest_inside}
 use Rattle.canon_lift.proofs.Settings.{same_setting, same_shape}
 
@@ -92,7 +91,7 @@ module _ {D G K V : Type 0} (R : Reading K) (S : Reading V) (core : Parts D G) (
 
   pub key_refused : (before after : LedgerState) (fuel left : ℕ) (e : Fault) → Refused R w (stored at) ks before fuel e after left → Refused (pair_reading R S) w (stored at) both before fuel e after left
   key_refused before after fuel left e r =
-      let h = member_refused first_in rest_in R (first_reading first_in rest_in S (none_reading {A = Unit {0}})) w (stored_from at 0) [] ks (member [] vs no_members) both before fuel e after left
+      let h = member_refused of_key itself R (value_reading {K = K} S) w (stored_from at 0) [] ks (member [] vs no_members) both before fuel e after left
       (subst (λ p. Refused R w p ks before fuel e after left) key_place r) in
       record { cause = h.cause; memory = h.memory; stops = h.stops; falls = h.falls }
 
@@ -108,8 +107,8 @@ module _ {D G K V : Type 0} (R : Reading K) (S : Reading V) (core : Parts D G) (
 
     pub value_refused : (e : Fault) → Lifts S (setting_in now o2) (stored (at + offset)) (shape_of (types_of now) value) now.ledger mid (Err e) after left → Refused (pair_reading R S) w (stored at) both before fuel e after left
     value_refused e r =
-        let second = member_refused first_in rest_in S (none_reading {A = Unit {0}}) w (stored_from at (ends false 0 ks)) [] vs no_members both now.ledger mid e after left (value_lifts (Err e) r) in
-        let h = others_refused first_in rest_in R (first_reading first_in rest_in S (none_reading {A = Unit {0}})) w (stored_from at 0) [] ks (member [] vs no_members) both before fuel taken x now.ledger mid
+        let second = member_refused (of_value {K = K}) of_none S (none_reading {A = Unit {0}}) w (stored_from at (ends false 0 ks)) [] vs no_members both now.ledger mid e after left (value_lifts (Err e) r) in
+        let h = others_refused of_key itself R (value_reading {K = K} S) w (stored_from at 0) [] ks (member [] vs no_members) both before fuel taken x now.ledger mid
         (subst (λ p. R.reads w p ks before x now.ledger) key_place read) (subst (λ p. fuel ≡ mid + R.reach w p ks) key_place spent) e after left both second in
         record { cause = h.cause; memory = h.memory; stops = h.stops; falls = h.falls }
 

@@ -23,12 +23,12 @@ use Rattle.canon_types.specs.Depth.{element_shape}
 use Rattle.canon_types.specs.Instance.{Instance}
 use Rattle.canon_types.specs.Table.{Knows, shape_of}
 use Rattle.canon_types.specs.declared.types.InterfaceType.{InterfaceType}
-use Rattle.canon_lift.specs.MapsOfTrees.{map_reading, pair_reading}
-use Rattle.canon_lift.specs.OfTrees.{text_price}
+use Rattle.canon_reading.specs.MapsOfTrees.{map_reading, pair_reading}
+use Rattle.canon_reading.specs.OfTrees.{text_price}
 use Rattle.canon_lift.specs.Ranges.{ListRefused, ListTested, list_range_reach, wasm_list_reading}
-use Rattle.canon_lift.specs.Reading.{Lifts, NamedBy, Reading, Refused, Setting, stop_of}
-use Rattle.canon_lift.specs.Readings.{IsGoodList, ListPointerFault, each_reach, list_reading, read_as, text_charge, text_reading}
-use Rattle.canon_lift.specs.Spots.{Faulty, HasRoom, Represents, Spot, at_of, flat_in, length_in, pointer_in, stored}
+use Rattle.canon_reading.specs.Reading.{Lifts, NamedBy, Reading, Refused, Setting, stop_of}
+use Rattle.canon_reading.specs.Readings.{IsGoodList, ListPointerFault, each_reach, list_reading, read_as, text_charge, text_reading}
+use Rattle.canon_reading.specs.Spots.{Faulty, HasRoom, Represents, Spot, at_of, flat_in, length_in, pointer_in, stored}
 use Rattle.canon_lift.specs.declared.wasm_list.WasmList.{WasmList}
 use Rattle.canon_lift.proofs.Refusals.{named_by, refused_before, refused_by, stops_nowhere}
 

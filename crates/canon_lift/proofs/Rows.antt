@@ -14,12 +14,12 @@ use Rattle.canon_model.specs.Shape.{Shape}
 use Rattle.canon_types.specs.Instance.{Instance}
 use Rattle.canon_types.specs.Table.{Knows, shape_of}
 use Rattle.canon_types.specs.declared.types.InterfaceType.{InterfaceType}
-use Rattle.canon_lift.specs.Items.{vec_reading}
+use Rattle.canon_reading.specs.Items.{vec_reading}
 use Rattle.canon_lift.specs.Ranges.{HasItems, IsListFrom}
-use Rattle.canon_lift.specs.Reading.{AreTaken, Lifts, NamedBy, Reading, Refused, Setting, setting_in, stop_of}
-use Rattle.canon_lift.specs.Readings.{EachFault, EachReads, IsGoodList, each_reach, each_steps, fixed_element, fixed_reading, item_spot, read_as}
-use Rattle.canon_lift.specs.Spots.{Spot, behind, flat_in, stored}
-use Rattle.canon_lift.specs.Taken.{each_counted}
+use Rattle.canon_reading.specs.Reading.{AreTaken, Lifts, NamedBy, Reading, Refused, Setting, setting_in, stop_of}
+use Rattle.canon_reading.specs.Readings.{EachFault, EachReads, IsGoodList, each_reach, each_steps, fixed_element, fixed_reading, item_spot, read_as}
+use Rattle.canon_reading.specs.Spots.{Spot, behind, flat_in, stored}
+use Rattle.canon_reading.specs.Taken.{each_counted}
 use Rattle.canon_lift.specs.declared.wasm_list.WasmList.{WasmList}
 use Rattle.canon_lift.proofs.Refusals.{named_by, refused_by, stops_after, stops_first, stops_second}
 use Rattle.canon_lift.proofs.Settings.{same_setting, same_shape}

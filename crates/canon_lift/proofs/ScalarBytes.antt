@@ -9,9 +9,9 @@ use Rattle.canon_model.specs.Shape.{Scalar, Shape, scalar}
 use Rattle.canon_model.specs.Tree.{Tree}
 use Rattle.canon_types.specs.Table.{shape_of}
 use Rattle.canon_types.specs.declared.types.InterfaceType.{InterfaceType}
-use Rattle.canon_lift.specs.Reading.{Lifts, setting_in}
-use Rattle.canon_lift.specs.Readings.{TreeReads, scalar_reading}
-use Rattle.canon_lift.specs.Spots.{stored}
+use Rattle.canon_reading.specs.Reading.{Lifts, setting_in}
+use Rattle.canon_reading.specs.Readings.{TreeReads, scalar_reading}
+use Rattle.canon_reading.specs.Spots.{stored}
 
 -- its bytes are inside
 pub scalar_room : (bytes memory : List ℕ) (s : Shape) (k : Scalar) (at : ℕ) → s ≡ scalar k → at + size false s ≤ length memory → bytes ≡ memory → at + scalar_size k ≤ length bytes

@@ -8,7 +8,7 @@ use Rattle.canon_context.specs.Core.{Parts, types_of}
 use Rattle.canon_model.specs.Shape.{Shape}
 use Rattle.canon_types.specs.Table.{Table, shape_of}
 use Rattle.canon_types.specs.declared.types.InterfaceType.{InterfaceType}
-use Rattle.canon_lift.specs.Reading.{setting_in}
+use Rattle.canon_reading.specs.Reading.{setting_in}
 
 module _ {D G : Type 0} (core now : Parts D G) (same : now ≡ record core { ledger = now.ledger }) where
   pub same_setting : (o o2 : ℕ) → o2 ≡ o → setting_in now o2 ≡ setting_in core o

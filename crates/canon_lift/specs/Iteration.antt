@@ -4,9 +4,9 @@ use Rattle.canon_context.specs.Core.{SameButLedger, types_of}
 use Rattle.canon_context.specs.declared.fault.Fault.{Fault}
 use Rattle.canon_lowering.specs.Storing.{narrow}
 use Rattle.canon_types.specs.Table.{shape_of}
-use Rattle.canon_lift.specs.Reading.{Lifts, Reading, setting_in}
-use Rattle.canon_lift.specs.Readings.{item_spot}
-use Rattle.canon_lift.specs.Spots.{stored}
+use Rattle.canon_reading.specs.Reading.{Lifts, Reading, setting_in}
+use Rattle.canon_reading.specs.Readings.{item_spot}
+use Rattle.canon_reading.specs.Spots.{stored}
 use Rattle.canon_lift.specs.declared.wasm_list_iter.WasmListIter.{WasmListIter}
 
 -- how many items are still to come

@@ -15,9 +15,9 @@ use Rattle.canon_types.specs.Depth.{element_shape}
 use Rattle.canon_types.specs.Instance.{Instance}
 use Rattle.canon_types.specs.Table.{Knows, shape_of}
 use Rattle.canon_types.specs.declared.types.InterfaceType.{InterfaceType}
-use Rattle.canon_lift.specs.Reading.{Reading, Setting, setting_in}
-use Rattle.canon_lift.specs.Readings.{IsGoodList, ListPointerFault, text_charge}
-use Rattle.canon_lift.specs.Spots.{Spot, at_of, length_in, pointer_in}
+use Rattle.canon_reading.specs.Reading.{Reading, Setting, setting_in}
+use Rattle.canon_reading.specs.Readings.{IsGoodList, ListPointerFault, text_charge}
+use Rattle.canon_reading.specs.Spots.{Spot, at_of, length_in, pointer_in}
 use Rattle.canon_lift.specs.declared.wasm_list.WasmList.{WasmList}
 use Rattle.canon_lift.specs.declared.wasm_str.WasmStr.{WasmStr}
 

@@ -14,7 +14,7 @@ use Rattle.canon_text.specs.declared.cow.CowStr.{CowStr}
 use Rattle.canon_types.specs.Instance.{Instance}
 use Rattle.canon_types.specs.Table.{Knows, shape_of}
 use Rattle.canon_types.specs.declared.types.InterfaceType.{InterfaceType}
-use Rattle.canon_lift.specs.Readings.{IsGoodList}
+use Rattle.canon_reading.specs.Readings.{IsGoodList}
 use Rattle.canon_lift.specs.declared.wasm_list.WasmList.{WasmList}
 use Rattle.canon_lift.specs.declared.wasm_str.WasmStr.{WasmStr}
 

@@ -2,17 +2,17 @@
 
 ghost use Rattle.std.specs.Prelude.{◌≡◌, ◌≤◌, ◌+◌, ◌%◌, ◌&&◌, false, length};
 ghost use Rattle.canon_context.specs.Core.{types_of};
-ghost use Rattle.canon_lift.specs.Scopes.{boxed_kept, option_kept, result_kept};
+ghost use Rattle.canon_reading.specs.Scopes.{boxed_kept, option_kept, result_kept};
 ghost use Rattle.canon_model.specs.Layout.{align, flat, payload_shape, size};
 ghost use Rattle.canon_model.specs.Shape.{case_for, no_cases};
 ghost use Rattle.canon_types.specs.Table.{KnowsPayload, all_shapes, payload_in};
 ghost use Rattle.canon_typed.specs.Types.{IsPayloadOf};
-ghost use Rattle.canon_lift.specs.Apart.{boxed_apart, option_apart, result_apart};
-ghost use Rattle.canon_lift.specs.OfTrees.{boxed_faulted, boxed_priced, boxed_told, left_true, option_faulted, option_priced, option_told, result_faulted, result_priced, result_told, right_true};
-ghost use Rattle.canon_lift.specs.Reading.{Lifts, setting_in};
-ghost use Rattle.canon_lift.specs.Readings.{boxed_reading, option_reading, payload_reading, result_reading};
-ghost use Rattle.canon_lift.specs.Spots.{flat_in, stored};
-ghost use Rattle.canon_lift.specs.Taken.{boxed_taken, option_taken, result_taken};
+ghost use Rattle.canon_reading.specs.Apart.{boxed_apart, option_apart, result_apart};
+ghost use Rattle.canon_reading.specs.OfTrees.{boxed_faulted, boxed_priced, boxed_told, left_true, option_faulted, option_priced, option_told, result_faulted, result_priced, result_told, right_true};
+ghost use Rattle.canon_reading.specs.Reading.{Lifts, setting_in};
+ghost use Rattle.canon_reading.specs.Readings.{boxed_reading, option_reading, payload_reading, result_reading};
+ghost use Rattle.canon_reading.specs.Spots.{flat_in, stored};
+ghost use Rattle.canon_reading.specs.Taken.{boxed_taken, option_taken, result_taken};
 
 use crate::Lift;
 use crate::words::{word_at, word_u32};

@@ -2,20 +2,20 @@
 
 ghost use Rattle.std.specs.Prelude.{◌≡◌, ◌≤◌, ◌<◌, ◌+◌, ◌*◌, length};
 ghost use Rattle.canon_context.specs.Core.{types_of};
-ghost use Rattle.canon_lift.specs.Scopes.{fixed_kept};
+ghost use Rattle.canon_reading.specs.Scopes.{fixed_kept};
 ghost use Rattle.canon_model.specs.Layout.{flat};
 ghost use Rattle.canon_types.specs.Table.{Knows, shape_of};
 ghost use Rattle.canon_typed.specs.Charges.{row_cost};
 ghost use Rattle.canon_typed.specs.Meaning.{RowMeans};
 ghost use Rattle.canon_typed.specs.Types.{IsFixedOf};
-ghost use Rattle.canon_lift.specs.Apart.{as_apart, fixed_apart};
-ghost use Rattle.canon_lift.specs.Items.{vec_reading};
-ghost use Rattle.canon_lift.specs.OfTrees.{as_faulted, as_priced, as_told};
-ghost use Rattle.canon_lift.specs.Reading.{Lifts, setting_in};
-ghost use Rattle.canon_lift.specs.Spots.{flat_in};
-ghost use Rattle.canon_lift.specs.Readings.{fixed_reading, read_as};
-ghost use Rattle.canon_lift.specs.RowsOfTrees.{fixed_faulted, fixed_priced, fixed_told};
-ghost use Rattle.canon_lift.specs.Taken.{as_taken, fixed_taken};
+ghost use Rattle.canon_reading.specs.Apart.{as_apart, fixed_apart};
+ghost use Rattle.canon_reading.specs.Items.{vec_reading};
+ghost use Rattle.canon_reading.specs.OfTrees.{as_faulted, as_priced, as_told};
+ghost use Rattle.canon_reading.specs.Reading.{Lifts, setting_in};
+ghost use Rattle.canon_reading.specs.Spots.{flat_in};
+ghost use Rattle.canon_reading.specs.Readings.{fixed_reading, read_as};
+ghost use Rattle.canon_reading.specs.RowsOfTrees.{fixed_faulted, fixed_priced, fixed_told};
+ghost use Rattle.canon_reading.specs.Taken.{as_taken, fixed_taken};
 
 use crate::{Lift, WasmList};
 use canon_context::{Fault, LiftContext};

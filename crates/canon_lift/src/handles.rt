@@ -5,11 +5,11 @@ ghost use Rattle.canon_context.specs.Core.{types_of};
 ghost use Rattle.canon_context.specs.Faults.{resource_fault};
 ghost use Rattle.canon_context.specs.Lifter.{IsAfterSteps, IsOneOrigin, origin_of};
 ghost use Rattle.canon_leaves.specs.Parts.{LeafLifts};
-ghost use Rattle.canon_lift.specs.OwnScopes.{any_kept};
+ghost use Rattle.canon_reading.specs.OwnScopes.{any_kept};
 ghost use Rattle.canon_model.specs.Leaves.{leaf};
 ghost use Rattle.canon_types.specs.Table.{HasResource, Knows};
 ghost use Rattle.canon_typed.specs.Types.{IsHandleType};
-ghost use Rattle.canon_lift.specs.Handles.{HandleLifts, any_apart, any_faulted, any_priced, any_reading, any_taken, any_told, leaf_of};
+ghost use Rattle.canon_reading.specs.Handles.{HandleLifts, any_apart, any_faulted, any_priced, any_reading, any_taken, any_told, leaf_of};
 
 use crate::Lift;
 use crate::words::word_u32;

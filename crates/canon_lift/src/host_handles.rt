@@ -10,10 +10,10 @@ ghost use Rattle.canon_types.specs.Resource.{as_host_dynamic, resource_type_at};
 ghost use Rattle.canon_types.specs.Table.{HasResource, Knows};
 ghost use Rattle.canon_types.specs.declared.resource.ResourceType.{ResourceType as Kind};
 ghost use Rattle.canon_typed.specs.Types.{handle_type};
-ghost use Rattle.canon_lift.specs.Handles.{leaf_of};
-ghost use Rattle.canon_lift.specs.HostHandles.{HeldLifts, IsHandleWith, IsMadeBy, IsOfKind, RepLifts, held_apart, held_faulted, held_priced, held_reading, held_taken, held_told};
-ghost use Rattle.canon_lift.specs.OwnScopes.{held_kept};
-ghost use Rattle.canon_lift.specs.Ways.{rep_parts};
+ghost use Rattle.canon_reading.specs.Handles.{leaf_of};
+ghost use Rattle.canon_reading.specs.HostHandles.{HeldLifts, IsHandleWith, IsMadeBy, IsOfKind, RepLifts, held_apart, held_faulted, held_priced, held_reading, held_taken, held_told};
+ghost use Rattle.canon_reading.specs.OwnScopes.{held_kept};
+ghost use Rattle.canon_reading.specs.Ways.{rep_parts};
 
 use crate::Lift;
 use crate::handles::{Handle, refused};

@@ -1,7 +1,7 @@
 //! The laws of lifting, as contracts.
 
 ghost use Rattle.std.specs.Prelude.{IsTrue};
-ghost use Rattle.canon_lift.specs.Laws.{LiftsExactly};
+ghost use Rattle.canon_reading.specs.Laws.{LiftsExactly};
 
 use crate::Lift;
 

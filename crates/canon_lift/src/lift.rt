@@ -4,13 +4,13 @@ ghost use Rattle.std.specs.Prelude.{◌≡◌, ◌≤◌, ◌+◌, ◌%◌, IfEr
 ghost use Rattle.canon_context.specs.Core.{types_of};
 ghost use Rattle.canon_model.specs.Layout.{align, flat, size};
 ghost use Rattle.canon_types.specs.Table.{Knows, shape_of};
-ghost use Rattle.canon_lift.specs.Apart.{IsApart};
-ghost use Rattle.canon_lift.specs.Items.{into_reading, vec_reading};
-ghost use Rattle.canon_lift.specs.OfTrees.{IsFaulted, IsOfTrees, IsPriced};
+ghost use Rattle.canon_reading.specs.Apart.{IsApart};
+ghost use Rattle.canon_reading.specs.Items.{into_reading, vec_reading};
+ghost use Rattle.canon_reading.specs.OfTrees.{IsFaulted, IsOfTrees, IsPriced};
 ghost use Rattle.canon_lift.specs.Ranges.{HasItems};
-ghost use Rattle.canon_lift.specs.Reading.{AreTaken, Lifts, Reading, setting_in};
-ghost use Rattle.canon_lift.specs.Scopes.{IsKept};
-ghost use Rattle.canon_lift.specs.Spots.{flat_in, stored};
+ghost use Rattle.canon_reading.specs.Reading.{AreTaken, Lifts, Reading, setting_in};
+ghost use Rattle.canon_reading.specs.Scopes.{IsKept};
+ghost use Rattle.canon_reading.specs.Spots.{flat_in, stored};
 
 use crate::WasmList;
 use canon_context::{Fault, LiftContext};

@@ -1,12 +1,12 @@
 //! Vectors.
 
-ghost use Rattle.canon_lift.specs.Scopes.{list_kept};
+ghost use Rattle.canon_reading.specs.Scopes.{list_kept};
 ghost use Rattle.canon_typed.specs.Charges.{cap};
-ghost use Rattle.canon_lift.specs.Apart.{as_apart, list_apart};
-ghost use Rattle.canon_lift.specs.Readings.{list_reading, read_as};
-ghost use Rattle.canon_lift.specs.RowsOfTrees.{list_faulted, list_priced, list_told};
-ghost use Rattle.canon_lift.specs.OfTrees.{as_faulted, as_priced, as_told};
-ghost use Rattle.canon_lift.specs.Taken.{as_taken, list_taken};
+ghost use Rattle.canon_reading.specs.Apart.{as_apart, list_apart};
+ghost use Rattle.canon_reading.specs.Readings.{list_reading, read_as};
+ghost use Rattle.canon_reading.specs.RowsOfTrees.{list_faulted, list_priced, list_told};
+ghost use Rattle.canon_reading.specs.OfTrees.{as_faulted, as_priced, as_told};
+ghost use Rattle.canon_reading.specs.Taken.{as_taken, list_taken};
 ghost use Rattle.canon_typed.specs.Charges.{list_cost};
 ghost use Rattle.canon_typed.specs.Meaning.{ListMeans};
 ghost use Rattle.canon_typed.specs.Types.{IsListOf};

@@ -3,18 +3,18 @@
 ghost use Rattle.std.specs.Prelude.{◌≡◌, ◌≤◌, ◌<◌, ◌+◌, ◌*◌, ◌%◌, ◌^◌, ◌&&◌, ◌++◌, ◌∷◌, [], List, OnOk, false, length};
 ghost use Rattle.canon_abi.specs.Abi.{HasLayout};
 ghost use Rattle.canon_context.specs.Core.{types_of};
-ghost use Rattle.canon_lift.specs.Scopes.{map_kept};
+ghost use Rattle.canon_reading.specs.Scopes.{map_kept};
 ghost use Rattle.canon_model.specs.Layout.{align, begins, ends, size};
 ghost use Rattle.canon_model.specs.Shape.{Shape, tuple};
 ghost use Rattle.canon_types.specs.Table.{Knows, shape_of};
 ghost use Rattle.canon_typed.specs.Charges.{cap};
 ghost use Rattle.canon_typed.specs.Maps.{IsFilledWith};
-ghost use Rattle.canon_lift.specs.Apart.{map_apart};
-ghost use Rattle.canon_lift.specs.MapsOfTrees.{map_faulted, map_priced, map_reading, map_taken, map_told, pair_reading, pairs_reading};
-ghost use Rattle.canon_lift.specs.OfTrees.{left_true, right_true};
+ghost use Rattle.canon_reading.specs.Apart.{map_apart};
+ghost use Rattle.canon_reading.specs.MapsOfTrees.{map_faulted, map_priced, map_reading, map_taken, map_told, pair_reading, pairs_reading};
+ghost use Rattle.canon_reading.specs.OfTrees.{left_true, right_true};
 ghost use Rattle.canon_lift.specs.Ranges.{RangeTested};
-ghost use Rattle.canon_lift.specs.Reading.{Lifts, setting_in};
-ghost use Rattle.canon_lift.specs.Spots.{stored};
+ghost use Rattle.canon_reading.specs.Reading.{Lifts, setting_in};
+ghost use Rattle.canon_reading.specs.Spots.{stored};
 
 use crate::Lift;
 use crate::words::{word_at, word_u32};

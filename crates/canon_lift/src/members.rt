@@ -9,10 +9,10 @@ ghost use Rattle.canon_types.specs.Table as table;
 ghost use Rattle.canon_types.specs.Table.{HasTuple, members_of};
 ghost use Rattle.canon_types.specs.declared.types.InterfaceType.{InterfaceType};
 ghost use Rattle.canon_typed.specs.Types.{AreOf};
-ghost use Rattle.canon_lift.specs.Reading.{Lifts, setting_in};
-ghost use Rattle.canon_lift.specs.Readings.{RestReading, first_reading, none_reading};
-ghost use Rattle.canon_lift.specs.Rests.{rest_reading};
-ghost use Rattle.canon_lift.specs.Spots.{flat_from, flat_in, stored, stored_from};
+ghost use Rattle.canon_reading.specs.Reading.{Lifts, setting_in};
+ghost use Rattle.canon_reading.specs.Readings.{RestReading, first_reading, none_reading};
+ghost use Rattle.canon_reading.specs.Rests.{rest_reading};
+ghost use Rattle.canon_reading.specs.Spots.{flat_from, flat_in, stored, stored_from};
 
 use crate::Lift;
 use canon_context::{Fault, LiftContext};

@@ -1,14 +1,14 @@
 //! Integers, floats by their bits, `bool` and `char`.
 
 ghost use Rattle.std.specs.Prelude.{◌≡◌, false, pos, refl};
-ghost use Rattle.canon_lift.specs.Scopes.{plain_kept};
+ghost use Rattle.canon_reading.specs.Scopes.{plain_kept};
 ghost use Rattle.canon_model.specs.Shape as shape;
 ghost use Rattle.canon_model.specs.Tree.{code_point, number, truth};
 ghost use Rattle.canon_types.specs.declared.types.InterfaceType.TheVariants as ty;
-ghost use Rattle.canon_lift.specs.Apart.{tree_apart};
-ghost use Rattle.canon_lift.specs.OfTrees.{scalar_priced, scalar_told, tree_faulted};
-ghost use Rattle.canon_lift.specs.Readings.{scalar_reading};
-ghost use Rattle.canon_lift.specs.Taken.{scalar_taken};
+ghost use Rattle.canon_reading.specs.Apart.{tree_apart};
+ghost use Rattle.canon_reading.specs.OfTrees.{scalar_priced, scalar_told, tree_faulted};
+ghost use Rattle.canon_reading.specs.Readings.{scalar_reading};
+ghost use Rattle.canon_reading.specs.Taken.{scalar_taken};
 
 use crate::Lift;
 use crate::words::{word_at, word_u8, word_u16, word_u32, word_u64};

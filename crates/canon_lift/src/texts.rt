@@ -2,16 +2,16 @@
 
 ghost use Rattle.std.specs.Prelude.{◌≡◌, ◌<◌, ◌≤◌, ◌^◌, IfErr, IfOk, refl, true};
 ghost use Rattle.canon_context.specs.Told.{Exactly, IsNoRefusal, LiftBlames, place_of};
-ghost use Rattle.canon_lift.specs.Scopes.{plain_kept};
+ghost use Rattle.canon_reading.specs.Scopes.{plain_kept};
 ghost use Rattle.canon_model.specs.Reach.{TextFault, text_reach};
 ghost use Rattle.canon_string.specs.Loading.{IsTextLoaded};
 ghost use Rattle.canon_context.specs.Core.{encoding_by};
 ghost use Rattle.canon_lowering.specs.Storing.{narrow};
 ghost use Rattle.canon_typed.specs.Meaning.{TextMeans};
-ghost use Rattle.canon_lift.specs.Apart.{tree_apart};
-ghost use Rattle.canon_lift.specs.OfTrees.{text_priced, text_told, tree_faulted};
-ghost use Rattle.canon_lift.specs.Readings.{text_charge, text_reading};
-ghost use Rattle.canon_lift.specs.Taken.{tree_taken};
+ghost use Rattle.canon_reading.specs.Apart.{tree_apart};
+ghost use Rattle.canon_reading.specs.OfTrees.{text_priced, text_told, tree_faulted};
+ghost use Rattle.canon_reading.specs.Readings.{text_charge, text_reading};
+ghost use Rattle.canon_reading.specs.Taken.{tree_taken};
 
 use crate::Lift;
 use crate::words::{word_at, word_u32};

@@ -1,13 +1,13 @@
 //! Tuples of up to six members.
 
 ghost use Rattle.std.specs.Prelude.{◌&&◌, ◌∷◌, []};
-ghost use Rattle.canon_lift.specs.Apart.{end_apart, more_apart, product_apart};
+ghost use Rattle.canon_reading.specs.Apart.{end_apart, more_apart, product_apart};
 ghost use Rattle.canon_lift.specs.Firsts.{FirstHave, NoneHave, first_and, first_in, no_more, rest_in};
-ghost use Rattle.canon_lift.specs.OfTrees.{left_true, right_true};
-ghost use Rattle.canon_lift.specs.Readings.{first_reading, none_reading, product_reading};
-ghost use Rattle.canon_lift.specs.RowsOfTrees.{end_faulted, end_priced, end_told, more_faulted, more_priced, more_told, tuple_faulted, tuple_priced, tuple_told};
-ghost use Rattle.canon_lift.specs.Scopes.{end_kept, more_kept, tuple_kept};
-ghost use Rattle.canon_lift.specs.Taken.{end_taken, more_taken, product_taken};
+ghost use Rattle.canon_reading.specs.OfTrees.{left_true, right_true};
+ghost use Rattle.canon_reading.specs.Readings.{first_reading, none_reading, product_reading};
+ghost use Rattle.canon_reading.specs.RowsOfTrees.{end_faulted, end_priced, end_told, more_faulted, more_priced, more_told, tuple_faulted, tuple_priced, tuple_told};
+ghost use Rattle.canon_reading.specs.Scopes.{end_kept, more_kept, tuple_kept};
+ghost use Rattle.canon_reading.specs.Taken.{end_taken, more_taken, product_taken};
 
 use crate::Lift;
 use crate::members::{First, LiftMembers};

@@ -3,20 +3,19 @@
 ghost use Rattle.std.specs.Prelude.{◌≡◌, ◌↔◌, ◌≤◌, ◌<◌, ◌+◌, ◌*◌, ◌%◌, ◌^◌, IfNone, IfSome, IsNone, IsTrue, false, length, ℕ};
 ghost use Rattle.canon_context.specs.Core.{types_of};
 ghost use Rattle.std.proofs.Common.{refl};
-ghost use Rattle.canon_lift.specs.Scopes.{plain_kept};
+ghost use Rattle.canon_reading.specs.Scopes.{plain_kept};
 ghost use Rattle.canon_types.specs.Table.{Knows, shape_of};
 ghost use Rattle.canon_types.specs.declared.types.InterfaceType.TheVariants as ty;
 ghost use Rattle.canon_typed.specs.Charges.{cap, free, list_cost};
 ghost use Rattle.canon_typed.specs.Types.{IsListOf};
-ghost use Rattle.canon_lift.specs.Apart.{wasm_list_apart};
-ghost use Rattle.canon_lift.specs.OfTrees.{untrue};
-ghost use Rattle.canon_lift.specs.RowsOfTrees.{wasm_list_faulted, wasm_list_priced};
+ghost use Rattle.canon_lift.specs.RangesOfTrees.{wasm_list_apart, wasm_list_faulted, wasm_list_priced};
+ghost use Rattle.canon_reading.specs.OfTrees.{untrue};
 ghost use Rattle.canon_lift.specs.Ranges.{IsListFrom, IsListOfCore, ListTested, wasm_list_reading};
-ghost use Rattle.canon_lift.specs.Reading.{Lifts, setting_in};
-ghost use Rattle.canon_lift.specs.Readings.{item_spot};
-ghost use Rattle.canon_lift.specs.Spots.{stored};
+ghost use Rattle.canon_reading.specs.Reading.{Lifts, setting_in};
+ghost use Rattle.canon_reading.specs.Readings.{item_spot};
+ghost use Rattle.canon_reading.specs.Spots.{stored};
 ghost use Rattle.canon_lowering.specs.Storing.{narrow};
-ghost use Rattle.canon_lift.specs.Taken.{none_taken};
+ghost use Rattle.canon_reading.specs.Taken.{none_taken};
 ghost use Rattle.canon_lift.specs.Views.{ListFits};
 ghost use Rattle.canon_model.specs.Memory.{bytes_at};
 

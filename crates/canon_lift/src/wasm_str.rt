@@ -3,16 +3,16 @@
 ghost use Rattle.std.specs.Prelude.{◌≡◌, ◌↔◌, ◌%◌, IfErr, IfOk, IsTrue, false, length, refl};
 ghost use Rattle.canon_context.specs.Component.{encoding_at};
 ghost use Rattle.canon_indices.specs.Options.{encoding_of};
-ghost use Rattle.canon_lift.specs.Scopes.{plain_kept};
+ghost use Rattle.canon_reading.specs.Scopes.{plain_kept};
 ghost use Rattle.canon_model.specs.Text.{in_utf16, text_align, text_bytes};
 ghost use Rattle.canon_model.specs.Tree.{text_length};
 ghost use Rattle.canon_text.specs.Decoding.{Decodes, cow_text, is_borrowed};
 ghost use Rattle.canon_types.specs.declared.types.InterfaceType.TheVariants as ty;
-ghost use Rattle.canon_lift.specs.Apart.{wasm_str_apart};
-ghost use Rattle.canon_lift.specs.OfTrees.{text_priced, untrue, wasm_str_faulted};
+ghost use Rattle.canon_lift.specs.RangesOfTrees.{wasm_str_apart, wasm_str_faulted};
+ghost use Rattle.canon_reading.specs.OfTrees.{text_priced, untrue};
 ghost use Rattle.canon_lift.specs.Ranges.{TextTested, wasm_str_reading};
-ghost use Rattle.canon_lift.specs.Reading.{setting_in};
-ghost use Rattle.canon_lift.specs.Taken.{none_taken};
+ghost use Rattle.canon_reading.specs.Reading.{setting_in};
+ghost use Rattle.canon_reading.specs.Taken.{none_taken};
 ghost use Rattle.canon_lift.specs.Views.{IsTextOf, TextFits, TextLost, WideLost, text_in};
 
 use crate::Lift;

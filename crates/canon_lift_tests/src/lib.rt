@@ -2,8 +2,6 @@
 #![tactic(auto)]
 
 #[cfg(test)]
-mod resources;
-#[cfg(test)]
 mod tests;
 #[cfg(test)]
 mod views;

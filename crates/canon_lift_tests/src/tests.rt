@@ -1,94 +1,27 @@
 //! Each Rust type lifted once, from memory and from words, at its cost. Values by CanonicalABI.md's "load" and "lift_flat",
 //! costs by the table of docs/TYPED.md.
 
-ghost use Rattle.std.specs.Prelude.{◌≡◌, ◌≤◌, ◌+◌, ◌*◌, ◌%◌, IfOk, IfSome, IsTrue, false, length};
-ghost use Rattle.canon_context.specs.Core.{types_of};
-ghost use Rattle.canon_model.specs.Layout.{align, flat, size};
-ghost use Rattle.canon_types.specs.Table.{Knows, shape_of};
+ghost use Rattle.std.specs.Prelude.{◌≡◌, IfOk, length};
 
-use canon_context::{At, Component, Core, Fault, LiftContext};
+use canon_context::{At, Fault, LiftContext};
 use canon_lift::{Lift, WasmList, WasmStr};
-use canon_memory::{Memory, ValRaw};
-use canon_scripted::ScriptedGuest;
-use canon_typed::{ComponentType, FixedList, Float32Bits, Float64Bits};
-use canon_types::{
-    CanonicalOptions, ComponentTypes, InstanceType, InterfaceType, OptionsIndex, RuntimeInstance,
-    StoreId, StringEncoding, TypeBuilder,
+use canon_memory::ValRaw;
+use canon_test_core::{
+    TestCore, Typed, core_of, has_room, has_words, list_of, memory_of, option_of, plain, result_of,
+    tuple_of,
 };
+use canon_typed::{FixedList, Float32Bits, Float64Bits};
+use canon_types::{ComponentTypes, InterfaceType, OptionsIndex, StringEncoding, TypeBuilder};
 use std::alloc::Global;
 use std::collections::HashMap;
 use std::test::Fail;
 
-pub(crate) type TestCore = Core<u32, ScriptedGuest>;
-
-/// Types, and one of them.
-pub(crate) type Typed = (ComponentTypes, InterfaceType);
-
-/// A core of these types, of 64 bytes of memory that begins with these, and of 1,000 of fuel.
-pub(crate) fn core_of(alloc: Global, types: ComponentTypes, bytes: &[u8]) -> Result<TestCore, Fail>
+/// A core of these types, whose memory begins with these bytes.
+pub(crate) fn core_with(alloc: Global, types: ComponentTypes, bytes: &[u8]) -> Result<TestCore, Fail>
     ensures options { IfOk result (λ c. length c.component.options.items ≡ 1) }
 {
-    let options = CanonicalOptions {
-        instance: RuntimeInstance::from_u32(3),
-        string_encoding: StringEncoding::Utf8,
-        async_: false,
-        post_return: None,
-    };
-    let component = Component {
-        types: InstanceType::new(types, StoreId::from_u64(6)),
-        options: vec![in alloc; options]?,
-        exports: Vec::new(alloc),
-        imports: Vec::new(alloc),
-    };
-    let guest = ScriptedGuest::new(alloc, 1024);
-    let mut memory = Memory::new(alloc, 64)?;
-    if bytes.len() > 64 {
-        return Err(Fail::from("too many bytes"));
-    }
-    memory.as_slice_mut()[..bytes.len()].copy_from_slice(bytes);
-    Ok(Core::new(
-        alloc,
-        StoreId::from_u64(6),
-        5,
-        guest,
-        memory,
-        component,
-        100,
-        1_000,
-    )?)
-}
-
-/// Whether a type of the core is the Rust type's, and a value has room at 0.
-pub(crate) fn has_room<T: ComponentType>(core: &TestCore, ty: &InterfaceType) -> bool
-    ensures known { IsTrue result → Knows (types_of core.now) ty.now }
-    ensures fits { IsTrue result → T.fits core.now.component.types ty.now }
-    ensures room { IsTrue result → 0 + size false (shape_of (types_of core.now) ty.now) ≤ length core.now.memory }
-{
-    let types = &core.component().types;
-    if !types.types().contains(ty) || T::typecheck(ty, types).is_err() {
-        return false;
-    }
-    u64::from(types.types().canonical_abi(ty).size32) <= core.memory().len()
-}
-
-/// Whether a type of the core is the Rust type's, and these are its words.
-pub(crate) fn has_words<T: ComponentType>(
-    core: &TestCore,
-    ty: &InterfaceType,
-    words: &[ValRaw],
-) -> bool
-    ensures known { IsTrue result → Knows (types_of core.now) ty.now }
-    ensures fits { IsTrue result → T.fits core.now.component.types ty.now }
-    ensures words { IsTrue result → 0 + flat (shape_of (types_of core.now) ty.now) ≤ length words.now }
-{
-    let types = &core.component().types;
-    if !types.types().contains(ty) || T::typecheck(ty, types).is_err() {
-        return false;
-    }
-    match types.types().canonical_abi(ty).flat {
-        Some(count) => count as usize <= words.len(),
-        None => false,
-    }
+    let memory = memory_of(alloc, bytes)?;
+    Ok(core_of(alloc, StringEncoding::Utf8, types, memory)?)
 }
 
 /// What the bytes of memory are lifted to, and what it cost. None where the type isn't the Rust type's.
@@ -98,8 +31,8 @@ fn loaded<T: Lift>(
     bytes: &[u8],
 ) -> Result<(Result<T, Fault>, u64), Fail> {
     let (types, ty) = typed;
-    let mut core = core_of(alloc, types, bytes)?;
-    if !has_room::<T>(&core, &ty) {
+    let mut core = core_with(alloc, types, bytes)?;
+    if !has_room::<T>(&core, &ty, 0, 1) {
         return Err(Fail::from("another type"));
     }
     let mut cx = LiftContext::new(&mut core, OptionsIndex::from_u32(0));
@@ -116,7 +49,7 @@ fn lifted<T: Lift>(
     bytes: &[u8],
 ) -> Result<(Result<T, Fault>, u64), Fail> {
     let (types, ty) = typed;
-    let mut core = core_of(alloc, types, bytes)?;
+    let mut core = core_with(alloc, types, bytes)?;
     if !has_words::<T>(&core, &ty, words) {
         return Err(Fail::from("another type"));
     }
@@ -164,39 +97,6 @@ fn fails<T: Lift>(alloc: Global, typed: Typed, bytes: &[u8], fault: Fault) -> Re
         Ok(_) => Ok(false),
         Err(error) => Ok(error == fault),
     }
-}
-
-/// A type that needs no table.
-pub(crate) fn plain(alloc: Global, ty: InterfaceType) -> Typed {
-    (TypeBuilder::new(alloc).finish(), ty)
-}
-
-fn option_of(alloc: Global, some: InterfaceType) -> Result<Typed, Fail> {
-    let mut types = TypeBuilder::new(alloc);
-    let ty = types.add_option(some)?;
-    Ok((types.finish(), ty))
-}
-
-fn result_of(
-    alloc: Global,
-    ok: Option<InterfaceType>,
-    err: Option<InterfaceType>,
-) -> Result<Typed, Fail> {
-    let mut types = TypeBuilder::new(alloc);
-    let ty = types.add_result(ok, err)?;
-    Ok((types.finish(), ty))
-}
-
-fn tuple_of(alloc: Global, members: &[InterfaceType]) -> Result<Typed, Fail> {
-    let mut types = TypeBuilder::new(alloc);
-    let ty = types.add_tuple(members.to_vec(alloc)?)?;
-    Ok((types.finish(), ty))
-}
-
-pub(crate) fn list_of(alloc: Global, element: InterfaceType) -> Result<Typed, Fail> {
-    let mut types = TypeBuilder::new(alloc);
-    let ty = types.add_list(element)?;
-    Ok((types.finish(), ty))
 }
 
 #[test]

@@ -1,8 +1,9 @@
 //! Texts and lists that stay in memory, read there: texts by CanonicalABI.md's "load_string_from_range", integers by its "load_int".
 
-use crate::tests::{TestCore, Typed, core_of, has_room, list_of, plain};
+use crate::tests::core_with;
 use canon_context::LiftContext;
 use canon_lift::{Lift, WasmList, WasmStr};
+use canon_test_core::{TestCore, Typed, has_room, list_of, plain};
 use canon_types::{InterfaceType, OptionsIndex};
 use std::alloc::Global;
 use std::test::Fail;
@@ -10,8 +11,8 @@ use std::test::Fail;
 /// What stays in a core whose memory begins with these bytes.
 fn stays<T: Lift>(alloc: Global, typed: Typed, bytes: &[u8]) -> Result<(TestCore, T), Fail> {
     let (types, ty) = typed;
-    let mut core = core_of(alloc, types, bytes)?;
-    if !has_room::<T>(&core, &ty) {
+    let mut core = core_with(alloc, types, bytes)?;
+    if !has_room::<T>(&core, &ty, 0, 1) {
         return Err(Fail::from("another type"));
     }
     let mut cx = LiftContext::new(&mut core, OptionsIndex::from_u32(0));

@@ -1,86 +1,29 @@
 //! Each Rust type lowered once, to words and into memory, from an owned and from a shared value. Words and bytes by
 //! CanonicalABI.md's "lower_flat" and "store".
 
-ghost use Rattle.std.specs.Prelude.{◌≡◌, ◌≤◌, ◌+◌, ◌*◌, IfOk, IfSome, IsTrue, false, length};
-ghost use Rattle.canon_context.specs.Core.{types_of};
-ghost use Rattle.canon_model.specs.Layout.{flat, size};
-ghost use Rattle.canon_types.specs.Table.{Knows, shape_of};
+ghost use Rattle.std.specs.Prelude.{◌≡◌, IfOk, length};
 
-use canon_context::{Component, Core, LowerContext};
+use canon_context::LowerContext;
 use canon_lower::{Lower, LowerShared};
 use canon_memory::{Memory, ValRaw};
-use canon_scripted::ScriptedGuest;
-use canon_typed::{ComponentType, FixedList, Float32Bits, Float64Bits};
-use canon_types::{
-    CanonicalOptions, ComponentTypes, InstanceType, InterfaceType, OptionsIndex, RuntimeInstance,
-    StoreId, StringEncoding, TypeBuilder,
+use canon_test_core::{
+    TestCore, Typed, core_of, fixed_of, has_room, list_of, map_of, option_of, plain, result_of,
+    tuple_of, word_count,
 };
+use canon_typed::{FixedList, Float32Bits, Float64Bits};
+use canon_types::{ComponentTypes, InterfaceType, OptionsIndex, StringEncoding, TypeBuilder};
 use std::alloc::Global;
 use std::collections::HashMap;
 use std::test::Fail;
 
-type TestCore = Core<u32, ScriptedGuest>;
-
-/// A core of these types, of 2,048 bytes of memory, each 0xaa, and of a guest that allocates from 1024 up.
-fn core_of(alloc: Global, types: ComponentTypes) -> Result<TestCore, Fail>
+/// A core of these types, of 2,048 bytes of memory, each 0xaa.
+fn core_with(alloc: Global, types: ComponentTypes) -> Result<TestCore, Fail>
     ensures options { IfOk result (λ c. length c.component.options.items ≡ 1) }
 {
-    let options = CanonicalOptions {
-        instance: RuntimeInstance::from_u32(3),
-        string_encoding: StringEncoding::Utf8,
-        async_: false,
-        post_return: None,
-    };
-    let component = Component {
-        types: InstanceType::new(types, StoreId::from_u64(6)),
-        options: vec![in alloc; options]?,
-        exports: Vec::new(alloc),
-        imports: Vec::new(alloc),
-    };
-    let guest = ScriptedGuest::new(alloc, 1024);
     let mut memory = Memory::new(alloc, 2048)?;
     memory.as_slice_mut().fill(0xaa);
-    Ok(Core::new(
-        alloc,
-        StoreId::from_u64(6),
-        5,
-        guest,
-        memory,
-        component,
-        100,
-        1_000,
-    )?)
+    Ok(core_of(alloc, StringEncoding::Utf8, types, memory)?)
 }
-
-/// How many words a type of the core has, where it is the Rust type's and has at most 16.
-fn count_of<T: ComponentType>(core: &TestCore, ty: &InterfaceType) -> Option<u8>
-    ensures known { IfSome result (λ n. Knows (types_of core.now) ty.now) }
-    ensures fits { IfSome result (λ n. T.fits core.now.component.types ty.now) }
-    ensures count { IfSome result (λ n. n ≡ flat (shape_of (types_of core.now) ty.now)) }
-{
-    let types = &core.component().types;
-    if !types.types().contains(ty) || T::typecheck(ty, types).is_err() {
-        return None;
-    }
-    types.types().canonical_abi(ty).flat
-}
-
-/// Whether a type of the core is the Rust type's, and so many values in a row have room at 8.
-fn has_room<T: ComponentType>(core: &TestCore, ty: &InterfaceType, values: u32) -> bool
-    ensures known { IsTrue result → Knows (types_of core.now) ty.now }
-    ensures fits { IsTrue result → T.fits core.now.component.types ty.now }
-    ensures room { IsTrue result → 8 + values * size false (shape_of (types_of core.now) ty.now) ≤ length core.now.memory }
-{
-    let types = &core.component().types;
-    if !types.types().contains(ty) || T::typecheck(ty, types).is_err() {
-        return false;
-    }
-    let size = types.types().canonical_abi(ty).size32;
-    8 + u64::from(values) * u64::from(size) <= core.memory().len()
-}
-
-/// Types, and one of them.
-type Typed = (ComponentTypes, InterfaceType);
 
 /// Whether a value is lowered to these words, each of which was 9 before, and memory has these bytes at 1024 then.
 fn lowers_to<T: Lower>(
@@ -91,8 +34,8 @@ fn lowers_to<T: Lower>(
     block: &[u8],
 ) -> Result<bool, Fail> {
     let (types, ty) = typed;
-    let mut core = core_of(alloc, types)?;
-    let Some(count) = count_of::<T>(&core, &ty) else {
+    let mut core = core_with(alloc, types)?;
+    let Some(count) = word_count::<T>(&core, &ty) else {
         return Ok(false);
     };
     let mut words = vec![in alloc; ValRaw::u64(9); count as usize]?;
@@ -110,8 +53,8 @@ fn shared_lowers_to<T: LowerShared>(
     block: &[u8],
 ) -> Result<bool, Fail> {
     let (types, ty) = typed;
-    let mut core = core_of(alloc, types)?;
-    let Some(count) = count_of::<T>(&core, &ty) else {
+    let mut core = core_with(alloc, types)?;
+    let Some(count) = word_count::<T>(&core, &ty) else {
         return Ok(false);
     };
     let mut words = vec![in alloc; ValRaw::u64(9); count as usize]?;
@@ -129,8 +72,8 @@ fn stores_as<T: Lower>(
     block: &[u8],
 ) -> Result<bool, Fail> {
     let (types, ty) = typed;
-    let mut core = core_of(alloc, types)?;
-    if !has_room::<T>(&core, &ty, 1) {
+    let mut core = core_with(alloc, types)?;
+    if !has_room::<T>(&core, &ty, 8, 1) {
         return Ok(false);
     }
     let mut cx = LowerContext::new(&mut core, OptionsIndex::from_u32(0));
@@ -147,8 +90,8 @@ fn shared_stores_as<T: LowerShared>(
     block: &[u8],
 ) -> Result<bool, Fail> {
     let (types, ty) = typed;
-    let mut core = core_of(alloc, types)?;
-    if !has_room::<T>(&core, &ty, 1) {
+    let mut core = core_with(alloc, types)?;
+    if !has_room::<T>(&core, &ty, 8, 1) {
         return Ok(false);
     }
     let mut cx = LowerContext::new(&mut core, OptionsIndex::from_u32(0));
@@ -162,53 +105,7 @@ fn has(core: &TestCore, at: u64, bytes: &[u8]) -> bool {
     at <= memory.len() as u64 && memory[at as usize..].starts_with(bytes)
 }
 
-/// A type that needs no table.
-fn plain(alloc: Global, ty: InterfaceType) -> Typed {
-    (TypeBuilder::new(alloc).finish(), ty)
-}
-
-fn option_of(alloc: Global, some: InterfaceType) -> Result<Typed, Fail> {
-    let mut types = TypeBuilder::new(alloc);
-    let ty = types.add_option(some)?;
-    Ok((types.finish(), ty))
-}
-
-fn result_of(
-    alloc: Global,
-    ok: Option<InterfaceType>,
-    err: Option<InterfaceType>,
-) -> Result<Typed, Fail> {
-    let mut types = TypeBuilder::new(alloc);
-    let ty = types.add_result(ok, err)?;
-    Ok((types.finish(), ty))
-}
-
-fn tuple_of(alloc: Global, members: &[InterfaceType]) -> Result<Typed, Fail> {
-    let mut types = TypeBuilder::new(alloc);
-    let ty = types.add_tuple(members.to_vec(alloc)?)?;
-    Ok((types.finish(), ty))
-}
-
-fn list_of(alloc: Global, element: InterfaceType) -> Result<Typed, Fail> {
-    let mut types = TypeBuilder::new(alloc);
-    let ty = types.add_list(element)?;
-    Ok((types.finish(), ty))
-}
-
-fn fixed_of(alloc: Global, element: InterfaceType, size: u32) -> Result<Typed, Fail> {
-    let mut types = TypeBuilder::new(alloc);
-    let ty = types.add_fixed_length_list(element, size)?;
-    Ok((types.finish(), ty))
-}
-
-/// The type of maps from u8 to u8.
-fn map_type(alloc: Global) -> Result<Typed, Fail> {
-    let mut types = TypeBuilder::new(alloc);
-    let ty = types.add_map(InterfaceType::U8, InterfaceType::U8)?;
-    Ok((types.finish(), ty))
-}
-
-/// The type of lists of such maps.
+/// The type of lists of maps from u8 to u8.
 fn maps_type(alloc: Global) -> Result<Typed, Fail> {
     let mut types = TypeBuilder::new(alloc);
     let map = types.add_map(InterfaceType::U8, InterfaceType::U8)?;
@@ -217,7 +114,7 @@ fn maps_type(alloc: Global) -> Result<Typed, Fail> {
 }
 
 /// A map from 1 to 10.
-fn map_of(alloc: Global) -> Result<HashMap<u8, u8>, Fail> {
+fn one_to_ten(alloc: Global) -> Result<HashMap<u8, u8>, Fail> {
     let mut map = HashMap::new(alloc);
     map.insert(1, 10)?;
     Ok(map)
@@ -383,13 +280,13 @@ fn maps_are_blocks_of_pairs(rt: HostRuntime) -> Result<(), Fail> {
     assert!(rt;
         shared_lowers_to(
             alloc,
-            map_type(alloc)?,
-            &map_of(alloc)?,
+            map_of(alloc, InterfaceType::U8, InterfaceType::U8)?,
+            &one_to_ten(alloc)?,
             &one,
             &[1, 10, 0xaa]
         )?
     );
-    let maps = vec![in alloc; map_of(alloc)?]?;
+    let maps = vec![in alloc; one_to_ten(alloc)?]?;
     assert!(rt;
         lowers_to(
             alloc,
@@ -447,8 +344,8 @@ fn texts_lists_and_maps_are_stored(rt: HostRuntime) -> Result<(), Fail> {
     assert!(rt;
         stores_as(
             alloc,
-            map_type(alloc)?,
-            map_of(alloc)?,
+            map_of(alloc, InterfaceType::U8, InterfaceType::U8)?,
+            one_to_ten(alloc)?,
             &one,
             &[1, 10, 0xaa]
         )?
@@ -459,9 +356,9 @@ fn texts_lists_and_maps_are_stored(rt: HostRuntime) -> Result<(), Fail> {
 /// Whether two numbers in a row are stored at 8 as these bytes, by the call on owned values and by that on shared ones.
 fn stores_row(alloc: Global, mut items: [u16; 2], bytes: &[u8]) -> Result<bool, Fail> {
     let ty = InterfaceType::U16;
-    let mut core = core_of(alloc, TypeBuilder::new(alloc).finish())?;
-    let mut shared = core_of(alloc, TypeBuilder::new(alloc).finish())?;
-    if !has_room::<u16>(&core, &ty, 2) || !has_room::<u16>(&shared, &ty, 2) {
+    let mut core = core_with(alloc, TypeBuilder::new(alloc).finish())?;
+    let mut shared = core_with(alloc, TypeBuilder::new(alloc).finish())?;
+    if !has_room::<u16>(&core, &ty, 8, 2) || !has_room::<u16>(&shared, &ty, 8, 2) {
         return Ok(false);
     }
     let mut cx = LowerContext::new(&mut shared, OptionsIndex::from_u32(0));

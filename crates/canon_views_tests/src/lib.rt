@@ -1,10 +1,8 @@
-//! Tests of texts and lists that stay in memory, and of lent resources of the host.
+//! Tests of texts and lists that stay in memory.
 #![tactic(auto)]
 
 #[cfg(test)]
 mod lists;
-#[cfg(test)]
-mod resources;
 #[cfg(test)]
 mod stays;
 #[cfg(test)]

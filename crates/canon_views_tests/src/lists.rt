@@ -2,10 +2,11 @@
 
 ghost use Rattle.std.specs.Prelude.{◌≡◌, IfOk, length};
 
-use crate::stays::{TestCore, stays};
+use crate::stays::stays;
 use canon_context::LiftContext;
 use canon_lift::{Lift, WasmList};
-use canon_types::{InterfaceType, OptionsIndex, TypeBuilder};
+use canon_test_core::{TestCore, list_of};
+use canon_types::{InterfaceType, OptionsIndex, StringEncoding};
 use std::alloc::Global;
 use std::test::Fail;
 
@@ -14,9 +15,8 @@ fn row(alloc: Global) -> Result<(TestCore, WasmList<u16>), Fail>
     ensures options { IfOk result (λ r. length r.0.component.options.items ≡ 1) }
 {
     let bytes = [8, 0, 0, 0, 3, 0, 0, 0, 1, 0, 2, 1, 0xff, 0xff];
-    let mut types = TypeBuilder::new(alloc);
-    let ty = types.add_list(InterfaceType::U16)?;
-    stays::<WasmList<u16>>(alloc, types.finish(), ty, &bytes)
+    let typed = list_of(alloc, InterfaceType::U16)?;
+    stays::<WasmList<u16>>(alloc, StringEncoding::Utf8, typed, &bytes)
 }
 
 fn gives_three(alloc: Global) -> Result<bool, Fail> {

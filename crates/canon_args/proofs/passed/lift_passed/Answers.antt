@@ -1,8 +1,8 @@
 use Rattle.std.proofs.Common.{ap, arith, subst, sym, ◌∙◌, ◌≡◌, ◌≤◌}
 use Rattle.std.proofs.lemmas.Bool.{cond-false, cond-true, le-leb, lt-leb}
 use Rattle.canon_context.specs.Core.{types_of}
-use Rattle.canon_lift.specs.Reading.{Lifts, setting_in}
-use Rattle.canon_lift.specs.Spots.{flat_in}
+use Rattle.canon_reading.specs.Reading.{Lifts, setting_in}
+use Rattle.canon_reading.specs.Spots.{flat_in}
 use Rattle.canon_model.specs.Layout.{flat, members_flat}
 use Rattle.canon_model.specs.Shape.{Shape, of_places, product}
 use Rattle.canon_types.specs.Table.{Table, shape_of, tuple_members}

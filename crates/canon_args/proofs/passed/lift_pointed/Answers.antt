@@ -2,7 +2,7 @@ use Rattle.std.proofs.Common.{ap, arith, false, length, subst, sym, ℕ, ◌%◌
 use Rattle.std.proofs.lemmas.List.{get_or_default}
 use Rattle.std.specs.Prelude.{slice_index}
 use Rattle.canon_context.specs.Core.{types_of}
-use Rattle.canon_lift.specs.Reading.{setting_in}
+use Rattle.canon_reading.specs.Reading.{setting_in}
 use Rattle.canon_model.specs.Layout.{align, size}
 use Rattle.canon_model.specs.Memory.{low}
 use Rattle.canon_model.specs.Shape.{of_places, product}

@@ -1,7 +1,7 @@
 use Rattle.std.proofs.Common.{rules, subst, ℕ, ◌≡◌}
 use Rattle.canon_args.specs.Returned.{passed_reading}
 use Rattle.canon_context.specs.Core.{Parts, types_of}
-use Rattle.canon_lift.specs.Reading.{setting_in}
+use Rattle.canon_reading.specs.Reading.{setting_in}
 use Rattle.canon_ledger.specs.Ledger.{LedgerState}
 use Rattle.canon_model.specs.Flat.{max_results}
 use Rattle.canon_model.specs.Shape.{of_places, product}

@@ -2,9 +2,9 @@ use Rattle.std.proofs.Common.{rules, ◌≡◌, ◌+◌, ◌*◌, ◌∙◌, Err
 use Rattle.canon_context.specs.Core.{Parts, types_of}
 use Rattle.canon_model.specs.Layout.{flat}
 use Rattle.canon_types.specs.Table.{shape_of}
-use Rattle.canon_lift.specs.Reading.{setting_in}
-use Rattle.canon_lift.specs.Readings.{EachReads, item_spot}
-use Rattle.canon_lift.specs.Spots.{flat_in}
+use Rattle.canon_reading.specs.Reading.{setting_in}
+use Rattle.canon_reading.specs.Readings.{EachReads, item_spot}
+use Rattle.canon_reading.specs.Spots.{flat_in}
 use Rattle.canon_lift.proofs.Rows.{each_more, item_lost, item_refused, reach_more, word_lifts}
 use Rattle.canon_lift.proofs.fixed_list.lift_row.Goals as goal
 

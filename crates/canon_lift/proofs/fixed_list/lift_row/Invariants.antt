@@ -1,9 +1,9 @@
 use Rattle.std.proofs.Common.{◌≡◌, ◌+◌, length}
 use Rattle.canon_context.specs.Core.{types_of}
 use Rattle.canon_types.specs.Table.{shape_of}
-use Rattle.canon_lift.specs.Reading.{setting_in}
-use Rattle.canon_lift.specs.Readings.{EachReads, each_reach}
-use Rattle.canon_lift.specs.Spots.{flat_in}
+use Rattle.canon_reading.specs.Reading.{setting_in}
+use Rattle.canon_reading.specs.Readings.{EachReads, each_reach}
+use Rattle.canon_reading.specs.Spots.{flat_in}
 use Rattle.canon_lift.proofs.fixed_list.lift_row.Given as goal
 
 abbrev pub invariant-loop-k : goal.invariant-loop-k

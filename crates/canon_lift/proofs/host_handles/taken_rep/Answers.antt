@@ -1,7 +1,7 @@
 use Rattle.std.proofs.Common.{subst, sym}
 use Rattle.canon_leaves.specs.Parts.{LeafMoves}
 use Rattle.canon_model.specs.Leaves.{leaf}
-use Rattle.canon_lift.specs.Ways.{rep_parts}
+use Rattle.canon_reading.specs.Ways.{rep_parts}
 use Rattle.canon_lift.proofs.HostSteps.{lent_rep, took_rep}
 use Rattle.canon_lift.proofs.host_handles.taken_rep.Goals as goal
 

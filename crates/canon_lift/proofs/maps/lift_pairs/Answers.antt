@@ -4,10 +4,10 @@ use Rattle.canon_context.specs.declared.fault.Fault.TheVariants as fault
 use Rattle.canon_model.specs.Layout.{align}
 use Rattle.canon_model.specs.Shape.{tuple}
 use Rattle.canon_types.specs.Table.{shape_of}
-use Rattle.canon_lift.specs.MapsOfTrees.{pair_reading}
-use Rattle.canon_lift.specs.Reading.{setting_in}
-use Rattle.canon_lift.specs.Readings.{item_spot}
-use Rattle.canon_lift.specs.Spots.{stored}
+use Rattle.canon_reading.specs.MapsOfTrees.{pair_reading}
+use Rattle.canon_reading.specs.Reading.{setting_in}
+use Rattle.canon_reading.specs.Readings.{item_spot}
+use Rattle.canon_reading.specs.Spots.{stored}
 use Rattle.canon_lift.proofs.PairLifting.{pair_item, pair_law, pairs_refused}
 use Rattle.canon_lift.proofs.Rows.{each_more, item_lost, item_refused, reach_more}
 use Rattle.canon_lift.proofs.Settings.{element_aligned}

@@ -3,10 +3,10 @@ use Rattle.canon_context.specs.Core.{types_of}
 use Rattle.canon_model.specs.Shape.{tuple}
 use Rattle.canon_types.specs.Table.{shape_of}
 use Rattle.canon_typed.specs.Maps.{IsFilledWith}
-use Rattle.canon_lift.specs.MapsOfTrees.{pair_reading}
-use Rattle.canon_lift.specs.Reading.{setting_in}
-use Rattle.canon_lift.specs.Readings.{EachReads, each_reach}
-use Rattle.canon_lift.specs.Spots.{stored}
+use Rattle.canon_reading.specs.MapsOfTrees.{pair_reading}
+use Rattle.canon_reading.specs.Reading.{setting_in}
+use Rattle.canon_reading.specs.Readings.{EachReads, each_reach}
+use Rattle.canon_reading.specs.Spots.{stored}
 use Rattle.canon_lift.proofs.maps.lift_pairs.Given as goal
 
 abbrev pub invariant-loop-k : goal.invariant-loop-k

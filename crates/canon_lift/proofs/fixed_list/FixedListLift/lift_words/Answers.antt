@@ -1,7 +1,7 @@
 use Rattle.canon_context.specs.Core.{types_of}
 use Rattle.canon_types.specs.Table.{shape_of}
-use Rattle.canon_lift.specs.Reading.{setting_in}
-use Rattle.canon_lift.specs.Spots.{flat_in}
+use Rattle.canon_reading.specs.Reading.{setting_in}
+use Rattle.canon_reading.specs.Spots.{flat_in}
 use Rattle.canon_lift.proofs.Lookups.{fixed_part, fixed_there}
 use Rattle.canon_lift.proofs.Rows.{fixed_refused}
 use Rattle.canon_lift.proofs.WordRooms.{fixed_words}

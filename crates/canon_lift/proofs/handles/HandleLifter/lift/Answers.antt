@@ -1,6 +1,6 @@
 use Rattle.std.proofs.Common.{Err, Ok, refl, subst, sym}
 use Rattle.canon_model.specs.Leaves.{leaf}
-use Rattle.canon_lift.specs.Handles.{HandleLifts}
+use Rattle.canon_reading.specs.Handles.{HandleLifts}
 use Rattle.canon_lift.proofs.HandleSteps.{handle_refused, lifted_steps}
 use Rattle.canon_lift.proofs.handles.HandleLifter.lift.Goals as goal
 

@@ -4,8 +4,8 @@ use Rattle.canon_lowering.specs.Storing.{narrow}
 use Rattle.canon_model.specs.Layout.{size}
 use Rattle.canon_model.specs.Memory.{num}
 use Rattle.canon_types.specs.Table.{shape_of}
-use Rattle.canon_lift.specs.Reading.{setting_in}
-use Rattle.canon_lift.specs.Spots.{stored}
+use Rattle.canon_reading.specs.Reading.{setting_in}
+use Rattle.canon_reading.specs.Spots.{stored}
 use Rattle.canon_lift.proofs.HandleSteps.{any_lifts, handle_room}
 use Rattle.canon_lift.proofs.handles.ResourceAnyLift.linear_lift_from_memory.Goals as goal
 

@@ -1,6 +1,6 @@
 use Rattle.std.proofs.Common.{Err, Ok, refl, subst, sym}
 use Rattle.canon_model.specs.Leaves.{leaf}
-use Rattle.canon_lift.specs.HostHandles.{RepLifts}
+use Rattle.canon_reading.specs.HostHandles.{RepLifts}
 use Rattle.canon_lift.proofs.HostSteps.{rep_refused, rep_steps}
 use Rattle.canon_lift.proofs.host_handles.RepresentedLifter.lift.Goals as goal
 

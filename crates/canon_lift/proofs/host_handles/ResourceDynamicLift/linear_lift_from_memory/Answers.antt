@@ -5,9 +5,9 @@ use Rattle.canon_model.specs.Layout.{size}
 use Rattle.canon_model.specs.Memory.{num}
 use Rattle.canon_types.specs.Resource.{as_host_dynamic}
 use Rattle.canon_types.specs.Table.{shape_of}
-use Rattle.canon_lift.specs.HostHandles.{IsMadeBy}
-use Rattle.canon_lift.specs.Reading.{setting_in}
-use Rattle.canon_lift.specs.Spots.{stored}
+use Rattle.canon_reading.specs.HostHandles.{IsMadeBy}
+use Rattle.canon_reading.specs.Reading.{setting_in}
+use Rattle.canon_reading.specs.Spots.{stored}
 use Rattle.canon_lift.proofs.HandleSteps.{handle_room}
 use Rattle.canon_lift.proofs.HostSteps.{held_lifts, is_handle}
 use Rattle.canon_lift.proofs.host_handles.ResourceDynamicLift.linear_lift_from_memory.Goals as goal

@@ -2,9 +2,9 @@ use Rattle.std.proofs.Common.{rules, ◌≡◌, ◌+◌, ◌*◌, ◌%◌, ◌�
 use Rattle.canon_context.specs.Core.{Parts, types_of}
 use Rattle.canon_model.specs.Layout.{align, size}
 use Rattle.canon_types.specs.Table.{shape_of}
-use Rattle.canon_lift.specs.Reading.{setting_in}
-use Rattle.canon_lift.specs.Readings.{EachReads, item_spot}
-use Rattle.canon_lift.specs.Spots.{stored}
+use Rattle.canon_reading.specs.Reading.{setting_in}
+use Rattle.canon_reading.specs.Readings.{EachReads, item_spot}
+use Rattle.canon_reading.specs.Spots.{stored}
 use Rattle.canon_lift.proofs.Rows.{each_more, item_lifts, item_lost, item_refused, reach_more}
 use Rattle.canon_lift.proofs.Settings.{element_aligned, looked_up_size, same_shape}
 use Rattle.canon_lift.proofs.lift.Lift.linear_lift_list_from_memory.Goals as goal

@@ -1,8 +1,8 @@
 use Rattle.canon_context.specs.Core.{types_of}
 use Rattle.canon_types.specs.Table.{shape_of}
 use Rattle.canon_typed.specs.Charges.{cap}
-use Rattle.canon_lift.specs.Reading.{setting_in}
-use Rattle.canon_lift.specs.Spots.{flat_in}
+use Rattle.canon_reading.specs.Reading.{setting_in}
+use Rattle.canon_reading.specs.Spots.{flat_in}
 use Rattle.canon_lift.proofs.MapLifting.{vec_lifts}
 use Rattle.canon_lift.proofs.Pairs.{range_refused}
 use Rattle.canon_lift.proofs.lists.VecLift.lift_words.Goals as goal

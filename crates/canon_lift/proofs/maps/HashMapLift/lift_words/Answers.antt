@@ -4,9 +4,9 @@ use Rattle.canon_model.specs.Reach.{word}
 use Rattle.canon_model.specs.Shape.{of_pairs, tuple}
 use Rattle.canon_types.specs.Table.{Knows, shape_of}
 use Rattle.canon_typed.specs.Charges.{cap}
-use Rattle.canon_lift.specs.MapsOfTrees.{pairs_reading}
-use Rattle.canon_lift.specs.Reading.{Lifts, setting_in}
-use Rattle.canon_lift.specs.Spots.{flat_in, stored}
+use Rattle.canon_reading.specs.MapsOfTrees.{pairs_reading}
+use Rattle.canon_reading.specs.Reading.{Lifts, setting_in}
+use Rattle.canon_reading.specs.Spots.{flat_in, stored}
 use Rattle.canon_lift.proofs.Lookups.{map_element, map_layout, map_there}
 use Rattle.canon_lift.proofs.MapLifting.{map_lifts}
 use Rattle.canon_lift.proofs.Pairs.{map_range_refused, refused_list}

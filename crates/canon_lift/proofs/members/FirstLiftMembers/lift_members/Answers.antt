@@ -5,10 +5,10 @@ use Rattle.canon_model.specs.Shape.{of_places, product}
 use Rattle.canon_types.specs.Table as table
 use Rattle.canon_types.specs.Table.{members_of, shape_of}
 use Rattle.canon_lift.specs.Firsts.{first_and}
-use Rattle.canon_lift.specs.Reading.{Lifts, Refused, setting_in}
-use Rattle.canon_lift.specs.Readings.{first_reading}
-use Rattle.canon_lift.specs.Rests.{rest_reading}
-use Rattle.canon_lift.specs.Spots.{stored, stored_from}
+use Rattle.canon_reading.specs.Reading.{Lifts, Refused, setting_in}
+use Rattle.canon_reading.specs.Readings.{first_reading}
+use Rattle.canon_reading.specs.Rests.{rest_reading}
+use Rattle.canon_reading.specs.Spots.{stored, stored_from}
 use Rattle.canon_lift.specs.declared.members.First.{First}
 use Rattle.canon_lift.proofs.MemberSteps.{member_refused, members_are, members_read, next_aligned, next_end, next_fits, next_inside, next_of_tuple, others_here, others_refused, place_is, rest_aligned, rest_inside}
 use Rattle.canon_lift.proofs.members.FirstLiftMembers.lift_members.Goals as goal

@@ -3,8 +3,8 @@ use Rattle.canon_context.specs.Core.{types_of}
 use Rattle.canon_types.specs.Table.{shape_of}
 use Rattle.canon_context.proofs.Told.{text_told}
 use Rattle.canon_model.specs.Reach.{word}
-use Rattle.canon_lift.specs.Reading.{setting_in}
-use Rattle.canon_lift.specs.Spots.{flat_in}
+use Rattle.canon_reading.specs.Reading.{setting_in}
+use Rattle.canon_reading.specs.Spots.{flat_in}
 use Rattle.canon_lift.proofs.Pairs.{text_lifts}
 use Rattle.canon_lift.proofs.WordRooms.{text_words}
 use Rattle.canon_lift.proofs.texts.StringLift.lift_words.Goals as goal

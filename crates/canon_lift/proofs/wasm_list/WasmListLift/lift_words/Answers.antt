@@ -4,8 +4,8 @@ use Rattle.canon_model.specs.Reach.{word}
 use Rattle.canon_model.specs.Shape.{of_items}
 use Rattle.canon_types.specs.Table.{shape_of}
 use Rattle.canon_typed.specs.Charges.{cap}
-use Rattle.canon_lift.specs.Reading.{setting_in}
-use Rattle.canon_lift.specs.Spots.{flat_in}
+use Rattle.canon_reading.specs.Reading.{setting_in}
+use Rattle.canon_reading.specs.Spots.{flat_in}
 use Rattle.canon_lift.proofs.Lookups.{list_element, list_fits, list_known, list_shape}
 use Rattle.canon_lift.proofs.Pairs.{list_lifts}
 use Rattle.canon_lift.proofs.WordRooms.{list_words}

@@ -10,8 +10,8 @@ use Rattle.canon_model.specs.Shape.{Members, Shape, fixed, member, no_members}
 use Rattle.canon_model.specs.Layout.{payload_shape}
 use Rattle.canon_model.specs.Tree.{Tree}
 use Rattle.canon_types.specs.Depth.{element_shape, product_members, variant_cases}
-use Rattle.canon_lift.specs.Reading.{Reading, Setting}
-use Rattle.canon_lift.specs.Spots.{Faulty, HasRoom, Represents, Rest, Spot, at_of, behind, first_spot, flat_in, length_in, members_in, others, payload_spot, pointer_in, stored, tag_in}
+use Rattle.canon_reading.specs.Reading.{Reading, Setting}
+use Rattle.canon_reading.specs.Spots.{Faulty, HasRoom, Represents, Rest, Spot, at_of, behind, first_spot, flat_in, length_in, members_in, others, payload_spot, pointer_in, stored, tag_in}
 
 -- ---- a value of what is represented
 

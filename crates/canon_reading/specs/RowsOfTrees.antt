@@ -17,15 +17,14 @@ use Rattle.canon_types.specs.declared.types.InterfaceType.TheVariants as ty
 use Rattle.canon_typed.specs.Charges.{each_cost, list_cost, product_cost, row_cost, free}
 use Rattle.canon_typed.specs.Meaning.{EachMeans, FirstAnd, ListMeans, NoTrees, ProductMeans, RowMeans}
 use Rattle.canon_typed.specs.Types.{AreOf, IsFixedOf, IsListOf, IsTupleOf}
-use Rattle.canon_lift.specs.OfTrees.{IsFaulted, IsFaultedAt, IsOfTrees, IsOfTreesAt, IsPriced, IsPricedAt, faulted_at, priced_at, told_at, untrue, AreSteps}
-use Rattle.canon_lift.specs.Reading.{Reading, Setting}
-use Rattle.canon_lift.specs.Readings.{EachFault, EachReads, ListReads, RestReading, each_reach, first_reading, fixed_reading, list_reading, none_reading, product_reading, each_steps, ListPointerFault}
-use Rattle.canon_lift.specs.Spots.{Faulty, HasRoom, Represents, Rest, Spot, behind, first_spot, flat_from, flat_in, length_in, members_in, others, pointer_in, stored, stored_from, leaves_in}
+use Rattle.canon_reading.specs.OfTrees.{IsFaulted, IsFaultedAt, IsOfTrees, IsOfTreesAt, IsPriced, IsPricedAt, faulted_at, priced_at, told_at, untrue, AreSteps}
+use Rattle.canon_reading.specs.Reading.{Reading, Setting}
+use Rattle.canon_reading.specs.Readings.{EachFault, EachReads, ListReads, RestReading, each_reach, first_reading, fixed_reading, list_reading, none_reading, product_reading, each_steps, ListPointerFault}
+use Rattle.canon_reading.specs.Spots.{Faulty, HasRoom, Represents, Rest, Spot, behind, first_spot, flat_from, flat_in, length_in, members_in, others, pointer_in, stored, stored_from, leaves_in}
 use Rattle.canon_model.specs.Leaves.{Leaf, flat_leaves, list_at, members_flat_leaves, members_reach_leaves, reach_leaves}
 use Rattle.canon_leaves.specs.Parts.{Part}
-use Rattle.canon_lift.specs.Ranges.{list_range_reach, wasm_list_reading}
 use Rattle.canon_types.specs.Depth.{element_shape}
-use Rattle.canon_lift.specs.Ways.{AreLiftedBy, lifted_if, lifted_then}
+use Rattle.canon_reading.specs.Ways.{AreLiftedBy, lifted_if, lifted_then}
 
 -- ---- values in a row
 
@@ -173,47 +172,6 @@ module _ {A : Type 0} (bytes : ℕ) {Fit : Instance → InterfaceType → Type 0
 
     pub list_told : IsOfTrees (IsListOf Fit) (list_reading bytes R) (ListMeans Lifts)
     list_told = record { reads = list_reads; steps = list_steps_are }
-
--- the list itself is charged where its items are not lifted
-no_sum : (ts : Trees) → 0 ≡ sum_of free ts
-no_sum no_trees = refl
-no_sum (tree t ts) = no_sum ts ∙ sym (zero-add (sum_of free ts))
-
--- of a list that stays in memory
-module _ (bytes : ℕ) (Fit : Instance → InterfaceType → Type 0) where
-  range_price : (w : Setting) (at : Spot) (s : Shape) (t : Tree) → Represents w.memory w.encoding at (list of_items s) t → list_range_reach bytes w at (list of_items s) ≡ list_cost bytes free t
-  range_price w at s t rep =
-      let m = w.memory in
-      let p : ℕ = pointer_in m at in
-      let n : ℕ = length_in m at in
-      let h = represented_list m w.encoding of_items s at t rep in
-      cond-true (is_inside m p (n * size m.wide s)) (n * bytes) 0 (le-leb _ _ h.inside)
-      ∙ ap (λ k. k * bytes) (sym h.count) ∙ sym (add-zero (tree_count h.trees * bytes)) ∙ ap (λ k. tree_count h.trees * bytes + k) (no_sum h.trees)
-      ∙ ap (λ (u : Tree). list_cost bytes free u) (sym h.is)
-
-  range_reached : (w : Setting) (at : Spot) (type : InterfaceType) (t : Tree) → IsListOf Fit w.types type → Represents w.memory w.encoding at (shape_of w.types.types type) t
-      → list_range_reach bytes w at (shape_of w.types.types type) ≡ list_cost bytes free t
-  range_reached w at (ty.List i) t (element, d, f) rep =
-      subst (λ (z : Shape). list_range_reach bytes w at z ≡ list_cost bytes free t) (sym d.shape)
-      (range_price w at _ t (subst (λ (z : Shape). Represents w.memory w.encoding at z t) d.shape rep))
-  range_reached w at _ t f rep = absurd f
-
-  pub wasm_list_priced : {A : Type 0} → IsPriced (IsListOf Fit) (wasm_list_reading {A = A} Fit bytes) (list_cost bytes free)
-  wasm_list_priced = record { reach = range_reached }
-
-  range_faulty : (w : Setting) (at : Spot) (s : Shape) (k : Kind) (x : At) → ListPointerFault w.memory s at k x → Faulty w.memory w.encoding at (list of_items s) k x
-  range_faulty w (stored a) s k x h = inl h
-  range_faulty w (flat_in ws i) s k x h = inl h
-
-  -- its faults are those of its pointer
-  range_faults : (w : Setting) (at : Spot) (type : InterfaceType) (k : Kind) (x : At) → IsListOf Fit w.types type → ListPointerFault w.memory (element_shape (shape_of w.types.types type)) at k x
-      → Faulty w.memory w.encoding at (shape_of w.types.types type) k x
-  range_faults w at (ty.List i) k x (element, d, f) h =
-      subst (λ (z : Shape). Faulty w.memory w.encoding at z k x) (sym d.shape) (range_faulty w at _ k x (subst (λ (z : Shape). ListPointerFault w.memory (element_shape z) at k x) d.shape h))
-  range_faults w at _ k x f h = absurd f
-
-  pub wasm_list_faulted : {A : Type 0} → IsFaulted (IsListOf Fit) (wasm_list_reading {A = A} Fit bytes)
-  wasm_list_faulted = record { faults = range_faults }
 
 -- ---- lists of fixed length
 

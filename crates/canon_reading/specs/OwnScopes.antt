@@ -24,12 +24,12 @@ use Rattle.canon_types.specs.declared.types.InterfaceType.{InterfaceType}
 use Rattle.canon_types.specs.declared.types.InterfaceType.TheVariants as ty
 use Rattle.canon_types.specs.declared.resource.ResourceType.{ResourceType}
 use Rattle.canon_typed.specs.Types.{IsHandleOf, IsHandleType}
-use Rattle.canon_lift.specs.Handles.{any_reading}
-use Rattle.canon_lift.specs.HostHandles.{held_reading, no_type}
-use Rattle.canon_lift.specs.Reading.{Setting}
-use Rattle.canon_lift.specs.Scopes.{AllKeep, IsKept, one_kept}
-use Rattle.canon_lift.specs.Spots.{Spot, handle_in}
-use Rattle.canon_lift.specs.Ways.{taken_parts}
+use Rattle.canon_reading.specs.Handles.{any_reading}
+use Rattle.canon_reading.specs.HostHandles.{held_reading, no_type}
+use Rattle.canon_reading.specs.Reading.{Setting}
+use Rattle.canon_reading.specs.Scopes.{AllKeep, IsKept, one_kept}
+use Rattle.canon_reading.specs.Spots.{Spot, handle_in}
+use Rattle.canon_reading.specs.Ways.{taken_parts}
 
 module _ (h : Handles) (scopes : List OpenScope) (same : h.scopes ≡ scopes) where
   lifted_keeps : (a : RemovedResource) (m : Handles) → m.scopes ≡ scopes → IfOk (lifted_own (a, m)) (λ w. w.1.scopes ≡ scopes)

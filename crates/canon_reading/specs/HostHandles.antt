@@ -19,12 +19,12 @@ use Rattle.canon_types.specs.declared.types.InterfaceType.TheVariants as ty
 use Rattle.canon_typed.specs.Charges.{free}
 use Rattle.canon_typed.specs.Meaning.{IsHandle}
 use Rattle.canon_typed.specs.Types.{IsHandleOf, handle_type}
-use Rattle.canon_lift.specs.Apart.{IsApart}
-use Rattle.canon_lift.specs.Handles.{IsRefusal, borrow_represents, leaf_at, own_represents}
-use Rattle.canon_lift.specs.OfTrees.{AreSteps, IsFaulted, IsOfTrees, IsPriced}
-use Rattle.canon_lift.specs.Reading.{AreTaken, Reading, Setting, stop_of}
-use Rattle.canon_lift.specs.Spots.{HasRoom, Represents, Spot, flat_in, handle_in, stored}
-use Rattle.canon_lift.specs.Ways.{rep_parts}
+use Rattle.canon_reading.specs.Apart.{IsApart}
+use Rattle.canon_reading.specs.Handles.{IsRefusal, borrow_represents, leaf_at, own_represents}
+use Rattle.canon_reading.specs.OfTrees.{AreSteps, IsFaulted, IsOfTrees, IsPriced}
+use Rattle.canon_reading.specs.Reading.{AreTaken, Reading, Setting, stop_of}
+use Rattle.canon_reading.specs.Spots.{HasRoom, Represents, Spot, flat_in, handle_in, stored}
+use Rattle.canon_reading.specs.Ways.{rep_parts}
 use Rattle.std.proofs.lemmas.Option.{none-some}
 
 -- a lifted own is in no table of the host, and a borrow has no handle there either

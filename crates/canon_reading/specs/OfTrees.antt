@@ -22,13 +22,12 @@ use Rattle.canon_types.specs.declared.types.InterfaceType.TheVariants as ty
 use Rattle.canon_typed.specs.Charges.{free, option_cost, result_cost}
 use Rattle.canon_typed.specs.Meaning.{CaseMeans, OptionMeans, ResultMeans}
 use Rattle.canon_typed.specs.Types.{IsOptionOf, IsPayloadOf, IsResultOf}
-use Rattle.canon_lift.specs.Reading.{Reading, Setting}
-use Rattle.canon_lift.specs.Readings.{CasesFault, OptionReads, ResultReads, boxed_reading, cases_reach, nothing_reading, option_reading, payload_reading}
-use Rattle.canon_lift.specs.Readings.{read_as, result_reading, scalar_reading, text_charge, tree_reading, TreeReads, text_reading, cases_steps}
-use Rattle.canon_lift.specs.Spots.{Faulty, HasRoom, Represents, Spot, at_of, flat_in, payload_spot, stored, tag_in, leaves_in}
-use Rattle.canon_lift.specs.Ranges.{wasm_str_reading}
+use Rattle.canon_reading.specs.Reading.{Reading, Setting}
+use Rattle.canon_reading.specs.Readings.{CasesFault, OptionReads, ResultReads, boxed_reading, cases_reach, nothing_reading, option_reading, payload_reading}
+use Rattle.canon_reading.specs.Readings.{read_as, result_reading, scalar_reading, text_charge, tree_reading, TreeReads, text_reading, cases_steps}
+use Rattle.canon_reading.specs.Spots.{Faulty, HasRoom, Represents, Spot, at_of, flat_in, payload_spot, stored, tag_in, leaves_in}
 use Rattle.std.proofs.Math.Nat.{suc-ne-zero, suc_inj}
-use Rattle.canon_lift.specs.Ways.{AreLiftedBy}
+use Rattle.canon_reading.specs.Ways.{AreLiftedBy}
 
 -- Over each type that fits: a fault of what is read is one of a place that the tree walk of the type's shape reaches. A text or a list
 -- that stays in memory has those of its pointer alone.
@@ -126,16 +125,6 @@ pub text_told : {A : Type 0} {Lifts : A → Tree → Type 0} → IsOfTrees (λ i
 text_told {A} {Lifts} = record {
   reads = λ w at u before after v f h. tree_reads Lifts w at _ before after v h;
   steps = λ w at u f. subst (λ x. AreSteps w at (shape_of w.types.types x) []) (sym f) (no_handle_in_text w at);
-}
-
--- of a text that stays in memory: its pointer's
-pointer_faults : (w : Setting) (at : Spot) (k : Kind) (x : At) → wasm_str_reading.faults w at string k x → Faulty w.memory w.encoding at string k x
-pointer_faults w (stored a) k x h = inl h
-pointer_faults w (flat_in ws i) k x h = inl h
-
-pub wasm_str_faulted : IsFaulted (λ i t. t ≡ ty.String) wasm_str_reading
-wasm_str_faulted = record {
-  faults = λ w at type k x f h. subst (λ y. Faulty w.memory w.encoding at (shape_of w.types.types y) k x) (sym f) (pointer_faults w at k x h);
 }
 
 -- the same value in another Rust type

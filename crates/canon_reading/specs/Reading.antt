@@ -16,7 +16,7 @@ use Rattle.canon_model.specs.Reach.{Kind}
 use Rattle.canon_model.specs.Shape.{Shape}
 use Rattle.canon_model.specs.Text.{Encoding}
 use Rattle.canon_types.specs.Instance.{Instance}
-use Rattle.canon_lift.specs.Spots.{Spot, flat_in, stored}
+use Rattle.canon_reading.specs.Spots.{Spot, flat_in, stored}
 
 -- what is lifted from: types in their store, memory, how texts are spelled there, the number of the options, and the store
 pub record Setting : Type 0 where

@@ -11,11 +11,10 @@ use Rattle.canon_types.specs.Table.{all_shapes, members_of, payload_in, shape_of
 use Rattle.canon_types.specs.declared.types.InterfaceType.{InterfaceType}
 use Rattle.canon_types.specs.declared.types.InterfaceType.TheVariants as ty
 use Rattle.canon_typed.specs.Types.{AreOf, IsFixedOf, IsListOf, IsMapOf, IsOptionOf, IsPayloadOf, IsResultOf, IsTupleOf}
-use Rattle.canon_lift.specs.Firsts.{first_and, first_in, no_more, rest_in}
-use Rattle.canon_lift.specs.MapsOfTrees.{map_reading, pair_reading}
-use Rattle.canon_lift.specs.Reading.{Reading, Setting}
-use Rattle.canon_lift.specs.Readings.{RestReading, boxed_reading, each_steps, first_reading, fixed_reading, list_reading, none_reading, option_reading, payload_reading, product_reading, read_as, result_reading}
-use Rattle.canon_lift.specs.Spots.{Rest, Spot, behind, first_spot, length_in, members_in, others, payload_spot, pointer_in, stored}
+use Rattle.canon_reading.specs.MapsOfTrees.{map_reading, pair_reading}
+use Rattle.canon_reading.specs.Reading.{Reading, Setting}
+use Rattle.canon_reading.specs.Readings.{RestReading, boxed_reading, each_steps, first_reading, fixed_reading, list_reading, none_reading, option_reading, payload_reading, product_reading, read_as, result_reading}
+use Rattle.canon_reading.specs.Spots.{Rest, Spot, behind, first_spot, length_in, members_in, others, payload_spot, pointer_in, stored}
 
 -- what a handle does leaves the open scopes as they are
 abbrev pub KeepsScopes : List Part → Type 0

@@ -20,10 +20,10 @@ use Rattle.canon_types.specs.declared.types.InterfaceType.TheVariants as ty
 use Rattle.canon_typed.specs.Charges.{free}
 use Rattle.canon_typed.specs.Meaning.{IsHandle}
 use Rattle.canon_typed.specs.Types.{IsHandleType}
-use Rattle.canon_lift.specs.OfTrees.{IsFaulted, IsOfTrees, IsPriced, AreSteps}
-use Rattle.canon_lift.specs.Reading.{AreTaken, Reading, Setting, stop_of}
-use Rattle.canon_lift.specs.Spots.{HasRoom, Represents, Spot, flat_in, handle_in, stored}
-use Rattle.canon_lift.specs.Apart.{IsApart}
+use Rattle.canon_reading.specs.OfTrees.{IsFaulted, IsOfTrees, IsPriced, AreSteps}
+use Rattle.canon_reading.specs.Reading.{AreTaken, Reading, Setting, stop_of}
+use Rattle.canon_reading.specs.Spots.{HasRoom, Represents, Spot, flat_in, handle_in, stored}
+use Rattle.canon_reading.specs.Apart.{IsApart}
 
 -- the handle of a type by its number
 abbrev pub leaf_of : InterfaceType → ℕ → Leaf

@@ -11,13 +11,11 @@ use Rattle.canon_model.specs.Tree.{Tree}
 use Rattle.canon_types.specs.Depth.{element_shape, product_members}
 use Rattle.canon_types.specs.Instance.{Instance}
 use Rattle.canon_types.specs.declared.types.InterfaceType.{InterfaceType}
-use Rattle.canon_lift.specs.MapsOfTrees.{map_reading, pair_reading}
-use Rattle.canon_lift.specs.Ranges.{wasm_list_reading, wasm_str_reading}
-use Rattle.canon_lift.specs.Reading.{Reading, Setting}
-use Rattle.canon_lift.specs.Readings.{EachReads, IsGoodList, RestReading, boxed_reading, first_reading, fixed_reading, item_spot, list_reading, none_reading, nothing_reading}
-use Rattle.canon_lift.specs.Readings.{option_reading, payload_reading, product_reading, read_as, result_reading, tree_reading, CaseReads, CasesFault, EachFault, TreeReads, fixed_element}
-use Rattle.canon_lift.specs.Spots.{Faulty, Represents, behind, Rest, Spot, flat_in, pointer_in, stored, length_in, first_spot, others, members_in}
-use Rattle.canon_lift.specs.Firsts.{first_and, no_more}
+use Rattle.canon_reading.specs.MapsOfTrees.{map_reading, pair_reading}
+use Rattle.canon_reading.specs.Reading.{Reading, Setting}
+use Rattle.canon_reading.specs.Readings.{EachReads, IsGoodList, RestReading, boxed_reading, first_reading, fixed_reading, item_spot, list_reading, none_reading, nothing_reading}
+use Rattle.canon_reading.specs.Readings.{option_reading, payload_reading, product_reading, read_as, result_reading, tree_reading, CaseReads, CasesFault, EachFault, TreeReads, fixed_element}
+use Rattle.canon_reading.specs.Spots.{Faulty, Represents, behind, Rest, Spot, flat_in, pointer_in, stored, length_in, first_spot, others, members_in}
 
 abbrev pub AreApart : {A : Type 0} → Reading A → Type 0
 AreApart {A} R = (w : Setting) (at : Spot) (s : Shape) (before after : LedgerState) (v : A) (k : Kind) (x : At) → R.reads w at s before v after → R.faults w at s k x → ⊥
@@ -45,7 +43,7 @@ as_apart f law = record { apart = λ w at s before after v. law.apart w at s bef
 pub boxed_apart : {A B : Type 0} (f : B → A) {R : Reading A} → IsApart R → IsApart (boxed_reading f R)
 boxed_apart f law = record { apart = λ w at s before after v. law.apart w at s before after (f v) }
 
-pointer_apart : (m : Memory) (at : At) (p n a : ℕ) (k : Kind) (x : At) → IsGood m p n a → PointerFault m at p n a k x → ⊥
+pub pointer_apart : (m : Memory) (at : At) (p n a : ℕ) (k : Kind) (x : At) → IsGood m p n a → PointerFault m at p n a k x → ⊥
 pointer_apart m at p n a k x good (inl f) = f.1 good.0
 pointer_apart m at p n a k x good (inr f) = f.1 good.1
 
@@ -156,28 +154,10 @@ product_apart f {S} law = record { apart = product_by f S law }
 -- ---- maps
 
 pub pair_apart : {K V : Type 0} {R : Reading K} {S : Reading V} → IsApart R → IsApart S → IsApart (pair_reading R S)
-pair_apart law law2 = product_apart (λ p. first_and p.0 (first_and p.1 no_more)) (more_apart law (more_apart law2 end_apart))
+pair_apart law law2 = product_apart (λ p. p) (more_apart law (more_apart law2 end_apart))
 
 map_by : {K V Z : Type 0} (eq : K → K → Bool) (bytes : ℕ) (R : Reading K) (S : Reading V) → IsApart R → IsApart S → AreApart (map_reading {Z = Z} eq bytes R S)
 map_by eq bytes R S law law2 w at s before after m k x (pairs, read, filled) f = list_by bytes (pair_reading R S) (pair_apart law law2) w at s before after pairs k x read f
 
 pub map_apart : {K V Z : Type 0} (eq : K → K → Bool) (bytes : ℕ) {R : Reading K} {S : Reading V} → IsApart R → IsApart S → IsApart (map_reading {Z = Z} eq bytes R S)
 map_apart eq bytes {R} {S} law law2 = record { apart = map_by eq bytes R S law law2 }
-
--- ---- what stays in memory
-
-wasm_str_by : AreApart wasm_str_reading
-wasm_str_by w at s before after v k x (from, place, good, same) f = pointer_apart w.memory _ _ _ _ k x good f
-
-pub wasm_str_apart : IsApart wasm_str_reading
-wasm_str_apart = record { apart = wasm_str_by }
-
-list_good : (m : Memory) (s u : Shape) (p q n k : ℕ) → s ≡ u → p ≡ q → n ≡ k → IsGoodList m s p n → IsGoodList m u q k
-list_good m s u p q n k e f g good = subst (λ z. IsGoodList m z q k) e (subst₂ (λ x y. IsGoodList m s x y) f g good)
-
-wasm_list_by : {A : Type 0} (Fit : Instance → InterfaceType → Type 0) (bytes : ℕ) → AreApart (wasm_list_reading {A = A} Fit bytes)
-wasm_list_by Fit bytes w at s before after v k x (there, same) f =
-    pointer_apart w.memory _ _ _ _ k x (list_good w.memory _ _ _ _ _ _ there.shape there.pointer there.count there.items.good) f
-
-pub wasm_list_apart : {A : Type 0} (Fit : Instance → InterfaceType → Type 0) (bytes : ℕ) → IsApart (wasm_list_reading {A = A} Fit bytes)
-wasm_list_apart Fit bytes = record { apart = wasm_list_by Fit bytes }

@@ -9,9 +9,9 @@ use Rattle.canon_model.specs.Tree.{Tree}
 use Rattle.canon_types.specs.Instance.{Instance}
 use Rattle.canon_types.specs.Table.{shape_of}
 use Rattle.canon_types.specs.declared.types.InterfaceType.{InterfaceType}
-use Rattle.canon_lift.specs.Reading.{Lifts, Reading, Setting}
-use Rattle.canon_lift.specs.Spots.{Represents, Spot}
-use Rattle.canon_lift.specs.Ways.{AreLiftedBy}
+use Rattle.canon_reading.specs.Reading.{Lifts, Reading, Setting}
+use Rattle.canon_reading.specs.Spots.{Represents, Spot}
+use Rattle.canon_reading.specs.Ways.{AreLiftedBy}
 
 -- the tree was lifted to one of its values at its price, and its handles left the ledger so; or memory ran out, where lifting takes any
 abbrev pub IsLifted : {A : Type 0} → Reading A → (A → Tree → Type 0) → (Tree → ℕ) → Tree → LedgerState → ℕ → Result A Fault → LedgerState → ℕ → Type 0

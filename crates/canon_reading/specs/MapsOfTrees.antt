@@ -14,25 +14,40 @@ use Rattle.canon_typed.specs.Charges.{list_cost, product_cost}
 use Rattle.canon_typed.specs.Maps.{IsFilledWith, MapLifts}
 use Rattle.canon_typed.specs.Meaning.{PairMeans}
 use Rattle.canon_typed.specs.Types.{IsMapOf}
-use Rattle.canon_lift.specs.Firsts.{first_and, first_in, no_more, rest_in}
-use Rattle.canon_lift.specs.OfTrees.{IsFaulted, IsFaultedAt, IsOfTrees, IsOfTreesAt, IsPriced, IsPricedAt, faulted_at, priced_at, told_at, AreSteps}
-use Rattle.canon_lift.specs.Reading.{AreTaken, Reading, Setting}
-use Rattle.canon_lift.specs.Readings.{EachFault, EachReads, ListReads, each_reach, each_steps, first_reading, list_reading, none_reading, product_reading}
-use Rattle.canon_lift.specs.RowsOfTrees.{list_faulty, list_lifts, list_price, list_walked}
-use Rattle.canon_lift.specs.Spots.{Faulty, Represents, Spot, flat_in, stored, leaves_in, members_in, first_spot, others, Rest}
-use Rattle.canon_lift.specs.Taken.{end_taken, list_taken, more_taken, product_taken}
+use Rattle.canon_reading.specs.OfTrees.{IsFaulted, IsFaultedAt, IsOfTrees, IsOfTreesAt, IsPriced, IsPricedAt, faulted_at, priced_at, told_at, AreSteps}
+use Rattle.canon_reading.specs.Reading.{AreTaken, Reading, Setting}
+use Rattle.canon_reading.specs.Readings.{EachFault, EachReads, ListReads, RestReading, each_reach, each_steps, first_reading, list_reading, none_reading, product_reading}
+use Rattle.canon_reading.specs.RowsOfTrees.{list_faulty, list_lifts, list_price, list_walked}
+use Rattle.canon_reading.specs.Spots.{Faulty, Represents, Spot, flat_in, stored, leaves_in, members_in, first_spot, others, Rest}
+use Rattle.canon_reading.specs.Taken.{end_taken, list_taken, more_taken, product_taken}
 use Rattle.canon_model.specs.Leaves.{flat_leaves, reach_leaves}
 use Rattle.canon_model.specs.Memory.{Memory}
-use Rattle.canon_lift.specs.Ways.{AreLiftedBy, lifted_then}
+use Rattle.canon_reading.specs.Ways.{AreLiftedBy, lifted_then}
 
 -- ---- a pair
 
+-- a pair's key, and then its value
+abbrev pub of_key : {K V : Type 0} → K × V → K
+of_key p = p.0
+
+abbrev pub of_value : {K V : Type 0} → K × V → V
+of_value p = p.1
+
+abbrev pub itself : {K V : Type 0} → K × V → K × V
+itself p = p
+
+abbrev pub of_none : {K V : Type 0} → K × V → Unit {0}
+of_none p = tt
+
+abbrev pub value_reading : {K V : Type 0} → Reading V → RestReading (K × V)
+value_reading S = first_reading of_value of_none S none_reading
+
 abbrev pub pair_reading : {K V : Type 0} → Reading K → Reading V → Reading (K × V)
-pair_reading R S = product_reading (λ p. first_and p.0 (first_and p.1 no_more)) (first_reading first_in rest_in R (first_reading first_in rest_in S none_reading))
+pair_reading R S = product_reading itself (first_reading of_key itself R (value_reading S))
 
 pub pair_taken : {K V : Type 0} (R : Reading K) (S : Reading V) → AreTaken R → AreTaken S → AreTaken (pair_reading R S)
-pair_taken R S law law2 = product_taken (λ p. first_and p.0 (first_and p.1 no_more)) (first_reading first_in rest_in R (first_reading first_in rest_in S none_reading))
-    (more_taken first_in rest_in R (first_reading first_in rest_in S none_reading) law (more_taken first_in rest_in S none_reading law2 end_taken))
+pair_taken R S law law2 = product_taken itself (first_reading of_key itself R (value_reading S))
+    (more_taken of_key itself R (value_reading S) law (more_taken of_value of_none S none_reading law2 end_taken))
 
 -- the handles of a pair are those of both
 pair_leaves : (m : Memory) (s u : Shape) (at : Spot) → leaves_in m (first_spot m s (members_in at)) s ++ (leaves_in m (first_spot m u (others m s (members_in at))) u ++ []) ≡ leaves_in m at (tuple (s ∷ u ∷ []))

@@ -1,8 +1,8 @@
 -- Items of one type in a row, as a reading of their list.
 use Rattle.std.specs.Prelude.{◌≡◌, ◌++◌, List, Vec, length, true, ℕ}
 use Rattle.std.specs.declared.alloc.Global.{Global}
-use Rattle.canon_lift.specs.Reading.{Reading}
-use Rattle.canon_lift.specs.Readings.{EachFault, EachReads, each_reach, each_steps, read_as}
+use Rattle.canon_reading.specs.Reading.{Reading}
+use Rattle.canon_reading.specs.Readings.{EachFault, EachReads, each_reach, each_steps, read_as}
 
 abbrev pub items_reading : {A : Type 0} → ℕ → Reading A → Reading (List A)
 items_reading n R = record {

@@ -1,8 +1,8 @@
 -- The members of a tuple from one on, as a reading.
 use Rattle.canon_model.specs.Shape.{Members}
-use Rattle.canon_lift.specs.Reading.{Reading}
-use Rattle.canon_lift.specs.Readings.{RestReading}
-use Rattle.canon_lift.specs.Spots.{Rest}
+use Rattle.canon_reading.specs.Reading.{Reading}
+use Rattle.canon_reading.specs.Readings.{RestReading}
+use Rattle.canon_reading.specs.Spots.{Rest}
 
 abbrev pub rest_reading : {A : Type 0} → RestReading A → Rest → Members → Reading A
 rest_reading S from ms = record {

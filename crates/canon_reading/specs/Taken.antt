@@ -7,10 +7,10 @@ use Rattle.canon_ledger.specs.Ledger.{LedgerState}
 use Rattle.canon_model.specs.Shape.{Members, Shape, member, no_members}
 use Rattle.canon_model.specs.Tree.{Tree}
 use Rattle.canon_types.specs.Depth.{element_shape}
-use Rattle.canon_lift.specs.Reading.{AreTaken, Reading, Setting}
-use Rattle.canon_lift.specs.Readings.{CaseReads, EachReads, RestReading, boxed_reading, cases_steps, each_steps, first_reading, fixed_reading, list_reading}
-use Rattle.canon_lift.specs.Readings.{none_reading, nothing_reading, option_reading, payload_reading, product_reading, read_as, result_reading, scalar_reading, tree_reading}
-use Rattle.canon_lift.specs.Spots.{Rest, Spot, behind, first_spot, length_in, others, pointer_in, stored}
+use Rattle.canon_reading.specs.Reading.{AreTaken, Reading, Setting}
+use Rattle.canon_reading.specs.Readings.{CaseReads, EachReads, RestReading, boxed_reading, cases_steps, each_steps, first_reading, fixed_reading, list_reading}
+use Rattle.canon_reading.specs.Readings.{none_reading, nothing_reading, option_reading, payload_reading, product_reading, read_as, result_reading, scalar_reading, tree_reading}
+use Rattle.canon_reading.specs.Spots.{Rest, Spot, behind, first_spot, length_in, others, pointer_in, stored}
 
 -- nothing is taken
 pub none_taken : (before after : LedgerState) → after ≡ before → (hs : List ℕ) × LeavesTake before [] hs after

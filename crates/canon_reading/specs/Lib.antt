@@ -1,0 +1,16 @@
+pub mod Spots
+pub mod Reading
+pub mod Readings
+pub mod Items
+pub mod Rests
+pub mod Taken
+pub mod Ways
+pub mod OfTrees
+pub mod RowsOfTrees
+pub mod MapsOfTrees
+pub mod Handles
+pub mod HostHandles
+pub mod Scopes
+pub mod OwnScopes
+pub mod Apart
+pub mod Laws

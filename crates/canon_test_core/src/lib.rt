@@ -1,0 +1,8 @@
+//! A core over a scripted guest, and types, for the tests of typed lowering and lifting.
+#![tactic(auto)]
+
+mod cores;
+mod types;
+
+pub use cores::{TestCore, core_of, has_room, has_words, memory_of, word_count};
+pub use types::{Typed, fixed_of, list_of, map_of, option_of, plain, result_of, tuple_of};
