@@ -17,7 +17,11 @@ use std::collections::HashMap;
 use std::test::Fail;
 
 /// A core of these types, whose memory begins with these bytes.
-pub(crate) fn core_with(alloc: Global, types: ComponentTypes, bytes: &[u8]) -> Result<TestCore, Fail>
+pub(crate) fn core_with(
+    alloc: Global,
+    types: ComponentTypes,
+    bytes: &[u8],
+) -> Result<TestCore, Fail>
     ensures options { IfOk result (λ c. length c.component.options.items ≡ 1) }
 {
     let memory = memory_of(alloc, bytes)?;

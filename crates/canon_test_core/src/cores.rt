@@ -71,12 +71,7 @@ fn has_type<T: ComponentType>(core: &TestCore, ty: &InterfaceType) -> bool
 }
 
 /// Whether a type of the core is the Rust type's, and so many values in a row have room at an address.
-pub fn has_room<T: ComponentType>(
-    core: &TestCore,
-    ty: &InterfaceType,
-    at: u32,
-    values: u32,
-) -> bool
+pub fn has_room<T: ComponentType>(core: &TestCore, ty: &InterfaceType, at: u32, values: u32) -> bool
     ensures known { IsTrue result → Knows (types_of core.now) ty.now }
     ensures fits { IsTrue result → T.fits core.now.component.types ty.now }
     ensures room { IsTrue result → at + values * size false (shape_of (types_of core.now) ty.now) ≤ length core.now.memory }
@@ -101,11 +96,7 @@ pub fn word_count<T: ComponentType>(core: &TestCore, ty: &InterfaceType) -> Opti
 }
 
 /// Whether a type of the core is the Rust type's, and these are enough words for it.
-pub fn has_words<T: ComponentType>(
-    core: &TestCore,
-    ty: &InterfaceType,
-    words: &[ValRaw],
-) -> bool
+pub fn has_words<T: ComponentType>(core: &TestCore, ty: &InterfaceType, words: &[ValRaw]) -> bool
     ensures known { IsTrue result → Knows (types_of core.now) ty.now }
     ensures fits { IsTrue result → T.fits core.now.component.types ty.now }
     ensures words { IsTrue result → 0 + flat (shape_of (types_of core.now) ty.now) ≤ length words.now }
