@@ -94,7 +94,7 @@ module _ (m : Memory) (enc : Encoding) (l : ListKind) (s : Shape) where
   list_represents (stored a) t room h = (room, h)
   list_represents (flat_in ws i) t room h = (h, λ g. untrue g)
 
-  represented_list : (at : Spot) (t : Tree) → Represents m enc at (list l s) t → IsList (Inside m) false enc m (λ b u. Stored (Inside m) false enc m s b u) s (pointer_in m at) (length_in m at) t
+  pub represented_list : (at : Spot) (t : Tree) → Represents m enc at (list l s) t → IsList (Inside m) false enc m (λ b u. Stored (Inside m) false enc m s b u) s (pointer_in m at) (length_in m at) t
   represented_list (stored a) t h = h.1
   represented_list (flat_in ws i) t h = h.0
 
