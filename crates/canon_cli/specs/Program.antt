@@ -1,10 +1,11 @@
 -- What the program reads, and what it answers.
-use Rattle.std.specs.Prelude.{◌≡◌, ℕ, ◌^◌, ◌<◌, ◌≤◌, ◌⊎◌, List, [], ◌∷◌, length, nat_eq, codes, if◌then◌else◌, Option, None, Some, option_map, String, string_bytes, IsUtf8}
+use Rattle.std.specs.Prelude.{◌≡◌, ℕ, ◌^◌, ◌<◌, ◌≤◌, ◌⊎◌, List, [], ◌∷◌, length, nat_eq, codes, if◌then◌else◌, IfSome, Option, None, Some, option_map, String, string_bytes, IsUtf8}
 use lib.Pointwise.{pointwise}
 use Rattle.std.specs.declared.alloc.Global.{Global}
 use Rattle.std.specs.Io.KnownBytes.{Consumes, IsAtEnd}
 use Rattle.serde_json.specs.Data.{Data}
 use Rattle.serde_json.specs.Read.{read}
+use Rattle.canon_gen.specs.Lines.{Generated}
 use Rattle.canon_layout.specs.Asked.{Listed, layout_of}
 use Rattle.canon_layout.specs.Lines.{layout_text}
 use Rattle.canon_player.specs.Session.{Session}
@@ -12,6 +13,7 @@ use Rattle.canon_script.specs.Script.{Play, script_of}
 use Rattle.canon_transcript.specs.Text.{transcript_text}
 use Rattle.canon_transcript.specs.declared.transcript.Record.{Record}
 use Rattle.canon_cli.specs.Conversions.{Job, conversions_of}
+use Rattle.canon_cli.specs.Gen.{gen_of}
 use Rattle.canon_cli.specs.Lines.{Lines}
 use Rattle.canon_cli.specs.declared.command.Command.{Command}
 use Rattle.canon_cli.specs.declared.command.Command.TheVariants as command
@@ -85,6 +87,10 @@ pub record Performed (asked : Command) (left left' : Option (List ℕ)) (records
   pub task : Task
   pub reads : ReadsTask (task_of asked) left left' task
   pub done : TaskLeaves task records text
+
+-- What the words ask for was performed: a command's task, which was read, or the session of the script that the number of `gen N` makes.
+abbrev pub IsPerformed : List (String Global) → Option (List ℕ) → Option (List ℕ) → List Record → List ℕ → Type 0
+IsPerformed words left left' records text = IfSome (command_of words) (λ asked. Performed asked left left' records text) × IfSome (gen_of words) (λ n. Generated n records text)
 
 -- what was read is no JSON
 pub record ReadsNoJson (left left' : Option (List ℕ)) : Type 0 where

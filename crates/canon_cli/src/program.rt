@@ -8,7 +8,7 @@ ghost use Rattle.canon_memory.specs.Counts.{Rose};
 ghost use Rattle.canon_player.specs.Session.{Session};
 ghost use Rattle.canon_script.specs.Script.{Play, play_of, script_of};
 ghost use Rattle.canon_transcript.specs.Text.{transcript_text};
-ghost use Rattle.canon_cli.specs.Program.{AnswersInput, TaskLeaves, IsJson, IsNoJson, IsRefusal, IsStatus, IsTask, OnTold, Performed, ReadsJson, ReadsNoJson, ReadsNoTask, ReadsTask, ReadsTooMuch, Task, command_of, max_input, task_of};
+ghost use Rattle.canon_cli.specs.Program.{AnswersInput, TaskLeaves, IsJson, IsNoJson, IsPerformed, IsRefusal, IsStatus, IsTask, OnTold, Performed, ReadsJson, ReadsNoJson, ReadsNoTask, ReadsTask, ReadsTooMuch, Task, command_of, max_input, task_of};
 ghost use Rattle.canon_gen.specs.Lines.{Generated};
 ghost use Rattle.canon_cli.specs.Gen.{IsGenStatus, gen_of};
 ghost use Rattle.canon_cli.specs.Streams.{AppendsPrefix, TakesAtMost};
@@ -45,18 +45,16 @@ pub fn run<S: Source, K: Sink>(
     ensures usage { (result ≡ Status.USAGE) ↔ ((command_of words.now ≡ None) × (gen_of words.now ≡ None)) }
     ensures unread { result ≡ Status.USAGE → source.new ≡ source.old }
 
-    // At 0 the source was read to its end, what was read is a script, conversions or types, as the command asks, a
-    // script's session is in the transcript, which the others leave empty, and the sink took its text; at 4 a prefix of
-    // it.
-    ensures done { result ≡ Status.DONE → IfSome (command_of words.now) (λ asked. (text : List ℕ)
-        × Performed asked (S.left source.old) (S.left source.new) transcript.new text × Appends (K.taken sink.old) (K.taken sink.new) text) }
-    ensures write_fault { result ≡ Status.WRITE_FAULT → IfSome (command_of words.now) (λ asked. (text : List ℕ)
-        × Performed asked (S.left source.old) (S.left source.new) transcript.new text × AppendsPrefix (K.taken sink.old) (K.taken sink.new) text
-        × Rose (K.faults sink.old) (K.faults sink.new)) }
+    // At 0 what the words ask for was performed, a script's session is in the transcript, which the others leave empty, and
+    // the sink took its text; at 4 a prefix of it.
+    ensures done { result ≡ Status.DONE → (text : List ℕ) × IsPerformed words.now (S.left source.old) (S.left source.new) transcript.new text
+        × Appends (K.taken sink.old) (K.taken sink.new) text }
+    ensures write_fault { result ≡ Status.WRITE_FAULT → (text : List ℕ) × IsPerformed words.now (S.left source.old) (S.left source.new) transcript.new text
+        × AppendsPrefix (K.taken sink.old) (K.taken sink.new) text × Rose (K.faults sink.old) (K.faults sink.new) }
 
-    // At 5 nothing was written, and the transcript is empty or what the task leaves.
-    ensures memory { result ≡ Status.MEMORY → IfSome (command_of words.now) (λ asked. (sink.new ≡ sink.old) × ((transcript.new ≡ [])
-        ⊎ ((text : List ℕ) × Performed asked (S.left source.old) (S.left source.new) transcript.new text))) }
+    // At 5 nothing was written, and the transcript is empty or what was performed leaves.
+    ensures memory { result ≡ Status.MEMORY → (sink.new ≡ sink.old) × ((transcript.new ≡ [])
+        ⊎ ((text : List ℕ) × IsPerformed words.now (S.left source.old) (S.left source.new) transcript.new text)) }
 
     // The other refusals, each with its cause. They leave the sink and the transcript as they were. 3 and 4 come exactly
     // where the source or the sink failed: at every other status their counts of faults stand still.
@@ -79,14 +77,7 @@ pub fn run<S: Source, K: Sink>(
         → OnTold (S.left source.old) (λ input. IsTask (task_of asked) input → (result.0 ≡ 0) ⊎ (result.0 ≡ 5))) }
     ensures no_other { IsStatus result }
 
-    // `gen N` reads nothing and answers 0, 4 or 5. At 0 the session of the script that N makes is in the transcript, and the
-    // sink took its lines; at 4 a prefix of them; at 5 nothing was written, and the transcript is empty or that session.
-    ensures gen_done { result ≡ Status.DONE → IfSome (gen_of words.now) (λ n. (text : List ℕ)
-        × Generated n transcript.new text × Appends (K.taken sink.old) (K.taken sink.new) text) }
-    ensures gen_write_fault { result ≡ Status.WRITE_FAULT → IfSome (gen_of words.now) (λ n. (text : List ℕ)
-        × Generated n transcript.new text × AppendsPrefix (K.taken sink.old) (K.taken sink.new) text × Rose (K.faults sink.old) (K.faults sink.new)) }
-    ensures gen_memory { result ≡ Status.MEMORY → IfSome (gen_of words.now) (λ n. (sink.new ≡ sink.old) × ((transcript.new ≡ [])
-        ⊎ ((text : List ℕ) × Generated n transcript.new text))) }
+    // `gen N` reads nothing and answers 0, 4 or 5.
     ensures gen_answers { IfSome (gen_of words.now) (λ n. (source.new ≡ source.old) × IsGenStatus result) }
 {
     match command_of(words) {

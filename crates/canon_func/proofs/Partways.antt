@@ -70,7 +70,7 @@ module _ {T : Type 0} (its : AskForm T) (sound : AskSound its) (lawful : AskLawf
   FirstSteps = asked_steps its before.store callee asked words memory before.ledger
 
   abbrev Stopped : Type 0
-  Stopped = HostPartway its answers_so callee fuel index words memory before after.ledger
+  Stopped = HostPartway its answers_so callee fuel index words memory before e after.ledger
 
   abbrev Called : its.Params → LedgerState → LedgerState → Type 0
   Called = HostCalled its answers_so callee fuel index words memory before asked
@@ -93,7 +93,7 @@ module _ {T : Type 0} (its : AskForm T) (sound : AskSound its) (lawful : AskLawf
   after_lifting : (params : its.Params) (lifted : LedgerState) → its.lifts before.store callee fuel asked words memory (enter before.ledger) (Ok params) lifted → Through before.ledger FirstSteps lifted
       → StopsCalled its answers_so callee fuel asked index words memory memory2 answers trap before after e params lifted → Stopped
   after_lifting params lifted lift first (inl (short, left, same, quiet)) = (asked, is, inl (whole_first lifted first left))
-  after_lifting params lifted lift first (inr (inl (why, told, steps, gave, quiet))) = (asked, is, inr (inl (params, lifted, why, after.state, record { lifts = lift; first = first; steps = steps }, gave)))
+  after_lifting params lifted lift first (inr (inl (why, told, steps, gave, quiet))) = (asked, is, inr (inl (params, lifted, why, after.state, told, record { lifts = lift; first = first; steps = steps }, gave)))
   after_lifting params lifted lift first (inr (inr (results, called, steps, gave, given))) =
       (asked, is, inr (inr (params, results, lifted, called, after.state, record { lifts = lift; first = first; steps = steps }, gave, given_partway results called given)))
 
@@ -112,9 +112,9 @@ module _ {T : Type 0} (its : AskForm T) (sound : AskSound its) (lawful : AskLawf
   host_partway (inr (inr (params, lifted, lift, stops))) = inr (called_partway params lifted lift stops)
 
 -- what was served went through all steps
-through_host : {T : Type 0} (its : AskForm T) (answers_so : Answering T) (callee : Callee) (fuel : ℕ) (t : AskTurn) (l n : HostSide T) → HostThrough its answers_so callee fuel t l n
-    → HostPartway its answers_so callee fuel t.index t.words t.memory l n.ledger
-through_host its answers_so callee fuel t l n h = (
+through_host : {T : Type 0} (its : AskForm T) (answers_so : Answering T) (callee : Callee) (fuel : ℕ) (t : AskTurn) (l n : HostSide T) (e : Error) → HostThrough its answers_so callee fuel t l n
+    → HostPartway its answers_so callee fuel t.index t.words t.memory l e n.ledger
+through_host its answers_so callee fuel t l n e h = (
   h.served.asked,
   h.served.is,
   inr (inr (
@@ -131,36 +131,36 @@ through_host its answers_so callee fuel t l n h = (
 
 module _ {T : Type 0} (gives : Giving T) (lawful : (n : ℕ) → IsLawful (gives.form n)) (callee : Callee) (fuel : ℕ) where
   stops_partway : (asked : Asked) (index : ℕ) (words memory memory2 : List ℕ) (answers : List Answer) (trap : Option Trap) (l n : HostSide T) (e : Error) → HostStops gives callee fuel asked index words memory memory2 answers trap l n e
-      → AskPartway gives callee fuel index words memory l n.ledger
+      → AskPartway gives callee fuel e index words memory l n.ledger
   stops_partway asked index words memory memory2 answers trap l n e h =
       ⊎_elim (λ same. inl same) (λ part. inr (inr part))
       (host_partway (ask_at gives index) (form_sound (gives.form index)) (form_lawful (gives.form index) (lawful index)) gives.answers callee fuel asked index words memory memory2 answers trap l n e h.is h.stops)
 
-  served_partway : (t : AskTurn) (l n : HostSide T) → AskThrough gives callee fuel t l n → AskPartway gives callee fuel t.index t.words t.memory l n.ledger
-  served_partway t l n (inl (builtin, through)) = inr (inl (builtin.called, builtin.is.known, through_partway l.ledger n.ledger (ask_steps callee builtin.called t.words) through))
-  served_partway t l n (inr h) = inr (inr (through_host (ask_at gives t.index) gives.answers callee fuel t l n h))
+  served_partway : (t : AskTurn) (l n : HostSide T) (e : Error) → AskThrough gives callee fuel t l n → AskPartway gives callee fuel e t.index t.words t.memory l n.ledger
+  served_partway t l n e (inl (builtin, through)) = inr (inl (builtin.called, builtin.is.known, through_partway l.ledger n.ledger (ask_steps callee builtin.called t.words) through))
+  served_partway t l n e (inr h) = inr (inr (through_host (ask_at gives t.index) gives.answers callee fuel t l n e h))
 
   -- ---- any ask
 
-  builtin_partway : (index : ℕ) (words memory : List ℕ) (called : Builtin) (l : HostSide T) (n : LedgerState) → builtin_at callee index ≡ Some called → n ≡ (ask_step callee.types called words l.ledger).after → AskPartway gives callee fuel index words memory l n
-  builtin_partway index words memory called l n known left = inr (inl (called, known, one_step l.ledger n _ _ refl left))
+  builtin_partway : (e : Error) (index : ℕ) (words memory : List ℕ) (called : Builtin) (l : HostSide T) (n : LedgerState) → builtin_at callee index ≡ Some called → n ≡ (ask_step callee.types called words l.ledger).after → AskPartway gives callee fuel e index words memory l n
+  builtin_partway e index words memory called l n known left = inr (inl (called, known, one_step l.ledger n _ _ refl left))
 
-  short_partway : (index : ℕ) (words memory : List ℕ) (l n : HostSide T) (h : BuiltinIsShort callee index words l n) → (n.ledger ≡ l.ledger) ⊎ (n.ledger ≡ (ask_step callee.types h.called words l.ledger).after)
-      → AskPartway gives callee fuel index words memory l n.ledger
-  short_partway index words memory l n h (inl same) = inl same
-  short_partway index words memory l n h (inr left) = builtin_partway index words memory h.called l n.ledger h.is.known left
+  short_partway : (e : Error) (index : ℕ) (words memory : List ℕ) (l n : HostSide T) (h : BuiltinIsShort callee index words l n) → (n.ledger ≡ l.ledger) ⊎ (n.ledger ≡ (ask_step callee.types h.called words l.ledger).after)
+      → AskPartway gives callee fuel e index words memory l n.ledger
+  short_partway e index words memory l n h (inl same) = inl same
+  short_partway e index words memory l n h (inr left) = builtin_partway e index words memory h.called l n.ledger h.is.known left
 
   ask_stops : (e : Error) (l n : HostSide T) (index : ℕ) (words memory memory2 : List ℕ) (answers : List Answer) (trap : Option Trap) → AskStops gives callee fuel e index words memory memory2 answers trap l n
-      → AskPartway gives callee fuel index words memory l n.ledger
+      → AskPartway gives callee fuel e index words memory l n.ledger
   ask_stops error.TurnsExhausted l n index words memory memory2 answers trap h = inl (ap (λ s. s.ledger) h.0)
   ask_stops (error.UnknownImport k) l n index words memory memory2 answers trap h = inl (ap (λ s. s.ledger) h.2)
   ask_stops error.WrongWords l n index words memory memory2 answers trap h = inl (ap (λ s. s.ledger) h.3)
-  ask_stops (error.ImportFault k f) l n index words memory memory2 answers trap (same, inl (h, quiet)) = builtin_partway index words memory h.called l n.ledger h.is.known (sym (ap (λ (d : Done ℕ). d.after) h.refused))
+  ask_stops (error.ImportFault k f) l n index words memory memory2 answers trap (same, inl (h, quiet)) = builtin_partway (error.ImportFault k f) index words memory h.called l n.ledger h.is.known (sym (ap (λ (d : Done ℕ). d.after) h.refused))
   ask_stops (error.ImportFault k f) l n index words memory memory2 answers trap (same, inr (asked, h)) = stops_partway asked index words memory memory2 answers trap l n (error.ImportFault k f) h
   ask_stops (error.HostRefused k) l n index words memory memory2 answers trap (same, (asked, h)) = stops_partway asked index words memory memory2 answers trap l n (error.HostRefused k) h
-  ask_stops (error.Fault fault.OutOfMemory) l n index words memory memory2 answers trap (inl (h, none, quiet)) = short_partway index words memory l n h h.left
+  ask_stops (error.Fault fault.OutOfMemory) l n index words memory memory2 answers trap (inl (h, none, quiet)) = short_partway (error.Fault fault.OutOfMemory) index words memory l n h h.left
   ask_stops (error.Fault fault.OutOfMemory) l n index words memory memory2 answers trap (inr (inl (asked, h))) = stops_partway asked index words memory memory2 answers trap l n (error.Fault fault.OutOfMemory) h
-  ask_stops (error.Fault fault.OutOfMemory) l n index words memory memory2 answers trap (inr (inr (resumed, memory3, none, longer, h))) = served_partway (ask_turn index words memory answers resumed memory3) l n (host_through gives lawful callee fuel (ask_turn index words memory answers resumed memory3) l n h)
+  ask_stops (error.Fault fault.OutOfMemory) l n index words memory memory2 answers trap (inr (inr (resumed, memory3, none, longer, h))) = served_partway (ask_turn index words memory answers resumed memory3) l n (error.Fault fault.OutOfMemory) (host_through gives lawful callee fuel (ask_turn index words memory answers resumed memory3) l n h)
   ask_stops e l n index words memory memory2 answers trap h = absurd h
 
 module _ {T R : Type 0} (args : Arguments) (its : Returns R) (gives : Giving T) (lawful : (n : ℕ) → IsLawful (gives.form n)) (callee : Callee) (fuel : ℕ) (law : ReadsRightly callee its) where
@@ -182,14 +182,14 @@ module _ {T R : Type 0} (args : Arguments) (its : Returns R) (gives : Giving T) 
         let taken = law.taken words memory lifts.ended n lifts.lifts in
         ended_partway lifts.ended lifts.ends (compose_parts lifts.ended n n (leaves_steps lifts.ended parts) (Leave ∷ []) (leaves_through lifts.ended n parts taken.0 taken.1) (inl refl))
 
-  goes_on : (e : Error) (memory2 : List ℕ) (late : List Answer) (trap : Option Trap) (l n : HostSide T) (tail : List Event) → StopsStartedOf its gives callee fuel e memory2 late trap l n tail → GoesOn gives callee fuel its.parts l n.ledger tail
+  goes_on : (e : Error) (memory2 : List ℕ) (late : List Answer) (trap : Option Trap) (l n : HostSide T) (tail : List Event) → StopsStartedOf its gives callee fuel e memory2 late trap l n tail → GoesOn gives callee fuel e its.parts l n.ledger tail
   goes_on e memory2 late trap l n tail (inl (inl (none, same, each, calm), kept)) = inl same
   goes_on e memory2 late trap l n tail (inl (inr (inl (untold, calm, some)), kept)) = inr (inr (some_return _ _ (λ ws m h. returned_partway ws m l.ledger n.ledger (stopped_by e) h.1) tail some))
   goes_on e memory2 late trap l n tail (inl (inr (inr (none, posts, some)), kept)) = inr (inr (some_return _ _ (λ ws m h. lifted_partway ws m l.ledger n.ledger h) tail some))
   goes_on e memory2 late trap l n tail (inr asked) = inr (inl (begins _ _ (λ index ws m more h. ask_stops gives lawful callee fuel e l n index ws m memory2 late trap h) tail asked))
 
   pub passes_partway : (turns : List AskTurn) (memory2 : List ℕ) (late : List Answer) (trap : Option Trap) (before after : HostSide T) (given : List ℕ) (e : Error) (events tail : List Event)
-      → HandlesPassOf args its gives callee fuel turns memory2 late trap before after given (Err e) events tail → PassesPartway gives callee fuel args.parts its.parts turns before after.ledger events tail
+      → HandlesPassOf args its gives callee fuel turns memory2 late trap before after given (Err e) events tail → PassesPartway gives callee fuel e args.parts its.parts turns before after.ledger events tail
   passes_partway turns memory2 late trap before after given e events tail (inl (short, none, same)) = inl (subst (λ es. Each IsNoStart es) (sym none) tt, inl (ap (λ s. s.ledger) same))
   passes_partway turns memory2 late trap before after given e events tail (inr (inl (unstarted, stops, kept))) = inl (unstarted, inr (inr (0, refl, leaves_partway (stopped_by e) (enter before.ledger) after.ledger args.parts stops)))
   passes_partway turns memory2 late trap before after given e events tail (inr (inr (lowered, took, (served, serves, stops)))) =

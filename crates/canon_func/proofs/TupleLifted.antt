@@ -14,13 +14,12 @@ use Rattle.canon_context.specs.declared.fault.Fault.TheVariants as fault
 use Rattle.canon_leaves.specs.Parts.{LeavesStop}
 use Rattle.canon_ledger.specs.Ledger.{LedgerState}
 use Rattle.canon_reading.specs.Reading as lifting
-use Rattle.canon_reading.specs.Reading.{AreTaken, Lifts, Reading, Setting, setting_in}
+use Rattle.canon_reading.specs.Reading.{AreTaken, Reading, Setting, setting_in}
 use Rattle.canon_reading.specs.Scopes.{AllKeep, IsKept, keep_scopes}
 use Rattle.canon_reading.specs.Spots.{flat_in}
 use Rattle.canon_model.specs.Flat.{max_results}
 use Rattle.canon_model.specs.Layout.{flat}
 use Rattle.canon_model.specs.Reach as reach
-use Rattle.canon_model.specs.Reach.{Kind}
 use Rattle.canon_model.specs.Shape.{Members, Shape, of_places, product}
 use Rattle.canon_types.specs.Depth.{has_borrow, member_borrows}
 use Rattle.canon_types.specs.Instance.{Instance}

@@ -24,8 +24,7 @@ use Rattle.canon_types.specs.declared.types.InterfaceType.{InterfaceType}
 use Rattle.canon_types.specs.declared.types.InterfaceType.TheVariants as ty
 use Rattle.canon_func.specs.Dynamic.{words_of_results}
 use Rattle.canon_func.specs.Laws.{OnlyRepresented, RepresentedIsEnough}
-use Rattle.canon_func.specs.Stores.{Callee}
-use Rattle.canon_func.specs.Typed.{results_shape, returned_setting, typed_results}
+use Rattle.canon_func.specs.Typed.{returned_setting}
 
 -- The members of a tuple stand in words, of which up to `most` are in a row.
 module _ {R : Type 0} (Fit : Instance → InterfaceType → Type 0) (reading : Reading R) (price : Tree → ℕ) (priced : IsPriced Fit reading price) (most : ℕ) (w : Setting) (type : ℕ) (ms : Members) (words : List ℕ)

@@ -28,7 +28,7 @@ use Rattle.canon_types.specs.declared.types.InterfaceType.{InterfaceType}
 use Rattle.canon_types.specs.declared.types.InterfaceType.TheVariants as ty
 use Rattle.canon_func.specs.Call.{HandlesPass, HandlesPassOf, param_parts, result_parts}
 use Rattle.canon_func.specs.AskForms.{AskForm, ask_at}
-use Rattle.canon_func.specs.HostAsks.{Gives, IsHostAsk, IsHostServedBy}
+use Rattle.canon_func.specs.HostAsks.{Gives, IsHostAsk, IsHostServedBy, stopped_error}
 use Rattle.canon_func.specs.Passing.{Arguments, Returns}
 use Rattle.canon_func.specs.Typed.{params_shape, results_shape, typed_args, typed_results}
 use Rattle.canon_func.specs.Runs.{AskTurn, BeginsInAsk, Each, IsNoStart, OnReturn, SomeReturn}
@@ -110,39 +110,39 @@ module _ {T : Type 0} (its : AskForm T) (answers_so : Answering T) (callee : Cal
     pub steps : HostSteps lifted called
 
   -- It was asked for, up to some step: one before its call, all that it took itself where it gave none, or one from the results on that it gave.
-  abbrev pub HostPartway : LedgerState → Type 0
-  HostPartway after = (asked : Asked) × IsHostAsk callee index words asked
+  abbrev pub HostPartway : Error → LedgerState → Type 0
+  HostPartway e after = (asked : Asked) × IsHostAsk callee index words asked
       × (Partway served.ledger (asked_steps its served.store callee asked words memory served.ledger) after
-      ⊎ ((params : its.Params) × (lifted : LedgerState) × (why : HostStop) × (state : T) × HostCalled asked params lifted after
+      ⊎ ((params : its.Params) × (lifted : LedgerState) × (why : HostStop) × (state : T) × (e ≡ stopped_error index why) × HostCalled asked params lifted after
       × Gives its answers_so callee fuel served index memory lifted params (Err why) state after)
       ⊎ ((params : its.Params) × (results : its.Results) × (lifted called : LedgerState) × (state : T) × HostCalled asked params lifted called
       × Gives its answers_so callee fuel served index memory lifted params (Ok results) state called × Partway called (given_steps its callee asked results called) after))
 
 module _ {T : Type 0} (gives : Giving T) (callee : Callee) (fuel : ℕ) where
   -- an ask that wasn't resumed: up to some step of a builtin or of a function of the host
-  abbrev pub AskPartway : ℕ → List ℕ → List ℕ → HostSide T → LedgerState → Type 0
-  AskPartway index words memory served after =
+  abbrev pub AskPartway : Error → ℕ → List ℕ → List ℕ → HostSide T → LedgerState → Type 0
+  AskPartway e index words memory served after =
       (after ≡ served.ledger)
       ⊎ ((called : Builtin) × (builtin_at callee index ≡ Some called) × Partway served.ledger (ask_steps callee called words) after)
-      ⊎ HostPartway (ask_at gives index) gives.answers callee fuel index words memory served after
+      ⊎ HostPartway (ask_at gives index) gives.answers callee fuel index words memory served e after
 
   -- from the last turn on, of a call that was refused after its start: nothing, or up to some step of its last ask, or from its return on
-  abbrev pub GoesOn : (List ℕ → List ℕ → List (List Part)) → HostSide T → LedgerState → List Event → Type 0
-  GoesOn last served after tail = (after ≡ served.ledger)
-      ⊎ BeginsInAsk (λ index words memory more. AskPartway index words memory served after) tail
+  abbrev pub GoesOn : Error → (List ℕ → List ℕ → List (List Part)) → HostSide T → LedgerState → List Event → Type 0
+  GoesOn e last served after tail = (after ≡ served.ledger)
+      ⊎ BeginsInAsk (λ index words memory more. AskPartway e index words memory served after) tail
       ⊎ SomeReturn (λ words memory. Partway served.ledger (last_steps (last words memory) served.ledger) after) tail
 
   -- of a call that is refused, up to some step
-  abbrev pub PassesPartway : List (List Part) → (List ℕ → List ℕ → List (List Part)) → List AskTurn → HostSide T → LedgerState → List Event → List Event → Type 0
-  PassesPartway first last turns before after events tail =
+  abbrev pub PassesPartway : Error → List (List Part) → (List ℕ → List ℕ → List (List Part)) → List AskTurn → HostSide T → LedgerState → List Event → List Event → Type 0
+  PassesPartway e first last turns before after events tail =
       (Each IsNoStart events × Partway before.ledger (first_steps first before.ledger) after)
-      ⊎ ((served : HostSide T) × CallThrough gives callee fuel first turns before served × GoesOn last served after tail)
+      ⊎ ((served : HostSide T) × CallThrough gives callee fuel first turns before served × GoesOn e last served after tail)
 
 -- The ledger of a call that is refused went through the same steps up to some step, which is one of those that the events determine.
 abbrev pub RefusedIsPartway : {T : Type 0} → Giving T → Type 0
 RefusedIsPartway {T} gives = (callee : Callee) (fuel : ℕ) (params : List Val) (turns : List AskTurn) (memory2 : List ℕ) (late : List Answer) (trap : Option Trap) (before after : HostSide T) (given : List ℕ) (e : Error) (results : List Val) (events tail : List Event)
     → HandlesPass gives callee fuel params turns memory2 late trap before after given (Err e) results events tail
-    → PassesPartway gives callee fuel (param_parts callee params) (result_parts callee) turns before after.ledger events tail
+    → PassesPartway gives callee fuel e (param_parts callee params) (result_parts callee) turns before after.ledger events tail
 
 -- ---- of a typed call
 
@@ -154,7 +154,7 @@ module _ {T R : Type 0} (args : Arguments) (its : Returns R) (gives : Giving T) 
 
   abbrev pub IsPartway : Type 0
   IsPartway = (fuel : ℕ) (turns : List AskTurn) (memory2 : List ℕ) (late : List Answer) (trap : Option Trap) (before after : HostSide T) (given : List ℕ) (e : Error) (events tail : List Event)
-      → HandlesPassOf args its gives callee fuel turns memory2 late trap before after given (Err e) events tail → PassesPartway gives callee fuel args.parts its.parts turns before after.ledger events tail
+      → HandlesPassOf args its gives callee fuel turns memory2 late trap before after given (Err e) events tail → PassesPartway gives callee fuel e args.parts its.parts turns before after.ledger events tail
 
 module _ {T P R : Type 0} (gives : Giving T) (Walks : P → Tree → Type 0) (steps : Instance → Shape → P → List (List Part)) (reading : Reading R) where
   abbrev pub TypedIsThrough : Type 0

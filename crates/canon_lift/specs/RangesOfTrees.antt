@@ -1,7 +1,6 @@
 -- Texts and lists that stay in memory: their faults are those of their pointers, and their charges are those of the trees that stand there.
-use Rattle.std.proofs.Common.{◌≡◌, ◌+◌, ◌*◌, ◌∙◌, ap, inl, inr, le-leb, refl, subst, subst₂, sym, ℕ, add-zero, zero-add}
+use Rattle.std.proofs.Common.{◌≡◌, ◌+◌, ◌*◌, ◌∙◌, ap, inl, le-leb, refl, subst, subst₂, sym, ℕ, add-zero, zero-add}
 use Rattle.std.proofs.lemmas.Bool.{cond-true}
-use Rattle.canon_ledger.specs.Ledger.{LedgerState}
 use Rattle.canon_model.specs.Layout.{size}
 use Rattle.canon_model.specs.Memory.{Memory}
 use Rattle.canon_model.specs.Reach.{At, Kind, is_inside}

@@ -1,5 +1,5 @@
 -- What is read at a spot has no fault there, since it is so of the parts.
-use Rattle.std.proofs.Common.{◌≡◌, ◌≤◌, ◌<◌, ◌+◌, ◌*◌, ◌∙◌, Bool, Err, List, None, Ok, Some, [], ◌∷◌, ap, false, inl, inr, length, subst, subst₂, suc, suc-mul, sym, true, zero, zero-mul, add-zero, add_assoc, add_comm, ℕ}
+use Rattle.std.proofs.Common.{◌≡◌, ◌≤◌, ◌<◌, ◌+◌, ◌*◌, ◌∙◌, Bool, Err, List, None, Ok, Some, [], ◌∷◌, ap, false, inl, inr, length, subst, suc, suc-mul, sym, true, zero, zero-mul, add-zero, add_assoc, add_comm, ℕ}
 use Rattle.std.proofs.Math.Nat.{le_of_suc-le-suc, not-suc-le-zero, suc-ne-zero}
 use Rattle.canon_ledger.specs.Ledger.{LedgerState}
 use Rattle.canon_model.proofs.Faults.{fault_excludes}
@@ -9,11 +9,9 @@ use Rattle.canon_model.specs.Reach.{At, IsGood, Kind, PointerFault}
 use Rattle.canon_model.specs.Shape.{Members, Shape, member, no_members}
 use Rattle.canon_model.specs.Tree.{Tree}
 use Rattle.canon_types.specs.Depth.{element_shape, product_members}
-use Rattle.canon_types.specs.Instance.{Instance}
-use Rattle.canon_types.specs.declared.types.InterfaceType.{InterfaceType}
 use Rattle.canon_reading.specs.MapsOfTrees.{map_reading, pair_reading}
 use Rattle.canon_reading.specs.Reading.{Reading, Setting}
-use Rattle.canon_reading.specs.Readings.{EachReads, IsGoodList, RestReading, boxed_reading, first_reading, fixed_reading, item_spot, list_reading, none_reading, nothing_reading}
+use Rattle.canon_reading.specs.Readings.{EachReads, RestReading, boxed_reading, first_reading, fixed_reading, item_spot, list_reading, none_reading, nothing_reading}
 use Rattle.canon_reading.specs.Readings.{option_reading, payload_reading, product_reading, read_as, result_reading, tree_reading, CaseReads, CasesFault, EachFault, TreeReads, fixed_element}
 use Rattle.canon_reading.specs.Spots.{Faulty, Represents, behind, Rest, Spot, flat_in, pointer_in, stored, length_in, first_spot, others, members_in}
 

@@ -1,5 +1,5 @@
 -- The same of lists and of tuples.
-use Rattle.std.proofs.Common.{◌≡◌, ◌+◌, ◌*◌, ◌%◌, ◌==◌, ◌++◌, ◌∙◌, List, [], ◌∷◌, ap, ap₂, eq-eqb, false, if◌then◌else◌, inl, inr, le-leb, length, refl, subst, suc, sym, zero, ℕ, add-zero, zero-add}
+use Rattle.std.proofs.Common.{◌≡◌, ◌+◌, ◌*◌, ◌%◌, ◌==◌, ◌++◌, ◌∙◌, List, [], ◌∷◌, ap, ap₂, eq-eqb, false, if◌then◌else◌, inl, inr, le-leb, length, refl, subst, suc, sym, zero, ℕ}
 use Rattle.std.proofs.lemmas.Bool.{cond-true}
 use Rattle.canon_ledger.specs.Ledger.{LedgerState}
 use Rattle.canon_model.specs.Flat.{Flat, MembersFlat}
@@ -14,16 +14,15 @@ use Rattle.canon_types.specs.Instance.{Instance}
 use Rattle.canon_types.specs.Table.{members_of, shape_of}
 use Rattle.canon_types.specs.declared.types.InterfaceType.{InterfaceType}
 use Rattle.canon_types.specs.declared.types.InterfaceType.TheVariants as ty
-use Rattle.canon_typed.specs.Charges.{each_cost, list_cost, product_cost, row_cost, free}
+use Rattle.canon_typed.specs.Charges.{each_cost, list_cost, product_cost, row_cost}
 use Rattle.canon_typed.specs.Meaning.{EachMeans, FirstAnd, ListMeans, NoTrees, ProductMeans, RowMeans}
 use Rattle.canon_typed.specs.Types.{AreOf, IsFixedOf, IsListOf, IsTupleOf}
 use Rattle.canon_reading.specs.OfTrees.{IsFaulted, IsFaultedAt, IsOfTrees, IsOfTreesAt, IsPriced, IsPricedAt, faulted_at, priced_at, told_at, untrue, AreSteps}
 use Rattle.canon_reading.specs.Reading.{Reading, Setting}
-use Rattle.canon_reading.specs.Readings.{EachFault, EachReads, ListReads, RestReading, each_reach, first_reading, fixed_reading, list_reading, none_reading, product_reading, each_steps, ListPointerFault}
+use Rattle.canon_reading.specs.Readings.{EachFault, EachReads, ListReads, RestReading, each_reach, first_reading, fixed_reading, list_reading, none_reading, product_reading, each_steps}
 use Rattle.canon_reading.specs.Spots.{Faulty, HasRoom, Represents, Rest, Spot, behind, first_spot, flat_from, flat_in, length_in, members_in, others, pointer_in, stored, stored_from, leaves_in}
 use Rattle.canon_model.specs.Leaves.{Leaf, flat_leaves, list_at, members_flat_leaves, members_reach_leaves, reach_leaves}
 use Rattle.canon_leaves.specs.Parts.{Part}
-use Rattle.canon_types.specs.Depth.{element_shape}
 use Rattle.canon_reading.specs.Ways.{AreLiftedBy, lifted_if, lifted_then}
 
 -- ---- values in a row

@@ -5,7 +5,7 @@ use Rattle.canon_leaves.specs.Parts.{LeafTakes, LeavesTake, Part}
 use Rattle.canon_ledger.specs.Ledger.{LedgerState}
 use Rattle.canon_model.specs.Layout.{payload_shape}
 use Rattle.canon_model.specs.Shape.{Cases, ListKind, Shape, case_for, list, no_cases, of_items, of_pairs, tuple}
-use Rattle.canon_types.specs.Depth.{case_borrows, has_borrow, member_borrows, variant_cases}
+use Rattle.canon_types.specs.Depth.{case_borrows, has_borrow, member_borrows}
 use Rattle.canon_types.specs.Instance.{Instance}
 use Rattle.canon_types.specs.Table.{all_shapes, members_of, payload_in, shape_of}
 use Rattle.canon_types.specs.declared.types.InterfaceType.{InterfaceType}

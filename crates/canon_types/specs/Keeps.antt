@@ -19,6 +19,7 @@ use Rattle.canon_types.specs.declared.types.TypeFixedLengthList.{TypeFixedLength
 use Rattle.canon_types.specs.declared.table.Item.{Item}
 use Rattle.canon_types.specs.declared.table.Item.TheVariants as item
 use Rattle.canon_types.specs.declared.table.Entry.{Entry}
+use Rattle.canon_types.specs.declared.table.TupleEntry.{TupleEntry}
 use Rattle.canon_types.specs.declared.table.PlainAbis.{PlainAbis}
 use Rattle.canon_types.specs.declared.table.ComponentTypes.TheInside.{Inside}
 use Rattle.canon_types.specs.Depth.{depth, element_shape, has_borrow, product_members, variant_cases}
@@ -84,6 +85,10 @@ definition_of (item.Option x) = option_type x
 definition_of (item.Result x) = result_type x
 definition_of (item.Flags x) = flags_type x
 definition_of (item.FixedLengthList x) = fixed_list_type x
+
+-- a tuple as an entry
+abbrev pub entry_of : TupleEntry → Entry
+entry_of t = record { item = item.Tuple t.tuple; depth = t.depth; has_borrow = t.has_borrow }
 
 -- ---- numbers
 

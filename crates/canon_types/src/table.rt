@@ -65,6 +65,14 @@ struct Entry {
     has_borrow: bool,
 }
 
+/// A tuple with its depth, and whether a borrowed handle occurs in it, as it is before it is an entry.
+#[derive(Drop)]
+struct TupleEntry {
+    tuple: TypeTuple,
+    depth: u32,
+    has_borrow: bool,
+}
+
 /// The types of a component. Contracts see the definitions, functions and resource tables in the order in which they
 /// were added.
 #[derive(Drop)]

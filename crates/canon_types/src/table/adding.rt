@@ -7,13 +7,13 @@ ghost use Rattle.canon_abi.specs.Abi.{AreOfCases, AreOfMembers, HasInfo, HasLayo
 ghost use Rattle.canon_model.specs.Layout.{offset, size};
 ghost use Rattle.canon_model.specs.Shape.{VariantKind, fixed, of_option, of_places, product, tuple, tuple_members, variant};
 ghost use Rattle.canon_types.specs.Depth.{deepest, has_borrow, member_borrows};
-ghost use Rattle.canon_types.specs.Keeps.{IsEntry, cases_type, definition_of, fields_type, names_of};
+ghost use Rattle.canon_types.specs.Keeps.{IsEntry, cases_type, definition_of, entry_of, fields_type, names_of};
 ghost use Rattle.canon_types.specs.Laid.{AreLaid, ArePayloadsLaid, IsPayloadLaid, unnamed_cases};
 ghost use Rattle.canon_types.specs.Refusal.{Adds, AddsFunc, AddsResource, func_parts_refusal, func_refusal, is_full_for, refusal, is_unit_type, resource_refusal, with_definition, with_func_of};
 ghost use Rattle.canon_types.specs.Table.{EnumType, FixedListType, FlagsType, Knows, KnowsPayload, ListType, MapType, OptionType, ResultType, TupleType, all_shapes, defined_shape, is_tuple, knows, members_of, shape_of};
 
 use super::names::{MAX_FLAGS, MAX_NAMES, case_map, check_count, check_fields, name_set};
-use super::{ComponentTypes, Entry, Item, MAX_DEPTH};
+use super::{ComponentTypes, Entry, Item, MAX_DEPTH, TupleEntry};
 use crate::{
     InterfaceType, RecordField, TypeEnum, TypeEnumIndex, TypeError, TypeFixedLengthList,
     TypeFixedLengthListIndex, TypeFlags, TypeFlagsIndex, TypeFunc, TypeFuncIndex, TypeList,
@@ -503,11 +503,11 @@ impl ComponentTypes {
     }
 
     /// The entry of a tuple of known types, which may have no members.
-    fn tuple_entry(&self, types: Vec<InterfaceType>) -> Result<Entry, TypeError>
+    fn tuple_entry(&self, types: Vec<InterfaceType>) -> Result<TupleEntry, TypeError>
         requires known { All (Knows self.now) types.items }
         requires shallow { deepest (members_of self.now types.items) < 100 }
-        ensures ok { IfOk result (λ e. definition_of e.item ≡ TupleType types.items) }
-        ensures entry { IfOk result (λ e. IsEntry self.now (defined_shape (all_shapes self.now) (definition_of e.item)) e) }
+        ensures ok { IfOk result (λ e. definition_of (entry_of e).item ≡ TupleType types.items) }
+        ensures entry { IfOk result (λ e. IsEntry self.now (defined_shape (all_shapes self.now) (definition_of (entry_of e).item)) (entry_of e)) }
         ensures borrows { IfOk result (λ e. e.has_borrow ≡ member_borrows (members_of self.now types.items)) }
         ensures fits { OnOk result (size false (product of_places (members_of self.now types.items)) < 2 ^ 32) }
         ensures cause { IfErr result (λ e. e ≢ TypeError.OutOfMemory → (e ≡ TypeError.SizeTooLarge) × (2 ^ 32 ≤ size false (product of_places (members_of self.now types.items)))) }
@@ -515,9 +515,8 @@ impl ComponentTypes {
         let depth = self.deepest(&types) + 1;
         let has_borrow = self.any_borrow(&types);
         let abi = self.record_abi(&types)?;
-        let item = Item::Tuple(TypeTuple { types, abi });
-        Ok(Entry {
-            item,
+        Ok(TupleEntry {
+            tuple: TypeTuple { types, abi },
             depth,
             has_borrow,
         })
@@ -526,17 +525,17 @@ impl ComponentTypes {
     /// Adds two tuples and a function over them, all or none.
     fn push_func(
         &mut self,
-        params: Entry,
-        results: Entry,
+        params: TupleEntry,
+        results: TupleEntry,
         async_: bool,
     ) -> Result<TypeFuncIndex, TypeError>
         requires room { is_full_for 3 self.old ≡ false }
-        requires params_entry { IsEntry self.old (defined_shape (all_shapes self.old) (definition_of params.item)) params }
-        requires results_entry { IsEntry self.old (defined_shape (all_shapes self.old) (definition_of results.item)) results }
-        requires params_tuple { is_tuple (definition_of params.item) ≡ true }
-        requires results_tuple { is_tuple (definition_of results.item) ≡ true }
+        requires params_entry { IsEntry self.old (defined_shape (all_shapes self.old) (definition_of (entry_of params).item)) (entry_of params) }
+        requires results_entry { IsEntry self.old (defined_shape (all_shapes self.old) (definition_of (entry_of results).item)) (entry_of results) }
+        requires params_tuple { is_tuple (definition_of (entry_of params).item) ≡ true }
+        requires results_tuple { is_tuple (definition_of (entry_of results).item) ≡ true }
         requires results_plain { results.has_borrow ≡ false }
-        ensures ok { IfOk result (λ i. (i ≡ length self.old.funcs) × (self.new ≡ with_func_of self.old (definition_of params.item) (definition_of results.item) async_)) }
+        ensures ok { IfOk result (λ i. (i ≡ length self.old.funcs) × (self.new ≡ with_func_of self.old (definition_of (entry_of params).item) (definition_of (entry_of results).item) async_)) }
         ensures err { OnErr result (self.new ≡ self.old) }
         ensures cause { IfErr result (λ e. e ≡ TypeError.OutOfMemory) }
     {
@@ -549,8 +548,16 @@ impl ComponentTypes {
             results: TypeTupleIndex::from_u32(place + 1),
             async_,
         };
-        self.entries.push_reserved(params);
-        self.entries.push_reserved(results);
+        self.entries.push_reserved(Entry {
+            item: Item::Tuple(params.tuple),
+            depth: params.depth,
+            has_borrow: params.has_borrow,
+        });
+        self.entries.push_reserved(Entry {
+            item: Item::Tuple(results.tuple),
+            depth: results.depth,
+            has_borrow: results.has_borrow,
+        });
         self.funcs.push_reserved(func);
         Ok(TypeFuncIndex::from_u32(index))
     }
