@@ -22,7 +22,7 @@ use Rattle.canon_context.specs.declared.fault.Fault.TheVariants as fault
 use Rattle.canon_host.specs.HostSide.{Giving, HostSide}
 use Rattle.canon_func.specs.Asks.{AreServed, Limits}
 use Rattle.canon_func.specs.Call.{Accepts, AcceptsLater, Advances, AfterTurns, AskCause, AsksByTypes, Cause, IsCallOf, IsStart, lowering_ending, words_within}
-use Rattle.canon_func.specs.Passing.{Arguments, Returns}
+use Rattle.canon_func.specs.Passing.{Arguments, ReturnedValues}
 use Rattle.canon_func.specs.Runs.{AskTurn, Each, IsNoPost, IsTrap, OnReturn, OnStart, asks_in}
 use Rattle.canon_func.specs.Steps.{IsRest, RestCause}
 use Rattle.canon_func.specs.Stores.{Callee}
@@ -56,7 +56,7 @@ MetAll requests answers = (last : ℕ) → Meets last requests answers None []
 
 -- The parameters were lowered into these words, with these answers and these handles.
 pub record IsReady (args : Arguments) (callee : Callee) (entry mid : Moment) (words : List ℕ) (answers : List Answer) (given : List ℕ) : Type 0 where
-  pub start : IsStart args callee entry.bytes answers given words mid.bytes
+  pub start : IsStart args callee entry answers given words mid.bytes
   pub marks : mid.guest.marks ≡ entry.guest.marks ++ marks_of answers
   pub quiet : AsksByTypes callee.params done answers None
   pub requested : (ts : Trees) → args.are ts → MetAll (params_requests false callee.encoding callee.params ts) answers
@@ -79,6 +79,7 @@ module _ (args : Arguments) (callee : Callee) (entry mid : Moment) (words : List
       count = count;
       good = low.lowering.accepted;
       frame = λ tidy i h out. low.lowering.tidy tt tidy i h (λ q. q) out;
+      kept = λ lawful i h. (low.lowering.lawful tt lawful).kept i h (λ q. q);
     };
     marks = low.lowering.goes.marks;
     quiet = subst (λ o. AsksByTypes callee.params done low.answers o) low.lowering.cause quiet;
@@ -97,7 +98,7 @@ ask_cause_after callee limits entry mid after xs ys tail (error.ImportFault n f)
 ask_cause_after callee limits entry mid after xs ys tail (error.HostRefused n) none g h = h
 ask_cause_after callee limits entry mid after xs ys tail e none g h = absurd h
 
-cause_after : {R : Type 0} (args : Arguments) (its : Returns R) (callee : Callee) (limits : Limits) (entry mid after : Moment) (xs ys tail : List Event) (e : Error) → asks_in (xs ++ ys) ≡ asks_in ys → entry.guest.traps ≤ mid.guest.traps
+cause_after : {R : Type 0} (args : Arguments) (its : ReturnedValues R) (callee : Callee) (limits : Limits) (entry mid after : Moment) (xs ys tail : List Event) (e : Error) → asks_in (xs ++ ys) ≡ asks_in ys → entry.guest.traps ≤ mid.guest.traps
     → RestCause its callee limits mid after ys tail e → Cause args its callee limits entry after (xs ++ ys) tail e
 cause_after args its callee limits entry mid after xs ys tail error.WrongWords none g (inl h) = inl (ends_after _ xs ys h)
 cause_after args its callee limits entry mid after xs ys tail error.WrongWords none g (inr h) = inr (ask_cause_after callee limits entry mid after xs ys tail error.WrongWords none g h)
@@ -120,7 +121,7 @@ good_later m n [] le good = tt
 good_later m n (x ∷ xs) le good = ((good.0.0, omega (arith, le, good.0.1)), good_later m n xs le good.1)
 
 -- a call that was refused after its parameters were lowered accepted each answer
-accepted_after : {R : Type 0} (its : Returns R) (callee : Callee) (limits : Limits) (mid after : Moment) (ys tail : List Event) (answers : List Answer) (e : Error) → RestCause its callee limits mid after ys tail e
+accepted_after : {R : Type 0} (its : ReturnedValues R) (callee : Callee) (limits : Limits) (mid after : Moment) (ys tail : List Event) (answers : List Answer) (e : Error) → RestCause its callee limits mid after ys tail e
     → AllGood (length after.bytes) answers → Accepted (lowering_ending {R = R} (Err e)) (length after.bytes) answers
 accepted_after its callee limits mid after ys tail answers (error.Fault (fault.ReallocMisaligned a)) h good = absurd h
 accepted_after its callee limits mid after ys tail answers (error.Fault (fault.ReallocOutOfBounds a)) h good = absurd h
@@ -140,7 +141,7 @@ each_start P p [] = tt
 each_start P p (event.Start f ws m ∷ events) = (p, each_start P p events)
 each_start P p (e ∷ events) = (tt, each_start P p events)
 
-module _ {T R : Type 0} (args : Arguments) (its : Returns R) (gives : Giving T) (callee : Callee) (limits : Limits) (Leaves : List ℕ → List ℕ → Type 0) (entry mid after : Moment) (l0 l1 l2 : HostSide T)
+module _ {T R : Type 0} (args : Arguments) (its : ReturnedValues R) (gives : Giving T) (callee : Callee) (limits : Limits) (Leaves : List ℕ → List ℕ → Type 0) (entry mid after : Moment) (l0 l1 l2 : HostSide T)
     (same : l1 ≡ record l0 { ledger = l1.ledger }) (words : List ℕ) (answers : List Answer) (given : List ℕ) (later : List Event) where
   abbrev first : List Event
   first = events_of answers None
@@ -202,6 +203,8 @@ module _ {T R : Type 0} (args : Arguments) (its : Returns R) (gives : Giving T) 
     only_results = return_then _ first later early rest.only_results;
     posted = posted_after rest.posted;
     leaves = return_then _ first later early rest.leaves;
+    unstarted = λ other none calm. absurd (rest.started other (each_after _ first later none));
+    returned = λ other none. return_then _ first later early (rest.returned other (each_after _ first later none));
     cause = tt;
     valid = λ ts have small lawful none calm quiet right accepted. tt;
   }
@@ -230,6 +233,8 @@ module _ {T R : Type 0} (args : Arguments) (its : Returns R) (gives : Giving T) 
     only_results = tt;
     posted = posted_after rest.posted;
     leaves = tt;
+    unstarted = λ other none calm. absurd (rest.started other (each_after _ first later none));
+    returned = λ other none. return_then _ first later early (rest.returned other (each_after _ first later none));
     cause = cause_after args its callee limits entry mid after (events_of answers None) later rest.tail e asks_later goes.traps_later rest.cause;
     valid = λ ts have small lawful none calm few right accepted. rest.valid (lawful_second answers rest.late lawful) none (λ h. calm (ends_after IsTrap first later h))
         (at_most (asks_in later) (asks_in (first ++ later)) limits.turns (sym asks_later) few) (each_after _ first later right) (accepts_rest rest.turns rest.tail took accepted);

@@ -21,7 +21,7 @@ use Rattle.canon_host.specs.HostSide.{Giving, HostSide}
 use Rattle.canon_func.specs.Asks.{Limits}
 use Rattle.canon_func.specs.Call.{Adding, IsCallOf, Left, OnAnswered}
 use Rattle.canon_func.specs.Runs.{AskTurn, answers_in, events_in, posts}
-use Rattle.canon_func.specs.Passing.{Arguments, Returns}
+use Rattle.canon_func.specs.Passing.{Arguments, ReturnedValues}
 use Rattle.canon_func.specs.Steps.{Concluded, Ended, Proceeds, IsLate, IsRest, Lifted, LoweredArgs, MayRun, Posted, RunsOut, RunsToEnd, RunsUntil, RestCause, Serving, so_far}
 use Rattle.canon_func.specs.Stores.{Callee}
 use Rattle.canon_func.specs.declared.error.Error.{Error}
@@ -55,7 +55,7 @@ other e = cc
 
 -- ---- from the start on
 
-module _ {T R : Type 0} (its : Returns R) (gives : Giving T) (callee : Callee) (limits : Limits) (Leaves : List ℕ → List ℕ → Type 0) (law : ReadsRightly callee its) (words : List ℕ) where
+module _ {T R : Type 0} (its : ReturnedValues R) (gives : Giving T) (callee : Callee) (limits : Limits) (Leaves : List ℕ → List ℕ → Type 0) (law : ReadsRightly callee its) (words : List ℕ) where
   -- how the guest ran, and what came after its return
   joined_run : (before : Moment) (turns : List AskTurn) (ret : Event) (later : List Event) → so_far callee words before turns (ret ∷ []) ++ later ≡ so_far callee words before turns (ret ∷ later)
   joined_run before turns ret later = ap (λ es. event.Start callee.func words before.bytes ∷ es) (append_assoc (events_in turns) (ret ∷ []) later)
@@ -108,7 +108,7 @@ module _ {T R : Type 0} (its : Returns R) (gives : Giving T) (callee : Callee) (
     rest_refused a b l l2 e answers xs longer (inr (returned, out)) =
         subst (λ es. IsRest its gives callee limits Leaves words a b l l2 (Err e) answers es) (append-nil xs)
         (rest_of_ran a b b l out.ran l2 returned (Err e) answers xs [] out.run
-        (unended_tail its gives callee limits Leaves law a b (length out.run.turns) out.run.len out.ran l2 out.kept returned b.bytes out.run.few out.run.longer (same_le (length b.bytes)) e out.ends))
+        (unended_tail its gives callee limits Leaves law a b (length out.run.turns) out.run.len out.ran l2 out.kept returned b.bytes out.run.few out.run.longer (same_le (length b.bytes)) refl e out.ends))
 
     pub run_refused : (a b : Moment) (l l2 : HostSide T) (e : Error) (M N : List Event → Type 0) → ((es : List Event) → M es → N es) → Serving a b M (RunsToEnd gives callee limits words a b l l2 (Err e))
         → Serving a b N (IsRest its gives callee limits Leaves words a b l l2 (Err e))
@@ -139,7 +139,7 @@ module _ {T : Type 0} (gives : Giving T) (callee : Callee) (limits : Limits) (wo
 
 -- ---- after the scope ended
 
-module _ {R : Type 0} (its : Returns R) (Leaves : List ℕ → List ℕ → Type 0) (callee : Callee) (fuel : ℕ) (words : List ℕ) (l : LedgerState) where
+module _ {R : Type 0} (its : ReturnedValues R) (Leaves : List ℕ → List ℕ → Type 0) (callee : Callee) (fuel : ℕ) (words : List ℕ) (l : LedgerState) where
   -- the words weren't lifted
   pub conclude_unlifted : (s : Seen) (bytes : List ℕ) (l2 : LedgerState) (f : Fault) (M : List Event → Type 0) → Lifted its fuel words bytes l l2 (Err f) → M []
       → Proceeds (moment s bytes) (moment s bytes) M (Concluded its Leaves callee fuel words (moment s bytes) (moment s bytes) l l2 (Err (error.Fault f)))
@@ -147,7 +147,7 @@ module _ {R : Type 0} (its : Returns R) (Leaves : List ℕ → List ℕ → Type
     events = [];
     goes = goes_none s bytes bytes (omega arith);
     moves = stays;
-    so = inl (f, refl, h, refl);
+    so = inl (f, refl, h, refl, refl);
   }
 
   module _ (a b : Moment) (m : LedgerState) (results : R) (lifted : Lifted its fuel words a.bytes l m (Ok results)) where
@@ -191,7 +191,7 @@ module _ (Leaves : List ℕ → List ℕ → Type 0) (callee : Callee) (words : 
 -- ---- the whole
 
 -- none of the refusals before the guest is entered
-pub rest_is_late : {R : Type 0} (its : Returns R) (callee : Callee) (limits : Limits) (a b : Moment) (es tail : List Event) (r : Result R Error) → IfErr r (RestCause its callee limits a b es tail) → IfErr r IsLate
+pub rest_is_late : {R : Type 0} (its : ReturnedValues R) (callee : Callee) (limits : Limits) (a b : Moment) (es tail : List Event) (r : Result R Error) → IfErr r (RestCause its callee limits a b es tail) → IfErr r IsLate
 rest_is_late its callee limits a b es tail (Ok results) h = tt
 rest_is_late its callee limits a b es tail (Err error.WrongCount) h = absurd h
 rest_is_late its callee limits a b es tail (Err error.AsyncLifted) h = absurd h
@@ -214,7 +214,7 @@ lowered_is_late args callee a b l l2 es error.TurnsExhausted h = absurd h
 lowered_is_late args callee a b l l2 es (error.ImportFault n f) h = absurd h
 lowered_is_late args callee a b l l2 es (error.HostRefused n) h = absurd h
 
-module _ {T R : Type 0} (args : Arguments) (its : Returns R) (gives : Giving T) (callee : Callee) (limits : Limits) (Leaves : List ℕ → List ℕ → Type 0) where
+module _ {T R : Type 0} (args : Arguments) (its : ReturnedValues R) (gives : Giving T) (callee : Callee) (limits : Limits) (Leaves : List ℕ → List ℕ → Type 0) where
   -- memory ran out for the scope
   pub scope_short : (s : Seen) (bytes : List ℕ) (l0 l2 : HostSide T) (M : List Event → Type 0) → l2 ≡ l0 → (IsSome s.journal → M [])
       → Adding (moment s bytes) (moment s bytes) M (IsCallOf args its Leaves gives callee limits (moment s bytes) (moment s bytes) l0 l2 (Err (error.Fault fault.OutOfMemory)))

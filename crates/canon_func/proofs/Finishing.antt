@@ -11,7 +11,7 @@ use Rattle.canon_ledger.specs.Ledger.{LedgerState, leave}
 use Rattle.canon_host.specs.HostSide.{Entry, Giving, HostSide, host_side}
 use Rattle.canon_func.specs.Asks.{Limits}
 use Rattle.canon_func.specs.Call.{OnAnswered}
-use Rattle.canon_func.specs.Passing.{Returns}
+use Rattle.canon_func.specs.Passing.{ReturnedValues}
 use Rattle.canon_func.specs.Steps.{Concluded, IsRest, Lifted, Posted, Proceeds, RunsToEnd, Serving}
 use Rattle.canon_func.specs.Stores.{Callee}
 use Rattle.canon_func.specs.declared.error.Error.{Error}
@@ -21,7 +21,7 @@ use Rattle.canon_func.proofs.Composed.{answered, answers, conclude_done, conclud
 use Rattle.canon_func.proofs.Leaving.{lifted_leaves}
 use Rattle.canon_func.specs.Passed.{ReadsRightly}
 
-module _ {T G R : Type 0} (its : Returns R) (gives : Giving T) (callee : Callee) (limits : Limits) (seen : G → Seen) (moves : GuestIn G → List Event → GuestIn G → Type 0) (Leaves : List ℕ → List ℕ → Type 0)
+module _ {T G R : Type 0} (its : ReturnedValues R) (gives : Giving T) (callee : Callee) (limits : Limits) (seen : G → Seen) (moves : GuestIn G → List Event → GuestIn G → Type 0) (Leaves : List ℕ → List ℕ → Type 0)
     (words : List ℕ) (before ran : Parts T G) (host : HostSide T) (log : Option (List Entry)) (refusals : ℕ) (returned : List ℕ) where
   abbrev pub Ran : Type 0
   Ran = Serving (moment_of seen before) (moment_of seen ran) (λ es. OnAnswered {T = List ℕ} (Ok returned) (moves (guest_of before) es (guest_of ran)))

@@ -6,7 +6,7 @@ use Rattle.canon_ledger.specs.declared.fault.ResourceFault.{ResourceFault}
 use Rattle.canon_leaves.proofs.Leaves.{leaves_excluded, leaves_stop_then}
 use Rattle.canon_leaves.specs.Parts.{LeavesStop}
 use Rattle.canon_func.specs.Call.{LiftsReturned, StopsReturned, scope_exit}
-use Rattle.canon_func.specs.Passing.{Returns}
+use Rattle.canon_func.specs.Passing.{ReturnedValues}
 use Rattle.canon_func.specs.Stores.{Callee}
 use Rattle.canon_func.specs.Passed.{ReadsRightly}
 
@@ -16,7 +16,7 @@ same_end l a b h g = ap (λ (d : Done (Unit {0})). d.after) (sym h ∙ g)
 pub not_both : (l a b : LedgerState) (e : ResourceFault) → scope_exit l ≡ record { answer = Err e; after = a } → scope_exit l ≡ record { answer = Ok tt; after = b } → ⊥
 not_both l a b e h g = let w : ◌≡◌ {A = Result (Unit {0}) ResourceFault} (Err e) (Ok tt) = ap (λ (d : Done (Unit {0})). d.answer) (sym h ∙ g) in cc
 
-module _ {R : Type 0} (its : Returns R) (callee : Callee) (law : ReadsRightly callee its) (words memory : List ℕ) where
+module _ {R : Type 0} (its : ReturnedValues R) (callee : Callee) (law : ReadsRightly callee its) (words memory : List ℕ) where
   pub returned_excluded : (e : ResourceFault) (l n m : LedgerState) → StopsReturned its callee words memory (Some e) l n → LiftsReturned (its.accepts words memory) l m → ⊥
   returned_excluded e l n m (inl (d, why, refused)) lifts = not_both l n lifts.ended d refused lifts.ends
   returned_excluded e l n m (inr (ended, ends, stops)) lifts =

@@ -29,7 +29,7 @@ use Rattle.canon_host.specs.declared.asked.Asked.{Asked}
 use Rattle.canon_host.specs.declared.error.HostError.{HostError}
 use Rattle.canon_host.specs.declared.error.HostError.TheVariants as host
 use Rattle.canon_func.specs.Call.{OnAnswered}
-use Rattle.canon_func.specs.HostAsks.{Counted, asked_error, host_error, stopped_error}
+use Rattle.canon_func.specs.HostAsks.{RefusalCounted, asked_error, host_error, stopped_error}
 use Rattle.canon_func.specs.AskValues.{asked_origin, asked_results, AskLowers, LowersInto}
 use Rattle.canon_func.specs.Steps.{RisesAt, TrapsLate}
 use Rattle.canon_func.specs.Stores.{Callee}
@@ -143,17 +143,17 @@ abbrev pub CountsHost : ℕ → ℕ → HostError → Type 0
 CountsHost before after host.Refused = Rose before after
 CountsHost before after (host.Fault f) = after ≡ before
 
-pub fault_counted : {before after : ℕ} (index : ℕ) (f : Fault) → after ≡ before → Counted (asked_error index f) before after
+pub fault_counted : {before after : ℕ} (index : ℕ) (f : Fault) → after ≡ before → RefusalCounted (asked_error index f) before after
 fault_counted index fault.OutOfMemory same = same
 fault_counted index (fault.Resource resource.OutOfMemory) same = same
 fault_counted index (fault.Resource r) same = same
 fault_counted index f same = same
 
-pub host_counted : (before after index : ℕ) (e : HostError) → CountsHost before after e → Counted (host_error index e) before after
+pub host_counted : (before after index : ℕ) (e : HostError) → CountsHost before after e → RefusalCounted (host_error index e) before after
 host_counted before after index host.Refused rose = rose
 host_counted before after index (host.Fault f) same = fault_counted index f same
 
-pub stopped_counted : (before after index : ℕ) (why : HostStop) → CountsHost before after (stopped why) → Counted (stopped_error index why) before after
+pub stopped_counted : (before after index : ℕ) (why : HostStop) → CountsHost before after (stopped why) → RefusalCounted (stopped_error index why) before after
 stopped_counted before after index stop.Refused rose = rose
 stopped_counted before after index stop.OutOfMemory same = same
 

@@ -33,7 +33,7 @@ use Rattle.canon_host.specs.declared.error.HostError.TheVariants as host
 use Rattle.canon_func.specs.AskForms.{AskForm}
 use Rattle.canon_func.specs.AskValues.{asked_params, asked_results}
 use Rattle.canon_func.specs.Call.{OnAnswered}
-use Rattle.canon_func.specs.HostAsks.{Counted, HostStopsBy, IsHostAsk, NothingAsked, StopsAt, StopsGiven, asked_error, asked_exit, called_on, host_error, stopped_error}
+use Rattle.canon_func.specs.HostAsks.{RefusalCounted, HostStopsBy, IsHostAsk, NothingAsked, StopsAt, StopsGiven, asked_error, asked_exit, called_on, host_error, stopped_error}
 use Rattle.canon_func.specs.Steps.{HostAskedBy, RisesAt, Serving}
 use Rattle.canon_func.specs.Stores.{Callee, export_callee}
 use Rattle.canon_func.specs.declared.error.Error.{Error}
@@ -176,11 +176,11 @@ module _ {T G P S : Type 0} (its : AskForm T) (sound : AskSound its) (seen : G �
   -- ---- it wasn't
 
   module _ (stays : moves (guest_of a) [] (guest_of a)) (kept : log2 ≡ log) where
-    stopped_with : (answers : List Answer) (trap : Option Trap) (e : Error) → Counted e refusals refusals2 → b.id ≡ a.id → At answers trap e → Stops answers trap e
+    stopped_with : (answers : List Answer) (trap : Option Trap) (e : Error) → RefusalCounted e refusals refusals2 → b.id ≡ a.id → At answers trap e → Stops answers trap e
     stopped_with answers trap e counts id stops = record { is = is; stops = stops; told = kept; counted = counts; same_store = id }
 
     -- nothing was asked for
-    quiet : (s : T) (l : LedgerState) (e : Error) → Counted e refusals refusals2 → b ≡ with_host s l → RisesAt e (moment_of seen a) (moment_of seen b) → At [] None e → Ends (Err e)
+    quiet : (s : T) (l : LedgerState) (e : Error) → RefusalCounted e refusals refusals2 → b ≡ with_host s l → RisesAt e (moment_of seen a) (moment_of seen b) → At [] None e → Ends (Err e)
     quiet s l e counts same rise stops = record {
       answers = [];
       events = [];

@@ -20,7 +20,7 @@ use Rattle.canon_func.specs.Call.{HandlesPassOf, LiftsReturned, StopsReturned, S
 use Rattle.canon_func.specs.HostAsks.{HostStops, IsHostAsk, StopsAt, StopsCalled, StopsGiven, asked_exit}
 use Rattle.canon_func.specs.AskForms.{AskForm, ask_at}
 use Rattle.canon_func.specs.Laws.{AskPartway, AskThrough, GoesOn, HostCalled, HostPartway, HostThrough, PassesPartway, RefusedIsPartway, ask_steps, asked_steps, given_steps, last_steps}
-use Rattle.canon_func.specs.Passing.{Arguments, Returns}
+use Rattle.canon_func.specs.Passing.{Arguments, ReturnedValues}
 use Rattle.canon_func.specs.Runs.{AskTurn, BeginsInAsk, Each, IsNoStart, SomeReturn}
 use Rattle.canon_func.specs.Steps.{ask_turn}
 use Rattle.canon_func.specs.Stores.{Callee}
@@ -163,7 +163,7 @@ module _ {T : Type 0} (gives : Giving T) (lawful : (n : ℕ) → IsLawful (gives
   ask_stops (error.Fault fault.OutOfMemory) l n index words memory memory2 answers trap (inr (inr (resumed, memory3, none, longer, h))) = served_partway (ask_turn index words memory answers resumed memory3) l n (error.Fault fault.OutOfMemory) (host_through gives lawful callee fuel (ask_turn index words memory answers resumed memory3) l n h)
   ask_stops e l n index words memory memory2 answers trap h = absurd h
 
-module _ {T R : Type 0} (args : Arguments) (its : Returns R) (gives : Giving T) (lawful : (n : ℕ) → IsLawful (gives.form n)) (callee : Callee) (fuel : ℕ) (law : ReadsRightly callee its) where
+module _ {T R : Type 0} (args : Arguments) (its : ReturnedValues R) (gives : Giving T) (lawful : (n : ℕ) → IsLawful (gives.form n)) (callee : Callee) (fuel : ℕ) (law : ReadsRightly callee its) where
   module _ (words memory : List ℕ) (l n : LedgerState) where
     abbrev parts : List (List Part)
     parts = its.parts words memory

@@ -1,25 +1,25 @@
 -- What a call did whose parameters weren't lowered.
 use Rattle.std.proofs.Common.{Err, inl, inr, List, None, Option, Some, [], ap, arith, length, refl, subst, sym, ℕ, ◌++◌, ◌%◌, ◌+◌, ◌∷◌, ◌∙◌, ◌≡◌, ◌≤◌}
-use Rattle.std.specs.Prelude.{false}
+use Rattle.std.specs.Prelude.{false, slice_index}
 use Rattle.std.proofs.lemmas.List.{append-nil}
 use Rattle.canon_model.specs.Requests.{Call, Request, params_requests}
 use Rattle.canon_model.specs.Tree.{Trees}
 use Rattle.canon_memory.specs.declared.event.Event.{Event}
-use Rattle.canon_memory.specs.Guest.{Moment}
+use Rattle.canon_memory.specs.Guest.{Moment, Seen}
 use Rattle.canon_ledger.specs.Ledger.{enter}
 use Rattle.canon_ledger.specs.declared.fault.ResourceFault.{ResourceFault}
 use Rattle.canon_ledger.specs.declared.fault.ResourceFault.TheVariants as resource
 use Rattle.canon_leaves.specs.Parts.{LeavesStop, refusal_of}
 use Rattle.canon_lowering.specs.Attempt.{LowersArgs}
-use Rattle.canon_lowering.specs.Lowering.{Accepted, AllLawful, Answer, BeginsWith, CauseOf, Ending, Meets, Trap, refused, short, events_of, marks_of}
+use Rattle.canon_lowering.specs.Lowering.{Accepted, AllLawful, Answer, BeginsWith, Calm, CauseOf, Ending, Meets, Trap, done, refused, short, events_of, marks_of}
 use Rattle.canon_value.specs.Resources.{stop_of, told_fault}
 use Rattle.canon_context.specs.Lowers.{fault_ending}
 use Rattle.canon_context.specs.declared.fault.Fault.{Fault}
 use Rattle.canon_context.specs.declared.fault.Fault.TheVariants as fault
 use Rattle.canon_host.specs.HostSide.{Giving, HostSide}
 use Rattle.canon_func.specs.Asks.{Limits}
-use Rattle.canon_func.specs.Call.{Accepts, Advances, AsksByTypes, FaultCause, HandlesPassOf, IsCallOf}
-use Rattle.canon_func.specs.Passing.{Arguments, Returns}
+use Rattle.canon_func.specs.Call.{Accepts, Advances, AsksByTypes, FaultCause, HandlesPassOf, IsCallOf, Stands}
+use Rattle.canon_func.specs.Passing.{Arguments, ReturnedValues}
 use Rattle.canon_func.specs.Runs.{Each, EndsIn, IsNoPost, IsNoStart, IsTrap, asks_in}
 use Rattle.canon_func.specs.Steps.{EndsFor, TrapsLate}
 use Rattle.canon_func.specs.Stores.{Callee}
@@ -28,6 +28,11 @@ use Rattle.canon_func.proofs.Calls.{goes_advance}
 use Rattle.canon_leaves.proofs.Leaves.{leaves_excluded}
 use Rattle.canon_func.specs.Passed.{BlamesRightly, Unfit}
 use Rattle.canon_func.proofs.Prefixes.{asks_answers, each_answer, ends_in_answer, ends_in_trap, grows_request, last_lawful, none_trapped, prefix_requests}
+
+-- where no count rose, none did however it ended
+calm_so : (e : Ending) (before after : Seen) → Calm refused before after → Calm e before after
+calm_so done before after h = tt
+calm_so e before after h = h
 
 refused_not_short : refused ≡ short → ⊥
 refused_not_short e = cc
@@ -39,24 +44,24 @@ begins_short c [] (Some t) h = h
 begins_short c (x ∷ answers) trap h = h
 
 -- why a lowering was refused, and that a valid call isn't
-record Refused {T R : Type 0} (args : Arguments) (its : Returns R) (gives : Giving T) (callee : Callee) (limits : Limits) (entry after : Moment) (before : HostSide T) (events : List Event) (answers : List Answer)
+record Refused {T R : Type 0} (args : Arguments) (its : ReturnedValues R) (gives : Giving T) (callee : Callee) (limits : Limits) (entry after : Moment) (before : HostSide T) (events : List Event) (answers : List Answer)
     (trap : Option Trap) (f : Fault) : Type 0 where
   late : TrapsLate (length entry.bytes) trap
   accepted : Accepted (fault_ending f) (length after.bytes) answers
   cause : FaultCause args its callee limits.fuel entry after events f
   valid : (ts : Trees) → args.are ts → args.small → AllLawful answers → ¬ EndsIn IsTrap events → Accepts args its gives callee limits.fuel [] before [] → f ≡ fault.OutOfMemory
 
-module _ {T R : Type 0} (args : Arguments) (its : Returns R) (gives : Giving T) (callee : Callee) (limits : Limits) (Leaves : List ℕ → List ℕ → Type 0) (entry after : Moment) (before left : HostSide T) where
+module _ {T R : Type 0} (args : Arguments) (its : ReturnedValues R) (gives : Giving T) (callee : Callee) (limits : Limits) (Leaves : List ℕ → List ℕ → Type 0) (entry after : Moment) (before left : HostSide T) where
   no_asks : (answers : List Answer) (trap : Option Trap) → asks_in (events_of answers trap) ≤ limits.turns
   no_asks answers trap =
       let none : asks_in (events_of answers trap) ≡ 0 = ap asks_in (sym (append-nil (events_of answers trap))) ∙ asks_answers answers trap [] in
       omega (arith, none)
 
-  made : (f : Fault) (answers : List Answer) (trap : Option Trap) → Advances entry after → AsksByTypes callee.params (fault_ending f) answers trap → after.guest.marks ≡ entry.guest.marks ++ marks_of answers
+  made : (f : Fault) (answers : List Answer) (trap : Option Trap) → Advances entry after → (Calm refused entry.guest after.guest → Stands entry.bytes after.bytes answers) → AsksByTypes callee.params (fault_ending f) answers trap → after.guest.marks ≡ entry.guest.marks ++ marks_of answers
       → ((ts : Trees) → args.are ts → (left : List Request) × ((last : ℕ) → Meets last (params_requests false callee.encoding callee.params ts) answers trap left))
       → HandlesPassOf args its gives callee limits.fuel [] after.bytes [] None before left [] (Err (error.Fault f)) (events_of answers trap) []
       → Refused args its gives callee limits entry after before (events_of answers trap) answers trap f → IsCallOf args its Leaves gives callee limits entry after before left (Err (error.Fault f)) (events_of answers trap)
-  made f answers trap advances quiet marks met handles because = record {
+  made f answers trap advances stands quiet marks met handles because = record {
     one_run = tt;
     prefix = prefix_requests callee.func callee.post (length entry.bytes) answers trap because.late;
     advances = advances;
@@ -81,6 +86,8 @@ module _ {T R : Type 0} (args : Arguments) (its : Returns R) (gives : Giving T) 
     only_results = tt;
     posted = λ some. absurd (some (each_answer IsNoPost (λ c a. tt) (λ c n. tt) answers trap));
     leaves = tt;
+    unstarted = λ other none. stands;
+    returned = λ other none. each_answer _ (λ c a. tt) (λ c n. tt) answers trap;
     cause = because.cause;
     valid = λ ts have small lawful none calm quiet right accepted. ap error.Fault (because.valid ts have small (subst AllLawful (append-nil answers) lawful) calm accepted);
   }
@@ -89,12 +96,13 @@ module _ {T R : Type 0} (args : Arguments) (its : Returns R) (gives : Giving T) 
   pub short_call : after ≡ entry → HandlesPassOf args its gives callee limits.fuel [] after.bytes [] None before left [] (Err (error.Fault fault.OutOfMemory)) [] []
       → IsCallOf args its Leaves gives callee limits entry after before left (Err (error.Fault fault.OutOfMemory)) []
   short_call e handles =
-      made fault.OutOfMemory [] None (subst (λ m. Advances entry m) (sym e) (record { no_shorter = omega arith; traps_later = omega arith; shortages_later = omega arith })) (λ near none. (refl, refl), λ far. (refl, λ none. tt))
+      made fault.OutOfMemory [] None (subst (λ m. Advances entry m) (sym e) (record { no_shorter = omega arith; traps_later = omega arith; shortages_later = omega arith }))
+      (λ calm tidy i h out. ap (λ m. slice_index m.bytes i) e) (λ near none. (refl, refl), λ far. (refl, λ none. tt))
       (ap (λ m. m.guest.marks) e ∙ sym (append-nil entry.guest.marks))
       (λ ts have. (params_requests false callee.encoding callee.params ts, λ last. refl)) handles
       (record { late = tt; accepted = tt; cause = tt; valid = λ ts have small lawful calm accepted. refl })
 
-module _ {T R : Type 0} (args : Arguments) (its : Returns R) (gives : Giving T) (callee : Callee) (limits : Limits) (Leaves : List ℕ → List ℕ → Type 0) (law : BlamesRightly args) (entry after : Moment) (before left : HostSide T) where
+module _ {T R : Type 0} (args : Arguments) (its : ReturnedValues R) (gives : Giving T) (callee : Callee) (limits : Limits) (Leaves : List ℕ → List ℕ → Type 0) (law : BlamesRightly args) (entry after : Moment) (before left : HostSide T) where
   abbrev Low : List ℕ → List ℕ → Ending → Type 0
   Low words handles ending = LowersArgs false entry after callee.encoding callee.params args.are words handles ending
 
@@ -217,6 +225,7 @@ module _ {T R : Type 0} (args : Arguments) (its : Returns R) (gives : Giving T) 
       → AsksByTypes callee.params ending low.answers low.trap → LeavesStop (stop_of f) (enter before.ledger) args.parts left.ledger
       → IsCallOf args its Leaves gives callee limits entry after before left (Err (error.Fault f)) (events_of low.answers low.trap)
   refused_call kept f ending words handles low is blames told quiet stops =
-      made args its gives callee limits Leaves entry after before left f low.answers low.trap (goes_advance entry after _ _ low.lowering.goes) (asks_as f ending low.answers low.trap is quiet) low.lowering.goes.marks
+      made args its gives callee limits Leaves entry after before left f low.answers low.trap (goes_advance entry after _ _ low.lowering.goes)
+      (λ calm tidy i h out. low.lowering.tidy (calm_so ending entry.guest after.guest calm) tidy i h (λ q. q) out) (asks_as f ending low.answers low.trap is quiet) low.lowering.goes.marks
       (λ ts have. ((low.requested ts have).rest, (low.requested ts have).met))
       (inr (inl (none_started low.answers low.trap, stops, kept))) (refused_so f ending words handles low is blames told stops)

@@ -9,7 +9,7 @@ use Rattle.canon_ledger.specs.Ledger.{enter}
 use Rattle.canon_host.specs.HostSide.{Entry, Giving, HostSide, host_side}
 use Rattle.canon_func.specs.Asks.{Limits}
 use Rattle.canon_func.specs.Call.{Adding, IsCallOf, OnAnswered}
-use Rattle.canon_func.specs.Passing.{Arguments, Returns}
+use Rattle.canon_func.specs.Passing.{Arguments, ReturnedValues}
 use Rattle.canon_func.specs.Steps.{IsLate, IsRest, LoweredArgs, Serving, map_ok}
 use Rattle.canon_func.specs.Stores.{Callee}
 use Rattle.canon_func.specs.declared.error.Error.{Error}
@@ -19,7 +19,7 @@ use Rattle.canon_func.proofs.Composed.{InScope, answered, call_refused, call_sta
 use Rattle.canon_func.specs.Passed.{BlamesRightly}
 
 -- the host has this log and this count of refusals meanwhile
-module _ {T G R : Type 0} (args : Arguments) (its : Returns R) (gives : Giving T) (callee : Callee) (limits : Limits) (seen : G → Seen) (moves : GuestIn G → List Event → GuestIn G → Type 0) (Leaves : List ℕ → List ℕ → Type 0)
+module _ {T G R : Type 0} (args : Arguments) (its : ReturnedValues R) (gives : Giving T) (callee : Callee) (limits : Limits) (seen : G → Seen) (moves : GuestIn G → List Event → GuestIn G → Type 0) (Leaves : List ℕ → List ℕ → Type 0)
     (log : Option (List Entry)) (refusals : ℕ) where
   -- by what the function answers, and what is said of it
   abbrev pub Whole : {U : Type 0} → Result U Error → Result R Error → Parts T G → Parts T G → HostSide T → Type 0

@@ -10,7 +10,7 @@ use Rattle.canon_host.specs.HostSide.{Giving, HostSide}
 use Rattle.canon_func.specs.Asks.{Limits}
 use Rattle.canon_func.specs.Call.{AcceptsLater, Left}
 use Rattle.canon_func.specs.HostAsks.{IsUnrefused}
-use Rattle.canon_func.specs.Passing.{Returns}
+use Rattle.canon_func.specs.Passing.{ReturnedValues}
 use Rattle.canon_func.specs.Runs.{AskTurn, Each, EndsAsking, EndsIn, Grows, IsNoPost, IsNoResume, IsNoStart, IsPrefixOfRun, IsTrap, MayTrap, OnReturn, OnStart, answers_in, asks_in, events_in, last_len, posts}
 use Rattle.canon_func.specs.Steps.{IsRest, RestCause, RestPasses, TurnsTaken, so_far}
 use Rattle.canon_func.specs.Stores.{Callee}
@@ -34,7 +34,7 @@ pub record TailPrefix (post : Option ℕ) (len : ℕ) (tail : List Event) : Type
   pub may_trap : MayTrap (last_len len prefix) trap
 
 -- What the events say that come after so many turns, the last of which let the guest go in a memory of so many bytes.
-pub record IsTail {T R : Type 0} (its : Returns R) (gives : Giving T) (callee : Callee) (limits : Limits) (Leaves : List ℕ → List ℕ → Type 0) (before after : Moment) (count len : ℕ) (served left : HostSide T)
+pub record IsTail {T R : Type 0} (its : ReturnedValues R) (gives : Giving T) (callee : Callee) (limits : Limits) (Leaves : List ℕ → List ℕ → Type 0) (before after : Moment) (count len : ℕ) (served left : HostSide T)
     (answer : Result R Error) (late : List Answer) (late_trap : Option Trap) (tail : List Event) : Type 0 where
   pub whole : OnOk answer ((returned memory : List ℕ) × (tail ≡ event.Return returned memory ∷ posts callee.post returned))
   pub prefix : TailPrefix callee.post len tail
@@ -46,6 +46,7 @@ pub record IsTail {T R : Type 0} (its : Returns R) (gives : Giving T) (callee : 
   pub only_results : IfOk answer (λ results. Each (OnReturn (λ ws m. (over : ℕ) × its.are ws m limits.fuel over results)) tail)
   pub posted : ¬ Each IsNoPost tail → Each (OnReturn (λ ws m. (over : ℕ) × (lifted : R) × its.are ws m limits.fuel over lifted)) tail
   pub leaves : OnOk answer (Each (OnReturn (λ ws m. Left Leaves callee.post m after.bytes)) tail)
+  pub returned : answer ≢ Err (error.Fault fault.OutOfMemory) → Each IsNoPost tail → Each (OnReturn (λ ws m. after.bytes ≡ m)) tail
   pub handles : RestPasses its gives callee limits after.bytes late late_trap served left answer tail
   pub cause : IfErr answer (λ e. (xs : List Event) → asks_in xs ≡ count → RestCause its callee limits before after (xs ++ tail) tail e)
   pub valid : AllLawful late → IfErr answer IsUnrefused → ¬ EndsIn IsTrap tail → count + asks_in tail ≤ limits.turns
@@ -78,7 +79,7 @@ sum_le a b c n k e f h = omega (arith, e, f, h)
 le_sum : (a b c n k : ℕ) → a ≡ b + c → b ≡ n → a ≤ k → n + c ≤ k
 le_sum a b c n k e f h = omega (arith, e, f, h)
 
-module _ {T R : Type 0} (its : Returns R) (gives : Giving T) (callee : Callee) (limits : Limits) (Leaves : List ℕ → List ℕ → Type 0) (words : List ℕ) (before after : Moment) (host served left : HostSide T) (turns : List AskTurn) (len : ℕ)
+module _ {T R : Type 0} (its : ReturnedValues R) (gives : Giving T) (callee : Callee) (limits : Limits) (Leaves : List ℕ → List ℕ → Type 0) (words : List ℕ) (before after : Moment) (host served left : HostSide T) (turns : List AskTurn) (len : ℕ)
     (asked : TurnsTaken gives callee limits.fuel before host served turns len) where
   abbrev first : List Event
   first = event.Start callee.func words before.bytes ∷ events_in turns
@@ -120,6 +121,8 @@ module _ {T R : Type 0} (its : Returns R) (gives : Giving T) (callee : Callee) (
     only_results = if_ok_then answer _ _ (λ results each. return_then _ first tail early each) h.only_results;
     posted = λ some. return_then _ first tail early (h.posted (λ none. some (post_then first tail early none)));
     leaves = ok_then answer _ _ (λ each. return_then _ first tail early each) h.leaves;
+    started = λ other none. absurd none.0;
+    returned = λ other none. return_then _ first tail early (h.returned other (each_after _ first tail none));
     handles = (served, asked.serves, h.handles);
     cause = if_err_then answer _ _ (λ e because. because first count) h.cause;
     valid = λ lawful unrefused calm few right accepts.
@@ -129,7 +132,7 @@ module _ {T R : Type 0} (its : Returns R) (gives : Giving T) (callee : Callee) (
   }
 
 -- memory ran out for the start
-pub rest_of_none : {T R : Type 0} (its : Returns R) (gives : Giving T) (callee : Callee) (limits : Limits) (Leaves : List ℕ → List ℕ → Type 0) (words : List ℕ) (before after : Moment) (host : HostSide T)
+pub rest_of_none : {T R : Type 0} (its : ReturnedValues R) (gives : Giving T) (callee : Callee) (limits : Limits) (Leaves : List ℕ → List ℕ → Type 0) (words : List ℕ) (before after : Moment) (host : HostSide T)
     → length before.bytes ≤ length after.bytes
     → IsRest its gives callee limits Leaves words before after host host (Err (error.Fault fault.OutOfMemory)) [] []
 rest_of_none its gives callee limits Leaves words before after host longer = record {
@@ -147,6 +150,8 @@ rest_of_none its gives callee limits Leaves words before after host longer = rec
   only_results = tt;
   posted = λ some. absurd (some tt);
   leaves = tt;
+  started = λ other none. absurd (other refl);
+  returned = λ other none. tt;
   handles = (host, refl, inl (inl (refl, refl, inl tt, tt), refl));
   cause = tt;
   valid = λ lawful same calm few right accepted. refl;

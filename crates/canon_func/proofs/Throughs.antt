@@ -17,7 +17,7 @@ use Rattle.canon_func.specs.Asks.{AreServed}
 use Rattle.canon_func.specs.Call.{Concludes, HandlesPassOf, dynamic, dynamic_results}
 use Rattle.canon_func.specs.HostAsks.{IsHostServed, IsHostServedBy, asked_exit}
 use Rattle.canon_func.specs.Laws.{AskThrough, AsksThrough, CallIsThrough, CallThrough, HostThrough, PassesThrough, last_steps}
-use Rattle.canon_func.specs.Passing.{Arguments, Returns}
+use Rattle.canon_func.specs.Passing.{Arguments, ReturnedValues}
 use Rattle.canon_func.specs.Runs.{AskTurn, Each, OnReturn}
 use Rattle.canon_func.specs.Stores.{Callee}
 use Rattle.canon_func.specs.Dynamic.{dynamic_reads}
@@ -80,7 +80,7 @@ module _ {T : Type 0} (gives : Giving T) (lawful : (n : ℕ) → IsLawful (gives
     asks = turns_through turns (record before { ledger = lowered }) served serves;
   }
 
-module _ {T R : Type 0} (args : Arguments) (its : Returns R) (gives : Giving T) (lawful : (n : ℕ) → IsLawful (gives.form n)) (callee : Callee) (fuel : ℕ) (law : ReadsRightly callee its) where
+module _ {T R : Type 0} (args : Arguments) (its : ReturnedValues R) (gives : Giving T) (lawful : (n : ℕ) → IsLawful (gives.form n)) (callee : Callee) (fuel : ℕ) (law : ReadsRightly callee its) where
   last_through : (words memory : List ℕ) (results : R) (l n : LedgerState) → Concludes its callee words memory results l n → Through l (last_steps (its.parts words memory) l) n
   last_through words memory results l n h =
       let taken = law.taken words memory h.lifts.ended h.lifted (law.accepted words memory h.lifts.ended h.lifted results h.lifts.lifts) in

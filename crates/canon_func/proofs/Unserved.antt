@@ -21,7 +21,7 @@ use Rattle.canon_host.specs.declared.asked.Asked.{Asked}
 use Rattle.canon_func.specs.Asks.{AcceptsAsk, AskStops, BuiltinStops, IsAskOf, Limits, ask_step, builtin_at, builtin_of, host_words, import_words}
 use Rattle.canon_func.specs.AskForms.{ask_at}
 use Rattle.canon_func.specs.HostAsks.{AcceptsHost, HostStops, IsHostAsk, IsUnrefused}
-use Rattle.canon_func.specs.Passing.{Returns}
+use Rattle.canon_func.specs.Passing.{ReturnedValues}
 use Rattle.canon_func.specs.Runs.{EndsIn, IsNoPost, IsNoResume, IsNoStart, IsTrap, MayTrap, asks_in, last_len, posts}
 use Rattle.canon_func.specs.Steps.{RestCause, RisesAt, Stopped, StopsInAsk, TrapsLate, ask_turn}
 use Rattle.canon_func.specs.Stores.{Callee}
@@ -126,7 +126,7 @@ not_both_kinds o b t p h g = let w : option_and_then builtin_of (Some (import.Ho
 same_builtin : (o : Option Builtin) (a b : Builtin) → o ≡ Some a → o ≡ Some b → a ≡ b
 same_builtin o a b h g = cc
 
-module _ {T R : Type 0} (its : Returns R) (gives : Giving T) (lawful_forms : (n : ℕ) → IsLawful (gives.form n)) (callee : Callee) (limits : Limits) (Leaves : List ℕ → List ℕ → Type 0) (before after : Moment) (count len : ℕ) (served left : HostSide T) where
+module _ {T R : Type 0} (its : ReturnedValues R) (gives : Giving T) (lawful_forms : (n : ℕ) → IsLawful (gives.form n)) (callee : Callee) (limits : Limits) (Leaves : List ℕ → List ℕ → Type 0) (before after : Moment) (count len : ℕ) (served left : HostSide T) where
   trapped_tail : len ≤ length after.bytes → Rose before.guest.traps after.guest.traps → count ≤ limits.turns → left ≡ served
       → IsTail its gives callee limits Leaves before after count len served left (Err (error.Fault fault.GuestTrap)) [] None (trap_event len ∷ [])
   trapped_tail longer rose few same = record {
@@ -140,6 +140,7 @@ module _ {T R : Type 0} (its : Returns R) (gives : Giving T) (lawful_forms : (n 
     only_results = tt;
     posted = λ some. absurd (some (tt, tt));
     leaves = tt;
+    returned = λ other none. (tt, tt);
     handles = inl (inl (refl, ap (λ s. s.ledger) same, inl (tt, tt), tt), kept_side served left same);
     cause = λ xs told. (rose, ends_after IsTrap xs (trap_event len ∷ []) tt);
     valid = λ lawful rest calm few right accepted. absurd (calm tt);
@@ -164,6 +165,7 @@ module _ {T R : Type 0} (its : Returns R) (gives : Giving T) (lawful_forms : (n 
       only_results = tt;
       posted = λ some. absurd (some (tt, each_answer IsNoPost (λ c a. tt) (λ c n. tt) late trap));
       leaves = tt;
+      returned = λ other none. (tt, each_answer _ (λ c a. tt) (λ c n. tt) late trap);
       handles = inr stops;
       cause = cause;
       valid = λ lawful rest calm within right accepted. excluded lawful (untrapped_late index asked memory late trap calm) rest (one_fewer count (asks_in (events_of late trap)) limits.turns within) accepted.0;

@@ -25,13 +25,13 @@ use Rattle.canon_types.specs.declared.types.InterfaceType.TheVariants.{Tuple}
 use Rattle.canon_value.specs.Args.{args_words}
 
 -- Words enough were given. The shapes of a table's tuples are those of their members, as `ComponentTypes::tuple` finds them.
-pub record AreEnough (callee : Callee) (asked : Asked) (words : List ℕ) : Type 0 where
+pub record HasEnoughWords (callee : Callee) (asked : Asked) (words : List ℕ) : Type 0 where
   pub params : shape_of callee.types.types (Tuple asked.func.params) ≡ asked_shape callee asked
   pub given : args_words (asked_params callee asked) ≤ length words
 
 -- the words and memory of the ask represent these trees
-abbrev pub RepAsked : Callee → Asked → List ℕ → List ℕ → Trees → Type 0
-RepAsked callee asked words memory trees = RepArgs false (asked_origin callee asked memory).encoding (narrow memory) (take (args_words (asked_params callee asked)) words) (asked_params callee asked) trees
+abbrev pub RepAskedWords : Callee → Asked → List ℕ → List ℕ → Trees → Type 0
+RepAskedWords callee asked words memory trees = RepArgs false (asked_origin callee asked memory).encoding (narrow memory) (take (args_words (asked_params callee asked)) words) (asked_params callee asked) trees
 
 module _ {T P R : Type 0} (types : RustTypes P R) (may : TypedAnswering T P R) where
   -- parameters of an ask were lifted in the store of a number with this fuel, or why not
@@ -41,7 +41,7 @@ module _ {T P R : Type 0} (types : RustTypes P R) (may : TypedAnswering T P R) w
   -- The words and memory represent trees of a cost within the fuel, which the parameters mean, and whose handles went through the ledger.
   pub record AreMeant (store : ℕ) (callee : Callee) (fuel : ℕ) (asked : Asked) (words memory : List ℕ) (before : LedgerState) (params : P) (after : LedgerState) : Type 0 where
     pub trees : Trees
-    pub represented : RepAsked callee asked words memory trees
+    pub represented : RepAskedWords callee asked words memory trees
     pub means : types.lifts params (parts trees)
     pub within : types.cost (parts trees) ≤ fuel
     pub steps : AreLiftedBy callee.types (members_leaves (asked_params callee asked) trees) (typed_parts types.reading callee asked words memory store)
@@ -49,19 +49,19 @@ module _ {T P R : Type 0} (types : RustTypes P R) (may : TypedAnswering T P R) w
 
   -- They are lifted only there.
   abbrev pub OnlyMeant : Type 0
-  OnlyMeant = (store : ℕ) (callee : Callee) (fuel : ℕ) (asked : Asked) (words memory : List ℕ) (before after : LedgerState) (params : P) → AreEnough callee asked words
+  OnlyMeant = (store : ℕ) (callee : Callee) (fuel : ℕ) (asked : Asked) (words memory : List ℕ) (before after : LedgerState) (params : P) → HasEnoughWords callee asked words
       → Lifts store callee fuel asked words memory before (Ok params) after → AreMeant store callee fuel asked words memory before params after
 
   -- And where trees of a cost within the fuel are represented whose handles the ledger accepts, they are lifted, or memory runs out.
   abbrev pub MeantIsEnough : Type 0
-  MeantIsEnough = (store : ℕ) (callee : Callee) (fuel : ℕ) (asked : Asked) (words memory : List ℕ) (before after end : LedgerState) (result : Result P Fault) (trees : Trees) (hs : List ℕ) → AreEnough callee asked words
-      → RepAsked callee asked words memory trees → types.cost (parts trees) ≤ fuel → LeavesTake before (typed_parts types.reading callee asked words memory store) hs end
+  MeantIsEnough = (store : ℕ) (callee : Callee) (fuel : ℕ) (asked : Asked) (words memory : List ℕ) (before after end : LedgerState) (result : Result P Fault) (trees : Trees) (hs : List ℕ) → HasEnoughWords callee asked words
+      → RepAskedWords callee asked words memory trees → types.cost (parts trees) ≤ fuel → LeavesTake before (typed_parts types.reading callee asked words memory store) hs end
       → Lifts store callee fuel asked words memory before result after → IsTreeLifted types.reading types.lifts (parts trees) end result after
 
   -- Of any type, where trees of a cost within the fuel are represented whose handles the ledger accepts, they can be lifted.
   abbrev pub MeantIsLiftable : Type 0
-  MeantIsLiftable = (store : ℕ) (callee : Callee) (fuel : ℕ) (asked : Asked) (words memory : List ℕ) (before end : LedgerState) (trees : Trees) (hs : List ℕ) → AreEnough callee asked words
-      → types.fits_params callee.types (Tuple asked.func.params) → RepAsked callee asked words memory trees → types.cost (parts trees) ≤ fuel
+  MeantIsLiftable = (store : ℕ) (callee : Callee) (fuel : ℕ) (asked : Asked) (words memory : List ℕ) (before end : LedgerState) (trees : Trees) (hs : List ℕ) → HasEnoughWords callee asked words
+      → types.fits_params callee.types (Tuple asked.func.params) → RepAskedWords callee asked words memory trees → types.cost (parts trees) ≤ fuel
       → LeavesTake before (typed_parts types.reading callee asked words memory store) hs end → (ask_types types may).liftable store callee fuel asked words memory before
 
   -- Where they are lifted, no reached place has a fault.

@@ -1,4 +1,4 @@
--- What a call did. Of a call that entered the guest this is said over what its parameters and its results are (`Arguments` and `Returns`);
+-- What a call did. Of a call that entered the guest this is said over what its parameters and its results are (`Arguments` and `ReturnedValues`);
 -- at the end stands what it says of dynamic values.
 use Rattle.std.specs.Prelude.{Bool, Err, IfErr, IfOk, IsOkUnless, IsSome, List, None, Ok, OnOk, Option, Result, Some, [], false, if◌then◌else◌, length, map, nat_le, not, slice_get, slice_index, true, ℕ, ⊤, ◌%◌, ◌&&◌, ◌++◌, ◌+◌, ◌<◌, ◌==◌, ◌∷◌, ◌≡◌, ◌≢◌, ◌≤◌, ◌⊎◌}
 use Rattle.canon_model.specs.Cost.{members_cost}
@@ -16,7 +16,7 @@ use Rattle.canon_memory.specs.declared.event.Event.{Event}
 use Rattle.canon_memory.specs.Counts.{Rose}
 use Rattle.canon_memory.specs.Guest.{Moment}
 use Rattle.canon_memory.specs.Journal.{Adds}
-use Rattle.canon_lowering.specs.Lowering.{Accepted, AllGood, AllLawful, AllTidy, Answer, Ending, Meets, Trap, addresses_of, blocks_of, done, events_of, marks_of}
+use Rattle.canon_lowering.specs.Lowering.{Accepted, AllGood, AllLawful, AllTidy, Answer, Calm, Ending, Meets, Trap, addresses_of, blocks_of, done, events_of, marks_of, refused}
 use Rattle.canon_lowering.specs.Attempt.{AnyPointer, handle_numbers}
 use Rattle.canon_lowering.specs.Storing.{narrow}
 use Rattle.canon_types.specs.Refusal.{first_error}
@@ -42,7 +42,7 @@ use Rattle.canon_value.specs.declared.val.Val.{Val}
 use Rattle.canon_host.specs.HostSide.{Giving, HostSide}
 use Rattle.canon_func.specs.Asks.{AreServed, AskStops, AcceptsAsk, Limits, import_words}
 use Rattle.canon_func.specs.HostAsks.{IsUnrefused}
-use Rattle.canon_func.specs.Passing.{Arguments, Returns}
+use Rattle.canon_func.specs.Passing.{Arguments, ReturnedValues}
 use Rattle.canon_func.specs.Runs.{AskTurn, BeginsInAsk, Each, EndsIn, Grows, IsAnswer, IsNoPost, IsNoReturn, IsNoStart, IsOneRun, IsPrefixOfRun, IsReturn, IsTrap, MayStart, OnAsk, OnReturn, OnStart, SomeReturn, answers_in, asks_in}
 use Rattle.canon_func.specs.Stores.{Callee}
 use Rattle.canon_func.specs.declared.error.Error.{Error}
@@ -81,16 +81,20 @@ refused_by (Err (error.Fault f)) = None
 abbrev pub words_within : ℕ → Members → ℕ
 words_within most ms = if nat_le (members_flat ms) most then members_flat ms else 1
 
--- The guest was started with these words in this memory: they stand for the parameters, with these handles in order, as far as
--- the answers kept the law of `realloc`.
-pub record IsStart (args : Arguments) (callee : Callee) (entry : List ℕ) (answers : List Answer) (given : List ℕ) (words memory : List ℕ) : Type 0 where
+-- Outside the answered blocks memory stands, where the answers changed nothing else.
+abbrev pub Stands : List ℕ → List ℕ → List Answer → Type 0
+Stands before after answers = AllTidy answers → (i : ℕ) → i < length before → ¬ InBlocks (blocks_of answers) i → slice_index after i ≡ slice_index before i
+
+-- The guest, which was at this moment as the call was entered, was started with these words in this memory: they stand for the
+-- parameters, with these handles in order, as far as the answers kept the law of `realloc`.
+pub record IsStart (args : Arguments) (callee : Callee) (entry : Moment) (answers : List Answer) (given : List ℕ) (words memory : List ℕ) : Type 0 where
   pub trees : Trees
   pub have : args.are trees
   pub handles : handle_numbers (members_leaves callee.params trees) ≡ given
   -- no text among them is too long, and no list or map too large
   pub small : args.small
   -- memory isn't shorter than at the call's entry
-  pub no_shorter : length entry ≤ length memory
+  pub no_shorter : length entry.bytes ≤ length memory
   -- there are as many words as the parameters take; each answer is aligned, and its block ends inside memory
   pub count : length words ≡ words_within max_params callee.params
   pub good : AllGood (length memory) answers
@@ -98,8 +102,9 @@ pub record IsStart (args : Arguments) (callee : Callee) (entry : List ℕ) (answ
   -- each pointer in the words is the home of its own block, and so is each in the blocks
   pub homes : ParamsHome AnyPointer callee.encoding false words callee.params trees (addresses_of answers) []
   pub memory_homes : AllLawful answers → ParamsHome (PointsTo (narrow memory)) callee.encoding false words callee.params trees (addresses_of answers) []
-  -- memory at the call's entry stands, outside the answered blocks
-  pub frame : AllTidy answers → (i : ℕ) → i < length entry → ¬ InBlocks (blocks_of answers) i → slice_index memory i ≡ slice_index entry i
+  -- memory at the call's entry stands, outside the answered blocks; and so do the blocks that lived then, as far as the answers kept the law
+  pub frame : Stands entry.bytes memory answers
+  pub kept : AllLawful answers → (i : ℕ) → InBlocks entry.guest.live i → slice_index memory i ≡ slice_index entry.bytes i
 
 -- The answers, and then the trap, met the first of these requests, and all of them where the guest was started.
 pub record MetFirst (requests : List Request) (answers : List Answer) (trap : Option Trap) (later : List Event) : Type 0 where
@@ -121,7 +126,7 @@ AsksByTypes ms ending answers trap = AsksNothing ms answers trap × AsksTuple ms
 abbrev pub result_words : Members → ℕ
 result_words ms = words_within max_results ms
 
-module _ {R : Type 0} (its : Returns R) (callee : Callee) where
+module _ {R : Type 0} (its : ReturnedValues R) (callee : Callee) where
   -- there are as many words as the results take, and they or the memory that was returned have a fault of this kind there
   abbrev pub HasFault : Kind → At → List ℕ → List ℕ → Type 0
   HasFault kind at words memory = (length words ≡ result_words callee.results) × its.faults words memory kind (place_of at)
@@ -132,7 +137,7 @@ module _ {R : Type 0} (its : Returns R) (callee : Callee) where
 
 -- Why a call was refused with this fault. Of a refusal of the ledger this says when it came: before the start, or at the end of the
 -- call's scope or in lifting; why it was refused follows from the ledger (`HandlesPass`), and it is never out of memory.
-abbrev pub FaultCause : {R : Type 0} → Arguments → Returns R → Callee → ℕ → Moment → Moment → List Event → Fault → Type 0
+abbrev pub FaultCause : {R : Type 0} → Arguments → ReturnedValues R → Callee → ℕ → Moment → Moment → List Event → Fault → Type 0
 FaultCause args its callee fuel before after events (fault.TypeMismatch k) = Each IsNoStart events × ¬ EndsIn IsTrap events × args.blames (fault.TypeMismatch k)
 FaultCause args its callee fuel before after events (fault.FieldName k) = Each IsNoStart events × ¬ EndsIn IsTrap events × args.blames (fault.FieldName k)
 FaultCause args its callee fuel before after events (fault.UnknownCase k) = Each IsNoStart events × ¬ EndsIn IsTrap events × args.blames (fault.UnknownCase k)
@@ -175,7 +180,7 @@ AskCause callee limits before after events tail (error.HostRefused n) =
 AskCause callee limits before after events tail _ = ⊥
 
 -- why a call was refused with this error, which isn't one of those before the guest is entered
-abbrev pub Cause : {R : Type 0} → Arguments → Returns R → Callee → Limits → Moment → Moment → List Event → List Event → Error → Type 0
+abbrev pub Cause : {R : Type 0} → Arguments → ReturnedValues R → Callee → Limits → Moment → Moment → List Event → List Event → Error → Type 0
 Cause args its callee limits before after events tail (error.Fault f) = FaultCause args its callee limits.fuel before after events f
 Cause args its callee limits before after events tail error.WrongWords =
     EndsIn (IsReturn (λ words m. ¬ (length words ≡ result_words callee.results))) events ⊎ AskCause callee limits before after events tail error.WrongWords
@@ -200,7 +205,7 @@ pub record LiftsReturned (Lifts : LedgerState → LedgerState → Type 0) (befor
   pub ends : scope_exit before ≡ record { answer = Ok tt; after = ended }
   pub lifts : Lifts ended after
 
-module _ {R : Type 0} (its : Returns R) (callee : Callee) where
+module _ {R : Type 0} (its : ReturnedValues R) (callee : Callee) where
   -- The ledger refused the end of the scope, or after it a handle of the results, for this reason; or lifting stopped for another.
   abbrev pub StopsReturned : List ℕ → List ℕ → Option ResourceFault → LedgerState → LedgerState → Type 0
   StopsReturned words memory why before after =
@@ -232,7 +237,7 @@ module _ {T : Type 0} (gives : Giving T) (callee : Callee) (fuel : ℕ) where
   abbrev pub AfterTurns : List AskTurn → HostSide T → (HostSide T → Type 0) → Type 0
   AfterTurns turns before P = (served : HostSide T) × AreServed gives callee fuel turns before served × P served
 
-module _ {T R : Type 0} (its : Returns R) (gives : Giving T) (callee : Callee) (fuel : ℕ) where
+module _ {T R : Type 0} (its : ReturnedValues R) (gives : Giving T) (callee : Callee) (fuel : ℕ) where
   -- a call that was refused after its start stopped at an ask that it didn't resume, or otherwise
   abbrev pub StopsStartedOf : Error → List ℕ → List Answer → Option Trap → HostSide T → HostSide T → List Event → Type 0
   StopsStartedOf e memory2 late late_trap before after tail =
@@ -244,7 +249,7 @@ module _ {T R : Type 0} (its : Returns R) (gives : Giving T) (callee : Callee) (
   AcceptsLater before tail = OnAsk (λ index words memory more. AcceptsAsk gives callee fuel index words memory before) tail
       × Each (OnReturn (λ words m. (lifted : LedgerState) × LiftsReturned (its.accepts words m) before.ledger lifted)) tail
 
-module _ {T R : Type 0} (args : Arguments) (its : Returns R) (gives : Giving T) (callee : Callee) (fuel : ℕ) where
+module _ {T R : Type 0} (args : Arguments) (its : ReturnedValues R) (gives : Giving T) (callee : Callee) (fuel : ℕ) where
   -- What became of the host, by the call's events. At Ok a scope was opened, the handles of the parameters were lowered in it, in
   -- order, and were given these numbers; each ask was served; and from the return on as above. A refused call stopped somewhere on this
   -- way, its scope is left open, and a refusal of the ledger is that of the step at which it stopped. Where memory ran out for the
@@ -279,7 +284,7 @@ pub record Advances (before after : Moment) : Type 0 where
 
 -- A call that wasn't refused before the guest was entered, by its parameters, what its results are, what functions of the host may give, its
 -- callee, what it may use, the moments and the host before and after, its answer and the events that it adds to an exposed journal.
-pub record IsCallOf {T R : Type 0} (args : Arguments) (its : Returns R) (Leaves : List ℕ → List ℕ → Type 0) (gives : Giving T) (callee : Callee) (limits : Limits) (before after : Moment) (host left : HostSide T) (answer : Result R Error) (events : List Event) : Type 0 where
+pub record IsCallOf {T R : Type 0} (args : Arguments) (its : ReturnedValues R) (Leaves : List ℕ → List ℕ → Type 0) (gives : Giving T) (callee : Callee) (limits : Limits) (before after : Moment) (host left : HostSide T) (answer : Result R Error) (events : List Event) : Type 0 where
   -- The guest made one run; of a refused call the events are a prefix of one.
   pub one_run : OnOk answer (IsOneRun callee.func callee.post events)
   pub prefix : IsPrefixOfRun callee.func callee.post (length before.bytes) events
@@ -306,13 +311,17 @@ pub record IsCallOf {T R : Type 0} (args : Arguments) (its : Returns R) (Leaves 
   -- Handles went through the ledger, and each ask was served; the words of the start have the handles that the parameters were given.
   pub given : List ℕ
   pub handles : HandlesPassOf args its gives callee limits.fuel turns after.bytes late late_trap host left given answer events tail
-  pub start : Each (OnStart (IsStart args callee before.bytes answers given)) events
+  pub start : Each (OnStart (IsStart args callee before answers given)) events
   -- The results are the only values that the returned words and memory represent, and cost no more than the fuel; that
   -- memory is left, as far as a post-return leaves it.
   pub only_results : IfOk answer (λ results. Each (OnReturn (λ words m. (left : ℕ) × its.are words m limits.fuel left results)) events)
   -- Post-return runs only where the results were lifted.
   pub posted : ¬ Each IsNoPost events → Each (OnReturn (λ words m. (left : ℕ) × (lifted : R) × its.are words m limits.fuel left lifted)) events
   pub leaves : OnOk answer (Each (OnReturn (λ words m. Left Leaves callee.post m after.bytes)) events)
+  -- Unless memory ran out: where the guest wasn't started, memory stands but for the answered blocks, and no count rose; and memory that was
+  -- returned is left, where no post-return ran.
+  pub unstarted : answer ≢ Err (error.Fault fault.OutOfMemory) → Each IsNoStart events → Calm refused before.guest after.guest → Stands before.bytes after.bytes answers
+  pub returned : answer ≢ Err (error.Fault fault.OutOfMemory) → Each IsNoPost events → Each (OnReturn (λ words m. after.bytes ≡ m)) events
   pub cause : IfErr answer (Cause args its callee limits before after events tail)
   -- A valid call answers Ok or out of memory: the parameters are of their types, no text among them is too long and no
   -- list too large, `realloc` kept its law, the guest doesn't trap and doesn't ask too often, no function of the host refuses, what
@@ -345,7 +354,7 @@ dynamic callee params = record {
 }
 
 -- values that are lifted: the only ones that the words and memory represent
-abbrev pub dynamic_results : Callee → Returns (List Val)
+abbrev pub dynamic_results : Callee → ReturnedValues (List Val)
 dynamic_results callee = record {
   are = λ words memory fuel left results. AreResults callee.encoding (narrow memory) callee.results words fuel left results;
   faults = λ words memory kind at. ValuesFault callee.encoding (narrow memory) words max_results callee.results kind at;

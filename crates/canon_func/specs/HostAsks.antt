@@ -69,9 +69,9 @@ abbrev pub IsUnrefused : Error → Type 0
 IsUnrefused e = (n : ℕ) → e ≢ error.HostRefused n
 
 -- a refusal for no fault is counted, and nothing else
-abbrev pub Counted : Error → ℕ → ℕ → Type 0
-Counted (error.HostRefused n) before after = Rose before after
-Counted _ before after = after ≡ before
+abbrev pub RefusalCounted : Error → ℕ → ℕ → Type 0
+RefusalCounted (error.HostRefused n) before after = Rose before after
+RefusalCounted _ before after = after ≡ before
 
 -- what a function reaches that is called in a store of this number, in a memory, over data and a ledger
 abbrev pub called_on : {T : Type 0} → Callee → ℕ → List ℕ → T → LedgerState → InView T
@@ -139,7 +139,7 @@ module _ {T : Type 0} (its : AskForm T) (answers_so : Answering T) (callee : Cal
       pub is : IsHostAsk callee index words asked
       pub stops : StopsAt
       pub told : after.log ≡ before.log
-      pub counted : Counted e before.refusals after.refusals
+      pub counted : RefusalCounted e before.refusals after.refusals
       pub same_store : after.store ≡ before.store
 
   -- ---- an ask that isn't refused

@@ -29,7 +29,7 @@ use Rattle.canon_types.specs.declared.types.InterfaceType.TheVariants as ty
 use Rattle.canon_func.specs.Call.{HandlesPass, HandlesPassOf, param_parts, result_parts}
 use Rattle.canon_func.specs.AskForms.{AskForm, ask_at}
 use Rattle.canon_func.specs.HostAsks.{Gives, IsHostAsk, IsHostServedBy, stopped_error}
-use Rattle.canon_func.specs.Passing.{Arguments, Returns}
+use Rattle.canon_func.specs.Passing.{Arguments, ReturnedValues}
 use Rattle.canon_func.specs.Typed.{params_shape, results_shape, typed_args, typed_results}
 use Rattle.canon_func.specs.Runs.{AskTurn, BeginsInAsk, Each, IsNoStart, OnReturn, SomeReturn}
 use Rattle.canon_func.specs.Stores.{Callee}
@@ -147,7 +147,7 @@ RefusedIsPartway {T} gives = (callee : Callee) (fuel : ℕ) (params : List Val) 
 -- ---- of a typed call
 
 -- the same of any parameters and results
-module _ {T R : Type 0} (args : Arguments) (its : Returns R) (gives : Giving T) (callee : Callee) where
+module _ {T R : Type 0} (args : Arguments) (its : ReturnedValues R) (gives : Giving T) (callee : Callee) where
   abbrev pub IsThrough : Type 0
   IsThrough = (fuel : ℕ) (turns : List AskTurn) (memory2 : List ℕ) (late : List Answer) (trap : Option Trap) (before after : HostSide T) (given : List ℕ) (results : R) (events tail : List Event)
       → HandlesPassOf args its gives callee fuel turns memory2 late trap before after given (Ok results) events tail → PassesThrough gives callee fuel args.parts its.parts turns before after tail

@@ -8,7 +8,7 @@ use Rattle.canon_leaves.specs.Parts.{LeavesTake}
 use Rattle.canon_context.specs.declared.fault.Fault.{Fault}
 use Rattle.canon_context.specs.declared.fault.Fault.TheVariants as fault
 use Rattle.canon_func.specs.Call.{result_words}
-use Rattle.canon_func.specs.Passing.{Arguments, Returns}
+use Rattle.canon_func.specs.Passing.{Arguments, ReturnedValues}
 use Rattle.canon_func.specs.Stores.{Callee}
 
 -- ---- parameters
@@ -18,29 +18,29 @@ abbrev pub Unfit : Arguments → Type 0
 Unfit args = (ts : Trees) → args.are ts → args.small → ⊥
 
 -- what follows where the parameters are to blame for a fault: it is one of lowering, and they are unfit where it is none of the guest, the ledger or memory
-abbrev pub Blames : Arguments → Fault → Type 0
-Blames args (fault.TypeMismatch k) = Unfit args
-Blames args (fault.FieldName k) = Unfit args
-Blames args (fault.UnknownCase k) = Unfit args
-Blames args (fault.UnknownFlag k) = Unfit args
-Blames args (fault.PayloadExpected k) = Unfit args
-Blames args (fault.PayloadNotExpected k) = Unfit args
-Blames args (fault.LengthMismatch k) = Unfit args
-Blames args (fault.StringTooLong n) = Unfit args
-Blames args (fault.SizeOverflow n) = Unfit args
-Blames args (fault.ReallocMisaligned a) = ⊤
-Blames args (fault.ReallocOutOfBounds a) = ⊤
-Blames args fault.GuestTrap = ⊤
-Blames args fault.OutOfMemory = ⊤
-Blames args (fault.Resource r) = ⊤
-Blames args f = ⊥
+abbrev pub BlamesUnfit : Arguments → Fault → Type 0
+BlamesUnfit args (fault.TypeMismatch k) = Unfit args
+BlamesUnfit args (fault.FieldName k) = Unfit args
+BlamesUnfit args (fault.UnknownCase k) = Unfit args
+BlamesUnfit args (fault.UnknownFlag k) = Unfit args
+BlamesUnfit args (fault.PayloadExpected k) = Unfit args
+BlamesUnfit args (fault.PayloadNotExpected k) = Unfit args
+BlamesUnfit args (fault.LengthMismatch k) = Unfit args
+BlamesUnfit args (fault.StringTooLong n) = Unfit args
+BlamesUnfit args (fault.SizeOverflow n) = Unfit args
+BlamesUnfit args (fault.ReallocMisaligned a) = ⊤
+BlamesUnfit args (fault.ReallocOutOfBounds a) = ⊤
+BlamesUnfit args fault.GuestTrap = ⊤
+BlamesUnfit args fault.OutOfMemory = ⊤
+BlamesUnfit args (fault.Resource r) = ⊤
+BlamesUnfit args f = ⊥
 
 abbrev pub BlamesRightly : Arguments → Type 0
-BlamesRightly args = (f : Fault) → args.blames f → Blames args f
+BlamesRightly args = (f : Fault) → args.blames f → BlamesUnfit args f
 
 -- ---- results
 
-pub record ReadsRightly {R : Type 0} (callee : Callee) (its : Returns R) : Type 0 where
+pub record ReadsRightly {R : Type 0} (callee : Callee) (its : ReturnedValues R) : Type 0 where
   -- results are of as many words as they take
   pub whole : (ws m : List ℕ) (fuel left : ℕ) (results : R) → its.are ws m fuel left results → length ws ≡ result_words callee.results
   -- what represents results is as many words as they take, has no fault, and its charges are no more than the fuel that it is said with

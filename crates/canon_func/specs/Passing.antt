@@ -19,7 +19,7 @@ pub record Arguments : Type 1 where
   pub parts : List (List Part)
 
 -- Of results, over the words that were returned and the memory that was left.
-pub record Returns (R : Type 0) : Type 1 where
+pub record ReturnedValues (R : Type 0) : Type 1 where
   -- they are these results, whose charges took the fuel from one amount to another
   pub are : List ℕ → List ℕ → ℕ → ℕ → R → Type 0
   -- a reached place has a fault of this kind

@@ -40,8 +40,8 @@ use Rattle.canon_func.specs.AskForms.{AskForm, ask_at}
 use Rattle.canon_func.specs.HostAsks.{HostStopsBy, IsHostServedBy, IsUnrefused}
 use Rattle.canon_func.specs.AskValues.{asked_results}
 use Rattle.canon_func.specs.Call.{AcceptsLater, AfterTurns, AskCause, AsksByTypes, Concludes, HasFault, IsPastFuel, Left, StopsStartedOf, refused_by, result_words, scope_exit, words_within}
-use Rattle.canon_func.specs.Passing.{Arguments, Returns}
-use Rattle.canon_func.specs.Runs.{AskTurn, Each, EndsIn, Grows, IsNoPost, IsOneRun, IsPrefixOfRun, IsReturn, IsTrap, MayStart, OnReturn, OnStart, answers_in, asks_in, events_in, last_len, posts}
+use Rattle.canon_func.specs.Passing.{Arguments, ReturnedValues}
+use Rattle.canon_func.specs.Runs.{AskTurn, Each, EndsIn, Grows, IsNoPost, IsNoStart, IsOneRun, IsPrefixOfRun, IsReturn, IsTrap, MayStart, OnReturn, OnStart, answers_in, asks_in, events_in, last_len, posts}
 use Rattle.canon_func.specs.Stores.{Callee}
 use Rattle.canon_func.specs.declared.error.Error.{Error}
 use Rattle.canon_func.specs.declared.error.Error.TheVariants as error
@@ -257,7 +257,7 @@ module _ {T : Type 0} (gives : Giving T) (callee : Callee) (limits : Limits) whe
 
 -- The results of as many words as they take, whose charges were taken from the fuel, or why there are none. Their handles went
 -- through the ledger, which keeps its scopes.
-abbrev pub Lifted : {R : Type 0} → Returns R → ℕ → List ℕ → List ℕ → LedgerState → LedgerState → Result R Fault → Type 0
+abbrev pub Lifted : {R : Type 0} → ReturnedValues R → ℕ → List ℕ → List ℕ → LedgerState → LedgerState → Result R Fault → Type 0
 Lifted its fuel words memory ended after (Ok results) =
     (left : ℕ) × its.are words memory fuel left results × its.lifts words memory ended results after × (after.handles.scopes ≡ ended.handles.scopes)
 Lifted its fuel words memory ended after (Err f) =
@@ -272,17 +272,17 @@ Posted Leaves callee words before after (Err (error.Fault fault.OutOfMemory)) ev
 Posted Leaves callee words before after (Err _) events = ⊥
 
 -- The results were lifted, post-return was run, and the scope was left; or why not.
-abbrev pub Concluded : {R : Type 0} → Returns R → (List ℕ → List ℕ → Type 0) → Callee → ℕ → List ℕ → Moment → Moment → LedgerState → LedgerState → Result R Error → List Event → Type 0
+abbrev pub Concluded : {R : Type 0} → ReturnedValues R → (List ℕ → List ℕ → Type 0) → Callee → ℕ → List ℕ → Moment → Moment → LedgerState → LedgerState → Result R Error → List Event → Type 0
 Concluded its Leaves callee fuel words before after ended left (Ok results) events =
     ((lifted : LedgerState) × Lifted its fuel words before.bytes ended lifted (Ok results) × (left ≡ leave lifted)) × Posted Leaves callee words before after (Ok tt) events
 Concluded {R} its Leaves callee fuel words before after ended left (Err e) events =
-    ((f : Fault) × (e ≡ error.Fault f) × Lifted its fuel words before.bytes ended left (Err f) × (events ≡ []))
+    ((f : Fault) × (e ≡ error.Fault f) × Lifted its fuel words before.bytes ended left (Err f) × (events ≡ []) × (after.bytes ≡ before.bytes))
     ⊎ ((results : R) × Lifted its fuel words before.bytes ended left (Ok results) × Posted Leaves callee words before after (Err e) events)
 
 -- ---- from the start on
 
 -- why it wasn't done
-abbrev pub RestCause : {R : Type 0} → Returns R → Callee → Limits → Moment → Moment → List Event → List Event → Error → Type 0
+abbrev pub RestCause : {R : Type 0} → ReturnedValues R → Callee → Limits → Moment → Moment → List Event → List Event → Error → Type 0
 RestCause its callee limits before after events tail error.WrongWords =
     EndsIn (IsReturn (λ words m. ¬ (length words ≡ result_words callee.results))) events ⊎ AskCause callee limits before after events tail error.WrongWords
 RestCause its callee limits before after events tail (error.Fault fault.GuestTrap) = Rose before.guest.traps after.guest.traps × EndsIn IsTrap events
@@ -298,7 +298,7 @@ RestCause its callee limits before after events tail (error.Fault (fault.Resourc
 RestCause its callee limits before after events tail (error.Fault f) = ⊥
 RestCause its callee limits before after events tail e = AskCause callee limits before after events tail e
 
-module _ {T R : Type 0} (its : Returns R) (gives : Giving T) (callee : Callee) (limits : Limits) where
+module _ {T R : Type 0} (its : ReturnedValues R) (gives : Giving T) (callee : Callee) (limits : Limits) where
   -- the host from the start on, after these turns
   abbrev pub RestPasses : List ℕ → List Answer → Option Trap → HostSide T → HostSide T → Result R Error → List Event → Type 0
   RestPasses memory2 late trap served left (Ok results) tail = Each (OnReturn (λ words m. Concludes its callee words m results served.ledger left.ledger)) tail × (left ≡ record served { ledger = left.ledger })
@@ -321,6 +321,8 @@ module _ {T R : Type 0} (its : Returns R) (gives : Giving T) (callee : Callee) (
     pub only_results : IfOk answer (λ results. Each (OnReturn (λ ws m. (left : ℕ) × its.are ws m limits.fuel left results)) events)
     pub posted : ¬ Each IsNoPost events → Each (OnReturn (λ ws m. (left : ℕ) × (lifted : R) × its.are ws m limits.fuel left lifted)) events
     pub leaves : OnOk answer (Each (OnReturn (λ ws m. Left Leaves callee.post m after.bytes)) events)
+    pub started : answer ≢ Err (error.Fault fault.OutOfMemory) → ¬ Each IsNoStart events
+    pub returned : answer ≢ Err (error.Fault fault.OutOfMemory) → Each IsNoPost events → Each (OnReturn (λ ws m. after.bytes ≡ m)) events
     pub handles : AfterTurns gives callee limits.fuel turns host (λ served. RestPasses after.bytes late late_trap served left answer tail)
     pub cause : IfErr answer (RestCause its callee limits before after events tail)
     pub valid : AllLawful late → IfErr answer IsUnrefused → ¬ EndsIn IsTrap events → asks_in events ≤ limits.turns

@@ -20,7 +20,7 @@ use Rattle.canon_context.specs.declared.fault.Fault.{Fault}
 use Rattle.canon_reading.specs.Reading.{Lifts, Reading, Setting}
 use Rattle.canon_reading.specs.Spots.{flat_in}
 use Rattle.canon_func.specs.Call.{result_words}
-use Rattle.canon_func.specs.Passing.{Arguments, Returns}
+use Rattle.canon_func.specs.Passing.{Arguments, ReturnedValues}
 use Rattle.canon_func.specs.Stores.{Callee, Named, StoreView}
 use Rattle.canon_func.specs.declared.error.Error.{Error}
 
@@ -87,7 +87,7 @@ module _ {R : Type 0} (reading : Reading R) (options store : ℕ) (callee : Call
   return_steps words memory = whole.steps (returned_setting callee options store memory) (flat_in words 0) (results_shape callee)
 
   -- results are represented by as many words as they take where no reached place has a fault
-  abbrev pub typed_results : Returns R
+  abbrev pub typed_results : ReturnedValues R
   typed_results = record {
     are = λ words memory fuel left r. (length words ≡ result_words callee.results) × ((before after : LedgerState) × ReturnReads words memory before r after) × (fuel ≡ left + return_reach words memory);
     faults = ReturnFault;

@@ -8,7 +8,7 @@ ghost use Rattle.canon_context.specs.declared.component.Component as component;
 ghost use Rattle.canon_context.specs.declared.component.Export as exports;
 ghost use Rattle.canon_func.specs.Call.{Adding, OnAnswered, result_words};
 ghost use Rattle.canon_func.specs.Passed.{BlamesRightly, ReadsRightly};
-ghost use Rattle.canon_func.specs.Passing.{Arguments, Returns};
+ghost use Rattle.canon_func.specs.Passing.{Arguments, ReturnedValues};
 ghost use Rattle.canon_func.specs.Steps.{Lifted, LoweredArgs, map_ok};
 ghost use Rattle.canon_func.specs.Stores.{Callee, export_callee};
 
@@ -50,7 +50,7 @@ pub(crate) trait Results: Drop {
     ghost out: { Self → Out };
 
     // what is said of them, by the callee, the number of its options and that of its store
-    ghost returns: { Callee → ℕ → ℕ → Returns Out };
+    ghost returns: { Callee → ℕ → ℕ → ReturnedValues Out };
 
     // an export of a component may return them
     ghost fit: { component.Component → exports.Export → Type 0 };

@@ -71,7 +71,7 @@ pub trait Lift: ComponentType {
         ensures same_options { cx.new.options ≡ cx.old.options };
 
     /// The same with an index of 32 bits.
-    fn linear_lift_from_flat<U, G>(
+    final fn linear_lift_from_flat<U, G>(
         alloc: Global,
         cx: &mut LiftContext<'_, U, G>,
         ty: InterfaceType,
@@ -92,7 +92,7 @@ pub trait Lift: ComponentType {
     }
 
     /// Lifts the items of a list, whose own charge was taken when the list was lifted.
-    fn linear_lift_list_from_memory<U, G>(
+    final fn linear_lift_list_from_memory<U, G>(
         alloc: Global,
         cx: &mut LiftContext<'_, U, G>,
         list: &WasmList<Self>,
@@ -123,7 +123,7 @@ pub trait Lift: ComponentType {
     }
 
     /// Lifts the items of a list to the end of a vector. Where one isn't lifted the vector stays as it was.
-    fn linear_lift_into_from_memory<U, G>(
+    final fn linear_lift_into_from_memory<U, G>(
         alloc: Global,
         cx: &mut LiftContext<'_, U, G>,
         list: &WasmList<Self>,

@@ -63,7 +63,7 @@ pub trait Lower: ComponentType {
 
     /// Stores values of the type `ty` in a row, the first at the address `offset` (CanonicalABI.md,
     /// "store_list_into_valid_range").
-    fn linear_store_list_to_memory<D, G: Guest>(
+    final fn linear_store_list_to_memory<D, G: Guest>(
         cx: &mut LowerContext<'_, D, G>,
         ty: InterfaceType,
         offset: u64,
@@ -136,7 +136,7 @@ pub trait LowerShared: ComponentType {
 
     /// Stores values of the type `ty` in a row, the first at the address `offset` (CanonicalABI.md,
     /// "store_list_into_valid_range").
-    fn linear_store_list_to_memory<D, G: Guest>(
+    final fn linear_store_list_to_memory<D, G: Guest>(
         cx: &mut LowerContext<'_, D, G>,
         ty: InterfaceType,
         offset: u64,

@@ -14,7 +14,7 @@ use Rattle.canon_memory.specs.declared.event.Event.TheVariants as event
 use Rattle.canon_func.specs.AskForms.{ask_form}
 use Rattle.canon_func.specs.Asks.{AreServed, AskStops, IsServed}
 use Rattle.canon_func.specs.Call.{HandlesPassOf, StopsStartedOf}
-use Rattle.canon_func.specs.Passing.{Arguments, Returns}
+use Rattle.canon_func.specs.Passing.{Arguments, ReturnedValues}
 use Rattle.canon_func.specs.Runs.{AskTurn, BeginsInAsk}
 use Rattle.canon_func.specs.Stores.{Callee}
 use Rattle.canon_func.specs.declared.error.Error.{Error}
@@ -70,7 +70,7 @@ module _ {T : Type 0} (gives : Giving T) (callee : Callee) (fuel : ℕ) where
   stopped_asking e memory2 late trap before after log (event.Ask index words memory ∷ more) is h = stopped e index words memory memory2 late trap before after log is h
   stopped_asking e memory2 late trap before after log tail is h = absurd h
 
-module _ {T R : Type 0} (args : Arguments) (its : Returns R) (gives : Giving T) (callee : Callee) (fuel : ℕ) where
+module _ {T R : Type 0} (args : Arguments) (its : ReturnedValues R) (gives : Giving T) (callee : Callee) (fuel : ℕ) where
   stopped_later : (e : Error) (memory2 : List ℕ) (late : List Answer) (trap : Option Trap) (before after : HostSide T) (log : List Entry) (tail : List Event) → before.log ≡ Some log
       → StopsStartedOf its gives callee fuel e memory2 late trap before after tail → Longer log after.log
   stopped_later e memory2 late trap before after log tail is (inl (stops, kept)) = same log before.log after.log is (ap (λ (s : HostSide T). s.log) kept)

@@ -18,7 +18,7 @@ use Rattle.canon_context.specs.declared.fault.Fault.TheVariants as fault
 use Rattle.canon_value.specs.declared.val.Val.{Val}
 use Rattle.canon_types.specs.Refusal.{first_error}
 use Rattle.canon_func.specs.Call.{Adding, IsCall, IsCallOf, OnAnswered, dynamic, dynamic_results, refusal, refused_by, with_results}
-use Rattle.canon_func.specs.Passing.{Arguments, Returns}
+use Rattle.canon_func.specs.Passing.{Arguments, ReturnedValues}
 use Rattle.canon_func.specs.Typed.{done_by}
 use Rattle.canon_func.specs.Stores.{Callee, Named, callee_of}
 use Rattle.canon_func.specs.declared.error.Error.{Error}
@@ -89,18 +89,18 @@ abbrev pub side_of : ScriptStore → HostSide (Unit {0})
 side_of s = host_side s.core (Some (entries_of s.imports.lines.items)) s.imports.refusals
 
 -- what the call ensures once the guest was entered
-abbrev pub Entered : {R : Type 0} → Arguments → Returns R → Callee → ScriptStore → ScriptStore → Result R Error → Type 0
+abbrev pub Entered : {R : Type 0} → Arguments → ReturnedValues R → Callee → ScriptStore → ScriptStore → Result R Error → Type 0
 Entered args its callee loaded left called = Adding (moment_of journaled loaded.core) (moment_of journaled left.core)
     (λ events. OnAnswered called (ScriptMoves (of_guest (guest_of loaded.core)) events (of_guest (guest_of left.core))))
     (λ events. IsCallOf args its LeavesSame (GivesAnswers (answers_of loaded)) callee (limits_of loaded) (moment_of journaled loaded.core) (moment_of journaled left.core) (side_of loaded) (side_of left) called events)
 
 -- what became of a call, where it was refused before the guest was entered or not
-abbrev pub Became : {R : Type 0} → Arguments → Returns R → (R → List Val → Type 0) → Callee → (Allocator → Plan) → ScriptStore → ScriptStore → Record → Option Error → Type 0
+abbrev pub Became : {R : Type 0} → Arguments → ReturnedValues R → (R → List Val → Type 0) → Callee → (Allocator → Plan) → ScriptStore → ScriptStore → Record → Option Error → Type 0
 Became args its Told callee plan s left r (Some e) = Idle (state_of s) (state_of left) r (answer.Err e)
 Became args its Told callee plan s left r None = WasCalled args its Told callee (limits_of s) (answers_of s) plan (state_of s) (state_of left) r
 
 -- There were so many lines before the call.
-module _ {R : Type 0} (args : Arguments) (its : Returns R) (Told : R → List Val → Type 0) (callee : Callee) (guest : List Action) (reallocs : List Ordered) (post_trap : Bool)
+module _ {R : Type 0} (args : Arguments) (its : ReturnedValues R) (Told : R → List Val → Type 0) (callee : Callee) (guest : List Action) (reallocs : List Ordered) (post_trap : Bool)
     (r : Record) (s left : ScriptStore) (called : Result R Error) (asked : ℕ)
     (empty : s.core.guest.events ≡ []) (events : r.events ≡ left.core.guest.events) (told : Tells Told called r.answer) (short : IsOther called)
     (lines : asked ≡ length s.imports.lines.items) (serves : map served_view r.served.items ≡ map entry_view (drop asked (entries_of left.imports.lines.items))) where

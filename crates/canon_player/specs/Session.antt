@@ -26,7 +26,7 @@ use Rattle.canon_host.specs.HostSide.{Entry, HostSide}
 use Rattle.canon_func.specs.Asks.{Limits, allowed}
 use Rattle.canon_func.specs.Call.{IsCallOf, dynamic, dynamic_results, entry_refusal, refusal}
 use Rattle.canon_func.specs.Drop.{IsCutOff, IsDropped, destructor_at, destructor_events, drop_refusal}
-use Rattle.canon_func.specs.Passing.{Arguments, Returns}
+use Rattle.canon_func.specs.Passing.{Arguments, ReturnedValues}
 use Rattle.canon_func.specs.Stores.{Callee}
 use Rattle.canon_func.specs.Typed.{FitsParams, FitsResults, params_shape, typed_args, typed_results}
 use Rattle.canon_func.specs.declared.error.Error.{Error}
@@ -201,7 +201,7 @@ LeavesSame memory after = after ≡ memory
 -- that of the return; after a refusal nothing reads its bytes, since every later call is refused. The memory that the run has
 -- sufficed. Functions of the host give these answers, by the asks that they served so far, and the record lists those that they served in
 -- this call. The record's answer tells how the call ended, by these values in the place of the results.
-pub record WasCalled {R : Type 0} (args : Arguments) (its : Returns R) (Told : R → List Val → Type 0) (callee : Callee) (limits : Limits) (answers : List (List HostAnswer)) (plan : Allocator → Plan)
+pub record WasCalled {R : Type 0} (args : Arguments) (its : ReturnedValues R) (Told : R → List Val → Type 0) (callee : Callee) (limits : Limits) (answers : List (List HostAnswer)) (plan : Allocator → Plan)
     (before after : State) (r : Record) : Type 0 where
   pub ended : Result R Error
   pub told : Tells Told ended r.answer

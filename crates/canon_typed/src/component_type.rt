@@ -59,7 +59,7 @@ pub trait ComponentType: Drop {
         ensures { (i : Instance) (type : InterfaceType) → fits i type → TellsLayout result (shape_of i.types type) };
 
     /// The number of words, or none where there are more than 16 or the size passes 2^32 - 1.
-    fn flatten_count() -> Option<u8>
+    final fn flatten_count() -> Option<u8>
         ensures { (i : Instance) (type : InterfaceType) → fits i type → TellsFlat result (shape_of i.types type) }
     {
         Self::abi()?.flat
