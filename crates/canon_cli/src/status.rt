@@ -26,6 +26,6 @@ impl Status {
     /// The input is no JSON.
     pub const NOT_JSON: Status = Status(7);
 
-    /// The JSON is no script, or no conversions.
+    /// The JSON is no script, no conversions or no types, as the command asks.
     pub const BAD_SCRIPT: Status = Status(8);
 }

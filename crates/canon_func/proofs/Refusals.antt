@@ -18,7 +18,7 @@ use Rattle.canon_context.specs.declared.fault.Fault.{Fault}
 use Rattle.canon_context.specs.declared.fault.Fault.TheVariants as fault
 use Rattle.canon_host.specs.HostSide.{Giving, HostSide}
 use Rattle.canon_func.specs.Asks.{Limits}
-use Rattle.canon_func.specs.Call.{Accepts, Advances, AsksByTypes, FaultCause, HandlesPassOf, IsCallOf, Stands}
+use Rattle.canon_func.specs.Call.{Accepts, Advances, AsksByTypes, FaultCause, HandlesPassOf, IsCallOf, KeepsLive, Stands}
 use Rattle.canon_func.specs.Passing.{Arguments, ReturnedValues}
 use Rattle.canon_func.specs.Runs.{Each, EndsIn, IsNoPost, IsNoStart, IsTrap, asks_in}
 use Rattle.canon_func.specs.Steps.{EndsFor, TrapsLate}
@@ -57,7 +57,7 @@ module _ {T R : Type 0} (args : Arguments) (its : ReturnedValues R) (gives : Giv
       let none : asks_in (events_of answers trap) ≡ 0 = ap asks_in (sym (append-nil (events_of answers trap))) ∙ asks_answers answers trap [] in
       omega (arith, none)
 
-  made : (f : Fault) (answers : List Answer) (trap : Option Trap) → Advances entry after → (Calm refused entry.guest after.guest → Stands entry.bytes after.bytes answers) → AsksByTypes callee.params (fault_ending f) answers trap → after.guest.marks ≡ entry.guest.marks ++ marks_of answers
+  made : (f : Fault) (answers : List Answer) (trap : Option Trap) → Advances entry after → (Calm refused entry.guest after.guest → Stands entry.bytes after.bytes answers × KeepsLive entry after.bytes answers) → AsksByTypes callee.params (fault_ending f) answers trap → after.guest.marks ≡ entry.guest.marks ++ marks_of answers
       → ((ts : Trees) → args.are ts → (left : List Request) × ((last : ℕ) → Meets last (params_requests false callee.encoding callee.params ts) answers trap left))
       → HandlesPassOf args its gives callee limits.fuel [] after.bytes [] None before left [] (Err (error.Fault f)) (events_of answers trap) []
       → Refused args its gives callee limits entry after before (events_of answers trap) answers trap f → IsCallOf args its Leaves gives callee limits entry after before left (Err (error.Fault f)) (events_of answers trap)
@@ -97,7 +97,7 @@ module _ {T R : Type 0} (args : Arguments) (its : ReturnedValues R) (gives : Giv
       → IsCallOf args its Leaves gives callee limits entry after before left (Err (error.Fault fault.OutOfMemory)) []
   short_call e handles =
       made fault.OutOfMemory [] None (subst (λ m. Advances entry m) (sym e) (record { no_shorter = omega arith; traps_later = omega arith; shortages_later = omega arith }))
-      (λ calm tidy i h out. ap (λ m. slice_index m.bytes i) e) (λ near none. (refl, refl), λ far. (refl, λ none. tt))
+      (λ calm. (λ tidy i h out. ap (λ m. slice_index m.bytes i) e, λ lawful i h. ap (λ m. slice_index m.bytes i) e)) (λ near none. (refl, refl), λ far. (refl, λ none. tt))
       (ap (λ m. m.guest.marks) e ∙ sym (append-nil entry.guest.marks))
       (λ ts have. (params_requests false callee.encoding callee.params ts, λ last. refl)) handles
       (record { late = tt; accepted = tt; cause = tt; valid = λ ts have small lawful calm accepted. refl })
@@ -226,6 +226,9 @@ module _ {T R : Type 0} (args : Arguments) (its : ReturnedValues R) (gives : Giv
       → IsCallOf args its Leaves gives callee limits entry after before left (Err (error.Fault f)) (events_of low.answers low.trap)
   refused_call kept f ending words handles low is blames told quiet stops =
       made args its gives callee limits Leaves entry after before left f low.answers low.trap (goes_advance entry after _ _ low.lowering.goes)
-      (λ calm tidy i h out. low.lowering.tidy (calm_so ending entry.guest after.guest calm) tidy i h (λ q. q) out) (asks_as f ending low.answers low.trap is quiet) low.lowering.goes.marks
+      (λ calm. (
+        λ tidy i h out. low.lowering.tidy (calm_so ending entry.guest after.guest calm) tidy i h (λ q. q) out,
+        λ lawful i h. (low.lowering.lawful (calm_so ending entry.guest after.guest calm) lawful).kept i h (λ q. q),
+      )) (asks_as f ending low.answers low.trap is quiet) low.lowering.goes.marks
       (λ ts have. ((low.requested ts have).rest, (low.requested ts have).met))
       (inr (inl (none_started low.answers low.trap, stops, kept))) (refused_so f ending words handles low is blames told stops)

@@ -85,6 +85,10 @@ words_within most ms = if nat_le (members_flat ms) most then members_flat ms els
 abbrev pub Stands : List ℕ → List ℕ → List Answer → Type 0
 Stands before after answers = AllTidy answers → (i : ℕ) → i < length before → ¬ InBlocks (blocks_of answers) i → slice_index after i ≡ slice_index before i
 
+-- What lived at a moment has its bytes, where the answers kept the law of `realloc`.
+abbrev pub KeepsLive : Moment → List ℕ → List Answer → Type 0
+KeepsLive before after answers = AllLawful answers → (i : ℕ) → InBlocks before.guest.live i → slice_index after i ≡ slice_index before.bytes i
+
 -- The guest, which was at this moment as the call was entered, was started with these words in this memory: they stand for the
 -- parameters, with these handles in order, as far as the answers kept the law of `realloc`.
 pub record IsStart (args : Arguments) (callee : Callee) (entry : Moment) (answers : List Answer) (given : List ℕ) (words memory : List ℕ) : Type 0 where
@@ -102,9 +106,9 @@ pub record IsStart (args : Arguments) (callee : Callee) (entry : Moment) (answer
   -- each pointer in the words is the home of its own block, and so is each in the blocks
   pub homes : ParamsHome AnyPointer callee.encoding false words callee.params trees (addresses_of answers) []
   pub memory_homes : AllLawful answers → ParamsHome (PointsTo (narrow memory)) callee.encoding false words callee.params trees (addresses_of answers) []
-  -- memory at the call's entry stands, outside the answered blocks; and so do the blocks that lived then, as far as the answers kept the law
+  -- memory at the call's entry stands outside the answered blocks, and what lived then has its bytes
   pub frame : Stands entry.bytes memory answers
-  pub kept : AllLawful answers → (i : ℕ) → InBlocks entry.guest.live i → slice_index memory i ≡ slice_index entry.bytes i
+  pub kept : KeepsLive entry memory answers
 
 -- The answers, and then the trap, met the first of these requests, and all of them where the guest was started.
 pub record MetFirst (requests : List Request) (answers : List Answer) (trap : Option Trap) (later : List Event) : Type 0 where
@@ -318,9 +322,9 @@ pub record IsCallOf {T R : Type 0} (args : Arguments) (its : ReturnedValues R) (
   -- Post-return runs only where the results were lifted.
   pub posted : ¬ Each IsNoPost events → Each (OnReturn (λ words m. (left : ℕ) × (lifted : R) × its.are words m limits.fuel left lifted)) events
   pub leaves : OnOk answer (Each (OnReturn (λ words m. Left Leaves callee.post m after.bytes)) events)
-  -- Unless memory ran out: where the guest wasn't started, memory stands but for the answered blocks, and no count rose; and memory that was
-  -- returned is left, where no post-return ran.
-  pub unstarted : answer ≢ Err (error.Fault fault.OutOfMemory) → Each IsNoStart events → Calm refused before.guest after.guest → Stands before.bytes after.bytes answers
+  -- Unless memory ran out: memory is as at the entry, as far as `IsStart` says it of a start, if the guest wasn't started and neither count
+  -- rose; and it is as it was returned, if no post-return ran.
+  pub unstarted : answer ≢ Err (error.Fault fault.OutOfMemory) → Each IsNoStart events → Calm refused before.guest after.guest → Stands before.bytes after.bytes answers × KeepsLive before after.bytes answers
   pub returned : answer ≢ Err (error.Fault fault.OutOfMemory) → Each IsNoPost events → Each (OnReturn (λ words m. after.bytes ≡ m)) events
   pub cause : IfErr answer (Cause args its callee limits before after events tail)
   -- A valid call answers Ok or out of memory: the parameters are of their types, no text among them is too long and no

@@ -29,7 +29,7 @@ pub enum Error {
     /// The guest asked for an import of this number, which the component doesn't have.
     #[error("UnknownImport {0}")]
     UnknownImport(u32),
-    /// The guest asked for an import once more than the store's calls may.
+    /// In one call the guest asked for imports more often than the store allows.
     #[error("TurnsExhausted")]
     TurnsExhausted,
     /// The import of this number, for which the guest asked, was refused for this fault.
