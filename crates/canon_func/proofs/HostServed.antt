@@ -218,7 +218,21 @@ module _ {T G P S : Type 0} (its : AskForm T) (sound : AskSound its) (seen : G â
           moves = told_moves (seen a.guest).journal (seen b.guest).journal (events_of by.answers by.trap) (Î» es. OnAnswered {T = Unit {0}} (Err (asked_error index x)) (moves (guest_of a) es (guest_of b))) by.goes.events by.moved;
           so = (
             by.trap,
-            stopped_with by.answers by.trap (asked_error index x) (fault_counted index x none_refused) (law.id s (leave ended.ledger) at results (Err x) given_is) (from by.answers by.trap (inr (at, place at placed, inr (ended.ledger, x, take (members_flat (asked_results callee asked)) storage2, exit_is l ended.ledger (Ok tt) ends.0, refl, by.lowers)))),
+            stopped_with by.answers by.trap (asked_error index x) (fault_counted index x none_refused)
+                (law.id s (leave ended.ledger) at results (Err x) given_is)
+                (from by.answers by.trap
+                (inr (
+                  at,
+                  place at placed,
+                  inr (
+                    ended.ledger,
+                    x,
+                    take (members_flat (asked_results callee asked)) storage2,
+                    exit_is l ended.ledger (Ok tt) ends.0,
+                    refl,
+                    by.lowers,
+                  ),
+                ))),
             refl,
             by.late,
             by.rises,

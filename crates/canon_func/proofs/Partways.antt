@@ -160,7 +160,9 @@ module _ {T : Type 0} (gives : Giving T) (lawful : (n : ℕ) → IsLawful (gives
   ask_stops (error.HostRefused k) l n index words memory memory2 answers trap (same, (asked, h)) = stops_partway asked index words memory memory2 answers trap l n (error.HostRefused k) h
   ask_stops (error.Fault fault.OutOfMemory) l n index words memory memory2 answers trap (inl (h, none, quiet)) = short_partway (error.Fault fault.OutOfMemory) index words memory l n h h.left
   ask_stops (error.Fault fault.OutOfMemory) l n index words memory memory2 answers trap (inr (inl (asked, h))) = stops_partway asked index words memory memory2 answers trap l n (error.Fault fault.OutOfMemory) h
-  ask_stops (error.Fault fault.OutOfMemory) l n index words memory memory2 answers trap (inr (inr (resumed, memory3, none, longer, h))) = served_partway (ask_turn index words memory answers resumed memory3) l n (error.Fault fault.OutOfMemory) (host_through gives lawful callee fuel (ask_turn index words memory answers resumed memory3) l n h)
+  ask_stops (error.Fault fault.OutOfMemory) l n index words memory memory2 answers trap
+      (inr (inr (resumed, memory3, none, longer, h))) = served_partway (ask_turn index words memory answers resumed memory3) l n
+      (error.Fault fault.OutOfMemory) (host_through gives lawful callee fuel (ask_turn index words memory answers resumed memory3) l n h)
   ask_stops e l n index words memory memory2 answers trap h = absurd h
 
 module _ {T R : Type 0} (args : Arguments) (its : ReturnedValues R) (gives : Giving T) (lawful : (n : ℕ) → IsLawful (gives.form n)) (callee : Callee) (fuel : ℕ) (law : ReadsRightly callee its) where

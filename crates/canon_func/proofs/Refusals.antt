@@ -57,7 +57,9 @@ module _ {T R : Type 0} (args : Arguments) (its : ReturnedValues R) (gives : Giv
       let none : asks_in (events_of answers trap) ≡ 0 = ap asks_in (sym (append-nil (events_of answers trap))) ∙ asks_answers answers trap [] in
       omega (arith, none)
 
-  made : (f : Fault) (answers : List Answer) (trap : Option Trap) → Advances entry after → (Calm refused entry.guest after.guest → Stands entry.bytes after.bytes answers × KeepsLive entry after.bytes answers) → AsksByTypes callee.params (fault_ending f) answers trap → after.guest.marks ≡ entry.guest.marks ++ marks_of answers
+  made : (f : Fault) (answers : List Answer) (trap : Option Trap) → Advances entry after →
+      (Calm refused entry.guest after.guest → Stands entry.bytes after.bytes answers × KeepsLive entry after.bytes answers) →
+      AsksByTypes callee.params (fault_ending f) answers trap → after.guest.marks ≡ entry.guest.marks ++ marks_of answers
       → ((ts : Trees) → args.are ts → (left : List Request) × ((last : ℕ) → Meets last (params_requests false callee.encoding callee.params ts) answers trap left))
       → HandlesPassOf args its gives callee limits.fuel [] after.bytes [] None before left [] (Err (error.Fault f)) (events_of answers trap) []
       → Refused args its gives callee limits entry after before (events_of answers trap) answers trap f → IsCallOf args its Leaves gives callee limits entry after before left (Err (error.Fault f)) (events_of answers trap)

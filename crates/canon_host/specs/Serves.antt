@@ -151,7 +151,9 @@ CallsBlank g f asked before params result after results = Calls g f asked before
 module _ {T G : Type 0} (seen : G → Seen) (moves : GuestIn G → List Event → GuestIn G → Type 0) (asked : Asked) where
   pub record LowersGiven (before : Parts T G) (at : ℕ) (results : List Val) (result : Result (Unit {0}) Fault) (after : Parts T G) (words : List ℕ) : Type 0 where
     pub lowered : Crosses before.component.types (have_handle (result_members (types_of before) asked.func)) (all_passes (result_members (types_of before) asked.func) results)
-        (λ hs ending. LowersResults (moment_of seen before) (moment_of seen after) (encoding_by before asked.options) (result_members (types_of before) asked.func) (HaveTrees (result_members (types_of before) asked.func) results) at (take (members_flat (result_members (types_of before) asked.func)) words) hs ending)
+        (λ hs ending. LowersResults (moment_of seen before) (moment_of seen after) (encoding_by before asked.options)
+        (result_members (types_of before) asked.func) (HaveTrees (result_members (types_of before) asked.func) results) at
+        (take (members_flat (result_members (types_of before) asked.func)) words) hs ending)
         before.ledger after.ledger result
     pub cause : IfErr result (BlamesMembers (encoding_by before asked.options) (result_members (types_of before) asked.func) results)
     pub small : OnOk result (AreSmall (encoding_by before asked.options) (result_members (types_of before) asked.func) results)

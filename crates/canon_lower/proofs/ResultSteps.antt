@@ -56,7 +56,9 @@ result_put unit F unit2 F2 a b t2 type j first second part at d place e is fits 
 -- ---- payloads
 
 -- the payload of a case by its type
-payload_as : (t : Table) (unit : Bool) (F : Instance → InterfaceType → Type 0) (i : Instance) (p : Option InterfaceType) (cs : Cases) → IsPayloadOf unit F i p → (case_members (case_for (payload_in (all_shapes t) p) cs) 0 ≡ payload_members (unless_unit unit (payload_type t p))) × (payload_shape (case_for (payload_in (all_shapes t) p) cs) 0 ≡ payload_type t p)
+payload_as : (t : Table) (unit : Bool) (F : Instance → InterfaceType → Type 0) (i : Instance) (p : Option InterfaceType) (cs : Cases) →
+    IsPayloadOf unit F i p → (case_members (case_for (payload_in (all_shapes t) p) cs) 0 ≡ payload_members (unless_unit unit (payload_type t p))) ×
+    (payload_shape (case_for (payload_in (all_shapes t) p) cs) 0 ≡ payload_type t p)
 payload_as t true F i None cs h = (refl, refl)
 payload_as t false F i (Some type) cs h = (refl, refl)
 payload_as t true F i (Some type) cs h = absurd h
@@ -84,7 +86,9 @@ payload_fits unit F i p type is h = of_some unit (subst (IsPayloadOf unit F i) i
     of_some true k = absurd k
 
 -- a payload alone, where its type is the unit or not
-module _ {D G : Type 0} (L : GuestLaws G) (options : ℕ) {A : Type 0} (Walks : A → Tree → Type 0) (gives : Instance → Shape → A → List (List Part)) (F : Instance → InterfaceType → Type 0) (x : A) (unit : Bool) (a : Parts D G) (p : Option InterfaceType) (at : ℕ) (fits : IsPayloadOf unit F a.component.types p) where
+module _ {D G : Type 0} (L : GuestLaws G) (options : ℕ) {A : Type 0} (Walks : A → Tree → Type 0) (gives : Instance → Shape → A → List (List Part))
+    (F : Instance → InterfaceType → Type 0) (x : A) (unit : Bool) (a : Parts D G) (p : Option InterfaceType) (at : ℕ)
+    (fits : IsPayloadOf unit F a.component.types p) where
   abbrev pub Payload : Parts D G → Option InterfaceType → Result (Unit {0}) Fault → Type 0
   Payload b q r = TypedMembersStore L.seen L.moves options a b (payload_members (unless_unit unit (payload_type (types_of a) q))) 0 at (PayloadTrees unit (Walks x)) (part_gives unit (gives a.component.types (payload_type (types_of a) q) x)) r
 

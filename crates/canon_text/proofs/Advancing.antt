@@ -74,7 +74,9 @@ advancing16-run source old now new read written n h g =
       };
     }
 
-pub advancing16-more : (source old now new : List ℕ) (read written read2 written2 c : ℕ) → Advancing16 source old now read written → drop read source ≡ encode_utf8 c ++ drop (read + length (encode_utf8 c)) source → read2 ≡ read + length (encode_utf8 c) → written2 ≡ written + length (encode_utf16 c) → new ≡ placed now written (encode_utf16 c) → Advancing16 source old new read2 written2
+pub advancing16-more : (source old now new : List ℕ) (read written read2 written2 c : ℕ) → Advancing16 source old now read written →
+    drop read source ≡ encode_utf8 c ++ drop (read + length (encode_utf8 c)) source → read2 ≡ read + length (encode_utf8 c) →
+    written2 ≡ written + length (encode_utf16 c) → new ≡ placed now written (encode_utf16 c) → Advancing16 source old new read2 written2
 advancing16-more source old now new read written read2 written2 c h e r k w = record {
   scalars = h.scalars ++ c ∷ [];
   so_far = writes16-more source (drop read source) (drop read2 source) h.scalars old now new written written2 c h.so_far (e ∙ ap (λ n. encode_utf8 c ++ drop n source) (sym r)) k w;
@@ -112,7 +114,10 @@ advancing_bytes-run source old now new at read end n room h g =
       };
     }
 
-pub advancing_bytes-more : (source old now new : List ℕ) (at read end read2 end2 c : ℕ) → at ≤ length old → AdvancingBytes source old now at read end → drop read source ≡ encode_utf8 c ++ drop (read + length (encode_utf8 c)) source → read2 ≡ read + length (encode_utf8 c) → end2 ≡ end + 2 * length (encode_utf16 c) → new ≡ placed now end (flat_map unit_bytes (encode_utf16 c)) → AdvancingBytes source old new at read2 end2
+pub advancing_bytes-more : (source old now new : List ℕ) (at read end read2 end2 c : ℕ) → at ≤ length old →
+    AdvancingBytes source old now at read end → drop read source ≡ encode_utf8 c ++ drop (read + length (encode_utf8 c)) source →
+    read2 ≡ read + length (encode_utf8 c) → end2 ≡ end + 2 * length (encode_utf16 c) → new ≡ placed now end (flat_map unit_bytes (encode_utf16 c)) →
+    AdvancingBytes source old new at read2 end2
 advancing_bytes-more source old now new at read end read2 end2 c room h e r k w = record {
   scalars = h.scalars ++ c ∷ [];
   so_far = writes_bytes-more source (drop read source) (drop read2 source) h.scalars old now new at end end2 c room h.so_far (e ∙ ap (λ n. encode_utf8 c ++ drop n source) (sym r)) k w;

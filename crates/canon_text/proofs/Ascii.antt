@@ -60,7 +60,9 @@ midway-run form first source old now new read written n h g =
       };
     }
 
-pub narrowing-run : (form : Form) (source old now new : List ℕ) (read written n : ℕ) → Narrowing form source old now read written → AllBelow 256 (run source read n) → can_spell form (run source read n) ≡ true → units form (run source read n) ≡ run source read n → (limit : ℕ) → Copies limit source now new read written n → Narrowing form source old new (read + n) (written + n)
+pub narrowing-run : (form : Form) (source old now new : List ℕ) (read written n : ℕ) → Narrowing form source old now read written →
+    AllBelow 256 (run source read n) → can_spell form (run source read n) ≡ true → units form (run source read n) ≡ run source read n → (limit : ℕ) →
+    Copies limit source now new read written n → Narrowing form source old new (read + n) (written + n)
 narrowing-run form source old now new read written n h small can same limit g =
     let cs = h.scalars in
     let xs = run source read n in

@@ -23,7 +23,9 @@ widens8 text rest cs old mid new so_far end answer e long h done is = record {
   writes = behind old mid new _ so_far e long h.writes;
 }
 
-pub widens16 : (source old mid new : List ℕ) (so_far answer : ℕ) → mid ≡ over old (inflated old so_far) → length (inflated old so_far) ≡ 2 * so_far → WellFormed in_utf16 source → new ≡ placed mid (2 * so_far) (flat_map unit_bytes source) → answer ≡ so_far + length source → Widens in_utf16 source old new so_far answer
+pub widens16 : (source old mid new : List ℕ) (so_far answer : ℕ) → mid ≡ over old (inflated old so_far) → length (inflated old so_far) ≡ 2 * so_far →
+    WellFormed in_utf16 source → new ≡ placed mid (2 * so_far) (flat_map unit_bytes source) → answer ≡ so_far + length source →
+    Widens in_utf16 source old new so_far answer
 widens16 source old mid new so_far answer e long h w is = record {
   scalars = h.scalars;
   can = h.can;

@@ -48,7 +48,9 @@ copies-more limit source old now new from at n k h g =
     }
 
 -- a short block, long blocks, short blocks, and units one by one
-pub copies-four : (limit : ℕ) (source old a b c new : List ℕ) (from at i j k l : ℕ) → Copies limit source old a from at i → Copies limit source a b (from + i) (at + i) j → Copies limit source b c (from + (i + j)) (at + (i + j)) k → Copies limit source c new (from + (i + j + k)) (at + (i + j + k)) l → Copies limit source old new from at (i + j + k + l)
+pub copies-four : (limit : ℕ) (source old a b c new : List ℕ) (from at i j k l : ℕ) → Copies limit source old a from at i →
+    Copies limit source a b (from + i) (at + i) j → Copies limit source b c (from + (i + j)) (at + (i + j)) k →
+    Copies limit source c new (from + (i + j + k)) (at + (i + j + k)) l → Copies limit source old new from at (i + j + k + l)
 copies-four limit source old a b c new from at i j k l h1 h2 h3 h4 =
     let two = copies-more limit source old a b from at i j h1 h2 in
     let three = copies-more limit source old b c from at (i + j) k two h3 in

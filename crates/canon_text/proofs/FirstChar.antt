@@ -37,7 +37,19 @@ told-one : (c : ℕ) (bs rest : List ℕ) → c < 128 → bs ≡ c ∷ rest → 
 told-one c bs rest h e =
     let wide = ap length (encode_ascii c h) in
     let b0 : get_or bs 0 0 ≡ c = ap (λ l. get_or l 0 0) e in
-    record { one = λ a. omega arith; two = λ a b. omega arith; three = λ a b. omega arith; four = λ a. omega arith; wide1 = λ a. omega arith; wide2 = λ a b. omega arith; wide3 = λ a b. omega arith; wide4 = λ a. omega arith; long2 = λ a. omega arith; long3 = λ a. omega arith; long4 = λ a. omega arith }
+    record {
+      one = λ a. omega arith;
+      two = λ a b. omega arith;
+      three = λ a b. omega arith;
+      four = λ a. omega arith;
+      wide1 = λ a. omega arith;
+      wide2 = λ a b. omega arith;
+      wide3 = λ a b. omega arith;
+      wide4 = λ a. omega arith;
+      long2 = λ a. omega arith;
+      long3 = λ a. omega arith;
+      long4 = λ a. omega arith;
+    }
 
 told-two : (c : ℕ) (bs rest : List ℕ) → 128 ≤ c → c < 2048 → bs ≡ (192 + c / 64) ∷ (128 + c % 64) ∷ rest → Told c bs
 told-two c bs rest h k e =
@@ -45,7 +57,19 @@ told-two c bs rest h k e =
     let b0 : get_or bs 0 0 ≡ 192 + c / 64 = ap (λ l. get_or l 0 0) e in
     let b1 : get_or bs 1 0 ≡ 128 + c % 64 = ap (λ l. get_or l 1 0) e in
     let long = ap length e in
-    record { one = λ a. omega arith; two = λ a b. omega arith; three = λ a b. omega arith; four = λ a. omega arith; wide1 = λ a. omega arith; wide2 = λ a b. omega arith; wide3 = λ a b. omega arith; wide4 = λ a. omega arith; long2 = λ a. omega arith; long3 = λ a. omega arith; long4 = λ a. omega arith }
+    record {
+      one = λ a. omega arith;
+      two = λ a b. omega arith;
+      three = λ a b. omega arith;
+      four = λ a. omega arith;
+      wide1 = λ a. omega arith;
+      wide2 = λ a b. omega arith;
+      wide3 = λ a b. omega arith;
+      wide4 = λ a. omega arith;
+      long2 = λ a. omega arith;
+      long3 = λ a. omega arith;
+      long4 = λ a. omega arith;
+    }
 
 told-three : (c : ℕ) (bs rest : List ℕ) → 2048 ≤ c → c < 65536 → bs ≡ (224 + c / 4096) ∷ (128 + c / 64 % 64) ∷ (128 + c % 64) ∷ rest → Told c bs
 told-three c bs rest h k e =
@@ -54,7 +78,19 @@ told-three c bs rest h k e =
     let b1 : get_or bs 1 0 ≡ 128 + c / 64 % 64 = ap (λ l. get_or l 1 0) e in
     let b2 : get_or bs 2 0 ≡ 128 + c % 64 = ap (λ l. get_or l 2 0) e in
     let long = ap length e in
-    record { one = λ a. omega arith; two = λ a b. omega arith; three = λ a b. omega arith; four = λ a. omega arith; wide1 = λ a. omega arith; wide2 = λ a b. omega arith; wide3 = λ a b. omega arith; wide4 = λ a. omega arith; long2 = λ a. omega arith; long3 = λ a. omega arith; long4 = λ a. omega arith }
+    record {
+      one = λ a. omega arith;
+      two = λ a b. omega arith;
+      three = λ a b. omega arith;
+      four = λ a. omega arith;
+      wide1 = λ a. omega arith;
+      wide2 = λ a b. omega arith;
+      wide3 = λ a b. omega arith;
+      wide4 = λ a. omega arith;
+      long2 = λ a. omega arith;
+      long3 = λ a. omega arith;
+      long4 = λ a. omega arith;
+    }
 
 told-four : (c : ℕ) (bs rest : List ℕ) → 65536 ≤ c → c < 1114112 → bs ≡ (240 + c / 262144) ∷ (128 + c / 4096 % 64) ∷ (128 + c / 64 % 64) ∷ (128 + c % 64) ∷ rest → Told c bs
 told-four c bs rest h k e =
@@ -64,7 +100,19 @@ told-four c bs rest h k e =
     let b2 : get_or bs 2 0 ≡ 128 + c / 64 % 64 = ap (λ l. get_or l 2 0) e in
     let b3 : get_or bs 3 0 ≡ 128 + c % 64 = ap (λ l. get_or l 3 0) e in
     let long = ap length e in
-    record { one = λ a. omega arith; two = λ a b. omega arith; three = λ a b. omega arith; four = λ a. omega arith; wide1 = λ a. omega arith; wide2 = λ a b. omega arith; wide3 = λ a b. omega arith; wide4 = λ a. omega arith; long2 = λ a. omega arith; long3 = λ a. omega arith; long4 = λ a. omega arith }
+    record {
+      one = λ a. omega arith;
+      two = λ a b. omega arith;
+      three = λ a b. omega arith;
+      four = λ a. omega arith;
+      wide1 = λ a. omega arith;
+      wide2 = λ a b. omega arith;
+      wide3 = λ a b. omega arith;
+      wide4 = λ a. omega arith;
+      long2 = λ a. omega arith;
+      long3 = λ a. omega arith;
+      long4 = λ a. omega arith;
+    }
 
 told : (c : ℕ) (bs rest : List ℕ) → c < 1114112 → bs ≡ encode_utf8 c ++ rest → Told c bs
 told c bs rest top e = ⊎_elim

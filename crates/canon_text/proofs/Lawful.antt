@@ -33,7 +33,9 @@ goes_past form first room c more rest fault can e h =
     subst (λ k. (room < length (encode_utf8 k)) ⊎ (IsTrue first × (127 < k))) (sym same.0) h.cause
 
 -- a pass can't end before what fits
-pub no_further : (form : Form) (first : Bool) (source rest tail cs : List ℕ) (c : ℕ) (more : List ℕ) (room : ℕ) → IsPass form first source room cs rest → length (encode_utf8_all (cs ++ c ∷ more)) ≤ room → (IsTrue first → All (λ x. x < 128) (cs ++ c ∷ more)) → can_spell form (c ∷ more) ≡ true → rest ≡ units form (c ∷ more) ++ tail → ⊥
+pub no_further : (form : Form) (first : Bool) (source rest tail cs : List ℕ) (c : ℕ) (more : List ℕ) (room : ℕ) →
+    IsPass form first source room cs rest → length (encode_utf8_all (cs ++ c ∷ more)) ≤ room → (IsTrue first → All (λ x. x < 128) (cs ++ c ∷ more)) →
+    can_spell form (c ∷ more) ≡ true → rest ≡ units form (c ∷ more) ++ tail → ⊥
 no_further form first source rest tail cs c more room h fits plain can e =
     let long = ap length (encode_utf8_all-append cs (c ∷ more)) ∙ length-append (encode_utf8_all cs) (encode_utf8 c ++ encode_utf8_all more) in
     let here : get_or (cs ++ c ∷ more) (length cs) 0 ≡ c = get_or_at cs c more 0 (length cs) refl in

@@ -29,7 +29,9 @@ pub record Narrowing (form : Form) (source old now : List ℕ) (read written : �
 pub narrowing-nil : (form : Form) (source old : List ℕ) → Narrowing form source old old 0 0
 narrowing-nil form source old = record { scalars = []; so_far = record { front = front-nil form source; latin1 = refl; count = refl; writes = refl } }
 
-pub narrowing-more : (form : Form) (source old now new : List ℕ) (read read2 written c : ℕ) → Narrowing form source old now read written → Begins form c (drop read source) → c < 256 → read2 ≡ read + length (units form (c ∷ [])) → written < length old → new ≡ set now written c → Narrowing form source old new read2 (written + 1)
+pub narrowing-more : (form : Form) (source old now new : List ℕ) (read read2 written c : ℕ) → Narrowing form source old now read written →
+    Begins form c (drop read source) → c < 256 → read2 ≡ read + length (units form (c ∷ [])) → written < length old → new ≡ set now written c →
+    Narrowing form source old new read2 (written + 1)
 narrowing-more form source old now new read read2 written c h b small e room w =
     let cs = h.scalars in
     record {
@@ -155,7 +157,13 @@ no_latin1 xs n h cause c small b =
     let zeroth : get_or (drop n xs) 0 0 ≡ get_or xs n 0 = get_or-drop n xs 0 0 ∙ ap (λ k. get_or xs k 0) (omega arith) in
     let first : get_or (drop n xs) 1 0 ≡ get_or xs (n + 1) 0 = get_or-drop n xs 1 0 in
     let long : length (drop n xs) ≡ length xs - n = length-drop n xs in
-    clash c (drop n xs) small (starts c (drop n xs) small b) (omega arith, ⊎_elim (λ l. inl (omega arith)) (λ r. ⊎_elim (λ l. inr (inl (omega arith))) (λ r2. ⊎_elim (λ l. inr (inr (inl (omega arith)))) (λ r3. ⊎_elim (λ l. inr (inr (inr (inl (omega arith))))) (λ l. inr (inr (inr (inr (omega arith))))) r3) r2) r) cause)
+    clash c (drop n xs) small (starts c (drop n xs) small b) (
+      omega arith,
+      ⊎_elim (λ l. inl (omega arith))
+          (λ r. ⊎_elim (λ l. inr (inl (omega arith)))
+          (λ r2. ⊎_elim (λ l. inr (inr (inl (omega arith))))
+          (λ r3. ⊎_elim (λ l. inr (inr (inr (inl (omega arith))))) (λ l. inr (inr (inr (inr (omega arith))))) r3) r2) r) cause,
+    )
 
 -- such a character has two bytes
 pub two_long : (first second c : ℕ) → IsTwoBytes first second c → 2 ≡ length (encode_utf8 c)

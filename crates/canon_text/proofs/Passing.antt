@@ -64,7 +64,9 @@ passed form first source old now read written h stops = record {
 pub midway-end : (form : Form) (first : Bool) (source old now : List ℕ) (read written : ℕ) → Midway form first source old now read written → length source ≤ read → Passed form first source old now read written
 midway-end form first source old now read written h e = passed form first source old now read written h (inl (drop_all read source e))
 
-pub midway-stop : (form : Form) (first : Bool) (source old now : List ℕ) (read written c : ℕ) → Midway form first source old now read written → Begins form c (drop read source) → (length old - written < length (encode_utf8 c)) ⊎ (IsTrue first × (127 < c)) → Passed form first source old now read written
+pub midway-stop : (form : Form) (first : Bool) (source old now : List ℕ) (read written c : ℕ) → Midway form first source old now read written →
+    Begins form c (drop read source) → (length old - written < length (encode_utf8 c)) ⊎ (IsTrue first × (127 < c)) →
+    Passed form first source old now read written
 midway-stop form first source old now read written c h b cause = passed form first source old now read written h (inr (record { next = c; more = b.more; can = b.can; is = b.is; cause = cause }))
 
 pub midway-fault : (form : Form) (first : Bool) (source old now : List ℕ) (read written : ℕ) (e : TextError) → Midway form first source old now read written → IllFormed form (drop read source) → error_form e ≡ form → error_place e ≡ read → PassFails form first source old now e

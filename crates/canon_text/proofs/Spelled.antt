@@ -55,7 +55,9 @@ pub record Writes16 (text rest scalars old now : List ℕ) (written : ℕ) : Typ
   pub count : written ≡ length (flat_map encode_utf16 scalars)
   pub writes : now ≡ over old (flat_map encode_utf16 scalars)
 
-pub writes16-more : (text rest rest2 scalars old now new : List ℕ) (written written2 c : ℕ) → Writes16 text rest scalars old now written → rest ≡ encode_utf8 c ++ rest2 → written2 ≡ written + length (encode_utf16 c) → new ≡ placed now written (encode_utf16 c) → Writes16 text rest2 (scalars ++ c ∷ []) old new written2
+pub writes16-more : (text rest rest2 scalars old now new : List ℕ) (written written2 c : ℕ) → Writes16 text rest scalars old now written →
+    rest ≡ encode_utf8 c ++ rest2 → written2 ≡ written + length (encode_utf16 c) → new ≡ placed now written (encode_utf16 c) →
+    Writes16 text rest2 (scalars ++ c ∷ []) old new written2
 writes16-more text rest rest2 cs old now new written written2 c h e k w = record {
   read = has_read-more text rest rest2 cs c h.read e;
   count = k ∙ ap (λ n. n + length (encode_utf16 c)) h.count ∙ sym (length-append (flat_map encode_utf16 cs) (encode_utf16 c)) ∙ ap length (units-push cs c);
@@ -71,7 +73,9 @@ pub record WritesBytes (text rest scalars old now : List ℕ) (at end : ℕ) : T
   pub count : end ≡ at + 2 * length (flat_map encode_utf16 scalars)
   pub writes : now ≡ placed old at (flat_map unit_bytes (flat_map encode_utf16 scalars))
 
-pub writes_bytes-more : (text rest rest2 scalars old now new : List ℕ) (at end end2 c : ℕ) → at ≤ length old → WritesBytes text rest scalars old now at end → rest ≡ encode_utf8 c ++ rest2 → end2 ≡ end + 2 * length (encode_utf16 c) → new ≡ placed now end (flat_map unit_bytes (encode_utf16 c)) → WritesBytes text rest2 (scalars ++ c ∷ []) old new at end2
+pub writes_bytes-more : (text rest rest2 scalars old now new : List ℕ) (at end end2 c : ℕ) → at ≤ length old →
+    WritesBytes text rest scalars old now at end → rest ≡ encode_utf8 c ++ rest2 → end2 ≡ end + 2 * length (encode_utf16 c) →
+    new ≡ placed now end (flat_map unit_bytes (encode_utf16 c)) → WritesBytes text rest2 (scalars ++ c ∷ []) old new at end2
 writes_bytes-more text rest rest2 cs old now new at end end2 c room h e k w =
     let more = flat_map unit_bytes (encode_utf16 c) in
     let joined : flat_map unit_bytes (flat_map encode_utf16 cs) ++ more ≡ flat_map unit_bytes (flat_map encode_utf16 (cs ++ c ∷ [])) =

@@ -30,7 +30,9 @@ pub stored : (now lanes items : List ℕ) (at : ℕ) → lanes ≡ items → at 
 stored now lanes items at same room = ap (λ l. put_chunk at now l) same ∙ put_chunk_is at now items room ∙ ap (λ l. take at now ++ (items ++ l)) (drop-drop (length items) at now)
 
 -- a block of units more
-pub placed-block : (old now new units : List ℕ) (at n k : ℕ) → at ≤ length old → now ≡ placed old at (flat_map unit_bytes (take n units)) → n + k ≤ length units → new ≡ placed now (at + 2 * n) (flat_map unit_bytes (take k (drop n units))) → new ≡ placed old at (flat_map unit_bytes (take (n + k) units))
+pub placed-block : (old now new units : List ℕ) (at n k : ℕ) → at ≤ length old → now ≡ placed old at (flat_map unit_bytes (take n units)) →
+    n + k ≤ length units → new ≡ placed now (at + 2 * n) (flat_map unit_bytes (take k (drop n units))) →
+    new ≡ placed old at (flat_map unit_bytes (take (n + k) units))
 placed-block old now new units at n k h e room w =
     let long : at + 2 * n ≡ at + length (flat_map unit_bytes (take n units)) = omega (arith, length-unit_bytes (take n units), length-take-le n units (omega arith)) in
     w ∙ placed-more old now (flat_map unit_bytes (take n units)) (flat_map unit_bytes (take k (drop n units))) at (at + 2 * n) h e long
@@ -46,7 +48,16 @@ length-inflating : (old : List ℕ) (count j : ℕ) → j ≤ count → 2 * coun
 unfolding inflating
 length-inflating old count j h room =
     let units = flat_map unit_bytes (drop j (take count old)) in
-    omega (arith, length-append (take (2 * j) old) (units ++ drop (2 * count) old), length-append units (drop (2 * count) old), length-unit_bytes (drop j (take count old)), length-drop j (take count old), length-take-le count old (omega arith), length-take-le (2 * j) old (omega arith), length-drop (2 * count) old)
+    omega (
+      arith,
+      length-append (take (2 * j) old) (units ++ drop (2 * count) old),
+      length-append units (drop (2 * count) old),
+      length-unit_bytes (drop j (take count old)),
+      length-drop j (take count old),
+      length-take-le count old (omega arith),
+      length-take-le (2 * j) old (omega arith),
+      length-drop (2 * count) old,
+    )
 
 block_read : (old now : List ℕ) (count i k : ℕ) → now ≡ inflating old count (i + k) → i + k ≤ count → 2 * count ≤ length old → take k (drop i now) ≡ take k (drop i (take count old))
 block_read old now count i k e h room =

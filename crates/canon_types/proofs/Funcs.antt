@@ -21,14 +21,20 @@ func_at f n at after =
     ap (λ (x : ℕ). let r : TypeFunc = record { params = x; results = f.results; async_ = f.async_ } in r) at
     ∙ ap (λ (x : ℕ). let r : TypeFunc = record { params = n; results = x; async_ = f.async_ } in r) after
 
-func_table : (c : Inside) (items : List Entry) (p r : Entry) (funcs : List TypeFunc) (f : TypeFunc) → items ≡ c.entries.items ++ p ∷ [] ++ r ∷ [] → funcs ≡ c.funcs.items ++ f ∷ [] → f.params ≡ length (table c).definitions → f.results ≡ length (table c).definitions + 1 → record { definitions = definitions_of items; funcs = funcs; resources = c.resources.items } ≡ with_func_of (table c) (definition_of p.item) (definition_of r.item) f.async_
+func_table : (c : Inside) (items : List Entry) (p r : Entry) (funcs : List TypeFunc) (f : TypeFunc) → items ≡ c.entries.items ++ p ∷ [] ++ r ∷ [] →
+    funcs ≡ c.funcs.items ++ f ∷ [] → f.params ≡ length (table c).definitions → f.results ≡ length (table c).definitions + 1 →
+    record { definitions = definitions_of items; funcs = funcs; resources = c.resources.items } ≡ with_func_of (table c) (definition_of p.item)
+    (definition_of r.item) f.async_
 func_table c items p r funcs f same added at after =
     let ds : definitions_of items ≡ (table c).definitions ++ definition_of p.item ∷ [] ++ definition_of r.item ∷ [] = ap definitions_of same ∙ simp map-append in
     let fs = added ∙ ap (λ (x : TypeFunc). c.funcs.items ++ x ∷ []) (func_at f (length (table c).definitions) at after) in
     ap (λ (xs : List Definition). let t : Table = record { definitions = xs; funcs = funcs; resources = c.resources.items } in t) ds
     ∙ ap (λ (xs : List TypeFunc). let t : Table = record { definitions = (table c).definitions ++ definition_of p.item ∷ [] ++ definition_of r.item ∷ []; funcs = xs; resources = c.resources.items } in t) fs
 
-pub func_table_along : (c : Inside) (t : Table) (items : List Entry) (p r : Entry) (funcs : List TypeFunc) (f : TypeFunc) → table c ≡ t → items ≡ c.entries.items ++ p ∷ [] ++ r ∷ [] → funcs ≡ c.funcs.items ++ f ∷ [] → f.params ≡ length t.definitions → f.results ≡ length t.definitions + 1 → record { definitions = definitions_of items; funcs = funcs; resources = c.resources.items } ≡ with_func_of t (definition_of p.item) (definition_of r.item) f.async_
+pub func_table_along : (c : Inside) (t : Table) (items : List Entry) (p r : Entry) (funcs : List TypeFunc) (f : TypeFunc) → table c ≡ t →
+    items ≡ c.entries.items ++ p ∷ [] ++ r ∷ [] → funcs ≡ c.funcs.items ++ f ∷ [] → f.params ≡ length t.definitions →
+    f.results ≡ length t.definitions + 1 → record { definitions = definitions_of items; funcs = funcs; resources = c.resources.items } ≡ with_func_of
+    t (definition_of p.item) (definition_of r.item) f.async_
 func_table_along c t items p r funcs f view same added =
     let P : Table → Type 0 = λ x. f.params ≡ length x.definitions → f.results ≡ length x.definitions + 1 → record { definitions = definitions_of items; funcs = funcs; resources = c.resources.items } ≡ with_func_of x (definition_of p.item) (definition_of r.item) f.async_ in
     subst P view (func_table c items p r funcs f same added)

@@ -197,7 +197,9 @@ abbrev pub definitions_of : List Entry → List Definition
 definitions_of = map (λ x. definition_of x.item)
 
 -- the same, of the fields of a `ComponentTypes`
-pub kept-push : (c : Inside) (t : Table) (items : List Entry) (e : Entry) → table c ≡ t → items ≡ c.entries.items ++ e ∷ [] → EntriesFit (table c) c.entries.items → IsEntry t (defined_shape (all_shapes t) (definition_of e.item)) e → EntriesFit (record { definitions = definitions_of items; funcs = c.funcs.items; resources = c.resources.items }) items
+pub kept-push : (c : Inside) (t : Table) (items : List Entry) (e : Entry) → table c ≡ t → items ≡ c.entries.items ++ e ∷ [] →
+    EntriesFit (table c) c.entries.items → IsEntry t (defined_shape (all_shapes t) (definition_of e.item)) e →
+    EntriesFit (record { definitions = definitions_of items; funcs = c.funcs.items; resources = c.resources.items }) items
 kept-push c t items e view same fit new =
     let IsNew : Table → Type 0 = λ x. IsEntry x (defined_shape (all_shapes x) (definition_of e.item)) e in
     let Fit : Table → Type 0 = λ x. EntriesFit x (c.entries.items ++ e ∷ []) in
@@ -220,7 +222,9 @@ entries_fit-funcs ds fs gs n entries fit = λ i e lt. record {
 }
 
 -- two entries more, over the same table
-pub entries_fit-push_two : (t : Table) (entries : List Entry) (p r : Entry) → t.definitions ≡ definitions_of entries → EntriesFit t entries → IsEntry t (defined_shape (all_shapes t) (definition_of p.item)) p → IsEntry t (defined_shape (all_shapes t) (definition_of r.item)) r → EntriesFit (with_definition (with_definition t (definition_of p.item)) (definition_of r.item)) (entries ++ p ∷ [] ++ r ∷ [])
+pub entries_fit-push_two : (t : Table) (entries : List Entry) (p r : Entry) → t.definitions ≡ definitions_of entries → EntriesFit t entries →
+    IsEntry t (defined_shape (all_shapes t) (definition_of p.item)) p → IsEntry t (defined_shape (all_shapes t) (definition_of r.item)) r →
+    EntriesFit (with_definition (with_definition t (definition_of p.item)) (definition_of r.item)) (entries ++ p ∷ [] ++ r ∷ [])
 entries_fit-push_two t entries p r defs fit first second =
     let dp = definition_of p.item in
     let dr = definition_of r.item in
@@ -231,7 +235,10 @@ entries_fit-push_two t entries p r defs fit first second =
     entries_fit-push (with_definition t dp) (entries ++ p ∷ []) r defs' one second'
 
 -- the same, of the fields of a `ComponentTypes`, whatever becomes of the functions
-pub kept-push_two : (c : Inside) (t : Table) (items : List Entry) (p r : Entry) (funcs : List TypeFunc) → table c ≡ t → items ≡ c.entries.items ++ p ∷ [] ++ r ∷ [] → EntriesFit (table c) c.entries.items → IsEntry t (defined_shape (all_shapes t) (definition_of p.item)) p → IsEntry t (defined_shape (all_shapes t) (definition_of r.item)) r → EntriesFit (record { definitions = definitions_of items; funcs = funcs; resources = c.resources.items }) items
+pub kept-push_two : (c : Inside) (t : Table) (items : List Entry) (p r : Entry) (funcs : List TypeFunc) → table c ≡ t →
+    items ≡ c.entries.items ++ p ∷ [] ++ r ∷ [] → EntriesFit (table c) c.entries.items →
+    IsEntry t (defined_shape (all_shapes t) (definition_of p.item)) p → IsEntry t (defined_shape (all_shapes t) (definition_of r.item)) r →
+    EntriesFit (record { definitions = definitions_of items; funcs = funcs; resources = c.resources.items }) items
 kept-push_two c t items p r funcs view same fit first second =
     let all = c.entries.items ++ p ∷ [] ++ r ∷ [] in
     let Is : Entry → Table → Type 0 = λ e x. IsEntry x (defined_shape (all_shapes x) (definition_of e.item)) e in

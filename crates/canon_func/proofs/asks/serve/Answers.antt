@@ -59,5 +59,7 @@ serve_builtin-requires-in-ResourceDrop-clause-asked g c =
 pub returns-in-Host-clause-did : goal.returns-in-Host-clause-did
 returns-in-Host-clause-did g c =
     c.serve_host.ensures.did c.args.export.now
-    (host_asked c.args.core.now.component c.args.export.now c.args.index c.args.words.now c.in-Some.import c.asked_of-asked.result c.in-Host.ty c.in-Host.options c.import_at.result c.component.result.now c.component-2.result.now c.words_of.result c.component.ensures.component c.component-2.ensures.component
+    (host_asked c.args.core.now.component c.args.export.now c.args.index c.args.words.now c.in-Some.import c.asked_of-asked.result c.in-Host.ty
+    c.in-Host.options c.import_at.result c.component.result.now c.component-2.result.now c.words_of.result c.component.ensures.component
+    c.component-2.ensures.component
     c.import_at.ensures.found c.in-Some.is c.in-Host.is c.words_of.ensures c.if-words-words_of.false c.asked_of-asked.ensures.is c.asked_of-asked.ensures.ty c.asked_of-asked.ensures.options)

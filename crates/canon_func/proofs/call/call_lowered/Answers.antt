@@ -22,7 +22,9 @@ returns-in-Err-clause-did g c =
     let after = c.run.new.core in
     let callee = export_callee before.component c.args.export.now in
     let e = c.in-Err.error in
-    run_refused (g.R.Results.returns callee c.args.export.now.options before.id) (imports.gives (imports.plan i)) callee (allowed before.fuel c.args.turns) g.G.Guest.leaves (g.met.R.Results.law callee c.args.export.now.options before.id) c.args.words.now (g.met.I.Imports.lawful (imports.plan i)) (moment_of seen before) (moment_of seen after)
+    run_refused (g.R.Results.returns callee c.args.export.now.options before.id) (imports.gives (imports.plan i)) callee
+    (allowed before.fuel c.args.turns) g.G.Guest.leaves (g.met.R.Results.law callee c.args.export.now.options before.id) c.args.words.now
+    (g.met.I.Imports.lawful (imports.plan i)) (moment_of seen before) (moment_of seen after)
     (host_side before (imports.log i) (imports.refusals i)) (host_side after (imports.log j) (imports.refusals j)) e (λ es. OnAnswered {T = List ℕ} (Err e) (moves (guest_of before) es (guest_of after)))
     (λ es. OnAnswered {T = g.row.R.Denot} (Err e) (moves (guest_of before) es (guest_of after))) (λ es h. retyped (List ℕ) g.row.R.Denot e (moves (guest_of before) es (guest_of after)) h) c.in-Err.ensures.did
 

@@ -52,7 +52,11 @@ loop-k-preserved g c =
     let x = get_or c.loop-k.items c.loop-k.k c.index-items-k.result in
     let here = here_at c.loop-k.items a.items.now c.loop-k.k c.index-items-k.result x c.loop-k.invariant.items refl (omega (arith, c.loop-k-test.true, c.loop-k.auto.items)) in
     record {
-      row = row_more L a.cx.now.options core a.ty.now W f a.items.now c.loop-k.cx.core.now c.loop-k.cx.options c.loop-k.dst c.loop-k.at (drop c.loop-k.k a.items.now) (drop (c.loop-k.k + 1) a.items.now) x here c.loop-k.invariant.row c.lower_at.new.cx.core.now c.lower_at.new.cx.options c.lower_at.new.dst c.lower_at.new.at (λ t has. walked_shaped g.T.ComponentType.fits g.T.ComponentType.walks g.T.ComponentType.means g.met.T.ComponentType.typed g.met.T.ComponentType.walked x core.component.types a.ty.now t c.requires.fits has)
+      row = row_more L a.cx.now.options core a.ty.now W f a.items.now c.loop-k.cx.core.now c.loop-k.cx.options c.loop-k.dst c.loop-k.at
+          (drop c.loop-k.k a.items.now) (drop (c.loop-k.k + 1) a.items.now) x here c.loop-k.invariant.row c.lower_at.new.cx.core.now
+          c.lower_at.new.cx.options c.lower_at.new.dst c.lower_at.new.at
+          (λ t has. walked_shaped g.T.ComponentType.fits g.T.ComponentType.walks g.T.ComponentType.means g.met.T.ComponentType.typed
+          g.met.T.ComponentType.walked x core.component.types a.ty.now t c.requires.fits has)
           c.in-Ok.ensures.stays c.in-Ok.ensures.end c.in-Ok.ensures.same_options c.in-Ok.ensures.lowers;
       small = c.in-Ok.ensures.lowers.attempt.lowering.small;
       items = drop-set-lt (c.loop-k.k + 1) c.loop-k.items c.loop-k.k c.lower_at.new.value (omega arith) ∙ next_same c.loop-k.items a.items.now c.loop-k.k c.loop-k.invariant.items;
@@ -70,7 +74,9 @@ returns-in-Err-clause-lowers g c =
     let W = g.T.ComponentType.walks in
     let x = get_or c.loop-k.items c.loop-k.k c.index-items-k.result in
     let here = here_at c.loop-k.items a.items.now c.loop-k.k c.index-items-k.result x c.loop-k.invariant.items refl (omega (arith, c.loop-k-test.true, c.loop-k.auto.items)) in
-    row_stop L a.cx.now.options core a.ty.now W f a.items.now c.loop-k.cx.core.now c.loop-k.cx.options c.loop-k.dst c.loop-k.at (drop c.loop-k.k a.items.now) (drop (c.loop-k.k + 1) a.items.now) x here c.loop-k.invariant.row c.lower_at.new.cx.core.now c.lower_at.new.dst c.in-Err.fault c.in-Err.ensures.stays c.in-Err.ensures.lowers
+    row_stop L a.cx.now.options core a.ty.now W f a.items.now c.loop-k.cx.core.now c.loop-k.cx.options c.loop-k.dst c.loop-k.at
+    (drop c.loop-k.k a.items.now) (drop (c.loop-k.k + 1) a.items.now) x here c.loop-k.invariant.row c.lower_at.new.cx.core.now c.lower_at.new.dst
+    c.in-Err.fault c.in-Err.ensures.stays c.in-Err.ensures.lowers
 
 pub returns-clause-lowers : goal.returns-clause-lowers
 returns-clause-lowers g c =

@@ -15,7 +15,10 @@ returns-in-Ok-clause-lowers g c =
     let a = c.args in
     let core = a.cx.now.core.now in
     let (owned, r, shape) = handle_shape core.component.types a.ty c.requires.fits in
-    handle_lowers L a.cx.now.options core c.give_held.new.cx.core.now owned r (shape_of (types_of core) a.ty) shape c.memory-memory.ensures.small a.dst.now (held_gives (g.R.HeldResource.kind a.resource.now) (g.R.HeldResource.state a.resource.now) (g.R.HeldResource.rep a.resource.now) core.component.types (shape_of (types_of core) a.ty))
+    handle_lowers L a.cx.now.options core c.give_held.new.cx.core.now owned r (shape_of (types_of core) a.ty) shape c.memory-memory.ensures.small
+    a.dst.now
+    (held_gives (g.R.HeldResource.kind a.resource.now) (g.R.HeldResource.state a.resource.now) (g.R.HeldResource.rep a.resource.now)
+    core.component.types (shape_of (types_of core) a.ty))
     c.in-Ok.number c.u32.result c.requires.words c.u32.ensures c.in-Ok.ensures.gives
 
 pub returns-in-Err-clause-lowers : goal.returns-in-Err-clause-lowers
@@ -24,5 +27,8 @@ returns-in-Err-clause-lowers g c =
     let a = c.args in
     let core = a.cx.now.core.now in
     let (owned, r, shape) = handle_shape core.component.types a.ty c.requires.fits in
-    handle_refused L a.cx.now.options core c.give_held.new.cx.core.now owned r (shape_of (types_of core) a.ty) shape c.memory-memory.ensures.small a.dst.now (held_gives (g.R.HeldResource.kind a.resource.now) (g.R.HeldResource.state a.resource.now) (g.R.HeldResource.rep a.resource.now) core.component.types (shape_of (types_of core) a.ty))
+    handle_refused L a.cx.now.options core c.give_held.new.cx.core.now owned r (shape_of (types_of core) a.ty) shape c.memory-memory.ensures.small
+    a.dst.now
+    (held_gives (g.R.HeldResource.kind a.resource.now) (g.R.HeldResource.state a.resource.now) (g.R.HeldResource.rep a.resource.now)
+    core.component.types (shape_of (types_of core) a.ty))
     c.in-Err.fault c.in-Err.ensures.gives

@@ -13,7 +13,10 @@ put-requires-clause-room g c =
     let a = c.args in
     let core = a.cx.now.core.now in
     let (owned, r, shape) = handle_shape core.component.types a.ty c.requires.fits in
-    number_room L a.cx.now.options core c.give_held.new.cx.core.now owned r (shape_of (types_of core) a.ty) shape c.memory-memory.ensures.small a.offset (held_gives (g.R.HeldResource.kind a.resource.now) (g.R.HeldResource.state a.resource.now) (g.R.HeldResource.rep a.resource.now) core.component.types (shape_of (types_of core) a.ty))
+    number_room L a.cx.now.options core c.give_held.new.cx.core.now owned r (shape_of (types_of core) a.ty) shape c.memory-memory.ensures.small
+    a.offset
+    (held_gives (g.R.HeldResource.kind a.resource.now) (g.R.HeldResource.state a.resource.now) (g.R.HeldResource.rep a.resource.now)
+    core.component.types (shape_of (types_of core) a.ty))
     (Ok c.in-Ok.number) c.requires.room c.in-Ok.ensures.gives
 
 pub returns-in-Ok-clause-stores : goal.returns-in-Ok-clause-stores
@@ -22,7 +25,10 @@ returns-in-Ok-clause-stores g c =
     let a = c.args in
     let core = a.cx.now.core.now in
     let (owned, r, shape) = handle_shape core.component.types a.ty c.requires.fits in
-    handle_stores L a.cx.now.options core c.give_held.new.cx.core.now owned r (shape_of (types_of core) a.ty) shape c.memory-memory.ensures.small c.put.new.cx.core.now a.offset (held_gives (g.R.HeldResource.kind a.resource.now) (g.R.HeldResource.state a.resource.now) (g.R.HeldResource.rep a.resource.now) core.component.types (shape_of (types_of core) a.ty))
+    handle_stores L a.cx.now.options core c.give_held.new.cx.core.now owned r (shape_of (types_of core) a.ty) shape c.memory-memory.ensures.small
+    c.put.new.cx.core.now a.offset
+    (held_gives (g.R.HeldResource.kind a.resource.now) (g.R.HeldResource.state a.resource.now) (g.R.HeldResource.rep a.resource.now)
+    core.component.types (shape_of (types_of core) a.ty))
     c.in-Ok.number c.requires.room c.in-Ok.ensures.gives (subst (λ (n : ℕ). IsPut c.give_held.new.cx.core.now c.put.new.cx.core.now a.offset n 4) c.from.ensures c.put.ensures.put)
 
 pub returns-in-Err-clause-stores : goal.returns-in-Err-clause-stores
@@ -31,5 +37,8 @@ returns-in-Err-clause-stores g c =
     let a = c.args in
     let core = a.cx.now.core.now in
     let (owned, r, shape) = handle_shape core.component.types a.ty c.requires.fits in
-    handle_unstored L a.cx.now.options core c.give_held.new.cx.core.now owned r (shape_of (types_of core) a.ty) shape c.memory-memory.ensures.small a.offset (held_gives (g.R.HeldResource.kind a.resource.now) (g.R.HeldResource.state a.resource.now) (g.R.HeldResource.rep a.resource.now) core.component.types (shape_of (types_of core) a.ty))
+    handle_unstored L a.cx.now.options core c.give_held.new.cx.core.now owned r (shape_of (types_of core) a.ty) shape c.memory-memory.ensures.small
+    a.offset
+    (held_gives (g.R.HeldResource.kind a.resource.now) (g.R.HeldResource.state a.resource.now) (g.R.HeldResource.rep a.resource.now)
+    core.component.types (shape_of (types_of core) a.ty))
     c.in-Err.fault c.in-Err.ensures.gives

@@ -23,7 +23,10 @@ returns-in-Ok-linear_store_list_to_memory-clause-places g c =
     let a = c.args in
     let of = subst (λ (i : Instance). IsElementOf (λ s. list of_items s) g.T.ComponentType.fits i a.ty.now c.list_element-element.result) c.instance_type.ensures c.list_element-element.ensures in
     items_filled L a.cx.now.options g.T.ComponentType.walks g.T.Lower.gives g.T.ComponentType.fits a.cx.now.core.now c.ask_items.new.cx.core.now a.ty.now c.list_element-element.result a.items.now (length a.items.now) of refl
-    c.linear_store_list_to_memory.new.cx.core.now c.in-Ok.pointer c.ask_items.new.cx.options c.in-Ok.ensures.same_options (c.in-Ok.ensures.asked (shape_of (types_of a.cx.now.core.now) c.list_element-element.result) (layout_here (types_of a.cx.now.core.now) c.types.result.now c.list_element-element.result c.canonical_abi.result.now c.types.ensures c.canonical_abi.ensures)) c.in-Ok-linear_store_list_to_memory.ensures.stores
+    c.linear_store_list_to_memory.new.cx.core.now c.in-Ok.pointer c.ask_items.new.cx.options c.in-Ok.ensures.same_options
+    (c.in-Ok.ensures.asked (shape_of (types_of a.cx.now.core.now) c.list_element-element.result)
+    (layout_here (types_of a.cx.now.core.now) c.types.result.now c.list_element-element.result c.canonical_abi.result.now c.types.ensures
+    c.canonical_abi.ensures)) c.in-Ok-linear_store_list_to_memory.ensures.stores
 
 pub returns-in-Err-linear_store_list_to_memory-clause-places : goal.returns-in-Err-linear_store_list_to_memory-clause-places
 returns-in-Err-linear_store_list_to_memory-clause-places g c =
@@ -31,4 +34,7 @@ returns-in-Err-linear_store_list_to_memory-clause-places g c =
     let a = c.args in
     let of = subst (λ (i : Instance). IsElementOf (λ s. list of_items s) g.T.ComponentType.fits i a.ty.now c.list_element-element.result) c.instance_type.ensures c.list_element-element.ensures in
     items_stopped L a.cx.now.options g.T.ComponentType.walks g.T.Lower.gives g.T.ComponentType.fits a.cx.now.core.now c.ask_items.new.cx.core.now a.ty.now c.list_element-element.result a.items.now (length a.items.now) of refl
-    c.linear_store_list_to_memory.new.cx.core.now c.in-Ok.pointer c.ask_items.new.cx.options c.in-Ok.ensures.same_options (c.in-Ok.ensures.asked (shape_of (types_of a.cx.now.core.now) c.list_element-element.result) (layout_here (types_of a.cx.now.core.now) c.types.result.now c.list_element-element.result c.canonical_abi.result.now c.types.ensures c.canonical_abi.ensures)) c.in-Err-linear_store_list_to_memory.fault c.in-Err-linear_store_list_to_memory.ensures.stores
+    c.linear_store_list_to_memory.new.cx.core.now c.in-Ok.pointer c.ask_items.new.cx.options c.in-Ok.ensures.same_options
+    (c.in-Ok.ensures.asked (shape_of (types_of a.cx.now.core.now) c.list_element-element.result)
+    (layout_here (types_of a.cx.now.core.now) c.types.result.now c.list_element-element.result c.canonical_abi.result.now c.types.ensures
+    c.canonical_abi.ensures)) c.in-Err-linear_store_list_to_memory.fault c.in-Err-linear_store_list_to_memory.ensures.stores

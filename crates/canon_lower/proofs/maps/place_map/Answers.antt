@@ -36,7 +36,9 @@ store_pairs-requires-clause-pair g c =
     let gives = pair_gives g.K.LowerShared.gives g.V.LowerShared.gives in
     let xs = a.map.now.entries in
     let s = pair_in (types_of core) pair in
-    pairs_fit L a.cx.now.options W gives g.K.ComponentType.fits g.V.ComponentType.fits core c.ask_items.new.cx.core.now a.ty.now pair xs c.len-length.result found.0 c.len-length.ensures.len core c.in-Ok.pointer c.ask_items.new.cx.options c.in-Ok.ensures.same_options (c.in-Ok.ensures.asked s found.1.layout) found.1
+    pairs_fit L a.cx.now.options W gives g.K.ComponentType.fits g.V.ComponentType.fits core c.ask_items.new.cx.core.now a.ty.now pair xs
+    c.len-length.result found.0 c.len-length.ensures.len core c.in-Ok.pointer c.ask_items.new.cx.options c.in-Ok.ensures.same_options
+    (c.in-Ok.ensures.asked s found.1.layout) found.1
 
 pub store_pairs-requires-clause-room : goal.store_pairs-requires-clause-room
 store_pairs-requires-clause-room g c =
@@ -50,7 +52,9 @@ store_pairs-requires-clause-room g c =
     let gives = pair_gives g.K.LowerShared.gives g.V.LowerShared.gives in
     let xs = a.map.now.entries in
     let s = pair_in (types_of core) pair in
-    pairs_room L a.cx.now.options W gives g.K.ComponentType.fits g.V.ComponentType.fits core c.ask_items.new.cx.core.now a.ty.now pair xs c.len-length.result found.0 c.len-length.ensures.len core c.in-Ok.pointer c.ask_items.new.cx.options c.in-Ok.ensures.same_options (c.in-Ok.ensures.asked s found.1.layout)
+    pairs_room L a.cx.now.options W gives g.K.ComponentType.fits g.V.ComponentType.fits core c.ask_items.new.cx.core.now a.ty.now pair xs
+    c.len-length.result found.0 c.len-length.ensures.len core c.in-Ok.pointer c.ask_items.new.cx.options c.in-Ok.ensures.same_options
+    (c.in-Ok.ensures.asked s found.1.layout)
 
 pub returns-in-Ok-store_pairs-clause-places : goal.returns-in-Ok-store_pairs-clause-places
 returns-in-Ok-store_pairs-clause-places g c =
@@ -64,7 +68,9 @@ returns-in-Ok-store_pairs-clause-places g c =
     let gives = pair_gives g.K.LowerShared.gives g.V.LowerShared.gives in
     let xs = a.map.now.entries in
     let s = pair_in (types_of core) pair in
-    pairs_filled L a.cx.now.options W gives g.K.ComponentType.fits g.V.ComponentType.fits core c.ask_items.new.cx.core.now a.ty.now pair xs c.len-length.result found.0 c.len-length.ensures.len c.store_pairs.new.cx.core.now c.in-Ok.pointer c.ask_items.new.cx.options c.in-Ok.ensures.same_options (c.in-Ok.ensures.asked s found.1.layout) c.in-Ok-store_pairs.ensures.stores
+    pairs_filled L a.cx.now.options W gives g.K.ComponentType.fits g.V.ComponentType.fits core c.ask_items.new.cx.core.now a.ty.now pair xs
+    c.len-length.result found.0 c.len-length.ensures.len c.store_pairs.new.cx.core.now c.in-Ok.pointer c.ask_items.new.cx.options
+    c.in-Ok.ensures.same_options (c.in-Ok.ensures.asked s found.1.layout) c.in-Ok-store_pairs.ensures.stores
 
 pub returns-in-Err-store_pairs-clause-places : goal.returns-in-Err-store_pairs-clause-places
 returns-in-Err-store_pairs-clause-places g c =
@@ -78,4 +84,6 @@ returns-in-Err-store_pairs-clause-places g c =
     let gives = pair_gives g.K.LowerShared.gives g.V.LowerShared.gives in
     let xs = a.map.now.entries in
     let s = pair_in (types_of core) pair in
-    pairs_stopped L a.cx.now.options W gives g.K.ComponentType.fits g.V.ComponentType.fits core c.ask_items.new.cx.core.now a.ty.now pair xs c.len-length.result found.0 c.len-length.ensures.len c.store_pairs.new.cx.core.now c.in-Ok.pointer c.ask_items.new.cx.options c.in-Ok.ensures.same_options (c.in-Ok.ensures.asked s found.1.layout) c.in-Err-store_pairs.fault c.in-Err-store_pairs.ensures.stores
+    pairs_stopped L a.cx.now.options W gives g.K.ComponentType.fits g.V.ComponentType.fits core c.ask_items.new.cx.core.now a.ty.now pair xs
+    c.len-length.result found.0 c.len-length.ensures.len c.store_pairs.new.cx.core.now c.in-Ok.pointer c.ask_items.new.cx.options
+    c.in-Ok.ensures.same_options (c.in-Ok.ensures.asked s found.1.layout) c.in-Err-store_pairs.fault c.in-Err-store_pairs.ensures.stores

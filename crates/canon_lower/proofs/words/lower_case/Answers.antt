@@ -14,5 +14,7 @@ returns-in-Ok-clause-lowers g c =
     let core = a.cx.now.core.now in
     let s = shape_of (types_of core) a.ty in
     moved_lowers L a.cx.now.options core c.lower_at.new.cx.core.now s c.lower_at.new.dst c.clear_from.new.dst 1 1 (g.T.ComponentType.walks a.value.now) (g.T.Lower.gives core.component.types s a.value.now) (Ok tt)
-    (λ t has. walked_shaped g.T.ComponentType.fits g.T.ComponentType.walks g.T.ComponentType.means g.met.T.ComponentType.typed g.met.T.ComponentType.walked a.value.now core.component.types a.ty t c.requires.fits has) (first_stay_at 1 (flat s) c.lower_at.new.at c.lower_at.new.dst c.clear_from.new.dst c.in-Ok.ensures.end c.clear_from.ensures.stays)
+    (λ t has. walked_shaped g.T.ComponentType.fits g.T.ComponentType.walks g.T.ComponentType.means g.met.T.ComponentType.typed
+    g.met.T.ComponentType.walked a.value.now core.component.types a.ty t c.requires.fits has) (first_stay_at 1
+    (flat s) c.lower_at.new.at c.lower_at.new.dst c.clear_from.new.dst c.in-Ok.ensures.end c.clear_from.ensures.stays)
     c.in-Ok.ensures.lowers

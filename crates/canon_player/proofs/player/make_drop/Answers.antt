@@ -25,5 +25,7 @@ returns-clause-dropped c =
     })))
     (taken_is left c.core_mut-2.result.now c.guest_mut-2.result.now c.take_journal-events.new.self c.core_mut-2.ensures.value c.guest_mut-2.ensures.value c.take_journal-events.ensures.left)
     (c.take_journal-events.ensures.taken ∙ (ap (λ j. j.events) c.guest_mut-2.ensures.value ∙ ap (λ k. k.guest.events) c.core_mut-2.ensures.value))
-    c.in_ok-answer.ensures.outcome (subst (λ vs. OnOk c.resource_drop-dropped.result (answer_values c.in_ok-answer.answer ≡ vs)) c.new-3.ensures.items c.in_ok-answer.ensures.values) c.in_ok-answer.ensures.memory_left c.in_ok-answer.ensures.played c.new-4.ensures.items c.resource_drop-dropped.ensures.imports
+    c.in_ok-answer.ensures.outcome
+    (subst (λ vs. OnOk c.resource_drop-dropped.result (answer_values c.in_ok-answer.answer ≡ vs)) c.new-3.ensures.items
+    c.in_ok-answer.ensures.values) c.in_ok-answer.ensures.memory_left c.in_ok-answer.ensures.played c.new-4.ensures.items c.resource_drop-dropped.ensures.imports
     (ap (λ k. k.id) c.resource_drop-dropped.ensures.same) c.resource_drop-dropped.ensures.no_handle c.resource_drop-dropped.ensures.refused c.resource_drop-dropped.ensures.drops

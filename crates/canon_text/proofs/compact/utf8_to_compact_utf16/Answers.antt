@@ -36,10 +36,16 @@ loop-read-preserved-then-read-src c =
     let mid = advancing_bytes-run c.args.src.now c.inflate.new.dst c.loop-read.dst c.spread_ascii-run.new.dst (2 * c.args.latin1_bytes_so_far) c.loop-read.read c.loop-read.end c.spread_ascii-run.result (omega (arith, c.requires.room, c.inflate.auto.dst)) c.loop-read.invariant c.spread_ascii-run.ensures in
     let run = c.spread_ascii-run in
     let place = c.loop-read.read + run.result in
-    advancing_bytes-more c.args.src.now c.inflate.new.dst run.new.dst _ (2 * c.args.latin1_bytes_so_far) place (c.loop-read.end + 2 * run.result) _ _ c.scalar_at-scalar.result.code (omega (arith, c.requires.room, c.inflate.auto.dst)) mid c.scalar_at-scalar.ensures.is (ap (λ n. place + n) c.scalar_at-scalar.ensures.len) c.write_utf16_bytes-end.ensures.end c.write_utf16_bytes-end.ensures.writes
+    advancing_bytes-more c.args.src.now c.inflate.new.dst run.new.dst _ (2 * c.args.latin1_bytes_so_far) place (c.loop-read.end + 2 * run.result) _ _
+    c.scalar_at-scalar.result.code (omega (arith, c.requires.room, c.inflate.auto.dst)) mid c.scalar_at-scalar.ensures.is
+    (ap (λ n. place + n) c.scalar_at-scalar.ensures.len) c.write_utf16_bytes-end.ensures.end c.write_utf16_bytes-end.ensures.writes
 
 pub loop-read-preserved : goal.loop-read-preserved
-loop-read-preserved c = advancing_bytes-run c.args.src.now c.inflate.new.dst c.loop-read.dst c.spread_ascii-run.new.dst (2 * c.args.latin1_bytes_so_far) c.loop-read.read c.loop-read.end c.spread_ascii-run.result (omega (arith, c.requires.room, c.inflate.auto.dst)) c.loop-read.invariant c.spread_ascii-run.ensures
+loop-read-preserved c = advancing_bytes-run c.args.src.now c.inflate.new.dst c.loop-read.dst c.spread_ascii-run.new.dst
+    (2 * c.args.latin1_bytes_so_far) c.loop-read.read c.loop-read.end c.spread_ascii-run.result (omega (arith, c.requires.room, c.inflate.auto.dst))
+    c.loop-read.invariant c.spread_ascii-run.ensures
 
 pub returns : goal.returns
-returns c = widens8 c.args.src.now (drop c.loop-read.read c.args.src.now) c.loop-read.invariant.scalars c.args.dst.now c.inflate.new.dst c.loop-read.dst c.args.latin1_bytes_so_far c.loop-read.end _ c.inflate.ensures.writes c.inflate.ensures.long c.loop-read.invariant.so_far (omega (arith, length-drop c.loop-read.read c.args.src.now, c.loop-read-test.false)) refl
+returns c = widens8 c.args.src.now (drop c.loop-read.read c.args.src.now) c.loop-read.invariant.scalars c.args.dst.now c.inflate.new.dst
+    c.loop-read.dst c.args.latin1_bytes_so_far c.loop-read.end _ c.inflate.ensures.writes c.inflate.ensures.long c.loop-read.invariant.so_far
+    (omega (arith, length-drop c.loop-read.read c.args.src.now, c.loop-read-test.false)) refl

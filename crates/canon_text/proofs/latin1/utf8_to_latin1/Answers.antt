@@ -7,7 +7,9 @@ use Rattle.canon_text.proofs.Narrowing.{narrowing-end, narrowing-more, narrowing
 use Rattle.canon_text.proofs.latin1.utf8_to_latin1.Goals as goal
 
 pub returns-in_default : goal.returns-in_default
-returns-in_default c = narrowing-stop in_utf8 c.args.src.now c.args.dst.now c.copy_ascii-run.new.dst _ _ (narrowing-ascii in_utf8 c.args.src.now c.args.dst.now c.loop-read.dst c.copy_ascii-run.new.dst c.loop-read.read c.loop-read.written c.copy_ascii-run.result c.loop-read.invariant c.copy_ascii-run.ensures) c.in_default.ensures
+returns-in_default c = narrowing-stop in_utf8 c.args.src.now c.args.dst.now c.copy_ascii-run.new.dst _ _
+    (narrowing-ascii in_utf8 c.args.src.now c.args.dst.now c.loop-read.dst c.copy_ascii-run.new.dst c.loop-read.read c.loop-read.written
+    c.copy_ascii-run.result c.loop-read.invariant c.copy_ascii-run.ensures) c.in_default.ensures
 
 pub bounds-dst-written : goal.bounds-dst-written
 bounds-dst-written c =

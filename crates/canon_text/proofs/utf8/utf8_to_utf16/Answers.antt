@@ -27,7 +27,9 @@ pub loop-read-preserved-then-read-src : goal.loop-read-preserved-then-read-src
 loop-read-preserved-then-read-src c =
     let mid = advancing16-run c.args.src.now c.args.dst.now c.loop-read.dst c.widen_ascii-run.new.dst c.loop-read.read c.loop-read.written c.widen_ascii-run.result c.loop-read.invariant c.widen_ascii-run.ensures in
     let at = c.loop-read.read + c.widen_ascii-run.result in
-    advancing16-more c.args.src.now c.args.dst.now c.widen_ascii-run.new.dst _ at (c.loop-read.written + c.widen_ascii-run.result) _ _ c.scalar_at-scalar.result.code mid c.scalar_at-scalar.ensures.is (ap (λ n. at + n) c.scalar_at-scalar.ensures.len) c.write_utf16-written.ensures.end c.write_utf16-written.ensures.writes
+    advancing16-more c.args.src.now c.args.dst.now c.widen_ascii-run.new.dst _ at (c.loop-read.written + c.widen_ascii-run.result) _ _
+    c.scalar_at-scalar.result.code mid c.scalar_at-scalar.ensures.is (ap (λ n. at + n) c.scalar_at-scalar.ensures.len)
+    c.write_utf16-written.ensures.end c.write_utf16-written.ensures.writes
 
 pub loop-read-preserved : goal.loop-read-preserved
 loop-read-preserved c =

@@ -14,4 +14,8 @@ drop_borrow-requires-clause-scope_open c =
 
 pub drop_borrow-requires-clause-counted : goal.drop_borrow-requires-clause-counted
 drop_borrow-requires-clause-counted c =
-    (removed_counts (handles_of c.args.self.now.tables.items c.args.self.now.counter c.args.self.now.scopes.items) c.args.table c.args.index c.in-Borrow.scope (handles_of c.remove.new.self.tables.items c.remove.new.self.counter c.remove.new.self.scopes.items) c.requires.sound (c.in_ok-rep.ensures ∙ ap (λ (r : RemovedResource). Ok (r, handles_of c.remove.new.self.tables.items c.remove.new.self.counter c.remove.new.self.scopes.items)) c.in-Borrow.is)).1
+    (removed_counts (handles_of c.args.self.now.tables.items c.args.self.now.counter c.args.self.now.scopes.items) c.args.table c.args.index
+    c.in-Borrow.scope (handles_of c.remove.new.self.tables.items c.remove.new.self.counter c.remove.new.self.scopes.items) c.requires.sound
+    (c.in_ok-rep.ensures ∙ ap
+    (λ (r : RemovedResource). Ok (r, handles_of c.remove.new.self.tables.items c.remove.new.self.counter c.remove.new.self.scopes.items))
+    c.in-Borrow.is)).1

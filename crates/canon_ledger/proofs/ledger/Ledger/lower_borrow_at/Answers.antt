@@ -6,7 +6,12 @@ use Rattle.canon_ledger.proofs.ledger.Ledger.lower_borrow_at.Goals as goal
 
 pub write_at-requires : goal.write_at-requires
 write_at-requires c =
-    lower_slot_given (ledger_of c.self.inside.handles.tables.items c.self.inside.handles.counter c.self.inside.handles.scopes.items c.self.inside.host.indexes) c.args.number c.args.table c.args.resource c.in_ok-index.index (handles_of c.insert_borrow.new.self.tables.items c.insert_borrow.new.self.counter c.insert_borrow.new.self.scopes.items) c.reserve_at.new.self.room c.reserve_at.new.self.indexes c.reserve_at.result c.self.invariant c.in_ok-index.ensures c.reserve_at.ensures.indexes (sym c.is_err.ensures.value ∙ c.if-is_err.false) c.reserve_at.ensures.room
+    lower_slot_given
+    (ledger_of c.self.inside.handles.tables.items c.self.inside.handles.counter c.self.inside.handles.scopes.items c.self.inside.host.indexes)
+    c.args.number c.args.table c.args.resource c.in_ok-index.index
+    (handles_of c.insert_borrow.new.self.tables.items c.insert_borrow.new.self.counter c.insert_borrow.new.self.scopes.items)
+    c.reserve_at.new.self.room c.reserve_at.new.self.indexes c.reserve_at.result c.self.invariant c.in_ok-index.ensures
+    c.reserve_at.ensures.indexes (sym c.is_err.ensures.value ∙ c.if-is_err.false) c.reserve_at.ensures.room
 
 pub invariant_of-self-2 : goal.invariant_of-self-2
 invariant_of-self-2 c =

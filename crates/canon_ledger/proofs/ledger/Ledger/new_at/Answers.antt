@@ -5,8 +5,16 @@ use Rattle.canon_ledger.proofs.ledger.Ledger.new_at.Goals as goal
 
 pub write_at-requires : goal.write_at-requires
 write_at-requires c =
-    new_slot_given (ledger_of c.self.inside.handles.tables.items c.self.inside.handles.counter c.self.inside.handles.scopes.items c.self.inside.host.indexes) c.args.table c.args.resource c.in_ok-index.index (handles_of c.insert_own.new.self.tables.items c.insert_own.new.self.counter c.insert_own.new.self.scopes.items) c.reserve_at.new.self.room c.reserve_at.new.self.indexes c.reserve_at.result c.self.invariant c.in_ok-index.ensures c.reserve_at.ensures.indexes (sym c.is_err.ensures.value ∙ c.if-is_err.false) c.reserve_at.ensures.room
+    new_slot_given
+    (ledger_of c.self.inside.handles.tables.items c.self.inside.handles.counter c.self.inside.handles.scopes.items c.self.inside.host.indexes)
+    c.args.table c.args.resource c.in_ok-index.index
+    (handles_of c.insert_own.new.self.tables.items c.insert_own.new.self.counter c.insert_own.new.self.scopes.items) c.reserve_at.new.self.room
+    c.reserve_at.new.self.indexes c.reserve_at.result c.self.invariant c.in_ok-index.ensures c.reserve_at.ensures.indexes
+    (sym c.is_err.ensures.value ∙ c.if-is_err.false) c.reserve_at.ensures.room
 
 pub invariant_of-self-2 : goal.invariant_of-self-2
 invariant_of-self-2 c =
-    kept_new (ledger_of c.self.inside.handles.tables.items c.self.inside.handles.counter c.self.inside.handles.scopes.items c.self.inside.host.indexes) c.args.table c.args.resource c.in_ok-index.index (handles_of c.insert_own.new.self.tables.items c.insert_own.new.self.counter c.insert_own.new.self.scopes.items) c.write_at.new.self.indexes c.in_ok-index.ensures (c.write_at.ensures ∙ ap (written_at c.args.table c.in_ok-index.index) c.reserve_at.ensures.indexes) c.self.invariant
+    kept_new (ledger_of c.self.inside.handles.tables.items c.self.inside.handles.counter c.self.inside.handles.scopes.items
+    c.self.inside.host.indexes) c.args.table c.args.resource c.in_ok-index.index (handles_of c.insert_own.new.self.tables.items
+    c.insert_own.new.self.counter c.insert_own.new.self.scopes.items) c.write_at.new.self.indexes c.in_ok-index.ensures (c.write_at.ensures ∙ ap
+    (written_at c.args.table c.in_ok-index.index) c.reserve_at.ensures.indexes) c.self.invariant

@@ -126,7 +126,9 @@ returns-in-Err-lift_member_words-clause-lifts g c =
     let others = others_in_words S core mid.core.now c.in-Ok.ensures.same_core cx.options mid.options c.in-Ok.ensures.same_options c.args.i (c.args.k + 1) next ws mid.core.now.ledger after.core.now.ledger mid.fuel after.fuel (Err e) c.in-Err-lift_member_words.ensures.lifts in
     let r = subst (λ n. Refused (rest_reading S (flat_from ws n) more) w (flat_in ws n) (product of_places more) mid.core.now.ledger mid.fuel e after.core.now.ledger after.fuel) there others in
     subst (λ xs. Refused (rest_reading (first_reading (λ (m : First g.row.A.Denot g.row.R.Denot). m.first) (λ (m : First g.row.A.Denot g.row.R.Denot). m.rest) R S) from xs) w (flat_in ws c.args.at) (product of_places ms) core.ledger cx.fuel e after.core.now.ledger after.fuel) (sym are)
-    (others_refused (λ (m : First g.row.A.Denot g.row.R.Denot). m.first) (λ (m : First g.row.A.Denot g.row.R.Denot). m.rest) R S w from [] s more (product of_places ms) core.ledger cx.fuel g.met.A.Lift.taken c.in-Ok.first mid.core.now.ledger mid.fuel read spent e after.core.now.ledger after.fuel (product of_places more) r)
+    (others_refused (λ (m : First g.row.A.Denot g.row.R.Denot). m.first) (λ (m : First g.row.A.Denot g.row.R.Denot). m.rest) R S w from [] s more
+    (product of_places ms) core.ledger cx.fuel g.met.A.Lift.taken c.in-Ok.first mid.core.now.ledger mid.fuel read spent e after.core.now.ledger
+    after.fuel (product of_places more) r)
 
 pub returns-in-Ok-lift_member_words-clause-lifts : goal.returns-in-Ok-lift_member_words-clause-lifts
 returns-in-Ok-lift_member_words-clause-lifts g c =
@@ -155,5 +157,10 @@ returns-in-Ok-lift_member_words-clause-lifts g c =
     let rest = c.in-Ok-lift_member_words.rest in
     let others = others_in_words S core mid.core.now c.in-Ok.ensures.same_core cx.options mid.options c.in-Ok.ensures.same_options c.args.i (c.args.k + 1) next ws mid.core.now.ledger after.core.now.ledger mid.fuel after.fuel (Ok rest) c.in-Ok-lift_member_words.ensures.lifts in
     let (members, cost) = subst (λ n. Lifts (rest_reading S (flat_from ws n) more) w (flat_in ws n) (product of_places more) mid.core.now.ledger mid.fuel (Ok rest) after.core.now.ledger after.fuel) there others in
-    subst (λ xs. Lifts (rest_reading (first_reading (λ (m : First g.row.A.Denot g.row.R.Denot). m.first) (λ (m : First g.row.A.Denot g.row.R.Denot). m.rest) R S) from xs) w (flat_in ws c.args.at) (product of_places ms) core.ledger cx.fuel (Ok (first_and c.in-Ok.first rest)) after.core.now.ledger after.fuel) (sym are)
-    (members_read (λ (m : First g.row.A.Denot g.row.R.Denot). m.first) (λ (m : First g.row.A.Denot g.row.R.Denot). m.rest) R S w from [] s more (product of_places ms) core.ledger cx.fuel (first_and c.in-Ok.first rest) mid.core.now.ledger after.core.now.ledger mid.fuel after.fuel read spent members cost)
+    subst (λ xs. Lifts
+    (rest_reading (first_reading (λ (m : First g.row.A.Denot g.row.R.Denot). m.first) (λ (m : First g.row.A.Denot g.row.R.Denot). m.rest) R S)
+    from xs) w (flat_in ws c.args.at) (product of_places ms) core.ledger cx.fuel (Ok
+    (first_and c.in-Ok.first rest)) after.core.now.ledger after.fuel) (sym are)
+    (members_read (λ (m : First g.row.A.Denot g.row.R.Denot). m.first) (λ (m : First g.row.A.Denot g.row.R.Denot). m.rest) R S w from [] s more
+    (product of_places ms) core.ledger cx.fuel (first_and c.in-Ok.first rest) mid.core.now.ledger after.core.now.ledger mid.fuel after.fuel read
+    spent members cost)

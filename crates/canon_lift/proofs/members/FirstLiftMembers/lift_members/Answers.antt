@@ -32,7 +32,15 @@ overflow_add-at g c =
     let type = c.index.result.now in
     let split = next_of_tuple t c.types.result.now c.args.i c.args.k c.tuple.result.now.types.items type g.A.ComponentType.fits g.R.LiftMembers.all core.component.types c.types.ensures c.tuple.ensures.types c.index.ensures c.requires.fits in
     let n = c.next_field32_size-start in
-    record { fits = omega (arith, c.memory-memory.ensures.small, next_inside t (drop c.args.k types) (drop (c.args.k + 1) types) type split c.args.at c.args.end core.memory c.requires.inside c.requires.aligned c.types-2.result.now c.canonical_abi.result.now c.types-2.ensures c.canonical_abi.ensures n.result n.ensures.start) }
+    record {
+      fits = omega (
+        arith,
+        c.memory-memory.ensures.small,
+        next_inside t (drop c.args.k types) (drop (c.args.k + 1) types) type split c.args.at c.args.end
+            core.memory c.requires.inside c.requires.aligned c.types-2.result.now c.canonical_abi.result.now c.types-2.ensures c.canonical_abi.ensures
+            n.result n.ensures.start,
+      );
+    }
 
 pub linear_lift_from_memory-requires-clause-aligned : goal.linear_lift_from_memory-requires-clause-aligned
 linear_lift_from_memory-requires-clause-aligned g c =
@@ -130,7 +138,9 @@ returns-in-Err-lift_members-clause-lifts g c =
     let others = others_here S core mid.core.now c.in-Ok.ensures.same_core cx.options mid.options c.in-Ok.ensures.same_options c.args.i (c.args.k + 1) c.args.at n.new.offset mid.core.now.ledger after.core.now.ledger mid.fuel after.fuel (Err e) c.in-Err-lift_members.ensures.lifts in
     let r = subst (λ x. Refused (rest_reading S (stored_from c.args.at x) more) w (stored c.args.at) (product of_places more) mid.core.now.ledger mid.fuel e after.core.now.ledger after.fuel) there others in
     subst (λ xs. Refused (rest_reading (first_reading (λ (m : First g.row.A.Denot g.row.R.Denot). m.first) (λ (m : First g.row.A.Denot g.row.R.Denot). m.rest) R S) from xs) w (stored c.args.at) (product of_places ms) core.ledger cx.fuel e after.core.now.ledger after.fuel) (sym are)
-    (others_refused (λ (m : First g.row.A.Denot g.row.R.Denot). m.first) (λ (m : First g.row.A.Denot g.row.R.Denot). m.rest) R S w from [] s more (product of_places ms) core.ledger cx.fuel g.met.A.Lift.taken c.in-Ok.first mid.core.now.ledger mid.fuel read spent e after.core.now.ledger after.fuel (product of_places more) r)
+    (others_refused (λ (m : First g.row.A.Denot g.row.R.Denot). m.first) (λ (m : First g.row.A.Denot g.row.R.Denot). m.rest) R S w from [] s more
+    (product of_places ms) core.ledger cx.fuel g.met.A.Lift.taken c.in-Ok.first mid.core.now.ledger mid.fuel read spent e after.core.now.ledger
+    after.fuel (product of_places more) r)
 
 pub returns-in-Ok-lift_members-clause-lifts : goal.returns-in-Ok-lift_members-clause-lifts
 returns-in-Ok-lift_members-clause-lifts g c =
@@ -157,5 +167,10 @@ returns-in-Ok-lift_members-clause-lifts g c =
     let rest = c.in-Ok-lift_members.rest in
     let others = others_here S core mid.core.now c.in-Ok.ensures.same_core cx.options mid.options c.in-Ok.ensures.same_options c.args.i (c.args.k + 1) c.args.at n.new.offset mid.core.now.ledger after.core.now.ledger mid.fuel after.fuel (Ok rest) c.in-Ok-lift_members.ensures.lifts in
     let (members, cost) = subst (λ x. Lifts (rest_reading S (stored_from c.args.at x) more) w (stored c.args.at) (product of_places more) mid.core.now.ledger mid.fuel (Ok rest) after.core.now.ledger after.fuel) there others in
-    subst (λ xs. Lifts (rest_reading (first_reading (λ (m : First g.row.A.Denot g.row.R.Denot). m.first) (λ (m : First g.row.A.Denot g.row.R.Denot). m.rest) R S) from xs) w (stored c.args.at) (product of_places ms) core.ledger cx.fuel (Ok (first_and c.in-Ok.first rest)) after.core.now.ledger after.fuel) (sym are)
-    (members_read (λ (m : First g.row.A.Denot g.row.R.Denot). m.first) (λ (m : First g.row.A.Denot g.row.R.Denot). m.rest) R S w from [] s more (product of_places ms) core.ledger cx.fuel (first_and c.in-Ok.first rest) mid.core.now.ledger after.core.now.ledger mid.fuel after.fuel read spent members cost)
+    subst (λ xs. Lifts
+    (rest_reading (first_reading (λ (m : First g.row.A.Denot g.row.R.Denot). m.first) (λ (m : First g.row.A.Denot g.row.R.Denot). m.rest) R S)
+    from xs) w (stored c.args.at) (product of_places ms) core.ledger cx.fuel (Ok
+    (first_and c.in-Ok.first rest)) after.core.now.ledger after.fuel) (sym are)
+    (members_read (λ (m : First g.row.A.Denot g.row.R.Denot). m.first) (λ (m : First g.row.A.Denot g.row.R.Denot). m.rest) R S w from [] s more
+    (product of_places ms) core.ledger cx.fuel (first_and c.in-Ok.first rest) mid.core.now.ledger after.core.now.ledger mid.fuel after.fuel read
+    spent members cost)

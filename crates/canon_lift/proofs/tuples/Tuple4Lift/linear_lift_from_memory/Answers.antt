@@ -6,4 +6,6 @@ pub lift_members-requires-clause-aligned : goal.lift_members-requires-clause-ali
 lift_members-requires-clause-aligned g c = tuple_aligned (g.A.ComponentType.fits ∷ g.B.ComponentType.fits ∷ g.C.ComponentType.fits ∷ g.D.ComponentType.fits ∷ []) c.args.cx.now.core.now.component.types c.in-Tuple.i c.args.ty c.in-Tuple.is c.requires.fits c.args.at c.requires.aligned
 
 pub lift_members-requires-clause-inside : goal.lift_members-requires-clause-inside
-lift_members-requires-clause-inside g c = tuple_inside (g.A.ComponentType.fits ∷ g.B.ComponentType.fits ∷ g.C.ComponentType.fits ∷ g.D.ComponentType.fits ∷ []) c.args.cx.now.core.now.component.types c.in-Tuple.i c.args.ty c.in-Tuple.is c.requires.fits c.args.at c.args.cx.now.core.now.memory c.requires.inside
+lift_members-requires-clause-inside g c = tuple_inside
+    (g.A.ComponentType.fits ∷ g.B.ComponentType.fits ∷ g.C.ComponentType.fits ∷ g.D.ComponentType.fits ∷ []) c.args.cx.now.core.now.component.types
+    c.in-Tuple.i c.args.ty c.in-Tuple.is c.requires.fits c.args.at c.args.cx.now.core.now.memory c.requires.inside

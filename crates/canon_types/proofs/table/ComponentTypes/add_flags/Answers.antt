@@ -49,4 +49,6 @@ returns-clause-ok c =
     let b : Before c.args.self.now d = before c.args.self.now d [] [] (length (names_of c.args.names.items) == 0) 1 refl refl refl (some_names c.args.self.now (length (names_of c.args.names.items)) some) apart refl (omega arith) in
     let at : c.from_u32.result ≡ length c.args.self.now.definitions = c.from_u32.ensures ∙ c.in_ok-place.ensures.ok.0 in
     let fit = told_below c.flags-abi.result _ (c.flags-abi.ensures (names_of c.args.names.items) count) in
-    adds c.args.self.now d (ty.Flags c.from_u32.result) c.push.new.self (accepted c.args.self.now d b fit c.in_ok-check_room.ensures.fits) (c.in_ok-place.ensures.ok.1 ∙ ap (λ (x : Definition). with_definition c.args.self.now x) (ap (λ ks. FlagsType (names_of ks)) c.in_ok-names.ensures.ok)) (ap Some at) (has_new is_flags c.args.self.now d c.from_u32.result at refl)
+    adds c.args.self.now d (ty.Flags c.from_u32.result) c.push.new.self (accepted c.args.self.now d b fit c.in_ok-check_room.ensures.fits)
+    (c.in_ok-place.ensures.ok.1 ∙ ap (λ (x : Definition). with_definition c.args.self.now x)
+    (ap (λ ks. FlagsType (names_of ks)) c.in_ok-names.ensures.ok)) (ap Some at) (has_new is_flags c.args.self.now d c.from_u32.result at refl)

@@ -95,7 +95,10 @@ push-requires-clause-entry c =
     let deep = c.in_ok-depth.ensures.depth ∙ ap (λ (ts : List InterfaceType). 1 + deepest (members_of c.args.self.now ts)) same in
     let borrows = c.in_ok-depth.ensures.borrows ∙ ap (λ (ts : List InterfaceType). member_borrows (members_of c.args.self.now ts)) same in
     let spelled : map (λ f. string_bytes f.name) c.deref-2.result.now ≡ names d = ap (map (λ f. string_bytes f.name)) c.deref-2.ensures.value ∙ field_names c.args.fields.items in
-    is_entry c.args.self.now d _ refl known deep borrows (sym (ap has_repeats spelled) ∙ c.in_ok-check_fields.ensures.fits) (fields_laid (all_shapes c.args.self.now) c.in_ok-abi.abi of_fields of_places (map (λ f. (string_bytes f.name, f.ty)) c.args.fields.items) (subst (λ (ts : List InterfaceType). HasLayout c.in_ok-abi.abi (product of_places (members_of c.args.self.now ts))) same c.in_ok-abi.ensures.ok))
+    is_entry c.args.self.now d _ refl known deep borrows (sym (ap has_repeats spelled) ∙ c.in_ok-check_fields.ensures.fits)
+    (fields_laid (all_shapes c.args.self.now) c.in_ok-abi.abi of_fields of_places (map (λ f. (string_bytes f.name, f.ty)) c.args.fields.items)
+    (subst (λ (ts : List InterfaceType). HasLayout c.in_ok-abi.abi (product of_places (members_of c.args.self.now ts))) same
+    c.in_ok-abi.ensures.ok))
 
 pub returns-clause-ok : goal.returns-clause-ok
 returns-clause-ok c =

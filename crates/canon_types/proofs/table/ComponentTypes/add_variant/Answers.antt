@@ -68,7 +68,9 @@ returns-in_err-depth-clause-cause c =
 
 pub variant_abi-requires-clause-known : goal.variant_abi-requires-clause-known
 variant_abi-requires-clause-known c =
-    payloads_known c.args.self.now c.as_slice-payloads.result.now (subst (λ (ts : List InterfaceType). All (Knows c.args.self.now) ts) (c.as_slice-parts.ensures.value ∙ c.in_ok-types.ensures.ok) (passed_parts c.args.self.now c.as_slice-parts.result.now c.is_empty.result (sym c.in_ok-check_parts.ensures)))
+    payloads_known c.args.self.now c.as_slice-payloads.result.now
+    (subst (λ (ts : List InterfaceType). All (Knows c.args.self.now) ts) (c.as_slice-parts.ensures.value ∙ c.in_ok-types.ensures.ok)
+    (passed_parts c.args.self.now c.as_slice-parts.result.now c.is_empty.result (sym c.in_ok-check_parts.ensures)))
 
 pub returns-in_err-abi-clause-cause : goal.returns-in_err-abi-clause-cause
 returns-in_err-abi-clause-cause c =
@@ -114,7 +116,15 @@ push-requires-clause-entry c =
     let borrows = c.in_ok-depth.ensures.borrows ∙ ap (λ (ts : List InterfaceType). member_borrows (members_of c.args.self.now ts)) same in
     let whole : c.as_slice-payloads.result.now ≡ map (λ x. x.1) (map (λ x. (string_bytes x.0, x.1)) c.args.cases.items) = listed ∙ case_payload_list c.args.cases.items in
     let spelled = case_names c.args.cases.items in
-    is_entry c.args.self.now d _ (ap cases_type c.in_ok-cases.ensures.ok) known deep borrows (sym (ap has_repeats spelled) ∙ c.in_ok-cases.ensures.fits) (variant_laid (all_shapes c.args.self.now) c.in_ok-abi.abi of_cases of_option (map (λ x. (string_bytes x.0, x.1)) c.args.cases.items) (subst (λ (ps : List (Option InterfaceType)). HasLayout c.in_ok-abi.abi (variant of_option (unnamed_cases (all_shapes c.args.self.now) ps))) whole c.in_ok-abi.ensures.abi), variant_told (all_shapes c.args.self.now) c.in_ok-abi.info (map (λ x. (string_bytes x.0, x.1)) c.args.cases.items) (subst (λ (ps : List (Option InterfaceType)). HasInfo c.in_ok-abi.info (unnamed_cases (all_shapes c.args.self.now) ps)) whole c.in_ok-abi.ensures.info))
+    is_entry c.args.self.now d _ (ap cases_type c.in_ok-cases.ensures.ok) known deep borrows
+    (sym (ap has_repeats spelled) ∙ c.in_ok-cases.ensures.fits) (
+      variant_laid (all_shapes c.args.self.now) c.in_ok-abi.abi of_cases of_option (map (λ x. (string_bytes x.0, x.1)) c.args.cases.items)
+          (subst (λ (ps : List (Option InterfaceType)). HasLayout c.in_ok-abi.abi (variant of_option (unnamed_cases (all_shapes c.args.self.now) ps)))
+          whole c.in_ok-abi.ensures.abi),
+      variant_told (all_shapes c.args.self.now) c.in_ok-abi.info (map (λ x. (string_bytes x.0, x.1))
+          c.args.cases.items) (subst (λ (ps : List (Option InterfaceType)). HasInfo c.in_ok-abi.info (unnamed_cases (all_shapes c.args.self.now) ps))
+          whole c.in_ok-abi.ensures.info),
+    )
 
 pub returns-clause-ok : goal.returns-clause-ok
 returns-clause-ok c =
@@ -131,4 +141,6 @@ returns-clause-ok c =
     let sizes : size false (variant of_option (unnamed_cases (all_shapes c.args.self.now) c.as_slice-payloads.result.now)) ≡ size false (variant of_cases (cases_in (all_shapes c.args.self.now) (map (λ x. (string_bytes x.0, x.1)) c.args.cases.items))) = ap (λ (ps : List (Option InterfaceType)). size false (variant of_option (unnamed_cases (all_shapes c.args.self.now) ps))) whole ∙ sym (variant_bytes (all_shapes c.args.self.now) of_cases of_option (map (λ x. (string_bytes x.0, x.1)) c.args.cases.items)) in
     let at : c.from_u32.result ≡ length c.args.self.now.definitions = c.from_u32.ensures ∙ c.in_ok-place.ensures.ok.0 in
     let fit = subst (λ (n : ℕ). n < 2 ^ 32) sizes c.in_ok-abi.ensures.fits in
-    adds c.args.self.now d (ty.Variant c.from_u32.result) c.push.new.self (accepted c.args.self.now d b fit c.in_ok-check_room.ensures.fits) (c.in_ok-place.ensures.ok.1 ∙ ap (λ (x : Definition). with_definition c.args.self.now x) (ap cases_type c.in_ok-cases.ensures.ok)) (ap Some at) (has_new is_variant c.args.self.now d c.from_u32.result at refl)
+    adds c.args.self.now d (ty.Variant c.from_u32.result) c.push.new.self (accepted c.args.self.now d b fit c.in_ok-check_room.ensures.fits)
+    (c.in_ok-place.ensures.ok.1 ∙ ap (λ (x : Definition). with_definition c.args.self.now x) (ap cases_type c.in_ok-cases.ensures.ok))
+    (ap Some at) (has_new is_variant c.args.self.now d c.from_u32.result at refl)
