@@ -1,10 +1,8 @@
 //! The parameters of a call, as the guest gets them.
 
-ghost use Rattle.std.specs.Prelude.{◌≡◌, ◌≤◌, ◌<◌, false, length};
+ghost use Rattle.std.specs.Prelude.{◌≡◌, ◌≤◌, ◌<◌, length};
 ghost use Rattle.canon_args.specs.Params.{TypedParams};
-ghost use Rattle.canon_context.specs.Asks.{AsksFor};
 ghost use Rattle.canon_context.specs.Core.{types_of};
-ghost use Rattle.canon_lowering.specs.Attempt.{args_call};
 ghost use Rattle.canon_model.specs.Flat.{max_params};
 ghost use Rattle.canon_model.specs.Layout.{members_flat};
 ghost use Rattle.canon_model.specs.Shape.{of_places, product};
@@ -12,10 +10,11 @@ ghost use Rattle.canon_types.specs.Table.{HasTuple, tuple_members};
 ghost use Rattle.canon_types.specs.declared.types.InterfaceType.TheVariants.{Tuple};
 ghost use Rattle.canon_value.specs.Args.{args_words};
 
-use canon_context::{Fault, LowerContext, ask};
+use canon_context::{Fault, LowerContext};
 use canon_lower::Lower;
 use canon_memory::{Guest, ValRaw};
 use canon_types::{InterfaceType, MAX_FLAT_PARAMS, TypeTupleIndex};
+use canon_value::parts::ask_tuple;
 
 /// Lowers the parameters of a function, whose types are those of the tuple, into words (CanonicalABI.md, "lower_flat_values"): in a row
 /// up to MAX_FLAT_PARAMS words, else as a tuple into a block that the guest is asked for, and one word that points to it. Answers the
@@ -94,15 +93,4 @@ fn lower_heap_args<D, G: Guest, P: Lower>(
         }
         Err(fault) => Err(fault),
     }
-}
-
-/// The block of the tuple, which the guest is asked for.
-fn ask_tuple<D, G: Guest>(cx: &mut LowerContext<'_, D, G>, ty: TypeTupleIndex) -> Result<u64, Fault>
-    requires tuple { HasTuple (types_of cx.old.core.now) ty }
-    ensures asked { AsksFor G.seen G.moves cx.old.core.now cx.new.core.now (args_call false (tuple_members (types_of cx.old.core.now) ty)) result }
-    ensures same_reference { cx.new.core.ghost_name ≡ cx.old.core.ghost_name }
-    ensures same_options { cx.new.options ≡ cx.old.options }
-{
-    let abi = cx.types().tuple(ty).abi;
-    ask(cx, abi.align32, u64::from(abi.size32))
 }

@@ -1,6 +1,7 @@
 //! What walks over values of other crates share with those of this one: a value by the shape of its type, a value of lifted
-//! parts, and the bits of flags.
+//! parts, the block of parameters, and the bits of flags.
 
+pub use crate::blocks::ask_tuple;
 pub use crate::case_view::Case;
 pub use crate::elements::Elements;
 pub use crate::flags::{Marks, flags_of, mark_byte, number_of};
