@@ -5,7 +5,7 @@
 ghost use Rattle.std.specs.Prelude.{[], ◌≡◌, ◌+◌, ◌%◌, ◌^◌, ◌<◌, IfOk, IsOk, Some, false, length, replicate, slice_get};
 ghost use Rattle.canon_example.specs.Component.{IsNotes};
 ghost use Rattle.canon_ledger.specs.Ledger.{new_ledger};
-ghost use Rattle.canon_value.specs.declared.val.Val.TheVariants as val;
+ghost use Rattle.canon_val.specs.declared.val.Val.TheVariants as val;
 
 mod component;
 mod failure;

@@ -22,8 +22,8 @@ use Rattle.canon_context.specs.declared.host.HostStop.TheVariants as stop
 use Rattle.canon_leaves.specs.Parts.{Passed}
 use Rattle.canon_value.specs.Args.{IsNoArea, LowersResults}
 use Rattle.canon_value.specs.Resources.{EndsAs, UsesLedger, all_passes}
-use Rattle.canon_value.specs.Value.{HaveTrees}
-use Rattle.canon_value.specs.declared.val.Val.{Val}
+use Rattle.canon_val.specs.Value.{HaveTrees}
+use Rattle.canon_val.specs.declared.val.Val.{Val}
 use Rattle.canon_host.specs.Serves.{stopped}
 use Rattle.canon_host.specs.declared.asked.Asked.{Asked}
 use Rattle.canon_host.specs.declared.error.HostError.{HostError}

@@ -25,10 +25,10 @@ use Rattle.canon_context.specs.Lowers.{fault_ending}
 use Rattle.canon_context.specs.Moves.{Moves}
 use Rattle.canon_context.specs.Quiet.{have_block, have_handle}
 use Rattle.canon_value.specs.Resources.{Crosses, EndsAs, UsesLedger, all_passes, stop_of, told_fault}
-use Rattle.canon_value.specs.Value.{HaveTrees}
+use Rattle.canon_val.specs.Value.{HaveTrees}
 use Rattle.canon_context.specs.declared.fault.Fault.{Fault}
 use Rattle.canon_context.specs.declared.fault.Fault.TheVariants as fault
-use Rattle.canon_value.specs.declared.val.Val.{Val}
+use Rattle.canon_val.specs.declared.val.Val.{Val}
 use Rattle.canon_func.specs.Call.{Adding, AsksByTypes, AsksNothing, OnAnswered, words_within}
 use Rattle.canon_func.specs.Passing.{Arguments}
 use Rattle.canon_func.specs.Steps.{EndsFor, LowersFor}

@@ -18,7 +18,7 @@ use Rattle.canon_context.specs.declared.fault.Fault.{Fault}
 use Rattle.canon_value.proofs.Values.{have_count}
 use Rattle.canon_value.specs.Lifts.{LiftsResults}
 use Rattle.canon_value.specs.Resources.{all_resources}
-use Rattle.canon_value.specs.declared.val.Val.{Val}
+use Rattle.canon_val.specs.declared.val.Val.{Val}
 use Rattle.canon_func.specs.Call.{dynamic_results, returned_leaves}
 use Rattle.canon_func.specs.Steps.{Lifted, LiftsIn, items_in}
 use Rattle.canon_func.specs.Stores.{Callee, export_callee, results_in}

@@ -31,8 +31,8 @@ use Rattle.canon_value.specs.Args.{args_words}
 use Rattle.canon_value.specs.Fails.{AreSmall, BlamesMembers, Failure, IsTypeFailure, MemberFails, field_name, mismatch, payload_expected, payload_not_expected, unknown_case, unknown_flag, wrong_length}
 use Rattle.canon_value.specs.Lifts.{LiftsParams}
 use Rattle.canon_value.specs.Resources.{EndsAs, all_passes, stop_of, told_fault}
-use Rattle.canon_value.specs.Value.{HaveTrees}
-use Rattle.canon_value.specs.declared.val.Val.{Val}
+use Rattle.canon_val.specs.Value.{HaveTrees}
+use Rattle.canon_val.specs.declared.val.Val.{Val}
 use Rattle.canon_host.specs.HostSide.{Entry, Giving, entry}
 use Rattle.canon_host.specs.Imports.{entry_of, logged, steps_of_values}
 use Rattle.canon_host.specs.Serves.{LowersGiven}

@@ -7,7 +7,7 @@ use Rattle.canon_lowering.specs.Lowering.{Answer, Trap}
 use Rattle.canon_context.specs.declared.fault.Fault.{Fault}
 use Rattle.canon_context.specs.declared.fault.Fault.TheVariants as fault
 use Rattle.canon_context.specs.declared.host.HostStop.{HostStop}
-use Rattle.canon_value.specs.declared.val.Val.{Val}
+use Rattle.canon_val.specs.declared.val.Val.{Val}
 use Rattle.canon_host.specs.Forms.{Form, InView, IsOfOthers, IsOfThese, RustTypes, TypedAnswering, over_types, over_values}
 use Rattle.canon_host.specs.HostSide.{Answering, Entry, Giving, entry}
 use Rattle.canon_host.specs.Imports.{logged}

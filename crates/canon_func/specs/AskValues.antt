@@ -23,8 +23,8 @@ use Rattle.canon_value.specs.Args.{args_words}
 use Rattle.canon_value.specs.Fails.{AreSmall, BlamesMembers}
 use Rattle.canon_value.specs.Lifts.{LiftsParams}
 use Rattle.canon_value.specs.Resources.{Crosses, all_passes}
-use Rattle.canon_value.specs.Value.{HaveTrees}
-use Rattle.canon_value.specs.declared.val.Val.{Val}
+use Rattle.canon_val.specs.Value.{HaveTrees}
+use Rattle.canon_val.specs.declared.val.Val.{Val}
 use Rattle.canon_host.specs.declared.asked.Asked.{Asked}
 use Rattle.canon_func.specs.Stores.{Callee}
 

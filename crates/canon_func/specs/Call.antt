@@ -32,13 +32,13 @@ use Rattle.canon_context.specs.Lowers.{fault_ending}
 use Rattle.canon_context.specs.Told.{place_of}
 use Rattle.canon_context.specs.Quiet.{have_block}
 use Rattle.canon_value.specs.Resources.{all_passes, all_resources, stop_of}
-use Rattle.canon_value.specs.Value.{HaveTrees}
+use Rattle.canon_val.specs.Value.{HaveTrees}
 use Rattle.canon_context.specs.declared.fault.At.{At}
 use Rattle.canon_context.specs.declared.fault.Fault.{Fault}
 use Rattle.canon_context.specs.declared.component.Import.{Import}
 use Rattle.canon_context.specs.declared.component.Import.TheVariants as import
 use Rattle.canon_context.specs.declared.fault.Fault.TheVariants as fault
-use Rattle.canon_value.specs.declared.val.Val.{Val}
+use Rattle.canon_val.specs.declared.val.Val.{Val}
 use Rattle.canon_host.specs.HostSide.{Giving, HostSide}
 use Rattle.canon_func.specs.Asks.{AreServed, AskStops, AcceptsAsk, Limits, import_words}
 use Rattle.canon_func.specs.HostAsks.{IsUnrefused}

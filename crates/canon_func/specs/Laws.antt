@@ -14,7 +14,7 @@ use Rattle.canon_lowering.specs.Lowering.{Answer, Trap}
 use Rattle.canon_lowering.specs.Storing.{narrow}
 use Rattle.canon_context.specs.Host.{HostSteps}
 use Rattle.canon_context.specs.declared.host.HostStop.{HostStop}
-use Rattle.canon_value.specs.declared.val.Val.{Val}
+use Rattle.canon_val.specs.declared.val.Val.{Val}
 use Rattle.canon_host.specs.HostSide.{Answering, Giving, HostSide}
 use Rattle.canon_host.specs.declared.asked.Asked.{Asked}
 use Rattle.canon_func.specs.Asks.{IsBuiltinServed, builtin_at, builtin_step}

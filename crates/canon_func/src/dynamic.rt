@@ -12,7 +12,7 @@ ghost use Rattle.canon_func.specs.Call.{Adding, OnAnswered, dynamic, dynamic_res
 ghost use Rattle.canon_func.specs.Dynamic.{dynamic_blames, dynamic_reads};
 ghost use Rattle.canon_func.specs.Steps.{Lifted, LiftsIn, LoweredArgs, LowersFor, items_in};
 ghost use Rattle.canon_func.specs.Stores.{export_callee};
-ghost use Rattle.canon_value.specs.declared.val.Val as declared;
+ghost use Rattle.canon_val.specs.declared.val.Val as declared;
 
 use crate::Error;
 use crate::passing::{Params, Results};

@@ -5,8 +5,8 @@ use Rattle.canon_indices.specs.declared.options.StringEncoding.{StringEncoding}
 use Rattle.canon_indices.specs.declared.options.StringEncoding.TheVariants as encoding
 use Rattle.canon_memory.specs.declared.event.Event.{Event}
 use Rattle.canon_memory.specs.declared.event.Event.TheVariants as event
-use Rattle.canon_value.specs.declared.val.Val.{Val}
-use Rattle.canon_value.specs.Equal.{is_equal}
+use Rattle.canon_val.specs.declared.val.Val.{Val}
+use Rattle.canon_val.specs.Equal.{is_equal}
 use Rattle.canon_script.specs.Literals.{literal_view}
 use Rattle.canon_script.specs.Script.{Play}
 use Rattle.canon_player.specs.Session.{Session}

@@ -19,7 +19,7 @@ use Rattle.canon_memory.specs.declared.event.Event.{Event}
 use Rattle.canon_model.specs.Shape.{member_count}
 use Rattle.canon_types.specs.Table.{HasFunc, param_members}
 use Rattle.canon_types.specs.declared.types.TypeFunc.{TypeFunc}
-use Rattle.canon_value.specs.declared.val.Val.{Val}
+use Rattle.canon_val.specs.declared.val.Val.{Val}
 use Rattle.canon_host.specs.Forms.{IsOfOthers, IsOfThese, MayGive, RustTypes, TypedAnswering, in_view, over_values}
 use Rattle.canon_host.specs.HostSide.{Entry, Giving, outcome}
 use Rattle.canon_host.specs.Imports.{CallsImport, CallsUnlogged, Declines, GivesOnly, LiftsOf, ServedByTyped, ServesForm, ServesTypes, ServesWith, entry_of, logged, steps_of_types}

@@ -28,9 +28,9 @@ use Rattle.canon_types.specs.declared.types.TypeFunc.{TypeFunc}
 use Rattle.canon_value.specs.Args.{LowersResults}
 use Rattle.canon_value.specs.Fails.{AreSmall, BlamesMembers}
 use Rattle.canon_value.specs.Resources.{Crosses, QuietBut, all_passes}
-use Rattle.canon_value.specs.Value.{HaveTrees}
-use Rattle.canon_value.specs.declared.val.Val.{Val}
-use Rattle.canon_value.specs.declared.val.Val.TheVariants as val
+use Rattle.canon_val.specs.Value.{HaveTrees}
+use Rattle.canon_val.specs.declared.val.Val.{Val}
+use Rattle.canon_val.specs.declared.val.Val.TheVariants as val
 use Rattle.canon_value.proofs.Values.{have_count}
 use Rattle.canon_host.specs.Asked.{RestStays, row_words}
 use Rattle.canon_host.specs.Serves.{Answers, AnswersBy, AskValues, Calling, Calls, CallsBlank, Concludes, ConcludesBy, EndsAsk, InRow, LiftsAsked, Lowering, LowersGiven, Serves, ServesBy, ServesEntered, ServesEnteredBy, Steps, Values, blank, value_steps, values_of}

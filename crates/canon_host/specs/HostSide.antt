@@ -3,7 +3,7 @@ use Rattle.std.specs.Prelude.{Err, List, Ok, Option, Result, ℕ}
 use Rattle.canon_ledger.specs.Ledger.{LedgerState}
 use Rattle.canon_context.specs.Core.{Parts}
 use Rattle.canon_context.specs.declared.host.HostStop.{HostStop}
-use Rattle.canon_value.specs.declared.val.Val.{Val}
+use Rattle.canon_val.specs.declared.val.Val.{Val}
 use Rattle.canon_host.specs.Forms.{Form, RustTypes, TypedAnswering, over_types, over_values}
 
 -- an ask that was served: the number of its import, its parameters and its results

@@ -13,7 +13,7 @@ use Rattle.canon_memory.specs.Counts.{Rose}
 use Rattle.canon_memory.specs.Guest.{GuestIn, Seen}
 use Rattle.canon_memory.specs.declared.event.Event.{Event}
 use Rattle.canon_types.specs.declared.types.TypeFunc.{TypeFunc}
-use Rattle.canon_value.specs.declared.val.Val.{Val}
+use Rattle.canon_val.specs.declared.val.Val.{Val}
 use Rattle.canon_host.specs.Forms.{Form, IsOfOthers, IsOfThese, RustTypes, TypedAnswering, in_view, over_types, over_values}
 use Rattle.canon_host.specs.HostSide.{Answering, Entry, Giving, entry, gives_values, outcome}
 use Rattle.canon_host.specs.Serves.{AskValues, Serves, ServesBy, Steps, Values, value_steps}

@@ -28,9 +28,9 @@ use Rattle.canon_value.specs.Args.{IsArea, IsNoArea, LowersResults, args_words}
 use Rattle.canon_value.specs.Fails.{AreSmall, BlamesMembers}
 use Rattle.canon_value.specs.Lifts.{LiftsParams}
 use Rattle.canon_value.specs.Resources.{Crosses, QuietBut, all_passes}
-use Rattle.canon_value.specs.Value.{HaveTrees}
-use Rattle.canon_value.specs.declared.val.Val.{Val}
-use Rattle.canon_value.specs.declared.val.Val.TheVariants as val
+use Rattle.canon_val.specs.Value.{HaveTrees}
+use Rattle.canon_val.specs.declared.val.Val.{Val}
+use Rattle.canon_val.specs.declared.val.Val.TheVariants as val
 use Rattle.canon_host.specs.Asked.{RestStays}
 use Rattle.canon_host.specs.declared.asked.Asked.{Asked}
 use Rattle.canon_host.specs.declared.error.HostError.{HostError}

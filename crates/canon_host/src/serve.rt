@@ -6,7 +6,7 @@ ghost use Rattle.canon_types.specs.Table.{tuple_members};
 ghost use Rattle.canon_context.specs.Asks.{SameButHandles};
 ghost use Rattle.canon_context.specs.Core.{SameButLedger, types_of};
 ghost use Rattle.canon_context.specs.Host.{Keeps};
-ghost use Rattle.canon_value.specs.declared.val.Val.TheVariants as val;
+ghost use Rattle.canon_val.specs.declared.val.Val.TheVariants as val;
 ghost use Rattle.canon_host.specs.Asked.{HasRoom, IsAsked};
 ghost use Rattle.canon_host.specs.Serves.{Answers, Calls, CallsBlank, InRow, LiftsAsked, ServesEntered, ServesInRow};
 

@@ -1,7 +1,7 @@
 -- Imports that answer with numbers.
 use Rattle.std.specs.Prelude.{Err, List, None, Ok, Option, Result, Some, drop, length, map, slice_get, take, ℕ, ◌<◌, ◌≡◌}
-use Rattle.canon_value.specs.declared.val.Val.{Val}
-use Rattle.canon_value.specs.declared.val.Val.TheVariants as val
+use Rattle.canon_val.specs.declared.val.Val.{Val}
+use Rattle.canon_val.specs.declared.val.Val.TheVariants as val
 use Rattle.canon_context.specs.declared.host.HostStop.{HostStop}
 use Rattle.canon_context.specs.declared.host.HostStop.TheVariants as stop
 use Rattle.canon_host.specs.HostSide.{Entry, Giving, gives_values}

@@ -16,7 +16,7 @@ use Rattle.canon_types.specs.declared.types.InterfaceType.TheVariants as ty
 use Rattle.canon_types.specs.declared.types.TypeFlags.{TypeFlags}
 use Rattle.canon_plan.specs.NoHandle.{HaveNoHandle, HasNoHandle}
 use Rattle.canon_value.specs.Flags.{flag_names}
-use Rattle.canon_value.specs.declared.val.Val.{Val}
+use Rattle.canon_val.specs.declared.val.Val.{Val}
 use Rattle.canon_value.proofs.Cases.{case_no_handle, case_shallow}
 use Rattle.canon_value.proofs.FlagNames.{names_are}
 use Rattle.canon_image.proofs.Fetching.{number_here}

@@ -4,9 +4,9 @@ use Rattle.canon_lowering.specs.Copies.{case_members, copies}
 use Rattle.canon_model.specs.Shape.{Cases, Members, Name, ProductKind, Shape, VariantKind, fixed, member, member_count, product, variant}
 use Rattle.canon_model.specs.Text.{utf8}
 use Rattle.canon_value.specs.Fails.{Blames, FailsAt, MemberFails}
-use Rattle.canon_value.specs.Value.{IsCase, IsFixed, IsProduct, all_places, cap, member_names, places}
+use Rattle.canon_val.specs.Value.{IsCase, IsFixed, IsProduct, all_places, cap, member_names, places}
 use Rattle.canon_context.specs.declared.fault.Fault.{Fault}
-use Rattle.canon_value.specs.declared.val.Val.{Val}
+use Rattle.canon_val.specs.declared.val.Val.{Val}
 use Rattle.canon_value.proofs.Cases.{case_fails, case_places}
 use Rattle.canon_value.proofs.Contents.{places_fixed}
 use Rattle.canon_value.proofs.Steps.{blames_later, places_product}

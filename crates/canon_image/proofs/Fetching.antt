@@ -27,9 +27,9 @@ use Rattle.canon_types.specs.declared.types.InterfaceType.{InterfaceType}
 use Rattle.canon_types.specs.declared.types.InterfaceType.TheVariants as ty
 use Rattle.canon_plan.specs.NoHandle.{IsScalarType, scalar_type}
 use Rattle.canon_plan.proofs.ScalarTypes.{scalar_shape}
-use Rattle.canon_value.specs.Value.{HasScalar, IsLiftedFrom}
-use Rattle.canon_value.specs.declared.val.Val.{Val}
-use Rattle.canon_value.specs.declared.val.Val.TheVariants as val
+use Rattle.canon_val.specs.Value.{HasScalar, IsLiftedFrom}
+use Rattle.canon_val.specs.declared.val.Val.{Val}
+use Rattle.canon_val.specs.declared.val.Val.TheVariants as val
 use Rattle.canon_image.proofs.Bytes.{le_number_bytes}
 use Rattle.canon_image.proofs.Fields.{length-le_bytes}
 use Rattle.canon_image.proofs.Reading.{first_span}

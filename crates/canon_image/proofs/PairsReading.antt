@@ -7,9 +7,9 @@ use Rattle.canon_model.specs.Shape.{Shape, list, map_of, of_pairs}
 use Rattle.canon_model.specs.Tree.{Tree, Trees, items, no_trees, parts, tree, tree_count}
 use Rattle.canon_types.specs.Depth.{element_shape}
 use Rattle.canon_plan.specs.Element.{IsMap, first_of, second_of}
-use Rattle.canon_value.specs.Value.{EachHas, PairHas}
-use Rattle.canon_value.specs.declared.val.Val.{Val}
-use Rattle.canon_value.specs.declared.val.Val.TheVariants as val
+use Rattle.canon_val.specs.Value.{EachHas, PairHas}
+use Rattle.canon_val.specs.declared.val.Val.{Val}
+use Rattle.canon_val.specs.declared.val.Val.TheVariants as val
 use Rattle.canon_value.proofs.Contents.{each_count}
 use Rattle.canon_image.proofs.Reading.{first_span, first_stops, spans_join, spans_none, stops_as, stops_later}
 use Rattle.canon_image.proofs.PairsWriting.{pair_of}

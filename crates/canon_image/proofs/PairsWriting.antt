@@ -9,11 +9,11 @@ use Rattle.canon_types.specs.Depth.{element_shape}
 use Rattle.canon_plan.specs.NoHandle.{HasNoHandle, has_no_handle}
 use Rattle.canon_value.specs.Elements.{by_turns}
 use Rattle.canon_value.specs.Fails.{FailsAt, MemberFails, PairFails, SomeFails}
-use Rattle.canon_value.specs.Value.{PairHas, all_places, cap, pair_places, total}
+use Rattle.canon_val.specs.Value.{PairHas, all_places, cap, pair_places, total}
 use Rattle.canon_plan.specs.Element.{IsMap, first_of, second_of}
 use Rattle.canon_context.specs.declared.fault.Fault.{Fault}
-use Rattle.canon_value.specs.declared.val.Val.{Val}
-use Rattle.canon_value.specs.declared.val.Val.TheVariants as val
+use Rattle.canon_val.specs.declared.val.Val.{Val}
+use Rattle.canon_val.specs.declared.val.Val.TheVariants as val
 use Rattle.canon_value.proofs.Contents.{each_count}
 use Rattle.canon_plan.proofs.Lookups.{both, drop_all}
 use Rattle.canon_value.proofs.PairRows.{places_map}

@@ -7,8 +7,8 @@ use Rattle.canon_model.specs.Tree.{Tree, Trees, no_trees, tree}
 use Rattle.canon_lowering.specs.Copies.{case_tree}
 use Rattle.canon_value.proofs.LiftedValues.{unlifted}
 use Rattle.canon_value.proofs.OneValue.{tree_one, value_one}
-use Rattle.canon_value.specs.Value.{CaseHas, EachHas, HasScalar, HasTreeAs, HaveTreesAs, PairHas}
-use Rattle.canon_value.specs.declared.val.Val.{Val}
+use Rattle.canon_val.specs.Value.{CaseHas, EachHas, HasScalar, HasTreeAs, HaveTreesAs, PairHas}
+use Rattle.canon_val.specs.declared.val.Val.{Val}
 use Rattle.canon_image.specs.Laws.{ImagesComeBack}
 
 scalar_carried : (k : Scalar) (v : Val) (t u : Tree) → HasScalar k v t → Carried t u → u ≡ t

@@ -4,7 +4,7 @@ use Rattle.canon_model.specs.Image.{Image}
 use Rattle.canon_model.specs.Shape.{Shape}
 use Rattle.canon_plan.specs.NoHandle.{HasNoHandle}
 use Rattle.canon_plan.proofs.Lookups.{drop_all}
-use Rattle.canon_value.specs.declared.val.Val.{Val}
+use Rattle.canon_val.specs.declared.val.Val.{Val}
 use Rattle.canon_image.specs.Read.{IsRead, ReadsTo, StopsFrom}
 use Rattle.canon_image.specs.Stops.{StopsAt, malformed, truncated}
 use Rattle.canon_image.specs.declared.error.ImageError.{ImageError}

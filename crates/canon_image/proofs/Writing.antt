@@ -14,7 +14,7 @@ use Rattle.canon_types.specs.Table.{Table, shape_of}
 use Rattle.canon_types.specs.declared.types.InterfaceType.{InterfaceType}
 use Rattle.canon_plan.specs.NoHandle.{HaveNoHandle, HasNoHandle}
 use Rattle.canon_value.specs.Fails.{Blames, FailsAt, MemberFails}
-use Rattle.canon_value.specs.Value.{HaveTrees, IsCase, IsProduct, cap, member_names, no_names}
+use Rattle.canon_val.specs.Value.{HaveTrees, IsCase, IsProduct, cap, member_names, no_names}
 use Rattle.canon_plan.specs.Plan.{LiesAs, members_from}
 use Rattle.canon_value.specs.View.{IsMember, names_of, shapes_of, values_of}
 use Rattle.canon_value.specs.Viewed.{HasMembers, IsCaseSeen}
@@ -23,8 +23,8 @@ use Rattle.canon_context.specs.declared.fault.Fault.{Fault}
 use Rattle.canon_context.specs.declared.fault.Fault.TheVariants as fault
 use Rattle.canon_value.specs.declared.case_view.Case.{Case}
 use Rattle.canon_value.specs.declared.members.Member.{Member}
-use Rattle.canon_value.specs.declared.val.Val.{Val}
-use Rattle.canon_value.specs.declared.val.Val.TheVariants as val
+use Rattle.canon_val.specs.declared.val.Val.{Val}
+use Rattle.canon_val.specs.declared.val.Val.TheVariants as val
 use Rattle.canon_value.proofs.Cases.{case_no_handle, case_has}
 use Rattle.canon_value.proofs.Contents.{places_list, places_text, spelled}
 use Rattle.canon_plan.proofs.Lookups.{both, copies_count, drop_all, members_from-all}

@@ -3,8 +3,8 @@ use Rattle.std.specs.Prelude.{List, ℕ, ◌++◌, ◌≡◌}
 use Rattle.canon_model.specs.Image.{Image}
 use Rattle.canon_model.specs.Shape.{Shape}
 use Rattle.canon_model.specs.Tree.{Tree}
-use Rattle.canon_value.specs.Value.{HasTree, IsLiftedFrom, IsSame}
-use Rattle.canon_value.specs.declared.val.Val.{Val}
+use Rattle.canon_val.specs.Value.{HasTree, IsLiftedFrom, IsSame}
+use Rattle.canon_val.specs.declared.val.Val.{Val}
 use Rattle.canon_image.specs.Stops.{Stop, StopsAt}
 
 -- Bytes that begin with an image don't stop reading, and reading stops at one place and in one way.

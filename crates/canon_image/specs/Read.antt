@@ -5,8 +5,8 @@ use Rattle.canon_model.specs.Image.{EachImage, Image, IsField, MembersImage}
 use Rattle.canon_model.specs.Shape.{Members, Shape}
 use Rattle.canon_model.specs.Tree.{Tree, Trees}
 use Rattle.canon_plan.specs.NoHandle.{HasNoHandle}
-use Rattle.canon_value.specs.Value.{AreLiftedFrom, EachHas, IsLiftedFrom, PairHas}
-use Rattle.canon_value.specs.declared.val.Val.{Val}
+use Rattle.canon_val.specs.Value.{AreLiftedFrom, EachHas, IsLiftedFrom, PairHas}
+use Rattle.canon_val.specs.declared.val.Val.{Val}
 use Rattle.canon_image.specs.Stops.{IsFollowed, MembersStop, RowStops, Stop, StopsAt, malformed, truncated}
 use Rattle.canon_image.specs.declared.error.ImageError.{ImageError}
 use Rattle.canon_image.specs.declared.error.ImageError.TheVariants as error

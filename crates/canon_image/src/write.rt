@@ -13,7 +13,7 @@ ghost use Rattle.canon_value.specs.Flags.{IsFlagsType, flag_names};
 ghost use Rattle.canon_value.specs.View.{AreFew, AreKnown, names_of, shapes_of, values_of};
 ghost use Rattle.canon_value.specs.Viewed.{IsCaseSeen};
 ghost use Rattle.canon_value.specs.Words.{IsWordOf};
-ghost use Rattle.canon_value.specs.declared.val.Val.TheVariants as val;
+ghost use Rattle.canon_val.specs.declared.val.Val.TheVariants as val;
 ghost use Rattle.canon_image.specs.Written.{IsImaged, IsOnlyImage, IsTold, MarksTo, PairsWriteTo, PartsWriteTo, WritesTo};
 
 use crate::ImageError;

@@ -5,7 +5,7 @@ use Rattle.std.specs.declared.alloc.Global.{Global}
 use Rattle.hex.specs.Hex.{encode_lower}
 use Rattle.canon_model.specs.Shape.{Shape}
 use Rattle.canon_types.specs.Table.{shape_of}
-use Rattle.canon_value.specs.declared.val.Val.{Val}
+use Rattle.canon_val.specs.declared.val.Val.{Val}
 use Rattle.canon_image.specs.Read.{IsRead}
 use Rattle.canon_image.specs.Written.{IsImaged}
 use Rattle.canon_image.specs.declared.error.ImageError.{ImageError}

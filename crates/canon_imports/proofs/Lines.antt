@@ -1,7 +1,7 @@
 -- The entries of lines.
 use Rattle.std.proofs.Common.{List, Option, Some, [], Vec, ap, refl, ◌++◌, ◌∙◌, ◌∷◌, ◌≡◌, ℕ}
 use Rattle.std.specs.declared.alloc.Global.{Global}
-use Rattle.canon_value.specs.declared.val.Val.{Val}
+use Rattle.canon_val.specs.declared.val.Val.{Val}
 use Rattle.canon_host.specs.HostSide.{Entry}
 use Rattle.canon_host.specs.Imports.{logged}
 use Rattle.canon_script.specs.Imports.{HostAnswer, answers_view}

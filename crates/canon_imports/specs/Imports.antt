@@ -3,7 +3,7 @@ use Rattle.std.specs.Prelude.{Err, List, None, Ok, Option, Result, Some, [], ◌
 use Rattle.std.specs.Borrow.{Bor}
 use Rattle.canon_context.specs.declared.host.HostStop.{HostStop}
 use Rattle.canon_context.specs.declared.host.HostStop.TheVariants as stop
-use Rattle.canon_value.specs.declared.val.Val.{Val}
+use Rattle.canon_val.specs.declared.val.Val.{Val}
 use Rattle.canon_host.specs.HostSide.{Entry, Giving, gives_values}
 use Rattle.canon_script.specs.Imports.{HostAnswer, answer_after}
 use Rattle.canon_script.specs.Literals.{literals_view}

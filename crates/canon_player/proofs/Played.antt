@@ -15,7 +15,7 @@ use Rattle.canon_scripted.specs.Allocator.{Allocator}
 use Rattle.canon_scripted.specs.Scripted.{CarriesOut, Doing, Plan, ScriptMoves, seen_of, traps_after}
 use Rattle.canon_context.specs.Core.{Parts, guest_of, moment_of}
 use Rattle.canon_context.specs.declared.fault.Fault.TheVariants as fault
-use Rattle.canon_value.specs.declared.val.Val.{Val}
+use Rattle.canon_val.specs.declared.val.Val.{Val}
 use Rattle.canon_types.specs.Refusal.{first_error}
 use Rattle.canon_func.specs.Call.{Adding, IsCall, IsCallOf, OnAnswered, dynamic, dynamic_results, refusal, refused_by, with_results}
 use Rattle.canon_func.specs.Passing.{Arguments, ReturnedValues}

@@ -20,8 +20,8 @@ use Rattle.canon_resources.specs.declared.any.ResourceAnyHandle.{ResourceAnyHand
 use Rattle.canon_resources.specs.declared.any.ResourceAnyHandle.TheVariants.{Synthetic}
 use Rattle.canon_context.specs.declared.fault.Fault.TheVariants as fault
 use Rattle.canon_value.specs.Resources.{all_resources}
-use Rattle.canon_value.specs.declared.val.Val.{Val}
-use Rattle.canon_value.specs.declared.val.Val.TheVariants as val
+use Rattle.canon_val.specs.declared.val.Val.{Val}
+use Rattle.canon_val.specs.declared.val.Val.TheVariants as val
 use Rattle.canon_host.specs.HostSide.{Entry, HostSide}
 use Rattle.canon_func.specs.Asks.{Limits, allowed}
 use Rattle.canon_func.specs.Call.{IsCallOf, dynamic, dynamic_results, entry_refusal, refusal}

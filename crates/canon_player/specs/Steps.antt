@@ -8,7 +8,7 @@ use Rattle.canon_ledger.specs.declared.fault.ResourceFault.TheVariants as refusa
 use Rattle.canon_resources.specs.Held.{Any, any, table_handle}
 use Rattle.canon_resources.specs.declared.any.ResourceAnyHandle.TheVariants.{Synthetic}
 use Rattle.canon_context.specs.declared.fault.Fault.TheVariants as fault
-use Rattle.canon_value.specs.declared.val.Val.TheVariants as val
+use Rattle.canon_val.specs.declared.val.Val.TheVariants as val
 use Rattle.canon_func.specs.Asks.{Limits}
 use Rattle.canon_func.specs.Call.{refusal as call_refusal}
 use Rattle.canon_func.specs.Stores.{Callee}

@@ -4,12 +4,12 @@ use Rattle.std.specs.Prelude.{OnOk}
 use Rattle.std.specs.declared.alloc.Global.{Global}
 use Rattle.canon_resources.specs.Held.{Any}
 use Rattle.canon_value.specs.Resources.{all_resources, joined, resources, resources_step}
-use Rattle.canon_value.specs.Value.{values_in}
-use Rattle.canon_value.specs.declared.val.Val.{Val, the_lemmas}
-use Rattle.canon_value.specs.declared.val.Val.TheFolds.{fold-roll-Val, ind-Val, map-Val}
-use Rattle.canon_value.specs.declared.val.Val.TheOpen.{Val-F, Val-F as F}
-use Rattle.canon_value.specs.declared.val.Val.TheShapes.{former-Val-Map-0-at-2, former-Val-Record-0-at-2}
-use Rattle.canon_value.specs.declared.val.Val.TheVariants as val
+use Rattle.canon_val.specs.Value.{values_in}
+use Rattle.canon_val.specs.declared.val.Val.{Val, the_lemmas}
+use Rattle.canon_val.specs.declared.val.Val.TheFolds.{fold-roll-Val, ind-Val, map-Val}
+use Rattle.canon_val.specs.declared.val.Val.TheOpen.{Val-F, Val-F as F}
+use Rattle.canon_val.specs.declared.val.Val.TheShapes.{former-Val-Map-0-at-2, former-Val-Record-0-at-2}
+use Rattle.canon_val.specs.declared.val.Val.TheVariants as val
 use Rattle.canon_script.specs.Resources.{pair_resources}
 use Rattle.canon_script.specs.Literals.{Literal, all_held, fields_held, fields_of, held_among, held_in, literal_step, literal_view, literals_of, literals_view, named, pairs_held, pairs_of}
 

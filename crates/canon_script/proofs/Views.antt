@@ -1,8 +1,8 @@
 -- What is seen of a text and of a value with members.
 use Rattle.std.proofs.Common.{◌≡◌, sym, ap, ◌∙◌, map, Box, Option, None, Some, Ok, Err, String, Vec, Global, string_bytes}
-use Rattle.canon_value.specs.declared.val.Val.{Val, fold-roll-Val}
-use Rattle.canon_value.specs.declared.val.Val.TheOpen.{Val-F}
-use Rattle.canon_value.specs.declared.val.Val.TheVariants as val
+use Rattle.canon_val.specs.declared.val.Val.{Val, fold-roll-Val}
+use Rattle.canon_val.specs.declared.val.Val.TheOpen.{Val-F}
+use Rattle.canon_val.specs.declared.val.Val.TheVariants as val
 use Rattle.canon_script.specs.Literals.{Literal, enum, fields, fields_of, fields_view, fixed, flags, list, literal_step, literal_view, literals_of, literals_view, ok, error, option, pairs, pairs_of, pairs_view, payload_view, text, tuple, variant}
 
 pub literal-String : (s : String Global) → literal_view (val.String s) ≡ text (string_bytes s)

@@ -5,8 +5,8 @@ use Rattle.canon_model.specs.Shape.{Name}
 use Rattle.canon_resources.specs.Held.{Any, any, synthetic_rep}
 use Rattle.canon_resources.specs.declared.any.ResourceAnyHandle.TheVariants.{Synthetic}
 use Rattle.canon_types.specs.declared.resource.ResourceType.TheVariants.{HostDynamic}
-use Rattle.canon_value.specs.declared.val.Val.{Val, fold-Val}
-use Rattle.canon_value.specs.declared.val.Val.TheOpen.{Val-F}
+use Rattle.canon_val.specs.declared.val.Val.{Val, fold-Val}
+use Rattle.canon_val.specs.declared.val.Val.TheOpen.{Val-F}
 
 mutual
   pub data Literal : Type 0 where

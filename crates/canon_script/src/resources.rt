@@ -4,7 +4,7 @@ ghost use Rattle.std.specs.Prelude.{◌≡◌, ◌++◌, ◌∷◌, [], IfOk, On
 ghost use Rattle.canon_script.specs.Literals.{all_known, held_among, held_in, is_known, listed, literal_view, literals_view, number_of, pairs_view, payload_replaced, payload_view, replaced};
 ghost use Rattle.canon_script.specs.Resources.{field_replaced, field_view, pair_replaced, pair_resources, payload_resources};
 ghost use Rattle.canon_value.specs.Resources.{all_resources, resources};
-ghost use Rattle.canon_value.specs.Value.{values_in};
+ghost use Rattle.canon_val.specs.Value.{values_in};
 
 use canon_resources::ResourceAny;
 use canon_types::OutOfMemory;

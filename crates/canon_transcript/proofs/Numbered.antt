@@ -5,10 +5,10 @@ use Rattle.std.specs.Prelude.{OnOk, codes}
 use Rattle.std.specs.declared.alloc.Global.{Global}
 use Rattle.canon_resources.specs.Held.{Any}
 use Rattle.canon_value.specs.Resources.{all_resources, resources, resources_step}
-use Rattle.canon_value.specs.declared.val.Val.{Val}
-use Rattle.canon_value.specs.declared.val.Val.TheFolds.{fold-roll-Val, ind-Val, map-Val}
-use Rattle.canon_value.specs.declared.val.Val.TheOpen.{Val-F, Val-F as F}
-use Rattle.canon_value.specs.declared.val.Val.TheShapes.{former-Val-Map-0-at-2, former-Val-Record-0-at-2}
+use Rattle.canon_val.specs.declared.val.Val.{Val}
+use Rattle.canon_val.specs.declared.val.Val.TheFolds.{fold-roll-Val, ind-Val, map-Val}
+use Rattle.canon_val.specs.declared.val.Val.TheOpen.{Val-F, Val-F as F}
+use Rattle.canon_val.specs.declared.val.Val.TheShapes.{former-Val-Map-0-at-2, former-Val-Record-0-at-2}
 use Rattle.canon_transcript.specs.declared.transcript.Answer.{Answer}
 use Rattle.canon_transcript.specs.declared.transcript.Answer.TheVariants as answer
 use Rattle.canon_transcript.specs.declared.transcript.Record.{Record}

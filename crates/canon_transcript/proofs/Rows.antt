@@ -4,11 +4,11 @@ use Rattle.std.proofs.lemmas.Simd.{map-map}
 use Rattle.std.specs.Prelude.{OnOk, Result, codes}
 use Rattle.std.specs.List.{join_with_byte}
 use Rattle.std.specs.declared.alloc.Global.{Global}
-use Rattle.canon_value.specs.declared.val.Val.{Val}
-use Rattle.canon_value.specs.declared.val.Val.TheFolds.{fold-roll-Val}
-use Rattle.canon_value.specs.declared.val.Val.TheOpen.{Val-F}
-use Rattle.canon_value.specs.declared.val.Val.TheVariants as val
-use Rattle.canon_value.specs.declared.val.Val.TheVariants.{rolls-Map, rolls-Record}
+use Rattle.canon_val.specs.declared.val.Val.{Val}
+use Rattle.canon_val.specs.declared.val.Val.TheFolds.{fold-roll-Val}
+use Rattle.canon_val.specs.declared.val.Val.TheOpen.{Val-F}
+use Rattle.canon_val.specs.declared.val.Val.TheVariants as val
+use Rattle.canon_val.specs.declared.val.Val.TheVariants.{rolls-Map, rolls-Record}
 use Rattle.canon_transcript.specs.Text.{Page, Printing, between, each_after, fields_printing, joined, labelled, layer_printing, paired, pairs_printing, value_printing}
 
 -- what stands before an element: nothing, or the separator

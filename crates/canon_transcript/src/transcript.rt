@@ -55,7 +55,7 @@ pub struct Transcript {
 impl Model for Transcript {
     ghost use Rattle.std.specs.Prelude.{List};
     ghost use Rattle.canon_transcript.specs.declared.transcript.Record.{Record};
-    ghost use Rattle.canon_value.specs.contracts.val.Val as val;
+    ghost use Rattle.canon_val.specs.contracts.val.Val as val;
     ghost use Rattle.std.specs.Coded.{codes};
 
     ghost Value = { List Record };

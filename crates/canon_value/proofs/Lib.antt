@@ -30,7 +30,6 @@ pub mod MapsAndFlags
 pub mod OneValue
 pub mod RoundTrip
 pub mod LiftedValues
-pub mod Equality
 pub mod CaseViews
 pub mod WalkCases
 pub mod WordCases
@@ -44,9 +43,6 @@ pub mod FlagLifting
 pub mod PairRows
 pub mod Listing
 pub mod ListLoading
-pub mod Copied
-pub mod KeyedData
-pub mod HandleValues
 pub mod NoResources
 pub mod PassesOf
 pub mod LeavesAt
@@ -58,3 +54,4 @@ pub mod Crossing
 pub mod HandleSteps
 pub mod LiftedSteps
 mod Givens
+mod HandleFails

@@ -4,8 +4,8 @@ use Rattle.std.specs.declared.alloc.Global.{Global}
 use Rattle.canon_model.specs.Shape.{Name, member_count}
 use Rattle.canon_types.specs.declared.types.InterfaceType.{InterfaceType}
 use Rattle.canon_types.specs.Table.{Table, members_of, tuple_members, types_of as tuple_types_of}
-use Rattle.canon_value.specs.Value.{member_names, no_names, values_in, names_in}
-use Rattle.canon_value.specs.declared.val.Val.{Val}
+use Rattle.canon_val.specs.Value.{member_names, no_names, values_in, names_in}
+use Rattle.canon_val.specs.declared.val.Val.{Val}
 use Rattle.canon_plan.proofs.Lookups.{count_members}
 
 -- ---- the fields of a record and the members of a tuple, one after another

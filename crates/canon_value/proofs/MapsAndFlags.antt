@@ -5,10 +5,10 @@ use Rattle.std.proofs.lemmas.Bool.{false≢true}
 use Rattle.std.proofs.lemmas.List.Elements.{All-cons, All-nil}
 use Rattle.std.specs.declared.alloc.Global.{Global}
 use Rattle.canon_model.specs.Shape.{Name}
-use Rattle.canon_value.specs.Value.{AreMarked, IsFlags, IsPairs, Occurs, places}
-use Rattle.canon_value.specs.declared.val.Val.{Val, out-Val, the_lemmas}
-use Rattle.canon_value.specs.declared.val.Val.TheOpen.{Val-F as F}
-use Rattle.canon_value.specs.declared.val.Val.TheVariants as val
+use Rattle.canon_val.specs.Value.{AreMarked, IsFlags, IsPairs, Occurs, places}
+use Rattle.canon_val.specs.declared.val.Val.{Val, out-Val, the_lemmas}
+use Rattle.canon_val.specs.declared.val.Val.TheOpen.{Val-F as F}
+use Rattle.canon_val.specs.declared.val.Val.TheVariants as val
 
 -- ---- maps
 

@@ -2,10 +2,10 @@
 use Rattle.std.specs.Prelude.{List, [], ◌∷◌, length, ℕ}
 use Rattle.canon_plan.specs.declared.element.Element.{Element}
 use Rattle.canon_plan.specs.declared.element.Element.TheVariants as element
-use Rattle.canon_value.specs.declared.elements.Elements.{Elements}
-use Rattle.canon_value.specs.declared.elements.Elements.TheVariants as elements
-use Rattle.canon_value.specs.declared.val.Val.{Val}
-use Rattle.canon_value.specs.declared.val.Val.TheVariants as val
+use Rattle.canon_val.specs.declared.elements.Elements.{Elements}
+use Rattle.canon_val.specs.declared.elements.Elements.TheVariants as elements
+use Rattle.canon_val.specs.declared.val.Val.{Val}
+use Rattle.canon_val.specs.declared.val.Val.TheVariants as val
 
 -- keys and their values by turns
 abbrev pub by_turns : List (Val × Val) → List Val

@@ -9,8 +9,8 @@ use Rattle.canon_model.specs.Text.{Encoding}
 use Rattle.canon_model.specs.Tree.{Tree, Trees, items, parts}
 use Rattle.canon_types.specs.Depth.{element_shape, variant_cases}
 use Rattle.canon_plan.specs.Element.{row_of}
-use Rattle.canon_value.specs.Value.{IsLiftedFrom, AreLiftedFrom}
-use Rattle.canon_value.specs.declared.val.Val.{Val}
+use Rattle.canon_val.specs.Value.{IsLiftedFrom, AreLiftedFrom}
+use Rattle.canon_val.specs.declared.val.Val.{Val}
 
 -- the members of a value of the shape that has n of them; of a map they are keys and values
 abbrev pub parts_of : Shape → ℕ → Members

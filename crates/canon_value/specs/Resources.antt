@@ -16,10 +16,10 @@ use Rattle.canon_model.specs.Shape.{Members, Name, Shape, borrow, fixed, list, m
 use Rattle.canon_plan.specs.Element.{row_of}
 use Rattle.canon_resources.specs.Held.{Any}
 use Rattle.canon_types.specs.Instance.{Instance}
-use Rattle.canon_value.specs.Value.{case_names}
-use Rattle.canon_value.specs.declared.val.Val.{Val, fold-Val}
-use Rattle.canon_value.specs.declared.val.Val.TheOpen.{Val-F}
-use Rattle.canon_value.specs.declared.val.Val.TheVariants as val
+use Rattle.canon_val.specs.Value.{case_names}
+use Rattle.canon_val.specs.declared.val.Val.{Val, fold-Val}
+use Rattle.canon_val.specs.declared.val.Val.TheOpen.{Val-F}
+use Rattle.canon_val.specs.declared.val.Val.TheVariants as val
 
 -- ---- of values alone
 

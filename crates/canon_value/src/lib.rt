@@ -1,13 +1,10 @@
-//! Values, and how they are lowered to words and memory and lifted from them.
+//! How values are lowered to words and memory, and lifted from them.
 #![tactic(auto)]
 
 mod args;
 mod blocks;
 mod case_view;
-mod clone;
 mod elements;
-mod equal;
-mod equal_resources;
 mod flags;
 mod given;
 mod handles;
@@ -22,13 +19,16 @@ mod rebuild_case;
 mod results;
 mod scalar_bytes;
 mod store;
-mod val;
 mod view;
 
 pub use args::lower_args;
 pub use canon_context::{
     At, Component, Core, Export, Fault, HostcallFuelExhausted, Import, LiftContext, LowerContext,
 };
+pub use canon_val::Val;
 pub use given::{lower_results, results_area};
+pub use lift::lift_flat;
+pub use load::load;
+pub use lower::lower_flat;
 pub use results::{lift_args, lift_results};
-pub use val::Val;
+pub use store::store;

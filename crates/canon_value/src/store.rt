@@ -8,18 +8,18 @@ ghost use Rattle.canon_types.specs.Table.{Knows, shape_of};
 ghost use Rattle.canon_plan.specs.Plan.{shape_of_handle, type_of_handle};
 ghost use Rattle.canon_context.specs.Core.{encoding_by, guest_of, moment_of, types_of};
 ghost use Rattle.canon_plan.specs.Element.{IsKnown, list_shape};
-ghost use Rattle.canon_value.specs.Elements.{element_in, list_value};
-ghost use Rattle.canon_value.specs.Fails.{BlamesValue, IsSmall};
+ghost use Rattle.canon_val.specs.Elements.{element_in, list_value};
+ghost use Rattle.canon_val.specs.Fails.{BlamesValue, IsSmall};
 ghost use Rattle.canon_context.specs.Lowers.{ending_of};
 ghost use Rattle.canon_context.specs.Moves.{Moves};
 ghost use Rattle.canon_context.specs.Quiet.{has_block, has_handle};
-ghost use Rattle.canon_value.specs.Resources.{Crosses, QuietBut, passes};
+ghost use Rattle.canon_val.specs.Resources.{Crosses, QuietBut, passes};
 ghost use Rattle.canon_context.specs.Asks.{SameButHandles};
-ghost use Rattle.canon_value.specs.Stores.{PartsStoreTo, PlacesTo, StoresTo};
-ghost use Rattle.canon_value.specs.declared.val.Val.TheVariants as val;
-ghost use Rattle.canon_value.specs.Value.{HasTree};
-ghost use Rattle.canon_value.specs.View.{AreKnown, names_of, shapes_of, values_of};
-ghost use Rattle.canon_value.specs.Words.{IsWordOf};
+ghost use Rattle.canon_val.specs.Stores.{PartsStoreTo, PlacesTo, StoresTo};
+ghost use Rattle.canon_val.specs.declared.val.Val.TheVariants as val;
+ghost use Rattle.canon_val.specs.Value.{HasTree};
+ghost use Rattle.canon_val.specs.View.{AreKnown, names_of, shapes_of, values_of};
+ghost use Rattle.canon_val.specs.Words.{IsWordOf};
 
 use crate::blocks::{Placed, ask_items, place_text};
 use crate::elements::{Elements, element_count, element_of};
@@ -34,38 +34,36 @@ use canon_plan::{HandleType, element_abi};
 use canon_resources::ResourceAny;
 use canon_types::InterfaceType;
 
-impl Val {
-    /// Stores the value at an address of the guest's memory (CanonicalABI.md, "store"). Answers `TypeMismatch`,
-    /// `LengthMismatch`, `FieldName`, `UnknownCase`, `UnknownFlag`, `PayloadExpected` or `PayloadNotExpected` where the value
-    /// isn't of the type, `StringTooLong` or `SizeOverflow` where a block would be too large, and the faults of
-    /// `LowerContext::realloc`. A value of a type that reaches no text and no list asks the guest for nothing. At an error its place and its blocks may have changed.
-    pub fn store<T, G: Guest>(
-        &self,
-        cx: &mut LowerContext<'_, T, G>,
-        ty: InterfaceType,
-        offset: u64,
-    ) -> Result<(), Fault>
-        requires known { Knows (types_of cx.old.core.now) ty }
-        requires aligned { offset % align false (shape_of (types_of cx.old.core.now) ty) ≡ 0 }
-        requires room { offset + size false (shape_of (types_of cx.old.core.now) ty) ≤ length cx.old.core.now.memory }
-        ensures stored { Crosses cx.old.core.now.component.types (has_handle (shape_of (types_of cx.old.core.now) ty)) (passes self.now (shape_of (types_of cx.old.core.now) ty))
-            (λ hs ending. StoresValue false (moment_of G.seen cx.old.core.now) (moment_of G.seen cx.new.core.now) (encoding_by cx.old.core.now cx.old.options)
-            (shape_of (types_of cx.old.core.now) ty) offset (HasTree (shape_of (types_of cx.old.core.now) ty) self.now) hs ending)
-            cx.old.core.now.ledger cx.new.core.now.ledger result }
-        ensures cause { IfErr result (BlamesValue (encoding_by cx.old.core.now cx.old.options) (shape_of (types_of cx.old.core.now) ty) self.now) }
-        ensures small { OnOk result (IsSmall (encoding_by cx.old.core.now cx.old.options) (shape_of (types_of cx.old.core.now) ty) self.now) }
-        ensures quiet { QuietBut (has_handle (shape_of (types_of cx.old.core.now) ty)) (passes self.now (shape_of (types_of cx.old.core.now) ty)) (has_block (shape_of (types_of cx.old.core.now) ty))
-            (cx.new.core.now.guest ≡ cx.old.core.now.guest) result }
-        ensures moves { Moves G.seen G.moves (guest_of cx.old.core.now) (guest_of cx.new.core.now) (ending_of result) }
-        ensures same_core { SameButHandles cx.old.core.now cx.new.core.now }
-        ensures same_reference { cx.new.core.ghost_name ≡ cx.old.core.ghost_name }
-        ensures same_options { cx.new.options ≡ cx.old.options }
-    {
-        let _memory = cx.core.memory(); // memory has at most 2^32 bytes
-        match store_value(cx, self, ty, offset, 0) {
-            Ok(_) => Ok(()),
-            Err(fault) => Err(told(fault)),
-        }
+/// Stores the value at an address of the guest's memory (CanonicalABI.md, "store"). Answers `TypeMismatch`,
+/// `LengthMismatch`, `FieldName`, `UnknownCase`, `UnknownFlag`, `PayloadExpected` or `PayloadNotExpected` where the value
+/// isn't of the type, `StringTooLong` or `SizeOverflow` where a block would be too large, and the faults of
+/// `LowerContext::realloc`. A value of a type that reaches no text and no list asks the guest for nothing. At an error its place and its blocks may have changed.
+pub fn store<T, G: Guest>(
+    value: &Val,
+    cx: &mut LowerContext<'_, T, G>,
+    ty: InterfaceType,
+    offset: u64,
+) -> Result<(), Fault>
+    requires known { Knows (types_of cx.old.core.now) ty }
+    requires aligned { offset % align false (shape_of (types_of cx.old.core.now) ty) ≡ 0 }
+    requires room { offset + size false (shape_of (types_of cx.old.core.now) ty) ≤ length cx.old.core.now.memory }
+    ensures stored { Crosses cx.old.core.now.component.types (has_handle (shape_of (types_of cx.old.core.now) ty)) (passes value.now (shape_of (types_of cx.old.core.now) ty))
+        (λ hs ending. StoresValue false (moment_of G.seen cx.old.core.now) (moment_of G.seen cx.new.core.now) (encoding_by cx.old.core.now cx.old.options)
+        (shape_of (types_of cx.old.core.now) ty) offset (HasTree (shape_of (types_of cx.old.core.now) ty) value.now) hs ending)
+        cx.old.core.now.ledger cx.new.core.now.ledger result }
+    ensures cause { IfErr result (BlamesValue (encoding_by cx.old.core.now cx.old.options) (shape_of (types_of cx.old.core.now) ty) value.now) }
+    ensures small { OnOk result (IsSmall (encoding_by cx.old.core.now cx.old.options) (shape_of (types_of cx.old.core.now) ty) value.now) }
+    ensures quiet { QuietBut (has_handle (shape_of (types_of cx.old.core.now) ty)) (passes value.now (shape_of (types_of cx.old.core.now) ty)) (has_block (shape_of (types_of cx.old.core.now) ty))
+        (cx.new.core.now.guest ≡ cx.old.core.now.guest) result }
+    ensures moves { Moves G.seen G.moves (guest_of cx.old.core.now) (guest_of cx.new.core.now) (ending_of result) }
+    ensures same_core { SameButHandles cx.old.core.now cx.new.core.now }
+    ensures same_reference { cx.new.core.ghost_name ≡ cx.old.core.ghost_name }
+    ensures same_options { cx.new.options ≡ cx.old.options }
+{
+    let _memory = cx.core.memory(); // memory has at most 2^32 bytes
+    match store_value(cx, value, ty, offset, 0) {
+        Ok(_) => Ok(()),
+        Err(fault) => Err(told(fault)),
     }
 }
 

@@ -1,8 +1,8 @@
 use Rattle.std.proofs.Common.{◌≡◌, ◌∙◌, ◌==◌, ℕ, Bool, Box, Global, Some, ap, if◌then◌else◌, sym}
 use Rattle.std.proofs.lemmas.Bool.{ne_eqb}
-use Rattle.canon_value.specs.declared.val.Val.{Val, fold-roll-Val}
-use Rattle.canon_value.specs.declared.val.Val.TheOpen.{Val-F}
-use Rattle.canon_value.specs.declared.val.Val.TheVariants as val
+use Rattle.canon_val.specs.declared.val.Val.{Val, fold-roll-Val}
+use Rattle.canon_val.specs.declared.val.Val.TheOpen.{Val-F}
+use Rattle.canon_val.specs.declared.val.Val.TheVariants as val
 use Rattle.canon_script.proofs.Views.{literal-Option}
 use Rattle.canon_script.specs.Literals.{Literal, bool, literal_step, literal_view, no_payload, option, with_payload}
 use Rattle.canon_gen.specs.Records.{switch}

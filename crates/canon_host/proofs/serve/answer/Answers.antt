@@ -3,7 +3,7 @@ use Rattle.std.specs.Prelude.{replicate}
 use Rattle.canon_types.specs.Table.{Table, tuple_members}
 use Rattle.canon_context.specs.declared.component.Component.{Component}
 use Rattle.canon_model.specs.Shape.{member_count}
-use Rattle.canon_value.specs.declared.val.Val.TheVariants as val
+use Rattle.canon_val.specs.declared.val.Val.TheVariants as val
 use Rattle.canon_host.proofs.Serving.{answered_err, answered_ok, past, whole}
 use Rattle.canon_host.proofs.serve.answer.Goals as goal
 

@@ -1,6 +1,6 @@
 use Rattle.std.proofs.Common.{false, ◌++◌, ◌≡◌}
 use Rattle.std.specs.Prelude.{replicate}
-use Rattle.canon_value.specs.declared.val.Val.TheVariants as val
+use Rattle.canon_val.specs.declared.val.Val.TheVariants as val
 use Rattle.canon_host.proofs.serve.with_slots.Given as goal
 
 abbrev pub invariant-loop : goal.invariant-loop

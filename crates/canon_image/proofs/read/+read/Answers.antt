@@ -13,7 +13,7 @@ use Rattle.canon_types.specs.declared.types.InterfaceType.TheVariants as ty
 use Rattle.canon_plan.specs.NoHandle.{HaveNoHandle, HasNoHandle}
 use Rattle.canon_plan.specs.Plan.{members_from, shapes_of}
 use Rattle.canon_plan.proofs.Pairs.{key_known, map_shape, value_known}
-use Rattle.canon_value.specs.declared.val.Val.{Val}
+use Rattle.canon_val.specs.declared.val.Val.{Val}
 use Rattle.canon_value.proofs.Viewing.{lies_no_handle, lies_depth}
 use Rattle.canon_value.proofs.WalkLoops.{member_shallow}
 use Rattle.canon_value.proofs.Walks.{copies_no_handle, copies_deepest}

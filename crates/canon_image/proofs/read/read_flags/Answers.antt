@@ -8,7 +8,7 @@ use Rattle.canon_model.specs.Tree.{bits}
 use Rattle.canon_types.specs.Table.{shape_of}
 use Rattle.canon_types.specs.declared.types.InterfaceType.TheVariants as ty
 use Rattle.canon_value.specs.Flags.{flag_names, names_in_flags}
-use Rattle.canon_value.specs.Value.{IsLiftedFrom}
+use Rattle.canon_val.specs.Value.{IsLiftedFrom}
 use Rattle.canon_value.proofs.FlagNames.{flags_are}
 use Rattle.canon_value.proofs.FlagSteps.{flags_bytes}
 use Rattle.canon_image.proofs.CaseReading.{flags_many}

@@ -5,7 +5,7 @@ use Rattle.canon_types.specs.Keeps.{names_of}
 use Rattle.canon_types.specs.Table.{shape_of}
 use Rattle.canon_types.specs.declared.types.InterfaceType.TheVariants as ty
 use Rattle.canon_value.specs.Flags.{flag_names}
-use Rattle.canon_value.specs.declared.val.Val.TheVariants as val
+use Rattle.canon_val.specs.declared.val.Val.TheVariants as val
 use Rattle.canon_value.proofs.FlagNames.{flags_are}
 use Rattle.canon_value.proofs.FlagSteps.{flags_bytes}
 use Rattle.canon_image.proofs.Flagging.{filled, flags_told, whole}

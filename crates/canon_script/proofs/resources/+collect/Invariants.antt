@@ -2,7 +2,7 @@
 use Rattle.std.proofs.Common.{◌≡◌, ◌++◌, drop}
 use Rattle.canon_script.specs.Resources.{pair_resources}
 use Rattle.canon_value.specs.Resources.{all_resources}
-use Rattle.canon_value.specs.Value.{values_in}
+use Rattle.canon_val.specs.Value.{values_in}
 use Rattle.canon_script.proofs.resources.+collect.Given as goal
 
 abbrev pub invariant-collect_row-loop-value : goal.invariant-collect_row-loop-value

@@ -2,7 +2,7 @@ use Rattle.std.proofs.Common.{Option, Some, map, option_and_then, ap, arith, ref
 use Rattle.serde_json.specs.Find.{as_array, as_str}
 use Rattle.serde_json.specs.View.{view}
 use Rattle.canon_json.specs.Json.{Gives, each_of}
-use Rattle.canon_value.specs.declared.val.Val.TheVariants as val
+use Rattle.canon_val.specs.declared.val.Val.TheVariants as val
 use Rattle.canon_script.specs.Literals.{Literal, enum, fields_view, fixed, flags, list, literal_view, literals_of, literals_view, option, pair_view, pairs, pairs_of, pairs_view, payload_view, text, tuple}
 use Rattle.canon_script.specs.Values.{optional_of, pair_of, pairs_in, value_by, value_of, values_of}
 use Rattle.canon_script.specs.declared.kinds.ValueKind.TheVariants as kind

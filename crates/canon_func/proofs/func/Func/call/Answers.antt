@@ -1,7 +1,7 @@
 use Rattle.std.proofs.Common.{List, Ok, subst, sym, ◌∙◌, ◌≡◌}
 use Rattle.std.specs.Prelude.{IfSome}
 use Rattle.canon_context.specs.Core.{guest_of, moment_of}
-use Rattle.canon_value.specs.declared.val.Val.{Val}
+use Rattle.canon_val.specs.declared.val.Val.{Val}
 use Rattle.canon_host.specs.HostSide.{host_side}
 use Rattle.canon_func.specs.Asks.{allowed}
 use Rattle.canon_func.specs.Call.{Adding, IsCallOf, dynamic, dynamic_results}

@@ -1,0 +1,4 @@
+pub mod Equality
+pub mod Copied
+pub mod KeyedData
+pub mod HandleValues

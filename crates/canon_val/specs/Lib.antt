@@ -1,0 +1,4 @@
+pub mod Equal
+pub mod EqualLaws
+pub mod Laws
+pub mod Value
