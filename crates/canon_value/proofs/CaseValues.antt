@@ -11,13 +11,13 @@ use Rattle.canon_types.specs.Table.{EnumType, IsDefined, Table, all_shapes, case
 use Rattle.canon_types.specs.Valid.{NamesDiffer}
 use Rattle.canon_types.specs.declared.types.InterfaceType.{InterfaceType}
 use Rattle.canon_types.specs.declared.types.InterfaceType.TheVariants as ty
-use Rattle.canon_val.specs.Plan.{IsCaseRebuilt}
+use Rattle.canon_value.specs.Plan.{IsCaseRebuilt}
 use Rattle.canon_val.specs.Value.{IsLiftedFrom, IsCase, IsFirst, case_names}
 use Rattle.canon_val.specs.declared.val.Val.{Val}
 use Rattle.canon_plan.proofs.CasePlans.{as_cases}
 use Rattle.canon_plan.proofs.Flats.{bare_members}
-use Rattle.canon_val.proofs.CaseViews.{enum_names}
-use Rattle.canon_val.proofs.Cases.{case_has}
+use Rattle.canon_value.proofs.CaseViews.{enum_names}
+use Rattle.canon_value.proofs.Cases.{case_has}
 
 pub one_payload : (cs : Cases) (i : ℕ) → member_count (case_members cs i) ≤ 1
 one_payload no_cases i = omega arith

@@ -24,23 +24,23 @@ use Rattle.canon_types.specs.Depth.{variant_cases}
 use Rattle.canon_types.specs.Keeps.{cases_type}
 use Rattle.canon_types.specs.Table.{Knows, KnowsPayload, ResultType, Table, all_shapes, cases_in, parts, payload_in, shape_of}
 use Rattle.canon_types.specs.declared.types.InterfaceType.{InterfaceType}
-use Rattle.canon_val.specs.CaseView.{IsPayload, Misses}
-use Rattle.canon_val.specs.Fails.{Blames, FailsAt, payload_expected, payload_not_expected, unknown_case}
+use Rattle.canon_value.specs.CaseView.{IsPayload, Misses}
+use Rattle.canon_value.specs.Fails.{Blames, FailsAt, payload_expected, payload_not_expected, unknown_case}
 use Rattle.canon_context.specs.Lowers.{fault_ending}
-use Rattle.canon_val.specs.Resources.{ledger_fault}
+use Rattle.canon_value.specs.Resources.{ledger_fault}
 use Rattle.canon_val.specs.Value.{IsCase, IsFirst, case_names, member_names, result_case, result_payload, unboxed}
-use Rattle.canon_val.specs.View.{AreKnown, IsMember, names_of, shapes_of, values_of}
-use Rattle.canon_val.specs.Viewed.{IsCaseSeen}
+use Rattle.canon_value.specs.View.{AreKnown, IsMember, names_of, shapes_of, values_of}
+use Rattle.canon_value.specs.Viewed.{IsCaseSeen}
 use Rattle.canon_context.specs.declared.fault.Fault.{Fault}
 use Rattle.canon_context.specs.declared.fault.Fault.TheVariants as fault
-use Rattle.canon_val.specs.declared.members.Member.{Member}
-use Rattle.canon_val.specs.declared.members.Members.{Members as Parts}
-use Rattle.canon_val.specs.declared.members.Members.TheVariants as members
+use Rattle.canon_value.specs.declared.members.Member.{Member}
+use Rattle.canon_value.specs.declared.members.Members.{Members as Parts}
+use Rattle.canon_value.specs.declared.members.Members.TheVariants as members
 use Rattle.canon_val.specs.declared.val.Val.{Val}
 use Rattle.canon_val.specs.declared.val.Val.TheVariants as val
-use Rattle.canon_val.proofs.Cases.{Both, first_below, same_enum, same_variant}
+use Rattle.canon_value.proofs.Cases.{Both, first_below, same_enum, same_variant}
 use Rattle.canon_plan.proofs.Flats.{first_known, second_known, bare_members, two_cases}
-use Rattle.canon_val.proofs.Steps.{own_failure}
+use Rattle.canon_value.proofs.Steps.{own_failure}
 use Rattle.canon_model.specs.Text.{Encoding}
 
 -- of one member without a name

@@ -11,14 +11,14 @@ use Rattle.canon_model.specs.Text.{Encoding}
 use Rattle.canon_model.specs.Tree.{Trees, no_trees, tree}
 use Rattle.canon_types.specs.Depth.{deepest, deepest_case}
 use Rattle.canon_plan.specs.NoHandle.{HaveNoHandle, cases_have_no_handle, has_no_handle}
-use Rattle.canon_val.specs.Fails.{CaseFails, Failure, IsOtherCase, MemberFails}
+use Rattle.canon_value.specs.Fails.{CaseFails, Failure, IsOtherCase, MemberFails}
 use Rattle.canon_context.specs.Quiet.{cases_have_block, has_block, have_block}
 use Rattle.canon_val.specs.Value.{CaseHas, IsCase, IsFirst, all_places, case_names, places, result_case, result_payload, unboxed, HaveTreesAs}
 use Rattle.canon_val.specs.declared.val.Val.{Val, out-Val, the_lemmas}
 use Rattle.canon_val.specs.declared.val.Val.TheOpen.{Val-F as F}
 use Rattle.canon_val.specs.declared.val.Val.TheVariants as val
 use Rattle.canon_plan.proofs.Lookups.{both}
-use Rattle.canon_val.proofs.Steps.{no_first, no_later}
+use Rattle.canon_value.proofs.Steps.{no_first, no_later}
 
 -- ---- the payload of a case, as members
 

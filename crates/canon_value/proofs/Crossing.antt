@@ -12,9 +12,9 @@ use Rattle.canon_lowering.specs.Lowering.{Ending, refused}
 use Rattle.canon_memory.specs.Guest.{GuestIn}
 use Rattle.canon_model.specs.Text.{Encoding}
 use Rattle.canon_types.specs.Instance.{Instance}
-use Rattle.canon_val.proofs.Passing.{Ended}
-use Rattle.canon_val.specs.Fails.{Blames, Failure}
-use Rattle.canon_val.specs.Resources.{Crosses, EndsAs, UsesLedger, ledger_fault, stop_of, told_fault}
+use Rattle.canon_value.proofs.Passing.{Ended}
+use Rattle.canon_value.specs.Fails.{Blames, Failure}
+use Rattle.canon_value.specs.Resources.{Crosses, EndsAs, UsesLedger, ledger_fault, stop_of, told_fault}
 
 -- want of the ledger's memory, inside
 abbrev wanting : Fault

@@ -2,7 +2,7 @@
 use Rattle.std.proofs.Common.{◌≡◌, ◌<◌, ◌+◌, ◌-◌, ◌*◌, ◌/◌, ◌%◌, ◌^◌, ◌∙◌, List, ap, arith, length, refl, slice_index, subst, suc, sym, zero, ℕ, ⊎_elim, length-set, set}
 use Rattle.std.specs.Int.{bit_at}
 use Rattle.std.proofs.lemmas.List.{get_or-set_other, get_or-set_same}
-use Rattle.canon_val.specs.Flags.{SetsBit}
+use Rattle.canon_value.specs.Flags.{SetsBit}
 use Rattle.std.proofs.Math.Nat.{div-add-mod, mod-lt, mul-add, mul_assoc, pow-succ'}
 use Rattle.std.proofs.lemmas.Bool.{cases_eq, cases_lt}
 use Rattle.std.proofs.lemmas.Nat.Bits.{bit_at-suc, bit_at-zero, bit_at_lowest}

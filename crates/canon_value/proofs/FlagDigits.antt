@@ -6,10 +6,10 @@ use Rattle.canon_lowering.specs.Storing.{narrow}
 use Rattle.canon_model.specs.Flat.{low_number}
 use Rattle.canon_model.specs.Layout.{flag_words, flags_size}
 use Rattle.canon_model.specs.Memory.{bytes_at, le_number, low, num}
-use Rattle.canon_val.specs.Flags.{HasPlace, HasRoom, digit_of, marked_number, width_of}
-use Rattle.canon_val.specs.declared.flags.Marks.{Marks}
-use Rattle.canon_val.specs.declared.flags.Marks.TheVariants as marks
-use Rattle.canon_val.proofs.FlagBits.{digit_bit, digits}
+use Rattle.canon_value.specs.Flags.{HasPlace, HasRoom, digit_of, marked_number, width_of}
+use Rattle.canon_value.specs.declared.flags.Marks.{Marks}
+use Rattle.canon_value.specs.declared.flags.Marks.TheVariants as marks
+use Rattle.canon_value.proofs.FlagBits.{digit_bit, digits}
 
 pub num_digits : (xs : List ℕ) (n at : ℕ) → at + n ≤ length xs → num (narrow xs) at n ≡ digits 8 (λ i. slice_index xs i) at n
 unfolding bytes_at

@@ -9,10 +9,10 @@ use Rattle.canon_model.specs.Reach.{StoredFault, flat_reach, reach_cost}
 use Rattle.canon_model.specs.Shape.{Name, Shape, flags}
 use Rattle.canon_model.specs.Text.{Encoding}
 use Rattle.canon_model.specs.Tree.{bits}
-use Rattle.canon_val.specs.Flags.{AreFlags, AreUnpaid}
-use Rattle.canon_val.specs.Lifts.{LiftsTo}
+use Rattle.canon_value.specs.Flags.{AreFlags, AreUnpaid}
+use Rattle.canon_value.specs.Lifts.{LiftsTo}
 use Rattle.canon_context.specs.Told.{Exactly, LiftBlames}
-use Rattle.canon_val.specs.Loads.{IsLoaded}
+use Rattle.canon_value.specs.Loads.{IsLoaded}
 use Rattle.canon_context.specs.declared.fault.Fault.{Fault}
 use Rattle.canon_val.specs.declared.val.Val.{Val}
 

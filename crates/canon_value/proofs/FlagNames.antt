@@ -22,9 +22,9 @@ use Rattle.canon_types.specs.Table.{IsDefined, Table, shape_of}
 use Rattle.canon_types.specs.Valid.{NamesDiffer}
 use Rattle.canon_types.specs.declared.types.InterfaceType.TheVariants as ty
 use Rattle.canon_types.specs.declared.types.TypeFlags.{TypeFlags}
-use Rattle.canon_val.specs.Flags.{AreSet, flag_names, names_in_flags}
+use Rattle.canon_value.specs.Flags.{AreSet, flag_names, names_in_flags}
 use Rattle.canon_val.specs.Value.{AreMarked, Occurs, chosen}
-use Rattle.canon_val.proofs.FlagBits.{Gains}
+use Rattle.canon_value.proofs.FlagBits.{Gains}
 
 -- ---- what occurs
 

@@ -10,14 +10,14 @@ use Rattle.canon_model.specs.Cost.{set_length}
 use Rattle.canon_model.specs.Rep.{bits_of}
 use Rattle.canon_model.specs.Shape.{Name, Shape, flags}
 use Rattle.canon_types.specs.Keeps.{names_of}
-use Rattle.canon_val.specs.Flags.{AreFlags, AreUnpaid, HasRoom, digit_of, marked_number, width_of}
+use Rattle.canon_value.specs.Flags.{AreFlags, AreUnpaid, HasRoom, digit_of, marked_number, width_of}
 use Rattle.canon_val.specs.Value.{chosen}
 use Rattle.canon_context.specs.declared.fault.Fault.{Fault}
 use Rattle.canon_context.specs.declared.fault.Fault.TheVariants as fault
-use Rattle.canon_val.specs.declared.flags.Marks.{Marks}
+use Rattle.canon_value.specs.declared.flags.Marks.{Marks}
 use Rattle.canon_val.specs.declared.val.Val.TheVariants as val
-use Rattle.canon_val.proofs.FlagDigits.{bit_read}
-use Rattle.canon_val.proofs.FlagNames.{Differ, bits_count, bits_from, chosen_known, chosen_marked, chosen_set, chosen_unset}
+use Rattle.canon_value.proofs.FlagDigits.{bit_read}
+use Rattle.canon_value.proofs.FlagNames.{Differ, bits_count, bits_from, chosen_known, chosen_marked, chosen_set, chosen_unset}
 
 -- the bits of these names
 abbrev pub bits_in : Marks → List Name → List Bool

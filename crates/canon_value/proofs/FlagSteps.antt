@@ -22,20 +22,20 @@ use Rattle.canon_types.specs.Table.{IsDefined, Table, shape_of}
 use Rattle.canon_types.specs.declared.types.InterfaceType.TheVariants as ty
 use Rattle.canon_types.specs.declared.types.TypeFlags.{TypeFlags}
 use Rattle.canon_context.specs.Core.{Parts, encoding_by, guest_of, moment_of, types_of}
-use Rattle.canon_val.specs.Flags.{AreSetInWords, SetsBit, SomeUnknown, flag_names}
-use Rattle.canon_val.proofs.Passing.{flags_none, passes_none, passes_stopped}
-use Rattle.canon_val.specs.Resources.{passes}
-use Rattle.canon_val.specs.Stores.{StoresTo}
+use Rattle.canon_value.specs.Flags.{AreSetInWords, SetsBit, SomeUnknown, flag_names}
+use Rattle.canon_value.proofs.Passing.{flags_none, passes_none, passes_stopped}
+use Rattle.canon_value.specs.Resources.{passes}
+use Rattle.canon_value.specs.Stores.{StoresTo}
 use Rattle.canon_val.specs.Value.{HasTree, cap}
-use Rattle.canon_val.specs.Words.{LowersTo, WordsStay}
+use Rattle.canon_value.specs.Words.{LowersTo, WordsStay}
 use Rattle.canon_context.specs.declared.fault.Fault.TheVariants as fault
-use Rattle.canon_val.specs.declared.lower.Spot.{Spot}
+use Rattle.canon_value.specs.declared.lower.Spot.{Spot}
 use Rattle.canon_val.specs.declared.val.Val.TheVariants as val
-use Rattle.canon_val.proofs.FlagNames.{Differ, flags_are, marked_all, names_are}
-use Rattle.canon_val.proofs.FlagWriting.{AreStored, stored_begin, stored_more}
-use Rattle.canon_val.proofs.MapsAndFlags.{places_flags, any_order}
+use Rattle.canon_value.proofs.FlagNames.{Differ, flags_are, marked_all, names_are}
+use Rattle.canon_value.proofs.FlagWriting.{AreStored, stored_begin, stored_more}
+use Rattle.canon_value.proofs.MapsAndFlags.{places_flags, any_order}
 use Rattle.canon_context.proofs.Moves.{GuestLaws, moves_none, moves_written}
-use Rattle.canon_val.proofs.Sizes.{flags_small}
+use Rattle.canon_value.proofs.Sizes.{flags_small}
 use Rattle.canon_context.proofs.Cores.{written_whole}
 
 -- how many bytes flags take

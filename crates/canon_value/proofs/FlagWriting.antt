@@ -17,12 +17,12 @@ use Rattle.canon_model.specs.Flat.{low_number}
 use Rattle.canon_model.specs.Layout.{flag_words, flags_size}
 use Rattle.canon_model.specs.Memory.{low, num}
 use Rattle.canon_model.specs.Shape.{Name}
-use Rattle.canon_val.specs.Flags.{AreSetInWords, SetsBit, SomeUnknown}
+use Rattle.canon_value.specs.Flags.{AreSetInWords, SetsBit, SomeUnknown}
 use Rattle.canon_val.specs.Value.{Occurs}
-use Rattle.canon_val.specs.Words.{WordsStay}
-use Rattle.canon_val.proofs.FlagBits.{Gains, digit_gains, digits, digits_none, digits_same}
-use Rattle.canon_val.proofs.FlagDigits.{byte_inside, num_digits, word_inside, words_digits}
-use Rattle.canon_val.proofs.FlagNames.{Differ, IsMarked, marked_all, marked_more, marked_none}
+use Rattle.canon_value.specs.Words.{WordsStay}
+use Rattle.canon_value.proofs.FlagBits.{Gains, digit_gains, digits, digits_none, digits_same}
+use Rattle.canon_value.proofs.FlagDigits.{byte_inside, num_digits, word_inside, words_digits}
+use Rattle.canon_value.proofs.FlagNames.{Differ, IsMarked, marked_all, marked_more, marked_none}
 
 -- ---- a digit that gains a bit
 

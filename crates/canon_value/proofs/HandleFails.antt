@@ -2,8 +2,8 @@
 use Rattle.std.proofs.Common.{◌≡◌, ℕ}
 use Rattle.canon_model.specs.Shape.{borrow, own}
 use Rattle.canon_resources.specs.Held.{Any}
-use Rattle.canon_val.specs.Fails.{Failure, Fails}
-use Rattle.canon_val.specs.Fails.{field_name, mismatch, overflow, payload_expected, payload_not_expected, too_long, unknown_case, unknown_flag, wrong_length}
+use Rattle.canon_value.specs.Fails.{Failure, Fails}
+use Rattle.canon_value.specs.Fails.{field_name, mismatch, overflow, payload_expected, payload_not_expected, too_long, unknown_case, unknown_flag, wrong_length}
 use Rattle.canon_val.specs.declared.val.Val.{Val}
 use Rattle.canon_val.specs.declared.val.Val.TheVariants as val
 

@@ -28,10 +28,10 @@ use Rattle.canon_resources.specs.Held.{Any}
 use Rattle.canon_types.specs.Instance.{Instance}
 use Rattle.canon_types.specs.Table.{HasResource, Knows, Table, shape_of}
 use Rattle.canon_types.specs.declared.types.InterfaceType.{InterfaceType}
-use Rattle.canon_val.proofs.ResourcesOf.{resources_resource}
-use Rattle.canon_val.specs.Lifts.{IsOfWords, LiftsTo}
-use Rattle.canon_val.specs.Loads.{IsLoaded}
-use Rattle.canon_val.specs.Resources.{LiftsHandles, TakesHandle, resources, told_fault}
+use Rattle.canon_value.proofs.ResourcesOf.{resources_resource}
+use Rattle.canon_value.specs.Lifts.{IsOfWords, LiftsTo}
+use Rattle.canon_value.specs.Loads.{IsLoaded}
+use Rattle.canon_value.specs.Resources.{LiftsHandles, TakesHandle, resources, told_fault}
 use Rattle.canon_val.specs.declared.val.Val.{Val}
 use Rattle.canon_val.specs.declared.val.Val.TheVariants as val
 

@@ -28,13 +28,13 @@ use Rattle.canon_model.specs.Text.{Encoding}
 use Rattle.canon_plan.specs.Plan.{shaped_handle}
 use Rattle.canon_resources.specs.Held.{Any}
 use Rattle.canon_types.specs.Instance.{Instance}
-use Rattle.canon_val.proofs.Passing.{Ended, Took}
-use Rattle.canon_val.specs.Fails.{IsSmall}
-use Rattle.canon_val.specs.Resources.{passes}
-use Rattle.canon_val.specs.Stores.{StoresTo}
+use Rattle.canon_value.proofs.Passing.{Ended, Took}
+use Rattle.canon_value.specs.Fails.{IsSmall}
+use Rattle.canon_value.specs.Resources.{passes}
+use Rattle.canon_value.specs.Stores.{StoresTo}
 use Rattle.canon_val.specs.Value.{HasTree, cap, places}
-use Rattle.canon_val.specs.Words.{LowersTo}
-use Rattle.canon_val.specs.declared.lower.Spot.{Spot}
+use Rattle.canon_value.specs.Words.{LowersTo}
+use Rattle.canon_value.specs.declared.lower.Spot.{Spot}
 use Rattle.canon_val.specs.declared.val.Val.{Val, the_lemmas}
 use Rattle.canon_val.specs.declared.val.Val.TheVariants as val
 

@@ -15,18 +15,18 @@ use Rattle.canon_types.specs.Depth.{deepest, depth, variant_cases}
 use Rattle.canon_types.specs.Table.{Table}
 use Rattle.std.specs.Prelude.{slice_index}
 use Rattle.canon_plan.specs.CasePlan.{IsCaseSlots, case_name_cost, name_charge}
-use Rattle.canon_val.specs.Lifts.{AreTaken, LiftsTo}
+use Rattle.canon_value.specs.Lifts.{AreTaken, LiftsTo}
 use Rattle.canon_context.specs.Told.{LiftBlames, ToldAt}
-use Rattle.canon_val.specs.Plan.{IsCaseRebuilt}
+use Rattle.canon_value.specs.Plan.{IsCaseRebuilt}
 use Rattle.canon_plan.specs.Plan.{IsVariant, shapes_of}
 use Rattle.canon_plan.specs.declared.case_plan.CaseSlots.{CaseSlots}
 use Rattle.canon_context.specs.declared.fault.Fault.{Fault}
 use Rattle.canon_context.specs.declared.fault.Fault.TheVariants as fault
 use Rattle.canon_val.specs.declared.val.Val.{Val}
-use Rattle.canon_val.proofs.LoadCases.{payload_nameless, variant_charges, variant_depth}
-use Rattle.canon_val.proofs.LeavesAt.{payload_flat_leaves}
+use Rattle.canon_value.proofs.LoadCases.{payload_nameless, variant_charges, variant_depth}
+use Rattle.canon_value.proofs.LeavesAt.{payload_flat_leaves}
 use Rattle.canon_context.proofs.Told.{told_by}
-use Rattle.canon_val.proofs.Values.{have_count}
+use Rattle.canon_value.proofs.Values.{have_count}
 
 case_words : (cs : Cases) (i : ℕ) → members_flat (case_members cs i) ≤ cases_flat cs
 unfolding flat

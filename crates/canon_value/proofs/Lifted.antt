@@ -15,7 +15,7 @@ use Rattle.canon_ledger.specs.declared.fault.ResourceFault.{ResourceFault}
 use Rattle.canon_model.specs.Leaves.{Leaf}
 use Rattle.canon_resources.specs.Held.{Any}
 use Rattle.canon_types.specs.Instance.{Instance}
-use Rattle.canon_val.specs.Resources.{LiftsHandles, all_resources, joined, resources, stop_of}
+use Rattle.canon_value.specs.Resources.{LiftsHandles, all_resources, joined, resources, stop_of}
 use Rattle.canon_val.specs.declared.val.Val.{Val}
 
 -- ---- faults

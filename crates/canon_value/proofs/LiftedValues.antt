@@ -7,20 +7,20 @@ use Rattle.canon_model.specs.Shape.{Cases, Members, Name, ProductKind, Shape, Va
 use Rattle.canon_model.specs.Shape.{of_cases, of_fields, of_items, of_names, of_option, of_pairs, of_places, of_result, own, payload, product, scalar, string, variant}
 use Rattle.canon_model.specs.Tree.{Tree, Trees, bits, case_number, items, no_trees, parts, text, tree}
 use Rattle.canon_resources.specs.Held.{Any}
-use Rattle.canon_val.specs.Elements.{by_turns}
+use Rattle.canon_value.specs.Elements.{by_turns}
 use Rattle.canon_val.specs.Equal as equal
 use Rattle.canon_val.specs.Equal.{Data, Datas, data_of, no_data, pair_data, row, value}
-use Rattle.canon_val.specs.Laws.{OneValue}
-use Rattle.canon_val.specs.Resources.{all_resources, joined, resources}
+use Rattle.canon_value.specs.Laws.{OneValue}
+use Rattle.canon_value.specs.Resources.{all_resources, joined, resources}
 use Rattle.canon_val.specs.Value.{AreLiftedFrom, CaseHas, EachHas, HasTree, HaveTrees, IsCase, IsFixed, IsFlags, IsItems, IsLiftedFrom}
 use Rattle.canon_val.specs.Value.{IsPairs, IsProduct, IsText, PairHas, chosen, member_names, result_case, result_payload, unboxed}
 use Rattle.canon_val.specs.declared.val.Val.{Val, the_lemmas}
 use Rattle.canon_val.specs.declared.val.Val.TheVariants as val
-use Rattle.canon_val.proofs.Cases.{Both, Payload, case_back, same_some}
+use Rattle.canon_value.proofs.Cases.{Both, Payload, case_back, same_some}
 use Rattle.canon_val.proofs.Copied.{flags_copied, map_copied, record_copied}
-use Rattle.canon_val.proofs.MapsAndFlags.{any_order}
-use Rattle.canon_val.proofs.OneValue.{scalar_value, trees_one, values_one}
-use Rattle.canon_val.proofs.ResourcesOf.{case_resources, flags_have_none, pair_resources, product_resources, resources_fixed, resources_list, resources_resource, scalar_has_none, text_has_none}
+use Rattle.canon_value.proofs.MapsAndFlags.{any_order}
+use Rattle.canon_value.proofs.OneValue.{scalar_value, trees_one, values_one}
+use Rattle.canon_value.proofs.ResourcesOf.{case_resources, flags_have_none, pair_resources, product_resources, resources_fixed, resources_list, resources_resource, scalar_has_none, text_has_none}
 
 -- ---- they are values
 

@@ -12,19 +12,19 @@ use Rattle.canon_model.specs.Shape.{Members, Shape, borrow, fixed, flags, list, 
 use Rattle.canon_model.specs.Text.{Encoding}
 use Rattle.canon_types.specs.Table.{Table, members_of}
 use Rattle.canon_types.specs.declared.types.InterfaceType.{InterfaceType}
-use Rattle.canon_val.specs.Lifts.{ArePartsLifted, AreTaken, LiftsTo, MembersLiftTo, PartsLiftTo}
+use Rattle.canon_value.specs.Lifts.{ArePartsLifted, AreTaken, LiftsTo, MembersLiftTo, PartsLiftTo}
 use Rattle.canon_context.specs.Told.{LiftBlames, ToldAt}
-use Rattle.canon_val.specs.Plan.{IsRebuilt, parts_of, whole}
+use Rattle.canon_value.specs.Plan.{IsRebuilt, parts_of, whole}
 use Rattle.canon_plan.specs.Plan.{Unnamed, LiesAs}
 use Rattle.canon_context.specs.declared.fault.Fault.{Fault}
 use Rattle.canon_context.specs.declared.fault.Fault.TheVariants as fault
 use Rattle.canon_val.specs.declared.val.Val.{Val}
-use Rattle.canon_val.proofs.LeavesAt.{fixed_flat_leaves}
+use Rattle.canon_value.proofs.LeavesAt.{fixed_flat_leaves}
 use Rattle.canon_context.proofs.Told.{told_by}
-use Rattle.canon_val.proofs.LoadingParts.{copies_cost, copies_nameless}
+use Rattle.canon_value.proofs.LoadingParts.{copies_cost, copies_nameless}
 use Rattle.canon_plan.proofs.TypeKinds.{no_length}
 use Rattle.canon_plan.proofs.Lookups.{copies_count}
-use Rattle.canon_val.proofs.Values.{have_count}
+use Rattle.canon_value.proofs.Values.{have_count}
 
 module _ (enc : Encoding) (m : Memory) (ws : List ℕ) where
   copies_flat_reach : (n i : ℕ) (s : Shape) → members_flat_reach enc m ws (copies n s) i ≡ sum_at (λ j. flat_reach enc m ws s j) (flat s) i n

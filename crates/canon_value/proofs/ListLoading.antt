@@ -19,10 +19,10 @@ use Rattle.canon_types.specs.Depth.{element_shape}
 use Rattle.canon_types.specs.Table.{Table, shape_of}
 use Rattle.canon_types.specs.declared.types.InterfaceType.TheVariants as ty
 use Rattle.canon_plan.specs.Element.{IsKnown, ItemsFault, element_cost, element_reach, first_of, items_reach, list_shape, row_of, second_of}
-use Rattle.canon_val.specs.Lifts.{ArePartsLifted}
+use Rattle.canon_value.specs.Lifts.{ArePartsLifted}
 use Rattle.canon_context.specs.Told.{Exactly, IsPlace, LiftBlames, ToldAt, place_of}
-use Rattle.canon_val.specs.Loads.{AreCharged, charged_reach}
-use Rattle.canon_val.specs.Plan.{ArePartsLoaded, IsListLoaded}
+use Rattle.canon_value.specs.Loads.{AreCharged, charged_reach}
+use Rattle.canon_value.specs.Plan.{ArePartsLoaded, IsListLoaded}
 use Rattle.canon_val.specs.Value.{AreLiftedFrom}
 use Rattle.canon_plan.specs.declared.element.Element.{Element}
 use Rattle.canon_plan.specs.declared.element.Element.TheVariants as element
@@ -30,12 +30,12 @@ use Rattle.canon_context.specs.declared.fault.At.{At as Place}
 use Rattle.canon_context.specs.declared.fault.Fault.{Fault}
 use Rattle.canon_val.specs.declared.val.Val.{Val}
 use Rattle.canon_context.proofs.Told.{blamed_by, list_told}
-use Rattle.canon_val.proofs.Loading.{aligned_part}
-use Rattle.canon_val.proofs.LoadingParts.{copies_cost, copies_nameless, row_aligned, row_blame, row_low}
+use Rattle.canon_value.proofs.Loading.{aligned_part}
+use Rattle.canon_value.proofs.LoadingParts.{copies_cost, copies_nameless, row_aligned, row_blame, row_low}
 use Rattle.canon_plan.proofs.Pairs.{count_pairs}
-use Rattle.canon_val.proofs.PairRows.{pairs_cost, pairs_nameless}
-use Rattle.canon_val.proofs.Values.{have_count}
-use Rattle.canon_val.proofs.Walks.{copies_have}
+use Rattle.canon_value.proofs.PairRows.{pairs_cost, pairs_nameless}
+use Rattle.canon_value.proofs.Values.{have_count}
+use Rattle.canon_value.proofs.Walks.{copies_have}
 
 -- ---- pairs
 

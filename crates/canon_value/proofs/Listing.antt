@@ -15,23 +15,23 @@ use Rattle.canon_types.specs.Table.{Table, shape_of}
 use Rattle.canon_types.specs.declared.types.InterfaceType.TheVariants as ty
 use Rattle.canon_plan.specs.NoHandle.{HaveNoHandle, HasNoHandle}
 use Rattle.canon_plan.specs.Element.{IsKnown, first_of, list_shape, row_of, second_of}
-use Rattle.canon_val.specs.Elements.{by_turns, element_in, list_length, list_value, values_listed}
-use Rattle.canon_val.specs.Fails.{Failure, Fails, FailsAt, MemberFails, overflow}
+use Rattle.canon_value.specs.Elements.{by_turns, element_in, list_length, list_value, values_listed}
+use Rattle.canon_value.specs.Fails.{Failure, Fails, FailsAt, MemberFails, overflow}
 use Rattle.canon_context.specs.Quiet.{has_block}
 use Rattle.canon_val.specs.Value.{EachHas, HasTree, PairHas, all_places, member_names, no_names, places}
 use Rattle.canon_plan.specs.declared.element.Element.{Element}
 use Rattle.canon_plan.specs.declared.element.Element.TheVariants as element
-use Rattle.canon_val.specs.declared.elements.Elements.{Elements}
-use Rattle.canon_val.specs.declared.elements.Elements.TheVariants as elements
+use Rattle.canon_value.specs.declared.elements.Elements.{Elements}
+use Rattle.canon_value.specs.declared.elements.Elements.TheVariants as elements
 use Rattle.canon_val.specs.declared.val.Val.{Val}
 use Rattle.canon_val.specs.declared.val.Val.TheVariants as val
-use Rattle.canon_val.proofs.Contents.{places_list}
-use Rattle.canon_val.proofs.MapsAndFlags.{one_pairs}
-use Rattle.canon_val.proofs.PairRows.{have_pairs, pairs_no_handle, pairs_deepest, pairs_fail, pairs_have, pairs_named, places_map}
-use Rattle.canon_val.proofs.Sizes.{items_fit, items_inner, pairs_fit, pairs_inner}
-use Rattle.canon_val.proofs.StoreSteps.{Named}
-use Rattle.canon_val.proofs.Viewing.{block_size}
-use Rattle.canon_val.proofs.Walks.{copies_no_handle, copies_deepest, copies_fail, copies_names, row_back, row_is}
+use Rattle.canon_value.proofs.Contents.{places_list}
+use Rattle.canon_value.proofs.MapsAndFlags.{one_pairs}
+use Rattle.canon_value.proofs.PairRows.{have_pairs, pairs_no_handle, pairs_deepest, pairs_fail, pairs_have, pairs_named, places_map}
+use Rattle.canon_value.proofs.Sizes.{items_fit, items_inner, pairs_fit, pairs_inner}
+use Rattle.canon_value.proofs.StoreSteps.{Named}
+use Rattle.canon_value.proofs.Viewing.{block_size}
+use Rattle.canon_value.proofs.Walks.{copies_no_handle, copies_deepest, copies_fail, copies_names, row_back, row_is}
 
 -- The value is of a list's shape, with n elements, whose members lie so and have these values.
 pub record IsListOf (whole : Shape) (v : Val) (n : ℕ) (ms : Members) (vs : List Val) : Type 1 where

@@ -23,18 +23,18 @@ use Rattle.canon_model.specs.Tree.{Trees, no_trees, payload_of, tree}
 use Rattle.canon_types.specs.Depth.{deepest, depth, variant_cases}
 use Rattle.canon_plan.specs.CasePlan.{IsCaseSlots, TellsCase, case_name_cost, name_charge}
 use Rattle.canon_context.specs.Told.{Exactly, LiftBlames, place_of}
-use Rattle.canon_val.specs.Loads.{AreCharged, IsLoaded, charged_reach}
-use Rattle.canon_val.specs.Plan.{IsCaseRebuilt}
+use Rattle.canon_value.specs.Loads.{AreCharged, IsLoaded, charged_reach}
+use Rattle.canon_value.specs.Plan.{IsCaseRebuilt}
 use Rattle.canon_plan.specs.Plan.{IsVariant, shapes_of}
 use Rattle.canon_types.specs.Table.{Table}
 use Rattle.canon_val.specs.Value.{AreLiftedFrom}
 use Rattle.canon_plan.specs.declared.case_plan.CaseSlots.{CaseSlots}
 use Rattle.canon_context.specs.declared.fault.Fault.{Fault}
 use Rattle.canon_val.specs.declared.val.Val.{Val}
-use Rattle.canon_val.proofs.LeavesAt.{payload_leaves}
-use Rattle.canon_val.proofs.Cases.{case_shallow}
+use Rattle.canon_value.proofs.LeavesAt.{payload_leaves}
+use Rattle.canon_value.proofs.Cases.{case_shallow}
 use Rattle.canon_context.proofs.Told.{blamed_by}
-use Rattle.canon_val.proofs.Values.{have_count}
+use Rattle.canon_value.proofs.Values.{have_count}
 
 -- ---- a payload
 

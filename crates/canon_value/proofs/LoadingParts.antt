@@ -16,16 +16,16 @@ use Rattle.canon_model.specs.Shape.{Members, Shape, borrow, fixed, flags, list, 
 use Rattle.canon_model.specs.Text.{Encoding}
 use Rattle.canon_model.specs.Tree.{Trees, no_trees, sum_of, tree, tree_count}
 use Rattle.canon_context.specs.Told.{Exactly, LiftBlames, place_of}
-use Rattle.canon_val.specs.Loads.{AreCharged, IsLoaded, charged_reach}
-use Rattle.canon_val.specs.Plan.{ArePartsLoaded, IsRebuilt, parts_of, whole}
+use Rattle.canon_value.specs.Loads.{AreCharged, IsLoaded, charged_reach}
+use Rattle.canon_value.specs.Plan.{ArePartsLoaded, IsRebuilt, parts_of, whole}
 use Rattle.canon_plan.specs.Plan.{Unnamed, LiesAs}
 use Rattle.canon_context.specs.declared.fault.Fault.{Fault}
 use Rattle.canon_val.specs.declared.val.Val.{Val}
 use Rattle.canon_context.proofs.Told.{blamed_by}
-use Rattle.canon_val.proofs.Loading.{aligned_part, RowFault, row_reach}
+use Rattle.canon_value.proofs.Loading.{aligned_part, RowFault, row_reach}
 use Rattle.canon_plan.proofs.Lookups.{copies_count}
-use Rattle.canon_val.proofs.LeavesAt.{fixed_leaves}
-use Rattle.canon_val.proofs.Values.{have_count}
+use Rattle.canon_value.proofs.LeavesAt.{fixed_leaves}
+use Rattle.canon_value.proofs.Values.{have_count}
 
 -- ---- a row, as members of one shape
 

@@ -5,13 +5,13 @@ use Rattle.canon_model.specs.Shape.{Cases, Members, Shape, bare, borrow, fixed, 
 use Rattle.canon_model.specs.Tree.{Tree, Trees}
 use Rattle.canon_plan.specs.NoHandle.{HaveNoHandle, HasNoHandle, have_no_handle, cases_have_no_handle, has_no_handle}
 use Rattle.canon_resources.specs.Held.{Any}
-use Rattle.canon_val.specs.Resources.{all_resources, joined, resources}
+use Rattle.canon_value.specs.Resources.{all_resources, joined, resources}
 use Rattle.canon_val.specs.Value.{CaseHas, EachHas, HasTreeAs, HaveTreesAs, PairHas, member_names}
 use Rattle.canon_val.specs.declared.val.Val.{Val}
 use Rattle.canon_plan.proofs.Lookups.{both}
-use Rattle.canon_val.proofs.LiftedValues.{both_resources, fixed_resources, items_resources, turned}
-use Rattle.canon_val.proofs.ResourcesOf.{case_resources, flags_have_none, pair_resources, product_resources, scalar_has_none, text_has_none}
-use Rattle.canon_val.proofs.Steps.{no_first, no_later}
+use Rattle.canon_value.proofs.LiftedValues.{both_resources, fixed_resources, items_resources, turned}
+use Rattle.canon_value.proofs.ResourcesOf.{case_resources, flags_have_none, pair_resources, product_resources, scalar_has_none, text_has_none}
+use Rattle.canon_value.proofs.Steps.{no_first, no_later}
 
 -- ---- types that reach no handle
 

@@ -10,9 +10,9 @@ use Rattle.canon_model.specs.Tree.{Tree, Trees, bits, case_number, code_point, i
 use Rattle.canon_val.specs.Value.{AreMarked, AreSame, CaseHas, CaseSame, EachHas, EachSame, HasScalar, HasTree, HaveTrees, IsCase, IsSame, IsText, PairHas, PairSame, member_names}
 use Rattle.canon_val.specs.declared.val.Val.{Val}
 use Rattle.canon_val.specs.declared.val.Val.TheVariants as val
-use Rattle.canon_val.proofs.Cases.{case_back, case_carried, one_case}
-use Rattle.canon_val.proofs.MapsAndFlags.{marked_once, marked_too, one_flags, one_pairs}
-use Rattle.canon_val.proofs.Values.{fixed_values, list_values, product_values, text_scalars}
+use Rattle.canon_value.proofs.Cases.{case_back, case_carried, one_case}
+use Rattle.canon_value.proofs.MapsAndFlags.{marked_once, marked_too, one_flags, one_pairs}
+use Rattle.canon_value.proofs.Values.{fixed_values, list_values, product_values, text_scalars}
 
 -- ---- values in a row
 

@@ -8,8 +8,8 @@ use Rattle.canon_model.specs.Shape.{Name, Shape, map_of}
 use Rattle.canon_model.specs.Tree.{Trees, no_trees, parts, sum_of, tree, tree_count}
 use Rattle.canon_types.specs.Depth.{deepest, depth}
 use Rattle.canon_plan.specs.NoHandle.{HaveNoHandle, HasNoHandle, has_no_handle}
-use Rattle.canon_val.specs.Elements.{by_turns}
-use Rattle.canon_val.specs.Fails.{Failure, MemberFails, PairFails, SomeFails}
+use Rattle.canon_value.specs.Elements.{by_turns}
+use Rattle.canon_value.specs.Fails.{Failure, MemberFails, PairFails, SomeFails}
 use Rattle.canon_val.specs.Value.{EachHas, HasTree, HaveTrees, PairHas, all_places, member_names, no_names, pair_places, places, total, HasTreeAs, HaveTreesAs}
 use Rattle.canon_val.specs.declared.val.Val.{Val, the_lemmas}
 use Rattle.canon_val.specs.declared.val.Val.TheShapes.{former-Val-Map-0-at-2}

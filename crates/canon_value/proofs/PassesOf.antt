@@ -24,23 +24,23 @@ use Rattle.canon_resources.specs.Held.{Any}
 use Rattle.canon_types.specs.Depth.{product_members}
 use Rattle.canon_types.specs.Table.{Table, shape_of}
 use Rattle.canon_types.specs.declared.types.InterfaceType.{InterfaceType}
-use Rattle.canon_val.specs.Elements.{by_turns, element_in, list_length, list_value, values_listed}
-use Rattle.canon_val.specs.Resources.{all_passes, full_passes, passes, passes_step, place_in, row_passes, turns_of}
+use Rattle.canon_value.specs.Elements.{by_turns, element_in, list_length, list_value, values_listed}
+use Rattle.canon_value.specs.Resources.{all_passes, full_passes, passes, passes_step, place_in, row_passes, turns_of}
 use Rattle.canon_val.specs.Value.{IsCase, IsFirst, case_names, values_in}
-use Rattle.canon_val.specs.View.{IsMember, names_of, shapes_of, values_of}
-use Rattle.canon_val.specs.Viewed.{HasMembers, Views}
-use Rattle.canon_val.specs.declared.case_view.Case.{Case}
-use Rattle.canon_val.specs.declared.elements.Elements.{Elements}
-use Rattle.canon_val.specs.declared.elements.Elements.TheVariants as elements
-use Rattle.canon_val.specs.declared.members.Member.{Member}
-use Rattle.canon_val.specs.declared.members.Members.{Members}
+use Rattle.canon_value.specs.View.{IsMember, names_of, shapes_of, values_of}
+use Rattle.canon_value.specs.Viewed.{HasMembers, Views}
+use Rattle.canon_value.specs.declared.case_view.Case.{Case}
+use Rattle.canon_value.specs.declared.elements.Elements.{Elements}
+use Rattle.canon_value.specs.declared.elements.Elements.TheVariants as elements
+use Rattle.canon_value.specs.declared.members.Member.{Member}
+use Rattle.canon_value.specs.declared.members.Members.{Members}
 use Rattle.canon_val.specs.declared.val.Val.{Val, the_lemmas}
 use Rattle.canon_val.specs.declared.val.Val.TheFolds.{fold-roll-Val, ind-Val, map-Val}
 use Rattle.canon_val.specs.declared.val.Val.TheOpen.{Val-F, Val-F as F}
 use Rattle.canon_val.specs.declared.val.Val.TheShapes.{former-Val-Map-0-at-2, former-Val-Record-0-at-2}
 use Rattle.canon_val.specs.declared.val.Val.TheVariants as val
-use Rattle.canon_val.specs.declared.view.View.TheVariants as view
-use Rattle.canon_val.proofs.Steps.{no_first, no_later}
+use Rattle.canon_value.specs.declared.view.View.TheVariants as view
+use Rattle.canon_value.proofs.Steps.{no_first, no_later}
 
 -- what a value passes, by the shape that is wanted
 abbrev Passing : Type 0

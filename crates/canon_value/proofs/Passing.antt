@@ -15,7 +15,7 @@ use Rattle.canon_memory.specs.Guest.{Moment}
 use Rattle.canon_model.specs.Requests.{Call}
 use Rattle.canon_types.specs.Instance.{Instance}
 use Rattle.canon_model.specs.Shape.{Name, flags}
-use Rattle.canon_val.specs.Resources.{LowersHandles, ledger_fault, passes, stop_of}
+use Rattle.canon_value.specs.Resources.{LowersHandles, ledger_fault, passes, stop_of}
 use Rattle.canon_val.specs.declared.val.Val.{the_lemmas}
 use Rattle.canon_val.specs.declared.val.Val.TheVariants as val
 use Rattle.std.specs.declared.alloc.Global.{Global}

@@ -10,18 +10,18 @@ use Rattle.canon_context.specs.Core.{Parts, encoding_by, moment_of}
 use Rattle.canon_context.specs.Lowers.{fault_ending}
 use Rattle.canon_context.specs.declared.fault.Fault.{Fault}
 use Rattle.canon_string.specs.Texts.{IsTextOf, PutsText}
-use Rattle.canon_val.specs.Fails.{Blames, FailsAt}
-use Rattle.canon_val.specs.Stores.{PlacesTo}
+use Rattle.canon_value.specs.Fails.{Blames, FailsAt}
+use Rattle.canon_value.specs.Stores.{PlacesTo}
 use Rattle.canon_context.specs.declared.fault.Fault.TheVariants as fault
-use Rattle.canon_val.proofs.Passing.{ledger_unless, passes_none, passes_stopped, same_handles, same_ledger}
-use Rattle.canon_val.proofs.PassesOf.{text_none}
-use Rattle.canon_val.specs.Resources.{passes}
+use Rattle.canon_value.proofs.Passing.{ledger_unless, passes_none, passes_stopped, same_handles, same_ledger}
+use Rattle.canon_value.proofs.PassesOf.{text_none}
+use Rattle.canon_value.specs.Resources.{passes}
 use Rattle.canon_val.specs.Value.{HasTree, cap}
 use Rattle.canon_val.specs.declared.val.Val.TheVariants as val
 use Rattle.canon_context.proofs.Moves.{GuestLaws}
-use Rattle.canon_val.proofs.Contents.{places_text, same_text}
-use Rattle.canon_val.proofs.Sizes.{text_small}
-use Rattle.canon_val.proofs.Steps.{blames_unless}
+use Rattle.canon_value.proofs.Contents.{places_text, same_text}
+use Rattle.canon_value.proofs.Sizes.{text_small}
+use Rattle.canon_value.proofs.Steps.{blames_unless}
 
 module _ {T G : Type 0} (L : GuestLaws G) (options : ℕ) (a b : Parts T G) (s : String Global) where
   -- a text's trees are its value's

@@ -10,22 +10,22 @@ use Rattle.canon_model.specs.Text.{Encoding, utf8}
 use Rattle.canon_model.specs.Tree.{Tree, tree_count, trees_of}
 use Rattle.canon_types.specs.Depth.{element_shape}
 use Rattle.canon_context.specs.Core.{Parts, encoding_by, guest_of, moment_of}
-use Rattle.canon_val.specs.Fails.{AreSmall, Blames, Failure, FailsAt, IsSmall, MemberFails, overflow, too_long}
+use Rattle.canon_value.specs.Fails.{AreSmall, Blames, Failure, FailsAt, IsSmall, MemberFails, overflow, too_long}
 use Rattle.canon_context.specs.Lowers.{fault_ending, ending_of}
 use Rattle.canon_context.specs.Asks.{AsksFor}
-use Rattle.canon_val.specs.Stores.{PlacesTo, Counts, FieldsCount, PartsStoreTo}
+use Rattle.canon_value.specs.Stores.{PlacesTo, Counts, FieldsCount, PartsStoreTo}
 use Rattle.canon_val.specs.Value.{HasTree, all_places, cap, no_names, places}
 use Rattle.canon_context.specs.declared.fault.Fault.{Fault}
 use Rattle.canon_context.specs.declared.fault.Fault.TheVariants as fault
 use Rattle.canon_val.specs.declared.val.Val.{Val}
-use Rattle.canon_val.proofs.Listing.{IsListOf}
-use Rattle.canon_val.proofs.Passing.{IsOwn, handles_then, own_elsewhere, own_ends, passes_as, passes_from, passes_stopped, same_handles, same_ledger, ungiven_elsewhere}
-use Rattle.canon_val.specs.Resources.{LowersHandles, all_passes, passes}
+use Rattle.canon_value.proofs.Listing.{IsListOf}
+use Rattle.canon_value.proofs.Passing.{IsOwn, handles_then, own_elsewhere, own_ends, passes_as, passes_from, passes_stopped, same_handles, same_ledger, ungiven_elsewhere}
+use Rattle.canon_value.specs.Resources.{LowersHandles, all_passes, passes}
 use Rattle.canon_context.proofs.Moves.{moves_none, GuestLaws, moves_then}
-use Rattle.canon_val.proofs.Sizes.{small_by}
+use Rattle.canon_value.proofs.Sizes.{small_by}
 use Rattle.canon_context.proofs.Cores.{not_done, same_encoding}
-use Rattle.canon_val.proofs.StoreSteps.{Named, count_members}
-use Rattle.canon_val.proofs.Steps.{blames_later, blames_unless}
+use Rattle.canon_value.proofs.StoreSteps.{Named, count_members}
+use Rattle.canon_value.proofs.Steps.{blames_later, blames_unless}
 use Rattle.canon_lowering.proofs.AimedPairs.{list_ungiven, rows_words}
 use Rattle.canon_model.specs.Layout.{size}
 use Rattle.canon_context.specs.Moves.{Moves}

@@ -6,16 +6,16 @@ use Rattle.canon_lowering.specs.Copies.{paired, pairs_of}
 use Rattle.canon_model.specs.Shape.{Members, Name, Shape, fixed, list, map_of, member, member_count, no_members, of_fields, of_items, of_places, product}
 use Rattle.canon_types.specs.Depth.{element_shape, product_members}
 use Rattle.canon_plan.specs.Element.{IsMap, first_of, second_of}
-use Rattle.canon_val.specs.Elements.{by_turns}
-use Rattle.canon_val.specs.Plan.{IsRebuilt, parts_of}
+use Rattle.canon_value.specs.Elements.{by_turns}
+use Rattle.canon_value.specs.Plan.{IsRebuilt, parts_of}
 use Rattle.canon_val.specs.Value.{IsPairs, IsProduct, member_names, no_names, AreLiftedFrom}
 use Rattle.canon_plan.specs.Plan.{members_from}
 use Rattle.canon_val.specs.declared.val.Val.{Val}
 use Rattle.canon_val.specs.declared.val.Val.TheVariants as val
 use Rattle.canon_plan.proofs.Pairs.{count_pairs}
-use Rattle.canon_val.proofs.PairRows.{count_turns, pairs_have}
-use Rattle.canon_val.proofs.Values.{have_count}
-use Rattle.canon_val.proofs.Walks.{copies_have}
+use Rattle.canon_value.proofs.PairRows.{count_turns, pairs_have}
+use Rattle.canon_value.proofs.Values.{have_count}
+use Rattle.canon_value.proofs.Walks.{copies_have}
 
 -- ---- members of a tuple
 

@@ -5,8 +5,8 @@ use Rattle.canon_model.specs.Shape as shape
 use Rattle.canon_model.specs.Shape.{Cases, Name, ProductKind, Scalar, VariantKind, of_cases, of_fields, of_names, of_option, of_places, of_result}
 use Rattle.canon_model.specs.Tree.{Tree}
 use Rattle.canon_resources.specs.Held.{Any}
-use Rattle.canon_val.specs.Elements.{by_turns}
-use Rattle.canon_val.specs.Resources.{all_resources, joined, resources}
+use Rattle.canon_value.specs.Elements.{by_turns}
+use Rattle.canon_value.specs.Resources.{all_resources, joined, resources}
 use Rattle.canon_val.specs.Value.{HasScalar, IsCase, IsFlags, IsPairs, IsProduct, IsText, result_payload, unboxed, values_in}
 use Rattle.canon_val.specs.declared.val.Val.{Val, the_lemmas}
 use Rattle.canon_val.specs.declared.val.Val.TheShapes.{former-Val-Map-0-at-2, former-Val-Record-0-at-2}

@@ -10,11 +10,11 @@ use Rattle.canon_model.specs.Text.{Encoding}
 use Rattle.canon_model.specs.Tree.{Tree, Trees}
 use Rattle.canon_lowering.specs.Attempt.{value_place}
 use Rattle.canon_lowering.specs.Storing.{narrow}
-use Rattle.canon_val.specs.RoundTrip.{ComeBack, ComesBack, IsOneForm, RoundTrip}
+use Rattle.canon_value.specs.RoundTrip.{ComeBack, ComesBack, IsOneForm, RoundTrip}
 use Rattle.canon_val.specs.Value.{AreLiftedFrom, HasTree, HaveTrees, IsLiftedFrom}
 use Rattle.canon_val.specs.declared.val.Val.{Val}
-use Rattle.canon_val.proofs.LiftedValues.{all_unlifted, unlifted}
-use Rattle.canon_val.proofs.OneValue.{value_one, values_one}
+use Rattle.canon_value.proofs.LiftedValues.{all_unlifted, unlifted}
+use Rattle.canon_value.proofs.OneValue.{value_one, values_one}
 
 module _ (s : Shape) (v w : Val) (t : Tree) (had : HasTree s v t) where
   comes_back : (u : Tree) (fuel left : ℕ) → u ≡ t → IsLiftedFrom s w u → fuel ≡ left + cost s u → ComesBack s v w fuel left

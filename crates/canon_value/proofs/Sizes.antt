@@ -6,17 +6,17 @@ use Rattle.canon_lowering.specs.Copies.{case_members, copies, pairs_of}
 use Rattle.canon_model.specs.Layout.{size}
 use Rattle.canon_model.specs.Shape.{Cases, Members, Name, ProductKind, Scalar, Shape, VariantKind, bare, fixed, flags, list, map_of, member, no_cases, no_members, of_items, of_pairs, payload, product, scalar, string, variant}
 use Rattle.canon_model.specs.Text.{Encoding}
-use Rattle.canon_val.specs.Elements.{by_turns}
+use Rattle.canon_value.specs.Elements.{by_turns}
 use Rattle.canon_string.specs.Limits.{IsTooLong}
-use Rattle.canon_val.specs.Fails.{AreSmall, CaseFails, Failure, Fails, FailsAt, IsSmall, MemberFails, NoneTooLarge, PairFails, SomeFails, overflow, too_long}
+use Rattle.canon_value.specs.Fails.{AreSmall, CaseFails, Failure, Fails, FailsAt, IsSmall, MemberFails, NoneTooLarge, PairFails, SomeFails, overflow, too_long}
 use Rattle.canon_val.specs.Value.{IsCase, IsFixed, IsPairs, IsProduct, pair_places, places}
 use Rattle.canon_val.specs.declared.val.Val.{Val}
 use Rattle.canon_val.specs.declared.val.Val.TheVariants as val
-use Rattle.canon_val.proofs.Cases.{one_case}
-use Rattle.canon_val.proofs.Contents.{fixed_values, items_same, same_text}
-use Rattle.canon_val.proofs.MapsAndFlags.{one_pairs}
-use Rattle.canon_val.proofs.PairRows.{pairs_failed}
-use Rattle.canon_val.proofs.Values.{product_values}
+use Rattle.canon_value.proofs.Cases.{one_case}
+use Rattle.canon_value.proofs.Contents.{fixed_values, items_same, same_text}
+use Rattle.canon_value.proofs.MapsAndFlags.{one_pairs}
+use Rattle.canon_value.proofs.PairRows.{pairs_failed}
+use Rattle.canon_value.proofs.Values.{product_values}
 
 -- what is too large among the second is so among the first
 pub small_by : (enc : Encoding) (F G : Failure → ℕ → Type 0) → ((n k : ℕ) → G (too_long enc n) k → (j : ℕ) × F (too_long enc n) j) → ((n k : ℕ) → G (overflow n) k → (j : ℕ) × F (overflow n) j) → NoneTooLarge enc F → NoneTooLarge enc G

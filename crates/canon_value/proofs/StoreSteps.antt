@@ -9,13 +9,13 @@ use Rattle.canon_model.specs.Tree.{Tree, Trees}
 use Rattle.canon_types.specs.Table.{Table, shape_of}
 use Rattle.canon_types.specs.declared.types.InterfaceType.{InterfaceType}
 use Rattle.canon_plan.specs.NoHandle.{IsScalarType}
-use Rattle.canon_val.specs.Fails.{Blames, FailsAt, IsSmall, MemberFails}
-use Rattle.canon_val.specs.Stores.{Counts, FieldsCount}
+use Rattle.canon_value.specs.Fails.{Blames, FailsAt, IsSmall, MemberFails}
+use Rattle.canon_value.specs.Stores.{Counts, FieldsCount}
 use Rattle.canon_val.specs.Value.{HasTree, HaveTrees, IsProduct, all_places, cap, member_names, places}
 use Rattle.canon_context.specs.declared.fault.Fault.{Fault}
 use Rattle.canon_val.specs.declared.val.Val.{Val}
-use Rattle.canon_val.proofs.Sizes.{member_small, product_small}
-use Rattle.canon_val.proofs.Steps.{blames_later, places_product}
+use Rattle.canon_value.proofs.Sizes.{member_small, product_small}
+use Rattle.canon_value.proofs.Steps.{blames_later, places_product}
 use Rattle.canon_plan.proofs.ScalarTypes.{scalar_shape}
 use Rattle.canon_model.specs.Text.{Encoding}
 

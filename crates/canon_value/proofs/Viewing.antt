@@ -11,16 +11,16 @@ use Rattle.canon_types.specs.Depth.{deepest, depth}
 use Rattle.canon_plan.specs.NoHandle.{HaveNoHandle, HasNoHandle}
 use Rattle.canon_types.specs.Table.{Table, shape_of}
 use Rattle.canon_types.specs.declared.types.InterfaceType.TheVariants as ty
-use Rattle.canon_val.specs.Elements.{by_turns}
-use Rattle.canon_val.specs.View.{AreKnown, names_of, shapes_of, values_of}
+use Rattle.canon_value.specs.Elements.{by_turns}
+use Rattle.canon_value.specs.View.{AreKnown, names_of, shapes_of, values_of}
 use Rattle.canon_plan.specs.Plan.{LiesAs}
-use Rattle.canon_val.specs.declared.members.Members.{Members as View}
-use Rattle.canon_val.specs.declared.members.Members.TheVariants as members
-use Rattle.canon_val.proofs.Lookups.{count_values, count_names, count_no_names}
-use Rattle.canon_val.proofs.PairRows.{count_turns}
+use Rattle.canon_value.specs.declared.members.Members.{Members as View}
+use Rattle.canon_value.specs.declared.members.Members.TheVariants as members
+use Rattle.canon_value.proofs.Lookups.{count_values, count_names, count_no_names}
+use Rattle.canon_value.proofs.PairRows.{count_turns}
 use Rattle.canon_plan.proofs.Pairs.{pair_slots}
 use Rattle.canon_plan.proofs.Lookups.{copies_count}
-use Rattle.canon_val.proofs.Walks.{copies_no_handle, copies_deepest}
+use Rattle.canon_value.proofs.Walks.{copies_no_handle, copies_deepest}
 
 -- as many names as values
 pub names_count : (ms : View) → length (names_of ms) ≡ length (values_of ms)

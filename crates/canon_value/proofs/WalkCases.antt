@@ -18,24 +18,24 @@ use Rattle.canon_model.specs.Tree.{Tree, Trees, case_number}
 use Rattle.canon_types.specs.Depth.{deepest, depth}
 use Rattle.canon_types.specs.Table.{Table}
 use Rattle.canon_context.specs.Core.{Parts, encoding_by, guest_of, moment_of}
-use Rattle.canon_val.specs.Fails.{FailsAt, MemberFails}
+use Rattle.canon_value.specs.Fails.{FailsAt, MemberFails}
 use Rattle.canon_context.specs.Lowers.{ending_of}
 use Rattle.canon_context.specs.Moves.{Moves}
-use Rattle.canon_val.specs.Resources.{all_passes, passes}
-use Rattle.canon_val.proofs.Passing.{passes_as}
-use Rattle.canon_val.specs.Stores.{Counts, PartsStoreTo, StoresTo}
+use Rattle.canon_value.specs.Resources.{all_passes, passes}
+use Rattle.canon_value.proofs.Passing.{passes_as}
+use Rattle.canon_value.specs.Stores.{Counts, PartsStoreTo, StoresTo}
 use Rattle.canon_val.specs.Value.{CaseHas, HasTree, HaveTrees, IsCase, all_places, cap, member_names, places}
-use Rattle.canon_val.specs.View.{AreKnown, names_of, shapes_of, values_of}
-use Rattle.canon_val.specs.Viewed.{IsCaseSeen}
-use Rattle.canon_val.specs.declared.case_view.Case.{Case}
+use Rattle.canon_value.specs.View.{AreKnown, names_of, shapes_of, values_of}
+use Rattle.canon_value.specs.Viewed.{IsCaseSeen}
+use Rattle.canon_value.specs.declared.case_view.Case.{Case}
 use Rattle.canon_context.specs.declared.fault.Fault.{Fault}
 use Rattle.canon_val.specs.declared.val.Val.{Val}
-use Rattle.canon_val.proofs.Sizes.{case_small}
-use Rattle.canon_val.proofs.Cases.{case_back, case_fails, case_has, case_is, case_places, case_quiet, case_shallow, has_case, one_case}
+use Rattle.canon_value.proofs.Sizes.{case_small}
+use Rattle.canon_value.proofs.Cases.{case_back, case_fails, case_has, case_is, case_places, case_quiet, case_shallow, has_case, one_case}
 use Rattle.canon_context.proofs.Moves.{GuestLaws}
-use Rattle.canon_val.proofs.Steps.{blames_later}
+use Rattle.canon_value.proofs.Steps.{blames_later}
 use Rattle.canon_context.proofs.Cores.{written_whole}
-use Rattle.canon_val.proofs.StoreSteps.{Named, count_members}
+use Rattle.canon_value.proofs.StoreSteps.{Named, count_members}
 
 -- ---- a value's tree from its payload's trees, and back
 

@@ -9,17 +9,17 @@ use Rattle.canon_types.specs.Table.{Knows, Table, shape_of}
 use Rattle.canon_types.specs.declared.types.InterfaceType.{InterfaceType}
 use Rattle.canon_context.specs.Core.{Parts, types_of}
 use Rattle.canon_context.specs.Asks.{SameButHandles}
-use Rattle.canon_val.specs.Stores.{PartsStoreTo, StoresTo}
-use Rattle.canon_val.specs.View.{IsMember}
+use Rattle.canon_value.specs.Stores.{PartsStoreTo, StoresTo}
+use Rattle.canon_value.specs.View.{IsMember}
 use Rattle.canon_plan.specs.Plan.{members_from}
 use Rattle.canon_context.specs.declared.fault.Fault.{Fault}
 use Rattle.canon_context.specs.declared.fault.Fault.TheVariants as fault
-use Rattle.canon_val.specs.declared.members.Member.{Member}
+use Rattle.canon_value.specs.declared.members.Member.{Member}
 use Rattle.canon_val.specs.declared.val.Val.{Val}
 use Rattle.canon_plan.proofs.Lookups.{drop_all, member_room, members_from-all}
-use Rattle.canon_val.proofs.Passing.{handles_then, handles_types}
+use Rattle.canon_value.proofs.Passing.{handles_then, handles_types}
 use Rattle.canon_context.proofs.Moves.{GuestLaws}
-use Rattle.canon_val.proofs.Walks.{parts_cons, parts_named, parts_none, parts_stop}
+use Rattle.canon_value.proofs.Walks.{parts_cons, parts_named, parts_none, parts_stop}
 
 -- a member is no deeper than the deepest
 pub member_shallow : (ms : Members) (i : ℕ) (name : Name) (s : Shape) (rest : Members) → members_from i ms ≡ member name s rest → depth s ≤ deepest ms

@@ -25,33 +25,33 @@ use Rattle.canon_types.specs.Table.{shape_of}
 use Rattle.canon_types.specs.declared.types.InterfaceType.{InterfaceType}
 use Rattle.canon_plan.specs.NoHandle.{HaveNoHandle, HasNoHandle}
 use Rattle.canon_context.specs.Core.{Parts, encoding_by, guest_of, moment_of, types_of}
-use Rattle.canon_val.specs.Fails.{Blames, Failure, FailsAt, MemberFails, SomeFails}
+use Rattle.canon_value.specs.Fails.{Blames, Failure, FailsAt, MemberFails, SomeFails}
 use Rattle.canon_context.specs.Lowers.{ending_of, fault_ending}
 use Rattle.canon_context.specs.Quiet.{has_block, have_block}
-use Rattle.canon_val.specs.Stores.{Counts, FieldsCount, PartsStoreTo, PlacesTo, StoresTo}
+use Rattle.canon_value.specs.Stores.{Counts, FieldsCount, PartsStoreTo, PlacesTo, StoresTo}
 use Rattle.canon_val.specs.Value.{EachHas, HasTree, HaveTrees, IsFixed, IsProduct, all_places, cap, member_names, no_names, places, HasTreeAs, HaveTreesAs}
-use Rattle.canon_val.specs.Viewed.{HasMembers}
+use Rattle.canon_value.specs.Viewed.{HasMembers}
 use Rattle.canon_plan.specs.Plan.{LiesAs}
-use Rattle.canon_val.specs.Words.{IsWordOf}
-use Rattle.canon_val.specs.declared.blocks.Placed.{Placed}
+use Rattle.canon_value.specs.Words.{IsWordOf}
+use Rattle.canon_value.specs.declared.blocks.Placed.{Placed}
 use Rattle.canon_context.specs.declared.fault.Fault.{Fault}
 use Rattle.canon_context.specs.declared.fault.Fault.TheVariants as fault
 use Rattle.canon_val.specs.declared.val.Val.{Val}
 use Rattle.canon_val.specs.declared.val.Val.TheVariants as val
-use Rattle.canon_val.proofs.Contents.{each_count, fixed_values, list_trees, places_fixed}
-use Rattle.canon_val.proofs.Sizes.{fixed_small, none_small, scalar_small}
+use Rattle.canon_value.proofs.Contents.{each_count, fixed_values, list_trees, places_fixed}
+use Rattle.canon_value.proofs.Sizes.{fixed_small, none_small, scalar_small}
 use Rattle.canon_context.proofs.Moves.{moves_none, moves_then, moves_written, GuestLaws}
-use Rattle.canon_val.proofs.Steps.{blocks_none, no_first, no_later, blames_first, blames_later}
+use Rattle.canon_value.proofs.Steps.{blocks_none, no_first, no_later, blames_first, blames_later}
 use Rattle.canon_plan.proofs.Lookups.{copies_count}
-use Rattle.canon_val.proofs.Scalars.{scalar_places}
+use Rattle.canon_value.proofs.Scalars.{scalar_places}
 use Rattle.canon_plan.proofs.ScalarTypes.{scalar_shape}
 use Rattle.canon_context.proofs.Cores.{not_done, written_whole}
 use Rattle.canon_model.specs.Leaves.{leaves}
 use Rattle.canon_types.specs.Instance.{Instance}
-use Rattle.canon_val.proofs.Passing.{IsOwn, handles_encoding, handles_instance, handles_then, own_elsewhere, own_ends, passes_as, passes_none, passes_stop, passes_stopped, passes_then}
-use Rattle.canon_val.specs.Resources.{LowersHandles, all_passes, passes}
-use Rattle.canon_val.proofs.StoreSteps.{Named, count_members, fields_count, heads, least_low, named_join, named_split, product_counts}
-use Rattle.canon_val.proofs.Values.{product_names, product_values}
+use Rattle.canon_value.proofs.Passing.{IsOwn, handles_encoding, handles_instance, handles_then, own_elsewhere, own_ends, passes_as, passes_none, passes_stop, passes_stopped, passes_then}
+use Rattle.canon_value.specs.Resources.{LowersHandles, all_passes, passes}
+use Rattle.canon_value.proofs.StoreSteps.{Named, count_members, fields_count, heads, least_low, named_join, named_split, product_counts}
+use Rattle.canon_value.proofs.Values.{product_names, product_values}
 
 -- ---- a row of values, as members of one shape
 

@@ -19,25 +19,25 @@ use Rattle.canon_model.specs.Text.{Encoding}
 use Rattle.canon_model.specs.Tree.{Trees}
 use Rattle.canon_types.specs.Table.{Table}
 use Rattle.canon_context.specs.Core.{Parts, encoding_by, moment_of}
-use Rattle.canon_val.specs.Fails.{FailsAt}
+use Rattle.canon_value.specs.Fails.{FailsAt}
 use Rattle.canon_context.specs.Lowers.{fault_ending}
-use Rattle.canon_val.proofs.Passing.{passes_as}
-use Rattle.canon_val.specs.Resources.{all_passes, passes}
-use Rattle.canon_val.specs.Stores.{Counts, FieldsCount}
+use Rattle.canon_value.proofs.Passing.{passes_as}
+use Rattle.canon_value.specs.Resources.{all_passes, passes}
+use Rattle.canon_value.specs.Stores.{Counts, FieldsCount}
 use Rattle.canon_val.specs.Value.{HasTree, IsCase, cap, member_names, places}
-use Rattle.canon_val.specs.View.{names_of, shapes_of, values_of}
-use Rattle.canon_val.specs.Viewed.{IsCaseSeen}
-use Rattle.canon_val.specs.Words.{Clears, LowersTo, PartsLowerTo, behind_tag}
-use Rattle.canon_val.specs.declared.case_view.Case.{Case}
+use Rattle.canon_value.specs.View.{names_of, shapes_of, values_of}
+use Rattle.canon_value.specs.Viewed.{IsCaseSeen}
+use Rattle.canon_value.specs.Words.{Clears, LowersTo, PartsLowerTo, behind_tag}
+use Rattle.canon_value.specs.declared.case_view.Case.{Case}
 use Rattle.canon_context.specs.declared.fault.Fault.{Fault}
-use Rattle.canon_val.specs.declared.lower.Spot.{Spot}
+use Rattle.canon_value.specs.declared.lower.Spot.{Spot}
 use Rattle.canon_val.specs.declared.val.Val.{Val}
-use Rattle.canon_val.proofs.Cases.{case_quiet}
+use Rattle.canon_value.proofs.Cases.{case_quiet}
 use Rattle.canon_context.proofs.Moves.{GuestLaws}
 use Rattle.canon_context.proofs.Cores.{not_done}
-use Rattle.canon_val.proofs.StoreSteps.{Named, count_members}
-use Rattle.canon_val.proofs.WalkCases.{case_counted, case_told, case_untold}
-use Rattle.canon_val.proofs.WordSteps.{have_fit}
+use Rattle.canon_value.proofs.StoreSteps.{Named, count_members}
+use Rattle.canon_value.proofs.WalkCases.{case_counted, case_told, case_untold}
+use Rattle.canon_value.proofs.WordSteps.{have_fit}
 
 -- the words of a payload stay where those behind it are written
 members_moved : {hs : List ℕ} (wide : Bool) (a b : Moment) (enc : Encoding) (ms : Members) (ws vs : List ℕ) (i j : ℕ) (Have : Trees → Type 0) (e : Ending) → ((ts : Trees) → Have ts → MembersFit ms ts) → SameWords ws i vs j (members_flat ms)

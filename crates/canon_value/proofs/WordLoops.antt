@@ -1,6 +1,6 @@
 -- The loop that lowers members to words: what is left completes what is done.
-use Rattle.canon_val.specs.declared.lower.Spot.{Spot}
-use Rattle.canon_val.specs.Words.{LowersTo, PartsLowerTo}
+use Rattle.canon_value.specs.declared.lower.Spot.{Spot}
+use Rattle.canon_value.specs.Words.{LowersTo, PartsLowerTo}
 use Rattle.std.proofs.Common.{◌≡◌, ◌≤◌, ◌<◌, ◌+◌, ◌^◌, Err, IsTrue, List, Ok, Result, [], ◌∷◌, ap, arith, drop, length, subst, sym, ℕ}
 use Rattle.canon_memory.specs.Guest.{GuestIn, Seen}
 use Rattle.canon_memory.specs.declared.event.Event.{Event}
@@ -10,15 +10,15 @@ use Rattle.canon_types.specs.Table.{Knows, Table, shape_of}
 use Rattle.canon_types.specs.declared.types.InterfaceType.{InterfaceType}
 use Rattle.canon_context.specs.Core.{Parts, types_of}
 use Rattle.canon_context.specs.Asks.{SameButHandles}
-use Rattle.canon_val.specs.View.{IsMember}
+use Rattle.canon_value.specs.View.{IsMember}
 use Rattle.canon_plan.specs.Plan.{members_from}
 use Rattle.canon_context.specs.declared.fault.Fault.{Fault}
 use Rattle.canon_context.specs.declared.fault.Fault.TheVariants as fault
-use Rattle.canon_val.specs.declared.members.Member.{Member}
+use Rattle.canon_value.specs.declared.members.Member.{Member}
 use Rattle.canon_val.specs.declared.val.Val.{Val}
 use Rattle.canon_plan.proofs.Lookups.{drop_all, members_from-all}
-use Rattle.canon_val.proofs.Passing.{handles_then, handles_types}
-use Rattle.canon_val.proofs.WordSteps.{parts_cons, parts_named, parts_none, parts_stop}
+use Rattle.canon_value.proofs.Passing.{handles_then, handles_types}
+use Rattle.canon_value.proofs.WordSteps.{parts_cons, parts_named, parts_none, parts_stop}
 use Rattle.canon_context.proofs.Moves.{GuestLaws}
 
 module _ {T G : Type 0} (seen : G → Seen) (moves : GuestIn G → List Event → GuestIn G → Type 0) (options place : ℕ) (ms : Members) (names : List Name) (vs : List Val) (start : Parts T G) (first : List ℕ) (from : Spot) where

@@ -5,8 +5,8 @@ use Rattle.std.specs.declared.alloc.Global.{Global}
 use Rattle.canon_types.specs.declared.types.InterfaceType.{InterfaceType}
 use Rattle.canon_context.specs.declared.fault.Fault.{Fault}
 use Rattle.canon_context.specs.declared.fault.Fault.TheVariants as fault
-use Rattle.canon_val.specs.declared.members.Members.{Members}
-use Rattle.canon_val.specs.declared.members.Members.TheVariants as members
+use Rattle.canon_value.specs.declared.members.Members.{Members}
+use Rattle.canon_value.specs.declared.members.Members.TheVariants as members
 use Rattle.canon_val.specs.declared.val.Val.{Val}
 
 -- a payload of the case's type, where it has one, as members

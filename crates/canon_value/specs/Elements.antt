@@ -2,8 +2,8 @@
 use Rattle.std.specs.Prelude.{List, [], ◌∷◌, length, ℕ}
 use Rattle.canon_plan.specs.declared.element.Element.{Element}
 use Rattle.canon_plan.specs.declared.element.Element.TheVariants as element
-use Rattle.canon_val.specs.declared.elements.Elements.{Elements}
-use Rattle.canon_val.specs.declared.elements.Elements.TheVariants as elements
+use Rattle.canon_value.specs.declared.elements.Elements.{Elements}
+use Rattle.canon_value.specs.declared.elements.Elements.TheVariants as elements
 use Rattle.canon_val.specs.declared.val.Val.{Val}
 use Rattle.canon_val.specs.declared.val.Val.TheVariants as val
 

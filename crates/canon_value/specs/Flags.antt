@@ -13,8 +13,8 @@ use Rattle.canon_types.specs.Table.{Table, shape_of}
 use Rattle.canon_types.specs.declared.types.InterfaceType.{InterfaceType}
 use Rattle.canon_types.specs.declared.types.InterfaceType.TheVariants as ty
 use Rattle.canon_val.specs.Value.{AreMarked, IsLiftedFrom, Occurs}
-use Rattle.canon_val.specs.declared.flags.Marks.{Marks}
-use Rattle.canon_val.specs.declared.flags.Marks.TheVariants as marks
+use Rattle.canon_value.specs.declared.flags.Marks.{Marks}
+use Rattle.canon_value.specs.declared.flags.Marks.TheVariants as marks
 use Rattle.canon_context.specs.declared.fault.Fault.{Fault}
 use Rattle.canon_context.specs.declared.fault.Fault.TheVariants as fault
 use Rattle.canon_val.specs.declared.val.Val.{Val}

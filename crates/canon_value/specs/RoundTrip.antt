@@ -11,8 +11,8 @@ use Rattle.canon_model.specs.Layout.{members_flat}
 use Rattle.canon_model.specs.Shape.{Members, Shape}
 use Rattle.canon_model.specs.Text.{Encoding}
 use Rattle.canon_model.specs.Tree.{Tree, Trees}
-use Rattle.canon_val.specs.Lifts.{AreResults, IsOfWords}
-use Rattle.canon_val.specs.Loads.{IsLoaded}
+use Rattle.canon_value.specs.Lifts.{AreResults, IsOfWords}
+use Rattle.canon_value.specs.Loads.{IsLoaded}
 use Rattle.canon_val.specs.Value.{AreLiftedFrom, AreSame, HasTree, HaveTrees, IsLiftedFrom, IsSame}
 use Rattle.canon_val.specs.declared.val.Val.{Val}
 
@@ -37,8 +37,8 @@ pub record ComeBack (ms : Members) (vs ws : List Val) (fuel left : ℕ) : Type 0
 abbrev pub IsOneForm : Members → Type 0
 IsOneForm ms = (members_flat ms ≤ max_results) ⊎ (max_params < members_flat ms)
 
--- Where `realloc` kept its law, and the place was held, what `store` left `load` gives back; what `lower_flat` left
--- `lift_flat`, and what `lower_args` left `lift_results`, where their forms are one.
+-- Where `realloc` kept its law, and the place was held, what `linear_lower_to_memory` left `linear_lift_from_memory` gives back; what `linear_lower_to_flat` left
+-- `linear_lift_from_flat`, and what `lower_args` left `lift_results`, where their forms are one.
 pub record RoundTrip : Type 0 where
   pub memory : (before after : Moment) (enc : Encoding) (s : Shape) (at : ℕ) (v w : Val) (hs : List ℕ) (fuel left : ℕ)
       → (stored : StoresValue false before after enc s at (HasTree s v) hs done) → AllLawful stored.answers → AreHeld before stored.answers (value_place false s at ∷ [])

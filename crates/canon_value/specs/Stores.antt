@@ -6,13 +6,13 @@ use Rattle.canon_memory.specs.Guest.{GuestIn, Seen}
 use Rattle.canon_memory.specs.declared.event.Event.{Event}
 use Rattle.canon_model.specs.Shape.{Members, Name, Shape}
 use Rattle.canon_context.specs.Core.{Parts, encoding_by, guest_of, moment_of}
-use Rattle.canon_val.specs.Fails.{AreSmall, Blames, Failure, FailsAt, MemberFails, NoneTooLarge}
+use Rattle.canon_value.specs.Fails.{AreSmall, Blames, Failure, FailsAt, MemberFails, NoneTooLarge}
 use Rattle.canon_context.specs.Lowers.{ending_of}
 use Rattle.canon_context.specs.Moves.{Moves}
 use Rattle.canon_context.specs.Quiet.{Quiet, has_block, have_block}
-use Rattle.canon_val.specs.Resources.{LowersHandles, all_passes, passes}
+use Rattle.canon_value.specs.Resources.{LowersHandles, all_passes, passes}
 use Rattle.canon_val.specs.Value.{HasTree, HaveTrees, all_places, cap, member_names, places}
-use Rattle.canon_val.specs.declared.blocks.Placed.{Placed}
+use Rattle.canon_value.specs.declared.blocks.Placed.{Placed}
 use Rattle.canon_context.specs.declared.fault.Fault.{Fault}
 use Rattle.canon_context.specs.declared.fault.Fault.TheVariants as fault
 use Rattle.canon_val.specs.declared.val.Val.{Val}

@@ -7,11 +7,11 @@ use Rattle.canon_types.specs.Depth.{product_members}
 use Rattle.canon_types.specs.Table.{HasTuple, Knows, Table, shape_of, tuple_members}
 use Rattle.canon_types.specs.declared.types.InterfaceType.TheVariants as ty
 use Rattle.canon_plan.specs.Element.{IsMap, row_of}
-use Rattle.canon_val.specs.Elements.{by_turns}
+use Rattle.canon_value.specs.Elements.{by_turns}
 use Rattle.canon_val.specs.Value.{names_in, no_names, values_in}
-use Rattle.canon_val.specs.declared.members.Member.{Member}
-use Rattle.canon_val.specs.declared.members.Members.{Members}
-use Rattle.canon_val.specs.declared.members.Members.TheVariants as members
+use Rattle.canon_value.specs.declared.members.Member.{Member}
+use Rattle.canon_value.specs.declared.members.Members.{Members}
+use Rattle.canon_value.specs.declared.members.Members.TheVariants as members
 use Rattle.canon_val.specs.declared.val.Val.{Val}
 use Rattle.canon_plan.specs.Plan.{members_from}
 

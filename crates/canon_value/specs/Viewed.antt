@@ -8,20 +8,20 @@ use Rattle.canon_model.specs.Shape.{Cases, Name, Shape, VariantKind, case_count,
 use Rattle.canon_types.specs.Table.{Table, shape_of}
 use Rattle.canon_types.specs.declared.types.InterfaceType.{InterfaceType}
 use Rattle.canon_plan.specs.Element.{IsKnown, list_shape}
-use Rattle.canon_val.specs.Elements.{element_in, list_value}
-use Rattle.canon_val.specs.Fails.{Blames, FailsAt}
-use Rattle.canon_val.specs.Flags.{IsFlagsType}
+use Rattle.canon_value.specs.Elements.{element_in, list_value}
+use Rattle.canon_value.specs.Fails.{Blames, FailsAt}
+use Rattle.canon_value.specs.Flags.{IsFlagsType}
 use Rattle.canon_context.specs.Lowers.{fault_ending}
-use Rattle.canon_val.specs.Resources.{ledger_fault}
+use Rattle.canon_value.specs.Resources.{ledger_fault}
 use Rattle.canon_val.specs.Value.{IsCase, IsFixed, IsProduct, member_names, no_names}
-use Rattle.canon_val.specs.View.{AreKnown, names_of, shapes_of, values_of}
-use Rattle.canon_val.specs.Words.{IsWordOf}
-use Rattle.canon_val.specs.declared.case_view.Case.{Case}
+use Rattle.canon_value.specs.View.{AreKnown, names_of, shapes_of, values_of}
+use Rattle.canon_value.specs.Words.{IsWordOf}
+use Rattle.canon_value.specs.declared.case_view.Case.{Case}
 use Rattle.canon_context.specs.declared.fault.Fault.{Fault}
 use Rattle.canon_val.specs.declared.val.Val.{Val}
 use Rattle.canon_val.specs.declared.val.Val.TheVariants as val
-use Rattle.canon_val.specs.declared.view.View.{View}
-use Rattle.canon_val.specs.declared.view.View.TheVariants as view
+use Rattle.canon_value.specs.declared.view.View.{View}
+use Rattle.canon_value.specs.declared.view.View.TheVariants as view
 use Rattle.canon_plan.specs.Plan.{LiesAs, type_of_handle}
 use Rattle.canon_model.specs.Text.{Encoding}
 

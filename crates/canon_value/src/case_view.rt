@@ -2,8 +2,8 @@
 
 ghost use Rattle.std.specs.Prelude.{IfErr, IfOk};
 ghost use Rattle.canon_types.specs.Table.{Knows};
-ghost use Rattle.canon_val.specs.CaseView.{IsPayload, Misses};
-ghost use Rattle.canon_val.specs.Viewed.{Viewed};
+ghost use Rattle.canon_value.specs.CaseView.{IsPayload, Misses};
+ghost use Rattle.canon_value.specs.Viewed.{Viewed};
 
 use crate::members::Members;
 use crate::view::View;

@@ -1,7 +1,7 @@
 //! A list or a map with its elements.
 
 ghost use Rattle.std.specs.Prelude.{◌≡◌};
-ghost use Rattle.canon_val.specs.Elements.{element_in, list_length};
+ghost use Rattle.canon_value.specs.Elements.{element_in, list_length};
 
 use crate::Val;
 use canon_plan::Element;

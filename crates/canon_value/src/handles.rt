@@ -7,7 +7,7 @@ ghost use Rattle.canon_leaves.specs.Parts.{LeafLifts, passed};
 ghost use Rattle.canon_plan.specs.Plan.{type_of_handle};
 ghost use Rattle.canon_types.specs.Table.{HasResource, Knows};
 ghost use Rattle.canon_model.specs.Leaves.{leaf};
-ghost use Rattle.canon_val.specs.Resources.{GivesHandle, TakesHandle, told_fault};
+ghost use Rattle.canon_value.specs.Resources.{GivesHandle, TakesHandle, told_fault};
 
 use crate::{Fault, LowerContext, Val};
 use canon_context::Source;

@@ -27,8 +27,8 @@ pub use canon_context::{
 };
 pub use canon_val::Val;
 pub use given::{lower_results, results_area};
-pub use lift::lift_flat;
-pub use load::load;
-pub use lower::lower_flat;
+pub use lift::linear_lift_from_flat;
+pub use load::linear_lift_from_memory;
+pub use lower::linear_lower_to_flat;
 pub use results::{lift_args, lift_results};
-pub use store::store;
+pub use store::linear_lower_to_memory;

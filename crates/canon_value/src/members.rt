@@ -6,9 +6,9 @@ ghost use Rattle.canon_model.specs.Shape.{member, member_count, no_members};
 ghost use Rattle.canon_types.specs.Depth.{product_members};
 ghost use Rattle.canon_types.specs.Table.{HasTuple, Knows, Table, shape_of, tuple_members};
 ghost use Rattle.canon_plan.specs.Element.{IsKnown, list_shape, row_of};
-ghost use Rattle.canon_val.specs.Elements.{by_turns, element_in, list_length, values_listed};
+ghost use Rattle.canon_value.specs.Elements.{by_turns, element_in, list_length, values_listed};
 ghost use Rattle.canon_val.specs.Value.{names_in, no_names, values_in};
-ghost use Rattle.canon_val.specs.View.{AreFew, AreKnown, IsMember, names_of, shapes_of, values_of};
+ghost use Rattle.canon_value.specs.View.{AreFew, AreKnown, IsMember, names_of, shapes_of, values_of};
 
 use crate::Val;
 use crate::elements::Elements;

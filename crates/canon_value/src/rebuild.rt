@@ -4,10 +4,10 @@ ghost use Rattle.std.specs.Prelude.{◌≡◌, ◌++◌, ◌%◌, ◌∷◌, [],
 ghost use Rattle.canon_model.specs.Shape.{member_count, of_fields};
 ghost use Rattle.canon_types.specs.Depth.{product_members};
 ghost use Rattle.canon_types.specs.Table.{Knows, shape_of};
-ghost use Rattle.canon_val.specs.Elements.{by_turns};
+ghost use Rattle.canon_value.specs.Elements.{by_turns};
 ghost use Rattle.canon_plan.specs.Plan.{IsKind};
-ghost use Rattle.canon_val.specs.Plan.{IsRebuilt, parts_of};
-ghost use Rattle.canon_val.specs.Resources.{all_resources, resources};
+ghost use Rattle.canon_value.specs.Plan.{IsRebuilt, parts_of};
+ghost use Rattle.canon_value.specs.Resources.{all_resources, resources};
 ghost use Rattle.canon_val.specs.Value.{IsPairs, IsProduct, member_names, names_in, values_in};
 
 use crate::lift::keep;

@@ -6,8 +6,8 @@ ghost use Rattle.canon_model.specs.Shape.{Cases, case_count, member_count, of_ca
 ghost use Rattle.canon_types.specs.Depth.{variant_cases};
 ghost use Rattle.canon_types.specs.Table.{Knows, shape_of};
 ghost use Rattle.canon_plan.specs.Plan.{IsCaseKind};
-ghost use Rattle.canon_val.specs.Plan.{IsCaseRebuilt};
-ghost use Rattle.canon_val.specs.Resources.{all_resources, resources};
+ghost use Rattle.canon_value.specs.Plan.{IsCaseRebuilt};
+ghost use Rattle.canon_value.specs.Resources.{all_resources, resources};
 ghost use Rattle.canon_val.specs.Value.{IsCase, IsFirst, case_names, unboxed};
 
 use crate::{Fault, Val};

@@ -8,18 +8,18 @@ ghost use Rattle.canon_types.specs.Table.{Knows, shape_of};
 ghost use Rattle.canon_plan.specs.Plan.{shape_of_handle, type_of_handle};
 ghost use Rattle.canon_context.specs.Core.{encoding_by, guest_of, moment_of, types_of};
 ghost use Rattle.canon_plan.specs.Element.{IsKnown, list_shape};
-ghost use Rattle.canon_val.specs.Elements.{element_in, list_value};
-ghost use Rattle.canon_val.specs.Fails.{BlamesValue, IsSmall};
+ghost use Rattle.canon_value.specs.Elements.{element_in, list_value};
+ghost use Rattle.canon_value.specs.Fails.{BlamesValue, IsSmall};
 ghost use Rattle.canon_context.specs.Lowers.{ending_of};
 ghost use Rattle.canon_context.specs.Moves.{Moves};
 ghost use Rattle.canon_context.specs.Quiet.{has_block, has_handle};
-ghost use Rattle.canon_val.specs.Resources.{Crosses, QuietBut, passes};
+ghost use Rattle.canon_value.specs.Resources.{Crosses, QuietBut, passes};
 ghost use Rattle.canon_context.specs.Asks.{SameButHandles};
-ghost use Rattle.canon_val.specs.Stores.{PartsStoreTo, PlacesTo, StoresTo};
+ghost use Rattle.canon_value.specs.Stores.{PartsStoreTo, PlacesTo, StoresTo};
 ghost use Rattle.canon_val.specs.declared.val.Val.TheVariants as val;
 ghost use Rattle.canon_val.specs.Value.{HasTree};
-ghost use Rattle.canon_val.specs.View.{AreKnown, names_of, shapes_of, values_of};
-ghost use Rattle.canon_val.specs.Words.{IsWordOf};
+ghost use Rattle.canon_value.specs.View.{AreKnown, names_of, shapes_of, values_of};
+ghost use Rattle.canon_value.specs.Words.{IsWordOf};
 
 use crate::blocks::{Placed, ask_items, place_text};
 use crate::elements::{Elements, element_count, element_of};
@@ -38,7 +38,7 @@ use canon_types::InterfaceType;
 /// `LengthMismatch`, `FieldName`, `UnknownCase`, `UnknownFlag`, `PayloadExpected` or `PayloadNotExpected` where the value
 /// isn't of the type, `StringTooLong` or `SizeOverflow` where a block would be too large, and the faults of
 /// `LowerContext::realloc`. A value of a type that reaches no text and no list asks the guest for nothing. At an error its place and its blocks may have changed.
-pub fn store<T, G: Guest>(
+pub fn linear_lower_to_memory<T, G: Guest>(
     value: &Val,
     cx: &mut LowerContext<'_, T, G>,
     ty: InterfaceType,

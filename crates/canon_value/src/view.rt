@@ -5,7 +5,7 @@ ghost use Rattle.canon_model.specs.Shape.{string};
 ghost use Rattle.canon_types.specs.Table.{Knows, shape_of};
 ghost use Rattle.canon_plan.specs.NoHandle.{IsScalarType};
 ghost use Rattle.canon_plan.specs.Plan.{typed_handle};
-ghost use Rattle.canon_val.specs.Viewed.{Viewed};
+ghost use Rattle.canon_value.specs.Viewed.{Viewed};
 
 use crate::case_view::{Case, enum_view, option_view, result_view, variant_view};
 use crate::elements::Elements;

@@ -7,8 +7,8 @@ use Rattle.canon_types.specs.Depth.{element_shape}
 use Rattle.canon_context.specs.Core.{types_of}
 use Rattle.canon_plan.specs.Element.{list_shape}
 use Rattle.canon_context.specs.Asks.{AsksFor}
-use Rattle.canon_val.proofs.Listing.{element_align}
-use Rattle.canon_val.proofs.blocks.ask_items.Goals as goal
+use Rattle.canon_value.proofs.Listing.{element_align}
+use Rattle.canon_value.proofs.blocks.ask_items.Goals as goal
 
 pub returns-clause-asked : goal.returns-clause-asked
 returns-clause-asked g c =

@@ -2,8 +2,8 @@ use Rattle.std.proofs.Common.{Err, IsUtf8, List, Ok, subst, sym, ℕ}
 use Rattle.std.proofs.lemmas.Str.{IsUtf8-string_bytes}
 use Rattle.canon_string.specs.Texts.{PutsText}
 use Rattle.canon_context.proofs.Moves.{GuestLaws}
-use Rattle.canon_val.proofs.PlacedTexts.{text_placed, text_unplaced}
-use Rattle.canon_val.proofs.blocks.place_text.Goals as goal
+use Rattle.canon_value.proofs.PlacedTexts.{text_placed, text_unplaced}
+use Rattle.canon_value.proofs.blocks.place_text.Goals as goal
 
 pub put_text-requires-clause-text : goal.put_text-requires-clause-text
 put_text-requires-clause-text g c = subst IsUtf8 (sym c.as_bytes.ensures.value) (IsUtf8-string_bytes c.args.text.now)

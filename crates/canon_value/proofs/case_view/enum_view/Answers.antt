@@ -3,11 +3,11 @@ use Rattle.canon_model.specs.Shape.{enum_of}
 use Rattle.canon_types.specs.Keeps.{names_of}
 use Rattle.canon_types.specs.Table.{shape_of}
 use Rattle.canon_types.specs.declared.types.InterfaceType.TheVariants as ty
-use Rattle.canon_val.specs.Fails.{mismatch}
-use Rattle.canon_val.proofs.CaseViews.{enum_first, enum_info, enum_seen, enum_unknown, name_few}
-use Rattle.canon_val.proofs.Steps.{own_failure}
-use Rattle.canon_val.proofs.case_view.enum_view.Goals.{After-enum_-names}
-use Rattle.canon_val.proofs.case_view.enum_view.Goals as goal
+use Rattle.canon_value.specs.Fails.{mismatch}
+use Rattle.canon_value.proofs.CaseViews.{enum_first, enum_info, enum_seen, enum_unknown, name_few}
+use Rattle.canon_value.proofs.Steps.{own_failure}
+use Rattle.canon_value.proofs.case_view.enum_view.Goals.{After-enum_-names}
+use Rattle.canon_value.proofs.case_view.enum_view.Goals as goal
 
 shape : (c : After-enum_-names) → shape_of c.args.types.now (ty.Enum c.args.i) ≡ enum_of (names_of c.enum_-names.result.now.names.keys)
 shape c = c.enum_-names.ensures.entry.shape

@@ -4,12 +4,12 @@ use Rattle.canon_model.specs.Shape.{Shape, of_option, option_of}
 use Rattle.canon_types.specs.Depth.{variant_cases}
 use Rattle.canon_types.specs.Table.{shape_of}
 use Rattle.canon_types.specs.declared.types.InterfaceType.TheVariants as ty
-use Rattle.canon_val.specs.Fails.{mismatch}
+use Rattle.canon_value.specs.Fails.{mismatch}
 use Rattle.canon_val.specs.declared.val.Val.{Val}
 use Rattle.canon_val.specs.declared.val.Val.TheVariants as val
-use Rattle.canon_val.proofs.Steps.{own_failure}
-use Rattle.canon_val.proofs.case_view.option_view.Goals.{After-option-option}
-use Rattle.canon_val.proofs.case_view.option_view.Goals as goal
+use Rattle.canon_value.proofs.Steps.{own_failure}
+use Rattle.canon_value.proofs.case_view.option_view.Goals.{After-option-option}
+use Rattle.canon_value.proofs.case_view.option_view.Goals as goal
 
 shape : (c : After-option-option) → shape_of c.args.types.now (ty.Option c.args.i) ≡ option_of (shape_of c.args.types.now c.option-option.result.now.ty)
 shape c = c.option-option.ensures.entry.shape

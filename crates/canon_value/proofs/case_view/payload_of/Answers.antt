@@ -2,10 +2,10 @@ use Rattle.std.proofs.Common.{Some, refl, subst, sym}
 use Rattle.std.specs.Prelude.{Box, Option}
 use Rattle.std.specs.declared.alloc.Global.{Global}
 use Rattle.canon_types.specs.declared.types.InterfaceType.{InterfaceType}
-use Rattle.canon_val.specs.CaseView.{IsPayload}
-use Rattle.canon_val.specs.declared.members.Members.TheVariants as members
+use Rattle.canon_value.specs.CaseView.{IsPayload}
+use Rattle.canon_value.specs.declared.members.Members.TheVariants as members
 use Rattle.canon_val.specs.declared.val.Val.{Val}
-use Rattle.canon_val.proofs.case_view.payload_of.Goals as goal
+use Rattle.canon_value.proofs.case_view.payload_of.Goals as goal
 
 pub returns-in-Some-ty-2-clause-ok : goal.returns-in-Some-ty-2-clause-ok
 returns-in-Some-ty-2-clause-ok c =

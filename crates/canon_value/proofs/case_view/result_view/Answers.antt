@@ -4,12 +4,12 @@ use Rattle.canon_model.specs.Shape.{result_of}
 use Rattle.canon_types.specs.Table.{all_shapes, payload_in, shape_of}
 use Rattle.canon_types.specs.declared.types.InterfaceType.{InterfaceType}
 use Rattle.canon_types.specs.declared.types.InterfaceType.TheVariants as ty
-use Rattle.canon_val.specs.Fails.{mismatch}
-use Rattle.canon_val.proofs.CaseViews.{IsChosen, chosen_error, chosen_ok, result_missed, result_seen}
-use Rattle.canon_val.proofs.Cases.{Payload}
-use Rattle.canon_val.proofs.Steps.{own_failure}
-use Rattle.canon_val.proofs.case_view.result_view.Goals.{After-result-types, in-Err, in-Ok}
-use Rattle.canon_val.proofs.case_view.result_view.Goals as goal
+use Rattle.canon_value.specs.Fails.{mismatch}
+use Rattle.canon_value.proofs.CaseViews.{IsChosen, chosen_error, chosen_ok, result_missed, result_seen}
+use Rattle.canon_value.proofs.Cases.{Payload}
+use Rattle.canon_value.proofs.Steps.{own_failure}
+use Rattle.canon_value.proofs.case_view.result_view.Goals.{After-result-types, in-Err, in-Ok}
+use Rattle.canon_value.proofs.case_view.result_view.Goals as goal
 
 shape : (c : After-result-types) → shape_of c.args.types.now (ty.Result c.args.i) ≡ result_of (payload_in (all_shapes c.args.types.now) c.result-types.result.now.ok) (payload_in (all_shapes c.args.types.now) c.result-types.result.now.err)
 shape c = c.result-types.ensures.entry.shape

@@ -4,11 +4,11 @@ use Rattle.canon_model.specs.Shape.{variant_of}
 use Rattle.canon_types.specs.Table.{all_shapes, cases_in, shape_of}
 use Rattle.canon_types.specs.declared.types.InterfaceType.{InterfaceType}
 use Rattle.canon_types.specs.declared.types.InterfaceType.TheVariants as ty
-use Rattle.canon_val.specs.Fails.{mismatch}
-use Rattle.canon_val.proofs.CaseViews.{name_few, variant_first, variant_info, variant_missed, variant_seen, variant_unknown}
-use Rattle.canon_val.proofs.Steps.{own_failure}
-use Rattle.canon_val.proofs.case_view.variant_view.Goals.{After-variant-variant}
-use Rattle.canon_val.proofs.case_view.variant_view.Goals as goal
+use Rattle.canon_value.specs.Fails.{mismatch}
+use Rattle.canon_value.proofs.CaseViews.{name_few, variant_first, variant_info, variant_missed, variant_seen, variant_unknown}
+use Rattle.canon_value.proofs.Steps.{own_failure}
+use Rattle.canon_value.proofs.case_view.variant_view.Goals.{After-variant-variant}
+use Rattle.canon_value.proofs.case_view.variant_view.Goals as goal
 
 shape : (c : After-variant-variant)
     → shape_of c.args.types.now (ty.Variant c.args.i) ≡ variant_of (cases_in (all_shapes c.args.types.now) (map (λ (x : String Global × Option InterfaceType). (string_bytes x.0, x.1)) c.variant-variant.result.now.cases.entries))

@@ -1,6 +1,6 @@
 use Rattle.std.proofs.Common.{◌≡◌, ◌≤◌, ◌<◌, slice_index, ℕ}
-use Rattle.canon_val.specs.Words.{WordsStay}
-use Rattle.canon_val.proofs.flags.clear_words.Given as goal
+use Rattle.canon_value.specs.Words.{WordsStay}
+use Rattle.canon_value.proofs.flags.clear_words.Given as goal
 
 -- the words so far are zero
 abbrev pub invariant-loop-j : goal.invariant-loop-j

@@ -4,11 +4,11 @@ use Rattle.std.proofs.lemmas.Bool.{cases_lt}
 use Rattle.std.proofs.lemmas.List.{get_or-map, length-map, map-append}
 use Rattle.canon_model.specs.Shape.{Name}
 use Rattle.canon_types.specs.Keeps.{names_of}
-use Rattle.canon_val.specs.Flags.{digit_of, flag_names, width_of}
-use Rattle.canon_val.proofs.FlagNames.{flags_are, names_are, names_differ}
-use Rattle.canon_val.proofs.FlagReading.{IsReading, flags_end, flags_unpaid, read_set, read_unpaid, read_unset, room_of}
-use Rattle.canon_val.proofs.flags.flags_of.Goals as goal
-use Rattle.canon_val.proofs.flags.flags_of.Goals.{After-as_slice-names, After-is_set, then-is_set+in_ok-charge+in_ok-name+in_ok-keep, else-is_set}
+use Rattle.canon_value.specs.Flags.{digit_of, flag_names, width_of}
+use Rattle.canon_value.proofs.FlagNames.{flags_are, names_are, names_differ}
+use Rattle.canon_value.proofs.FlagReading.{IsReading, flags_end, flags_unpaid, read_set, read_unpaid, read_unset, room_of}
+use Rattle.canon_value.proofs.flags.flags_of.Goals as goal
+use Rattle.canon_value.proofs.flags.flags_of.Goals.{After-as_slice-names, After-is_set, then-is_set+in_ok-charge+in_ok-name+in_ok-keep, else-is_set}
 
 -- the names, as they are read
 names_read : (c : After-as_slice-names) → flag_names c.args.types.now c.args.i ≡ names_of c.as_slice-names.result.now

@@ -1,8 +1,8 @@
 use Rattle.std.proofs.Common.{◌<◌, ◌/◌, ◌^◌, ℕ}
 use Rattle.canon_types.specs.Keeps.{names_of}
-use Rattle.canon_val.specs.Flags.{digit_of, width_of}
-use Rattle.canon_val.proofs.FlagReading.{IsReading}
-use Rattle.canon_val.proofs.flags.flags_of.Given as goal
+use Rattle.canon_value.specs.Flags.{digit_of, width_of}
+use Rattle.canon_value.proofs.FlagReading.{IsReading}
+use Rattle.canon_value.proofs.flags.flags_of.Given as goal
 
 abbrev pub invariant-loop-k : goal.invariant-loop-k
 invariant-loop-k l = record {

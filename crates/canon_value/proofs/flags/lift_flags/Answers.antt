@@ -1,16 +1,16 @@
 use Rattle.std.proofs.Common.{◌+◌, ◌∙◌, ◌≡◌, None, arith, refl}
 use Rattle.canon_indices.specs.Options.{encoding_of}
 use Rattle.canon_lowering.specs.Storing.{narrow}
-use Rattle.canon_val.specs.Flags.{flag_names}
-use Rattle.canon_val.proofs.FlagLifting.{flags_lifted}
-use Rattle.canon_val.proofs.FlagNames.{flags_are}
-use Rattle.canon_val.proofs.FlagSteps.{flags_words_count, flat_flags}
+use Rattle.canon_value.specs.Flags.{flag_names}
+use Rattle.canon_value.proofs.FlagLifting.{flags_lifted}
+use Rattle.canon_value.proofs.FlagNames.{flags_are}
+use Rattle.canon_value.proofs.FlagSteps.{flags_words_count, flat_flags}
 use Rattle.canon_context.proofs.Told.{on_err}
 use Rattle.canon_context.specs.Told.{IsNoRefusal}
-use Rattle.canon_val.proofs.LeavesAt.{flags_flat_leaves}
-use Rattle.canon_val.proofs.Lifted.{lifts_nothing, no_refusal}
-use Rattle.canon_val.specs.Resources.{resources, stop_of}
-use Rattle.canon_val.proofs.flags.lift_flags.Goals as goal
+use Rattle.canon_value.proofs.LeavesAt.{flags_flat_leaves}
+use Rattle.canon_value.proofs.Lifted.{lifts_nothing, no_refusal}
+use Rattle.canon_value.specs.Resources.{resources, stop_of}
+use Rattle.canon_value.proofs.flags.lift_flags.Goals as goal
 
 pub flags_of-requires-clause-room : goal.flags_of-requires-clause-room
 flags_of-requires-clause-room c = omega (arith, c.requires.room, flat_flags _ _ (flags_are c.args.source.now.types.now c.args.i c.flags.result.now c.flags.ensures.entry))

@@ -2,17 +2,17 @@ use Rattle.std.proofs.Common.{◌≡◌, ◌≤◌, ◌+◌, None, arith, length
 use Rattle.canon_indices.specs.Options.{encoding_of}
 use Rattle.canon_lowering.specs.Storing.{narrow}
 use Rattle.canon_model.specs.Layout.{flags_size}
-use Rattle.canon_val.specs.Flags.{flag_names}
-use Rattle.canon_val.proofs.FlagLifting.{flags_blamed, flags_loaded}
-use Rattle.canon_val.proofs.FlagNames.{flags_are}
-use Rattle.canon_val.proofs.FlagSteps.{size_flags}
-use Rattle.canon_val.proofs.flags.load_flags.Goals.{After-flags-flags}
+use Rattle.canon_value.specs.Flags.{flag_names}
+use Rattle.canon_value.proofs.FlagLifting.{flags_blamed, flags_loaded}
+use Rattle.canon_value.proofs.FlagNames.{flags_are}
+use Rattle.canon_value.proofs.FlagSteps.{size_flags}
+use Rattle.canon_value.proofs.flags.load_flags.Goals.{After-flags-flags}
 use Rattle.canon_context.proofs.Told.{on_err}
 use Rattle.canon_context.specs.Told.{IsNoRefusal}
-use Rattle.canon_val.proofs.LeavesAt.{flags_leaves}
-use Rattle.canon_val.proofs.Lifted.{lifts_nothing, no_refusal}
-use Rattle.canon_val.specs.Resources.{resources, stop_of}
-use Rattle.canon_val.proofs.flags.load_flags.Goals as goal
+use Rattle.canon_value.proofs.LeavesAt.{flags_leaves}
+use Rattle.canon_value.proofs.Lifted.{lifts_nothing, no_refusal}
+use Rattle.canon_value.specs.Resources.{resources, stop_of}
+use Rattle.canon_value.proofs.flags.load_flags.Goals as goal
 
 room : (c : After-flags-flags) → c.args.at + flags_size (length (flag_names c.args.source.now.types.now c.args.i)) ≤ length c.args.source.now.memory.now
 room c = omega (arith, c.requires.inside, size_flags _ _ (flags_are c.args.source.now.types.now c.args.i c.flags-flags.result.now c.flags-flags.ensures.entry))

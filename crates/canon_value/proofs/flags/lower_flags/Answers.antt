@@ -1,11 +1,11 @@
 use Rattle.std.proofs.Common.{◌∙◌, ap, arith, refl, sym}
 use Rattle.canon_types.specs.declared.types.InterfaceType.TheVariants as ty
 use Rattle.canon_types.specs.Table.{Table, shape_of}
-use Rattle.canon_val.specs.Flags.{flag_names}
-use Rattle.canon_val.proofs.FlagNames.{flags_are}
-use Rattle.canon_val.proofs.FlagSteps.{flags_lower, flags_not_lowered, flags_words_count, flat_flags}
+use Rattle.canon_value.specs.Flags.{flag_names}
+use Rattle.canon_value.proofs.FlagNames.{flags_are}
+use Rattle.canon_value.proofs.FlagSteps.{flags_lower, flags_not_lowered, flags_words_count, flat_flags}
 use Rattle.canon_context.proofs.Moves.{GuestLaws}
-use Rattle.canon_val.proofs.flags.lower_flags.Goals as goal
+use Rattle.canon_value.proofs.flags.lower_flags.Goals as goal
 
 pub put_flags-requires-clause-room : goal.put_flags-requires-clause-room
 put_flags-requires-clause-room g c =

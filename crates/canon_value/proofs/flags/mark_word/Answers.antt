@@ -2,8 +2,8 @@ use Rattle.std.proofs.Common.{◌≡◌, ◌<◌, ◌+◌, ◌*◌, ◌/◌, ◌
 use Rattle.std.proofs.lemmas.Grind.{get_or_default_zero}
 use Rattle.std.proofs.lemmas.Nat.{or_lt}
 use Rattle.std.proofs.lemmas.Nat.Bits.{bit_at_set_other, bit_at_set_same}
-use Rattle.canon_val.proofs.FlagBits.{set_bit}
-use Rattle.canon_val.proofs.flags.mark_word.Goals as goal
+use Rattle.canon_value.proofs.FlagBits.{set_bit}
+use Rattle.canon_value.proofs.flags.mark_word.Goals as goal
 
 pub returns : goal.returns
 returns c =

@@ -1,5 +1,5 @@
-use Rattle.canon_val.proofs.FlagNames.{named_at, named_nowhere, names_differ}
-use Rattle.canon_val.proofs.flags.number_of.Goals as goal
+use Rattle.canon_value.proofs.FlagNames.{named_at, named_nowhere, names_differ}
+use Rattle.canon_value.proofs.flags.number_of.Goals as goal
 
 pub returns-clause-some : goal.returns-clause-some
 returns-clause-some c = named_at c.args.types.now c.args.i c.flags.result.now c.args.name.now c.as_str.result.now c.flags.ensures.entry c.as_str.ensures.value c.get_index_of.result c.get_index_of.ensures.index

@@ -1,9 +1,9 @@
 use Rattle.std.proofs.Common.{List, arith, rules, string_bytes, subst, sym, take, ℕ}
 use Rattle.canon_model.specs.Shape.{Name}
 use Rattle.canon_types.specs.Keeps.{names_of}
-use Rattle.canon_val.specs.Flags.{flag_names}
-use Rattle.canon_val.proofs.FlagWriting.{ArePut, last_name, next_name, next_unknown, put_begin, put_end, put_more}
-use Rattle.canon_val.proofs.flags.put_flags.Goals as goal
+use Rattle.canon_value.specs.Flags.{flag_names}
+use Rattle.canon_value.proofs.FlagWriting.{ArePut, last_name, next_name, next_unknown, put_begin, put_end, put_more}
+use Rattle.canon_value.proofs.flags.put_flags.Goals as goal
 
 pub loop-name-init : goal.loop-name-init
 loop-name-init c = put_begin c.args.dst.now c.clear_words.new.dst c.args.first c.args.count _ c.clear_words.ensures.stays c.clear_words.ensures.none

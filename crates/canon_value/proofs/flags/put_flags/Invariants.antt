@@ -1,7 +1,7 @@
 use Rattle.std.proofs.Common.{map, string_bytes, take}
-use Rattle.canon_val.specs.Flags.{flag_names}
-use Rattle.canon_val.proofs.FlagWriting.{ArePut}
-use Rattle.canon_val.proofs.flags.put_flags.Given as goal
+use Rattle.canon_value.specs.Flags.{flag_names}
+use Rattle.canon_value.proofs.FlagWriting.{ArePut}
+use Rattle.canon_value.proofs.flags.put_flags.Given as goal
 
 -- the names so far are put
 abbrev pub invariant-loop-name : goal.invariant-loop-name

@@ -6,19 +6,19 @@ use Rattle.canon_types.specs.Keeps.{names_of}
 use Rattle.canon_types.specs.Table.{Table, shape_of}
 use Rattle.canon_types.specs.declared.types.InterfaceType.TheVariants as ty
 use Rattle.canon_context.specs.Core.{Parts, types_of}
-use Rattle.canon_val.specs.Flags.{flag_names}
-use Rattle.canon_val.specs.Stores.{StoresTo}
+use Rattle.canon_value.specs.Flags.{flag_names}
+use Rattle.canon_value.specs.Stores.{StoresTo}
 use Rattle.canon_val.specs.Value.{Occurs}
 use Rattle.canon_context.specs.declared.fault.Fault.TheVariants as fault
 use Rattle.canon_val.specs.declared.val.Val.TheVariants as val
-use Rattle.canon_val.proofs.FlagDigits.{byte_inside}
-use Rattle.canon_val.proofs.FlagNames.{flags_are}
-use Rattle.canon_val.proofs.FlagSteps.{flags_bytes, flags_not_stored, flags_store, same_names, stored_first, stored_next}
-use Rattle.canon_val.proofs.FlagWriting.{AreStored, last_name, next_name, next_unknown}
+use Rattle.canon_value.proofs.FlagDigits.{byte_inside}
+use Rattle.canon_value.proofs.FlagNames.{flags_are}
+use Rattle.canon_value.proofs.FlagSteps.{flags_bytes, flags_not_stored, flags_store, same_names, stored_first, stored_next}
+use Rattle.canon_value.proofs.FlagWriting.{AreStored, last_name, next_name, next_unknown}
 use Rattle.canon_context.proofs.Moves.{GuestLaws}
-use Rattle.canon_val.proofs.flags.store_flags.Given.{Over}
-use Rattle.canon_val.proofs.flags.store_flags.Goals.{After-flags}
-use Rattle.canon_val.proofs.flags.store_flags.Goals as goal
+use Rattle.canon_value.proofs.flags.store_flags.Given.{Over}
+use Rattle.canon_value.proofs.flags.store_flags.Goals.{After-flags}
+use Rattle.canon_value.proofs.flags.store_flags.Goals as goal
 
 bytes_many : (g : Over) (c : After-flags g) → c.flags.result.now.abi.size32 ≡ flags_size (length (flag_names (types_of c.args.cx.now.core.now) c.args.i))
 bytes_many g c = flags_bytes (types_of c.args.cx.now.core.now) c.types.result.now c.args.i c.flags.result.now c.types.ensures c.flags.ensures.entry c.flags.ensures.abi

@@ -1,8 +1,8 @@
 use Rattle.std.proofs.Common.{◌≡◌, map, string_bytes, take}
 use Rattle.canon_context.specs.Core.{types_of}
-use Rattle.canon_val.specs.Flags.{flag_names}
-use Rattle.canon_val.proofs.FlagWriting.{AreStored}
-use Rattle.canon_val.proofs.flags.store_flags.Given as goal
+use Rattle.canon_value.specs.Flags.{flag_names}
+use Rattle.canon_value.proofs.FlagWriting.{AreStored}
+use Rattle.canon_value.proofs.flags.store_flags.Given as goal
 
 -- the names so far are stored, and nothing else changed
 abbrev pub invariant-loop-name : goal.invariant-loop-name

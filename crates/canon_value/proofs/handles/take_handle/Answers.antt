@@ -1,8 +1,8 @@
 use Rattle.std.proofs.Common.{subst}
 use Rattle.canon_types.specs.Table.{Knows, Table}
 use Rattle.canon_plan.specs.Plan.{type_of_handle}
-use Rattle.canon_val.proofs.HandleLifting.{handle_refused, handle_taken, has_resource}
-use Rattle.canon_val.proofs.handles.take_handle.Goals as goal
+use Rattle.canon_value.proofs.HandleLifting.{handle_refused, handle_taken, has_resource}
+use Rattle.canon_value.proofs.handles.take_handle.Goals as goal
 
 pub taken-requires : goal.taken-requires
 taken-requires c = record { known = has_resource c.args.source.now.instance.now.types c.args.handle (subst (λ (t : Table). Knows t (type_of_handle c.args.handle)) c.requires.one_origin c.requires.known) }

@@ -1,5 +1,5 @@
 use Rattle.canon_context.proofs.Handles.{placed_by}
-use Rattle.canon_val.proofs.handles.taken.Goals as goal
+use Rattle.canon_value.proofs.handles.taken.Goals as goal
 
 pub lift_own-requires : goal.lift_own-requires
 lift_own-requires c = record {

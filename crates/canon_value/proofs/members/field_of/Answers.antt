@@ -1,8 +1,8 @@
 use Rattle.std.proofs.Common.{◌<◌, arith, length, refl, string_bytes}
 use Rattle.canon_plan.proofs.Lookups.{named_by, field_is_known, field_member, in_fields}
-use Rattle.canon_val.proofs.Lookups.{names_at, values_at}
-use Rattle.canon_val.proofs.members.field_of.Goals.{After-record}
-use Rattle.canon_val.proofs.members.field_of.Goals as goal
+use Rattle.canon_value.proofs.Lookups.{names_at, values_at}
+use Rattle.canon_value.proofs.members.field_of.Goals.{After-record}
+use Rattle.canon_value.proofs.members.field_of.Goals as goal
 
 in_record : (c : After-record) → c.args.k < length c.record.result.now.fields.items
 in_record c = in_fields c.args.types.now c.args.types.now c.args.i c.args.k (length c.args.values.now) c.record.result.now.fields.items refl c.record.ensures.entry c.requires.count c.requires.inside

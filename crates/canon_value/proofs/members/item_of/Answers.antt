@@ -1,8 +1,8 @@
 use Rattle.std.proofs.Common.{[], refl}
 use Rattle.canon_types.specs.Table.{shape_of}
 use Rattle.canon_plan.proofs.Lookups.{copies_at, drop_at}
-use Rattle.canon_val.proofs.Lookups.{no_names_at}
-use Rattle.canon_val.proofs.members.item_of.Goals as goal
+use Rattle.canon_value.proofs.Lookups.{no_names_at}
+use Rattle.canon_value.proofs.members.item_of.Goals as goal
 
 pub returns : goal.returns
 returns c = record {

@@ -1,9 +1,9 @@
 use Rattle.std.proofs.Common.{◌<◌, ◌+◌, [], arith, length, refl}
-use Rattle.canon_val.proofs.Lookups.{no_names_at}
-use Rattle.canon_val.proofs.PairRows.{count_turns, key_at, value_at}
+use Rattle.canon_value.proofs.Lookups.{no_names_at}
+use Rattle.canon_value.proofs.PairRows.{count_turns, key_at, value_at}
 use Rattle.canon_plan.proofs.Pairs.{half_below, key_here, key_known, value_here, value_known}
-use Rattle.canon_val.proofs.members.pair_of.Goals.{After-map-map}
-use Rattle.canon_val.proofs.members.pair_of.Goals as goal
+use Rattle.canon_value.proofs.members.pair_of.Goals.{After-map-map}
+use Rattle.canon_value.proofs.members.pair_of.Goals as goal
 
 inside : (c : After-map-map) → c.args.k < length c.args.pairs.now + length c.args.pairs.now
 inside c = omega (arith, c.requires.inside, count_turns c.args.pairs.now)

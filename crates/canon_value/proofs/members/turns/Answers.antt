@@ -1,6 +1,6 @@
 use Rattle.std.proofs.Common.{arith}
-use Rattle.canon_val.proofs.PairRows.{count_turns}
-use Rattle.canon_val.proofs.members.turns.Goals as goal
+use Rattle.canon_value.proofs.PairRows.{count_turns}
+use Rattle.canon_value.proofs.members.turns.Goals as goal
 
 pub returns : goal.returns
 returns c = omega (arith, count_turns c.args.pairs.now)

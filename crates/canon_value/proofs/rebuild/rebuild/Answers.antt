@@ -3,16 +3,16 @@ use Rattle.canon_model.specs.Shape.{of_fields}
 use Rattle.canon_types.specs.Depth.{element_shape, product_members}
 use Rattle.canon_types.specs.Table.{shape_of}
 use Rattle.canon_types.specs.declared.types.InterfaceType.TheVariants as ty
-use Rattle.canon_val.specs.Plan.{IsRebuilt}
-use Rattle.canon_val.specs.Elements.{by_turns}
+use Rattle.canon_value.specs.Plan.{IsRebuilt}
+use Rattle.canon_value.specs.Elements.{by_turns}
 use Rattle.canon_val.specs.Value.{IsPairs, IsProduct, member_names}
 use Rattle.canon_val.specs.declared.val.Val.{Val}
 use Rattle.canon_context.proofs.Told.{on_ok}
-use Rattle.canon_val.proofs.Planning.{fixed_rebuilt, list_rebuilt, map_even, map_rebuilt, record_count, record_rebuilt, tuple_rebuilt}
+use Rattle.canon_value.proofs.Planning.{fixed_rebuilt, list_rebuilt, map_even, map_rebuilt, record_count, record_rebuilt, tuple_rebuilt}
 use Rattle.canon_plan.proofs.TypeKinds.{list_left}
-use Rattle.canon_val.proofs.ResourcesOf.{pair_resources, product_resources, resources_fixed, resources_list, resources_tuple}
-use Rattle.canon_val.specs.Resources.{all_resources, resources}
-use Rattle.canon_val.proofs.rebuild.rebuild.Goals as goal
+use Rattle.canon_value.proofs.ResourcesOf.{pair_resources, product_resources, resources_fixed, resources_list, resources_tuple}
+use Rattle.canon_value.specs.Resources.{all_resources, resources}
+use Rattle.canon_value.proofs.rebuild.rebuild.Goals as goal
 
 pub rebuild_record-requires-clause-count : goal.rebuild_record-requires-clause-count
 rebuild_record-requires-clause-count c =

@@ -1,11 +1,11 @@
 use Rattle.std.proofs.Common.{◌≡◌, ◌+◌, ◌++◌, ◌∷◌, ◌∙◌, List, [], ap, append-nil, append_assoc, arith, length, refl, sym}
 use Rattle.std.proofs.lemmas.List.{length-append}
 use Rattle.std.specs.Vec.Iter.{into_iter_items}
-use Rattle.canon_val.specs.Elements.{by_turns}
+use Rattle.canon_value.specs.Elements.{by_turns}
 use Rattle.canon_val.specs.declared.val.Val.{Val}
-use Rattle.canon_val.proofs.PairRows.{count_turns, turns_push}
-use Rattle.canon_val.proofs.Planning.{nothing_left}
-use Rattle.canon_val.proofs.rebuild.rebuild_map.Goals as goal
+use Rattle.canon_value.proofs.PairRows.{count_turns, turns_push}
+use Rattle.canon_value.proofs.Planning.{nothing_left}
+use Rattle.canon_value.proofs.rebuild.rebuild_map.Goals as goal
 
 -- as many are left as aren't in pairs
 left : (ps : List (Val × Val)) (rest values : List Val) → by_turns ps ++ rest ≡ values → length ps + length ps + length rest ≡ length values

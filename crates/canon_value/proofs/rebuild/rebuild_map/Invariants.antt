@@ -1,8 +1,8 @@
 -- Pairs so far, and the keys and values that are left.
 use Rattle.std.proofs.Common.{◌≡◌, ◌++◌, length}
 use Rattle.std.specs.Vec.Iter.{into_iter_items, into_iter_len}
-use Rattle.canon_val.specs.Elements.{by_turns}
-use Rattle.canon_val.proofs.rebuild.rebuild_map.Given as goal
+use Rattle.canon_value.specs.Elements.{by_turns}
+use Rattle.canon_value.proofs.rebuild.rebuild_map.Given as goal
 
 abbrev pub invariant-loop : goal.invariant-loop
 invariant-loop l =

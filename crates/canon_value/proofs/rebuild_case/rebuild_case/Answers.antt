@@ -5,14 +5,14 @@ use Rattle.canon_types.specs.Table.{shape_of}
 use Rattle.canon_types.specs.declared.types.InterfaceType.{InterfaceType}
 use Rattle.canon_types.specs.declared.types.InterfaceType.TheVariants as ty
 use Rattle.canon_plan.specs.Plan.{IsCaseKind}
-use Rattle.canon_val.specs.Plan.{IsCaseRebuilt}
+use Rattle.canon_value.specs.Plan.{IsCaseRebuilt}
 use Rattle.canon_val.specs.Value.{IsCase}
 use Rattle.canon_plan.proofs.CasePlans.{as_cases, result_left, result_cases}
-use Rattle.canon_val.proofs.CaseValues.{case_rebuilt, enum_none, enum_rebuilt, one_payload, option_tag}
+use Rattle.canon_value.proofs.CaseValues.{case_rebuilt, enum_none, enum_rebuilt, one_payload, option_tag}
 use Rattle.canon_context.proofs.Told.{on_ok}
-use Rattle.canon_val.proofs.ResourcesOf.{case_resources}
-use Rattle.canon_val.specs.Resources.{all_resources, resources}
-use Rattle.canon_val.proofs.rebuild_case.rebuild_case.Goals as goal
+use Rattle.canon_value.proofs.ResourcesOf.{case_resources}
+use Rattle.canon_value.specs.Resources.{all_resources, resources}
+use Rattle.canon_value.proofs.rebuild_case.rebuild_case.Goals as goal
 
 pub variant_value-requires-clause-few : goal.variant_value-requires-clause-few
 variant_value-requires-clause-few c = omega (arith, c.requires.count, one_payload (variant_cases (shape_of c.args.types.now c.args.ty.now)) c.args.tag)

@@ -3,13 +3,13 @@ use Rattle.canon_model.specs.Shape.{member_count, of_fields, product}
 use Rattle.canon_types.specs.Depth.{product_members}
 use Rattle.canon_types.specs.Table.{shape_of}
 use Rattle.canon_types.specs.declared.types.InterfaceType.TheVariants as ty
-use Rattle.canon_val.specs.Fails.{mismatch, wrong_length}
+use Rattle.canon_value.specs.Fails.{mismatch, wrong_length}
 use Rattle.canon_val.specs.Value.{names_in, values_in}
 use Rattle.canon_plan.proofs.Lookups.{count_fields, record_members, record_shape_of}
-use Rattle.canon_val.proofs.Lookups.{count_values}
-use Rattle.canon_val.proofs.Steps.{own_failure, product_seen}
-use Rattle.canon_val.proofs.view.fields_view.Goals.{After-len-count}
-use Rattle.canon_val.proofs.view.fields_view.Goals as goal
+use Rattle.canon_value.proofs.Lookups.{count_values}
+use Rattle.canon_value.proofs.Steps.{own_failure, product_seen}
+use Rattle.canon_value.proofs.view.fields_view.Goals.{After-len-count}
+use Rattle.canon_value.proofs.view.fields_view.Goals as goal
 
 shape : (c : After-len-count) → shape_of c.args.types.now (ty.Record c.args.i) ≡ product of_fields (product_members (shape_of c.args.types.now (ty.Record c.args.i)))
 shape c = record_shape_of c.args.types.now c.args.types.now c.args.i c.record.result.now.fields.items refl c.record.ensures.entry

@@ -2,11 +2,11 @@ use Rattle.std.proofs.Common.{◌≡◌, arith, ap, inl, length, refl, sym}
 use Rattle.canon_model.specs.Shape.{fixed}
 use Rattle.canon_types.specs.Table.{shape_of}
 use Rattle.canon_types.specs.declared.types.InterfaceType.TheVariants as ty
-use Rattle.canon_val.specs.Fails.{mismatch, wrong_length}
+use Rattle.canon_value.specs.Fails.{mismatch, wrong_length}
 use Rattle.canon_plan.proofs.Lookups.{copies_count, fixed_known, fixed_shape}
-use Rattle.canon_val.proofs.Steps.{fixed_seen, own_failure}
-use Rattle.canon_val.proofs.view.fixed_view.Goals.{After-fixed_length_list-list}
-use Rattle.canon_val.proofs.view.fixed_view.Goals as goal
+use Rattle.canon_value.proofs.Steps.{fixed_seen, own_failure}
+use Rattle.canon_value.proofs.view.fixed_view.Goals.{After-fixed_length_list-list}
+use Rattle.canon_value.proofs.view.fixed_view.Goals as goal
 
 shape : (c : After-fixed_length_list-list) → shape_of c.args.types.now (ty.FixedLengthList c.args.i) ≡ fixed c.fixed_length_list-list.result.now.size (shape_of c.args.types.now c.fixed_length_list-list.result.now.element)
 shape c = fixed_shape c.args.types.now c.args.types.now c.args.i c.fixed_length_list-list.result.now.size c.fixed_length_list-list.result.now.element refl c.fixed_length_list-list.ensures.entry

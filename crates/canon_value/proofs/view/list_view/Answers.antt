@@ -2,10 +2,10 @@ use Rattle.std.proofs.Common.{arith, inl, refl}
 use Rattle.canon_model.specs.Shape.{list, of_items}
 use Rattle.canon_types.specs.Table.{shape_of}
 use Rattle.canon_types.specs.declared.types.InterfaceType.TheVariants as ty
-use Rattle.canon_val.specs.Fails.{mismatch}
-use Rattle.canon_val.proofs.Steps.{own_failure}
+use Rattle.canon_value.specs.Fails.{mismatch}
+use Rattle.canon_value.proofs.Steps.{own_failure}
 use Rattle.canon_plan.proofs.Lookups.{list_shape}
-use Rattle.canon_val.proofs.view.list_view.Goals as goal
+use Rattle.canon_value.proofs.view.list_view.Goals as goal
 
 pub returns-in_default : goal.returns-in_default
 returns-in_default c =

@@ -1,10 +1,10 @@
 use Rattle.std.proofs.Common.{arith, refl}
 use Rattle.canon_model.specs.Shape.{scalar}
 use Rattle.canon_types.specs.Table.{shape_of}
-use Rattle.canon_val.specs.Fails.{mismatch}
-use Rattle.canon_val.proofs.Steps.{own_failure}
+use Rattle.canon_value.specs.Fails.{mismatch}
+use Rattle.canon_value.proofs.Steps.{own_failure}
 use Rattle.canon_plan.proofs.ScalarTypes.{scalar_shape}
-use Rattle.canon_val.proofs.view.scalar_view.Goals as goal
+use Rattle.canon_value.proofs.view.scalar_view.Goals as goal
 
 pub returns-in-None : goal.returns-in-None
 returns-in-None c =

@@ -1,5 +1,5 @@
 use Rattle.canon_plan.proofs.ScalarTypes.{scalar_left}
-use Rattle.canon_val.proofs.view.view_of.Goals as goal
+use Rattle.canon_value.proofs.view.view_of.Goals as goal
 
 pub scalar_view-requires : goal.scalar_view-requires
 scalar_view-requires c =
