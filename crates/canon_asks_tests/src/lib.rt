@@ -1,8 +1,6 @@
-//! Tests of calls whose guest asks for a function of the host, by a store.
+//! Tests of calls whose guest asks for a function over Rust types, by a store. Asks over values stand in scripts.
 #![tactic(auto)]
 
-#[cfg(test)]
-mod asks;
 mod imported;
 #[cfg(test)]
 mod typed;

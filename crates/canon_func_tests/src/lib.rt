@@ -1,7 +1,5 @@
-//! Tests of calls of a small guest, by a store.
+//! Tests of what scripts don't show of a store: calls of other Rust types, some drops, what its accessors tell, and how its errors print.
 #![tactic(auto)]
 
-#[cfg(test)]
-mod drops;
 #[cfg(test)]
 mod tests;

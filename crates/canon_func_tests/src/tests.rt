@@ -1,245 +1,224 @@
-//! Calls of a small guest, by a store. What each refusal is stands in scripts.
+//! A store of a guest that follows a script, and what it and its functions tell. Calls with dynamic values and their refusals stand in
+//! scripts. Each helper borrows the store and gives back small values, so that little is alive where a test asserts.
 
-ghost use Rattle.std.specs.Prelude.{◌≡◌, [], None};
-
-mod handles;
+mod drops;
 mod typed;
 
-use canon_func::{Error, Store};
+use canon_func::{Error, Store, TypedFunc};
 use canon_host::NoImports;
 use canon_ledger::ResourceFault;
-use canon_memory::{Guest, GuestFault, Memory, Step, ValRaw, Words};
+use canon_memory::{Bytes, Journaled, Memory, ValRaw, Words};
+use canon_scripted::{Action, ScriptedGuest};
 use canon_types::{
     CanonicalOptions, ComponentTypes, ExportIndex, InstanceType, InterfaceType, OptionsIndex,
     RuntimeInstance, StoreId, StringEncoding, TypeBuilder, TypeFuncIndex,
 };
-use canon_value::{At, Component, Core, Export, Fault, Val};
+use canon_value::{Component, Core, Export, Fault};
 use std::alloc::Global;
 use std::test::Fail;
 
-/// A guest that writes 2 to address 2048, returns this word, and traps at every request.
-#[derive(Drop)]
-struct Returner {
+type CallStore = Store<(), Journaled<ScriptedGuest>, NoImports>;
+
+/// The exports of the store, by their numbers: from a u32 and an s8 to a bool.
+const NUMBERS: u32 = 0;
+/// From nothing to a char.
+const LETTER: u32 = 1;
+/// From nothing to nothing.
+const NOTHING: u32 = 2;
+/// From nothing to an option of a u8.
+const OPTION: u32 = 3;
+/// From three times six u32 to nothing.
+const WIDE: u32 = 4;
+
+fn add_function(
     alloc: Global,
-    word: u32,
-    traps: u64,
-    shortages: u64,
+    builder: &mut TypeBuilder,
+    params: &[InterfaceType],
+    results: &[InterfaceType],
+) -> Result<(), Fail> {
+    builder.add_func(params.to_vec(alloc)?, results.to_vec(alloc)?, false)?;
+    Ok(())
 }
 
-impl Guest for Returner {
-    ghost seen = { λ g. record { journal = None; marks = []; live = []; traps = g.traps; shortages = g.shortages } };
-
-    ghost moves = { λ _ _ _. Unit {0} };
-
-    ghost leaves = { λ before after. after ≡ before };
-
-    ghost stays = { λ _. record {} };
-
-    ghost goes_on = { λ _ _ _ _ _ _ _. record {} };
-
-    fn start(
-        &mut self,
-        memory: &mut Memory,
-        _func: u32,
-        _words: &[ValRaw],
-    ) -> Result<Step, GuestFault> {
-        if let Some(byte) = memory.as_slice_mut().get_mut(2048) {
-            *byte = 2;
-        }
-        let mut words = Words::new(self.alloc);
-        match words.push(ValRaw::u32(self.word)) {
-            Ok(()) => Ok(Step::Return(words)),
-            Err(_) => {
-                self.shortages = self.shortages.saturating_add(1);
-                Err(GuestFault::OutOfMemory)
-            }
-        }
-    }
-
-    fn resume(&mut self, _memory: &mut Memory, _words: &[ValRaw]) -> Result<Step, GuestFault> {
-        self.traps = self.traps.saturating_add(1);
-        Err(GuestFault::Trap)
-    }
-
-    fn realloc(
-        &mut self,
-        _memory: &mut Memory,
-        _old: u64,
-        _old_size: u64,
-        _align: u32,
-        _new_size: u64,
-    ) -> Result<u64, GuestFault> {
-        self.traps = self.traps.saturating_add(1);
-        Err(GuestFault::Trap)
-    }
-
-    fn post_return(
-        &mut self,
-        _memory: &mut Memory,
-        _func: u32,
-        _words: &[ValRaw],
-    ) -> Result<(), GuestFault> {
-        Ok(())
-    }
-
-    fn dtor(&mut self, _memory: &mut Memory, _func: u32, _rep: u32) -> Result<(), GuestFault> {
-        Ok(())
-    }
+/// Adds the types of the exports, in the order of their numbers.
+fn add_functions(alloc: Global, builder: &mut TypeBuilder) -> Result<(), Fail> {
+    let option = builder.add_option(InterfaceType::U8)?;
+    let six = builder.add_tuple(vec![in alloc; InterfaceType::U32; 6]?)?;
+    let numbers = [InterfaceType::U32, InterfaceType::S8];
+    add_function(alloc, builder, &numbers, &[InterfaceType::Bool])?;
+    add_function(alloc, builder, &[], &[InterfaceType::Char])?;
+    add_function(alloc, builder, &[], &[])?;
+    add_function(alloc, builder, &[], &[option])?;
+    add_function(alloc, builder, &[six; 3], &[])
 }
 
-type CallStore = Store<(), Returner, NoImports>;
+fn types_of(alloc: Global) -> Result<ComponentTypes, Fail> {
+    let mut builder = TypeBuilder::new(alloc);
+    add_functions(alloc, &mut builder)?;
+    Ok(builder.finish())
+}
 
-/// A core of this guest, and of one function of this type, core function 7 with post-return 8.
-fn core_of<G: Guest + Drop>(
-    alloc: Global,
-    types: ComponentTypes,
-    ty: TypeFuncIndex,
-    guest: G,
-) -> Result<Core<(), G>, Fail> {
-    let id = StoreId::from_u64(1);
-    let mut options = Vec::new(alloc);
-    options.push(CanonicalOptions {
+/// A component of these exports, each core function 7 with post-return 8.
+fn component_of(alloc: Global) -> Result<Component, Fail> {
+    let options = OptionsIndex::from_u32(0);
+    let mut exports = Vec::new(alloc);
+    for number in 0..5 {
+        let ty = TypeFuncIndex::from_u32(number);
+        exports.push(Export {
+            ty,
+            func: 7,
+            options,
+        })?;
+    }
+    let plain = CanonicalOptions {
         instance: RuntimeInstance::from_u32(0),
         string_encoding: StringEncoding::Utf8,
         async_: false,
         post_return: Some(8),
-    })?;
-    let mut exports = Vec::new(alloc);
-    exports.push(Export {
-        ty,
-        func: 7,
-        options: OptionsIndex::from_u32(0),
-    })?;
-    let component = Component {
-        types: InstanceType::new(types, id),
+    };
+    let options = vec![in alloc; plain]?;
+    let types = types_of(alloc)?;
+    Ok(Component {
+        types: InstanceType::new(types, StoreId::from_u64(1)),
         options,
         exports,
         imports: Vec::new(alloc),
-    };
+    })
+}
+
+/// A guest that writes 2 to address 2048 and returns these words. It allocates from 1024 up, and its destructors trap.
+fn guest_of(alloc: Global, words: &[ValRaw]) -> Result<Journaled<ScriptedGuest>, Fail> {
+    let write = Action::Write(2048, Bytes::from_slice(alloc, &[2])?);
+    let answer = Action::Return(Words::from_slice(alloc, words)?);
+    let actions = vec![in alloc; write, answer]?;
+    let mut guest = ScriptedGuest::new(alloc, 1024);
+    guest.load(actions, Vec::new(alloc), false, true);
+    Ok(Journaled::new(alloc, guest))
+}
+
+/// A store of such a component and such a guest, with room for 8 handles.
+fn store_of(alloc: Global, words: &[ValRaw]) -> Result<CallStore, Fail> {
+    let guest = guest_of(alloc, words)?;
+    let memory = Memory::new(alloc, 65_536)?;
+    let component = component_of(alloc)?;
     if !component.check() {
         return Err(Fail::from("an index is outside its table"));
     }
-    let memory = Memory::new(alloc, 65_536)?;
+    let id = StoreId::from_u64(1);
     let core = Core::new(alloc, id, (), guest, memory, component, 8, 1_000_000)?;
-    Ok(core)
-}
-
-/// A store of such a core, whose guest returns this word.
-fn store_of(
-    alloc: Global,
-    types: ComponentTypes,
-    ty: TypeFuncIndex,
-    word: u32,
-) -> Result<CallStore, Fail> {
-    let guest = Returner {
-        alloc,
-        word,
-        traps: 0,
-        shortages: 0,
-    };
-    let core = core_of(alloc, types, ty, guest)?;
     Ok(Store::new(core, NoImports::new(), 100))
 }
 
-/// The same, of a function of these parameters and results.
-fn store_with(
-    alloc: Global,
-    params: &[InterfaceType],
-    results: &[InterfaceType],
-    word: u32,
-) -> Result<CallStore, Fail> {
-    let mut builder = TypeBuilder::new(alloc);
-    let ty = builder.add_func(params.to_vec(alloc)?, results.to_vec(alloc)?, false)?;
-    store_of(alloc, builder.finish(), ty, word)
+/// What a function tells, by itself and with Rust types.
+#[derive(Clone, Copy)]
+struct Told {
+    export: ExportIndex,
+    is_the_last: bool,
+    is_owned: bool,
+    is_async: bool,
+    is_typed: bool,
+    post_return: Result<(), Error>,
+    typed_post_return: Result<(), Error>,
 }
 
-/// Calls the store's function.
-fn call(
-    alloc: Global,
-    store: &mut CallStore,
-    params: &[Val],
-    results: &mut [Val],
-) -> Option<Result<(), Error>> {
-    let f = store.func(ExportIndex::from_u32(0))?;
-    Some(f.call(alloc, store, params, results))
-}
-
-#[test]
-fn a_call_lowers_its_parameters_and_lifts_its_results(rt: HostRuntime) -> Result<(), Fail> {
-    let alloc = rt.alloc();
-    let params = [InterfaceType::U32, InterfaceType::S8];
-    let mut store = store_with(alloc, &params, &[InterfaceType::Bool], 2)?;
-    let mut results = [Val::Bool(false)];
-    let answer = call(alloc, &mut store, &[Val::U32(7), Val::S8(-1)], &mut results);
-    assert!(rt; answer == Some(Ok(())));
-    let [Val::Bool(told)] = &results else {
-        panic!(rt; "no bool");
-    };
-    assert!(rt; *told && !store.is_trapped());
-    Ok(())
-}
-
-#[test]
-fn a_refusal_traps_the_store_and_leaves_the_results(rt: HostRuntime) -> Result<(), Fail> {
-    let alloc = rt.alloc();
-    let mut store = store_with(alloc, &[], &[InterfaceType::Char], 0xd800)?;
-    let mut results = [Val::Bool(false)];
-    let answer = call(alloc, &mut store, &[], &mut results);
-    let fault = Fault::InvalidChar(At::Word(0));
-    assert!(rt; answer == Some(Err(Error::Fault(fault))));
-    let [Val::Bool(told)] = &results else {
-        panic!(rt; "no bool");
-    };
-    assert!(rt; !*told && store.is_trapped());
-    Ok(())
+fn told(store: &mut CallStore) -> Option<Told> {
+    let f = store.func(ExportIndex::from_u32(WIDE))?;
+    let typed: TypedFunc<(), ()> = TypedFunc::new_unchecked(f);
+    let copy = typed;
+    Some(Told {
+        export: f.export(),
+        is_the_last: store.func(ExportIndex::from_u32(5)).is_none(),
+        is_owned: store.owns(&f),
+        is_async: f.ty(store).async_,
+        is_typed: *typed.func() == f && *copy.func() == f,
+        post_return: f.post_return(store),
+        typed_post_return: copy.post_return(store),
+    })
 }
 
 #[test]
 fn a_function_is_of_one_store(rt: HostRuntime) -> Result<(), Fail> {
-    let alloc = rt.alloc();
-    let mut store = store_with(alloc, &[], &[], 0)?;
-    assert!(rt; store.func(ExportIndex::from_u32(1)).is_none());
-    let Some(f) = store.func(ExportIndex::from_u32(0)) else {
+    let told = told(&mut store_of(rt.alloc(), &[])?);
+    let Some(told) = told else {
         return Err(Fail::from("no function"));
     };
-    assert!(rt; store.owns(&f));
-    assert!(rt; f.export() == ExportIndex::from_u32(0));
-    assert!(rt; !f.ty(&store).async_);
-    assert!(rt; f.post_return(&mut store) == Ok(()));
-    assert!(rt; store.core_mut().guest_mut().traps == 0);
+    assert!(rt; told.export == ExportIndex::from_u32(4) && told.is_the_last);
+    assert!(rt; told.is_owned && !told.is_async && told.is_typed);
+    assert!(rt; told.post_return == Ok(()) && told.typed_post_return == Ok(()));
     Ok(())
 }
 
-#[test]
-fn a_store_has_the_fuel_of_its_calls(rt: HostRuntime) -> Result<(), Fail> {
-    let mut store = store_with(rt.alloc(), &[], &[], 0)?;
-    assert!(rt; store.fuel() == 1_000_000);
+/// The limits of a store, as it was made and as they were set: of handles, why it took no further one at each limit, and how many live.
+#[derive(Clone, Copy)]
+struct Limits {
+    fuel: (u64, u64),
+    turns: (u64, u64),
+    of_8: Option<ResourceFault>,
+    of_0: Option<ResourceFault>,
+    of_2: Option<ResourceFault>,
+    live: u64,
+}
+
+/// Why the store takes no further handle, if it doesn't.
+fn refusal(store: &mut CallStore) -> Option<ResourceFault> {
+    let made = store.core_mut().host_resource_lower_own(7, None, None);
+    made.err()
+}
+
+fn limits(store: &mut CallStore) -> Limits {
+    let (fuel, turns) = (store.fuel(), store.turns());
     store.set_fuel(31);
-    assert!(rt; store.fuel() == 31);
+    store.set_turns(7);
+    let of_8 = refusal(store);
+    store.set_handle_limit(0);
+    let of_0 = refusal(store);
+    store.set_handle_limit(2);
+    Limits {
+        fuel: (fuel, store.fuel()),
+        turns: (turns, store.turns()),
+        of_8,
+        of_0,
+        of_2: refusal(store),
+        live: store.live_handles(),
+    }
+}
+
+#[test]
+fn a_store_has_limits(rt: HostRuntime) -> Result<(), Fail> {
+    let limits = limits(&mut store_of(rt.alloc(), &[])?);
+    assert!(rt; limits.fuel == (1_000_000, 31));
+    assert!(rt; limits.turns == (100, 7));
+    assert!(rt; limits.of_8 == None && limits.of_2 == None && limits.live == 2);
+    assert!(rt; limits.of_0 == Some(ResourceFault::HandleLimit));
     Ok(())
+}
+
+fn prints(alloc: Global, error: Error, want: &str) -> Result<bool, Fail> {
+    let text = format!(in alloc; "{error}")?;
+    Ok(text.as_str() == want)
 }
 
 #[test]
 fn errors_print_their_names(rt: HostRuntime) -> Result<(), Fail> {
     let alloc = rt.alloc();
-    for (error, want) in [
-        (Error::Fault(Fault::GuestTrap), "GuestTrap"),
-        (Error::Fault(Fault::TypeMismatch(3)), "TypeMismatch 3"),
-        (Error::WrongCount, "WrongCount"),
-        (Error::UnknownImport(5), "UnknownImport 5"),
-        (Error::WrongWords, "WrongWords"),
-        (Error::TurnsExhausted, "TurnsExhausted"),
-        (Error::HostRefused(0), "HostRefused 0"),
-        (
-            Error::ImportFault {
-                index: 2,
-                fault: Fault::Resource(ResourceFault::UnknownHandle(1)),
-            },
-            "ImportFault 2 UnknownHandle 1",
-        ),
-    ] {
-        let text = format!(in alloc; "{error}")?;
-        assert!(rt; text.as_str() == want);
-    }
+    let unknown = Fault::Resource(ResourceFault::UnknownHandle(1));
+    let fault = Error::ImportFault {
+        index: 2,
+        fault: unknown,
+    };
+    assert!(rt; prints(alloc, fault, "ImportFault 2 UnknownHandle 1")?);
+    assert!(rt; prints(alloc, Error::Fault(Fault::GuestTrap), "GuestTrap")?);
+    assert!(rt;
+        prints(
+            alloc,
+            Error::Fault(Fault::TypeMismatch(3)),
+            "TypeMismatch 3"
+        )?
+    );
+    assert!(rt; prints(alloc, Error::WrongCount, "WrongCount")?);
+    assert!(rt; prints(alloc, Error::UnknownImport(5), "UnknownImport 5")?);
+    assert!(rt; prints(alloc, Error::WrongWords, "WrongWords")?);
+    assert!(rt; prints(alloc, Error::TurnsExhausted, "TurnsExhausted")?);
+    assert!(rt; prints(alloc, Error::HostRefused(0), "HostRefused 0")?);
     Ok(())
 }

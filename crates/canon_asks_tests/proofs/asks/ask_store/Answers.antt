@@ -1,4 +1,0 @@
-use Rattle.canon_asks_tests.proofs.asks.ask_store.Goals as goal
-
-pub new-requires-3 : goal.new-requires-3
-new-requires-3 c = c.check.ensures.0 c.if-not-check.false

@@ -1,4 +1,0 @@
-use Rattle.canon_func_tests.proofs.drops.store_of.Goals as goal
-
-pub new-requires-4 : goal.new-requires-4
-new-requires-4 c = c.check.ensures.0 c.if-not-check.false
