@@ -8,7 +8,10 @@ mod handles;
 use canon_memory::{Memory, ValRaw};
 use canon_test_core::{TestCore, core_of, has_room};
 use canon_types::{InterfaceType, OptionsIndex, StringEncoding, TypeBuilder};
-use canon_value::{HostcallFuelExhausted, LiftContext, LowerContext, Val};
+use canon_value::{
+    HostcallFuelExhausted, LiftContext, LowerContext, Val, linear_lift_from_flat,
+    linear_lift_from_memory, linear_lower_to_flat, linear_lower_to_memory,
+};
 use std::alloc::Global;
 
 /// A core without types of its own, whose 2,048 bytes of memory begin with these.
@@ -28,9 +31,9 @@ fn text_by_words(alloc: Global) -> Option<([ValRaw; 2], bool)> {
     let mut core = plain_core(alloc)?;
     let mut words = [ValRaw::u64(u64::MAX); 2];
     let mut cx = LowerContext::new(&mut core, OptionsIndex::from_u32(0));
-    let lowered = text.lower(&mut cx, InterfaceType::String, &mut words);
+    let lowered = linear_lower_to_flat(&text, &mut cx, InterfaceType::String, &mut words);
     let mut cx = LiftContext::new(&mut core, OptionsIndex::from_u32(0));
-    let lifted = Val::lift(alloc, &mut cx, InterfaceType::String, &words, 0);
+    let lifted = linear_lift_from_flat(alloc, &mut cx, InterfaceType::String, &words, 0);
     Some((words, lowered.is_ok() && lifted == Ok(text)))
 }
 
@@ -49,7 +52,7 @@ fn text_by_memory(alloc: Global) -> Option<[bool; 4]> {
         return None;
     }
     let mut cx = LowerContext::new(&mut core, OptionsIndex::from_u32(0));
-    let stored = text.store(&mut cx, InterfaceType::String, 8);
+    let stored = linear_lower_to_memory(&text, &mut cx, InterfaceType::String, 8);
     // By CanonicalABI.md's store_string: at 8 the address 1024 and the length 2; at 1024, U+00E9 in UTF-8.
     let place = has(
         &core,
@@ -58,7 +61,7 @@ fn text_by_memory(alloc: Global) -> Option<[bool; 4]> {
     );
     let block = has(&core, 1024, &[0xc3, 0xa9, 0]);
     let mut cx = LiftContext::new(&mut core, OptionsIndex::from_u32(0));
-    let loaded = Val::load(alloc, &mut cx, InterfaceType::String, 8);
+    let loaded = linear_lift_from_memory(alloc, &mut cx, InterfaceType::String, 8);
     Some([stored.is_ok(), place, block, loaded == Ok(text)])
 }
 
