@@ -1,10 +1,13 @@
 -- The laws of a point: those of a tuple, over the laws of its coordinates.
 use Rattle.std.specs.Prelude.{[], ◌∷◌, ◌≡◌, pos, refl, ℕ}
+use Rattle.std.proofs.Common.{ap}
 use Rattle.canon_lower.specs.Given.{IsGiven, first_given, none_given, scalar_given, tuple_given}
 use Rattle.canon_lower.specs.Gives.{no_handles, product_gives}
 use Rattle.canon_model.specs.Shape as shape
+use Rattle.canon_model.specs.Shape.{scalar}
 use Rattle.canon_model.specs.Tree.{Tree, number}
 use Rattle.canon_types.specs.Instance.{Instance}
+use Rattle.canon_types.specs.Table.{shape_of}
 use Rattle.canon_types.specs.declared.types.InterfaceType.{InterfaceType}
 use Rattle.canon_types.specs.declared.types.InterfaceType.TheVariants as ty
 use Rattle.canon_typed.specs.Charges.{free, product_cost}
@@ -76,10 +79,10 @@ number_faulted : IsFaulted IsNumberType number_reading
 number_faulted = tree_faulted {Lifts = IsNumber}
 
 number_given : IsGiven IsNumberType IsNumber no_handles
-number_given = scalar_given ty.U32 shape.u32 _ (λ i. refl)
+number_given = scalar_given IsNumberType shape.u32 _ number_shape
 
 number_told : IsOfTrees IsNumberType number_reading IsNumber
-number_told = scalar_told ty.U32 shape.u32 (λ w. refl)
+number_told = scalar_told shape.u32 number_shape
 
 abbrev pub IsPointType : Instance → InterfaceType → Type 0
 IsPointType = IsTupleOf (IsNumberType ∷ IsNumberType ∷ [])
@@ -106,7 +109,7 @@ pub point_faulted : IsFaulted IsPointType point_reading
 point_faulted = faulted_by IsNumberType number_reading number_faulted
 
 pub point_priced : IsPriced IsPointType point_reading (product_cost (free ∷ free ∷ []))
-point_priced = priced_by IsNumberType number_reading free (scalar_priced {Lifts = IsNumber})
+point_priced = priced_by IsNumberType number_reading free (scalar_priced {Lifts = IsNumber} free refl)
 
 pub point_told : IsOfTrees IsPointType point_reading IsPoint
 point_told = told_by IsNumberType number_reading IsNumber number_told

@@ -4,3 +4,4 @@ pub mod RangesOfTrees
 pub mod Views
 pub mod Iteration
 pub mod Integers
+pub mod Scalars

@@ -1,17 +1,17 @@
-//! Integers, floats by their bits, `bool` and `char`.
+//! Scalars: integers, floats by their bits, `bool` and `char`.
 
-ghost use Rattle.std.specs.Prelude.{◌≡◌, false, pos, refl};
-ghost use Rattle.canon_reading.specs.Scopes.{plain_kept};
+ghost use Rattle.std.specs.Prelude.{refl};
+ghost use Rattle.canon_lift.specs.Scalars.{of_type};
 ghost use Rattle.canon_model.specs.Shape as shape;
-ghost use Rattle.canon_model.specs.Tree.{code_point, number, truth};
-ghost use Rattle.canon_types.specs.declared.types.InterfaceType.TheVariants as ty;
 ghost use Rattle.canon_reading.specs.Apart.{tree_apart};
 ghost use Rattle.canon_reading.specs.OfTrees.{scalar_priced, scalar_told, tree_faulted};
 ghost use Rattle.canon_reading.specs.Readings.{scalar_reading};
+ghost use Rattle.canon_reading.specs.Scopes.{plain_kept};
 ghost use Rattle.canon_reading.specs.Taken.{scalar_taken};
+ghost use Rattle.canon_types.specs.declared.types.InterfaceType.TheVariants as ty;
 
 use crate::Lift;
-use crate::words::{word_at, word_u8, word_u16, word_u32, word_u64};
+use crate::words::{LoadedScalar, word_at, word_of};
 use canon_bytes::{load_u8, load_u16, load_u32, load_u64};
 use canon_context::{At, Fault, LiftContext};
 use canon_memory::ValRaw;
@@ -19,12 +19,12 @@ use canon_typed::{Float32Bits, Float64Bits};
 use canon_types::InterfaceType;
 use std::alloc::Global;
 
-impl Lift for i8 {
-    ghost reading = { scalar_reading (λ n t. t ≡ number n) };
+impl<S: LoadedScalar> Lift for S {
+    ghost reading = { scalar_reading S.lifts };
 
     ghost kept = { plain_kept (λ w at s. refl) };
 
-    fn unit_value() -> Option<i8> {
+    fn unit_value() -> Option<S> {
         None
     }
 
@@ -33,438 +33,9 @@ impl Lift for i8 {
         cx: &mut LiftContext<'_, U, G>,
         _ty: InterfaceType,
         at: u64,
-    ) -> Result<i8, Fault> {
-        Ok(load_u8(cx.memory(), at).cast_signed())
-    }
-
-    fn lift_words<U, G>(
-        _alloc: Global,
-        _cx: &mut LiftContext<'_, U, G>,
-        _ty: InterfaceType,
-        src: &[ValRaw],
-        at: usize,
-    ) -> Result<i8, Fault> {
-        Ok(word_u8(src, at).cast_signed())
-    }
-
-    ghost taken = { scalar_taken (λ n t. t ≡ number n) };
-
-    ghost apart = { tree_apart };
-
-    ghost faulted = { tree_faulted };
-
-    ghost priced = { scalar_priced };
-
-    ghost told = { λ h. scalar_told ty.S8 shape.s8 (λ w. refl) };
-}
-
-impl Lift for u8 {
-    ghost reading = { scalar_reading (λ n t. t ≡ number (pos n)) };
-
-    ghost kept = { plain_kept (λ w at s. refl) };
-
-    fn unit_value() -> Option<u8> {
-        None
-    }
-
-    fn linear_lift_from_memory<U, G>(
-        _alloc: Global,
-        cx: &mut LiftContext<'_, U, G>,
-        _ty: InterfaceType,
-        at: u64,
-    ) -> Result<u8, Fault> {
-        Ok(load_u8(cx.memory(), at))
-    }
-
-    fn lift_words<U, G>(
-        _alloc: Global,
-        _cx: &mut LiftContext<'_, U, G>,
-        _ty: InterfaceType,
-        src: &[ValRaw],
-        at: usize,
-    ) -> Result<u8, Fault> {
-        Ok(word_u8(src, at))
-    }
-
-    ghost taken = { scalar_taken (λ n t. t ≡ number (pos n)) };
-
-    ghost apart = { tree_apart };
-
-    ghost faulted = { tree_faulted };
-
-    ghost priced = { scalar_priced };
-
-    ghost told = { λ h. scalar_told ty.U8 shape.u8 (λ w. refl) };
-}
-
-impl Lift for i16 {
-    ghost reading = { scalar_reading (λ n t. t ≡ number n) };
-
-    ghost kept = { plain_kept (λ w at s. refl) };
-
-    fn unit_value() -> Option<i16> {
-        None
-    }
-
-    fn linear_lift_from_memory<U, G>(
-        _alloc: Global,
-        cx: &mut LiftContext<'_, U, G>,
-        _ty: InterfaceType,
-        at: u64,
-    ) -> Result<i16, Fault> {
-        Ok(load_u16(cx.memory(), at).cast_signed())
-    }
-
-    fn lift_words<U, G>(
-        _alloc: Global,
-        _cx: &mut LiftContext<'_, U, G>,
-        _ty: InterfaceType,
-        src: &[ValRaw],
-        at: usize,
-    ) -> Result<i16, Fault> {
-        Ok(word_u16(src, at).cast_signed())
-    }
-
-    ghost taken = { scalar_taken (λ n t. t ≡ number n) };
-
-    ghost apart = { tree_apart };
-
-    ghost faulted = { tree_faulted };
-
-    ghost priced = { scalar_priced };
-
-    ghost told = { λ h. scalar_told ty.S16 shape.s16 (λ w. refl) };
-}
-
-impl Lift for u16 {
-    ghost reading = { scalar_reading (λ n t. t ≡ number (pos n)) };
-
-    ghost kept = { plain_kept (λ w at s. refl) };
-
-    fn unit_value() -> Option<u16> {
-        None
-    }
-
-    fn linear_lift_from_memory<U, G>(
-        _alloc: Global,
-        cx: &mut LiftContext<'_, U, G>,
-        _ty: InterfaceType,
-        at: u64,
-    ) -> Result<u16, Fault> {
-        Ok(load_u16(cx.memory(), at))
-    }
-
-    fn lift_words<U, G>(
-        _alloc: Global,
-        _cx: &mut LiftContext<'_, U, G>,
-        _ty: InterfaceType,
-        src: &[ValRaw],
-        at: usize,
-    ) -> Result<u16, Fault> {
-        Ok(word_u16(src, at))
-    }
-
-    ghost taken = { scalar_taken (λ n t. t ≡ number (pos n)) };
-
-    ghost apart = { tree_apart };
-
-    ghost faulted = { tree_faulted };
-
-    ghost priced = { scalar_priced };
-
-    ghost told = { λ h. scalar_told ty.U16 shape.u16 (λ w. refl) };
-}
-
-impl Lift for i32 {
-    ghost reading = { scalar_reading (λ n t. t ≡ number n) };
-
-    ghost kept = { plain_kept (λ w at s. refl) };
-
-    fn unit_value() -> Option<i32> {
-        None
-    }
-
-    fn linear_lift_from_memory<U, G>(
-        _alloc: Global,
-        cx: &mut LiftContext<'_, U, G>,
-        _ty: InterfaceType,
-        at: u64,
-    ) -> Result<i32, Fault> {
-        Ok(load_u32(cx.memory(), at).cast_signed())
-    }
-
-    fn lift_words<U, G>(
-        _alloc: Global,
-        _cx: &mut LiftContext<'_, U, G>,
-        _ty: InterfaceType,
-        src: &[ValRaw],
-        at: usize,
-    ) -> Result<i32, Fault> {
-        Ok(word_u32(src, at).cast_signed())
-    }
-
-    ghost taken = { scalar_taken (λ n t. t ≡ number n) };
-
-    ghost apart = { tree_apart };
-
-    ghost faulted = { tree_faulted };
-
-    ghost priced = { scalar_priced };
-
-    ghost told = { λ h. scalar_told ty.S32 shape.s32 (λ w. refl) };
-}
-
-impl Lift for u32 {
-    ghost reading = { scalar_reading (λ n t. t ≡ number (pos n)) };
-
-    ghost kept = { plain_kept (λ w at s. refl) };
-
-    fn unit_value() -> Option<u32> {
-        None
-    }
-
-    fn linear_lift_from_memory<U, G>(
-        _alloc: Global,
-        cx: &mut LiftContext<'_, U, G>,
-        _ty: InterfaceType,
-        at: u64,
-    ) -> Result<u32, Fault> {
-        Ok(load_u32(cx.memory(), at))
-    }
-
-    fn lift_words<U, G>(
-        _alloc: Global,
-        _cx: &mut LiftContext<'_, U, G>,
-        _ty: InterfaceType,
-        src: &[ValRaw],
-        at: usize,
-    ) -> Result<u32, Fault> {
-        Ok(word_u32(src, at))
-    }
-
-    ghost taken = { scalar_taken (λ n t. t ≡ number (pos n)) };
-
-    ghost apart = { tree_apart };
-
-    ghost faulted = { tree_faulted };
-
-    ghost priced = { scalar_priced };
-
-    ghost told = { λ h. scalar_told ty.U32 shape.u32 (λ w. refl) };
-}
-
-impl Lift for i64 {
-    ghost reading = { scalar_reading (λ n t. t ≡ number n) };
-
-    ghost kept = { plain_kept (λ w at s. refl) };
-
-    fn unit_value() -> Option<i64> {
-        None
-    }
-
-    fn linear_lift_from_memory<U, G>(
-        _alloc: Global,
-        cx: &mut LiftContext<'_, U, G>,
-        _ty: InterfaceType,
-        at: u64,
-    ) -> Result<i64, Fault> {
-        Ok(load_u64(cx.memory(), at).cast_signed())
-    }
-
-    fn lift_words<U, G>(
-        _alloc: Global,
-        _cx: &mut LiftContext<'_, U, G>,
-        _ty: InterfaceType,
-        src: &[ValRaw],
-        at: usize,
-    ) -> Result<i64, Fault> {
-        Ok(word_u64(src, at).cast_signed())
-    }
-
-    ghost taken = { scalar_taken (λ n t. t ≡ number n) };
-
-    ghost apart = { tree_apart };
-
-    ghost faulted = { tree_faulted };
-
-    ghost priced = { scalar_priced };
-
-    ghost told = { λ h. scalar_told ty.S64 shape.s64 (λ w. refl) };
-}
-
-impl Lift for u64 {
-    ghost reading = { scalar_reading (λ n t. t ≡ number (pos n)) };
-
-    ghost kept = { plain_kept (λ w at s. refl) };
-
-    fn unit_value() -> Option<u64> {
-        None
-    }
-
-    fn linear_lift_from_memory<U, G>(
-        _alloc: Global,
-        cx: &mut LiftContext<'_, U, G>,
-        _ty: InterfaceType,
-        at: u64,
-    ) -> Result<u64, Fault> {
-        Ok(load_u64(cx.memory(), at))
-    }
-
-    fn lift_words<U, G>(
-        _alloc: Global,
-        _cx: &mut LiftContext<'_, U, G>,
-        _ty: InterfaceType,
-        src: &[ValRaw],
-        at: usize,
-    ) -> Result<u64, Fault> {
-        Ok(word_u64(src, at))
-    }
-
-    ghost taken = { scalar_taken (λ n t. t ≡ number (pos n)) };
-
-    ghost apart = { tree_apart };
-
-    ghost faulted = { tree_faulted };
-
-    ghost priced = { scalar_priced };
-
-    ghost told = { λ h. scalar_told ty.U64 shape.u64 (λ w. refl) };
-}
-
-impl Lift for Float32Bits {
-    ghost reading = { scalar_reading (λ x t. t ≡ number (pos x.0)) };
-
-    ghost kept = { plain_kept (λ w at s. refl) };
-
-    fn unit_value() -> Option<Float32Bits> {
-        None
-    }
-
-    fn linear_lift_from_memory<U, G>(
-        _alloc: Global,
-        cx: &mut LiftContext<'_, U, G>,
-        _ty: InterfaceType,
-        at: u64,
-    ) -> Result<Float32Bits, Fault> {
-        Ok(Float32Bits(load_u32(cx.memory(), at)))
-    }
-
-    fn lift_words<U, G>(
-        _alloc: Global,
-        _cx: &mut LiftContext<'_, U, G>,
-        _ty: InterfaceType,
-        src: &[ValRaw],
-        at: usize,
-    ) -> Result<Float32Bits, Fault> {
-        Ok(Float32Bits(word_u32(src, at)))
-    }
-
-    ghost taken = { scalar_taken (λ x t. t ≡ number (pos x.0)) };
-
-    ghost apart = { tree_apart };
-
-    ghost faulted = { tree_faulted };
-
-    ghost priced = { scalar_priced };
-
-    ghost told = { λ h. scalar_told ty.Float32 shape.f32 (λ w. refl) };
-}
-
-impl Lift for Float64Bits {
-    ghost reading = { scalar_reading (λ x t. t ≡ number (pos x.0)) };
-
-    ghost kept = { plain_kept (λ w at s. refl) };
-
-    fn unit_value() -> Option<Float64Bits> {
-        None
-    }
-
-    fn linear_lift_from_memory<U, G>(
-        _alloc: Global,
-        cx: &mut LiftContext<'_, U, G>,
-        _ty: InterfaceType,
-        at: u64,
-    ) -> Result<Float64Bits, Fault> {
-        Ok(Float64Bits(load_u64(cx.memory(), at)))
-    }
-
-    fn lift_words<U, G>(
-        _alloc: Global,
-        _cx: &mut LiftContext<'_, U, G>,
-        _ty: InterfaceType,
-        src: &[ValRaw],
-        at: usize,
-    ) -> Result<Float64Bits, Fault> {
-        Ok(Float64Bits(word_u64(src, at)))
-    }
-
-    ghost taken = { scalar_taken (λ x t. t ≡ number (pos x.0)) };
-
-    ghost apart = { tree_apart };
-
-    ghost faulted = { tree_faulted };
-
-    ghost priced = { scalar_priced };
-
-    ghost told = { λ h. scalar_told ty.Float64 shape.f64 (λ w. refl) };
-}
-
-impl Lift for bool {
-    ghost reading = { scalar_reading (λ b t. t ≡ truth b) };
-
-    ghost kept = { plain_kept (λ w at s. refl) };
-
-    fn unit_value() -> Option<bool> {
-        None
-    }
-
-    fn linear_lift_from_memory<U, G>(
-        _alloc: Global,
-        cx: &mut LiftContext<'_, U, G>,
-        _ty: InterfaceType,
-        at: u64,
-    ) -> Result<bool, Fault> {
-        Ok(load_u8(cx.memory(), at) != 0)
-    }
-
-    fn lift_words<U, G>(
-        _alloc: Global,
-        _cx: &mut LiftContext<'_, U, G>,
-        _ty: InterfaceType,
-        src: &[ValRaw],
-        at: usize,
-    ) -> Result<bool, Fault> {
-        Ok(word_u32(src, at) != 0)
-    }
-
-    ghost taken = { scalar_taken (λ b t. t ≡ truth b) };
-
-    ghost apart = { tree_apart };
-
-    ghost faulted = { tree_faulted };
-
-    ghost priced = { scalar_priced };
-
-    ghost told = { λ h. scalar_told ty.Bool shape.bool (λ w. refl) };
-}
-
-impl Lift for char {
-    ghost reading = { scalar_reading (λ c t. t ≡ code_point c) };
-
-    ghost kept = { plain_kept (λ w at s. refl) };
-
-    fn unit_value() -> Option<char> {
-        None
-    }
-
-    fn linear_lift_from_memory<U, G>(
-        _alloc: Global,
-        cx: &mut LiftContext<'_, U, G>,
-        _ty: InterfaceType,
-        at: u64,
-    ) -> Result<char, Fault> {
-        match char::from_u32(load_u32(cx.memory(), at)) {
-            Some(c) => Ok(c),
+    ) -> Result<S, Fault> {
+        match S::load(cx.memory(), at) {
+            Some(value) => Ok(value),
             None => Err(Fault::InvalidChar(At::Address(at))),
         }
     }
@@ -475,20 +46,236 @@ impl Lift for char {
         _ty: InterfaceType,
         src: &[ValRaw],
         at: usize,
-    ) -> Result<char, Fault> {
-        match char::from_u32(word_u32(src, at)) {
-            Some(c) => Ok(c),
+    ) -> Result<S, Fault> {
+        match S::of_word(&word_of(src, at)) {
+            Some(value) => Ok(value),
             None => Err(Fault::InvalidChar(word_at(at))),
         }
     }
 
-    ghost taken = { scalar_taken (λ c t. t ≡ code_point c) };
+    ghost taken = { scalar_taken S.lifts };
 
     ghost apart = { tree_apart };
 
     ghost faulted = { tree_faulted };
 
-    ghost priced = { scalar_priced };
+    ghost priced = { scalar_priced S.cost S.uncharged };
 
-    ghost told = { λ h. scalar_told ty.Char shape.char (λ w. refl) };
+    ghost told = { λ h. scalar_told S.kind S.shape };
+}
+
+impl LoadedScalar for i8 {
+    ghost kind = { shape.s8 };
+
+    fn load(memory: &[u8], at: u64) -> Option<i8> {
+        Some(load_u8(memory, at).cast_signed())
+    }
+
+    fn of_word(word: &ValRaw) -> Option<i8> {
+        Some(((word.get_u32() % 256) as u8).cast_signed())
+    }
+
+    ghost shape = { of_type ty.S8 shape.s8 (λ i. refl) };
+
+    ghost no_unit = { refl };
+
+    ghost uncharged = { refl };
+}
+
+impl LoadedScalar for u8 {
+    ghost kind = { shape.u8 };
+
+    fn load(memory: &[u8], at: u64) -> Option<u8> {
+        Some(load_u8(memory, at))
+    }
+
+    fn of_word(word: &ValRaw) -> Option<u8> {
+        Some((word.get_u32() % 256) as u8)
+    }
+
+    ghost shape = { of_type ty.U8 shape.u8 (λ i. refl) };
+
+    ghost no_unit = { refl };
+
+    ghost uncharged = { refl };
+}
+
+impl LoadedScalar for i16 {
+    ghost kind = { shape.s16 };
+
+    fn load(memory: &[u8], at: u64) -> Option<i16> {
+        Some(load_u16(memory, at).cast_signed())
+    }
+
+    fn of_word(word: &ValRaw) -> Option<i16> {
+        Some(((word.get_u32() % 65536) as u16).cast_signed())
+    }
+
+    ghost shape = { of_type ty.S16 shape.s16 (λ i. refl) };
+
+    ghost no_unit = { refl };
+
+    ghost uncharged = { refl };
+}
+
+impl LoadedScalar for u16 {
+    ghost kind = { shape.u16 };
+
+    fn load(memory: &[u8], at: u64) -> Option<u16> {
+        Some(load_u16(memory, at))
+    }
+
+    fn of_word(word: &ValRaw) -> Option<u16> {
+        Some((word.get_u32() % 65536) as u16)
+    }
+
+    ghost shape = { of_type ty.U16 shape.u16 (λ i. refl) };
+
+    ghost no_unit = { refl };
+
+    ghost uncharged = { refl };
+}
+
+impl LoadedScalar for i32 {
+    ghost kind = { shape.s32 };
+
+    fn load(memory: &[u8], at: u64) -> Option<i32> {
+        Some(load_u32(memory, at).cast_signed())
+    }
+
+    fn of_word(word: &ValRaw) -> Option<i32> {
+        Some(word.get_i32())
+    }
+
+    ghost shape = { of_type ty.S32 shape.s32 (λ i. refl) };
+
+    ghost no_unit = { refl };
+
+    ghost uncharged = { refl };
+}
+
+impl LoadedScalar for u32 {
+    ghost kind = { shape.u32 };
+
+    fn load(memory: &[u8], at: u64) -> Option<u32> {
+        Some(load_u32(memory, at))
+    }
+
+    fn of_word(word: &ValRaw) -> Option<u32> {
+        Some(word.get_u32())
+    }
+
+    ghost shape = { of_type ty.U32 shape.u32 (λ i. refl) };
+
+    ghost no_unit = { refl };
+
+    ghost uncharged = { refl };
+}
+
+impl LoadedScalar for i64 {
+    ghost kind = { shape.s64 };
+
+    fn load(memory: &[u8], at: u64) -> Option<i64> {
+        Some(load_u64(memory, at).cast_signed())
+    }
+
+    fn of_word(word: &ValRaw) -> Option<i64> {
+        Some(word.get_u64().cast_signed())
+    }
+
+    ghost shape = { of_type ty.S64 shape.s64 (λ i. refl) };
+
+    ghost no_unit = { refl };
+
+    ghost uncharged = { refl };
+}
+
+impl LoadedScalar for u64 {
+    ghost kind = { shape.u64 };
+
+    fn load(memory: &[u8], at: u64) -> Option<u64> {
+        Some(load_u64(memory, at))
+    }
+
+    fn of_word(word: &ValRaw) -> Option<u64> {
+        Some(word.get_u64())
+    }
+
+    ghost shape = { of_type ty.U64 shape.u64 (λ i. refl) };
+
+    ghost no_unit = { refl };
+
+    ghost uncharged = { refl };
+}
+
+impl LoadedScalar for Float32Bits {
+    ghost kind = { shape.f32 };
+
+    fn load(memory: &[u8], at: u64) -> Option<Float32Bits> {
+        Some(Float32Bits(load_u32(memory, at)))
+    }
+
+    fn of_word(word: &ValRaw) -> Option<Float32Bits> {
+        Some(Float32Bits(word.get_u32()))
+    }
+
+    ghost shape = { of_type ty.Float32 shape.f32 (λ i. refl) };
+
+    ghost no_unit = { refl };
+
+    ghost uncharged = { refl };
+}
+
+impl LoadedScalar for Float64Bits {
+    ghost kind = { shape.f64 };
+
+    fn load(memory: &[u8], at: u64) -> Option<Float64Bits> {
+        Some(Float64Bits(load_u64(memory, at)))
+    }
+
+    fn of_word(word: &ValRaw) -> Option<Float64Bits> {
+        Some(Float64Bits(word.get_u64()))
+    }
+
+    ghost shape = { of_type ty.Float64 shape.f64 (λ i. refl) };
+
+    ghost no_unit = { refl };
+
+    ghost uncharged = { refl };
+}
+
+impl LoadedScalar for bool {
+    ghost kind = { shape.bool };
+
+    fn load(memory: &[u8], at: u64) -> Option<bool> {
+        Some(load_u8(memory, at) != 0)
+    }
+
+    fn of_word(word: &ValRaw) -> Option<bool> {
+        Some(word.get_u32() != 0)
+    }
+
+    ghost shape = { of_type ty.Bool shape.bool (λ i. refl) };
+
+    ghost no_unit = { refl };
+
+    ghost uncharged = { refl };
+}
+
+impl LoadedScalar for char {
+    ghost kind = { shape.char };
+
+    fn load(memory: &[u8], at: u64) -> Option<char> {
+        char::from_u32(load_u32(memory, at))
+    }
+
+    fn of_word(word: &ValRaw) -> Option<char> {
+        char::from_u32(word.get_u32())
+    }
+
+    ghost shape = { of_type ty.Char shape.char (λ i. refl) };
+
+    ghost no_unit = { refl };
+
+    ghost uncharged = { refl };
 }

@@ -1,12 +1,57 @@
-//! Numbers and pointers in words.
+//! Scalars, and numbers and pointers in words.
 
-ghost use Rattle.std.specs.Prelude.{◌≡◌, ◌<◌, ◌≤◌, ◌+◌, ◌%◌, ◌^◌, length, slice_index};
+ghost use Rattle.std.specs.Prelude.{◌≡◌, ◌<◌, ◌≤◌, ◌+◌, ◌%◌, ◌^◌, IfSome, IsNone, false, length, slice_index};
 ghost use Rattle.canon_context.specs.Told.{IsPlace};
-ghost use Rattle.canon_model.specs.Memory.{low};
+ghost use Rattle.canon_lift.specs.Scalars.{StandsFor, StandsForNone};
+ghost use Rattle.canon_lowering.specs.Storing.{narrow};
+ghost use Rattle.canon_model.specs.Flat.{flat_bits};
+ghost use Rattle.canon_model.specs.Layout.{scalar_size};
+ghost use Rattle.canon_model.specs.Memory.{low, num};
 ghost use Rattle.canon_model.specs.Reach.{word};
+ghost use Rattle.canon_model.specs.Shape.{Scalar, scalar};
+ghost use Rattle.canon_types.specs.Instance.{Instance};
+ghost use Rattle.canon_types.specs.Table.{shape_of};
+ghost use Rattle.canon_types.specs.declared.types.InterfaceType.{InterfaceType};
+ghost use Rattle.canon_typed.specs.Charges.{free};
 
 use canon_context::At;
 use canon_memory::ValRaw;
+use canon_typed::ComponentType;
+
+/// A scalar, which the number in its bytes or the lowest bits of a word stand for. `Lift` is implemented once for all of them.
+pub trait LoadedScalar: ComponentType {
+    ghost kind: { Scalar };
+
+    /// The value at an address; none where it should be a char and isn't.
+    fn load(memory: &[u8], at: u64) -> Option<Self>
+    where
+        Self: Sized,
+        requires inside { at + scalar_size kind ≤ length memory.now }
+        ensures some { IfSome result (StandsFor kind Self.lifts (num (narrow memory.now) at (scalar_size kind))) }
+        ensures none { IsNone result → StandsForNone kind (num (narrow memory.now) at (scalar_size kind)) };
+
+    /// The value in a word, whose bits above the scalar's own aren't read; none likewise.
+    fn of_word(word: &ValRaw) -> Option<Self>
+    where
+        Self: Sized,
+        ensures some { IfSome result (StandsFor kind Self.lifts (word.now % 2 ^ flat_bits kind)) }
+        ensures none { IsNone result → StandsForNone kind (word.now % 2 ^ flat_bits kind) };
+
+    ghost shape: { (i : Instance) (type : InterfaceType) → Self.fits i type → shape_of i.types type ≡ scalar kind };
+
+    // it is no unit type, and lifting it charges nothing
+    ghost no_unit: { Self.is_unit ≡ false };
+
+    ghost uncharged: { Self.cost ≡ free };
+}
+
+/// A word.
+pub(crate) fn word_of(src: &[ValRaw], index: usize) -> ValRaw
+    requires { index < length src.now }
+    ensures { result ≡ slice_index src.now index }
+{
+    src[index]
+}
 
 /// The low half of a word.
 pub(crate) fn word_u32(src: &[ValRaw], index: usize) -> u32
@@ -14,30 +59,6 @@ pub(crate) fn word_u32(src: &[ValRaw], index: usize) -> u32
     ensures { result ≡ low (slice_index src.now index) }
 {
     src[index].get_u32()
-}
-
-/// The lowest 16 bits of a word.
-pub(crate) fn word_u16(src: &[ValRaw], index: usize) -> u16
-    requires { index < length src.now }
-    ensures { result ≡ slice_index src.now index % 2 ^ 16 }
-{
-    (src[index].get_u32() % 65536) as u16
-}
-
-/// The lowest 8 bits of a word.
-pub(crate) fn word_u8(src: &[ValRaw], index: usize) -> u8
-    requires { index < length src.now }
-    ensures { result ≡ slice_index src.now index % 2 ^ 8 }
-{
-    (src[index].get_u32() % 256) as u8
-}
-
-/// A word as a number.
-pub(crate) fn word_u64(src: &[ValRaw], index: usize) -> u64
-    requires { index < length src.now }
-    ensures { result ≡ slice_index src.now index }
-{
-    src[index].get_u64()
 }
 
 /// The place of a word, whose index stays at the last number of a `u32`.

@@ -99,16 +99,16 @@ unfolding reach_leaves flat_leaves
 no_handle_in_text w (stored a) = tt
 no_handle_in_text w (flat_in ws i) = tt
 
--- a scalar's type, by its shape
-module _ {A : Type 0} (type : InterfaceType) (k : Scalar) (is : (w : Setting) → shape_of w.types.types type ≡ scalar k) {Lifts : A → Tree → Type 0} where
-  pub scalar_told : IsOfTrees (λ i t. t ≡ type) (scalar_reading Lifts) Lifts
+-- of types whose shape is the scalar's
+module _ {A : Type 0} {Fit : Instance → InterfaceType → Type 0} (k : Scalar) (shape : (i : Instance) (type : InterfaceType) → Fit i type → shape_of i.types type ≡ scalar k) {Lifts : A → Tree → Type 0} where
+  pub scalar_told : IsOfTrees Fit (scalar_reading Lifts) Lifts
   scalar_told = record {
     reads = λ w at u before after v f h. tree_reads Lifts w at _ before after v h;
-    steps = λ w at u f. subst (λ (s : Shape). AreSteps w at s []) (sym (ap (λ x. shape_of w.types.types x) f ∙ is w)) (no_handle w at k);
+    steps = λ w at u f. subst (λ (s : Shape). AreSteps w at s []) (sym (shape w.types u f)) (no_handle w at k);
   }
 
-pub scalar_priced : {A : Type 0} {Fit : Instance → InterfaceType → Type 0} {Lifts : A → Tree → Type 0} → IsPriced Fit (scalar_reading Lifts) free
-scalar_priced = record { reach = λ w at type t f rep. refl }
+pub scalar_priced : {A : Type 0} {Fit : Instance → InterfaceType → Type 0} {Lifts : A → Tree → Type 0} (cost : Tree → ℕ) → cost ≡ free → IsPriced Fit (scalar_reading Lifts) cost
+scalar_priced cost is = record { reach = λ w at type t f rep. sym (ap (λ (c : Tree → ℕ). c t) is) }
 
 pub text_price : (w : Setting) (at : Spot) (t : Tree) → Represents w.memory w.encoding at string t → text_charge w at ≡ text_length t
 unfolding reach_cost flat_reach cost
