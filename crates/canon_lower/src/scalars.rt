@@ -214,4 +214,3 @@ impl WordScalar for char {
 
     ghost walked_by = { λ c. (code_point c, refl) };
 }
-
