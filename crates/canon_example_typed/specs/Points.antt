@@ -4,7 +4,6 @@ use Rattle.std.proofs.Common.{ap}
 use Rattle.canon_lower.specs.Given.{IsGiven, first_given, none_given, scalar_given, tuple_given}
 use Rattle.canon_lower.specs.Gives.{no_handles, product_gives}
 use Rattle.canon_model.specs.Shape as shape
-use Rattle.canon_model.specs.Shape.{scalar}
 use Rattle.canon_model.specs.Tree.{Tree, number}
 use Rattle.canon_types.specs.Instance.{Instance}
 use Rattle.canon_types.specs.Table.{shape_of}
@@ -79,10 +78,10 @@ number_faulted : IsFaulted IsNumberType number_reading
 number_faulted = tree_faulted {Lifts = IsNumber}
 
 number_given : IsGiven IsNumberType IsNumber no_handles
-number_given = scalar_given IsNumberType shape.u32 _ number_shape
+number_given = scalar_given ty.U32 shape.u32 _ (λ i. refl)
 
 number_told : IsOfTrees IsNumberType number_reading IsNumber
-number_told = scalar_told shape.u32 number_shape
+number_told = scalar_told shape.u32 (λ i t e. ap (λ x. shape_of i.types x) e)
 
 abbrev pub IsPointType : Instance → InterfaceType → Type 0
 IsPointType = IsTupleOf (IsNumberType ∷ IsNumberType ∷ [])

@@ -52,9 +52,8 @@ no_scalar_given : (i : Instance) (k : Scalar) (t : Tree) → AreGivenBy i (leave
 unfolding leaves
 no_scalar_given i k t = tt
 
-pub scalar_given : {A : Type 0} (Fit : Instance → InterfaceType → Type 0) (k : Scalar) (Walks : A → Tree → Type 0)
-    → ((i : Instance) (type : InterfaceType) → Fit i type → shape_of i.types type ≡ scalar k) → IsGiven Fit Walks no_handles
-scalar_given Fit k Walks shape v i type t f h = subst (λ (s : Shape). AreGivenBy i (leaves s t) []) (sym (shape i type f)) (no_scalar_given i k t)
+pub scalar_given : {A : Type 0} (type : InterfaceType) (k : Scalar) (Walks : A → Tree → Type 0) → ((i : Instance) → shape_of i.types type ≡ scalar k) → IsGiven (λ i t. t ≡ type) Walks no_handles
+scalar_given type k Walks is v i u t e h = subst (λ (s : Shape). AreGivenBy i (leaves s t) []) (sym (ap (λ x. shape_of i.types x) e ∙ is i)) (no_scalar_given i k t)
 
 no_text_given : (i : Instance) (t : Tree) → AreGivenBy i (leaves string t) []
 unfolding leaves

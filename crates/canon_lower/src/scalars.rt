@@ -15,62 +15,6 @@ use canon_memory::{Guest, ValRaw};
 use canon_typed::{Float32Bits, Float64Bits};
 use canon_types::InterfaceType;
 
-impl<S: WordScalar> Lower for S {
-    ghost gives = { no_handles };
-
-    fn linear_lower_to_flat<D, G: Guest>(
-        &mut self,
-        cx: &mut LowerContext<'_, D, G>,
-        ty: InterfaceType,
-        dst: &mut [ValRaw],
-    ) -> Result<(), Fault> {
-        lower_scalar(self, cx, ty, dst);
-        Ok(())
-    }
-
-    fn linear_lower_to_memory<D, G: Guest>(
-        &mut self,
-        cx: &mut LowerContext<'_, D, G>,
-        ty: InterfaceType,
-        offset: u64,
-    ) -> Result<(), Fault> {
-        store_scalar(self, cx, ty, offset);
-        Ok(())
-    }
-
-    ghost walkable = { S.walked_by };
-
-    ghost given = { scalar_given S.fits S.kind S.walks S.shape };
-}
-
-impl<S: WordScalar> LowerShared for S {
-    ghost gives = { no_handles };
-
-    fn linear_lower_to_flat<D, G: Guest>(
-        &self,
-        cx: &mut LowerContext<'_, D, G>,
-        ty: InterfaceType,
-        dst: &mut [ValRaw],
-    ) -> Result<(), Fault> {
-        lower_scalar(self, cx, ty, dst);
-        Ok(())
-    }
-
-    fn linear_lower_to_memory<D, G: Guest>(
-        &self,
-        cx: &mut LowerContext<'_, D, G>,
-        ty: InterfaceType,
-        offset: u64,
-    ) -> Result<(), Fault> {
-        store_scalar(self, cx, ty, offset);
-        Ok(())
-    }
-
-    ghost walkable = { S.walked_by };
-
-    ghost given = { scalar_given S.fits S.kind S.walks S.shape };
-}
-
 impl WordScalar for i8 {
     ghost kind = { scalar.s8 };
 
@@ -79,8 +23,62 @@ impl WordScalar for i8 {
     }
 
     ghost shape = { scalar_of ty.S8 scalar.s8 (λ i. refl) };
+}
 
-    ghost walked_by = { λ n. (number n, refl) };
+impl Lower for i8 {
+    ghost gives = { no_handles };
+
+    fn linear_lower_to_flat<D, G: Guest>(
+        &mut self,
+        cx: &mut LowerContext<'_, D, G>,
+        ty: InterfaceType,
+        dst: &mut [ValRaw],
+    ) -> Result<(), Fault> {
+        lower_scalar(self, cx, ty, dst);
+        Ok(())
+    }
+
+    fn linear_lower_to_memory<D, G: Guest>(
+        &mut self,
+        cx: &mut LowerContext<'_, D, G>,
+        ty: InterfaceType,
+        offset: u64,
+    ) -> Result<(), Fault> {
+        store_scalar(self, cx, ty, offset);
+        Ok(())
+    }
+
+    ghost walkable = { λ n. (number n, refl) };
+
+    ghost given = { scalar_given ty.S8 scalar.s8 _ (λ i. refl) };
+}
+
+impl LowerShared for i8 {
+    ghost gives = { no_handles };
+
+    fn linear_lower_to_flat<D, G: Guest>(
+        &self,
+        cx: &mut LowerContext<'_, D, G>,
+        ty: InterfaceType,
+        dst: &mut [ValRaw],
+    ) -> Result<(), Fault> {
+        lower_scalar(self, cx, ty, dst);
+        Ok(())
+    }
+
+    fn linear_lower_to_memory<D, G: Guest>(
+        &self,
+        cx: &mut LowerContext<'_, D, G>,
+        ty: InterfaceType,
+        offset: u64,
+    ) -> Result<(), Fault> {
+        store_scalar(self, cx, ty, offset);
+        Ok(())
+    }
+
+    ghost walkable = { λ n. (number n, refl) };
+
+    ghost given = { scalar_given ty.S8 scalar.s8 _ (λ i. refl) };
 }
 
 impl WordScalar for u8 {
@@ -91,8 +89,62 @@ impl WordScalar for u8 {
     }
 
     ghost shape = { scalar_of ty.U8 scalar.u8 (λ i. refl) };
+}
 
-    ghost walked_by = { λ n. (number (pos n), refl) };
+impl Lower for u8 {
+    ghost gives = { no_handles };
+
+    fn linear_lower_to_flat<D, G: Guest>(
+        &mut self,
+        cx: &mut LowerContext<'_, D, G>,
+        ty: InterfaceType,
+        dst: &mut [ValRaw],
+    ) -> Result<(), Fault> {
+        lower_scalar(self, cx, ty, dst);
+        Ok(())
+    }
+
+    fn linear_lower_to_memory<D, G: Guest>(
+        &mut self,
+        cx: &mut LowerContext<'_, D, G>,
+        ty: InterfaceType,
+        offset: u64,
+    ) -> Result<(), Fault> {
+        store_scalar(self, cx, ty, offset);
+        Ok(())
+    }
+
+    ghost walkable = { λ n. (number (pos n), refl) };
+
+    ghost given = { scalar_given ty.U8 scalar.u8 _ (λ i. refl) };
+}
+
+impl LowerShared for u8 {
+    ghost gives = { no_handles };
+
+    fn linear_lower_to_flat<D, G: Guest>(
+        &self,
+        cx: &mut LowerContext<'_, D, G>,
+        ty: InterfaceType,
+        dst: &mut [ValRaw],
+    ) -> Result<(), Fault> {
+        lower_scalar(self, cx, ty, dst);
+        Ok(())
+    }
+
+    fn linear_lower_to_memory<D, G: Guest>(
+        &self,
+        cx: &mut LowerContext<'_, D, G>,
+        ty: InterfaceType,
+        offset: u64,
+    ) -> Result<(), Fault> {
+        store_scalar(self, cx, ty, offset);
+        Ok(())
+    }
+
+    ghost walkable = { λ n. (number (pos n), refl) };
+
+    ghost given = { scalar_given ty.U8 scalar.u8 _ (λ i. refl) };
 }
 
 impl WordScalar for i16 {
@@ -103,8 +155,62 @@ impl WordScalar for i16 {
     }
 
     ghost shape = { scalar_of ty.S16 scalar.s16 (λ i. refl) };
+}
 
-    ghost walked_by = { λ n. (number n, refl) };
+impl Lower for i16 {
+    ghost gives = { no_handles };
+
+    fn linear_lower_to_flat<D, G: Guest>(
+        &mut self,
+        cx: &mut LowerContext<'_, D, G>,
+        ty: InterfaceType,
+        dst: &mut [ValRaw],
+    ) -> Result<(), Fault> {
+        lower_scalar(self, cx, ty, dst);
+        Ok(())
+    }
+
+    fn linear_lower_to_memory<D, G: Guest>(
+        &mut self,
+        cx: &mut LowerContext<'_, D, G>,
+        ty: InterfaceType,
+        offset: u64,
+    ) -> Result<(), Fault> {
+        store_scalar(self, cx, ty, offset);
+        Ok(())
+    }
+
+    ghost walkable = { λ n. (number n, refl) };
+
+    ghost given = { scalar_given ty.S16 scalar.s16 _ (λ i. refl) };
+}
+
+impl LowerShared for i16 {
+    ghost gives = { no_handles };
+
+    fn linear_lower_to_flat<D, G: Guest>(
+        &self,
+        cx: &mut LowerContext<'_, D, G>,
+        ty: InterfaceType,
+        dst: &mut [ValRaw],
+    ) -> Result<(), Fault> {
+        lower_scalar(self, cx, ty, dst);
+        Ok(())
+    }
+
+    fn linear_lower_to_memory<D, G: Guest>(
+        &self,
+        cx: &mut LowerContext<'_, D, G>,
+        ty: InterfaceType,
+        offset: u64,
+    ) -> Result<(), Fault> {
+        store_scalar(self, cx, ty, offset);
+        Ok(())
+    }
+
+    ghost walkable = { λ n. (number n, refl) };
+
+    ghost given = { scalar_given ty.S16 scalar.s16 _ (λ i. refl) };
 }
 
 impl WordScalar for u16 {
@@ -115,8 +221,62 @@ impl WordScalar for u16 {
     }
 
     ghost shape = { scalar_of ty.U16 scalar.u16 (λ i. refl) };
+}
 
-    ghost walked_by = { λ n. (number (pos n), refl) };
+impl Lower for u16 {
+    ghost gives = { no_handles };
+
+    fn linear_lower_to_flat<D, G: Guest>(
+        &mut self,
+        cx: &mut LowerContext<'_, D, G>,
+        ty: InterfaceType,
+        dst: &mut [ValRaw],
+    ) -> Result<(), Fault> {
+        lower_scalar(self, cx, ty, dst);
+        Ok(())
+    }
+
+    fn linear_lower_to_memory<D, G: Guest>(
+        &mut self,
+        cx: &mut LowerContext<'_, D, G>,
+        ty: InterfaceType,
+        offset: u64,
+    ) -> Result<(), Fault> {
+        store_scalar(self, cx, ty, offset);
+        Ok(())
+    }
+
+    ghost walkable = { λ n. (number (pos n), refl) };
+
+    ghost given = { scalar_given ty.U16 scalar.u16 _ (λ i. refl) };
+}
+
+impl LowerShared for u16 {
+    ghost gives = { no_handles };
+
+    fn linear_lower_to_flat<D, G: Guest>(
+        &self,
+        cx: &mut LowerContext<'_, D, G>,
+        ty: InterfaceType,
+        dst: &mut [ValRaw],
+    ) -> Result<(), Fault> {
+        lower_scalar(self, cx, ty, dst);
+        Ok(())
+    }
+
+    fn linear_lower_to_memory<D, G: Guest>(
+        &self,
+        cx: &mut LowerContext<'_, D, G>,
+        ty: InterfaceType,
+        offset: u64,
+    ) -> Result<(), Fault> {
+        store_scalar(self, cx, ty, offset);
+        Ok(())
+    }
+
+    ghost walkable = { λ n. (number (pos n), refl) };
+
+    ghost given = { scalar_given ty.U16 scalar.u16 _ (λ i. refl) };
 }
 
 impl WordScalar for i32 {
@@ -127,8 +287,62 @@ impl WordScalar for i32 {
     }
 
     ghost shape = { scalar_of ty.S32 scalar.s32 (λ i. refl) };
+}
 
-    ghost walked_by = { λ n. (number n, refl) };
+impl Lower for i32 {
+    ghost gives = { no_handles };
+
+    fn linear_lower_to_flat<D, G: Guest>(
+        &mut self,
+        cx: &mut LowerContext<'_, D, G>,
+        ty: InterfaceType,
+        dst: &mut [ValRaw],
+    ) -> Result<(), Fault> {
+        lower_scalar(self, cx, ty, dst);
+        Ok(())
+    }
+
+    fn linear_lower_to_memory<D, G: Guest>(
+        &mut self,
+        cx: &mut LowerContext<'_, D, G>,
+        ty: InterfaceType,
+        offset: u64,
+    ) -> Result<(), Fault> {
+        store_scalar(self, cx, ty, offset);
+        Ok(())
+    }
+
+    ghost walkable = { λ n. (number n, refl) };
+
+    ghost given = { scalar_given ty.S32 scalar.s32 _ (λ i. refl) };
+}
+
+impl LowerShared for i32 {
+    ghost gives = { no_handles };
+
+    fn linear_lower_to_flat<D, G: Guest>(
+        &self,
+        cx: &mut LowerContext<'_, D, G>,
+        ty: InterfaceType,
+        dst: &mut [ValRaw],
+    ) -> Result<(), Fault> {
+        lower_scalar(self, cx, ty, dst);
+        Ok(())
+    }
+
+    fn linear_lower_to_memory<D, G: Guest>(
+        &self,
+        cx: &mut LowerContext<'_, D, G>,
+        ty: InterfaceType,
+        offset: u64,
+    ) -> Result<(), Fault> {
+        store_scalar(self, cx, ty, offset);
+        Ok(())
+    }
+
+    ghost walkable = { λ n. (number n, refl) };
+
+    ghost given = { scalar_given ty.S32 scalar.s32 _ (λ i. refl) };
 }
 
 impl WordScalar for u32 {
@@ -139,8 +353,62 @@ impl WordScalar for u32 {
     }
 
     ghost shape = { scalar_of ty.U32 scalar.u32 (λ i. refl) };
+}
 
-    ghost walked_by = { λ n. (number (pos n), refl) };
+impl Lower for u32 {
+    ghost gives = { no_handles };
+
+    fn linear_lower_to_flat<D, G: Guest>(
+        &mut self,
+        cx: &mut LowerContext<'_, D, G>,
+        ty: InterfaceType,
+        dst: &mut [ValRaw],
+    ) -> Result<(), Fault> {
+        lower_scalar(self, cx, ty, dst);
+        Ok(())
+    }
+
+    fn linear_lower_to_memory<D, G: Guest>(
+        &mut self,
+        cx: &mut LowerContext<'_, D, G>,
+        ty: InterfaceType,
+        offset: u64,
+    ) -> Result<(), Fault> {
+        store_scalar(self, cx, ty, offset);
+        Ok(())
+    }
+
+    ghost walkable = { λ n. (number (pos n), refl) };
+
+    ghost given = { scalar_given ty.U32 scalar.u32 _ (λ i. refl) };
+}
+
+impl LowerShared for u32 {
+    ghost gives = { no_handles };
+
+    fn linear_lower_to_flat<D, G: Guest>(
+        &self,
+        cx: &mut LowerContext<'_, D, G>,
+        ty: InterfaceType,
+        dst: &mut [ValRaw],
+    ) -> Result<(), Fault> {
+        lower_scalar(self, cx, ty, dst);
+        Ok(())
+    }
+
+    fn linear_lower_to_memory<D, G: Guest>(
+        &self,
+        cx: &mut LowerContext<'_, D, G>,
+        ty: InterfaceType,
+        offset: u64,
+    ) -> Result<(), Fault> {
+        store_scalar(self, cx, ty, offset);
+        Ok(())
+    }
+
+    ghost walkable = { λ n. (number (pos n), refl) };
+
+    ghost given = { scalar_given ty.U32 scalar.u32 _ (λ i. refl) };
 }
 
 impl WordScalar for i64 {
@@ -151,8 +419,62 @@ impl WordScalar for i64 {
     }
 
     ghost shape = { scalar_of ty.S64 scalar.s64 (λ i. refl) };
+}
 
-    ghost walked_by = { λ n. (number n, refl) };
+impl Lower for i64 {
+    ghost gives = { no_handles };
+
+    fn linear_lower_to_flat<D, G: Guest>(
+        &mut self,
+        cx: &mut LowerContext<'_, D, G>,
+        ty: InterfaceType,
+        dst: &mut [ValRaw],
+    ) -> Result<(), Fault> {
+        lower_scalar(self, cx, ty, dst);
+        Ok(())
+    }
+
+    fn linear_lower_to_memory<D, G: Guest>(
+        &mut self,
+        cx: &mut LowerContext<'_, D, G>,
+        ty: InterfaceType,
+        offset: u64,
+    ) -> Result<(), Fault> {
+        store_scalar(self, cx, ty, offset);
+        Ok(())
+    }
+
+    ghost walkable = { λ n. (number n, refl) };
+
+    ghost given = { scalar_given ty.S64 scalar.s64 _ (λ i. refl) };
+}
+
+impl LowerShared for i64 {
+    ghost gives = { no_handles };
+
+    fn linear_lower_to_flat<D, G: Guest>(
+        &self,
+        cx: &mut LowerContext<'_, D, G>,
+        ty: InterfaceType,
+        dst: &mut [ValRaw],
+    ) -> Result<(), Fault> {
+        lower_scalar(self, cx, ty, dst);
+        Ok(())
+    }
+
+    fn linear_lower_to_memory<D, G: Guest>(
+        &self,
+        cx: &mut LowerContext<'_, D, G>,
+        ty: InterfaceType,
+        offset: u64,
+    ) -> Result<(), Fault> {
+        store_scalar(self, cx, ty, offset);
+        Ok(())
+    }
+
+    ghost walkable = { λ n. (number n, refl) };
+
+    ghost given = { scalar_given ty.S64 scalar.s64 _ (λ i. refl) };
 }
 
 impl WordScalar for u64 {
@@ -163,8 +485,62 @@ impl WordScalar for u64 {
     }
 
     ghost shape = { scalar_of ty.U64 scalar.u64 (λ i. refl) };
+}
 
-    ghost walked_by = { λ n. (number (pos n), refl) };
+impl Lower for u64 {
+    ghost gives = { no_handles };
+
+    fn linear_lower_to_flat<D, G: Guest>(
+        &mut self,
+        cx: &mut LowerContext<'_, D, G>,
+        ty: InterfaceType,
+        dst: &mut [ValRaw],
+    ) -> Result<(), Fault> {
+        lower_scalar(self, cx, ty, dst);
+        Ok(())
+    }
+
+    fn linear_lower_to_memory<D, G: Guest>(
+        &mut self,
+        cx: &mut LowerContext<'_, D, G>,
+        ty: InterfaceType,
+        offset: u64,
+    ) -> Result<(), Fault> {
+        store_scalar(self, cx, ty, offset);
+        Ok(())
+    }
+
+    ghost walkable = { λ n. (number (pos n), refl) };
+
+    ghost given = { scalar_given ty.U64 scalar.u64 _ (λ i. refl) };
+}
+
+impl LowerShared for u64 {
+    ghost gives = { no_handles };
+
+    fn linear_lower_to_flat<D, G: Guest>(
+        &self,
+        cx: &mut LowerContext<'_, D, G>,
+        ty: InterfaceType,
+        dst: &mut [ValRaw],
+    ) -> Result<(), Fault> {
+        lower_scalar(self, cx, ty, dst);
+        Ok(())
+    }
+
+    fn linear_lower_to_memory<D, G: Guest>(
+        &self,
+        cx: &mut LowerContext<'_, D, G>,
+        ty: InterfaceType,
+        offset: u64,
+    ) -> Result<(), Fault> {
+        store_scalar(self, cx, ty, offset);
+        Ok(())
+    }
+
+    ghost walkable = { λ n. (number (pos n), refl) };
+
+    ghost given = { scalar_given ty.U64 scalar.u64 _ (λ i. refl) };
 }
 
 impl WordScalar for Float32Bits {
@@ -175,8 +551,62 @@ impl WordScalar for Float32Bits {
     }
 
     ghost shape = { scalar_of ty.Float32 scalar.f32 (λ i. refl) };
+}
 
-    ghost walked_by = { λ n. (number (pos n.0), refl) };
+impl Lower for Float32Bits {
+    ghost gives = { no_handles };
+
+    fn linear_lower_to_flat<D, G: Guest>(
+        &mut self,
+        cx: &mut LowerContext<'_, D, G>,
+        ty: InterfaceType,
+        dst: &mut [ValRaw],
+    ) -> Result<(), Fault> {
+        lower_scalar(self, cx, ty, dst);
+        Ok(())
+    }
+
+    fn linear_lower_to_memory<D, G: Guest>(
+        &mut self,
+        cx: &mut LowerContext<'_, D, G>,
+        ty: InterfaceType,
+        offset: u64,
+    ) -> Result<(), Fault> {
+        store_scalar(self, cx, ty, offset);
+        Ok(())
+    }
+
+    ghost walkable = { λ n. (number (pos n.0), refl) };
+
+    ghost given = { scalar_given ty.Float32 scalar.f32 _ (λ i. refl) };
+}
+
+impl LowerShared for Float32Bits {
+    ghost gives = { no_handles };
+
+    fn linear_lower_to_flat<D, G: Guest>(
+        &self,
+        cx: &mut LowerContext<'_, D, G>,
+        ty: InterfaceType,
+        dst: &mut [ValRaw],
+    ) -> Result<(), Fault> {
+        lower_scalar(self, cx, ty, dst);
+        Ok(())
+    }
+
+    fn linear_lower_to_memory<D, G: Guest>(
+        &self,
+        cx: &mut LowerContext<'_, D, G>,
+        ty: InterfaceType,
+        offset: u64,
+    ) -> Result<(), Fault> {
+        store_scalar(self, cx, ty, offset);
+        Ok(())
+    }
+
+    ghost walkable = { λ n. (number (pos n.0), refl) };
+
+    ghost given = { scalar_given ty.Float32 scalar.f32 _ (λ i. refl) };
 }
 
 impl WordScalar for Float64Bits {
@@ -187,8 +617,62 @@ impl WordScalar for Float64Bits {
     }
 
     ghost shape = { scalar_of ty.Float64 scalar.f64 (λ i. refl) };
+}
 
-    ghost walked_by = { λ n. (number (pos n.0), refl) };
+impl Lower for Float64Bits {
+    ghost gives = { no_handles };
+
+    fn linear_lower_to_flat<D, G: Guest>(
+        &mut self,
+        cx: &mut LowerContext<'_, D, G>,
+        ty: InterfaceType,
+        dst: &mut [ValRaw],
+    ) -> Result<(), Fault> {
+        lower_scalar(self, cx, ty, dst);
+        Ok(())
+    }
+
+    fn linear_lower_to_memory<D, G: Guest>(
+        &mut self,
+        cx: &mut LowerContext<'_, D, G>,
+        ty: InterfaceType,
+        offset: u64,
+    ) -> Result<(), Fault> {
+        store_scalar(self, cx, ty, offset);
+        Ok(())
+    }
+
+    ghost walkable = { λ n. (number (pos n.0), refl) };
+
+    ghost given = { scalar_given ty.Float64 scalar.f64 _ (λ i. refl) };
+}
+
+impl LowerShared for Float64Bits {
+    ghost gives = { no_handles };
+
+    fn linear_lower_to_flat<D, G: Guest>(
+        &self,
+        cx: &mut LowerContext<'_, D, G>,
+        ty: InterfaceType,
+        dst: &mut [ValRaw],
+    ) -> Result<(), Fault> {
+        lower_scalar(self, cx, ty, dst);
+        Ok(())
+    }
+
+    fn linear_lower_to_memory<D, G: Guest>(
+        &self,
+        cx: &mut LowerContext<'_, D, G>,
+        ty: InterfaceType,
+        offset: u64,
+    ) -> Result<(), Fault> {
+        store_scalar(self, cx, ty, offset);
+        Ok(())
+    }
+
+    ghost walkable = { λ n. (number (pos n.0), refl) };
+
+    ghost given = { scalar_given ty.Float64 scalar.f64 _ (λ i. refl) };
 }
 
 impl WordScalar for bool {
@@ -199,8 +683,62 @@ impl WordScalar for bool {
     }
 
     ghost shape = { scalar_of ty.Bool scalar.bool (λ i. refl) };
+}
 
-    ghost walked_by = { λ b. (truth b, refl) };
+impl Lower for bool {
+    ghost gives = { no_handles };
+
+    fn linear_lower_to_flat<D, G: Guest>(
+        &mut self,
+        cx: &mut LowerContext<'_, D, G>,
+        ty: InterfaceType,
+        dst: &mut [ValRaw],
+    ) -> Result<(), Fault> {
+        lower_scalar(self, cx, ty, dst);
+        Ok(())
+    }
+
+    fn linear_lower_to_memory<D, G: Guest>(
+        &mut self,
+        cx: &mut LowerContext<'_, D, G>,
+        ty: InterfaceType,
+        offset: u64,
+    ) -> Result<(), Fault> {
+        store_scalar(self, cx, ty, offset);
+        Ok(())
+    }
+
+    ghost walkable = { λ b. (truth b, refl) };
+
+    ghost given = { scalar_given ty.Bool scalar.bool _ (λ i. refl) };
+}
+
+impl LowerShared for bool {
+    ghost gives = { no_handles };
+
+    fn linear_lower_to_flat<D, G: Guest>(
+        &self,
+        cx: &mut LowerContext<'_, D, G>,
+        ty: InterfaceType,
+        dst: &mut [ValRaw],
+    ) -> Result<(), Fault> {
+        lower_scalar(self, cx, ty, dst);
+        Ok(())
+    }
+
+    fn linear_lower_to_memory<D, G: Guest>(
+        &self,
+        cx: &mut LowerContext<'_, D, G>,
+        ty: InterfaceType,
+        offset: u64,
+    ) -> Result<(), Fault> {
+        store_scalar(self, cx, ty, offset);
+        Ok(())
+    }
+
+    ghost walkable = { λ b. (truth b, refl) };
+
+    ghost given = { scalar_given ty.Bool scalar.bool _ (λ i. refl) };
 }
 
 impl WordScalar for char {
@@ -211,6 +749,60 @@ impl WordScalar for char {
     }
 
     ghost shape = { scalar_of ty.Char scalar.char (λ i. refl) };
+}
 
-    ghost walked_by = { λ c. (code_point c, refl) };
+impl Lower for char {
+    ghost gives = { no_handles };
+
+    fn linear_lower_to_flat<D, G: Guest>(
+        &mut self,
+        cx: &mut LowerContext<'_, D, G>,
+        ty: InterfaceType,
+        dst: &mut [ValRaw],
+    ) -> Result<(), Fault> {
+        lower_scalar(self, cx, ty, dst);
+        Ok(())
+    }
+
+    fn linear_lower_to_memory<D, G: Guest>(
+        &mut self,
+        cx: &mut LowerContext<'_, D, G>,
+        ty: InterfaceType,
+        offset: u64,
+    ) -> Result<(), Fault> {
+        store_scalar(self, cx, ty, offset);
+        Ok(())
+    }
+
+    ghost walkable = { λ c. (code_point c, refl) };
+
+    ghost given = { scalar_given ty.Char scalar.char _ (λ i. refl) };
+}
+
+impl LowerShared for char {
+    ghost gives = { no_handles };
+
+    fn linear_lower_to_flat<D, G: Guest>(
+        &self,
+        cx: &mut LowerContext<'_, D, G>,
+        ty: InterfaceType,
+        dst: &mut [ValRaw],
+    ) -> Result<(), Fault> {
+        lower_scalar(self, cx, ty, dst);
+        Ok(())
+    }
+
+    fn linear_lower_to_memory<D, G: Guest>(
+        &self,
+        cx: &mut LowerContext<'_, D, G>,
+        ty: InterfaceType,
+        offset: u64,
+    ) -> Result<(), Fault> {
+        store_scalar(self, cx, ty, offset);
+        Ok(())
+    }
+
+    ghost walkable = { λ c. (code_point c, refl) };
+
+    ghost given = { scalar_given ty.Char scalar.char _ (λ i. refl) };
 }

@@ -12,7 +12,6 @@ ghost use Rattle.canon_lower.specs.Words.{IsCaseWords, Stays, TypedLowers};
 ghost use Rattle.canon_model.specs.Flat.{AreZero};
 ghost use Rattle.canon_model.specs.Layout.{flat, members_flat, size};
 ghost use Rattle.canon_model.specs.Shape.{Scalar, Shape, scalar};
-ghost use Rattle.canon_model.specs.Tree.{Tree};
 ghost use Rattle.canon_types.specs.Instance.{Instance};
 ghost use Rattle.canon_types.specs.Table.{Knows, KnowsPayload, all_shapes, payload_in, shape_of};
 ghost use Rattle.canon_types.specs.declared.types.InterfaceType.{InterfaceType};
@@ -25,8 +24,8 @@ use canon_plan::flat_words;
 use canon_typed::ComponentType;
 use canon_types::InterfaceType;
 
-/// A scalar, which one word represents. The traits of lowering are implemented once for all of them.
-pub trait WordScalar: ComponentType {
+/// A scalar, which one word represents.
+pub(crate) trait WordScalar: ComponentType {
     ghost kind: { Scalar };
 
     /// The word, with no bit set above the scalar's own.
@@ -34,9 +33,6 @@ pub trait WordScalar: ComponentType {
         ensures { IsScalarWord kind (Self.walks self.now) result };
 
     ghost shape: { (i : Instance) (type : InterfaceType) → Self.fits i type → shape_of i.types type ≡ scalar kind };
-
-    // each value walks a tree
-    ghost walked_by: { (v : Self) → (t : Tree) × Self.walks v t };
 }
 
 /// Lowers a scalar into its word.
