@@ -1,321 +1,392 @@
 //! Each Rust type lifted once, from memory and from words, at its cost. Values by CanonicalABI.md's "load" and "lift_flat",
 //! costs by the table of docs/TYPED.md.
 
-ghost use Rattle.std.specs.Prelude.{◌≡◌, IfSome, length};
-ghost use Rattle.canon_context.specs.Core.{SameButLedger};
+ghost use Rattle.std.specs.Prelude.{◌≡◌, IfOk, length};
 
 use canon_context::{At, Fault, LiftContext};
 use canon_lift::{Lift, WasmList, WasmStr};
 use canon_memory::ValRaw;
 use canon_test_core::{
-    TestCore, Typed, core_of, fixed_of, has_room, has_words, list_of, map_of, memory_of, option_of,
-    plain, result_of, tuple_of,
+    TestCore, Typed, core_of, has_room, has_words, list_of, memory_of, option_of, plain, result_of,
+    tuple_of,
 };
 use canon_typed::{FixedList, Float32Bits, Float64Bits};
-use canon_types::InterfaceType::{
-    Bool, Char, Float32, Float64, S8, S16, S32, S64, U8, U16, U32, U64,
-};
-use canon_types::{InterfaceType, OptionsIndex, StringEncoding, TypeError};
+use canon_types::{ComponentTypes, InterfaceType, OptionsIndex, StringEncoding, TypeBuilder};
 use std::alloc::Global;
 use std::collections::HashMap;
+use std::test::Fail;
 
-/// A core of a type, whose memory begins with these bytes, and the type.
+/// A core of these types, whose memory begins with these bytes.
 pub(crate) fn core_with(
     alloc: Global,
-    typed: Result<Typed, TypeError>,
+    types: ComponentTypes,
     bytes: &[u8],
-) -> Option<(TestCore, InterfaceType)>
-    ensures options { IfSome result (λ c. length c.0.component.options.items ≡ 1) }
+) -> Result<TestCore, Fail>
+    ensures options { IfOk result (λ c. length c.component.options.items ≡ 1) }
 {
-    let memory = memory_of(alloc, bytes).ok()?;
-    let (types, ty) = typed.ok()?;
-    let core = core_of(alloc, StringEncoding::Utf8, types, memory).ok()?;
-    Some((core, ty))
+    let memory = memory_of(alloc, bytes)?;
+    Ok(core_of(alloc, StringEncoding::Utf8, types, memory)?)
 }
 
-/// What memory is lifted to at 0, and what that cost. None where the type isn't the Rust type's.
-pub(crate) fn loaded<T: Lift>(
+/// What the bytes of memory are lifted to, and what it cost. None where the type isn't the Rust type's.
+fn loaded<T: Lift>(
     alloc: Global,
-    core: &mut TestCore,
-    ty: InterfaceType,
-) -> Option<(Result<T, Fault>, u64)>
-    requires options { length core.old.component.options.items ≡ 1 }
-    ensures same { SameButLedger core.old core.new }
-{
-    if !has_room::<T>(core, &ty, 0, 1) {
-        return None;
+    typed: Typed,
+    bytes: &[u8],
+) -> Result<(Result<T, Fault>, u64), Fail> {
+    let (types, ty) = typed;
+    let mut core = core_with(alloc, types, bytes)?;
+    if !has_room::<T>(&core, &ty, 0, 1) {
+        return Err(Fail::from("another type"));
     }
-    let mut cx = LiftContext::new(core, OptionsIndex::from_u32(0));
+    let mut cx = LiftContext::new(&mut core, OptionsIndex::from_u32(0));
     let value = T::linear_lift_from_memory(alloc, &mut cx, ty, 0);
-    Some((value, 1_000u64.saturating_sub(cx.fuel())))
+    let left = cx.fuel();
+    Ok((value, 1_000u64.saturating_sub(left)))
 }
 
-/// What these words are lifted to, and what that cost.
-pub(crate) fn lifted<T: Lift>(
+/// What the words are lifted to, over the same memory, and what it cost.
+fn lifted<T: Lift>(
     alloc: Global,
-    core: &mut TestCore,
-    ty: InterfaceType,
+    typed: Typed,
     words: &[ValRaw],
-) -> Option<(Result<T, Fault>, u64)>
-    requires options { length core.old.component.options.items ≡ 1 }
-{
-    if !has_words::<T>(core, &ty, words) {
-        return None;
+    bytes: &[u8],
+) -> Result<(Result<T, Fault>, u64), Fail> {
+    let (types, ty) = typed;
+    let mut core = core_with(alloc, types, bytes)?;
+    if !has_words::<T>(&core, &ty, words) {
+        return Err(Fail::from("another type"));
     }
-    let mut cx = LiftContext::new(core, OptionsIndex::from_u32(0));
+    let mut cx = LiftContext::new(&mut core, OptionsIndex::from_u32(0));
     let value = T::linear_lift_from_flat(alloc, &mut cx, ty, words, 0);
-    Some((value, 1_000u64.saturating_sub(cx.fuel())))
+    let left = cx.fuel();
+    Ok((value, 1_000u64.saturating_sub(left)))
 }
 
-/// Whether these bytes of memory are this value, and these words over them too, each at this cost.
+/// Whether these bytes are this value, at this cost.
+fn loads<T: Lift + PartialEq>(
+    alloc: Global,
+    typed: Typed,
+    bytes: &[u8],
+    expected: &T,
+    cost: u64,
+) -> Result<bool, Fail> {
+    let (value, spent) = loaded::<T>(alloc, typed, bytes)?;
+    match value {
+        Ok(value) => Ok(value == *expected && spent == cost),
+        Err(_) => Ok(false),
+    }
+}
+
+/// Whether these words are this value, at this cost.
 fn lifts<T: Lift + PartialEq>(
     alloc: Global,
-    typed: Result<Typed, TypeError>,
-    bytes: &[u8],
+    typed: Typed,
     words: &[ValRaw],
-    value: Option<T>,
+    bytes: &[u8],
+    expected: &T,
     cost: u64,
-) -> bool {
-    let Some(value) = value else {
-        return false;
-    };
-    let Some((mut core, ty)) = core_with(alloc, typed, bytes) else {
-        return false;
-    };
-    let expected = Some((Ok(value), cost));
-    let by_memory = loaded::<T>(alloc, &mut core, ty);
-    let by_words = lifted::<T>(alloc, &mut core, ty, words);
-    by_memory == expected && by_words == expected
+) -> Result<bool, Fail> {
+    let (value, spent) = lifted::<T>(alloc, typed, words, bytes)?;
+    match value {
+        Ok(value) => Ok(value == *expected && spent == cost),
+        Err(_) => Ok(false),
+    }
+}
+
+/// Whether lifting these bytes answers this fault.
+fn fails<T: Lift>(alloc: Global, typed: Typed, bytes: &[u8], fault: Fault) -> Result<bool, Fail> {
+    let (value, _) = loaded::<T>(alloc, typed, bytes)?;
+    match value {
+        Ok(_) => Ok(false),
+        Err(error) => Ok(error == fault),
+    }
 }
 
 #[test]
-fn integers_are_lifted(rt: HostRuntime) {
+fn integers_are_loaded(rt: HostRuntime) -> Result<(), Fail> {
     let alloc = rt.alloc();
-    let narrow = lifts(
-        alloc,
-        tuple_of(alloc, &[S8, U8, S16, U16]),
-        &[0xff, 7, 0xfe, 0xff, 1, 2],
-        &[
-            ValRaw::i32(-1),
-            ValRaw::u32(7),
-            ValRaw::i32(-2),
-            ValRaw::u32(0x0201),
-        ],
-        Some((-1i8, 7u8, -2i16, 0x0201u16)),
-        0,
+    assert!(rt; loads(alloc, plain(alloc, InterfaceType::U8), &[7], &7u8, 0)?);
+    assert!(rt; loads(alloc, plain(alloc, InterfaceType::S8), &[0xff], &-1i8, 0)?);
+    assert!(rt;
+        loads(
+            alloc,
+            plain(alloc, InterfaceType::U16),
+            &[1, 2],
+            &0x0201u16,
+            0
+        )?
     );
-    let wide = lifts(
-        alloc,
-        tuple_of(alloc, &[S32, U32, S64, U64]),
-        &[
-            0xfe, 0xff, 0xff, 0xff, 9, 0, 0, 0, 0xfc, 0xff, 0xff, 0xff, 0xff, 0xff, 0xff, 0xff, 0,
-            1,
-        ],
-        &[
-            ValRaw::i32(-2),
-            ValRaw::u32(9),
-            ValRaw::i64(-4),
-            ValRaw::u64(256),
-        ],
-        Some((-2i32, 9u32, -4i64, 256u64)),
-        0,
+    assert!(rt;
+        loads(
+            alloc,
+            plain(alloc, InterfaceType::S32),
+            &[0xfe, 0xff, 0xff, 0xff],
+            &-2i32,
+            0
+        )?
     );
-    assert!(rt; narrow && wide);
-}
-
-// A bool is true at each number but 0. The bits of a float stay, also where it is no number. 0xaa is padding.
-#[test]
-fn other_scalars_are_lifted(rt: HostRuntime) {
-    let alloc = rt.alloc();
-    let are_lifted = lifts(
-        alloc,
-        tuple_of(alloc, &[Bool, Char, Float32, Float64]),
-        &[
-            2, 0xaa, 0xaa, 0xaa, 0xe9, 0, 0, 0, 1, 0, 0xc0, 0x7f, 0xaa, 0xaa, 0xaa, 0xaa, 0, 0, 0,
-            0, 0, 0, 0, 0x40,
-        ],
-        &[
-            ValRaw::u32(2),
-            ValRaw::u32(0xe9),
-            ValRaw::u32(0x7fc0_0001),
-            ValRaw::u64(1 << 62),
-        ],
-        Some((true, 'é', Float32Bits(0x7fc0_0001), Float64Bits(1 << 62))),
-        0,
-    );
-    assert!(rt; are_lifted);
+    assert!(rt; loads(alloc, plain(alloc, InterfaceType::U64), &[0, 1], &256u64, 0)?);
+    Ok(())
 }
 
 #[test]
-fn cases_have_a_payload_behind_their_discriminant(rt: HostRuntime) {
+fn scalars_are_lifted_from_words(rt: HostRuntime) -> Result<(), Fail> {
     let alloc = rt.alloc();
-    let some = lifts(
-        alloc,
-        option_of(alloc, U16),
-        &[1, 0xaa, 7, 0],
-        &[ValRaw::u32(1), ValRaw::u32(7)],
-        Some(Some(7u16)),
-        0,
+    assert!(rt;
+        lifts(
+            alloc,
+            plain(alloc, InterfaceType::S16),
+            &[ValRaw::i32(-2)],
+            &[],
+            &-2i16,
+            0
+        )?
     );
-    let none = lifts(
-        alloc,
-        option_of(alloc, U16),
-        &[0, 0xaa, 7, 0],
-        &[ValRaw::u32(0), ValRaw::u32(7)],
-        Some(None::<u16>),
-        0,
+    assert!(rt;
+        lifts(
+            alloc,
+            plain(alloc, InterfaceType::U32),
+            &[ValRaw::u32(9)],
+            &[],
+            &9u32,
+            0
+        )?
+    );
+    assert!(rt;
+        lifts(
+            alloc,
+            plain(alloc, InterfaceType::S64),
+            &[ValRaw::i64(-4)],
+            &[],
+            &-4i64,
+            0
+        )?
+    );
+    assert!(rt;
+        lifts(
+            alloc,
+            plain(alloc, InterfaceType::Bool),
+            &[ValRaw::u32(2)],
+            &[],
+            &true,
+            0
+        )?
+    );
+    assert!(rt;
+        lifts(
+            alloc,
+            plain(alloc, InterfaceType::Char),
+            &[ValRaw::u32(0xe9)],
+            &[],
+            &'é',
+            0
+        )?
+    );
+    Ok(())
+}
+
+#[test]
+fn bits_of_floats_stay(rt: HostRuntime) -> Result<(), Fail> {
+    let alloc = rt.alloc();
+    let float = plain(alloc, InterfaceType::Float32);
+    assert!(rt;
+        loads(
+            alloc,
+            float,
+            &[1, 0, 0xc0, 0x7f],
+            &Float32Bits(0x7fc0_0001),
+            0
+        )?
+    );
+    let float = plain(alloc, InterfaceType::Float64);
+    assert!(rt;
+        lifts(
+            alloc,
+            float,
+            &[ValRaw::u64(1 << 62)],
+            &[],
+            &Float64Bits(1 << 62),
+            0
+        )?
+    );
+    Ok(())
+}
+
+#[test]
+fn cases_have_a_payload_behind_their_discriminant(rt: HostRuntime) -> Result<(), Fail> {
+    let alloc = rt.alloc();
+    let option = option_of(alloc, InterfaceType::U16)?;
+    assert!(rt; loads(alloc, option, &[1, 0xaa, 7, 0], &Some(7u16), 0)?);
+    let option = option_of(alloc, InterfaceType::U16)?;
+    assert!(rt;
+        lifts(
+            alloc,
+            option,
+            &[ValRaw::u32(0), ValRaw::u32(7)],
+            &[],
+            &None::<u16>,
+            0
+        )?
     );
     let failed: Result<u32, ()> = Err(());
-    let err = lifts(
-        alloc,
-        result_of(alloc, Some(U32), None),
-        &[1],
-        &[ValRaw::u32(1), ValRaw::u32(0)],
-        Some(failed),
-        0,
+    let result = result_of(alloc, Some(InterfaceType::U32), None)?;
+    assert!(rt;
+        lifts(
+            alloc,
+            result,
+            &[ValRaw::u32(1), ValRaw::u32(0)],
+            &[],
+            &failed,
+            0
+        )?
     );
-    assert!(rt; some && none && err);
+    let option = option_of(alloc, InterfaceType::U8)?;
+    assert!(rt;
+        fails::<Option<u8>>(
+            alloc,
+            option,
+            &[2],
+            Fault::BadDiscriminant(At::Address(0), 2)
+        )?
+    );
+    Ok(())
 }
 
 #[test]
-fn members_and_boxes_are_lifted(rt: HostRuntime) {
+fn members_are_loaded_from_their_places(rt: HostRuntime) -> Result<(), Fail> {
     let alloc = rt.alloc();
-    let pair = lifts(
-        alloc,
-        tuple_of(alloc, &[U8, U32]),
-        &[1, 0xaa, 0xaa, 0xaa, 2],
-        &[ValRaw::u32(1), ValRaw::u32(2)],
-        Some((1u8, 2u32)),
-        0,
+    let types = [InterfaceType::U8, InterfaceType::U32];
+    let pair = tuple_of(alloc, &types)?;
+    assert!(rt; loads(alloc, pair, &[1, 0xaa, 0xaa, 0xaa, 2], &(1u8, 2u32), 0)?);
+    let pair = tuple_of(alloc, &types)?;
+    assert!(rt;
+        lifts(
+            alloc,
+            pair,
+            &[ValRaw::u32(1), ValRaw::u32(2)],
+            &[],
+            &(1u8, 2u32),
+            0
+        )?
     );
-    let boxed = lifts(
-        alloc,
-        Ok(plain(alloc, U16)),
-        &[1, 2],
-        &[ValRaw::u32(513)],
-        Box::new(alloc, 513u16).ok(),
-        0,
-    );
-    assert!(rt; pair && boxed);
+    Ok(())
 }
 
-// A text of two bytes costs 2, a list of two numbers of 4 bytes 8.
+// A text of two bytes costs 2.
 #[test]
-fn texts_and_lists_are_lifted(rt: HostRuntime) {
+fn texts_are_loaded(rt: HostRuntime) -> Result<(), Fail> {
     let alloc = rt.alloc();
+    let text = String::from_str(alloc, "é")?;
+    let bytes = [8, 0, 0, 0, 2, 0, 0, 0, 0xc3, 0xa9];
+    assert!(rt; loads(alloc, plain(alloc, InterfaceType::String), &bytes, &text, 2)?);
     let words = [ValRaw::u32(8), ValRaw::u32(2)];
-    let text = lifts(
-        alloc,
-        Ok(plain(alloc, InterfaceType::String)),
-        &[8, 0, 0, 0, 2, 0, 0, 0, 0xc3, 0xa9],
-        &words,
-        String::from_str(alloc, "é").ok(),
-        2,
+    assert!(rt;
+        lifts(
+            alloc,
+            plain(alloc, InterfaceType::String),
+            &words,
+            &bytes,
+            &text,
+            2
+        )?
     );
-    let list = lifts(
-        alloc,
-        list_of(alloc, U32),
-        &[8, 0, 0, 0, 2, 0, 0, 0, 1, 0, 0, 0, 2],
-        &words,
-        vec![in alloc; 1u32, 2].ok(),
-        8,
+    let bad = Fault::InvalidUtf8(At::Address(0));
+    assert!(rt;
+        fails::<String>(
+            alloc,
+            plain(alloc, InterfaceType::String),
+            &[8, 0, 0, 0, 1, 0, 0, 0, 0xc3],
+            bad
+        )?
     );
-    assert!(rt; text && list);
+    Ok(())
 }
 
-/// A map from 1 to 20.
-fn one_to_twenty(alloc: Global) -> Option<HashMap<u8, u8>> {
-    let mut map = HashMap::new(alloc);
-    map.insert(1, 20).ok()?;
-    Some(map)
+// A list of two numbers of 4 bytes costs 8.
+#[test]
+fn lists_are_loaded(rt: HostRuntime) -> Result<(), Fail> {
+    let alloc = rt.alloc();
+    let bytes = [8, 0, 0, 0, 2, 0, 0, 0, 1, 0, 0, 0, 2];
+    let list = vec![in alloc; 1u32, 2]?;
+    assert!(rt; loads(alloc, list_of(alloc, InterfaceType::U32)?, &bytes, &list, 8)?);
+    let words = [ValRaw::u32(8), ValRaw::u32(2)];
+    assert!(rt;
+        lifts(
+            alloc,
+            list_of(alloc, InterfaceType::U32)?,
+            &words,
+            &bytes,
+            &list,
+            8
+        )?
+    );
+    let outside = Fault::PointerOutOfBounds(At::Address(0));
+    let far = [8, 0, 0, 0, 15];
+    assert!(rt; fails::<Vec<u32>>(alloc, list_of(alloc, InterfaceType::U32)?, &far, outside)?);
+    Ok(())
+}
+
+/// The value at 1 of a map of the pairs 1 and 10, and 1 and 20, and what lifting it cost.
+fn last_value(alloc: Global) -> Result<(Option<u8>, u64), Fail> {
+    let mut types = TypeBuilder::new(alloc);
+    let ty = types.add_map(InterfaceType::U8, InterfaceType::U8)?;
+    let bytes = [8, 0, 0, 0, 2, 0, 0, 0, 1, 10, 1, 20];
+    let (map, spent) = loaded::<HashMap<u8, u8>>(alloc, (types.finish(), ty), &bytes)?;
+    match map {
+        Ok(map) => Ok((map.get(&1).copied(), spent)),
+        Err(_) => Ok((None, spent)),
+    }
 }
 
 // Of a repeated key the last value stays. Two pairs of 2 bytes cost 4.
 #[test]
-fn the_last_value_of_a_key_stays(rt: HostRuntime) {
-    let alloc = rt.alloc();
-    let stays = lifts(
-        alloc,
-        map_of(alloc, U8, U8),
-        &[8, 0, 0, 0, 2, 0, 0, 0, 1, 10, 1, 20],
-        &[ValRaw::u32(8), ValRaw::u32(2)],
-        one_to_twenty(alloc),
-        4,
-    );
-    assert!(rt; stays);
+fn the_last_value_of_a_key_stays(rt: HostRuntime) -> Result<(), Fail> {
+    assert!(rt; last_value(rt.alloc())? == (Some(20), 4));
+    Ok(())
 }
 
-/// Whether lifting these bytes answers this fault.
-fn fails<T: Lift>(
-    alloc: Global,
-    typed: Result<Typed, TypeError>,
-    bytes: &[u8],
-    fault: Fault,
-) -> bool {
-    let Some((mut core, ty)) = core_with(alloc, typed, bytes) else {
-        return false;
-    };
-    match loaded::<T>(alloc, &mut core, ty) {
-        Some((Err(found), _)) => found == fault,
-        _ => false,
+/// What lifting a list of fixed length, of 1 and 2, costs, if that is what it gives.
+fn fixed_cost(alloc: Global) -> Result<Option<u64>, Fail> {
+    let mut types = TypeBuilder::new(alloc);
+    let ty = types.add_fixed_length_list(InterfaceType::U16, 2)?;
+    let (list, spent) = loaded::<FixedList<u16, 2>>(alloc, (types.finish(), ty), &[1, 0, 2, 0])?;
+    match list {
+        Ok(list) if list.items() == [1, 2].as_slice() => Ok(Some(spent)),
+        _ => Ok(None),
     }
 }
 
 #[test]
-fn faults_are_told_by_their_places(rt: HostRuntime) {
-    let alloc = rt.alloc();
-    let place = At::Address(0);
-    let text = Ok(plain(alloc, InterfaceType::String));
-    let bad_case = Fault::BadDiscriminant(place, 2);
-    let found = [
-        fails::<Option<u8>>(alloc, option_of(alloc, U8), &[2], bad_case),
-        fails::<String>(
-            alloc,
-            text,
-            &[8, 0, 0, 0, 1, 0, 0, 0, 0xc3],
-            Fault::InvalidUtf8(place),
-        ),
-        fails::<Vec<u32>>(
-            alloc,
-            list_of(alloc, U32),
-            &[8, 0, 0, 0, 15],
-            Fault::PointerOutOfBounds(place),
-        ),
-    ];
-    assert!(rt; found == [true; 3]);
-}
-
-/// What lifting a value cost, where it is lifted.
-fn cost_of<T: Lift>(alloc: Global, typed: Result<Typed, TypeError>, bytes: &[u8]) -> Option<u64> {
-    let (mut core, ty) = core_with(alloc, typed, bytes)?;
-    match loaded::<T>(alloc, &mut core, ty) {
-        Some((Ok(_), cost)) => Some(cost),
-        _ => None,
-    }
-}
-
-// A text costs its bytes, a list its items' bytes in the host, also where they aren't read: this text is no UTF-8.
-#[test]
-fn texts_and_lists_may_stay_in_memory(rt: HostRuntime) {
-    let alloc = rt.alloc();
-    let text = Ok(plain(alloc, InterfaceType::String));
-    let costs = (
-        cost_of::<WasmStr>(alloc, text, &[8, 0, 0, 0, 1, 0, 0, 0, 0xc3]),
-        cost_of::<WasmList<u16>>(alloc, list_of(alloc, U16), &[8, 0, 0, 0, 2]),
-    );
-    assert!(rt; costs == (Some(1), Some(4)));
-}
-
-/// What lifting a list of fixed length costs, where it is 1 and 2.
-fn fixed_cost(alloc: Global) -> Option<u64> {
-    let (mut core, ty) = core_with(alloc, fixed_of(alloc, U16, 2), &[1, 0, 2, 0])?;
-    match loaded::<FixedList<u16, 2>>(alloc, &mut core, ty) {
-        Some((Ok(list), cost)) if list.items() == [1, 2].as_slice() => Some(cost),
-        _ => None,
-    }
+fn lists_of_fixed_length_are_free(rt: HostRuntime) -> Result<(), Fail> {
+    assert!(rt; fixed_cost(rt.alloc())? == Some(0));
+    Ok(())
 }
 
 #[test]
-fn lists_of_fixed_length_are_free(rt: HostRuntime) {
-    assert!(rt; fixed_cost(rt.alloc()) == Some(0));
+fn boxes_are_what_they_hold(rt: HostRuntime) -> Result<(), Fail> {
+    let alloc = rt.alloc();
+    let boxed = Box::new(alloc, 513u16)?;
+    assert!(rt; loads(alloc, plain(alloc, InterfaceType::U16), &[1, 2], &boxed, 0)?);
+    Ok(())
+}
+
+/// What a text that isn't UTF-8 and a list of two numbers cost that stay in memory, if they are lifted.
+fn costs_in_memory(alloc: Global) -> Result<Option<(u64, u64)>, Fail> {
+    let bytes = [8, 0, 0, 0, 1, 0, 0, 0, 0xc3];
+    let (text, one) = loaded::<WasmStr>(alloc, plain(alloc, InterfaceType::String), &bytes)?;
+    let bytes = [8, 0, 0, 0, 2];
+    let (list, two) = loaded::<WasmList<u16>>(alloc, list_of(alloc, InterfaceType::U16)?, &bytes)?;
+    if text.is_ok() && list.is_ok() {
+        Ok(Some((one, two)))
+    } else {
+        Ok(None)
+    }
+}
+
+// A text costs its bytes, a list its items' bytes in the host, also where they aren't read.
+#[test]
+fn texts_and_lists_may_stay_in_memory(rt: HostRuntime) -> Result<(), Fail> {
+    assert!(rt; costs_in_memory(rt.alloc())? == Some((1, 4)));
+    Ok(())
 }
