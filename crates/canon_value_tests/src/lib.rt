@@ -1,4 +1,4 @@
-//! Tests of values, contexts and cores: each public function once, and what no script can show.
+//! Tests of values, contexts and cores: what no script reaches.
 #![tactic(auto)]
 
 #[cfg(test)]
