@@ -1,4 +1,4 @@
-//! Tests of values, contexts and cores: what no script reaches.
+//! Tests of values, contexts and cores: each public function once, and what no script can show.
 #![tactic(auto)]
 
 #[cfg(test)]

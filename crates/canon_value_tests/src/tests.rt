@@ -1,4 +1,4 @@
-//! Each public function of canon_value, and of its contexts and cores, that no script reaches, once.
+//! Each public function of canon_value once, and what no script can show.
 
 ghost use Rattle.std.specs.Prelude.{◌≡◌, [], length};
 ghost use Rattle.canon_types.specs.Table.{Knows};
