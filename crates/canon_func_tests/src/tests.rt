@@ -121,7 +121,7 @@ struct Told {
     typed_post_return: Result<(), Error>,
 }
 
-fn told(store: &mut CallStore) -> Option<Told> {
+fn facts_of(store: &mut CallStore) -> Option<Told> {
     let f = store.func(ExportIndex::from_u32(WIDE))?;
     let typed: TypedFunc<(), ()> = TypedFunc::new_unchecked(f);
     let copy = typed;
@@ -138,7 +138,7 @@ fn told(store: &mut CallStore) -> Option<Told> {
 
 #[test]
 fn a_function_is_of_one_store(rt: HostRuntime) -> Result<(), Fail> {
-    let told = told(&mut store_of(rt.alloc(), &[])?);
+    let told = facts_of(&mut store_of(rt.alloc(), &[])?);
     let Some(told) = told else {
         return Err(Fail::from("no function"));
     };
@@ -165,7 +165,7 @@ fn refusal(store: &mut CallStore) -> Option<ResourceFault> {
     made.err()
 }
 
-fn limits(store: &mut CallStore) -> Limits {
+fn limits_of(store: &mut CallStore) -> Limits {
     let (fuel, turns) = (store.fuel(), store.turns());
     store.set_fuel(31);
     store.set_turns(7);
@@ -185,7 +185,7 @@ fn limits(store: &mut CallStore) -> Limits {
 
 #[test]
 fn a_store_has_limits(rt: HostRuntime) -> Result<(), Fail> {
-    let limits = limits(&mut store_of(rt.alloc(), &[])?);
+    let limits = limits_of(&mut store_of(rt.alloc(), &[])?);
     assert!(rt; limits.fuel == (1_000_000, 31));
     assert!(rt; limits.turns == (100, 7));
     assert!(rt; limits.of_8 == None && limits.of_2 == None && limits.live == 2);
