@@ -28,7 +28,7 @@ fn call<P: ComponentNamedList + Lower, R: ComponentNamedList + Lift>(
 }
 
 /// The same, of a store whose guest returns this word.
-fn called<P: ComponentNamedList + Lower, R: ComponentNamedList + Lift>(
+fn call_once<P: ComponentNamedList + Lower, R: ComponentNamedList + Lift>(
     alloc: Global,
     word: u32,
     export: u32,
@@ -41,7 +41,7 @@ fn called<P: ComponentNamedList + Lower, R: ComponentNamedList + Lift>(
 #[test]
 fn a_call_lowers_its_parameters_and_lifts_its_results(rt: HostRuntime) -> Result<(), Fail> {
     let alloc = rt.alloc();
-    let checked: Called<(bool,)> = called(alloc, 2, NUMBERS, (7u32, -1i8))?;
+    let checked: Called<(bool,)> = call_once(alloc, 2, NUMBERS, (7u32, -1i8))?;
     assert!(rt; checked == Some((Ok((true,)), false)));
     Ok(())
 }
@@ -49,15 +49,15 @@ fn a_call_lowers_its_parameters_and_lifts_its_results(rt: HostRuntime) -> Result
 #[test]
 fn a_result_may_be_a_fault(rt: HostRuntime) -> Result<(), Fail> {
     let alloc = rt.alloc();
-    let letter: Called<(char,)> = called(alloc, 0xd800, LETTER, ())?;
+    let letter: Called<(char,)> = call_once(alloc, 0xd800, LETTER, ())?;
     let fault = Error::Fault(Fault::InvalidChar(At::Word(0)));
     assert!(rt; letter == Some((Err(fault), true)));
     // The byte at 2048 is 2, and an option has the cases 0 and 1.
-    let option: Called<(Option<u8>,)> = called(alloc, 2048, OPTION, ())?;
+    let option: Called<(Option<u8>,)> = call_once(alloc, 2048, OPTION, ())?;
     let fault = Error::Fault(Fault::BadDiscriminant(At::Address(2048), 2));
     assert!(rt; option == Some((Err(fault), true)));
     // One word more than the results take.
-    let nothing: Called<()> = called(alloc, 5, NOTHING, ())?;
+    let nothing: Called<()> = call_once(alloc, 5, NOTHING, ())?;
     assert!(rt; nothing == Some((Err(Error::WrongWords), true)));
     Ok(())
 }
@@ -65,11 +65,11 @@ fn a_result_may_be_a_fault(rt: HostRuntime) -> Result<(), Fail> {
 #[test]
 fn other_types_are_refused(rt: HostRuntime) -> Result<(), Fail> {
     let alloc = rt.alloc();
-    let unsigned: Called<(bool,)> = called(alloc, 2, NUMBERS, (7u32, 1u8))?;
+    let unsigned: Called<(bool,)> = call_once(alloc, 2, NUMBERS, (7u32, 1u8))?;
     assert!(rt; unsigned.is_none());
-    let fewer: Called<(bool,)> = called(alloc, 2, NUMBERS, (7u32,))?;
+    let fewer: Called<(bool,)> = call_once(alloc, 2, NUMBERS, (7u32,))?;
     assert!(rt; fewer.is_none());
-    let nothing: Called<()> = called(alloc, 2, NUMBERS, (7u32, -1i8))?;
+    let nothing: Called<()> = call_once(alloc, 2, NUMBERS, (7u32, -1i8))?;
     assert!(rt; nothing.is_none());
     Ok(())
 }
