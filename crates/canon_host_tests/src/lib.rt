@@ -1,8 +1,5 @@
-//! Tests of functions of the host, and of imports that have one.
+//! Tests of functions of the host.
 #![tactic(auto)]
 
-mod answers;
 #[cfg(test)]
 mod tests;
-
-pub use answers::{Answers, Line};

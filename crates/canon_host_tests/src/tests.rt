@@ -1,163 +1,96 @@
-//! Each public function of canon_host once, with ample memory, on values that were given from outside.
+//! Public functions of canon_host that no script reaches, on values that were given from outside.
 
-ghost use Rattle.std.specs.Prelude.{◌≡◌, [], None};
+ghost use Rattle.std.specs.Prelude.{◌≡◌, IfSome, length};
+ghost use Rattle.canon_types.specs.Table.{HasFunc};
+ghost use Rattle.canon_context.specs.Core.{types_of};
 
 mod functions;
-mod imports;
 mod views;
 mod wrapped;
 
-use canon_host::{HostCx, HostError, HostFn, HostFunc, Imports, storage_for};
-use canon_memory::{Guest, GuestFault, Memory, Step, ValRaw};
+use canon_host::{HostCx, HostError, HostFn, HostFunc, storage_for};
+use canon_memory::{Guest, ValRaw};
+use canon_test_core::{TestCore, core_of, memory_of};
 use canon_types::{
-    CanonicalOptions, ComponentTypes, InstanceType, InterfaceType, OptionsIndex, RuntimeInstance,
-    StoreId, StringEncoding, TypeBuilder, TypeFuncIndex,
+    ComponentTypes, InterfaceType, OptionsIndex, ResourceKind, RuntimeInstance, StringEncoding,
+    TypeBuilder, TypeFuncIndex, TypeResourceTable,
 };
-use canon_value::{Component, Core};
+use canon_value::Core;
 use std::alloc::Global;
-use std::test::Fail;
 
-/// A guest that traps at every call.
-#[derive(Drop)]
-struct Trapper {
-    traps: u64,
-}
-
-impl Guest for Trapper {
-    ghost seen = { λ g. record { journal = None; marks = []; live = []; traps = g.traps; shortages = 0 } };
-
-    ghost moves = { λ _ _ _. Unit {0} };
-
-    ghost leaves = { λ before after. after ≡ before };
-
-    ghost stays = { λ _. record {} };
-
-    ghost goes_on = { λ _ _ _ _ _ _ _. record {} };
-
-    fn start(
-        &mut self,
-        _memory: &mut Memory,
-        _func: u32,
-        _words: &[ValRaw],
-    ) -> Result<Step, GuestFault> {
-        self.traps = self.traps.saturating_add(1);
-        Err(GuestFault::Trap)
-    }
-
-    fn resume(&mut self, _memory: &mut Memory, _words: &[ValRaw]) -> Result<Step, GuestFault> {
-        self.traps = self.traps.saturating_add(1);
-        Err(GuestFault::Trap)
-    }
-
-    fn realloc(
-        &mut self,
-        _memory: &mut Memory,
-        _old: u64,
-        _old_size: u64,
-        _align: u32,
-        _new_size: u64,
-    ) -> Result<u64, GuestFault> {
-        self.traps = self.traps.saturating_add(1);
-        Err(GuestFault::Trap)
-    }
-
-    fn post_return(
-        &mut self,
-        _memory: &mut Memory,
-        _func: u32,
-        _words: &[ValRaw],
-    ) -> Result<(), GuestFault> {
-        Ok(())
-    }
-
-    fn dtor(&mut self, _memory: &mut Memory, _func: u32, _rep: u32) -> Result<(), GuestFault> {
-        Ok(())
-    }
-}
-
-/// The text "h\u{e9}llo" in UTF-8.
-const TEXT: [u8; 6] = *b"h\xc3\xa9llo";
-
-/// A core of these types, whose data is a count from 0, and whose memory begins with the text.
-fn core_of(alloc: Global, types: ComponentTypes) -> Result<Core<u64, Trapper>, Fail> {
-    let id = StoreId::from_u64(1);
-    let mut options = Vec::new(alloc);
-    options.push(CanonicalOptions {
-        instance: RuntimeInstance::from_u32(0),
-        string_encoding: StringEncoding::Utf8,
-        async_: false,
-        post_return: None,
-    })?;
-    let component = Component {
-        types: InstanceType::new(types, id),
-        options,
-        exports: Vec::new(alloc),
-        imports: Vec::new(alloc),
-    };
-    if !component.check() {
-        return Err(Fail::from("an index is outside its table"));
-    }
-    let guest = Trapper { traps: 0 };
-    let mut memory = Memory::new(alloc, 65_536)?;
-    memory.as_slice_mut()[..6].copy_from_slice(&TEXT);
-    let core = Core::new(alloc, id, 0, guest, memory, component, 8, 1_000_000)?;
-    Ok(core)
-}
-
-/// The types of a function from a number to a number, and the function's.
-fn number_types(alloc: Global) -> Result<(ComponentTypes, TypeFuncIndex), Fail> {
+/// The types of a function, and the function's. The first tuple has six `u16`, the first resources are of the host's type 7.
+fn types_of(
+    alloc: Global,
+    params: &[InterfaceType],
+    results: &[InterfaceType],
+    async_: bool,
+) -> Option<(ComponentTypes, TypeFuncIndex)> {
+    let params = params.to_vec(alloc).ok()?;
+    let results = results.to_vec(alloc).ok()?;
+    let six = vec![in alloc; InterfaceType::U16; 6].ok()?;
     let mut builder = TypeBuilder::new(alloc);
-    let number = [InterfaceType::U32];
-    let ty = builder.add_func(number.to_vec(alloc)?, number.to_vec(alloc)?, false)?;
-    Ok((builder.finish(), ty))
+    builder.add_tuple(six).ok()?;
+    let resources = TypeResourceTable {
+        instance: RuntimeInstance::from_u32(0),
+        kind: ResourceKind::Host(7),
+        defined_here: false,
+    };
+    builder.add_resource_table(resources).ok()?;
+    let ty = builder.add_func(params, results, async_).ok()?;
+    Some((builder.finish(), ty))
 }
 
-/// An answer, and the words that storage holds then.
-type Answered<L> = (Result<L, HostError>, Vec<ValRaw>);
+/// A core with these types, whose data is 5, and whose memory begins with these bytes.
+fn core_with(
+    alloc: Global,
+    bytes: &[u8],
+    params: &[InterfaceType],
+    results: &[InterfaceType],
+) -> Option<(TestCore, TypeFuncIndex)>
+    ensures options { IfSome result (λ r. length r.0.component.options.items ≡ 1) }
+{
+    let memory = memory_of(alloc, bytes).ok()?;
+    let (types, ty) = types_of(alloc, params, results, false)?;
+    let core = core_of(alloc, StringEncoding::Utf8, types, memory).ok()?;
+    Some((core, ty))
+}
 
-/// Has a function serve an ask with these words.
-fn ask<T, G: Guest, H: HostFn<T, G>>(
+/// What an ask leaves: the first word of storage, the core's data, how many handles live, and the first 12 bytes of memory.
+#[derive(Clone, Copy)]
+struct Left {
+    word: Option<ValRaw>,
+    data: u32,
+    live: u64,
+    memory: Option<[u8; 12]>,
+}
+
+/// The first 12 bytes.
+fn front(bytes: &[u8]) -> Option<[u8; 12]> {
+    bytes.get(..12)?.try_into().ok()
+}
+
+/// Has a function serve an ask with these words. Gives its answer, and what it leaves.
+fn ask<G: Guest, H: HostFn<u32, G>>(
     alloc: Global,
     func: &HostFunc<H>,
-    core: &mut Core<T, G>,
+    core: &mut Core<u32, G>,
     ty: TypeFuncIndex,
     words: &[ValRaw],
-) -> Result<Answered<H::Log>, Fail>
+) -> Option<(Result<H::Log, HostError>, Left)>
     requires ready { H.ready func.now }
     requires fits { H.fits func.now core.old.component.types ty }
+    requires func { HasFunc (types_of core.old) ty }
+    requires options { length core.old.component.options.items ≡ 1 }
 {
-    let component = core.component();
-    let types = component.types.types();
-    if !types.contains_func(ty) || component.options.is_empty() {
-        return Err(Fail::from("no such function"));
-    }
-    let mut storage = storage_for(alloc, types, ty, words)?;
+    let mut storage = storage_for(alloc, core.component().types.types(), ty, words).ok()?;
     let options = OptionsIndex::from_u32(0);
     let cx = HostCx { core, ty, options };
     let answer = func.entrypoint(alloc, cx, &mut storage);
-    Ok((answer, storage))
-}
-
-/// Has imports serve an ask of the import of this number.
-fn ask_import<T, G: Guest, I: Imports<T, G>>(
-    alloc: Global,
-    imports: &mut I,
-    n: u32,
-    core: &mut Core<T, G>,
-    ty: TypeFuncIndex,
-    words: &[ValRaw],
-) -> Result<Answered<()>, Fail>
-    requires { I.ready imports.old }
-    ensures { I.ready imports.new }
-{
-    let component = core.component();
-    let types = component.types.types();
-    if !types.contains_func(ty) || component.options.is_empty() {
-        return Err(Fail::from("no such function"));
-    }
-    let mut storage = storage_for(alloc, types, ty, words)?;
-    let options = OptionsIndex::from_u32(0);
-    let cx = HostCx { core, ty, options };
-    let answer = imports.serve(alloc, n, cx, &mut storage);
-    Ok((answer, storage))
+    let left = Left {
+        word: storage.first().copied(),
+        data: *core.data_mut(),
+        live: core.live(),
+        memory: front(core.memory().as_slice()),
+    };
+    Some((answer, left))
 }

@@ -1,6 +1,6 @@
 //! Doors, which are resources of the host, and a core that has their type.
 
-ghost use Rattle.std.specs.Prelude.{◌≡◌, IfOk, length};
+ghost use Rattle.std.specs.Prelude.{◌≡◌, IfSome, length};
 
 use canon_resources::HostResourceType;
 use canon_test_core::{TestCore, core_of, memory_of};
@@ -9,7 +9,6 @@ use canon_types::{
     TypeBuilder, TypeResourceTable,
 };
 use std::alloc::Global;
-use std::test::Fail;
 
 pub(crate) struct Door;
 
@@ -49,25 +48,22 @@ pub(crate) fn core_with(
     alloc: Global,
     kind: ResourceKind,
     owned: bool,
-) -> Result<(TestCore, InterfaceType), Fail>
-    ensures options { IfOk result (λ r. length r.0.component.options.items ≡ 1) }
+) -> Option<(TestCore, InterfaceType)>
+    ensures options { IfSome result (λ r. length r.0.component.options.items ≡ 1) }
 {
+    let memory = memory_of(alloc, &[]).ok()?;
     let mut types = TypeBuilder::new(alloc);
-    let table = types.add_resource_table(TypeResourceTable {
+    let resource = TypeResourceTable {
         instance: RuntimeInstance::from_u32(3),
         kind,
         defined_here: false,
-    })?;
-    let ty = if owned {
-        types.add_own(table)?
-    } else {
-        types.add_borrow(table)?
     };
-    let core = core_of(
-        alloc,
-        StringEncoding::Utf8,
-        types.finish(),
-        memory_of(alloc, &[])?,
-    )?;
-    Ok((core, ty))
+    let table = types.add_resource_table(resource).ok()?;
+    let ty = if owned {
+        InterfaceType::Own(table)
+    } else {
+        InterfaceType::Borrow(table)
+    };
+    let core = core_of(alloc, StringEncoding::Utf8, types.finish(), memory).ok()?;
+    Some((core, ty))
 }

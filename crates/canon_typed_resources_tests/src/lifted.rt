@@ -1,5 +1,6 @@
 //! Resources, lifted from handles of the guest's (CanonicalABI.md, "lift_own", "lift_borrow").
 
+ghost use Rattle.std.specs.Prelude.{◌≡◌, length};
 ghost use Rattle.canon_context.specs.Core.{SameButLedger};
 
 use crate::doors::{Door, Doors, core_with};
@@ -10,77 +11,75 @@ use canon_resources::{HostResource, Resource, ResourceAny, ResourceDynamic, Reso
 use canon_test_core::{TestCore, has_words};
 use canon_types::{InterfaceType, OptionsIndex, ResourceKind};
 use std::alloc::Global;
-use std::test::Fail;
 
 /// The index of a new handle of the guest's, of a resource of the representation 9, where this is a type of handles.
-fn handle_in(core: &mut TestCore, ty: InterfaceType) -> Result<u32, Fail>
+fn handle_in(core: &mut TestCore, ty: InterfaceType) -> Option<u32>
     ensures same { SameButLedger core.old core.new }
 {
     if !core.component().types.types().contains(&ty) {
-        return Err(Fail::from("no type"));
+        return None;
     }
-    let made = match ty {
-        InterfaceType::Own(table) => core.resource_new(table, 9),
-        InterfaceType::Borrow(table) => core.resource_new(table, 9),
-        _ => return Err(Fail::from("no handle")),
-    };
-    match made {
-        Ok(index) => Ok(index),
-        Err(_) => Err(Fail::from("no room")),
+    match ty {
+        InterfaceType::Own(table) | InterfaceType::Borrow(table) => {
+            core.resource_new(table, 9).ok()
+        }
+        _ => None,
     }
 }
 
-/// What a handle of the guest's is lifted to, within a scope: one of its own, or a borrow of it.
-fn given<T: Lift>(alloc: Global, kind: ResourceKind, owned: bool) -> Result<T, Fail> {
+/// What a handle of the guest's is lifted to, within a scope.
+fn given_in<T: Lift>(alloc: Global, core: &mut TestCore, ty: InterfaceType) -> Option<T>
+    requires { length core.old.component.options.items ≡ 1 }
+{
+    let words = [ValRaw::u32(handle_in(core, ty)?)];
+    core.enter().ok()?;
+    if !has_words::<T>(core, &ty, &words) {
+        return None;
+    }
+    let mut cx = LiftContext::new(core, OptionsIndex::from_u32(0));
+    T::linear_lift_from_flat(alloc, &mut cx, ty, &words, 0).ok()
+}
+
+/// What a handle of a resource of a kind is lifted to: one of the guest's own, or a borrow of it.
+fn given<T: Lift>(alloc: Global, kind: ResourceKind, owned: bool) -> Option<T> {
     let (mut core, ty) = core_with(alloc, kind, owned)?;
-    let index = handle_in(&mut core, ty)?;
-    core.enter()?;
-    let words = [ValRaw::u32(index)];
-    if !has_words::<T>(&core, &ty, &words) {
-        return Err(Fail::from("another type"));
-    }
-    let mut cx = LiftContext::new(&mut core, OptionsIndex::from_u32(0));
-    match T::linear_lift_from_flat(alloc, &mut cx, ty, &words, 0) {
-        Ok(value) => Ok(value),
-        Err(_) => Err(Fail::from("not lifted")),
-    }
+    given_in(alloc, &mut core, ty)
 }
 
-fn gives_a_door(alloc: Global, owned: bool, state: ResourceState) -> Result<bool, Fail> {
+/// The representation and the state of a door that is lifted.
+fn door(alloc: Global, owned: bool) -> Option<(u32, ResourceState)> {
     let door = given::<Resource<Door>>(alloc, ResourceKind::Host(7), owned)?;
-    Ok(door.rep() == 9 && door.state() == state)
+    Some((door.rep(), door.state()))
 }
 
-fn gives_one_of_a_kind(alloc: Global, owned: bool, state: ResourceState) -> Result<bool, Fail> {
+/// The same of one of a kind of resources.
+fn one_of_a_kind(alloc: Global, owned: bool) -> Option<(u32, ResourceState)> {
     let door = given::<HostResource<Doors, ()>>(alloc, ResourceKind::Host(7), owned)?;
-    Ok(door.rep() == 9 && door.state() == state)
+    Some((door.rep(), door.state()))
 }
 
-fn gives_one_of_a_number(alloc: Global, owned: bool) -> Result<bool, Fail> {
+/// The representation and the number of one that has a number, and whether it is owned.
+fn one_of_a_number(alloc: Global, owned: bool) -> Option<(u32, u32, bool)> {
     let resource = given::<ResourceDynamic>(alloc, ResourceKind::HostDynamic(5), owned)?;
-    Ok(resource.rep() == 9 && resource.ty() == 5 && resource.owned() == owned)
+    Some((resource.rep(), resource.ty(), resource.owned()))
 }
 
-fn gives_one_of_any_type(alloc: Global, owned: bool) -> Result<bool, Fail> {
+/// Whether one of any type has an index of the host's table, and whether it is owned.
+fn one_of_any_type(alloc: Global, owned: bool) -> Option<(bool, bool)> {
     let resource = given::<ResourceAny>(alloc, ResourceKind::Host(7), owned)?;
-    Ok(resource.host_index().is_some() && resource.owned() == owned)
+    Some((resource.host_index().is_some(), resource.owned()))
 }
 
 #[test]
-fn own_handles_are_lifted(rt: HostRuntime) -> Result<(), Fail> {
+fn own_handles_and_borrows_are_lifted(rt: HostRuntime) {
     let alloc = rt.alloc();
-    assert!(rt; gives_a_door(alloc, true, ResourceState::NotInTable)?);
-    assert!(rt; gives_one_of_a_kind(alloc, true, ResourceState::NotInTable)?);
-    assert!(rt; gives_one_of_a_number(alloc, true)?);
-    assert!(rt; gives_one_of_any_type(alloc, true)?);
-    Ok(())
-}
-
-#[test]
-fn borrows_are_lifted(rt: HostRuntime) -> Result<(), Fail> {
-    let alloc = rt.alloc();
-    assert!(rt; gives_a_door(alloc, false, ResourceState::Borrow)?);
-    assert!(rt; gives_one_of_a_kind(alloc, false, ResourceState::Borrow)?);
-    assert!(rt; gives_one_of_a_number(alloc, false)?);
-    Ok(())
+    for (owned, state) in [
+        (true, ResourceState::NotInTable),
+        (false, ResourceState::Borrow),
+    ] {
+        assert!(rt; door(alloc, owned) == Some((9, state)));
+        assert!(rt; one_of_a_kind(alloc, owned) == Some((9, state)));
+        assert!(rt; one_of_a_number(alloc, owned) == Some((9, 5, owned)));
+    }
+    assert!(rt; one_of_any_type(alloc, true) == Some((true, true)));
 }

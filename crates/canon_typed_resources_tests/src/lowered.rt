@@ -1,5 +1,7 @@
 //! Resources, for which the guest is given handles (CanonicalABI.md, "lower_own", "lower_borrow"). The first index of a table is 1.
 
+ghost use Rattle.std.specs.Prelude.{◌≡◌, length};
+
 use crate::doors::{Door, Doors, core_with};
 use canon_context::{Fault, LowerContext};
 use canon_lower::Lower;
@@ -10,81 +12,94 @@ use canon_resources::{
 };
 use canon_test_core::{TestCore, word_count};
 use canon_types::{InterfaceType, OptionsIndex, ResourceKind};
-use std::test::Fail;
+use std::alloc::Global;
 
-/// What lowering a value of one word answers: the word, which was 9 before, or the fault.
-fn lowered<T: Lower>(
-    core: &mut TestCore,
-    ty: InterfaceType,
-    value: &mut T,
-) -> Result<Result<ValRaw, Fault>, Fail> {
-    if core.component().options.is_empty() {
-        return Err(Fail::from("no options"));
-    }
+/// What lowering a value of one word answers: the word, which was 9 before, and how many handles live then; or the fault.
+type Lowered = Result<(ValRaw, u64), Fault>;
+
+/// Lowers a value of one word, within a scope. None where it isn't of this type.
+fn lowered_in<T: Lower>(core: &mut TestCore, ty: InterfaceType, value: &mut T) -> Option<Lowered>
+    requires { length core.old.component.options.items ≡ 1 }
+{
     let Some(1) = word_count::<T>(core, &ty) else {
-        return Err(Fail::from("another type"));
+        return None;
     };
+    core.enter().ok()?;
     let mut words = [ValRaw::u64(9)];
     let mut cx = LowerContext::new(core, OptionsIndex::from_u32(0));
-    match value.linear_lower_to_flat(&mut cx, ty, &mut words) {
-        Ok(()) => Ok(Ok(words[0])),
-        Err(fault) => Ok(Err(fault)),
+    Some(match value.linear_lower_to_flat(&mut cx, ty, &mut words) {
+        Ok(()) => Ok((words[0], core.live())),
+        Err(fault) => Err(fault),
+    })
+}
+
+/// Lowers a value of one word into a core of its own.
+fn lowered<T: Lower>(
+    alloc: Global,
+    kind: ResourceKind,
+    owned: bool,
+    value: &mut T,
+) -> Option<Lowered> {
+    let (mut core, ty) = core_with(alloc, kind, owned)?;
+    lowered_in(&mut core, ty, value)
+}
+
+/// Lowers a resource of the host's table: itself as an own handle, or one that is shared as a borrow.
+fn any_lowered_in(core: &mut TestCore, ty: InterfaceType, owned: bool) -> Option<Lowered>
+    requires { length core.old.component.options.items ≡ 1 }
+{
+    let index = core.host_resource_lower_own(9, None, None).ok()?;
+    let mut door = ResourceAny::new(index, ResourceType::host::<Door>(), true);
+    if owned {
+        lowered_in(core, ty, &mut door)
+    } else {
+        lowered_in(core, ty, &mut &door)
     }
 }
 
+/// The same in a core of its own.
+fn any_lowered(alloc: Global, owned: bool) -> Option<Lowered> {
+    let (mut core, ty) = core_with(alloc, ResourceKind::Host(7), owned)?;
+    any_lowered_in(&mut core, ty, owned)
+}
+
 #[test]
-fn an_own_resource_is_given_away_once(rt: HostRuntime) -> Result<(), Fail> {
-    let (mut core, ty) = core_with(rt.alloc(), ResourceKind::Host(7), true)?;
+fn an_own_resource_is_given_away_once(rt: HostRuntime) {
+    let alloc = rt.alloc();
+    let kind = ResourceKind::Host(7);
     let mut door = Resource::<Door>::new_own(9);
-    assert!(rt; lowered(&mut core, ty, &mut door)? == Ok(ValRaw::u32(1)));
+    let first = lowered(alloc, kind, true, &mut door);
+    assert!(rt; first == Some(Ok((ValRaw::u32(1), 1))));
     assert!(rt; door.state() == ResourceState::Taken);
-    let again = Err(Fault::Resource(ResourceFault::HostConsumed));
-    assert!(rt; lowered(&mut core, ty, &mut door)? == again);
-    Ok(())
+    let again = lowered(alloc, kind, true, &mut door);
+    let consumed = Fault::Resource(ResourceFault::HostConsumed);
+    assert!(rt; again == Some(Err(consumed)));
 }
 
+// Where a resource of the host's is lent, its handle there, its lend, and the guest's borrow handle are live.
 #[test]
-fn a_resource_that_is_lent_stands_in_the_hosts_table(rt: HostRuntime) -> Result<(), Fail> {
-    let (mut core, ty) = core_with(rt.alloc(), ResourceKind::Host(7), false)?;
-    core.enter()?;
+fn a_resource_that_is_lent_stands_in_the_hosts_table(rt: HostRuntime) {
     let mut door = HostResource::<Doors, ()>::new_own(9, ());
-    assert!(rt; lowered(&mut core, ty, &mut door)? == Ok(ValRaw::u32(1)));
+    let lent = lowered(rt.alloc(), ResourceKind::Host(7), false, &mut door);
+    assert!(rt; lent == Some(Ok((ValRaw::u32(1), 3))));
     assert!(rt; matches!(door.state(), ResourceState::Index(_)));
-    Ok(())
 }
 
 #[test]
-fn a_resource_of_a_number_is_given_away(rt: HostRuntime) -> Result<(), Fail> {
-    let (mut core, ty) = core_with(rt.alloc(), ResourceKind::HostDynamic(5), true)?;
+fn a_resource_of_a_number_is_given_away(rt: HostRuntime) {
     let mut resource = ResourceDynamic::new_own(9, 5);
-    assert!(rt; lowered(&mut core, ty, &mut resource)? == Ok(ValRaw::u32(1)));
-    Ok(())
+    let given = lowered(
+        rt.alloc(),
+        ResourceKind::HostDynamic(5),
+        true,
+        &mut resource,
+    );
+    assert!(rt; given == Some(Ok((ValRaw::u32(1), 1))));
 }
 
-/// A resource of the host's table.
-fn door_in(core: &mut TestCore) -> Result<ResourceAny, Fail> {
-    match core.host_resource_lower_own(9, None, None) {
-        Ok(index) => Ok(ResourceAny::new(index, ResourceType::host::<Door>(), true)),
-        Err(_) => Err(Fail::from("no room")),
+#[test]
+fn a_resource_of_any_type_leaves_the_hosts_table_or_is_lent(rt: HostRuntime) {
+    for (owned, live) in [(true, 1), (false, 3)] {
+        assert!(rt; any_lowered(rt.alloc(), owned) == Some(Ok((ValRaw::u32(1), live))));
     }
-}
-
-#[test]
-fn a_resource_of_any_type_leaves_the_hosts_table(rt: HostRuntime) -> Result<(), Fail> {
-    let (mut core, ty) = core_with(rt.alloc(), ResourceKind::Host(7), true)?;
-    let mut door = door_in(&mut core)?;
-    assert!(rt; lowered(&mut core, ty, &mut door)? == Ok(ValRaw::u32(1)));
-    assert!(rt; core.live() == 1);
-    Ok(())
-}
-
-// The handle of the host, its lend, and the guest's borrow handle are live.
-#[test]
-fn a_shared_resource_of_any_type_is_lent(rt: HostRuntime) -> Result<(), Fail> {
-    let (mut core, ty) = core_with(rt.alloc(), ResourceKind::Host(7), false)?;
-    core.enter()?;
-    let door = door_in(&mut core)?;
-    assert!(rt; lowered(&mut core, ty, &mut &door)? == Ok(ValRaw::u32(1)));
-    assert!(rt; core.live() == 3);
-    Ok(())
 }

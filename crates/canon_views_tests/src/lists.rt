@@ -1,80 +1,63 @@
 //! Lists of integers that stay in memory (CanonicalABI.md, "load_list_from_range", and "load_int": the lowest byte first).
 
-ghost use Rattle.std.specs.Prelude.{◌≡◌, IfOk, length};
+ghost use Rattle.std.specs.Prelude.{◌≡◌, length};
 
 use crate::stays::stays;
 use canon_context::LiftContext;
 use canon_lift::{Lift, WasmList};
-use canon_test_core::{TestCore, list_of};
+use canon_test_core::{TestCore, core_of, list_of, memory_of};
 use canon_types::{InterfaceType, OptionsIndex, StringEncoding};
 use std::alloc::Global;
-use std::test::Fail;
 
-/// A list of 1, 0x0102 and 0xffff.
-fn row(alloc: Global) -> Result<(TestCore, WasmList<u16>), Fail>
-    ensures options { IfOk result (λ r. length r.0.component.options.items ≡ 1) }
+/// Whether the items come behind those of a vector.
+fn appended(
+    alloc: Global,
+    core: &mut TestCore,
+    ty: InterfaceType,
+    items: &mut Vec<u16>,
+) -> Option<()>
+    requires { length core.old.component.options.items ≡ 1 }
+    ensures { length core.new.component.options.items ≡ 1 }
 {
+    let list: WasmList<u16> = stays(alloc, core, ty)?;
+    if !list.fits_core(core) {
+        return None;
+    }
+    let mut cx = LiftContext::new(core, OptionsIndex::from_u32(0));
+    u16::linear_lift_into_from_memory(alloc, &mut cx, &list, items).ok()
+}
+
+/// How many items an iterator says to give, and those that it gives, each as 16 bits of one number; a fault as 0.
+fn iterated(alloc: Global, core: &mut TestCore, ty: InterfaceType) -> Option<(usize, u64)>
+    requires { length core.old.component.options.items ≡ 1 }
+{
+    let list: WasmList<u16> = stays(alloc, core, ty)?;
+    if !list.fits_core(core) {
+        return None;
+    }
+    let items = list.iter(alloc, core);
+    let count = items.len();
+    let mut digits = 0;
+    for item in items {
+        digits = digits << 16 | u64::from(item.unwrap_or(0));
+    }
+    Some((count, digits))
+}
+
+/// What an iterator over a list of 1, 0x0102 and 0xffff gives, and whether these come behind 7 and 8.
+fn listed(alloc: Global) -> Option<(Option<(usize, u64)>, bool)> {
+    let mut items = [7, 8].to_vec(alloc).ok()?;
     let bytes = [8, 0, 0, 0, 3, 0, 0, 0, 1, 0, 2, 1, 0xff, 0xff];
-    let typed = list_of(alloc, InterfaceType::U16)?;
-    stays::<WasmList<u16>>(alloc, StringEncoding::Utf8, typed, &bytes)
-}
-
-fn gives_three(alloc: Global) -> Result<bool, Fail> {
-    let (mut core, list) = row(alloc)?;
-    if !list.fits_core(&core) {
-        return Ok(false);
-    }
-    let mut items = list.iter(alloc, &mut core);
-    let Some(Ok(first)) = items.next() else {
-        return Ok(false);
-    };
-    let Some(Ok(second)) = items.next() else {
-        return Ok(false);
-    };
-    let Some(Ok(third)) = items.next() else {
-        return Ok(false);
-    };
-    let is_over = items.len() == 0 && items.next().is_none();
-    Ok([first, second, third] == [1, 0x0102, 0xffff] && is_over)
-}
-
-fn gives_each(alloc: Global) -> Result<bool, Fail> {
-    let (mut core, list) = row(alloc)?;
-    if !list.fits_core(&core) {
-        return Ok(false);
-    }
-    let mut items = Vec::new(alloc);
-    for item in list.iter(alloc, &mut core) {
-        match item {
-            Ok(item) => items.push(item)?,
-            Err(_) => return Ok(false),
-        }
-    }
-    Ok(items.as_slice() == [1u16, 0x0102, 0xffff].as_slice())
+    let memory = memory_of(alloc, &bytes).ok()?;
+    let (types, ty) = list_of(alloc, InterfaceType::U16).ok()?;
+    let mut core = core_of(alloc, StringEncoding::Utf8, types, memory).ok()?;
+    let is_lifted = appended(alloc, &mut core, ty, &mut items).is_some();
+    let given = iterated(alloc, &mut core, ty);
+    Some((given, is_lifted && items[..] == [7, 8, 1, 0x0102, 0xffff]))
 }
 
 #[test]
-fn an_iterator_gives_each_item_and_then_none(rt: HostRuntime) -> Result<(), Fail> {
-    assert!(rt; gives_three(rt.alloc())?);
-    assert!(rt; gives_each(rt.alloc())?);
-    Ok(())
-}
-
-fn appends(alloc: Global) -> Result<bool, Fail> {
-    let (mut core, list) = row(alloc)?;
-    if !list.fits_core(&core) {
-        return Ok(false);
-    }
-    let mut items = vec![in alloc; 7u16, 8]?;
-    let mut cx = LiftContext::new(&mut core, OptionsIndex::from_u32(0));
-    match u16::linear_lift_into_from_memory(alloc, &mut cx, &list, &mut items) {
-        Ok(()) => Ok(items.as_slice() == [7u16, 8, 1, 0x0102, 0xffff].as_slice()),
-        Err(_) => Ok(false),
-    }
-}
-
-#[test]
-fn items_come_behind_those_of_a_vector(rt: HostRuntime) -> Result<(), Fail> {
-    assert!(rt; appends(rt.alloc())?);
-    Ok(())
+fn items_are_given_one_by_one_and_behind_those_of_a_vector(rt: HostRuntime) {
+    let given = (3, 0x0001_0102_ffff);
+    assert!(rt; listed(rt.alloc()) == Some((Some(given), true)));
 }

@@ -1,97 +1,70 @@
 //! Texts that stay in memory (CanonicalABI.md, "load_string_from_range": `latin1+utf16` without the tag is Latin-1, whose bytes are the
 //! first 256 code points of Unicode, and with the tag UTF-16).
 
+ghost use Rattle.std.specs.Prelude.{◌≡◌, length};
+
 use crate::stays::stays;
 use canon_context::{At, Fault};
 use canon_lift::WasmStr;
-use canon_test_core::plain;
+use canon_test_core::{TestCore, core_of, memory_of, plain};
 use canon_types::{InterfaceType, StringEncoding};
 use std::alloc::Global;
-use std::test::Fail;
 
-/// Whether these bytes of memory are this text, and whether it is borrowed.
-fn reads(
+/// Whether a text is the expected one, and whether it is borrowed; or its fault.
+type Read = Result<(bool, bool), Fault>;
+
+/// What reading the text at 0 of a core answers. None where it isn't lifted.
+fn read_in(alloc: Global, core: &mut TestCore, ty: InterfaceType, expected: &str) -> Option<Read>
+    requires { length core.old.component.options.items ≡ 1 }
+{
+    let text: WasmStr = stays(alloc, core, ty)?;
+    let view = core.view();
+    if !text.fits(&view) {
+        return None;
+    }
+    Some(match text.to_str(alloc, &view) {
+        Ok(text) => Ok((text.as_str() == expected, text.is_borrowed())),
+        Err(fault) => Err(fault),
+    })
+}
+
+/// What reading a text of two bytes answers. Its spelling is the low and the high byte of its length, and then these two.
+fn read(
     alloc: Global,
     encoding: StringEncoding,
-    bytes: &[u8],
+    spelling: [u8; 4],
     expected: &str,
-    borrowed: bool,
-) -> Result<bool, Fail> {
-    let typed = plain(alloc, InterfaceType::String);
-    let (core, text) = stays::<WasmStr>(alloc, encoding, typed, bytes)?;
-    let view = core.view();
-    if !text.fits(&view) {
-        return Ok(false);
-    }
-    match text.to_str(alloc, &view) {
-        Ok(text) => Ok(text.as_str() == expected && text.is_borrowed() == borrowed),
-        Err(_) => Ok(false),
+) -> Option<Read> {
+    let [low, high, first, second] = spelling;
+    let bytes = [8, 0, 0, 0, low, 0, 0, high, first, second];
+    let memory = memory_of(alloc, &bytes).ok()?;
+    let (types, ty) = plain(alloc, InterfaceType::String);
+    let mut core = core_of(alloc, encoding, types, memory).ok()?;
+    read_in(alloc, &mut core, ty, expected)
+}
+
+#[test]
+fn a_compact_text_of_ascii_is_borrowed_and_others_are_owned(rt: HostRuntime) {
+    let compact = StringEncoding::CompactUtf16;
+    // the top bit of a compact text's length is its tag
+    for (encoding, spelling, expected, borrowed) in [
+        (compact, [2, 0, 0x61, 0x62], "ab", true),
+        (compact, [2, 0, 0x61, 0xe9], "a\u{e9}", false),
+        (compact, [1, 0x80, 0x2d, 0x4e], "\u{4e2d}", false),
+        (StringEncoding::Utf16, [1, 0, 0x2d, 0x4e], "\u{4e2d}", false),
+    ] {
+        let answer = read(rt.alloc(), encoding, spelling, expected);
+        assert!(rt; answer == Some(Ok((true, borrowed))), "{expected}");
     }
 }
 
 #[test]
-fn a_compact_text_of_ascii_is_borrowed(rt: HostRuntime) -> Result<(), Fail> {
-    let bytes = [8, 0, 0, 0, 2, 0, 0, 0, 0x61, 0x62];
-    assert!(rt; reads(rt.alloc(), StringEncoding::CompactUtf16, &bytes, "ab", true)?);
-    Ok(())
-}
-
-#[test]
-fn another_compact_text_is_owned(rt: HostRuntime) -> Result<(), Fail> {
-    let bytes = [8, 0, 0, 0, 2, 0, 0, 0, 0x61, 0xe9];
-    assert!(rt;
-        reads(
-            rt.alloc(),
-            StringEncoding::CompactUtf16,
-            &bytes,
-            "a\u{e9}",
-            false
-        )?
+fn half_a_pair_is_no_text(rt: HostRuntime) {
+    let answer = read(
+        rt.alloc(),
+        StringEncoding::CompactUtf16,
+        [1, 0x80, 0, 0xd8],
+        "",
     );
-    Ok(())
-}
-
-#[test]
-fn a_text_of_wide_units_is_owned(rt: HostRuntime) -> Result<(), Fail> {
-    let alloc = rt.alloc();
-    let bytes = [8, 0, 0, 0, 1, 0, 0, 0, 0x2d, 0x4e];
-    assert!(rt; reads(alloc, StringEncoding::Utf16, &bytes, "\u{4e2d}", false)?);
-    let tagged = [8, 0, 0, 0, 1, 0, 0, 0x80, 0x2d, 0x4e];
-    assert!(rt;
-        reads(
-            alloc,
-            StringEncoding::CompactUtf16,
-            &tagged,
-            "\u{4e2d}",
-            false
-        )?
-    );
-    Ok(())
-}
-
-/// Whether reading these bytes of memory answers this fault.
-fn fails(
-    alloc: Global,
-    encoding: StringEncoding,
-    bytes: &[u8],
-    fault: Fault,
-) -> Result<bool, Fail> {
-    let typed = plain(alloc, InterfaceType::String);
-    let (core, text) = stays::<WasmStr>(alloc, encoding, typed, bytes)?;
-    let view = core.view();
-    if !text.fits(&view) {
-        return Ok(false);
-    }
-    match text.to_str(alloc, &view) {
-        Ok(_) => Ok(false),
-        Err(error) => Ok(error == fault),
-    }
-}
-
-#[test]
-fn half_a_pair_is_no_text(rt: HostRuntime) -> Result<(), Fail> {
-    let tagged = [8, 0, 0, 0, 1, 0, 0, 0x80, 0, 0xd8];
-    let bad = Fault::InvalidUtf16(At::Address(0));
-    assert!(rt; fails(rt.alloc(), StringEncoding::CompactUtf16, &tagged, bad)?);
-    Ok(())
+    assert!(rt; answer == Some(Err(Fault::InvalidUtf16(At::Address(0)))));
 }

@@ -1,62 +1,42 @@
-//! Functions of the host, asked.
+//! Of which types a function may be, and how it is printed.
 
-use super::{ask, core_of, number_types};
-use canon_host::{
-    HostError, HostFunc, HostStop, HostView, asked_words, param_count, storage_words,
-};
-use canon_memory::ValRaw;
-use canon_types::{InstanceType, InterfaceType, StoreId, TypeBuilder, TypeFunc};
-use canon_value::Val;
+use super::types_of;
+use canon_host::{HostFunc, StaticHostFn};
+use canon_types::{InstanceType, InterfaceType, StoreId};
+use std::alloc::Global;
 use std::test::Fail;
 
-#[test]
-fn a_function_may_refuse(rt: HostRuntime) -> Result<(), Fail> {
-    let alloc = rt.alloc();
-    let (types, ty) = number_types(alloc)?;
-    let mut core = core_of(alloc, types)?;
-    let func = HostFunc::func_new(|_view: &mut HostView<
-        '_,
-        '_,
-        u64,
-    >, _ty: &TypeFunc, _params: &[Val], _results: &mut [Val]| -> Result<(), HostStop> {
-        Err(HostStop::Refused)
-    });
-    let (answer, _) = ask(alloc, &func, &mut core, ty, &[ValRaw::u32(5)])?;
-    let Err(error) = answer else {
-        return Err(Fail::from("an answer"));
-    };
-    assert!(rt; error == HostError::Refused);
-    Ok(())
+/// Whether a function over values, and one from a `u32` to a `u32`, may be of this type.
+fn may_be(
+    alloc: Global,
+    params: &[InterfaceType],
+    results: &[InterfaceType],
+    async_: bool,
+) -> Option<[bool; 2]> {
+    let (types, ty) = types_of(alloc, params, results, async_)?;
+    if !types.contains_func(ty) {
+        return None;
+    }
+    let types = InstanceType::new(types, StoreId::from_u64(1));
+    let dynamic = HostFunc::func_new(0u8);
+    let wrapped: HostFunc<StaticHostFn<u8, (u32,), (u32,)>> = HostFunc::func_wrap(0u8);
+    let dynamic_may = dynamic.typecheck(ty, &types).is_ok();
+    Some([dynamic_may, wrapped.typecheck(ty, &types).is_ok()])
 }
 
 #[test]
-fn two_results_want_a_pointer(rt: HostRuntime) -> Result<(), Fail> {
-    let alloc = rt.alloc();
-    let mut builder = TypeBuilder::new(alloc);
+fn a_function_is_of_its_types(rt: HostRuntime) {
     let number = [InterfaceType::U32];
-    let pair = [InterfaceType::U32, InterfaceType::U32];
-    let near = builder.add_func(Vec::new(alloc), number.to_vec(alloc)?, false)?;
-    let far = builder.add_func(number.to_vec(alloc)?, pair.to_vec(alloc)?, false)?;
-    let types = builder.finish();
-    assert!(rt; types.contains_func(near) && types.contains_func(far));
-    assert!(rt; asked_words(&types, near) == 0 && storage_words(&types, near) == 1);
-    assert!(rt; asked_words(&types, far) == 2 && storage_words(&types, far) == 2);
-    assert!(rt; param_count(&types, far) == 1);
-    Ok(())
-}
-
-#[test]
-fn an_async_type_is_refused(rt: HostRuntime) -> Result<(), Fail> {
-    let alloc = rt.alloc();
-    let mut builder = TypeBuilder::new(alloc);
-    let plain = builder.add_func(Vec::new(alloc), Vec::new(alloc), false)?;
-    let waits = builder.add_func(Vec::new(alloc), Vec::new(alloc), true)?;
-    let types = InstanceType::new(builder.finish(), StoreId::from_u64(1));
-    assert!(rt; types.types().contains_func(plain) && types.types().contains_func(waits));
-    let func = HostFunc::func_new(0u8);
-    assert!(rt; func.typecheck(plain, &types).is_ok());
-    assert!(rt; func.typecheck(waits, &types).is_err());
-    Ok(())
+    let other = [InterfaceType::S32];
+    for (params, results, async_, answer) in [
+        (&number[..], &number[..], false, [true, true]),
+        (&number[..], &number[..], true, [false, false]),
+        (&other[..], &number[..], false, [true, false]),
+        (&number[..], &other[..], false, [true, false]),
+        (&number[..], &[], false, [true, false]),
+    ] {
+        assert!(rt; may_be(rt.alloc(), params, results, async_) == Some(answer));
+    }
 }
 
 #[test]
