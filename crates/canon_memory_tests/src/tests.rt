@@ -1,4 +1,5 @@
-//! Worked values of words and memories, and the journal of a small guest.
+//! Worked values of words and memories, and the journal of a small guest. Where a function owns a memory, a guest or events it has few ways
+//! out, and gives back small values that a test asserts on.
 
 ghost use Rattle.std.specs.Prelude.{◌≡◌, [], ◌∷◌, None, false, true, if◌then◌else◌};
 
@@ -7,7 +8,6 @@ use canon_memory::{
 };
 use std::alloc::Global;
 use std::mem;
-use std::test::Fail;
 
 /// A guest that traps at core function 1 and destructor 1, asks for import 6 at core function 2, and returns its answer
 /// at every other. It writes 9 at byte 0 when it starts, and 8 when it is resumed. It answers one `realloc` with 16, and
@@ -125,215 +125,311 @@ fn a_word_of_64_bits_is_whole(rt: HostRuntime) {
     assert!(rt; told == (18_446_744_073_709_551_615, -1, 0x3ff0_0000_0000_0000));
 }
 
-#[test]
-fn lists_hold_what_was_pushed_and_copied(rt: HostRuntime) -> Result<(), Fail> {
+/// Whether words that were pushed, and a copy of them, are 1 and 2, and how many there are.
+fn pushed_words(alloc: Global) -> Option<(bool, u64)> {
     let (one, two) = (ValRaw::u32(1), ValRaw::u32(2));
-    let mut words = Words::new(rt.alloc());
-    words.push(one)?;
-    words.push(two)?;
-    let copy = Words::from_slice(rt.alloc(), words.as_slice())?;
-    assert!(rt; copy.as_slice() == [one, two].as_slice() && words.len() == 2);
-    let mut bytes = Bytes::new(rt.alloc());
-    bytes.push(8)?;
-    bytes.push(255)?;
-    let copy = Bytes::from_slice(rt.alloc(), bytes.as_slice())?;
-    assert!(rt; copy.as_slice() == [8, 255].as_slice() && bytes.len() == 2);
-    Ok(())
+    let mut words = Words::new(alloc);
+    let pushed = [words.push(one), words.push(two)];
+    let copy = Words::from_slice(alloc, words.as_slice()).ok()?;
+    let is_copied = copy.as_slice() == [one, two].as_slice();
+    Some((pushed == [Ok(()); 2] && is_copied, words.len()))
+}
+
+/// The same of the bytes 8 and 255.
+fn pushed_bytes(alloc: Global) -> Option<(bool, u64)> {
+    let mut bytes = Bytes::new(alloc);
+    let pushed = [bytes.push(8), bytes.push(255)];
+    let copy = Bytes::from_slice(alloc, bytes.as_slice()).ok()?;
+    let is_copied = copy.as_slice() == [8, 255].as_slice();
+    Some((pushed == [Ok(()); 2] && is_copied, bytes.len()))
 }
 
 #[test]
-fn a_memory_is_zeros_until_it_is_written(rt: HostRuntime) -> Result<(), Fail> {
-    let mut memory = Memory::new(rt.alloc(), 3)?;
-    assert!(rt; memory.len() == 3);
-    assert!(rt; memory.as_slice() == [0, 0, 0].as_slice());
+fn lists_hold_what_was_pushed_and_copied(rt: HostRuntime) {
+    let alloc = rt.alloc();
+    let told = [pushed_words(alloc), pushed_bytes(alloc)];
+    assert!(rt; told == [Some((true, 2)); 2]);
+}
+
+/// Whether a memory is of 3 bytes, these are zeros, and then they are what was written.
+fn zeros_and_written(alloc: Global) -> Option<[bool; 3]> {
+    let mut memory = Memory::new(alloc, 3).ok()?;
+    let is_of_3 = memory.len() == 3;
+    let is_zeros = memory.as_slice() == [0, 0, 0].as_slice();
     memory.as_slice_mut().copy_from_slice(&[1, 2, 3]);
-    assert!(rt; memory.as_slice() == [1, 2, 3].as_slice());
-    let past = Memory::new(rt.alloc(), 4_294_967_297);
-    assert!(rt; matches!(past, Err(MemoryError::TooLarge)));
-    Ok(())
+    let is_written = memory.as_slice() == [1, 2, 3].as_slice();
+    Some([is_of_3, is_zeros, is_written])
 }
 
 #[test]
-fn a_memory_grows_by_zeros_up_to_its_limit(rt: HostRuntime) -> Result<(), Fail> {
-    let mut memory = Memory::new(rt.alloc(), 65_536)?;
+fn a_memory_is_zeros_until_it_is_written(rt: HostRuntime) {
+    let alloc = rt.alloc();
+    let past = Memory::new(alloc, 4_294_967_297).err();
+    let told = zeros_and_written(alloc);
+    assert!(rt; (told, past) == (Some([true; 3]), Some(MemoryError::TooLarge)));
+}
+
+/// What a memory answers where it grows by one byte, and then by too many.
+#[derive(Clone, Copy)]
+struct Grown {
+    by_1: Result<(), MemoryError>,
+    last: [Option<u8>; 2],
+    past: [Result<(), MemoryError>; 2],
+    len: u64,
+}
+
+/// Of a memory of sevens.
+fn grow_thrice(alloc: Global) -> Option<Grown> {
+    let mut memory = Memory::new(alloc, 65_536).ok()?;
     memory.as_slice_mut().fill(7);
-    memory.grow(1)?;
-    assert!(rt; memory.as_slice().get(65_535) == Some(&7) && memory.as_slice().last() == Some(&0));
-    for by in [4_294_967_296, 18_446_744_073_709_551_615] {
-        let past = memory.grow(by);
-        assert!(rt; matches!(past, Err(MemoryError::TooLarge)));
-    }
-    assert!(rt; memory.len() == 65_537);
-    Ok(())
+    let by_1 = memory.grow(1);
+    let bytes = memory.as_slice();
+    let last = [bytes.get(65_535).copied(), bytes.last().copied()];
+    let past = [
+        memory.grow(4_294_967_296),
+        memory.grow(18_446_744_073_709_551_615),
+    ];
+    Some(Grown {
+        by_1,
+        last,
+        past,
+        len: memory.len(),
+    })
 }
 
 #[test]
-fn a_journal_tells_a_start_and_its_return(rt: HostRuntime) -> Result<(), Fail> {
-    let alloc = rt.alloc();
-    let mut memory = Memory::new(alloc, 2)?;
-    let answer = Words::from_slice(alloc, &[ValRaw::u32(5)])?;
+fn a_memory_grows_by_zeros_up_to_its_limit(rt: HostRuntime) {
+    let is_grown = match grow_thrice(rt.alloc()) {
+        Some(told) => [
+            told.by_1 == Ok(()),
+            told.last == [Some(7), Some(0)],
+            told.past == [Err(MemoryError::TooLarge); 2],
+            told.len == 65_537,
+        ],
+        None => [false; 4],
+    };
+    assert!(rt; is_grown == [true; 4]);
+}
+
+/// Whether a guest answers as it should and its journal tells its calls, how many events that has, and how many are left once they were taken.
+type Told = (bool, bool, u64, u64);
+
+/// What comes of calls to a guest whose answer is 5, beside a memory of so many bytes. One function makes the calls, and another looks at the
+/// events.
+fn told_by<F: FnOnce(&mut Journaled<Writer>, &mut Memory) -> bool, L: FnOnce(&[Event]) -> bool>(
+    alloc: Global,
+    len: u64,
+    call: F,
+    look: L,
+) -> Option<Told>
+    requires call { F.IsAlwaysCallable call }
+    requires look { L.IsAlwaysCallable look }
+{
+    let mut memory = Memory::new(alloc, len).ok()?;
+    let answer = Words::from_slice(alloc, &[ValRaw::u32(5)]).ok()?;
     let mut guest = Journaled::new(alloc, writer_of(alloc, answer));
+    let is_answered = call(&mut guest, &mut memory);
+    let events = guest.take_journal();
+    let is_told = look(events.as_slice());
+    Some((is_answered, is_told, events.len(), guest.events().len()))
+}
+
+/// Whether there is one word, of this number.
+fn is_word(words: &Words, word: u32) -> bool {
+    words.as_slice() == [ValRaw::u32(word)].as_slice()
+}
+
+/// Whether memory is of two bytes, and they are these.
+fn is_memory(memory: &Bytes, bytes: [u8; 2]) -> bool {
+    memory.as_slice() == bytes.as_slice()
+}
+
+/// Whether a step is the return of 5.
+fn is_return_of_5(step: &Result<Step, GuestFault>) -> bool {
+    match step {
+        Ok(Step::Return(words)) => is_word(words, 5),
+        _ => false,
+    }
+}
+
+/// Starts core function 3 with 7.
+fn start(guest: &mut Journaled<Writer>, memory: &mut Memory) -> bool {
     let before = guest.events().len();
-    let step = guest.start(&mut memory, 3, &[ValRaw::u32(7)])?;
-    let Step::Return(words) = &step else {
-        panic!(rt; "no return");
-    };
-    assert!(rt; words.as_slice() == [ValRaw::u32(5)].as_slice());
-    let events = guest.take_journal();
-    assert!(rt; (before, events.len(), guest.events().len()) == (0, 2, 0));
-    let Some(
+    let step = guest.start(memory, 3, &[ValRaw::u32(7)]);
+    before == 0 && is_return_of_5(&step)
+}
+
+fn tell_start(events: &[Event]) -> bool {
+    let [
         Event::Start {
-            func,
-            words,
-            memory,
+            func: 3,
+            words: passed,
+            memory: before,
         },
-    ) = events.as_slice().first()
+        Event::Return {
+            words: returned,
+            memory: after,
+        },
+    ] = events
     else {
-        panic!(rt; "no start");
+        return false;
     };
-    assert!(rt; *func == 3 && words.as_slice() == [ValRaw::u32(7)].as_slice());
-    assert!(rt; memory.as_slice() == [0, 0].as_slice());
-    let Some(Event::Return { words, memory }) = events.as_slice().last() else {
-        panic!(rt; "no return");
-    };
-    assert!(rt; words.as_slice() == [ValRaw::u32(5)].as_slice());
-    assert!(rt; memory.as_slice() == [9, 0].as_slice());
-    Ok(())
+    let words = is_word(passed, 7) && is_word(returned, 5);
+    words && is_memory(before, [0, 0]) && is_memory(after, [9, 0])
 }
 
 #[test]
-fn a_journal_tells_a_start_and_its_trap(rt: HostRuntime) -> Result<(), Fail> {
-    let alloc = rt.alloc();
-    let mut memory = Memory::new(alloc, 2)?;
-    let answer = Words::from_slice(alloc, &[ValRaw::u32(5)])?;
-    let mut guest = Journaled::new(alloc, writer_of(alloc, answer));
+fn a_journal_tells_a_start_and_its_return(rt: HostRuntime) {
+    assert!(rt; told_by(rt.alloc(), 2, start, tell_start) == Some((true, true, 2, 0)));
+}
+
+/// Starts core function 1, which traps, where the guest had counted 4 traps.
+fn start_in_vain(guest: &mut Journaled<Writer>, memory: &mut Memory) -> bool {
     guest.guest_mut().traps = 4;
-    let fault = guest.start(&mut memory, 1, &[ValRaw::u32(7)]).err();
-    assert!(rt; fault == Some(GuestFault::Trap) && guest.guest().traps == 5);
-    let events = guest.take_journal();
-    let Some(Event::Start { func, .. }) = events.as_slice().first() else {
-        panic!(rt; "no start");
+    let step = guest.start(memory, 1, &[ValRaw::u32(7)]);
+    let fault = match &step {
+        Ok(_) => None,
+        Err(fault) => Some(*fault),
     };
-    assert!(rt; (*func, events.len()) == (1, 2));
-    let Some(Event::Trap { asked, len }) = events.as_slice().last() else {
-        panic!(rt; "no trap");
-    };
-    assert!(rt; (*asked, *len) == (None, 2));
-    Ok(())
+    fault == Some(GuestFault::Trap) && guest.guest().traps == 5
+}
+
+fn tell_trap(events: &[Event]) -> bool {
+    matches!(
+        events,
+        [
+            Event::Start { func: 1, .. },
+            Event::Trap {
+                asked: None,
+                len: 2
+            }
+        ]
+    )
 }
 
 #[test]
-fn a_journal_tells_an_ask_and_its_resume(rt: HostRuntime) -> Result<(), Fail> {
-    let alloc = rt.alloc();
-    let mut memory = Memory::new(alloc, 2)?;
-    let answer = Words::from_slice(alloc, &[ValRaw::u32(5)])?;
-    let mut guest = Journaled::new(alloc, writer_of(alloc, answer));
-    let step = guest.start(&mut memory, 2, &[ValRaw::u32(7)])?;
-    let Step::Import { index, .. } = &step else {
-        panic!(rt; "no ask");
-    };
-    assert!(rt; *index == 6);
-    let step = guest.resume(&mut memory, &[ValRaw::u32(11)])?;
-    assert!(rt; matches!(&step, Step::Return(_)));
-    let events = guest.take_journal();
-    let Some(
+fn a_journal_tells_a_start_and_its_trap(rt: HostRuntime) {
+    assert!(rt; told_by(rt.alloc(), 2, start_in_vain, tell_trap) == Some((true, true, 2, 0)));
+}
+
+/// Starts core function 2 with 7, and resumes it with 11.
+fn start_and_resume(guest: &mut Journaled<Writer>, memory: &mut Memory) -> bool {
+    let step = guest.start(memory, 2, &[ValRaw::u32(7)]);
+    let asks = matches!(&step, Ok(Step::Import { index: 6, .. }));
+    let step = guest.resume(memory, &[ValRaw::u32(11)]);
+    asks && matches!(&step, Ok(Step::Return(_)))
+}
+
+fn tell_ask(events: &[Event]) -> bool {
+    let [
+        _,
         Event::Ask {
-            index,
-            words,
-            memory,
+            index: 6,
+            words: asked,
+            memory: before,
         },
-    ) = events.as_slice().get(1)
-    else {
-        panic!(rt; "no ask");
-    };
-    assert!(rt; (*index, events.len()) == (6, 4));
-    assert!(rt; words.as_slice() == [ValRaw::u32(5)].as_slice());
-    assert!(rt; memory.as_slice() == [9, 0].as_slice());
-    let Some(Event::Resume { words, memory }) = events.as_slice().get(2) else {
-        panic!(rt; "no resume");
-    };
-    assert!(rt; words.as_slice() == [ValRaw::u32(11)].as_slice());
-    assert!(rt; memory.as_slice() == [9, 0].as_slice());
-    let Some(Event::Return { words, memory }) = events.as_slice().last() else {
-        panic!(rt; "no return");
-    };
-    assert!(rt; words.len() == 0);
-    assert!(rt; memory.as_slice() == [8, 0].as_slice());
-    Ok(())
-}
-
-#[test]
-fn a_journal_tells_a_realloc_by_its_answer_or_its_request(rt: HostRuntime) -> Result<(), Fail> {
-    let alloc = rt.alloc();
-    let mut memory = Memory::new(alloc, 40)?;
-    let answer = Words::from_slice(alloc, &[ValRaw::u32(5)])?;
-    let mut guest = Journaled::new(alloc, writer_of(alloc, answer));
-    let given = guest.realloc(&mut memory, 0, 0, 4, 8)?;
-    let fault = guest.realloc(&mut memory, 16, 8, 4, 20).err();
-    assert!(rt; given == 16 && fault == Some(GuestFault::Trap));
-    let events = guest.take_journal();
-    let Some(
-        Event::Realloc {
-            old,
-            old_size,
-            align,
-            new_size,
-            answer,
+        Event::Resume {
+            words: answered,
+            memory: between,
         },
-    ) = events.as_slice().first()
+        Event::Return {
+            words: returned,
+            memory: after,
+        },
+    ] = events
     else {
-        panic!(rt; "no answer");
+        return false;
     };
-    assert!(rt; (*old, *old_size, *align, *new_size, *answer) == (0, 0, 4, 8, 16));
-    let Some(Event::Trap { asked, len }) = events.as_slice().last() else {
-        panic!(rt; "no trap");
-    };
-    assert!(rt; (*asked, *len, events.len()) == (Some((16, 8, 4, 20)), 40, 2));
-    Ok(())
+    let words = is_word(asked, 5) && is_word(answered, 11) && returned.len() == 0;
+    let memory = is_memory(before, [9, 0]) && is_memory(between, [9, 0]);
+    words && memory && is_memory(after, [8, 0])
 }
 
 #[test]
-fn a_journal_tells_a_post_return_and_a_destructor_that_traps(rt: HostRuntime) -> Result<(), Fail> {
-    let alloc = rt.alloc();
-    let mut memory = Memory::new(alloc, 2)?;
-    let answer = Words::from_slice(alloc, &[ValRaw::u32(5)])?;
-    let mut guest = Journaled::new(alloc, writer_of(alloc, answer));
-    guest.post_return(&mut memory, 4, &[ValRaw::u32(5)])?;
-    guest.dtor(&mut memory, 3, 80)?;
-    let fault = guest.dtor(&mut memory, 1, 90).err();
-    assert!(rt; fault == Some(GuestFault::Trap));
-    let events = guest.take_journal();
-    let Some(Event::Post { func, words }) = events.as_slice().first() else {
-        panic!(rt; "no post-return");
-    };
-    assert!(rt; *func == 4 && words.as_slice() == [ValRaw::u32(5)].as_slice());
-    let Some(Event::Dtor { func, rep }) = events.as_slice().get(1) else {
-        panic!(rt; "no destructor");
-    };
-    assert!(rt; (*func, *rep) == (3, 80));
-    let Some(Event::Dtor { func, rep }) = events.as_slice().get(2) else {
-        panic!(rt; "no destructor");
-    };
-    assert!(rt; (*func, *rep) == (1, 90));
-    let Some(Event::Trap { asked, len }) = events.as_slice().last() else {
-        panic!(rt; "no trap");
-    };
-    assert!(rt; (*asked, *len, events.len()) == (None, 2, 4));
-    Ok(())
+fn a_journal_tells_an_ask_and_its_resume(rt: HostRuntime) {
+    assert!(rt; told_by(rt.alloc(), 2, start_and_resume, tell_ask) == Some((true, true, 4, 0)));
+}
+
+/// Asks for a block of 8 bytes, which is given, and then for one of 20 in its place.
+fn realloc_twice(guest: &mut Journaled<Writer>, memory: &mut Memory) -> bool {
+    let given = guest.realloc(memory, 0, 0, 4, 8);
+    let refused = guest.realloc(memory, 16, 8, 4, 20);
+    (given, refused) == (Ok(16), Err(GuestFault::Trap))
+}
+
+fn tell_reallocs(events: &[Event]) -> bool {
+    matches!(
+        events,
+        [
+            Event::Realloc {
+                old: 0,
+                old_size: 0,
+                align: 4,
+                new_size: 8,
+                answer: 16
+            },
+            Event::Trap {
+                asked: Some((16, 8, 4, 20)),
+                len: 40
+            }
+        ]
+    )
 }
 
 #[test]
-fn events_are_kept_in_order(rt: HostRuntime) -> Result<(), Fail> {
-    let mut events = Events::new(rt.alloc());
+fn a_journal_tells_a_realloc_by_its_answer_or_its_request(rt: HostRuntime) {
+    assert!(rt; told_by(rt.alloc(), 40, realloc_twice, tell_reallocs) == Some((true, true, 2, 0)));
+}
+
+/// Ends core function 4 with 5, and drops a resource by destructor 3 and one by destructor 1, which traps.
+fn end_and_drop(guest: &mut Journaled<Writer>, memory: &mut Memory) -> bool {
+    let ended = guest.post_return(memory, 4, &[ValRaw::u32(5)]);
+    let dropped = guest.dtor(memory, 3, 80);
+    let trapped = guest.dtor(memory, 1, 90);
+    [ended, dropped, trapped] == [Ok(()), Ok(()), Err(GuestFault::Trap)]
+}
+
+fn tell_ends(events: &[Event]) -> bool {
+    let [
+        Event::Post { func: 4, words },
+        Event::Dtor { func: 3, rep: 80 },
+        Event::Dtor { func: 1, rep: 90 },
+        Event::Trap {
+            asked: None,
+            len: 2,
+        },
+    ] = events
+    else {
+        return false;
+    };
+    is_word(words, 5)
+}
+
+#[test]
+fn a_journal_tells_a_post_return_and_a_destructor_that_traps(rt: HostRuntime) {
+    assert!(rt; told_by(rt.alloc(), 2, end_and_drop, tell_ends) == Some((true, true, 4, 0)));
+}
+
+/// Whether events are the first of those that were pushed and one more, and how many they are.
+fn pushed_events(alloc: Global) -> (bool, u64) {
+    let mut events = Events::new(alloc);
+    let mut is_pushed = true;
     for len in [10, 20] {
-        events.push(Event::Trap {
-            asked: Some((0, 0, 4, len)),
-            len,
-        })?;
+        let asked = Some((0, 0, 4, len));
+        is_pushed = is_pushed && events.push(Event::Trap { asked, len }).is_ok();
     }
-    let Some(Event::Trap { asked, len }) = events.as_slice().first() else {
-        panic!(rt; "no trap");
-    };
-    assert!(rt; (*asked, *len, events.len()) == (Some((0, 0, 4, 10)), 10, 2));
-    Ok(())
+    let first = events.as_slice().first();
+    let is_first = matches!(
+        first,
+        Some(Event::Trap {
+            asked: Some((0, 0, 4, 10)),
+            len: 10
+        })
+    );
+    (is_pushed && is_first, events.len())
+}
+
+#[test]
+fn events_are_kept_in_order(rt: HostRuntime) {
+    assert!(rt; pushed_events(rt.alloc()) == (true, 2));
 }
