@@ -1,4 +1,8 @@
-//! Worked examples on host indexes and on resources of a component.
+//! Worked examples on host indexes and on resources of a component. One function owns each ledger and lends it to another, which tells whether
+//! each of its steps answers as it should.
+
+ghost use Rattle.std.specs.Prelude.{◌≤◌};
+ghost use Rattle.canon_ledger.specs.Ledger.{last_generation};
 
 mod scopes;
 
@@ -12,7 +16,6 @@ use canon_types::{
     ComponentTypes, ResourceKind, TypeBuilder, TypeError, TypeResourceTable, TypeResourceTableIndex,
 };
 use std::alloc::Global;
-use std::test::Fail;
 
 /// A resource of the host and one of the component, each with a table in two instances.
 #[derive(Drop)]
@@ -43,6 +46,29 @@ fn two_instances(alloc: Global) -> Result<Types, TypeError> {
         second_own,
         first_host,
     })
+}
+
+/// What something answers of a new ledger with room for 100 handles, over an empty table of the host of this generation.
+fn with_ledger<R, F: FnOnce(&mut Ledger) -> Option<R>>(
+    alloc: Global,
+    generation: u32,
+    ask: F,
+) -> Option<R>
+    requires generation { generation ≤ last_generation }
+    requires ask { F.IsAlwaysCallable ask }
+{
+    let host = HostResourceData::with_generation(alloc, generation);
+    let mut ledger = Ledger::new(alloc, 100, host).ok()?;
+    ask(&mut ledger)
+}
+
+/// The same of one of the first generation, and of the types of two instances.
+fn with_types<R, F: FnOnce(&mut Ledger, &Types) -> Option<R>>(alloc: Global, ask: F) -> Option<R>
+    requires { F.IsAlwaysCallable ask }
+{
+    let types = two_instances(alloc).ok()?;
+    let mut ledger = Ledger::new(alloc, 100, HostResourceData::new(alloc)).ok()?;
+    ask(&mut ledger, &types)
 }
 
 // What a call in a component answers; nothing where the type isn't known.
@@ -221,102 +247,115 @@ fn kept(slot: TableSlot) -> (u32, Option<u32>, Option<u32>) {
     (slot.generation, instance, slot.dtor)
 }
 
-#[test]
-fn an_index_that_is_given_again_is_told_apart(rt: HostRuntime) -> Result<(), Fail> {
-    let alloc = rt.alloc();
-    let mut ledger = Ledger::new(alloc, 100, HostResourceData::new(alloc))?;
-    let mut tables = HostResourceTables::new_host(&mut ledger);
-    let first = tables.host_resource_lower_own(7, Some(5), Some(RuntimeInstance::from_u32(3)))?;
-    let slot = kept(tables.slot(first)?.ok_or("no slot")?);
-    let (rep, gone) = tables.host_resource_drop(first)?.ok_or("no own handle")?;
-    let want = (0, Some(3), Some(5));
-    assert!(rt; first == HostResourceIndex::new(1, 0));
-    assert!(rt; (slot, rep, kept(gone)) == (want, 7, want));
+/// Whether an index that is given again has another generation, and is refused by the old one.
+fn given_again(ledger: &mut Ledger) -> Option<[bool; 6]> {
+    let mut tables = HostResourceTables::new_host(ledger);
+    let instance = RuntimeInstance::from_u32(3);
+    let first = tables
+        .host_resource_lower_own(7, Some(5), Some(instance))
+        .ok()?;
+    let slot = kept(tables.slot(first).ok()??);
+    let (rep, gone) = tables.host_resource_drop(first).ok()??;
+    let told = (slot, rep, kept(gone));
     let unknown = tables.host_resource_lift_own(first);
-    let second = tables.host_resource_lower_own(8, None, None)?;
-    assert!(rt; second == HostResourceIndex::new(1, 2));
+    let second = tables.host_resource_lower_own(8, None, None).ok()?;
     let refused = (
         unknown,
         tables.host_resource_lift_own(first),
         tables.slot(first).err(),
     );
+    let want = (0, Some(3), Some(5));
     let gone = ResourceFault::HostDeallocated;
-    assert!(rt; refused == (Err(ResourceFault::UnknownHandle(1)), Err(gone), Some(gone)));
-    assert!(rt; tables.slot(HostResourceIndex::new(2, 0))?.is_none());
-    assert!(rt; tables.host_resource_lift_own(second) == Ok(8));
-    Ok(())
+    Some([
+        first == HostResourceIndex::new(1, 0),
+        told == (want, 7, want),
+        second == HostResourceIndex::new(1, 2),
+        refused == (Err(ResourceFault::UnknownHandle(1)), Err(gone), Some(gone)),
+        tables.slot(HostResourceIndex::new(2, 0)) == Ok(None),
+        tables.host_resource_lift_own(second) == Ok(8),
+    ])
 }
 
 #[test]
-fn the_last_generation_takes_nothing_out(rt: HostRuntime) -> Result<(), Fail> {
-    let alloc = rt.alloc();
-    let host = HostResourceData::with_generation(alloc, 4_294_967_292);
-    let mut ledger = Ledger::new(alloc, 100, host)?;
-    let mut tables = HostResourceTables::new_host(&mut ledger);
-    let index = tables.host_resource_lower_own(7, None, None)?;
+fn an_index_that_is_given_again_is_told_apart(rt: HostRuntime) {
+    assert!(rt; with_ledger(rt.alloc(), 0, given_again) == Some([true; 6]));
+}
+
+/// Whether nothing is taken out where the generation can't grow.
+fn nothing_taken(ledger: &mut Ledger) -> Option<[bool; 2]> {
+    let mut tables = HostResourceTables::new_host(ledger);
+    let index = tables.host_resource_lower_own(7, None, None).ok()?;
     let refused = (
         tables.host_resource_lift_own(index).err(),
         tables.host_resource_drop(index).err(),
     );
     let exhausted = Some(ResourceFault::GenerationExhausted);
-    assert!(rt; refused == (exhausted, exhausted) && ledger.live() == 1);
-    Ok(())
+    Some([refused == (exhausted, exhausted), ledger.live() == 1])
 }
 
 #[test]
-fn the_host_lends_nothing_outside_a_call(rt: HostRuntime) -> Result<(), Fail> {
-    let alloc = rt.alloc();
-    let mut ledger = Ledger::new(alloc, 100, HostResourceData::new(alloc))?;
-    let mut tables = HostResourceTables::new_host(&mut ledger);
-    let index = tables.host_resource_lower_own(7, None, None)?;
+fn the_last_generation_takes_nothing_out(rt: HostRuntime) {
+    assert!(rt; with_ledger(rt.alloc(), 4_294_967_292, nothing_taken) == Some([true; 2]));
+}
+
+/// Whether the host lends nothing where no scope is open, and removes a handle once.
+fn nothing_lent(ledger: &mut Ledger) -> Option<[bool; 2]> {
+    let mut tables = HostResourceTables::new_host(ledger);
+    let index = tables.host_resource_lower_own(7, None, None).ok()?;
     let refused = (
         tables.host_resource_lift_borrow(index).err(),
         tables.host_resource_lower_borrow(7).err(),
         tables.validate_scope_exit().err(),
     );
     let none = Some(ResourceFault::NoScope);
-    assert!(rt; refused == (none, none, none));
     let removed = (
         tables.host_resource_remove(index),
         tables.host_resource_remove(index),
     );
-    assert!(rt; removed == (Ok(7), Err(ResourceFault::UnknownHandle(1))));
-    Ok(())
+    Some([
+        refused == (none, none, none),
+        removed == (Ok(7), Err(ResourceFault::UnknownHandle(1))),
+    ])
 }
 
 #[test]
-fn each_instance_has_a_table_of_its_own(rt: HostRuntime) -> Result<(), Fail> {
-    let alloc = rt.alloc();
-    let Types {
-        types,
-        first_own,
-        second_own,
-        first_host,
-    } = two_instances(alloc)?;
-    let mut ledger = Ledger::new(alloc, 100, HostResourceData::new(alloc))?;
+fn the_host_lends_nothing_outside_a_call(rt: HostRuntime) {
+    assert!(rt; with_ledger(rt.alloc(), 0, nothing_lent) == Some([true; 2]));
+}
+
+/// Whether two instances number their handles each for itself.
+fn numbered_apart(ledger: &mut Ledger, types: &Types) -> Option<[bool; 3]> {
+    let (first_own, second_own) = (types.first_own, types.second_own);
+    let (types, first_host) = (&types.types, types.first_host);
     let made = (
-        guest_new(&mut ledger, &types, 7, first_own),
-        guest_new(&mut ledger, &types, 8, second_own),
-        guest_new(&mut ledger, &types, 9, first_host),
-        guest_rep(&mut ledger, &types, 1, second_own),
+        guest_new(ledger, types, 7, first_own),
+        guest_new(ledger, types, 8, second_own),
+        guest_new(ledger, types, 9, first_host),
+        guest_rep(ledger, types, 1, second_own),
     );
-    assert!(rt; made == (Some(Ok(1)), Some(Ok(1)), Some(Ok(2)), Some(Ok(8))));
     let taken = (
-        guest_rep(&mut ledger, &types, 2, second_own),
-        guest_lift_own(&mut ledger, &types, 1, first_host),
-        guest_lift_own(&mut ledger, &types, 1, first_own),
+        guest_rep(ledger, types, 2, second_own),
+        guest_lift_own(ledger, types, 1, first_host),
+        guest_lift_own(ledger, types, 1, first_own),
+    );
+    let dropped = (
+        guest_drop(ledger, types, 1, first_own),
+        guest_drop(ledger, types, 2, first_host),
+        ledger.live(),
     );
     let unknown = Some(Err(ResourceFault::UnknownHandle(2)));
     let mismatch = Some(Err(ResourceFault::ResourceTypeMismatch));
-    assert!(rt; taken == (unknown, mismatch, Some(Ok(7))));
-    let dropped = (
-        guest_drop(&mut ledger, &types, 1, first_own),
-        guest_drop(&mut ledger, &types, 2, first_host),
-        ledger.live(),
-    );
-    let unknown = Some(Err(ResourceFault::UnknownHandle(1)));
-    assert!(rt; dropped == (unknown, Some(Ok(Some(9))), 1));
-    Ok(())
+    let gone = Some(Err(ResourceFault::UnknownHandle(1)));
+    Some([
+        made == (Some(Ok(1)), Some(Ok(1)), Some(Ok(2)), Some(Ok(8))),
+        taken == (unknown, mismatch, Some(Ok(7))),
+        dropped == (gone, Some(Ok(Some(9))), 1),
+    ])
+}
+
+#[test]
+fn each_instance_has_a_table_of_its_own(rt: HostRuntime) {
+    assert!(rt; with_types(rt.alloc(), numbered_apart) == Some([true; 3]));
 }
 
 // Whether a type is known to the tables with these types, and to tables without any.
@@ -338,87 +377,96 @@ fn known_outside(ledger: &mut Ledger, ty: TypeResourceTableIndex) -> bool {
     tables.has_type(ty)
 }
 
-#[test]
-fn a_type_is_unknown_outside_its_component(rt: HostRuntime) -> Result<(), Fail> {
-    let alloc = rt.alloc();
-    let types = two_instances(alloc)?;
-    let mut ledger = Ledger::new(alloc, 100, HostResourceData::new(alloc))?;
-    let inside = known_inside(&mut ledger, &types.types, types.second_own);
-    let outside = known_outside(&mut ledger, types.second_own);
-    assert!(rt; (inside, outside) == (true, false));
-    Ok(())
+fn known(ledger: &mut Ledger, types: &Types) -> Option<(bool, bool)> {
+    let inside = known_inside(ledger, &types.types, types.second_own);
+    let outside = known_outside(ledger, types.second_own);
+    Some((inside, outside))
 }
 
 #[test]
-fn a_resource_that_is_lent_to_a_call_is_not_given_to_it(rt: HostRuntime) -> Result<(), Fail> {
-    let alloc = rt.alloc();
-    let types = two_instances(alloc)?;
-    let mut ledger = Ledger::new(alloc, 100, HostResourceData::new(alloc))?;
-    let index = HostResourceTables::new_host(&mut ledger).host_resource_lower_own(7, None, None)?;
-    let _scope = ledger.enter()?;
+fn a_type_is_unknown_outside_its_component(rt: HostRuntime) {
+    assert!(rt; with_types(rt.alloc(), known) == Some((true, false)));
+}
+
+/// Whether a resource of the host that is lent to a call isn't given to it, and the call ends once it is given back.
+fn lent_to_a_call(ledger: &mut Ledger, types: &Types) -> Option<[bool; 2]> {
+    let (types, ty) = (&types.types, types.first_host);
+    let mut tables = HostResourceTables::new_host(ledger);
+    let index = tables.host_resource_lower_own(7, None, None).ok()?;
+    ledger.enter().ok()?;
     let lent = (
-        lift_borrow(&mut ledger, index),
-        guest_lower_borrow(&mut ledger, &types.types, 7, types.first_host),
-        HostResourceTables::new_host(&mut ledger).host_resource_lift_own(index),
+        lift_borrow(ledger, index),
+        guest_lower_borrow(ledger, types, 7, ty),
+        HostResourceTables::new_host(ledger).host_resource_lift_own(index),
+        ledger.live(),
+    );
+    let left = (
+        exit(ledger),
+        ledger.live(),
+        guest_drop(ledger, types, 1, ty),
+        exit(ledger),
         ledger.live(),
     );
     let still = Err(ResourceFault::StillLent(1));
-    assert!(rt; lent == (Ok(7), Some(Ok(1)), still, 3));
-    let left = (
-        exit(&mut ledger),
-        ledger.live(),
-        guest_drop(&mut ledger, &types.types, 1, types.first_host),
-        exit(&mut ledger),
-        ledger.live(),
-    );
     let remain = Err(ResourceFault::BorrowsRemain);
-    assert!(rt; left == (remain, 3, Some(Ok(None)), Ok(()), 1));
-    Ok(())
+    Some([
+        lent == (Ok(7), Some(Ok(1)), still, 3),
+        left == (remain, 3, Some(Ok(None)), Ok(()), 1),
+    ])
 }
 
 #[test]
-fn a_resource_that_was_given_away_is_gone(rt: HostRuntime) -> Result<(), Fail> {
-    let alloc = rt.alloc();
-    let types = two_instances(alloc)?;
-    let mut ledger = Ledger::new(alloc, 100, HostResourceData::new(alloc))?;
-    let index = HostResourceTables::new_host(&mut ledger).host_resource_lower_own(7, None, None)?;
+fn a_resource_that_is_lent_to_a_call_is_not_given_to_it(rt: HostRuntime) {
+    assert!(rt; with_types(rt.alloc(), lent_to_a_call) == Some([true; 2]));
+}
+
+/// Whether a resource that was given to the guest is gone from the table of the host.
+fn given_away(ledger: &mut Ledger, types: &Types) -> Option<[bool; 3]> {
+    let mut tables = HostResourceTables::new_host(ledger);
+    let index = tables.host_resource_lower_own(7, None, None).ok()?;
     let given = (
-        HostResourceTables::new_host(&mut ledger).host_resource_lift_own(index),
-        guest_lower_own(&mut ledger, &types.types, 7, types.first_host),
+        HostResourceTables::new_host(ledger).host_resource_lift_own(index),
+        guest_lower_own(ledger, &types.types, 7, types.first_host),
         ledger.live(),
     );
-    assert!(rt; given == (Ok(7), Some(Ok(1)), 1));
-    let unknown = HostResourceTables::new_host(&mut ledger).host_resource_lift_own(index);
-    let _other = HostResourceTables::new_host(&mut ledger).host_resource_lower_own(8, None, None)?;
-    let gone = HostResourceTables::new_host(&mut ledger).host_resource_lift_own(index);
-    let want = Err(ResourceFault::UnknownHandle(1));
-    assert!(rt; (unknown, gone) == (want, Err(ResourceFault::HostDeallocated)));
-    Ok(())
+    let mut tables = HostResourceTables::new_host(ledger);
+    let unknown = tables.host_resource_lift_own(index);
+    tables.host_resource_lower_own(8, None, None).ok()?;
+    let gone = tables.host_resource_lift_own(index);
+    Some([
+        given == (Ok(7), Some(Ok(1)), 1),
+        unknown == Err(ResourceFault::UnknownHandle(1)),
+        gone == Err(ResourceFault::HostDeallocated),
+    ])
 }
 
 #[test]
-fn a_borrow_of_the_guest_is_a_borrow_handle_of_the_host(rt: HostRuntime) -> Result<(), Fail> {
-    let alloc = rt.alloc();
-    let types = two_instances(alloc)?;
-    let own = types.first_own;
-    let mut ledger = Ledger::new(alloc, 100, HostResourceData::new(alloc))?;
-    let made = guest_new(&mut ledger, &types.types, 7, own);
-    let _scope = ledger.enter()?;
-    let lifted = guest_lift_borrow(&mut ledger, &types.types, 1, own);
-    let index = lower_borrow(&mut ledger, 7)?;
-    let lent = (
-        ledger.live(),
-        lift_borrow(&mut ledger, index),
-        ledger.live(),
-    );
-    assert!(rt; (made, lifted, lent) == (Some(Ok(1)), Some(Ok(7)), (3, Ok(7), 3)));
+fn a_resource_that_was_given_away_is_gone(rt: HostRuntime) {
+    assert!(rt; with_types(rt.alloc(), given_away) == Some([true; 3]));
+}
+
+/// Whether a borrow of the guest's resource is lent to the host until the call ends.
+fn lent_by_the_guest(ledger: &mut Ledger, types: &Types) -> Option<[bool; 2]> {
+    let (types, own) = (&types.types, types.first_own);
+    let made = guest_new(ledger, types, 7, own);
+    ledger.enter().ok()?;
+    let lifted = guest_lift_borrow(ledger, types, 1, own);
+    let index = lower_borrow(ledger, 7).ok()?;
+    let lent = (ledger.live(), lift_borrow(ledger, index), ledger.live());
     let left = (
-        guest_lift_own(&mut ledger, &types.types, 1, own),
-        HostResourceTables::new_host(&mut ledger).host_resource_drop(index),
-        exit(&mut ledger),
-        guest_lift_own(&mut ledger, &types.types, 1, own),
+        guest_lift_own(ledger, types, 1, own),
+        HostResourceTables::new_host(ledger).host_resource_drop(index),
+        exit(ledger),
+        guest_lift_own(ledger, types, 1, own),
     );
     let still = Some(Err(ResourceFault::StillLent(1)));
-    assert!(rt; left == (still, Ok(None), Ok(()), Some(Ok(7))));
-    Ok(())
+    Some([
+        (made, lifted, lent) == (Some(Ok(1)), Some(Ok(7)), (3, Ok(7), 3)),
+        left == (still, Ok(None), Ok(()), Some(Ok(7))),
+    ])
+}
+
+#[test]
+fn a_borrow_of_the_guest_is_a_borrow_handle_of_the_host(rt: HostRuntime) {
+    assert!(rt; with_types(rt.alloc(), lent_by_the_guest) == Some([true; 2]));
 }
