@@ -1,4 +1,4 @@
-//! Tests of values, contexts and cores: each public function once, and what no script can show.
+//! Tests of values, contexts and cores: each public function that no script reaches, and what no script can show.
 #![tactic(auto)]
 
 #[cfg(test)]
