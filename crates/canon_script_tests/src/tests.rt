@@ -1,30 +1,73 @@
-//! Values, actions and scripts, as they are read and as they are refused.
+//! Values, actions and scripts, as they are read and as they are refused. One function owns what is read, and gives back what another tells of
+//! it.
 
 use canon_indices::{OptionsIndex, StringEncoding, TypeFuncIndex, TypeResourceTableIndex};
 use canon_json::{ScriptError, items_of};
 use canon_memory::ValRaw;
-use canon_script::{Item, Script, actions_of_json, copies_of, script_of_json, value_of_json};
+use canon_script::{
+    CallItem, Item, Script, actions_of_json, copies_of, script_of_json, value_of_json,
+};
 use canon_scripted::{Action, Ordered};
 use canon_value::Import;
 use serde_json::Value;
 use std::alloc::Global;
-use std::test::Fail;
 
-/// How what a text is read as prints: a value, or why it is none.
-fn value(alloc: Global, text: &str) -> Result<String, Fail> {
-    let tree = Value::from_str(alloc, text)?;
+/// Whether what a text is read as prints so: a value, or why it is none.
+fn value_prints(alloc: Global, text: &str, want: &str) -> Option<bool> {
+    let tree = Value::from_str(alloc, text).ok()?;
     let read = value_of_json(alloc, &tree);
-    Ok(format!(in alloc; "{read:?}")?)
+    let told = format!(in alloc; "{read:?}").ok()?;
+    Some(told.as_str() == want)
 }
 
 /// The script that a text stands for.
-fn script(alloc: Global, text: &str) -> Result<Result<Script, ScriptError>, Fail> {
-    let tree = Value::from_str(alloc, text)?;
-    Ok(script_of_json(alloc, &tree))
+fn script(alloc: Global, text: &str) -> Option<Result<Script, ScriptError>> {
+    let tree = Value::from_str(alloc, text).ok()?;
+    Some(script_of_json(alloc, &tree))
+}
+
+/// What something tells of the script that a text stands for.
+fn with_script<R, F: FnOnce(Global, &Script) -> Option<R>>(
+    alloc: Global,
+    text: &str,
+    tell: F,
+) -> Option<R>
+    requires { F.IsAlwaysCallable tell }
+{
+    let script = script(alloc, text)?.ok()?;
+    tell(alloc, &script)
+}
+
+/// The place of the first item of an array for which something doesn't hold.
+fn first_other<F: Fn(Global, &Value) -> bool>(
+    alloc: Global,
+    array: &Value,
+    holds: F,
+) -> Option<Option<usize>>
+    requires { F.IsAlwaysCallable holds }
+{
+    for (k, item) in items_of(Some(array))?.iter().enumerate() {
+        if !holds(alloc, item) {
+            return Some(Some(k));
+        }
+    }
+    Some(None)
+}
+
+/// The same of the array that a text stands for. None where it stands for none.
+fn other_in<F: Fn(Global, &Value) -> bool>(
+    alloc: Global,
+    text: &str,
+    holds: F,
+) -> Option<Option<usize>>
+    requires { F.IsAlwaysCallable holds }
+{
+    let tree = Value::from_str(alloc, text).ok()?;
+    first_other(alloc, &tree, holds)
 }
 
 #[test]
-fn values_are_read_by_their_kinds(rt: HostRuntime) -> Result<(), Fail> {
+fn values_are_read_by_their_kinds(rt: HostRuntime) {
     for (text, want) in [
         (
             r#"{"tuple":[{"u8":1},{"record":[["a",{"bool":false}],["é",{"tuple":[]}]]}]}"#,
@@ -39,10 +82,11 @@ fn values_are_read_by_their_kinds(rt: HostRuntime) -> Result<(), Fail> {
             r#"Ok(Tuple([Result(Ok(None)), Result(Err(Some(U8(1)))), Enum("x"), Flags(["b", "a", "b"])]))"#,
         ),
     ] {
-        let told = value(rt.alloc(), text)?;
-        assert!(rt; told.as_str() == want, "{text}");
+        assert!(rt;
+            value_prints(rt.alloc(), text, want) == Some(true),
+            "{text}"
+        );
     }
-    Ok(())
 }
 
 /// What is no value.
@@ -91,38 +135,46 @@ const NO_VALUES: &str = r#"[
     5
 ]"#;
 
-#[test]
-fn what_is_no_value_is_refused(rt: HostRuntime) -> Result<(), Fail> {
-    let tree = Value::from_str(rt.alloc(), NO_VALUES)?;
-    for item in items_of(Some(&tree)).ok_or("an array")? {
-        let read = value_of_json(rt.alloc(), item);
-        assert!(rt; matches!(read, Err(ScriptError::BadScript)));
-    }
-    Ok(())
+fn is_no_value(alloc: Global, item: &Value) -> bool {
+    matches!(&value_of_json(alloc, item), Err(ScriptError::BadScript))
 }
 
 #[test]
-fn actions_are_read_in_order(rt: HostRuntime) -> Result<(), Fail> {
-    let text =
-        r#"[{"write":[8,"00ff"]},{"grow":16},{"ask":3,"words":[18446744073709551615]},{"return":[7,0]},{"trap":true}]"#;
-    let tree = Value::from_str(rt.alloc(), text)?;
-    let actions = actions_of_json(rt.alloc(), &tree)?;
+fn what_is_no_value_is_refused(rt: HostRuntime) {
+    assert!(rt; other_in(rt.alloc(), NO_VALUES, is_no_value) == Some(None));
+}
+
+const ACTIONS: &str =
+    r#"[{"write":[8,"00ff"]},{"grow":16},{"ask":3,"words":[18446744073709551615]},{"return":[7,0]},{"trap":true}]"#;
+
+/// Whether actions are these, with what they write, ask with and return.
+fn tell_actions(actions: &[Action]) -> Option<[bool; 3]> {
     let [
         Action::Write(8, bytes),
         Action::Grow(16),
         Action::Ask(3, words),
         Action::Return(returned),
         Action::Trap,
-    ] = actions.as_slice()
+    ] = actions
     else {
-        return Err(Fail::new("five actions"));
+        return None;
     };
-    assert!(rt;
-        bytes.as_slice() == [0, 255].as_slice()
-            && words.as_slice() == [ValRaw::u64(u64::MAX)].as_slice()
-            && returned.as_slice() == [ValRaw::u64(7), ValRaw::u64(0)].as_slice()
-    );
-    Ok(())
+    Some([
+        bytes.as_slice() == [0, 255].as_slice(),
+        words.as_slice() == [ValRaw::u64(u64::MAX)].as_slice(),
+        returned.as_slice() == [ValRaw::u64(7), ValRaw::u64(0)].as_slice(),
+    ])
+}
+
+fn actions_told(alloc: Global, text: &str) -> Option<[bool; 3]> {
+    let tree = Value::from_str(alloc, text).ok()?;
+    let actions = actions_of_json(alloc, &tree).ok()?;
+    tell_actions(actions.as_slice())
+}
+
+#[test]
+fn actions_are_read_in_order(rt: HostRuntime) {
+    assert!(rt; actions_told(rt.alloc(), ACTIONS) == Some([true; 3]));
 }
 
 /// What is no list of actions.
@@ -141,56 +193,67 @@ const NO_ACTIONS: &str = r#"[
     {"trap":true}
 ]"#;
 
-#[test]
-fn what_is_no_action_is_refused(rt: HostRuntime) -> Result<(), Fail> {
-    let tree = Value::from_str(rt.alloc(), NO_ACTIONS)?;
-    for item in items_of(Some(&tree)).ok_or("an array")? {
-        let read = actions_of_json(rt.alloc(), item);
-        assert!(rt; matches!(read, Err(ScriptError::BadScript)));
-    }
-    Ok(())
+fn is_no_action(alloc: Global, item: &Value) -> bool {
+    matches!(&actions_of_json(alloc, item), Err(ScriptError::BadScript))
 }
 
 #[test]
-fn a_whole_script_is_read(rt: HostRuntime) -> Result<(), Fail> {
-    let text =
-        r#"{"memory":131072,"heap":2048,"encoding":"compact","types":[{"record":[["a","u8"],["b","char"]]},{"tuple":[0,"f64"]}],
+fn what_is_no_action_is_refused(rt: HostRuntime) {
+    assert!(rt; other_in(rt.alloc(), NO_ACTIONS, is_no_action) == Some(None));
+}
+
+const WHOLE: &str =
+    r#"{"memory":131072,"heap":2048,"encoding":"compact","types":[{"record":[["a","u8"],["b","char"]]},{"tuple":[0,"f64"]}],
 "funcs":[{"params":[1,"s16"],"results":[0,"u32"],"post":true},{"params":[],"results":[],"async":true}],
 "items":[{"call":0,"params":[{"u8":1}],"guest":[],"reallocs":[4294967295,"trap",null],"post_trap":true},{"call":1,"params":[],"guest":[{"trap":true}],"slots":1000}]}"#;
-    let script = script(rt.alloc(), text)?.expect(&rt, "a script");
-    let late = TypeFuncIndex::from_u32(1);
-    assert!(rt; script.types.contains_func(late) && script.types.func(late).async_);
-    assert!(rt;
-        (script.memory, script.heap, script.encoding)
-            == (131_072, 2048, StringEncoding::CompactUtf16)
-            && script.posts.as_slice() == [true, false].as_slice()
-    );
-    let [Item::Call(first), Item::Call(second)] = script.items.as_slice() else {
-        return Err(Fail::new("two calls"));
-    };
+
+fn is_first(call: &CallItem) -> bool {
     let orders = [Ordered::Answer(4_294_967_295), Ordered::Trap, Ordered::Free];
-    assert!(rt;
-        (first.func, first.params.len(), first.guest.len()) == (0, 1, 0)
-            && (first.slots, first.post_trap) == (2, true)
-            && first.reallocs.as_slice() == orders.as_slice()
-    );
-    assert!(rt;
-        (second.func, second.guest.len(), second.slots) == (1, 1, 1000)
-            && second.reallocs.is_empty()
-            && !second.post_trap
-    );
-    Ok(())
+    (call.func, call.params.len(), call.guest.len()) == (0, 1, 0)
+        && (call.slots, call.post_trap) == (2, true)
+        && call.reallocs.as_slice() == orders.as_slice()
+}
+
+fn is_second(call: &CallItem) -> bool {
+    (call.func, call.guest.len(), call.slots) == (1, 1, 1000)
+        && call.reallocs.is_empty()
+        && !call.post_trap
+}
+
+/// Whether the script has its second function, its settings, its post-return functions and its two calls.
+fn tell_whole(_alloc: Global, script: &Script) -> Option<[bool; 5]> {
+    let late = TypeFuncIndex::from_u32(1);
+    let [Item::Call(first), Item::Call(second)] = script.items.as_slice() else {
+        return None;
+    };
+    Some([
+        script.types.contains_func(late) && script.types.func(late).async_,
+        (script.memory, script.heap, script.encoding)
+            == (131_072, 2048, StringEncoding::CompactUtf16),
+        script.posts.as_slice() == [true, false].as_slice(),
+        is_first(first),
+        is_second(second),
+    ])
 }
 
 #[test]
-fn typed_calls_are_read_by_their_signatures(rt: HostRuntime) -> Result<(), Fail> {
-    let text = r#"{"funcs":[{"params":[],"results":[]}],"items":[
+fn a_whole_script_is_read(rt: HostRuntime) {
+    assert!(rt; with_script(rt.alloc(), WHOLE, tell_whole) == Some([true; 5]));
+}
+
+const TYPED: &str = r#"{"funcs":[{"params":[],"results":[]}],"items":[
 {"call":0,"typed":1,"params":[{"u32":4294967295}],"guest":[]},
 {"call":0,"typed":2,"params":[{"string":"é"}],"guest":[{"trap":true}],"post_trap":true},
 {"call":0,"typed":3,"params":[{"list":[{"u32":2},{"u32":1}]}],"guest":[],"reallocs":["trap",null]},
 {"call":0,"typed":4,"params":[{"list":[{"tuple":[{"string":"a"},{"u64":1}]},{"tuple":[{"string":""},{"u64":18446744073709551615}]}]},{"option":{"bool":true}}],"guest":[]},
 {"call":0,"typed":4,"params":[{"list":[]},{"option":null}],"guest":[]}]}"#;
-    let script = script(rt.alloc(), text)?.expect(&rt, "a script");
+
+/// What the parameters of the typed calls print.
+const TYPED_PARAMS: &str =
+    r#"[Number(4294967295), Text("é"), Numbers([2, 1]), Pairs([("a", 1), ("", 18446744073709551615)], Some(true)), Pairs([], None)]"#;
+
+/// Whether the parameters are these, and the second call traps at its end, which the first doesn't, and the third has its orders.
+fn tell_typed(alloc: Global, script: &Script) -> Option<[bool; 3]> {
     let [
         Item::Typed(first),
         Item::Typed(second),
@@ -199,7 +262,7 @@ fn typed_calls_are_read_by_their_signatures(rt: HostRuntime) -> Result<(), Fail>
         Item::Typed(fifth),
     ] = script.items.as_slice()
     else {
-        return Err(Fail::new("five typed calls"));
+        return None;
     };
     let params = [
         &first.params,
@@ -208,14 +271,17 @@ fn typed_calls_are_read_by_their_signatures(rt: HostRuntime) -> Result<(), Fail>
         &fourth.params,
         &fifth.params,
     ];
-    let told = format!(in rt.alloc(); "{params:?}")?;
-    assert!(rt;
-        told.as_str()
-            == r#"[Number(4294967295), Text("é"), Numbers([2, 1]), Pairs([("a", 1), ("", 18446744073709551615)], Some(true)), Pairs([], None)]"#
-    );
-    assert!(rt; second.post_trap && second.guest.len() == 1 && !first.post_trap);
-    assert!(rt; third.reallocs.as_slice() == [Ordered::Trap, Ordered::Free].as_slice());
-    Ok(())
+    let told = format!(in alloc; "{params:?}").ok()?;
+    Some([
+        told.as_str() == TYPED_PARAMS,
+        second.post_trap && second.guest.len() == 1 && !first.post_trap,
+        third.reallocs.as_slice() == [Ordered::Trap, Ordered::Free].as_slice(),
+    ])
+}
+
+#[test]
+fn typed_calls_are_read_by_their_signatures(rt: HostRuntime) {
+    assert!(rt; with_script(rt.alloc(), TYPED, tell_typed) == Some([true; 3]));
 }
 
 /// What is no typed call of the first function.
@@ -245,47 +311,59 @@ const NO_TYPED: &str = r#"[
     {"typed":1,"params":[{"u32":1}],"guest":[]}
 ]"#;
 
-#[test]
-fn what_is_no_typed_call_is_refused(rt: HostRuntime) -> Result<(), Fail> {
-    let tree = Value::from_str(rt.alloc(), NO_TYPED)?;
-    for item in items_of(Some(&tree)).ok_or("an array")? {
-        let text = format!(in rt.alloc();
-            r#"{{"funcs":[{{"params":[],"results":[]}}],"items":[{item}]}}"#
-        )?;
-        let read = script(rt.alloc(), &text)?;
-        assert!(rt; matches!(read, Err(ScriptError::BadScript)), "{item}");
+/// Whether a text is refused as a script.
+fn is_no_script(alloc: Global, text: &str) -> bool {
+    matches!(&script(alloc, text), Some(Err(ScriptError::BadScript)))
+}
+
+fn is_no_typed_call(alloc: Global, item: &Value) -> bool {
+    let text = format!(in alloc; r#"{{"funcs":[{{"params":[],"results":[]}}],"items":[{item}]}}"#);
+    match &text {
+        Ok(text) => is_no_script(alloc, text.as_str()),
+        Err(_) => false,
     }
-    Ok(())
 }
 
 #[test]
-fn entries_of_every_kind_are_taken(rt: HostRuntime) -> Result<(), Fail> {
-    let text =
-        r#"{"types":[{"map":["string","u8"]},{"variant":[["a"],["b",0]]},{"enum":["x"]},{"option":1},{"result":[null,3]},{"flags":["f"]}],"funcs":[{"params":[2,4],"results":[5]}]}"#;
-    assert!(rt; script(rt.alloc(), text)?.is_ok());
-    Ok(())
+fn what_is_no_typed_call_is_refused(rt: HostRuntime) {
+    assert!(rt; other_in(rt.alloc(), NO_TYPED, is_no_typed_call) == Some(None));
+}
+
+const KINDS: &str =
+    r#"{"types":[{"map":["string","u8"]},{"variant":[["a"],["b",0]]},{"enum":["x"]},{"option":1},{"result":[null,3]},{"flags":["f"]}],"funcs":[{"params":[2,4],"results":[5]}]}"#;
+
+fn is_read(_alloc: Global, _script: &Script) -> Option<()> {
+    Some(())
 }
 
 #[test]
-fn what_is_missing_has_its_default(rt: HostRuntime) -> Result<(), Fail> {
-    let script = script(rt.alloc(), "{}")?.expect(&rt, "a script");
-    assert!(rt;
-        (script.memory, script.heap, script.fuel) == (65536, 1024, 1_000_000)
-            && (script.handles, script.turns) == (1_000_000, 100)
-            && script.encoding == StringEncoding::Utf8
-            && script.posts.is_empty()
+fn entries_of_every_kind_are_taken(rt: HostRuntime) {
+    assert!(rt; with_script(rt.alloc(), KINDS, is_read) == Some(()));
+}
+
+/// Whether what is missing has its default: the settings, and that there are no functions, imports, answers and items.
+fn tell_defaults(_alloc: Global, script: &Script) -> Option<[bool; 4]> {
+    Some([
+        (script.memory, script.heap, script.fuel) == (65536, 1024, 1_000_000),
+        (script.handles, script.turns) == (1_000_000, 100),
+        script.encoding == StringEncoding::Utf8,
+        script.posts.is_empty()
             && script.imports.is_empty()
             && script.answers.is_empty()
-            && script.items.is_empty()
-    );
-    Ok(())
+            && script.items.is_empty(),
+    ])
 }
 
 #[test]
-fn imports_and_turns_are_read(rt: HostRuntime) -> Result<(), Fail> {
-    let text = r#"{"turns":1000000,"resources":[{"kind":"dynamic","id":9},{"kind":"guest","id":4}],
+fn what_is_missing_has_its_default(rt: HostRuntime) {
+    assert!(rt; with_script(rt.alloc(), "{}", tell_defaults) == Some([true; 4]));
+}
+
+const TURNS: &str =
+    r#"{"turns":1000000,"resources":[{"kind":"dynamic","id":9},{"kind":"guest","id":4}],
 "imports":[{"builtin":"drop","resource":1},{"resource":0,"builtin":"new"},{"builtin":"rep","resource":1}]}"#;
-    let script = script(rt.alloc(), text)?.expect(&rt, "a script");
+
+fn tell_turns(_alloc: Global, script: &Script) -> Option<(u64, bool)> {
     let first = TypeResourceTableIndex::from_u32(0);
     let second = TypeResourceTableIndex::from_u32(1);
     let imports = [
@@ -293,9 +371,15 @@ fn imports_and_turns_are_read(rt: HostRuntime) -> Result<(), Fail> {
         Import::ResourceNew(first),
         Import::ResourceRep(second),
     ];
-    assert!(rt; script.turns == 1_000_000);
-    assert!(rt; script.imports.as_slice() == imports.as_slice());
-    Ok(())
+    Some((
+        script.turns,
+        script.imports.as_slice() == imports.as_slice(),
+    ))
+}
+
+#[test]
+fn imports_and_turns_are_read(rt: HostRuntime) {
+    assert!(rt; with_script(rt.alloc(), TURNS, tell_turns) == Some((1_000_000, true)));
 }
 
 /// A function of the host, of the function type of this number.
@@ -306,39 +390,52 @@ fn host(ty: u32) -> Import {
     }
 }
 
-#[test]
-fn functions_of_the_host_are_read_with_their_answers(rt: HostRuntime) -> Result<(), Fail> {
-    let text =
-        r#"{"types":[{"list":"u8"}],"resources":[{"kind":"guest","id":4}],"funcs":[{"params":[],"results":["u32"],"async":true}],
+const FUNCTIONS: &str =
+    r#"{"types":[{"list":"u8"}],"resources":[{"kind":"guest","id":4}],"funcs":[{"params":[],"results":["u32"],"async":true}],
 "imports":[{"params":[0,"string"],"results":["u32","u8"],"answers":[[{"u32":7},{"u8":1}],"refuse",[{"bool":true},{"string":"a"}]]},
 {"builtin":"drop","resource":0},{"answers":[[]],"params":[],"results":[]}]}"#;
-    let script = script(rt.alloc(), text)?.expect(&rt, "a script");
+
+/// What the answers of the functions print.
+const ANSWERS: &str =
+    r#"[[Some([U32(7), U8(1)]), None, Some([Bool(true), String("a")])], [], [Some([])]]"#;
+
+/// Whether the imports are these, the answers print so, and the last function has its type and no post-return function.
+fn tell_functions(alloc: Global, script: &Script) -> Option<[bool; 4]> {
     let handle = Import::ResourceDrop(TypeResourceTableIndex::from_u32(0));
-    assert!(rt; script.imports.as_slice() == [host(1), handle, host(2)].as_slice());
-    let answers = &script.answers;
-    let told = format!(in rt.alloc(); "{answers:?}")?;
-    assert!(rt;
-        told.as_str()
-            == r#"[[Some([U32(7), U8(1)]), None, Some([Bool(true), String("a")])], [], [Some([])]]"#
-    );
     let last = TypeFuncIndex::from_u32(2);
-    assert!(rt; script.types.contains_func(last) && !script.types.func(last).async_);
-    assert!(rt; script.posts.as_slice() == [false].as_slice());
-    Ok(())
+    let answers = &script.answers;
+    let told = format!(in alloc; "{answers:?}").ok()?;
+    Some([
+        script.imports.as_slice() == [host(1), handle, host(2)].as_slice(),
+        told.as_str() == ANSWERS,
+        script.types.contains_func(last) && !script.types.func(last).async_,
+        script.posts.as_slice() == [false].as_slice(),
+    ])
 }
 
 #[test]
-fn copies_are_the_same_values(rt: HostRuntime) -> Result<(), Fail> {
-    let text =
-        r#"{"funcs":[{"params":[],"results":[]}],"items":[{"call":0,"params":[{"record":[["a",{"string":"é"}]]},{"list":[{"option":{"u8":1}}]}],"guest":[]}]}"#;
-    let script = script(rt.alloc(), text)?.expect(&rt, "a script");
+fn functions_of_the_host_are_read_with_their_answers(rt: HostRuntime) {
+    assert!(rt; with_script(rt.alloc(), FUNCTIONS, tell_functions) == Some([true; 4]));
+}
+
+const COPIED: &str =
+    r#"{"funcs":[{"params":[],"results":[]}],"items":[{"call":0,"params":[{"record":[["a",{"string":"é"}]]},{"list":[{"option":{"u8":1}}]}],"guest":[]}]}"#;
+
+/// What the copies of the parameters print.
+const COPIES: &str = r#"[Record([("a", String("é"))]), List([Option(Some(U8(1)))])]"#;
+
+fn tell_copies(alloc: Global, script: &Script) -> Option<bool> {
     let [Item::Call(call)] = script.items.as_slice() else {
-        return Err(Fail::new("one call"));
+        return None;
     };
-    let copies = copies_of(rt.alloc(), &call.params)?;
-    let told = format!(in rt.alloc(); "{copies:?}")?;
-    assert!(rt; told.as_str() == r#"[Record([("a", String("é"))]), List([Option(Some(U8(1)))])]"#);
-    Ok(())
+    let copies = copies_of(alloc, &call.params).ok()?;
+    let told = format!(in alloc; "{copies:?}").ok()?;
+    Some(told.as_str() == COPIES)
+}
+
+#[test]
+fn copies_are_the_same_values(rt: HostRuntime) {
+    assert!(rt; with_script(rt.alloc(), COPIED, tell_copies) == Some(true));
 }
 
 /// Scripts at their limits.
@@ -349,13 +446,13 @@ const SCRIPTS: &str = r#"[
     {"memory":67108864,"funcs":[{"params":[],"results":[]}],"items":[{"call":0,"params":[],"guest":[{"ask":0,"words":[]},{"ask":0,"words":[]},{"ask":0,"words":[]},{"ask":0,"words":[]},{"ask":0,"words":[]},{"ask":0,"words":[]},{"ask":0,"words":[]}]}]}
 ]"#;
 
+fn stands_for_a_script(alloc: Global, item: &Value) -> bool {
+    script_of_json(alloc, item).is_ok()
+}
+
 #[test]
-fn scripts_reach_their_limits(rt: HostRuntime) -> Result<(), Fail> {
-    let tree = Value::from_str(rt.alloc(), SCRIPTS)?;
-    for item in items_of(Some(&tree)).ok_or("an array")? {
-        assert!(rt; script_of_json(rt.alloc(), item).is_ok());
-    }
-    Ok(())
+fn scripts_reach_their_limits(rt: HostRuntime) {
+    assert!(rt; other_in(rt.alloc(), SCRIPTS, stands_for_a_script) == Some(None));
 }
 
 /// What is no script: the first seven pass a limit.
@@ -413,12 +510,11 @@ const NO_SCRIPTS: &str = r#"[
     {"funcs":[{"params":[],"results":[]}],"items":[{"call":0,"params":[],"guest":[],"typed":1}]}
 ]"#;
 
+fn stands_for_none(alloc: Global, item: &Value) -> bool {
+    matches!(&script_of_json(alloc, item), Err(ScriptError::BadScript))
+}
+
 #[test]
-fn what_is_no_script_is_refused(rt: HostRuntime) -> Result<(), Fail> {
-    let tree = Value::from_str(rt.alloc(), NO_SCRIPTS)?;
-    for item in items_of(Some(&tree)).ok_or("an array")? {
-        let read = script_of_json(rt.alloc(), item);
-        assert!(rt; matches!(read, Err(ScriptError::BadScript)));
-    }
-    Ok(())
+fn what_is_no_script_is_refused(rt: HostRuntime) {
+    assert!(rt; other_in(rt.alloc(), NO_SCRIPTS, stands_for_none) == Some(None));
 }
