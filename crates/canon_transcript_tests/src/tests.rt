@@ -1,4 +1,4 @@
-//! The lines of values, errors, events and records.
+//! The lines of values, errors, events and records. What is printed is filled in by functions that borrow it, and each owner has few ways out.
 
 use canon_func::Error;
 use canon_ledger::{HostResourceIndex, ResourceFault};
@@ -11,86 +11,121 @@ use canon_transcript::{
 use canon_types::ResourceType;
 use canon_value::{At, Fault, Val};
 use std::alloc::Global;
-use std::test::Fail;
 
-fn zeros(alloc: Global) -> Result<Vec<Val>, Fail> {
-    let mut zeros = Vec::new(alloc);
-    zeros.push(Val::U8(0))?;
-    zeros.push(Val::U8(0))?;
-    Ok(zeros)
+fn name(alloc: Global, text: &str) -> Option<String> {
+    String::from_str(alloc, text).ok()
+}
+
+fn payload(alloc: Global, value: Val) -> Option<Option<Box<Val>>> {
+    Some(Some(Box::new(alloc, value).ok()?))
+}
+
+fn zeros(alloc: Global) -> Option<Vec<Val>> {
+    vec![in alloc; Val::U8(0), Val::U8(0)].ok()
+}
+
+fn push_field(
+    alloc: Global,
+    fields: &mut Vec<(String, Val)>,
+    text: &str,
+    value: Val,
+) -> Option<()> {
+    let name = name(alloc, text)?;
+    fields.push((name, value)).ok()
+}
+
+fn push_fields(alloc: Global, fields: &mut Vec<(String, Val)>) -> Option<()> {
+    push_field(alloc, fields, "a b", Val::S16(-1))?;
+    push_field(alloc, fields, "\u{e9}\"", Val::Tuple(zeros(alloc)?))?;
+    push_field(alloc, fields, "c", Val::Record(Vec::new(alloc)))
 }
 
 /// A record of a number, of two zeros and of no fields.
-fn record(alloc: Global) -> Result<Val, Fail> {
+fn record(alloc: Global) -> Option<Val> {
     let mut fields = Vec::new(alloc);
-    fields.push((String::from_str(alloc, "a b")?, Val::S16(-1)))?;
-    fields.push((
-        String::from_str(alloc, "\u{e9}\"")?,
-        Val::Tuple(zeros(alloc)?),
-    ))?;
-    fields.push((String::from_str(alloc, "c")?, Val::Record(Vec::new(alloc))))?;
-    Ok(Val::Record(fields))
+    push_fields(alloc, &mut fields)?;
+    Some(Val::Record(fields))
+}
+
+/// Whether a value prints as this text.
+fn prints(alloc: Global, value: Option<Val>, want: &str) -> Option<bool> {
+    let value = value?;
+    let text = value_text(alloc, &value).ok()?;
+    Some(text.as_str() == want)
 }
 
 #[test]
-fn a_value_prints_its_text(rt: HostRuntime) -> Result<(), Fail> {
-    let printed = value_text(rt.alloc(), &record(rt.alloc())?)?;
-    assert!(rt; printed.as_str() == "{a b:-1,\\u{e9}\\u{22}:(0,0),c:{}}");
-    Ok(())
-}
-
-fn name(alloc: Global, text: &str) -> Result<String, Fail> {
-    Ok(String::from_str(alloc, text)?)
-}
-
-fn payload(alloc: Global, value: Val) -> Result<Option<Box<Val>>, Fail> {
-    Ok(Some(Box::new(alloc, value)?))
+fn a_value_prints_its_text(rt: HostRuntime) {
+    let alloc = rt.alloc();
+    let is_printed = prints(alloc, record(alloc), "{a b:-1,\\u{e9}\\u{22}:(0,0),c:{}}");
+    assert!(rt; is_printed == Some(true));
 }
 
 /// Two keys and their values.
-fn pairs(alloc: Global) -> Result<Val, Fail> {
-    let mut pairs = Vec::new(alloc);
-    pairs.push((Val::U8(1), Val::Bool(false)))?;
-    pairs.push((Val::U8(0), Val::Bool(true)))?;
-    Ok(Val::Map(pairs))
+fn pairs(alloc: Global) -> Option<Val> {
+    let first = (Val::U8(1), Val::Bool(false));
+    let second = (Val::U8(0), Val::Bool(true));
+    Some(Val::Map(vec![in alloc; first, second].ok()?))
 }
 
 /// Flags that are set.
-fn set(alloc: Global) -> Result<Val, Fail> {
-    let mut names = Vec::new(alloc);
-    names.push(name(alloc, "b")?)?;
-    names.push(name(alloc, "a'")?)?;
-    Ok(Val::Flags(names))
+fn set(alloc: Global) -> Option<Val> {
+    let first = name(alloc, "b")?;
+    let second = name(alloc, "a'")?;
+    Some(Val::Flags(vec![in alloc; first, second].ok()?))
+}
+
+fn push_cases(alloc: Global, cases: &mut Vec<Val>) -> Option<()> {
+    cases.push(Val::Variant(name(alloc, "x")?, None)).ok()?;
+    let payload_of_y = payload(alloc, Val::U8(1))?;
+    cases
+        .push(Val::Variant(name(alloc, "y")?, payload_of_y))
+        .ok()?;
+    cases.push(Val::Enum(name(alloc, "\"")?)).ok()
+}
+
+fn push_results(alloc: Global, cases: &mut Vec<Val>) -> Option<()> {
+    cases.push(Val::Option(None)).ok()?;
+    let some = payload(alloc, Val::Option(None))?;
+    cases.push(Val::Option(some)).ok()?;
+    cases.push(Val::Result(Ok(None))).ok()?;
+    let bad = payload(alloc, Val::U8(2))?;
+    cases.push(Val::Result(Err(bad))).ok()
 }
 
 /// Variants, an enum, options and results.
-fn cases(alloc: Global) -> Result<Val, Fail> {
+fn cases(alloc: Global) -> Option<Val> {
     let mut cases = Vec::new(alloc);
-    cases.push(Val::Variant(name(alloc, "x")?, None))?;
-    cases.push(Val::Variant(name(alloc, "y")?, payload(alloc, Val::U8(1))?))?;
-    cases.push(Val::Enum(name(alloc, "\"")?))?;
-    cases.push(Val::Option(None))?;
-    cases.push(Val::Option(payload(alloc, Val::Option(None))?))?;
-    cases.push(Val::Result(Ok(None)))?;
-    cases.push(Val::Result(Err(payload(alloc, Val::U8(2))?)))?;
-    Ok(Val::Tuple(cases))
+    push_cases(alloc, &mut cases)?;
+    push_results(alloc, &mut cases)?;
+    Some(Val::Tuple(cases))
 }
 
 #[test]
-fn cases_maps_and_flags_print_their_texts(rt: HostRuntime) -> Result<(), Fail> {
-    let printed = value_text(rt.alloc(), &cases(rt.alloc())?)?;
-    assert!(rt; printed.as_str() == "(x,y(1),\\u{22},none,some(none),ok,err(2))");
-    let printed = value_text(rt.alloc(), &pairs(rt.alloc())?)?;
-    assert!(rt; printed.as_str() == "map[1=false,0=true]");
-    let printed = value_text(rt.alloc(), &set(rt.alloc())?)?;
-    assert!(rt; printed.as_str() == "<b|a\\u{27}>");
-    Ok(())
+fn cases_maps_and_flags_print_their_texts(rt: HostRuntime) {
+    let alloc = rt.alloc();
+    let are_printed = [
+        prints(
+            alloc,
+            cases(alloc),
+            "(x,y(1),\\u{22},none,some(none),ok,err(2))",
+        ),
+        prints(alloc, pairs(alloc), "map[1=false,0=true]"),
+        prints(alloc, set(alloc), "<b|a\\u{27}>"),
+    ];
+    assert!(rt; are_printed == [Some(true); 3]);
+}
+
+/// Whether an error prints as this text.
+fn error_prints(alloc: Global, error: &Error, want: &str) -> Option<bool> {
+    let text = error_text(alloc, error).ok()?;
+    Some(text.as_str() == want)
 }
 
 #[test]
-fn an_error_prints_its_name_and_what_it_carries(rt: HostRuntime) -> Result<(), Fail> {
+fn an_error_prints_its_name_and_what_it_carries(rt: HostRuntime) {
     // A text or a list of so many bytes or items is in no script.
-    let rows = [
+    for (error, want) in [
         (Error::UnknownImport(3), "UnknownImport 3"),
         (Error::TurnsExhausted, "TurnsExhausted"),
         (
@@ -117,12 +152,12 @@ fn an_error_prints_its_name_and_what_it_carries(rt: HostRuntime) -> Result<(), F
             Error::Fault(Fault::BadDiscriminant(At::Address(2048), 2)),
             "BadDiscriminant @2048 2",
         ),
-    ];
-    for (error, text) in rows {
-        let printed = error_text(rt.alloc(), &error)?;
-        assert!(rt; printed.as_str() == text);
+    ] {
+        assert!(rt;
+            error_prints(rt.alloc(), &error, want) == Some(true),
+            "{want}"
+        );
     }
-    Ok(())
 }
 
 fn realloc(old: u64, old_size: u64, new_size: u64, answer: u64) -> Event {
@@ -135,48 +170,75 @@ fn realloc(old: u64, old_size: u64, new_size: u64, answer: u64) -> Event {
     }
 }
 
-fn words(alloc: Global, word: u64) -> Result<Words, Fail> {
-    Ok(Words::from_slice(alloc, &[ValRaw::u64(word)])?)
+fn words(alloc: Global, word: u64) -> Option<Words> {
+    Words::from_slice(alloc, &[ValRaw::u64(word)]).ok()
 }
 
-/// Requests for blocks, a start, and all that may follow.
-fn events(alloc: Global) -> Result<Events, Fail> {
+fn push_reallocs(events: &mut Events) -> Option<()> {
+    events.push(realloc(0, 0, 17, 0)).ok()?;
+    events.push(realloc(0, 0, 2, 1)).ok()?;
+    events.push(realloc(0, 17, 1, 3)).ok()?;
+    events.push(realloc(1, 2, 0, 1)).ok()?;
+    events.push(realloc(9, 9, 5, 4)).ok()?;
+    events.push(realloc(0, 0, 4, 6)).ok()
+}
+
+fn push_start(alloc: Global, events: &mut Events) -> Option<()> {
     let memory = [0x00u8, 0x01, 0xab, 0xff, 0x10, 0x7f];
-    let mut events = Events::new(alloc);
-    events.push(realloc(0, 0, 17, 0))?;
-    events.push(realloc(0, 0, 2, 1))?;
-    events.push(realloc(0, 17, 1, 3))?;
-    events.push(realloc(1, 2, 0, 1))?;
-    events.push(realloc(9, 9, 5, 4))?;
-    events.push(realloc(0, 0, 4, 6))?;
-    events.push(Event::Start {
+    let words = words(alloc, 1024)?;
+    let memory = Bytes::from_slice(alloc, &memory).ok()?;
+    let start = Event::Start {
         func: 0,
-        words: words(alloc, 1024)?,
-        memory: Bytes::from_slice(alloc, &memory)?,
-    })?;
-    events.push(Event::Ask {
-        index: 2,
-        words: words(alloc, 18446744073709551615)?,
+        words,
+        memory,
+    };
+    events.push(start).ok()
+}
+
+fn push_ask(alloc: Global, events: &mut Events, index: u32, word: u64) -> Option<()> {
+    let ask = Event::Ask {
+        index,
+        words: words(alloc, word)?,
         memory: Bytes::new(alloc),
-    })?;
-    events.push(Event::Resume {
+    };
+    events.push(ask).ok()
+}
+
+fn push_resume(alloc: Global, events: &mut Events) -> Option<()> {
+    let resume = Event::Resume {
         words: Words::new(alloc),
         memory: Bytes::new(alloc),
-    })?;
-    events.push(Event::Return {
+    };
+    events.push(resume).ok()
+}
+
+/// Pushes a return, the call's end, a destructor and a trap.
+fn push_ends(alloc: Global, events: &mut Events) -> Option<()> {
+    let back = Event::Return {
         words: words(alloc, 7)?,
         memory: Bytes::new(alloc),
-    })?;
-    events.push(Event::Post {
+    };
+    events.push(back).ok()?;
+    let post = Event::Post {
         func: 5,
         words: words(alloc, 7)?,
-    })?;
-    events.push(Event::Dtor { func: 4, rep: 12 })?;
-    events.push(Event::Trap {
+    };
+    events.push(post).ok()?;
+    events.push(Event::Dtor { func: 4, rep: 12 }).ok()?;
+    let trap = Event::Trap {
         asked: None,
         len: 6,
-    })?;
-    Ok(events)
+    };
+    events.push(trap).ok()
+}
+
+/// Pushes requests for blocks, a start, and all that may follow.
+fn push_events(alloc: Global, events: &mut Events) -> Option<()> {
+    push_reallocs(events)?;
+    push_start(alloc, events)?;
+    push_ask(alloc, events, 2, 18446744073709551615)?;
+    push_resume(alloc, events)?;
+    push_ends(alloc, events)
 }
 
 const EVENT_LINES: [&str; 13] = [
@@ -195,44 +257,125 @@ const EVENT_LINES: [&str; 13] = [
     "trap\n",
 ];
 
-#[test]
-fn each_event_prints_its_lines(rt: HostRuntime) -> Result<(), Fail> {
-    let events = events(rt.alloc())?;
-    assert!(rt; events.len() == 13);
-    for (k, lines) in EVENT_LINES.iter().enumerate() {
-        if (k as u64) < events.len() {
-            let printed = event_text(rt.alloc(), &events, k as u64)?;
-            assert!(rt; printed.as_str() == *lines);
-        }
+/// Whether the event of a number prints as these lines.
+fn event_prints(alloc: Global, events: &Events, number: u64, want: &str) -> Option<bool> {
+    if number >= events.len() {
+        return None;
     }
-    Ok(())
+    let text = event_text(alloc, events, number).ok()?;
+    Some(text.as_str() == want)
+}
+
+/// The first of the events whose lines are others; as many as there are lines where all are the same.
+fn first_other(alloc: Global, events: &Events) -> u64 {
+    let mut number = 0;
+    for lines in EVENT_LINES {
+        if event_prints(alloc, events, number, lines) != Some(true) {
+            return number;
+        }
+        number = number.saturating_add(1);
+    }
+    number
+}
+
+/// How many events there are, and the first of them whose lines are others.
+fn events_printed(alloc: Global) -> Option<(u64, u64)> {
+    let mut events = Events::new(alloc);
+    push_events(alloc, &mut events)?;
+    Some((events.len(), first_other(alloc, &events)))
 }
 
 #[test]
-fn records_follow_one_another(rt: HostRuntime) -> Result<(), Fail> {
-    let mut transcript = Transcript::new(rt.alloc());
-    transcript.push(Record {
-        head: Head::Call(0),
-        events: Events::new(rt.alloc()),
-        served: Vec::new(rt.alloc()),
-        answer: Answer::Ok(zeros(rt.alloc())?),
-        live: 3,
-    })?;
-    transcript.push(Record {
-        head: Head::Call(1),
-        events: Events::new(rt.alloc()),
-        served: Vec::new(rt.alloc()),
-        answer: Answer::Err(Error::Fault(Fault::InvalidChar(At::Word(0)))),
-        live: 0,
-    })?;
-    let printed = transcript_text(rt.alloc(), &transcript)?;
-    assert!(rt;
-        printed.as_str() == "call 0\nok 0 0\nlive 3\ncall 1\nerror InvalidChar w0\nlive 0\n"
-    );
-    let last = transcript.records().last().expect(&rt, "two records");
-    assert!(rt; head_text(rt.alloc(), last)?.as_str() == "call 1\n");
-    assert!(rt; answer_text(rt.alloc(), last, 0)?.as_str() == "error InvalidChar w0\n");
-    Ok(())
+fn each_event_prints_its_lines(rt: HostRuntime) {
+    assert!(rt; events_printed(rt.alloc()) == Some((13, 13)));
+}
+
+/// Adds a record without events, after which so many handles live.
+fn push_record(
+    alloc: Global,
+    transcript: &mut Transcript,
+    head: Head,
+    answer: Answer,
+    live: u64,
+) -> Option<()> {
+    let record = Record {
+        head,
+        events: Events::new(alloc),
+        served: Vec::new(alloc),
+        answer,
+        live,
+    };
+    transcript.push(record).ok()
+}
+
+/// These lines, one after the other.
+fn joined(alloc: Global, lines: &[&str]) -> Option<String> {
+    let mut text = String::new(alloc);
+    for line in lines {
+        text.push_str(line).ok()?;
+    }
+    Some(text)
+}
+
+/// Whether a transcript prints as these lines.
+fn transcript_prints(alloc: Global, transcript: &Transcript, lines: &[&str]) -> Option<bool> {
+    let text = transcript_text(alloc, transcript).ok()?;
+    let want = joined(alloc, lines)?;
+    Some(text.as_str() == want.as_str())
+}
+
+/// What one function tells of a transcript that another fills.
+fn with_transcript<
+    R,
+    F: FnOnce(Global, &mut Transcript) -> Option<()>,
+    L: FnOnce(Global, &Transcript) -> Option<R>,
+>(alloc: Global, fill: F, tell: L) -> Option<R>
+    requires fill { F.IsAlwaysCallable fill }
+    requires tell { L.IsAlwaysCallable tell }
+{
+    let mut transcript = Transcript::new(alloc);
+    fill(alloc, &mut transcript)?;
+    tell(alloc, &transcript)
+}
+
+fn push_two_calls(alloc: Global, transcript: &mut Transcript) -> Option<()> {
+    let answer = Answer::Ok(zeros(alloc)?);
+    push_record(alloc, transcript, Head::Call(0), answer, 3)?;
+    let answer = Answer::Err(Error::Fault(Fault::InvalidChar(At::Word(0))));
+    push_record(alloc, transcript, Head::Call(1), answer, 0)
+}
+
+const TWO_CALLS: [&str; 2] = [
+    "call 0\nok 0 0\nlive 3\n",
+    "call 1\nerror InvalidChar w0\nlive 0\n",
+];
+
+/// Whether the head of a record prints as this line.
+fn head_prints(alloc: Global, record: &Record, want: &str) -> Option<bool> {
+    let text = head_text(alloc, record).ok()?;
+    Some(text.as_str() == want)
+}
+
+/// Whether the answer of a record does, whose first resource has this number.
+fn answer_prints(alloc: Global, record: &Record, first: u64, want: &str) -> Option<bool> {
+    let text = answer_text(alloc, record, first).ok()?;
+    Some(text.as_str() == want)
+}
+
+/// Whether the two calls print as they should, the head of the last, and its answer.
+fn tell_two_calls(alloc: Global, transcript: &Transcript) -> Option<[bool; 3]> {
+    let last = transcript.records().last()?;
+    Some([
+        transcript_prints(alloc, transcript, &TWO_CALLS)?,
+        head_prints(alloc, last, "call 1\n")?,
+        answer_prints(alloc, last, 0, "error InvalidChar w0\n")?,
+    ])
+}
+
+#[test]
+fn records_follow_one_another(rt: HostRuntime) {
+    let told = with_transcript(rt.alloc(), push_two_calls, tell_two_calls);
+    assert!(rt; told == Some([true; 3]));
 }
 
 /// An own handle of the host.
@@ -241,65 +384,43 @@ fn resource() -> Val {
     Val::Resource(ResourceAny::new(index, ResourceType::host_dynamic(5), true))
 }
 
-/// A record without events, after which three handles live.
-fn record_of(alloc: Global, head: Head, answer: Answer) -> Record {
-    Record {
-        head,
-        events: Events::new(alloc),
-        served: Vec::new(alloc),
-        answer,
-        live: 3,
-    }
-}
-
-/// These lines, one after the other.
-fn joined(alloc: Global, lines: &[&str]) -> Result<String, Fail> {
-    let mut text = String::new(alloc);
-    for line in lines {
-        text.push_str(line)?;
-    }
-    Ok(text)
-}
-
-fn ask(alloc: Global, index: u32) -> Result<Event, Fail> {
-    Ok(Event::Ask {
-        index,
-        words: words(alloc, 5)?,
-        memory: Bytes::new(alloc),
-    })
-}
-
-fn resume(alloc: Global) -> Event {
-    Event::Resume {
-        words: Words::new(alloc),
-        memory: Bytes::new(alloc),
-    }
+fn push_asks(alloc: Global, events: &mut Events) -> Option<()> {
+    push_ask(alloc, events, 3, 5)?;
+    events.push(realloc(0, 0, 2, 8)).ok()?;
+    push_resume(alloc, events)?;
+    push_ask(alloc, events, 0, 5)?;
+    push_resume(alloc, events)?;
+    push_ask(alloc, events, 3, 5)?;
+    push_resume(alloc, events)?;
+    push_ask(alloc, events, 3, 5)
 }
 
 /// An ask for a function of the host, one for a call on handles, one more for the function, and one that isn't resumed.
-fn asks(alloc: Global) -> Result<Events, Fail> {
+fn asks(alloc: Global) -> Option<Events> {
     let mut events = Events::new(alloc);
-    events.push(ask(alloc, 3)?)?;
-    events.push(realloc(0, 0, 2, 8))?;
-    events.push(resume(alloc))?;
-    events.push(ask(alloc, 0)?)?;
-    events.push(resume(alloc))?;
-    events.push(ask(alloc, 3)?)?;
-    events.push(resume(alloc))?;
-    events.push(ask(alloc, 3)?)?;
-    Ok(events)
+    push_asks(alloc, &mut events)?;
+    Some(events)
+}
+
+/// One value.
+fn one(alloc: Global, value: Val) -> Option<Vec<Val>> {
+    vec![in alloc; value].ok()
+}
+
+/// Adds the two times that the function of the host was served: what it was given, and what it gave.
+fn push_served(alloc: Global, served: &mut Vec<Served>) -> Option<()> {
+    let gave = one(alloc, resource())?;
+    let given = one(alloc, nested(alloc)?)?;
+    served.push((3, given, gave)).ok()?;
+    let gave = zeros(alloc)?;
+    served.push((3, Vec::new(alloc), gave)).ok()
 }
 
 /// What the function of the host was given and gave.
-fn served(alloc: Global) -> Result<Vec<Served>, Fail> {
-    let mut given = Vec::new(alloc);
-    given.push(nested(alloc)?)?;
-    let mut gave = Vec::new(alloc);
-    gave.push(resource())?;
+fn served(alloc: Global) -> Option<Vec<Served>> {
     let mut served = Vec::new(alloc);
-    served.push((3, given, gave))?;
-    served.push((3, Vec::new(alloc), zeros(alloc)?))?;
-    Ok(served)
+    push_served(alloc, &mut served)?;
+    Some(served)
 }
 
 const SERVED_LINES: [&str; 12] = [
@@ -317,61 +438,60 @@ const SERVED_LINES: [&str; 12] = [
     "error HostRefused 3\nlive 0\n",
 ];
 
-#[test]
-fn served_asks_stand_before_their_resumes(rt: HostRuntime) -> Result<(), Fail> {
-    let mut transcript = Transcript::new(rt.alloc());
-    transcript.push(Record {
+fn push_served_call(alloc: Global, transcript: &mut Transcript) -> Option<()> {
+    let events = asks(alloc)?;
+    let served = served(alloc)?;
+    let record = Record {
         head: Head::Call(0),
-        events: asks(rt.alloc())?,
-        served: served(rt.alloc())?,
+        events,
+        served,
         answer: Answer::Err(Error::HostRefused(3)),
         live: 0,
-    })?;
-    let printed = transcript_text(rt.alloc(), &transcript)?;
-    let expected = joined(rt.alloc(), &SERVED_LINES)?;
-    assert!(rt; printed.as_str() == expected.as_str());
-    Ok(())
+    };
+    transcript.push(record).ok()
+}
+
+fn tell_served(alloc: Global, transcript: &Transcript) -> Option<bool> {
+    transcript_prints(alloc, transcript, &SERVED_LINES)
+}
+
+#[test]
+fn served_asks_stand_before_their_resumes(rt: HostRuntime) {
+    assert!(rt; with_transcript(rt.alloc(), push_served_call, tell_served) == Some(true));
 }
 
 /// A new resource, as an answer.
-fn made(alloc: Global) -> Result<Answer, Fail> {
-    let mut values = Vec::new(alloc);
-    values.push(resource())?;
-    Ok(Answer::Ok(values))
+fn made(alloc: Global) -> Option<Answer> {
+    Some(Answer::Ok(one(alloc, resource())?))
 }
 
 /// A tuple of a resource, a map from a resource to a resource, and a number.
-fn nested(alloc: Global) -> Result<Val, Fail> {
-    let mut pairs = Vec::new(alloc);
-    pairs.push((resource(), resource()))?;
-    let mut parts = Vec::new(alloc);
-    parts.push(resource())?;
-    parts.push(Val::Map(pairs))?;
-    parts.push(Val::U8(7))?;
-    Ok(Val::Tuple(parts))
+fn nested(alloc: Global) -> Option<Val> {
+    let pair = (resource(), resource());
+    let pairs = vec![in alloc; pair].ok()?;
+    let parts = vec![in alloc; resource(), Val::Map(pairs), Val::U8(7)];
+    Some(Val::Tuple(parts.ok()?))
 }
 
 /// The nested resources, and a list of one more.
-fn results(alloc: Global) -> Result<Answer, Fail> {
-    let mut items = Vec::new(alloc);
-    items.push(resource())?;
-    let mut values = Vec::new(alloc);
-    values.push(nested(alloc)?)?;
-    values.push(Val::List(items))?;
-    Ok(Answer::Ok(values))
+fn results(alloc: Global) -> Option<Answer> {
+    let items = one(alloc, resource())?;
+    let nested = nested(alloc)?;
+    let values = vec![in alloc; nested, Val::List(items)];
+    Some(Answer::Ok(values.ok()?))
 }
 
-/// Two new resources, with a call between them, and items that give none.
-fn with_resources(alloc: Global) -> Result<Transcript, Fail> {
-    let mut transcript = Transcript::new(alloc);
-    transcript.push(record_of(alloc, Head::New, made(alloc)?))?;
-    transcript.push(record_of(alloc, Head::Drop(0), Answer::Ok(Vec::new(alloc))))?;
-    transcript.push(record_of(alloc, Head::Call(2), results(alloc)?))?;
-    transcript.push(record_of(alloc, Head::Drop(9), Answer::Err(Error::WrongCount)))?;
-    transcript.push(record_of(alloc, Head::Call(2), Answer::Skipped))?;
-    transcript.push(record_of(alloc, Head::Typed(3), Answer::Typecheck))?;
-    transcript.push(record_of(alloc, Head::New, made(alloc)?))?;
-    Ok(transcript)
+/// Adds two new resources, with a call between them, and items that give none.
+fn push_resources(alloc: Global, transcript: &mut Transcript) -> Option<()> {
+    push_record(alloc, transcript, Head::New, made(alloc)?, 3)?;
+    let empty = Answer::Ok(Vec::new(alloc));
+    push_record(alloc, transcript, Head::Drop(0), empty, 3)?;
+    push_record(alloc, transcript, Head::Call(2), results(alloc)?, 3)?;
+    let wrong = Answer::Err(Error::WrongCount);
+    push_record(alloc, transcript, Head::Drop(9), wrong, 3)?;
+    push_record(alloc, transcript, Head::Call(2), Answer::Skipped, 3)?;
+    push_record(alloc, transcript, Head::Typed(3), Answer::Typecheck, 3)?;
+    push_record(alloc, transcript, Head::New, made(alloc)?, 3)
 }
 
 const NUMBERED_LINES: [&str; 7] = [
@@ -384,27 +504,36 @@ const NUMBERED_LINES: [&str; 7] = [
     "new\nok #5\nlive 3\n",
 ];
 
-#[test]
-fn resources_are_numbered_through_a_transcript(rt: HostRuntime) -> Result<(), Fail> {
-    let transcript = with_resources(rt.alloc())?;
-    let printed = transcript_text(rt.alloc(), &transcript)?;
-    let expected = joined(rt.alloc(), &NUMBERED_LINES)?;
-    assert!(rt; printed.as_str() == expected.as_str());
-    Ok(())
+fn tell_resources(alloc: Global, transcript: &Transcript) -> Option<bool> {
+    transcript_prints(alloc, transcript, &NUMBERED_LINES)
 }
 
 #[test]
-fn an_answer_alone_is_numbered_from_a_number(rt: HostRuntime) -> Result<(), Fail> {
-    let call = record_of(rt.alloc(), Head::Call(2), results(rt.alloc())?);
-    let printed = answer_text(rt.alloc(), &call, 10)?;
-    assert!(rt; printed.as_str() == "ok (#10,map[#11=#12],7) [#13]\n");
+fn resources_are_numbered_through_a_transcript(rt: HostRuntime) {
+    assert!(rt; with_transcript(rt.alloc(), push_resources, tell_resources) == Some(true));
+}
+
+fn push_results_alone(alloc: Global, transcript: &mut Transcript) -> Option<()> {
+    push_record(alloc, transcript, Head::Call(2), results(alloc)?, 3)
+}
+
+/// Whether an answer is numbered from 10, and from the last number but one.
+fn tell_numbers(alloc: Global, transcript: &Transcript) -> Option<[bool; 2]> {
+    let call = transcript.records().last()?;
+    let from_10 = "ok (#10,map[#11=#12],7) [#13]\n";
     // A count stands still at the end of a u64.
-    let printed = answer_text(rt.alloc(), &call, u64::MAX - 1)?;
-    assert!(rt;
-        printed.as_str()
-            == "ok (#18446744073709551614,map[#18446744073709551615=#18446744073709551615],7) [#18446744073709551615]\n"
-    );
-    let printed = value_text(rt.alloc(), &nested(rt.alloc())?)?;
-    assert!(rt; printed.as_str() == "(#,map[#=#],7)");
-    Ok(())
+    let last =
+        "ok (#18446744073709551614,map[#18446744073709551615=#18446744073709551615],7) [#18446744073709551615]\n";
+    Some([
+        answer_prints(alloc, call, 10, from_10)?,
+        answer_prints(alloc, call, u64::MAX - 1, last)?,
+    ])
+}
+
+#[test]
+fn an_answer_alone_is_numbered_from_a_number(rt: HostRuntime) {
+    let alloc = rt.alloc();
+    let told = with_transcript(alloc, push_results_alone, tell_numbers);
+    assert!(rt; told == Some([true; 2]));
+    assert!(rt; prints(alloc, nested(alloc), "(#,map[#=#],7)") == Some(true));
 }
