@@ -5,9 +5,9 @@ ghost use Rattle.canon_example.specs.Component.{IsNotes};
 
 use crate::{Failure, notes};
 use canon_types::{
-    CanonicalOptions, ComponentTypes, HostType, InstanceType, InterfaceType, OptionsIndex,
-    RecordField, ResourceKind, RuntimeInstance, StoreId, StringEncoding, TypeBuilder,
-    TypeFuncIndex, TypeResourceTable, TypeResourceTableIndex,
+    CanonicalOptions, HostType, InstanceType, InterfaceType, OptionsIndex, RecordField,
+    ResourceKind, RuntimeInstance, StoreId, StringEncoding, TypeBuilder, TypeFuncIndex,
+    TypeResourceTable, TypeResourceTableIndex,
 };
 use canon_value::{Component, Export, Import};
 use std::alloc::Global;
@@ -31,23 +31,28 @@ impl HostType for Notebook {
     const ID: u32 = 1;
 }
 
-/// The types of the component: all of them, and those that its functions name.
-struct Types {
-    table: ComponentTypes,
+/// The types that the component's functions name.
+#[derive(Clone, Copy)]
+struct Named {
     notebook: TypeResourceTableIndex,
     clock: TypeFuncIndex,
     add: TypeFuncIndex,
     count: TypeFuncIndex,
 }
 
-/// Builds the table of types.
-fn build_types(alloc: Global) -> Result<Types, Failure> {
-    let mut builder = TypeBuilder::new(alloc);
-    let note = builder.add_record(vec![in alloc;
+/// Adds the type of a note.
+fn note_type(alloc: Global, builder: &mut TypeBuilder) -> Result<InterfaceType, Failure> {
+    let note = vec![in alloc;
         field(alloc, "title", InterfaceType::String)?,
         field(alloc, "words", InterfaceType::U32)?,
         field(alloc, "time", InterfaceType::U32)?,
-    ]?)?;
+    ]?;
+    Ok(builder.add_record(note)?)
+}
+
+/// Adds the types to the table.
+fn add_types(alloc: Global, builder: &mut TypeBuilder) -> Result<Named, Failure> {
+    let note = note_type(alloc, builder)?;
     let notebook = builder.add_resource_table(TypeResourceTable {
         instance: RuntimeInstance::from_u32(0),
         kind: ResourceKind::Host(Notebook::ID),
@@ -59,8 +64,7 @@ fn build_types(alloc: Global) -> Result<Types, Failure> {
     let book = vec![in alloc; InterfaceType::Borrow(notebook)]?;
     let count = builder.add_func(book, number.to_vec(alloc)?, false)?;
     let clock = builder.add_func(Vec::new(alloc), number.to_vec(alloc)?, false)?;
-    Ok(Types {
-        table: builder.finish(),
+    Ok(Named {
         notebook,
         clock,
         add,
@@ -88,32 +92,33 @@ pub fn component_of(alloc: Global, id: StoreId) -> Result<Component, Failure>
     ensures parts { IfOk result (IsNotes id) }
     ensures options { IfOk result (λ component. component.options.items ≡ record { instance = 0; string_encoding = StringEncoding.Utf8; async_ = false; post_return = None } ∷ []) }
 {
-    let Types {
-        table,
-        notebook,
-        clock,
-        add,
-        count,
-    } = build_types(alloc)?;
     let plain = CanonicalOptions {
         instance: RuntimeInstance::from_u32(0),
         string_encoding: StringEncoding::Utf8,
         async_: false,
         post_return: None,
     };
+    let plain = vec![in alloc; plain]?;
+    let mut builder = TypeBuilder::new(alloc);
+    let named = add_types(alloc, &mut builder)?;
     let options = OptionsIndex::from_u32(0);
     let export = |ty, func| Export { ty, func, options };
+    let exports = vec![in alloc;
+        export(named.add, notes::ADD),
+        export(named.count, notes::COUNT),
+        export(named.add, notes::BROKEN),
+    ]?;
     // What the guest's code may ask for: a function of the host, and the end of a handle.
-    let clock = Import::Host { ty: clock, options };
-    let drop = Import::ResourceDrop(notebook);
+    let clock = Import::Host {
+        ty: named.clock,
+        options,
+    };
+    let drop = Import::ResourceDrop(named.notebook);
+    let imports = vec![in alloc; clock, drop]?;
     Ok(Component {
-        types: InstanceType::new(table, id),
-        options: vec![in alloc; plain]?,
-        exports: vec![in alloc;
-            export(add, notes::ADD),
-            export(count, notes::COUNT),
-            export(add, notes::BROKEN),
-        ]?,
-        imports: vec![in alloc; clock, drop]?,
+        types: InstanceType::new(builder.finish(), id),
+        options: plain,
+        exports,
+        imports,
     })
 }

@@ -47,6 +47,14 @@ struct Clock {
 
 fn main(rt: HostRuntime) -> Result<(), Failure> {
     let alloc = rt.alloc();
+    keep_notes(&rt, alloc)?;
+    // Each store of a program has a number of its own.
+    let mut store = store_of(alloc, StoreId::from_u64(2), NoImports::new())?;
+    make_a_mistake(&rt, alloc, &mut store)
+}
+
+/// Has a guest keep notes, which asks for the time.
+fn keep_notes(rt: &impl Print, alloc: Global) -> Result<(), Failure> {
     // A function of the host is a closure. It reaches the data of the store and the tables of the host's resources, and leaves both in their
     // places.
     let clock = HostFunc::func_new(
@@ -71,11 +79,8 @@ fn main(rt: HostRuntime) -> Result<(), Failure> {
         func: clock,
         refusals: 0,
     };
-    let store = store_of(alloc, StoreId::from_u64(1), imports)?;
-    take_notes(&rt, alloc, store)?;
-    // Each store of a program has a number of its own.
-    let store = store_of(alloc, StoreId::from_u64(2), NoImports::new())?;
-    make_a_mistake(&rt, alloc, store)
+    let mut store = store_of(alloc, StoreId::from_u64(1), imports)?;
+    take_notes(rt, alloc, &mut store)
 }
 
 /// A store: the component, its guest with its memory and its journal, the data of the host, and what serves the imports.
@@ -93,30 +98,30 @@ fn store_of<I: Imports<Clock, Journaled<Notes>> + Drop>(
     ensures journal { IfOk result (λ store. store.core.guest.events ≡ []) }
     ensures memory { IfOk result (λ store. store.core.memory ≡ replicate 4_096 0) }
 {
+    let memory = Memory::new(alloc, MEMORY)?;
     let component = component_of(alloc, id)?;
     if !component.check() {
         return Err(Failure::BadComponent);
     }
     let (clock, guest) = (Clock { now: 0 }, Journaled::new(alloc, Notes::new(alloc)));
-    let memory = Memory::new(alloc, MEMORY)?;
     let core = Core::new(alloc, id, clock, guest, memory, component, HANDLES, FUEL)?;
     Ok(Store::new(core, imports, TURNS))
 }
 
 /// Calls what the component exports. The last call is refused, since a guest that lied is called no more.
-fn take_notes<I: Imports<Clock, Journaled<Notes>> + Drop>(
+fn take_notes<I: Imports<Clock, Journaled<Notes>>>(
     rt: &impl Print,
     alloc: Global,
-    mut store: Store<Clock, Journaled<Notes>, I>,
+    store: &mut Store<Clock, Journaled<Notes>, I>,
 ) -> Result<(), Failure>
-    requires { I.ready store.imports }
+    requires { I.ready store.old.imports }
 {
-    add_note(rt, alloc, &mut store, ADD, "Shopping\nmilk, bread and tea")?;
-    add_note(rt, alloc, &mut store, ADD, "Call Anna")?;
-    lend_notebook(rt, alloc, &mut store)?;
+    add_note(rt, alloc, store, ADD, "Shopping\nmilk, bread and tea")?;
+    add_note(rt, alloc, store, ADD, "Call Anna")?;
+    lend_notebook(rt, alloc, store)?;
     // The guest answers with a pointer past the end of its memory.
-    add_note(rt, alloc, &mut store, BROKEN, "Call Anna")?;
-    add_note(rt, alloc, &mut store, ADD, "Call Anna")
+    add_note(rt, alloc, store, BROKEN, "Call Anna")?;
+    add_note(rt, alloc, store, ADD, "Call Anna")
 }
 
 /// Calls an export with a text.
@@ -152,14 +157,14 @@ fn lend_notebook<I: Imports<Clock, Journaled<Notes>>>(
 }
 
 /// Calls the function that takes a text with a number. The guest isn't started, but the call had begun, so the store is trapped.
-fn make_a_mistake<I: Imports<Clock, Journaled<Notes>> + Drop>(
+fn make_a_mistake<I: Imports<Clock, Journaled<Notes>>>(
     rt: &impl Print,
     alloc: Global,
-    mut store: Store<Clock, Journaled<Notes>, I>,
+    store: &mut Store<Clock, Journaled<Notes>, I>,
 ) -> Result<(), Failure>
-    requires { I.ready store.imports }
+    requires { I.ready store.old.imports }
 {
-    call(rt, alloc, &mut store, ADD, &[Val::U32(5)])?;
+    call(rt, alloc, store, ADD, &[Val::U32(5)])?;
     println!(rt; "trapped: {}", store.is_trapped())?;
     Ok(())
 }
@@ -182,8 +187,17 @@ fn call<I: Imports<Clock, Journaled<Notes>>>(
     let answer = func.call(alloc, store, params, &mut results);
     // What the guest was asked and did in this call, of which the contract of `call` speaks. Here it is let go.
     let _events = store.core_mut().guest_mut().take_journal();
+    print_outcome(rt, answer, &results)
+}
+
+/// Prints what a call answers, or why there is no answer.
+fn print_outcome(
+    rt: &impl Print,
+    answer: Result<(), Error>,
+    results: &[Val],
+) -> Result<(), Failure> {
     match answer {
-        Ok(()) => print_answer(rt, &results)?,
+        Ok(()) => print_answer(rt, results)?,
         Err(Error::Fault(Fault::TypeMismatch(place))) => {
             println!(rt; "refused: the value at place {place} is not of its type")?;
         }
