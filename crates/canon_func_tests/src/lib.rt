@@ -1,4 +1,5 @@
-//! Tests of what scripts don't show of a store: calls of other Rust types, some drops, what its accessors tell, and how its errors print.
+//! Tests of what scripts don't show of a store: calls and asks of other Rust types, some drops, what its accessors tell, and how its errors
+//! print.
 #![tactic(auto)]
 
 #[cfg(test)]

@@ -1,11 +1,11 @@
 //! Drops of resources that no script shows: a script makes no borrow of a guest's resource, and drops nothing once the store is trapped.
 
-use super::{CallStore, store_of};
+use super::{CallStore, with_store};
 use canon_func::{Error, resource_drop};
 use canon_resources::{ResourceAny, ResourceType};
 use canon_types::{RuntimeInstance, StoreId};
 use canon_value::Fault;
-use std::test::Fail;
+use std::alloc::Global;
 
 /// A resource of representation 7 that the guest gave to the host, with the destructor 5.
 fn given(store: &mut CallStore) -> Option<ResourceAny> {
@@ -27,7 +27,7 @@ struct Dropped {
 }
 
 /// Drops a borrow that the host made itself, and then two own handles.
-fn drop_each(store: &mut CallStore) -> Option<Dropped> {
+fn drop_each(_alloc: Global, store: &mut CallStore) -> Option<Dropped> {
     let first = given(store)?;
     let second = given(store)?;
     let borrow = ResourceAny::new_borrow(7, first.ty());
@@ -39,15 +39,16 @@ fn drop_each(store: &mut CallStore) -> Option<Dropped> {
 }
 
 #[test]
-fn a_destructor_that_traps_shuts_the_store(rt: HostRuntime) -> Result<(), Fail> {
-    let dropped = drop_each(&mut store_of(rt.alloc(), &[])?);
-    let Some(dropped) = dropped else {
-        return Err(Fail::from("no resource"));
-    };
-    // A borrow runs no destructor: that would trap.
-    assert!(rt; dropped.borrow == (Ok(()), 2));
+fn a_destructor_that_traps_shuts_the_store(rt: HostRuntime) {
     let trap = Error::Fault(Fault::GuestTrap);
-    assert!(rt; dropped.first == (Err(trap), 1));
-    assert!(rt; dropped.second == (Err(Error::CannotEnterComponent), 1));
-    Ok(())
+    let is_shut = match with_store(rt.alloc(), 1, &[], drop_each) {
+        Some(dropped) => [
+            // A borrow runs no destructor: that would trap.
+            dropped.borrow == (Ok(()), 2),
+            dropped.first == (Err(trap), 1),
+            dropped.second == (Err(Error::CannotEnterComponent), 1),
+        ],
+        None => [false; 3],
+    };
+    assert!(rt; is_shut == [true; 3]);
 }
