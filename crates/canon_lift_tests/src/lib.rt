@@ -2,6 +2,12 @@
 #![tactic(auto)]
 
 #[cfg(test)]
+mod cores;
+#[cfg(test)]
+mod integers;
+#[cfg(test)]
+mod lists;
+#[cfg(test)]
 mod tests;
 #[cfg(test)]
-mod views;
+mod texts;

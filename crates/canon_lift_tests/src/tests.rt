@@ -1,392 +1,288 @@
-//! Each Rust type lifted once, from memory and from words, at its cost. Values by CanonicalABI.md's "load" and "lift_flat",
-//! costs by the table of docs/TYPED.md.
+//! Each Rust type lifted, from memory and from words, at its cost. Values by CanonicalABI.md's "load" and "lift_flat", costs by the
+//! table of docs/TYPED.md.
 
-ghost use Rattle.std.specs.Prelude.{◌≡◌, IfOk, length};
-
+use crate::cores::{loaded, over_bytes};
 use canon_context::{At, Fault, LiftContext};
 use canon_lift::{Lift, WasmList, WasmStr};
 use canon_memory::ValRaw;
 use canon_test_core::{
-    TestCore, Typed, core_of, has_room, has_words, list_of, memory_of, option_of, plain, result_of,
-    tuple_of,
+    TestCore, Typed, fixed_of, has_words, list_of, map_of, option_of, plain, result_of, tuple_of,
 };
 use canon_typed::{FixedList, Float32Bits, Float64Bits};
-use canon_types::{ComponentTypes, InterfaceType, OptionsIndex, StringEncoding, TypeBuilder};
+use canon_types::InterfaceType::{
+    Bool, Char, Float32, Float64, S8, S16, S32, S64, U8, U16, U32, U64,
+};
+use canon_types::{InterfaceType, OptionsIndex, TypeError};
 use std::alloc::Global;
 use std::collections::HashMap;
-use std::test::Fail;
 
-/// A core of these types, whose memory begins with these bytes.
-pub(crate) fn core_with(
-    alloc: Global,
-    types: ComponentTypes,
-    bytes: &[u8],
-) -> Result<TestCore, Fail>
-    ensures options { IfOk result (λ c. length c.component.options.items ≡ 1) }
-{
-    let memory = memory_of(alloc, bytes)?;
-    Ok(core_of(alloc, StringEncoding::Utf8, types, memory)?)
-}
-
-/// What the bytes of memory are lifted to, and what it cost. None where the type isn't the Rust type's.
-fn loaded<T: Lift>(
-    alloc: Global,
-    typed: Typed,
-    bytes: &[u8],
-) -> Result<(Result<T, Fault>, u64), Fail> {
-    let (types, ty) = typed;
-    let mut core = core_with(alloc, types, bytes)?;
-    if !has_room::<T>(&core, &ty, 0, 1) {
-        return Err(Fail::from("another type"));
-    }
-    let mut cx = LiftContext::new(&mut core, OptionsIndex::from_u32(0));
-    let value = T::linear_lift_from_memory(alloc, &mut cx, ty, 0);
-    let left = cx.fuel();
-    Ok((value, 1_000u64.saturating_sub(left)))
-}
-
-/// What the words are lifted to, over the same memory, and what it cost.
+/// What these words are lifted to, and what that cost. None where they aren't of this type.
 fn lifted<T: Lift>(
     alloc: Global,
-    typed: Typed,
+    core: &mut TestCore,
+    ty: &InterfaceType,
     words: &[ValRaw],
-    bytes: &[u8],
-) -> Result<(Result<T, Fault>, u64), Fail> {
-    let (types, ty) = typed;
-    let mut core = core_with(alloc, types, bytes)?;
-    if !has_words::<T>(&core, &ty, words) {
-        return Err(Fail::from("another type"));
+) -> Option<(Result<T, Fault>, u64)> {
+    if !has_words::<T>(core, ty, words) {
+        return None;
     }
-    let mut cx = LiftContext::new(&mut core, OptionsIndex::from_u32(0));
-    let value = T::linear_lift_from_flat(alloc, &mut cx, ty, words, 0);
+    let mut cx = LiftContext::new(core, OptionsIndex::from_u32(0));
+    let value = T::linear_lift_from_flat(alloc, &mut cx, *ty, words, 0);
     let left = cx.fuel();
-    Ok((value, 1_000u64.saturating_sub(left)))
+    Some((value, 1_000u64.saturating_sub(left)))
 }
 
-/// Whether these bytes are this value, at this cost.
-fn loads<T: Lift + PartialEq>(
-    alloc: Global,
-    typed: Typed,
-    bytes: &[u8],
-    expected: &T,
+/// Whether this is what was lifted, at this cost.
+fn is_lifted<T: Lift + PartialEq>(
+    found: &Option<(Result<T, Fault>, u64)>,
+    value: &T,
     cost: u64,
-) -> Result<bool, Fail> {
-    let (value, spent) = loaded::<T>(alloc, typed, bytes)?;
-    match value {
-        Ok(value) => Ok(value == *expected && spent == cost),
-        Err(_) => Ok(false),
+) -> bool {
+    match found {
+        Some((Ok(lifted), spent)) => *lifted == *value && *spent == cost,
+        _ => false,
     }
 }
 
-/// Whether these words are this value, at this cost.
+/// Whether these bytes of memory are this value, and whether these words over them are it too, each at this cost.
 fn lifts<T: Lift + PartialEq>(
     alloc: Global,
-    typed: Typed,
-    words: &[ValRaw],
+    typed: Result<Typed, TypeError>,
     bytes: &[u8],
-    expected: &T,
+    words: &[ValRaw],
+    value: Option<T>,
     cost: u64,
-) -> Result<bool, Fail> {
-    let (value, spent) = lifted::<T>(alloc, typed, words, bytes)?;
-    match value {
-        Ok(value) => Ok(value == *expected && spent == cost),
-        Err(_) => Ok(false),
-    }
+) -> [bool; 2] {
+    let are_lifted = over_bytes(alloc, typed, bytes, |alloc, core, ty| {
+        let value = value.as_ref()?;
+        let from_memory = loaded::<T>(alloc, core, ty);
+        let from_words = lifted::<T>(alloc, core, ty, words);
+        let by_memory = is_lifted(&from_memory, value, cost);
+        Some([by_memory, is_lifted(&from_words, value, cost)])
+    });
+    are_lifted.unwrap_or([false; 2])
 }
 
-/// Whether lifting these bytes answers this fault.
-fn fails<T: Lift>(alloc: Global, typed: Typed, bytes: &[u8], fault: Fault) -> Result<bool, Fail> {
-    let (value, _) = loaded::<T>(alloc, typed, bytes)?;
-    match value {
-        Ok(_) => Ok(false),
-        Err(error) => Ok(error == fault),
-    }
-}
-
-#[test]
-fn integers_are_loaded(rt: HostRuntime) -> Result<(), Fail> {
-    let alloc = rt.alloc();
-    assert!(rt; loads(alloc, plain(alloc, InterfaceType::U8), &[7], &7u8, 0)?);
-    assert!(rt; loads(alloc, plain(alloc, InterfaceType::S8), &[0xff], &-1i8, 0)?);
-    assert!(rt;
-        loads(
-            alloc,
-            plain(alloc, InterfaceType::U16),
-            &[1, 2],
-            &0x0201u16,
-            0
-        )?
-    );
-    assert!(rt;
-        loads(
-            alloc,
-            plain(alloc, InterfaceType::S32),
-            &[0xfe, 0xff, 0xff, 0xff],
-            &-2i32,
-            0
-        )?
-    );
-    assert!(rt; loads(alloc, plain(alloc, InterfaceType::U64), &[0, 1], &256u64, 0)?);
-    Ok(())
+/// Whether these bytes and this word are a value of a type without parts, for nothing.
+fn is_scalar<T: Lift + PartialEq>(
+    alloc: Global,
+    ty: InterfaceType,
+    bytes: &[u8],
+    word: ValRaw,
+    value: T,
+) -> bool {
+    let typed = Ok(plain(alloc, ty));
+    lifts(alloc, typed, bytes, &[word], Some(value), 0) == [true; 2]
 }
 
 #[test]
-fn scalars_are_lifted_from_words(rt: HostRuntime) -> Result<(), Fail> {
+fn narrow_integers_are_lifted(rt: HostRuntime) {
     let alloc = rt.alloc();
-    assert!(rt;
-        lifts(
-            alloc,
-            plain(alloc, InterfaceType::S16),
-            &[ValRaw::i32(-2)],
-            &[],
-            &-2i16,
-            0
-        )?
-    );
-    assert!(rt;
-        lifts(
-            alloc,
-            plain(alloc, InterfaceType::U32),
-            &[ValRaw::u32(9)],
-            &[],
-            &9u32,
-            0
-        )?
-    );
-    assert!(rt;
-        lifts(
-            alloc,
-            plain(alloc, InterfaceType::S64),
-            &[ValRaw::i64(-4)],
-            &[],
-            &-4i64,
-            0
-        )?
-    );
-    assert!(rt;
-        lifts(
-            alloc,
-            plain(alloc, InterfaceType::Bool),
-            &[ValRaw::u32(2)],
-            &[],
-            &true,
-            0
-        )?
-    );
-    assert!(rt;
-        lifts(
-            alloc,
-            plain(alloc, InterfaceType::Char),
-            &[ValRaw::u32(0xe9)],
-            &[],
-            &'é',
-            0
-        )?
-    );
-    Ok(())
+    assert!(rt; is_scalar(alloc, U8, &[7], ValRaw::u32(7), 7u8));
+    assert!(rt; is_scalar(alloc, S8, &[0xff], ValRaw::i32(-1), -1i8));
+    assert!(rt; is_scalar(alloc, U16, &[1, 2], ValRaw::u32(0x0201), 0x0201u16));
+    assert!(rt; is_scalar(alloc, S16, &[0xfe, 0xff], ValRaw::i32(-2), -2i16));
 }
 
 #[test]
-fn bits_of_floats_stay(rt: HostRuntime) -> Result<(), Fail> {
+fn wide_integers_are_lifted(rt: HostRuntime) {
     let alloc = rt.alloc();
-    let float = plain(alloc, InterfaceType::Float32);
+    let small = [0xfe, 0xff, 0xff, 0xff];
+    let long = [0xfc, 0xff, 0xff, 0xff, 0xff, 0xff, 0xff, 0xff];
+    assert!(rt; is_scalar(alloc, U32, &[9], ValRaw::u32(9), 9u32));
+    assert!(rt; is_scalar(alloc, S32, &small, ValRaw::i32(-2), -2i32));
+    assert!(rt; is_scalar(alloc, U64, &[0, 1], ValRaw::u64(256), 256u64));
+    assert!(rt; is_scalar(alloc, S64, &long, ValRaw::i64(-4), -4i64));
+}
+
+// A bool is true at each number but 0. The bits of a float stay, also where it is no number.
+#[test]
+fn other_scalars_are_lifted(rt: HostRuntime) {
+    let alloc = rt.alloc();
+    let float = [1, 0, 0xc0, 0x7f];
+    let double = [0, 0, 0, 0, 0, 0, 0, 0x40];
+    assert!(rt; is_scalar(alloc, Bool, &[2], ValRaw::u32(2), true));
+    assert!(rt; is_scalar(alloc, Char, &[0xe9], ValRaw::u32(0xe9), 'é'));
     assert!(rt;
-        loads(
+        is_scalar(
             alloc,
-            float,
-            &[1, 0, 0xc0, 0x7f],
-            &Float32Bits(0x7fc0_0001),
-            0
-        )?
+            Float32,
+            &float,
+            ValRaw::u32(0x7fc0_0001),
+            Float32Bits(0x7fc0_0001)
+        )
     );
-    let float = plain(alloc, InterfaceType::Float64);
     assert!(rt;
-        lifts(
+        is_scalar(
             alloc,
-            float,
-            &[ValRaw::u64(1 << 62)],
-            &[],
-            &Float64Bits(1 << 62),
-            0
-        )?
+            Float64,
+            &double,
+            ValRaw::u64(1 << 62),
+            Float64Bits(1 << 62)
+        )
     );
-    Ok(())
 }
 
 #[test]
-fn cases_have_a_payload_behind_their_discriminant(rt: HostRuntime) -> Result<(), Fail> {
+fn cases_have_a_payload_behind_their_discriminant(rt: HostRuntime) {
     let alloc = rt.alloc();
-    let option = option_of(alloc, InterfaceType::U16)?;
-    assert!(rt; loads(alloc, option, &[1, 0xaa, 7, 0], &Some(7u16), 0)?);
-    let option = option_of(alloc, InterfaceType::U16)?;
-    assert!(rt;
-        lifts(
-            alloc,
-            option,
-            &[ValRaw::u32(0), ValRaw::u32(7)],
-            &[],
-            &None::<u16>,
-            0
-        )?
+    let some = lifts(
+        alloc,
+        option_of(alloc, U16),
+        &[1, 0xaa, 7, 0],
+        &[ValRaw::u32(1), ValRaw::u32(7)],
+        Some(Some(7u16)),
+        0,
+    );
+    let none = lifts(
+        alloc,
+        option_of(alloc, U16),
+        &[0, 0xaa, 7, 0],
+        &[ValRaw::u32(0), ValRaw::u32(7)],
+        Some(None::<u16>),
+        0,
     );
     let failed: Result<u32, ()> = Err(());
-    let result = result_of(alloc, Some(InterfaceType::U32), None)?;
-    assert!(rt;
-        lifts(
-            alloc,
-            result,
-            &[ValRaw::u32(1), ValRaw::u32(0)],
-            &[],
-            &failed,
-            0
-        )?
+    let err = lifts(
+        alloc,
+        result_of(alloc, Some(U32), None),
+        &[1],
+        &[ValRaw::u32(1), ValRaw::u32(0)],
+        Some(failed),
+        0,
     );
-    let option = option_of(alloc, InterfaceType::U8)?;
-    assert!(rt;
-        fails::<Option<u8>>(
-            alloc,
-            option,
-            &[2],
-            Fault::BadDiscriminant(At::Address(0), 2)
-        )?
-    );
-    Ok(())
+    assert!(rt; some == [true; 2]);
+    assert!(rt; none == [true; 2]);
+    assert!(rt; err == [true; 2]);
 }
 
+// 0xaa is padding.
 #[test]
-fn members_are_loaded_from_their_places(rt: HostRuntime) -> Result<(), Fail> {
+fn members_and_boxes_are_lifted(rt: HostRuntime) {
     let alloc = rt.alloc();
-    let types = [InterfaceType::U8, InterfaceType::U32];
-    let pair = tuple_of(alloc, &types)?;
-    assert!(rt; loads(alloc, pair, &[1, 0xaa, 0xaa, 0xaa, 2], &(1u8, 2u32), 0)?);
-    let pair = tuple_of(alloc, &types)?;
-    assert!(rt;
-        lifts(
-            alloc,
-            pair,
-            &[ValRaw::u32(1), ValRaw::u32(2)],
-            &[],
-            &(1u8, 2u32),
-            0
-        )?
-    );
-    Ok(())
+    let words = [
+        ValRaw::u32(1),
+        ValRaw::u32(2),
+        ValRaw::u32(3),
+        ValRaw::u32(4),
+        ValRaw::u32(5),
+    ];
+    let bytes = [1, 0xaa, 0xaa, 0xaa, 2, 0, 0, 0, 3, 4, 5];
+    let types = [U8, U32, U8, U8, U8];
+    let two = tuple_of(alloc, &types[..2]);
+    let two = lifts(alloc, two, &bytes, &words[..2], Some((1u8, 2u32)), 0);
+    let four = tuple_of(alloc, &types[..4]);
+    let value = Some((1u8, 2u32, 3u8, 4u8));
+    let four = lifts(alloc, four, &bytes, &words[..4], value, 0);
+    let five = tuple_of(alloc, &types);
+    let value = Some((1u8, 2u32, 3u8, 4u8, 5u8));
+    let five = lifts(alloc, five, &bytes, &words, value, 0);
+    assert!(rt; two == [true; 2]);
+    assert!(rt; four == [true; 2]);
+    assert!(rt; five == [true; 2]);
+    let number = Ok(plain(alloc, U16));
+    let value = Box::new(alloc, 513u16).ok();
+    let boxed = lifts(alloc, number, &[1, 2], &[ValRaw::u32(513)], value, 0);
+    assert!(rt; boxed == [true; 2]);
 }
 
-// A text of two bytes costs 2.
+/// A map from 1 to 20.
+fn one_to_twenty(alloc: Global) -> Option<HashMap<u8, u8>> {
+    let mut map = HashMap::new(alloc);
+    map.insert(1, 20).ok()?;
+    Some(map)
+}
+
+// A text of two bytes costs 2, a list of two numbers of 4 bytes 8, a map of two pairs of 2 bytes 4. Of a repeated key the last value stays.
 #[test]
-fn texts_are_loaded(rt: HostRuntime) -> Result<(), Fail> {
+fn texts_lists_and_maps_are_lifted(rt: HostRuntime) {
     let alloc = rt.alloc();
-    let text = String::from_str(alloc, "é")?;
-    let bytes = [8, 0, 0, 0, 2, 0, 0, 0, 0xc3, 0xa9];
-    assert!(rt; loads(alloc, plain(alloc, InterfaceType::String), &bytes, &text, 2)?);
     let words = [ValRaw::u32(8), ValRaw::u32(2)];
-    assert!(rt;
-        lifts(
-            alloc,
-            plain(alloc, InterfaceType::String),
-            &words,
-            &bytes,
-            &text,
-            2
-        )?
+    let text = lifts(
+        alloc,
+        Ok(plain(alloc, InterfaceType::String)),
+        &[8, 0, 0, 0, 2, 0, 0, 0, 0xc3, 0xa9],
+        &words,
+        String::from_str(alloc, "é").ok(),
+        2,
     );
-    let bad = Fault::InvalidUtf8(At::Address(0));
-    assert!(rt;
-        fails::<String>(
-            alloc,
-            plain(alloc, InterfaceType::String),
-            &[8, 0, 0, 0, 1, 0, 0, 0, 0xc3],
-            bad
-        )?
+    let list = lifts(
+        alloc,
+        list_of(alloc, U32),
+        &[8, 0, 0, 0, 2, 0, 0, 0, 1, 0, 0, 0, 2],
+        &words,
+        vec![in alloc; 1u32, 2].ok(),
+        8,
     );
-    Ok(())
-}
-
-// A list of two numbers of 4 bytes costs 8.
-#[test]
-fn lists_are_loaded(rt: HostRuntime) -> Result<(), Fail> {
-    let alloc = rt.alloc();
-    let bytes = [8, 0, 0, 0, 2, 0, 0, 0, 1, 0, 0, 0, 2];
-    let list = vec![in alloc; 1u32, 2]?;
-    assert!(rt; loads(alloc, list_of(alloc, InterfaceType::U32)?, &bytes, &list, 8)?);
-    let words = [ValRaw::u32(8), ValRaw::u32(2)];
-    assert!(rt;
-        lifts(
-            alloc,
-            list_of(alloc, InterfaceType::U32)?,
-            &words,
-            &bytes,
-            &list,
-            8
-        )?
+    let map = lifts(
+        alloc,
+        map_of(alloc, U8, U8),
+        &[8, 0, 0, 0, 2, 0, 0, 0, 1, 10, 1, 20],
+        &words,
+        one_to_twenty(alloc),
+        4,
     );
-    let outside = Fault::PointerOutOfBounds(At::Address(0));
-    let far = [8, 0, 0, 0, 15];
-    assert!(rt; fails::<Vec<u32>>(alloc, list_of(alloc, InterfaceType::U32)?, &far, outside)?);
-    Ok(())
+    assert!(rt; text == [true; 2]);
+    assert!(rt; list == [true; 2]);
+    assert!(rt; map == [true; 2]);
 }
 
-/// The value at 1 of a map of the pairs 1 and 10, and 1 and 20, and what lifting it cost.
-fn last_value(alloc: Global) -> Result<(Option<u8>, u64), Fail> {
-    let mut types = TypeBuilder::new(alloc);
-    let ty = types.add_map(InterfaceType::U8, InterfaceType::U8)?;
-    let bytes = [8, 0, 0, 0, 2, 0, 0, 0, 1, 10, 1, 20];
-    let (map, spent) = loaded::<HashMap<u8, u8>>(alloc, (types.finish(), ty), &bytes)?;
-    match map {
-        Ok(map) => Ok((map.get(&1).copied(), spent)),
-        Err(_) => Ok((None, spent)),
-    }
-}
-
-// Of a repeated key the last value stays. Two pairs of 2 bytes cost 4.
-#[test]
-fn the_last_value_of_a_key_stays(rt: HostRuntime) -> Result<(), Fail> {
-    assert!(rt; last_value(rt.alloc())? == (Some(20), 4));
-    Ok(())
-}
-
-/// What lifting a list of fixed length, of 1 and 2, costs, if that is what it gives.
-fn fixed_cost(alloc: Global) -> Result<Option<u64>, Fail> {
-    let mut types = TypeBuilder::new(alloc);
-    let ty = types.add_fixed_length_list(InterfaceType::U16, 2)?;
-    let (list, spent) = loaded::<FixedList<u16, 2>>(alloc, (types.finish(), ty), &[1, 0, 2, 0])?;
-    match list {
-        Ok(list) if list.items() == [1, 2].as_slice() => Ok(Some(spent)),
-        _ => Ok(None),
+/// The fault that lifting memory answers, where it answers one.
+fn fault_of<T: Lift>(alloc: Global, core: &mut TestCore, ty: &InterfaceType) -> Option<Fault> {
+    match loaded::<T>(alloc, core, ty) {
+        Some((Err(fault), _)) => Some(fault),
+        _ => None,
     }
 }
 
 #[test]
-fn lists_of_fixed_length_are_free(rt: HostRuntime) -> Result<(), Fail> {
-    assert!(rt; fixed_cost(rt.alloc())? == Some(0));
-    Ok(())
-}
-
-#[test]
-fn boxes_are_what_they_hold(rt: HostRuntime) -> Result<(), Fail> {
+fn faults_are_told_by_their_places(rt: HostRuntime) {
     let alloc = rt.alloc();
-    let boxed = Box::new(alloc, 513u16)?;
-    assert!(rt; loads(alloc, plain(alloc, InterfaceType::U16), &[1, 2], &boxed, 0)?);
-    Ok(())
-}
-
-/// What a text that isn't UTF-8 and a list of two numbers cost that stay in memory, if they are lifted.
-fn costs_in_memory(alloc: Global) -> Result<Option<(u64, u64)>, Fail> {
+    let case = over_bytes(alloc, option_of(alloc, U8), &[2], fault_of::<Option<u8>>);
+    let string = Ok(plain(alloc, InterfaceType::String));
     let bytes = [8, 0, 0, 0, 1, 0, 0, 0, 0xc3];
-    let (text, one) = loaded::<WasmStr>(alloc, plain(alloc, InterfaceType::String), &bytes)?;
-    let bytes = [8, 0, 0, 0, 2];
-    let (list, two) = loaded::<WasmList<u16>>(alloc, list_of(alloc, InterfaceType::U16)?, &bytes)?;
-    if text.is_ok() && list.is_ok() {
-        Ok(Some((one, two)))
-    } else {
-        Ok(None)
+    let text = over_bytes(alloc, string, &bytes, fault_of::<String>);
+    let far = [8, 0, 0, 0, 15];
+    let list = over_bytes(alloc, list_of(alloc, U32), &far, fault_of::<Vec<u32>>);
+    let place = At::Address(0);
+    assert!(rt; case == Some(Fault::BadDiscriminant(place, 2)));
+    assert!(rt; text == Some(Fault::InvalidUtf8(place)));
+    assert!(rt; list == Some(Fault::PointerOutOfBounds(place)));
+}
+
+/// What lifting a value cost, where it is lifted.
+fn cost_of<T: Lift>(alloc: Global, core: &mut TestCore, ty: &InterfaceType) -> Option<u64> {
+    match loaded::<T>(alloc, core, ty) {
+        Some((Ok(_), cost)) => Some(cost),
+        _ => None,
     }
 }
 
-// A text costs its bytes, a list its items' bytes in the host, also where they aren't read.
+/// What lifting a list of fixed length cost, where it is 1 and 2.
+fn cost_of_one_and_two(alloc: Global, core: &mut TestCore, ty: &InterfaceType) -> Option<u64> {
+    match loaded::<FixedList<u16, 2>>(alloc, core, ty) {
+        Some((Ok(list), cost)) if list.items() == [1, 2].as_slice() => Some(cost),
+        _ => None,
+    }
+}
+
+// A text costs its bytes, a list its items' bytes in the host, also where they aren't read: this text is no UTF-8. A list of fixed length is
+// free.
 #[test]
-fn texts_and_lists_may_stay_in_memory(rt: HostRuntime) -> Result<(), Fail> {
-    assert!(rt; costs_in_memory(rt.alloc())? == Some((1, 4)));
-    Ok(())
+fn texts_and_lists_may_stay_in_memory(rt: HostRuntime) {
+    let alloc = rt.alloc();
+    let string = Ok(plain(alloc, InterfaceType::String));
+    let bytes = [8, 0, 0, 0, 1, 0, 0, 0, 0xc3];
+    let text = over_bytes(alloc, string, &bytes, cost_of::<WasmStr>);
+    let two = [8, 0, 0, 0, 2];
+    let list = over_bytes(alloc, list_of(alloc, U16), &two, cost_of::<WasmList<u16>>);
+    let fixed = over_bytes(
+        alloc,
+        fixed_of(alloc, U16, 2),
+        &[1, 0, 2, 0],
+        cost_of_one_and_two,
+    );
+    assert!(rt; text == Some(1));
+    assert!(rt; list == Some(4));
+    assert!(rt; fixed == Some(0));
 }

@@ -1,6 +1,9 @@
 //! Tables of types, each with one of its types.
 
-use canon_types::{ComponentTypes, InterfaceType, TypeBuilder, TypeError};
+use canon_types::{
+    ComponentTypes, InterfaceType, ResourceKind, RuntimeInstance, TypeBuilder, TypeError,
+    TypeResourceTable,
+};
 use std::alloc::Global;
 
 /// Types, and one of them.
@@ -54,5 +57,34 @@ pub fn fixed_of(alloc: Global, element: InterfaceType, size: u32) -> Result<Type
 pub fn map_of(alloc: Global, key: InterfaceType, value: InterfaceType) -> Result<Typed, TypeError> {
     let mut types = TypeBuilder::new(alloc);
     let ty = types.add_map(key, value)?;
+    Ok((types.finish(), ty))
+}
+
+/// A list of maps of types without parts.
+pub fn maps_of(
+    alloc: Global,
+    key: InterfaceType,
+    value: InterfaceType,
+) -> Result<Typed, TypeError> {
+    let mut types = TypeBuilder::new(alloc);
+    let map = types.add_map(key, value)?;
+    let ty = types.add_list(map)?;
+    Ok((types.finish(), ty))
+}
+
+/// The own handles of a resource type of a kind, or its borrows.
+pub fn handles_of(alloc: Global, kind: ResourceKind, owned: bool) -> Result<Typed, TypeError> {
+    let mut types = TypeBuilder::new(alloc);
+    let resource = TypeResourceTable {
+        instance: RuntimeInstance::from_u32(3),
+        kind,
+        defined_here: false,
+    };
+    let table = types.add_resource_table(resource)?;
+    let ty = if owned {
+        InterfaceType::Own(table)
+    } else {
+        InterfaceType::Borrow(table)
+    };
     Ok((types.finish(), ty))
 }

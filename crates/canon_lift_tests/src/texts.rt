@@ -1,12 +1,10 @@
 //! Texts that stay in memory (CanonicalABI.md, "load_string_from_range": `latin1+utf16` without the tag is Latin-1, whose bytes are the
 //! first 256 code points of Unicode, and with the tag UTF-16).
 
-ghost use Rattle.std.specs.Prelude.{◌≡◌, length};
-
-use crate::stays::stays;
+use crate::cores::stays;
 use canon_context::{At, Fault};
 use canon_lift::WasmStr;
-use canon_test_core::{TestCore, core_of, memory_of, plain};
+use canon_test_core::{TestCore, memory_of, plain, with_core};
 use canon_types::{InterfaceType, StringEncoding};
 use std::alloc::Global;
 
@@ -14,9 +12,7 @@ use std::alloc::Global;
 type Read = Result<(bool, bool), Fault>;
 
 /// What reading the text at 0 of a core answers. None where it isn't lifted.
-fn read_in(alloc: Global, core: &mut TestCore, ty: InterfaceType, expected: &str) -> Option<Read>
-    requires { length core.old.component.options.items ≡ 1 }
-{
+fn read_in(alloc: Global, core: &mut TestCore, ty: &InterfaceType, expected: &str) -> Option<Read> {
     let text: WasmStr = stays(alloc, core, ty)?;
     let view = core.view();
     if !text.fits(&view) {
@@ -37,17 +33,22 @@ fn read(
 ) -> Option<Read> {
     let [low, high, first, second] = spelling;
     let bytes = [8, 0, 0, 0, low, 0, 0, high, first, second];
-    let memory = memory_of(alloc, &bytes).ok()?;
-    let (types, ty) = plain(alloc, InterfaceType::String);
-    let mut core = core_of(alloc, encoding, types, memory).ok()?;
-    read_in(alloc, &mut core, ty, expected)
+    let text = plain(alloc, InterfaceType::String);
+    with_core(
+        alloc,
+        encoding,
+        memory_of(alloc, &bytes),
+        Ok(text),
+        |alloc, core, ty| read_in(alloc, core, ty, expected),
+    )
 }
 
 #[test]
-fn a_compact_text_of_ascii_is_borrowed_and_others_are_owned(rt: HostRuntime) {
+fn a_text_of_utf_8_or_compact_ascii_is_borrowed_and_others_are_owned(rt: HostRuntime) {
     let compact = StringEncoding::CompactUtf16;
     // the top bit of a compact text's length is its tag
     for (encoding, spelling, expected, borrowed) in [
+        (StringEncoding::Utf8, [2, 0, 0xc3, 0xa9], "é", true),
         (compact, [2, 0, 0x61, 0x62], "ab", true),
         (compact, [2, 0, 0x61, 0xe9], "a\u{e9}", false),
         (compact, [1, 0x80, 0x2d, 0x4e], "\u{4e2d}", false),
