@@ -1,5 +1,7 @@
-//! Tests of typed lowering.
+//! Tests of typed lowering, and of resources that are lowered and lifted by their Rust types.
 #![tactic(auto)]
 
+#[cfg(test)]
+mod resources;
 #[cfg(test)]
 mod tests;

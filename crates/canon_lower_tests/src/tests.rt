@@ -1,103 +1,20 @@
-//! Each Rust type lowered once, to words and into memory, from an owned and from a shared value. Words and bytes by
-//! CanonicalABI.md's "lower_flat" and "store".
-
-ghost use Rattle.std.specs.Prelude.{◌≡◌, IfOk, length};
+//! Each Rust type lowered, to words and into memory, from an owned and from a shared value. Words and bytes by CanonicalABI.md's
+//! "lower_flat" and "store".
 
 use canon_context::LowerContext;
 use canon_lower::{Lower, LowerShared};
 use canon_memory::{Memory, ValRaw};
 use canon_test_core::{
-    TestCore, Typed, core_of, fixed_of, has_room, list_of, map_of, option_of, plain, result_of,
-    tuple_of, word_count,
+    TestCore, Typed, fixed_of, has_room, list_of, map_of, maps_of, option_of, plain, renew,
+    result_of, tuple_of, with_core, word_count,
 };
 use canon_typed::{FixedList, Float32Bits, Float64Bits};
-use canon_types::{ComponentTypes, InterfaceType, OptionsIndex, StringEncoding, TypeBuilder};
+use canon_types::InterfaceType::{
+    Bool, Char, Float32, Float64, S8, S16, S32, S64, U8, U16, U32, U64,
+};
+use canon_types::{InterfaceType, OptionsIndex, StringEncoding, TypeError};
 use std::alloc::Global;
 use std::collections::HashMap;
-use std::test::Fail;
-
-/// A core of these types, of 2,048 bytes of memory, each 0xaa.
-fn core_with(alloc: Global, types: ComponentTypes) -> Result<TestCore, Fail>
-    ensures options { IfOk result (λ c. length c.component.options.items ≡ 1) }
-{
-    let mut memory = Memory::new(alloc, 2048)?;
-    memory.as_slice_mut().fill(0xaa);
-    Ok(core_of(alloc, StringEncoding::Utf8, types, memory)?)
-}
-
-/// Whether a value is lowered to these words, each of which was 9 before, and memory has these bytes at 1024 then.
-fn lowers_to<T: Lower>(
-    alloc: Global,
-    typed: Typed,
-    mut value: T,
-    expected: &[ValRaw],
-    block: &[u8],
-) -> Result<bool, Fail> {
-    let (types, ty) = typed;
-    let mut core = core_with(alloc, types)?;
-    let Some(count) = word_count::<T>(&core, &ty) else {
-        return Ok(false);
-    };
-    let mut words = vec![in alloc; ValRaw::u64(9); count as usize]?;
-    let mut cx = LowerContext::new(&mut core, OptionsIndex::from_u32(0));
-    let lowered = value.linear_lower_to_flat(&mut cx, ty, &mut words).is_ok();
-    Ok(lowered && words.as_slice() == expected && has(&core, 1024, block))
-}
-
-/// The same from a shared reference.
-fn shared_lowers_to<T: LowerShared>(
-    alloc: Global,
-    typed: Typed,
-    value: &T,
-    expected: &[ValRaw],
-    block: &[u8],
-) -> Result<bool, Fail> {
-    let (types, ty) = typed;
-    let mut core = core_with(alloc, types)?;
-    let Some(count) = word_count::<T>(&core, &ty) else {
-        return Ok(false);
-    };
-    let mut words = vec![in alloc; ValRaw::u64(9); count as usize]?;
-    let mut cx = LowerContext::new(&mut core, OptionsIndex::from_u32(0));
-    let lowered = value.linear_lower_to_flat(&mut cx, ty, &mut words).is_ok();
-    Ok(lowered && words.as_slice() == expected && has(&core, 1024, block))
-}
-
-/// Whether a value is stored at 8 as these bytes, and memory has those at 1024 then.
-fn stores_as<T: Lower>(
-    alloc: Global,
-    typed: Typed,
-    mut value: T,
-    place: &[u8],
-    block: &[u8],
-) -> Result<bool, Fail> {
-    let (types, ty) = typed;
-    let mut core = core_with(alloc, types)?;
-    if !has_room::<T>(&core, &ty, 8, 1) {
-        return Ok(false);
-    }
-    let mut cx = LowerContext::new(&mut core, OptionsIndex::from_u32(0));
-    let stored = value.linear_lower_to_memory(&mut cx, ty, 8).is_ok();
-    Ok(stored && has(&core, 8, place) && has(&core, 1024, block))
-}
-
-/// The same from a shared reference.
-fn shared_stores_as<T: LowerShared>(
-    alloc: Global,
-    typed: Typed,
-    value: &T,
-    place: &[u8],
-    block: &[u8],
-) -> Result<bool, Fail> {
-    let (types, ty) = typed;
-    let mut core = core_with(alloc, types)?;
-    if !has_room::<T>(&core, &ty, 8, 1) {
-        return Ok(false);
-    }
-    let mut cx = LowerContext::new(&mut core, OptionsIndex::from_u32(0));
-    let stored = value.linear_lower_to_memory(&mut cx, ty, 8).is_ok();
-    Ok(stored && has(&core, 8, place) && has(&core, 1024, block))
-}
 
 /// Whether memory has these bytes at an address.
 fn has(core: &TestCore, at: u64, bytes: &[u8]) -> bool {
@@ -105,271 +22,389 @@ fn has(core: &TestCore, at: u64, bytes: &[u8]) -> bool {
     at <= memory.len() as u64 && memory[at as usize..].starts_with(bytes)
 }
 
-/// The type of lists of maps from u8 to u8.
-fn maps_type(alloc: Global) -> Result<Typed, Fail> {
-    let mut types = TypeBuilder::new(alloc);
-    let map = types.add_map(InterfaceType::U8, InterfaceType::U8)?;
-    let ty = types.add_list(map)?;
-    Ok((types.finish(), ty))
+/// Whether a value is lowered to these words, each of which was 9 before, and memory, of bytes 0xaa before, has this block at 1024 then.
+fn are_words<T: Lower>(
+    alloc: Global,
+    core: &mut TestCore,
+    ty: &InterfaceType,
+    value: &mut T,
+    words: &[ValRaw],
+    block: &[u8],
+) -> bool {
+    renew(alloc, core, 0xaa);
+    let Some(count) = word_count::<T>(core, ty) else {
+        return false;
+    };
+    let Ok(mut found) = vec![in alloc; ValRaw::u64(9); count as usize] else {
+        return false;
+    };
+    let mut cx = LowerContext::new(core, OptionsIndex::from_u32(0));
+    let lowered = value.linear_lower_to_flat(&mut cx, *ty, &mut found).is_ok();
+    lowered && found.as_slice() == words && has(core, 1024, block)
 }
 
-/// A map from 1 to 10.
-fn one_to_ten(alloc: Global) -> Result<HashMap<u8, u8>, Fail> {
-    let mut map = HashMap::new(alloc);
-    map.insert(1, 10)?;
-    Ok(map)
+/// Whether a value is stored at 8 as these bytes, and memory, of bytes 0xaa before, has this block at 1024 then.
+fn are_bytes<T: Lower>(
+    alloc: Global,
+    core: &mut TestCore,
+    ty: &InterfaceType,
+    value: &mut T,
+    place: &[u8],
+    block: &[u8],
+) -> bool {
+    renew(alloc, core, 0xaa);
+    if !has_room::<T>(core, ty, 8, 1) {
+        return false;
+    }
+    let mut cx = LowerContext::new(core, OptionsIndex::from_u32(0));
+    let stored = value.linear_lower_to_memory(&mut cx, *ty, 8).is_ok();
+    stored && has(core, 8, place) && has(core, 1024, block)
 }
 
-/// Whether a value of a type without parts is lowered to this word.
-fn is_word<T: Lower>(
+/// Whether a value is lowered to these words, and whether it is stored as these bytes, each time with this block.
+fn are_both<T: Lower>(
+    alloc: Global,
+    core: &mut TestCore,
+    ty: &InterfaceType,
+    value: &mut T,
+    words: &[ValRaw],
+    place: &[u8],
+    block: &[u8],
+) -> [bool; 2] {
+    let by_words = are_words(alloc, core, ty, value, words, block);
+    let by_bytes = are_bytes(alloc, core, ty, value, place, block);
+    [by_words, by_bytes]
+}
+
+/// The same of a shared reference to a value.
+fn shared_are_both<T: LowerShared>(
+    alloc: Global,
+    core: &mut TestCore,
+    ty: &InterfaceType,
+    value: &T,
+    words: &[ValRaw],
+    place: &[u8],
+    block: &[u8],
+) -> [bool; 2] {
+    let mut shared = value;
+    are_both::<&T>(alloc, core, ty, &mut shared, words, place, block)
+}
+
+/// The same of a shared reference to a value, and then of the value itself.
+fn lowers<T: Lower + LowerShared>(
+    alloc: Global,
+    typed: Result<Typed, TypeError>,
+    mut value: Option<T>,
+    words: &[ValRaw],
+    place: &[u8],
+    block: &[u8],
+) -> [[bool; 2]; 2] {
+    let memory = Memory::new(alloc, 2048);
+    let utf8 = StringEncoding::Utf8;
+    let are_lowered = with_core(alloc, utf8, memory, typed, |alloc, core, ty| {
+        let value = value.as_mut()?;
+        let shared = shared_are_both(alloc, core, ty, value, words, place, block);
+        let owned = are_both(alloc, core, ty, value, words, place, block);
+        Some([shared, owned])
+    });
+    are_lowered.unwrap_or([[false; 2]; 2])
+}
+
+/// What `lowers` answers where all four are as they should be.
+const ALL: [[bool; 2]; 2] = [[true; 2]; 2];
+
+/// Whether a value of a type without parts is this word and these bytes.
+fn is_scalar<T: Lower + LowerShared>(
     alloc: Global,
     ty: InterfaceType,
     value: T,
     word: ValRaw,
-) -> Result<bool, Fail> {
-    lowers_to(alloc, plain(alloc, ty), value, &[word], &[])
+    bytes: &[u8],
+) -> bool {
+    lowers(
+        alloc,
+        Ok(plain(alloc, ty)),
+        Some(value),
+        &[word],
+        bytes,
+        &[],
+    ) == ALL
 }
 
 #[test]
-fn narrow_integers_are_words(rt: HostRuntime) -> Result<(), Fail> {
+fn narrow_integers_are_lowered(rt: HostRuntime) {
     let alloc = rt.alloc();
-    assert!(rt; is_word(alloc, InterfaceType::U8, 7u8, ValRaw::u32(7))?);
-    assert!(rt; is_word(alloc, InterfaceType::S8, -1i8, ValRaw::i32(-1))?);
-    assert!(rt; is_word(alloc, InterfaceType::U16, 65_535u16, ValRaw::u32(65_535))?);
-    assert!(rt; is_word(alloc, InterfaceType::S16, -2i16, ValRaw::i32(-2))?);
-    Ok(())
+    assert!(rt; is_scalar(alloc, U8, 7u8, ValRaw::u32(7), &[7, 0xaa]));
+    assert!(rt; is_scalar(alloc, S8, -1i8, ValRaw::i32(-1), &[0xff, 0xaa]));
+    assert!(rt;
+        is_scalar(
+            alloc,
+            U16,
+            65_535u16,
+            ValRaw::u32(65_535),
+            &[0xff, 0xff, 0xaa]
+        )
+    );
+    assert!(rt; is_scalar(alloc, S16, -2i16, ValRaw::i32(-2), &[0xfe, 0xff, 0xaa]));
 }
 
 #[test]
-fn wide_integers_are_words(rt: HostRuntime) -> Result<(), Fail> {
+fn wide_integers_are_lowered(rt: HostRuntime) {
     let alloc = rt.alloc();
-    assert!(rt; is_word(alloc, InterfaceType::U32, u32::MAX, ValRaw::u32(u32::MAX))?);
-    assert!(rt; is_word(alloc, InterfaceType::S32, -3i32, ValRaw::i32(-3))?);
-    assert!(rt; is_word(alloc, InterfaceType::U64, u64::MAX, ValRaw::u64(u64::MAX))?);
-    assert!(rt; is_word(alloc, InterfaceType::S64, -4i64, ValRaw::i64(-4))?);
-    Ok(())
+    let most = [0xff, 0xff, 0xff, 0xff, 0xff, 0xff, 0xff, 0xff, 0xaa];
+    let small = [0xfd, 0xff, 0xff, 0xff, 0xaa];
+    let long = [0xfc, 0xff, 0xff, 0xff, 0xff, 0xff, 0xff, 0xff, 0xaa];
+    let digits = ValRaw::u32(0x0102_0304);
+    assert!(rt; is_scalar(alloc, U32, u32::MAX, ValRaw::u32(u32::MAX), &most[4..]));
+    assert!(rt; is_scalar(alloc, U32, 0x0102_0304u32, digits, &[4, 3, 2, 1, 0xaa]));
+    assert!(rt; is_scalar(alloc, S32, -3i32, ValRaw::i32(-3), &small));
+    assert!(rt; is_scalar(alloc, U64, u64::MAX, ValRaw::u64(u64::MAX), &most));
+    assert!(rt; is_scalar(alloc, S64, -4i64, ValRaw::i64(-4), &long));
 }
 
 #[test]
-fn other_scalars_are_words(rt: HostRuntime) -> Result<(), Fail> {
+fn other_scalars_are_lowered(rt: HostRuntime) {
     let alloc = rt.alloc();
-    assert!(rt; is_word(alloc, InterfaceType::Bool, true, ValRaw::u32(1))?);
-    assert!(rt; is_word(alloc, InterfaceType::Char, 'é', ValRaw::u32(0xe9))?);
+    assert!(rt; is_scalar(alloc, Bool, true, ValRaw::u32(1), &[1, 0xaa]));
+    assert!(rt; is_scalar(alloc, Char, 'é', ValRaw::u32(0xe9), &[0xe9, 0, 0, 0, 0xaa]));
     let float = Float32Bits(0x7fc0_0001);
-    assert!(rt;
-        is_word(
-            alloc,
-            InterfaceType::Float32,
-            float,
-            ValRaw::u32(0x7fc0_0001)
-        )?
-    );
+    let bytes = [1, 0, 0xc0, 0x7f, 0xaa];
+    assert!(rt; is_scalar(alloc, Float32, float, ValRaw::u32(0x7fc0_0001), &bytes));
     let float = Float64Bits(1 << 62);
-    assert!(rt; is_word(alloc, InterfaceType::Float64, float, ValRaw::u64(1 << 62))?);
-    Ok(())
-}
-
-// A case without a payload leaves zeros in the payload's words.
-#[test]
-fn cases_are_a_discriminant_and_a_payload(rt: HostRuntime) -> Result<(), Fail> {
-    let alloc = rt.alloc();
-    let some = [ValRaw::u32(1), ValRaw::u64(5)];
-    assert!(rt;
-        lowers_to(
-            alloc,
-            option_of(alloc, InterfaceType::U64)?,
-            Some(5u64),
-            &some,
-            &[]
-        )?
-    );
-    let none: Option<u64> = None;
-    let zeros = [ValRaw::u32(0), ValRaw::u64(0)];
-    assert!(rt;
-        shared_lowers_to(
-            alloc,
-            option_of(alloc, InterfaceType::U64)?,
-            &none,
-            &zeros,
-            &[]
-        )?
-    );
-    let err: Result<u32, ()> = Err(());
-    let failed = [ValRaw::u32(1), ValRaw::u32(0)];
-    assert!(rt;
-        lowers_to(
-            alloc,
-            result_of(alloc, Some(InterfaceType::U32), None)?,
-            err,
-            &failed,
-            &[]
-        )?
-    );
-    Ok(())
+    let bytes = [0, 0, 0, 0, 0, 0, 0, 0x40, 0xaa];
+    assert!(rt; is_scalar(alloc, Float64, float, ValRaw::u64(1 << 62), &bytes));
 }
 
 #[test]
-fn members_and_items_are_words_in_a_row(rt: HostRuntime) -> Result<(), Fail> {
+fn references_and_boxes_are_what_they_hold(rt: HostRuntime) {
     let alloc = rt.alloc();
-    let pair = [ValRaw::u32(1), ValRaw::u32(2)];
-    let types = [InterfaceType::U8, InterfaceType::U32];
-    assert!(rt; lowers_to(alloc, tuple_of(alloc, &types)?, (1u8, 2u32), &pair, &[])?);
-    assert!(rt; shared_lowers_to(alloc, tuple_of(alloc, &types)?, &(1u8, 2u32), &pair, &[])?);
-    let Some(list) = FixedList::<u16, 2>::new(vec![in alloc; 1u16, 2]?) else {
-        return Err(Fail::from("no list"));
-    };
-    assert!(rt;
-        shared_lowers_to(
-            alloc,
-            fixed_of(alloc, InterfaceType::U16, 2)?,
-            &list,
-            &pair,
-            &[]
-        )?
-    );
-    Ok(())
+    assert!(rt; is_scalar(alloc, U16, &5u16, ValRaw::u32(5), &[5, 0, 0xaa]));
+    let number = Ok(plain(alloc, U16));
+    let value = Box::new(alloc, 6u16).ok();
+    let boxed = lowers(alloc, number, value, &[ValRaw::u32(6)], &[6, 0, 0xaa], &[]);
+    assert!(rt; boxed == ALL);
+}
+
+// What isn't written stays 0xaa, as padding.
+#[test]
+fn members_stand_in_a_row(rt: HostRuntime) {
+    let alloc = rt.alloc();
+    let words = [
+        ValRaw::u32(1),
+        ValRaw::u32(2),
+        ValRaw::u32(3),
+        ValRaw::u32(4),
+        ValRaw::u32(5),
+    ];
+    let types = [U8, U32, U8, U8, U8];
+    let two = tuple_of(alloc, &types[..2]);
+    let place = [1, 0xaa, 0xaa, 0xaa, 2, 0, 0, 0, 0xaa];
+    let two = lowers(alloc, two, Some((1u8, 2u32)), &words[..2], &place, &[]);
+    let four = tuple_of(alloc, &types[..4]);
+    let value = Some((1u8, 2u32, 3u8, 4u8));
+    let place = [1, 0xaa, 0xaa, 0xaa, 2, 0, 0, 0, 3, 4, 0xaa];
+    let four = lowers(alloc, four, value, &words[..4], &place, &[]);
+    let five = tuple_of(alloc, &types);
+    let value = Some((1u8, 2u32, 3u8, 4u8, 5u8));
+    let place = [1, 0xaa, 0xaa, 0xaa, 2, 0, 0, 0, 3, 4, 5, 0xaa];
+    let five = lowers(alloc, five, value, &words, &place, &[]);
+    assert!(rt; two == ALL);
+    assert!(rt; four == ALL);
+    assert!(rt; five == ALL);
+}
+
+/// A list of 1 and 2.
+fn one_and_two(alloc: Global) -> Option<FixedList<u16, 2>> {
+    let items = vec![in alloc; 1u16, 2].ok()?;
+    FixedList::new(items)
 }
 
 #[test]
-fn references_and_boxes_are_what_they_hold(rt: HostRuntime) -> Result<(), Fail> {
+fn items_of_a_list_of_fixed_length_stand_in_a_row(rt: HostRuntime) {
     let alloc = rt.alloc();
-    assert!(rt; is_word(alloc, InterfaceType::U16, &5u16, ValRaw::u32(5))?);
-    assert!(rt;
-        is_word(
-            alloc,
-            InterfaceType::U16,
-            Box::new(alloc, 6u16)?,
-            ValRaw::u32(6)
-        )?
+    let typed = fixed_of(alloc, U16, 2);
+    let words = [ValRaw::u32(1), ValRaw::u32(2)];
+    let place = [1, 0, 2, 0, 0xaa];
+    let fixed = lowers(alloc, typed, one_and_two(alloc), &words, &place, &[]);
+    assert!(rt; fixed == ALL);
+}
+
+// A case without a payload leaves zeros in the payload's words, and the bytes of the payload as they were.
+#[test]
+fn options_are_a_discriminant_and_a_payload(rt: HostRuntime) {
+    let alloc = rt.alloc();
+    let long = lowers(
+        alloc,
+        option_of(alloc, U64),
+        Some(Some(5u64)),
+        &[ValRaw::u32(1), ValRaw::u64(5)],
+        &[
+            1, 0xaa, 0xaa, 0xaa, 0xaa, 0xaa, 0xaa, 0xaa, 5, 0, 0, 0, 0, 0, 0, 0, 0xaa,
+        ],
+        &[],
     );
-    Ok(())
+    let none = lowers(
+        alloc,
+        option_of(alloc, U64),
+        Some(None::<u64>),
+        &[ValRaw::u32(0), ValRaw::u64(0)],
+        &[0, 0xaa, 0xaa, 0xaa, 0xaa, 0xaa, 0xaa, 0xaa, 0xaa],
+        &[],
+    );
+    let short = lowers(
+        alloc,
+        option_of(alloc, U16),
+        Some(Some(7u16)),
+        &[ValRaw::u32(1), ValRaw::u32(7)],
+        &[1, 0xaa, 7, 0, 0xaa],
+        &[],
+    );
+    assert!(rt; long == ALL);
+    assert!(rt; none == ALL);
+    assert!(rt; short == ALL);
 }
 
 #[test]
-fn texts_and_lists_are_blocks(rt: HostRuntime) -> Result<(), Fail> {
+fn results_are_a_discriminant_and_a_payload(rt: HostRuntime) {
     let alloc = rt.alloc();
-    let two = [ValRaw::u32(1024), ValRaw::u32(2)];
-    let text = String::from_str(alloc, "é")?;
-    assert!(rt;
-        lowers_to(
-            alloc,
-            plain(alloc, InterfaceType::String),
-            text,
-            &two,
-            &[0xc3, 0xa9, 0xaa]
-        )?
+    let failed: Result<u32, ()> = Err(());
+    let err = lowers(
+        alloc,
+        result_of(alloc, Some(U32), None),
+        Some(failed),
+        &[ValRaw::u32(1), ValRaw::u32(0)],
+        &[1, 0xaa, 0xaa, 0xaa, 0xaa],
+        &[],
     );
-    let list = vec![in alloc; 1u16, 0x0203]?;
-    assert!(rt;
-        lowers_to(
-            alloc,
-            list_of(alloc, InterfaceType::U16)?,
-            list,
-            &two,
-            &[1, 0, 3, 2, 0xaa]
-        )?
+    let coded: Result<(), u8> = Err(9);
+    let code = lowers(
+        alloc,
+        result_of(alloc, None, Some(U8)),
+        Some(coded),
+        &[ValRaw::u32(1), ValRaw::u32(9)],
+        &[1, 9, 0xaa],
+        &[],
     );
-    Ok(())
+    let done: Result<(), u8> = Ok(());
+    let ok = lowers(
+        alloc,
+        result_of(alloc, None, Some(U8)),
+        Some(done),
+        &[ValRaw::u32(0), ValRaw::u32(0)],
+        &[0, 0xaa],
+        &[],
+    );
+    assert!(rt; err == ALL);
+    assert!(rt; code == ALL);
+    assert!(rt; ok == ALL);
+}
+
+#[test]
+fn texts_and_lists_are_blocks(rt: HostRuntime) {
+    let alloc = rt.alloc();
+    let words = [ValRaw::u32(1024), ValRaw::u32(2)];
+    let place = [0, 4, 0, 0, 2, 0, 0, 0, 0xaa];
+    let text = lowers(
+        alloc,
+        Ok(plain(alloc, InterfaceType::String)),
+        String::from_str(alloc, "é").ok(),
+        &words,
+        &place,
+        &[0xc3, 0xa9, 0xaa],
+    );
+    let unsigned = lowers(
+        alloc,
+        list_of(alloc, U16),
+        vec![in alloc; 1u16, 0x0203].ok(),
+        &words,
+        &place,
+        &[1, 0, 3, 2, 0xaa],
+    );
+    let signed = lowers(
+        alloc,
+        list_of(alloc, S16),
+        vec![in alloc; -1i16, 2].ok(),
+        &words,
+        &place,
+        &[0xff, 0xff, 2, 0, 0xaa],
+    );
+    assert!(rt; text == ALL);
+    assert!(rt; unsigned == ALL);
+    assert!(rt; signed == ALL);
+}
+
+/// A map from 1 to 10.
+fn one_to_ten(alloc: Global) -> Option<HashMap<u8, u8>> {
+    let mut map = HashMap::new(alloc);
+    map.insert(1, 10).ok()?;
+    Some(map)
+}
+
+/// A list of such a map.
+fn list_of_one(alloc: Global) -> Option<Vec<HashMap<u8, u8>>> {
+    vec![in alloc; one_to_ten(alloc)?].ok()
 }
 
 // The second block of a list of one map, of 8 bytes at 1024, is that of its pair, at 1032.
 #[test]
-fn maps_are_blocks_of_pairs(rt: HostRuntime) -> Result<(), Fail> {
+fn maps_are_blocks_of_pairs(rt: HostRuntime) {
     let alloc = rt.alloc();
-    let one = [ValRaw::u32(1024), ValRaw::u32(1)];
-    assert!(rt;
-        shared_lowers_to(
-            alloc,
-            map_of(alloc, InterfaceType::U8, InterfaceType::U8)?,
-            &one_to_ten(alloc)?,
-            &one,
-            &[1, 10, 0xaa]
-        )?
+    let words = [ValRaw::u32(1024), ValRaw::u32(1)];
+    let place = [0, 4, 0, 0, 1, 0, 0, 0, 0xaa];
+    let map = lowers(
+        alloc,
+        map_of(alloc, U8, U8),
+        one_to_ten(alloc),
+        &words,
+        &place,
+        &[1, 10, 0xaa],
     );
-    let maps = vec![in alloc; one_to_ten(alloc)?]?;
-    assert!(rt;
-        lowers_to(
-            alloc,
-            maps_type(alloc)?,
-            maps,
-            &one,
-            &[8, 4, 0, 0, 1, 0, 0, 0, 1, 10]
-        )?
+    let list = lowers(
+        alloc,
+        maps_of(alloc, U8, U8),
+        list_of_one(alloc),
+        &words,
+        &place,
+        &[8, 4, 0, 0, 1, 0, 0, 0, 1, 10],
     );
-    Ok(())
+    assert!(rt; map == ALL);
+    assert!(rt; list == ALL);
 }
 
-// What isn't written stays 0xaa: padding, and the payload of a case that has none.
-#[test]
-fn scalars_and_cases_are_stored(rt: HostRuntime) -> Result<(), Fail> {
-    let alloc = rt.alloc();
-    let number = plain(alloc, InterfaceType::U32);
-    assert!(rt; stores_as(alloc, number, 0x0102_0304u32, &[4, 3, 2, 1, 0xaa], &[])?);
-    let some = option_of(alloc, InterfaceType::U16)?;
-    assert!(rt; stores_as(alloc, some, Some(7u16), &[1, 0xaa, 7, 0, 0xaa], &[])?);
-    let done: Result<(), u8> = Ok(());
-    let result = result_of(alloc, None, Some(InterfaceType::U8))?;
-    assert!(rt; shared_stores_as(alloc, result, &done, &[0, 0xaa], &[])?);
-    Ok(())
-}
-
-#[test]
-fn members_are_stored(rt: HostRuntime) -> Result<(), Fail> {
-    let alloc = rt.alloc();
-    let types = [InterfaceType::U8, InterfaceType::U32];
-    let place = [1, 0xaa, 0xaa, 0xaa, 2, 0, 0, 0, 0xaa];
-    assert!(rt; stores_as(alloc, tuple_of(alloc, &types)?, (1u8, 2u32), &place, &[])?);
-    assert!(rt; shared_stores_as(alloc, tuple_of(alloc, &types)?, &(1u8, 2u32), &place, &[])?);
-    Ok(())
-}
-
-#[test]
-fn texts_lists_and_maps_are_stored(rt: HostRuntime) -> Result<(), Fail> {
-    let alloc = rt.alloc();
-    let two = [0, 4, 0, 0, 2, 0, 0, 0, 0xaa];
-    let text = String::from_str(alloc, "é")?;
-    let string = plain(alloc, InterfaceType::String);
-    assert!(rt; shared_stores_as(alloc, string, &text, &two, &[0xc3, 0xa9, 0xaa])?);
-    let list = vec![in alloc; -1i16, 2]?;
-    assert!(rt;
-        stores_as(
-            alloc,
-            list_of(alloc, InterfaceType::S16)?,
-            list,
-            &two,
-            &[0xff, 0xff, 2, 0, 0xaa]
-        )?
-    );
-    let one = [0, 4, 0, 0, 1, 0, 0, 0, 0xaa];
-    assert!(rt;
-        stores_as(
-            alloc,
-            map_of(alloc, InterfaceType::U8, InterfaceType::U8)?,
-            one_to_ten(alloc)?,
-            &one,
-            &[1, 10, 0xaa]
-        )?
-    );
-    Ok(())
-}
-
-/// Whether two numbers in a row are stored at 8 as these bytes, by the call on owned values and by that on shared ones.
-fn stores_row(alloc: Global, mut items: [u16; 2], bytes: &[u8]) -> Result<bool, Fail> {
-    let ty = InterfaceType::U16;
-    let mut core = core_with(alloc, TypeBuilder::new(alloc).finish())?;
-    let mut shared = core_with(alloc, TypeBuilder::new(alloc).finish())?;
-    if !has_room::<u16>(&core, &ty, 8, 2) || !has_room::<u16>(&shared, &ty, 8, 2) {
-        return Ok(false);
+/// Whether two numbers in a row are stored at 8, by the call on shared values.
+fn stores_shared(alloc: Global, core: &mut TestCore, ty: &InterfaceType) -> Option<bool> {
+    renew(alloc, core, 0xaa);
+    if !has_room::<u16>(core, ty, 8, 2) {
+        return None;
     }
-    let mut cx = LowerContext::new(&mut shared, OptionsIndex::from_u32(0));
-    let second = <u16 as LowerShared>::linear_store_list_to_memory(&mut cx, ty, 8, &items).is_ok();
-    let mut cx = LowerContext::new(&mut core, OptionsIndex::from_u32(0));
-    let first = <u16 as Lower>::linear_store_list_to_memory(&mut cx, ty, 8, &mut items).is_ok();
-    Ok(first && second && has(&core, 8, bytes) && has(&shared, 8, bytes))
+    let items = [1, 0x0203];
+    let mut cx = LowerContext::new(core, OptionsIndex::from_u32(0));
+    let stored = <u16 as LowerShared>::linear_store_list_to_memory(&mut cx, *ty, 8, &items);
+    Some(stored.is_ok() && has(core, 8, &[1, 0, 3, 2, 0xaa]))
+}
+
+/// The same by the call on owned values.
+fn stores_owned(alloc: Global, core: &mut TestCore, ty: &InterfaceType) -> Option<bool> {
+    renew(alloc, core, 0xaa);
+    if !has_room::<u16>(core, ty, 8, 2) {
+        return None;
+    }
+    let mut items = [1, 0x0203];
+    let mut cx = LowerContext::new(core, OptionsIndex::from_u32(0));
+    let stored = <u16 as Lower>::linear_store_list_to_memory(&mut cx, *ty, 8, &mut items);
+    Some(stored.is_ok() && has(core, 8, &[1, 0, 3, 2, 0xaa]))
 }
 
 #[test]
-fn values_in_a_row_are_stored(rt: HostRuntime) -> Result<(), Fail> {
-    assert!(rt; stores_row(rt.alloc(), [1, 0x0203], &[1, 0, 3, 2, 0xaa])?);
-    Ok(())
+fn values_in_a_row_are_stored(rt: HostRuntime) {
+    let alloc = rt.alloc();
+    let utf8 = StringEncoding::Utf8;
+    let memory = Memory::new(alloc, 2048);
+    let number = plain(alloc, U16);
+    let shared = with_core(alloc, utf8, memory, Ok(number), stores_shared);
+    let memory = Memory::new(alloc, 2048);
+    let number = plain(alloc, U16);
+    let owned = with_core(alloc, utf8, memory, Ok(number), stores_owned);
+    assert!(rt; shared == Some(true));
+    assert!(rt; owned == Some(true));
 }

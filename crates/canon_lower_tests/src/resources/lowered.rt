@@ -1,8 +1,6 @@
 //! Resources, for which the guest is given handles (CanonicalABI.md, "lower_own", "lower_borrow"). The first index of a table is 1.
 
-ghost use Rattle.std.specs.Prelude.{◌≡◌, length};
-
-use crate::doors::{Door, Doors, core_with};
+use super::doors::{Door, Doors, with_handles};
 use canon_context::{Fault, LowerContext};
 use canon_lower::Lower;
 use canon_memory::ValRaw;
@@ -18,16 +16,14 @@ use std::alloc::Global;
 type Lowered = Result<(ValRaw, u64), Fault>;
 
 /// Lowers a value of one word, within a scope. None where it isn't of this type.
-fn lowered_in<T: Lower>(core: &mut TestCore, ty: InterfaceType, value: &mut T) -> Option<Lowered>
-    requires { length core.old.component.options.items ≡ 1 }
-{
-    let Some(1) = word_count::<T>(core, &ty) else {
+fn lowered_in<T: Lower>(core: &mut TestCore, ty: &InterfaceType, value: &mut T) -> Option<Lowered> {
+    let Some(1) = word_count::<T>(core, ty) else {
         return None;
     };
     core.enter().ok()?;
     let mut words = [ValRaw::u64(9)];
     let mut cx = LowerContext::new(core, OptionsIndex::from_u32(0));
-    Some(match value.linear_lower_to_flat(&mut cx, ty, &mut words) {
+    Some(match value.linear_lower_to_flat(&mut cx, *ty, &mut words) {
         Ok(()) => Ok((words[0], core.live())),
         Err(fault) => Err(fault),
     })
@@ -40,14 +36,13 @@ fn lowered<T: Lower>(
     owned: bool,
     value: &mut T,
 ) -> Option<Lowered> {
-    let (mut core, ty) = core_with(alloc, kind, owned)?;
-    lowered_in(&mut core, ty, value)
+    with_handles(alloc, kind, owned, |_, core, ty| {
+        lowered_in(core, ty, value)
+    })
 }
 
 /// Lowers a resource of the host's table: itself as an own handle, or one that is shared as a borrow.
-fn any_lowered_in(core: &mut TestCore, ty: InterfaceType, owned: bool) -> Option<Lowered>
-    requires { length core.old.component.options.items ≡ 1 }
-{
+fn any_lowered_in(core: &mut TestCore, ty: &InterfaceType, owned: bool) -> Option<Lowered> {
     let index = core.host_resource_lower_own(9, None, None).ok()?;
     let mut door = ResourceAny::new(index, ResourceType::host::<Door>(), true);
     if owned {
@@ -59,19 +54,25 @@ fn any_lowered_in(core: &mut TestCore, ty: InterfaceType, owned: bool) -> Option
 
 /// The same in a core of its own.
 fn any_lowered(alloc: Global, owned: bool) -> Option<Lowered> {
-    let (mut core, ty) = core_with(alloc, ResourceKind::Host(7), owned)?;
-    any_lowered_in(&mut core, ty, owned)
+    with_handles(alloc, ResourceKind::Host(7), owned, |_, core, ty| {
+        any_lowered_in(core, ty, owned)
+    })
+}
+
+/// What lowering an own door answers, its state then, and what lowering it again does.
+fn lowered_twice(alloc: Global) -> (Option<Lowered>, ResourceState, Option<Lowered>) {
+    let kind = ResourceKind::Host(7);
+    let mut door = Resource::<Door>::new_own(9);
+    let first = lowered(alloc, kind, true, &mut door);
+    let state = door.state();
+    (first, state, lowered(alloc, kind, true, &mut door))
 }
 
 #[test]
 fn an_own_resource_is_given_away_once(rt: HostRuntime) {
-    let alloc = rt.alloc();
-    let kind = ResourceKind::Host(7);
-    let mut door = Resource::<Door>::new_own(9);
-    let first = lowered(alloc, kind, true, &mut door);
+    let (first, state, again) = lowered_twice(rt.alloc());
     assert!(rt; first == Some(Ok((ValRaw::u32(1), 1))));
-    assert!(rt; door.state() == ResourceState::Taken);
-    let again = lowered(alloc, kind, true, &mut door);
+    assert!(rt; state == ResourceState::Taken);
     let consumed = Fault::Resource(ResourceFault::HostConsumed);
     assert!(rt; again == Some(Err(consumed)));
 }

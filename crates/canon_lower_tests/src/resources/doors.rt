@@ -1,13 +1,8 @@
 //! Doors, which are resources of the host, and a core that has their type.
 
-ghost use Rattle.std.specs.Prelude.{◌≡◌, IfSome, length};
-
 use canon_resources::HostResourceType;
-use canon_test_core::{TestCore, core_of, memory_of};
-use canon_types::{
-    HostType, InterfaceType, ResourceKind, ResourceType, RuntimeInstance, StringEncoding,
-    TypeBuilder, TypeResourceTable,
-};
+use canon_test_core::{TestCore, handles_of, memory_of, with_core};
+use canon_types::{HostType, InterfaceType, ResourceKind, ResourceType, StringEncoding};
 use std::alloc::Global;
 
 pub(crate) struct Door;
@@ -43,27 +38,21 @@ impl HostResourceType<()> for Doors {
     }
 }
 
-/// A core with a resource type of a kind, and the type of its own handles or of its borrows.
-pub(crate) fn core_with(
+/// What is answered of a core with a resource type of a kind, and the type of its own handles or of its borrows.
+pub(crate) fn with_handles<R, F: FnOnce(Global, &mut TestCore, &InterfaceType) -> Option<R>>(
     alloc: Global,
     kind: ResourceKind,
     owned: bool,
-) -> Option<(TestCore, InterfaceType)>
-    ensures options { IfSome result (λ r. length r.0.component.options.items ≡ 1) }
+    ask: F,
+) -> Option<R>
+    requires { F.IsAlwaysCallable ask }
 {
-    let memory = memory_of(alloc, &[]).ok()?;
-    let mut types = TypeBuilder::new(alloc);
-    let resource = TypeResourceTable {
-        instance: RuntimeInstance::from_u32(3),
-        kind,
-        defined_here: false,
-    };
-    let table = types.add_resource_table(resource).ok()?;
-    let ty = if owned {
-        InterfaceType::Own(table)
-    } else {
-        InterfaceType::Borrow(table)
-    };
-    let core = core_of(alloc, StringEncoding::Utf8, types.finish(), memory).ok()?;
-    Some((core, ty))
+    let types = handles_of(alloc, kind, owned);
+    with_core(
+        alloc,
+        StringEncoding::Utf8,
+        memory_of(alloc, &[]),
+        types,
+        ask,
+    )
 }
