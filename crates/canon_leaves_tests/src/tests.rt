@@ -1,4 +1,4 @@
-//! Worked examples.
+//! Worked examples. One function owns each ledger and lends it to another, which tells whether each of its steps answers as it should.
 
 ghost use Rattle.std.specs.Prelude.{◌↔◌, IsTrue, Some};
 ghost use Rattle.canon_ledger.specs.Places.{HasType};
@@ -16,7 +16,6 @@ use canon_types::{
     TypeResourceTable, TypeResourceTableIndex,
 };
 use std::alloc::Global;
-use std::test::Fail;
 
 /// A component whose instance 0 defines a resource type, which instance 1 uses, as it does one of the host.
 #[derive(Drop)]
@@ -52,11 +51,13 @@ fn three_types(alloc: Global) -> Result<Types, TypeError> {
     })
 }
 
-fn two_instances(alloc: Global) -> Result<Ledger, Fail> {
-    match Ledger::new(alloc, 100, HostResourceData::new(alloc)) {
-        Ok(ledger) => Ok(ledger),
-        Err(_) => Err("out of memory")?,
-    }
+/// What something answers of a new ledger of the three types, with room for 100 handles.
+fn with_ledger<R, F: FnOnce(&mut Ledger, &Types) -> Option<R>>(alloc: Global, ask: F) -> Option<R>
+    requires { F.IsAlwaysCallable ask }
+{
+    let all = three_types(alloc).ok()?;
+    let mut ledger = Ledger::new(alloc, 100, HostResourceData::new(alloc)).ok()?;
+    ask(&mut ledger, &all)
 }
 
 fn known(ledger: &Ledger, types: &InstanceType, ty: TypeResourceTableIndex) -> bool
@@ -136,109 +137,113 @@ fn counts(ledger: &Ledger) -> Option<(usize, u64)> {
     }
 }
 
-#[test]
-fn an_own_handle_moves_there_and_back(rt: HostRuntime) -> Result<(), Fail> {
-    let alloc = rt.alloc();
-    let all = three_types(alloc)?;
-    let mut ledger = two_instances(alloc)?;
+/// Whether a handle goes into a component and comes back, and isn't given twice, or as one of another type.
+fn there_and_back(ledger: &mut Ledger, all: &Types) -> Option<[bool; 5]> {
+    let (types, host) = (&all.types, all.host);
     let its_type = ResourceType::host_dynamic(5);
-    let first = ResourceAny::new(host_own(&mut ledger, 7)?, its_type, true);
-    assert_eq!(rt;
-        lowered(&mut ledger, &all.types, true, first, all.host),
-        Some(Ok(1))
-    );
-    assert_eq!(rt; ledger.live(), 1);
+    let first = ResourceAny::new(host_own(ledger, 7).ok()?, its_type, true);
+    let given = lowered(ledger, types, true, first, host);
+    let live = ledger.live();
     // the host's table gives its index 1 again, in the generation after the first removal
     let second = ResourceAny::new(HostResourceIndex::new(1, 1), its_type, true);
-    assert_eq!(rt;
-        lifted(&mut ledger, &all.types, true, 1, all.host),
-        Some(Ok(second))
-    );
-    assert_eq!(rt;
-        lowered(&mut ledger, &all.types, true, first, all.host),
-        Some(Err(ResourceFault::HostDeallocated))
-    );
-    assert_eq!(rt;
-        lowered(&mut ledger, &all.types, true, second, all.used),
-        Some(Err(ResourceFault::ResourceTypeMismatch))
-    );
-    Ok(())
+    let taken = lifted(ledger, types, true, 1, host);
+    let twice = lowered(ledger, types, true, first, host);
+    let other = lowered(ledger, types, true, second, all.used);
+    Some([
+        given == Some(Ok(1)),
+        live == 1,
+        taken == Some(Ok(second)),
+        twice == Some(Err(ResourceFault::HostDeallocated)),
+        other == Some(Err(ResourceFault::ResourceTypeMismatch)),
+    ])
 }
 
 #[test]
-fn the_host_keeps_the_destructor_of_a_component(rt: HostRuntime) -> Result<(), Fail> {
-    let alloc = rt.alloc();
-    let all = three_types(alloc)?;
-    let mut ledger = two_instances(alloc)?;
-    let its_type = ResourceType::guest(StoreId::from_u64(7), RuntimeInstance::from_u32(1), 4);
+fn an_own_handle_moves_there_and_back(rt: HostRuntime) {
+    assert!(rt; with_ledger(rt.alloc(), there_and_back) == Some([true; 5]));
+}
+
+/// Whether the host's slot of a handle that a component gave names the destructor.
+fn kept_with_the_handle(ledger: &mut Ledger, all: &Types) -> Option<[bool; 3]> {
+    let (types, used) = (&all.types, all.used);
+    let instance = RuntimeInstance::from_u32(1);
+    let its_type = ResourceType::guest(StoreId::from_u64(7), instance, 4);
     let index = HostResourceIndex::new(1, 0);
-    assert_eq!(rt;
-        guest_own(&mut ledger, &all.types, 7, all.used),
-        Some(Ok(1))
-    );
-    assert_eq!(rt;
-        lifted(&mut ledger, &all.types, true, 1, all.used),
-        Some(Ok(ResourceAny::new(index, its_type, true)))
-    );
+    let given = guest_own(ledger, types, 7, used);
+    let taken = lifted(ledger, types, true, 1, used);
     let kept = TableSlot {
         generation: 0,
-        instance: Some(RuntimeInstance::from_u32(1)),
+        instance: Some(instance),
         dtor: Some(9),
     };
-    assert_eq!(rt; slot(&mut ledger, index), Ok(Some(kept)));
-    Ok(())
+    Some([
+        given == Some(Ok(1)),
+        taken == Some(Ok(ResourceAny::new(index, its_type, true))),
+        slot(ledger, index) == Ok(Some(kept)),
+    ])
 }
 
 #[test]
-fn a_borrow_is_lent_within_a_scope(rt: HostRuntime) -> Result<(), Fail> {
-    let alloc = rt.alloc();
-    let all = three_types(alloc)?;
-    let mut ledger = two_instances(alloc)?;
+fn the_host_keeps_the_destructor_of_a_component(rt: HostRuntime) {
+    assert!(rt; with_ledger(rt.alloc(), kept_with_the_handle) == Some([true; 3]));
+}
+
+/// Whether a resource of the host is lent only within a scope, and not given meanwhile.
+fn lent_in_a_scope(ledger: &mut Ledger, all: &Types) -> Option<[bool; 5]> {
+    let (types, host) = (&all.types, all.host);
     let its_type = ResourceType::host_dynamic(5);
-    let resource = ResourceAny::new(host_own(&mut ledger, 7)?, its_type, true);
-    assert_eq!(rt;
-        lowered(&mut ledger, &all.types, false, resource, all.host),
-        Some(Err(ResourceFault::NoScope))
-    );
-    assert_eq!(rt; ledger.enter(), Ok(Scope::Id(0)));
-    assert_eq!(rt;
-        lowered(&mut ledger, &all.types, false, resource, all.host),
-        Some(Ok(1))
-    );
-    assert_eq!(rt; counts(&ledger), Some((1, 1)));
-    assert_eq!(rt;
-        lowered(&mut ledger, &all.types, true, resource, all.host),
-        Some(Err(ResourceFault::StillLent(1)))
-    );
-    // the borrow handle is lent on, and is no own handle
+    let resource = ResourceAny::new(host_own(ledger, 7).ok()?, its_type, true);
+    let outside = lowered(ledger, types, false, resource, host);
+    let entered = ledger.enter();
+    let inside = lowered(ledger, types, false, resource, host);
+    let counted = counts(ledger);
+    let given = lowered(ledger, types, true, resource, host);
+    Some([
+        outside == Some(Err(ResourceFault::NoScope)),
+        entered == Ok(Scope::Id(0)),
+        inside == Some(Ok(1)),
+        counted == Some((1, 1)),
+        given == Some(Err(ResourceFault::StillLent(1))),
+    ])
+}
+
+/// The same, and then whether the borrow handle is lent on, and is no own handle.
+fn lent_on(ledger: &mut Ledger, all: &Types) -> Option<([bool; 5], [bool; 3])> {
+    let told = lent_in_a_scope(ledger, all)?;
+    let (types, host) = (&all.types, all.host);
+    let its_type = ResourceType::host_dynamic(5);
     let lent = ResourceAny::new(HostResourceIndex::new(2, 1), its_type, false);
-    assert_eq!(rt;
-        lifted(&mut ledger, &all.types, false, 1, all.host),
-        Some(Ok(lent))
-    );
-    assert_eq!(rt; counts(&ledger), Some((1, 2)));
-    assert_eq!(rt;
-        lowered(&mut ledger, &all.types, true, lent, all.host),
-        Some(Err(ResourceFault::BorrowAsOwn))
-    );
-    Ok(())
+    let taken = lifted(ledger, types, false, 1, host);
+    let counted = counts(ledger);
+    let given = lowered(ledger, types, true, lent, host);
+    let on = [
+        taken == Some(Ok(lent)),
+        counted == Some((1, 2)),
+        given == Some(Err(ResourceFault::BorrowAsOwn)),
+    ];
+    Some((told, on))
 }
 
 #[test]
-fn an_instance_gets_the_representation_of_its_own(rt: HostRuntime) -> Result<(), Fail> {
-    let alloc = rt.alloc();
-    let all = three_types(alloc)?;
-    let mut ledger = two_instances(alloc)?;
+fn a_borrow_is_lent_within_a_scope(rt: HostRuntime) {
+    assert!(rt; with_ledger(rt.alloc(), lent_on) == Some(([true; 5], [true; 3])));
+}
+
+/// Whether an instance that defines a type gets the representation of a borrow, and no own handle of it.
+fn given_to_its_own(ledger: &mut Ledger, all: &Types) -> Option<[bool; 3]> {
+    let (types, defined) = (&all.types, all.defined);
     let its_type = ResourceType::guest(StoreId::from_u64(7), RuntimeInstance::from_u32(0), 4);
     let made = ResourceAny::new_borrow(33, its_type);
-    assert_eq!(rt;
-        lowered(&mut ledger, &all.types, false, made, all.defined),
-        Some(Ok(33))
-    );
-    assert_eq!(rt;
-        lowered(&mut ledger, &all.types, true, made, all.defined),
-        Some(Err(ResourceFault::BorrowAsOwn))
-    );
-    assert_eq!(rt; ledger.live(), 0);
-    Ok(())
+    let borrowed = lowered(ledger, types, false, made, defined);
+    let owned = lowered(ledger, types, true, made, defined);
+    Some([
+        borrowed == Some(Ok(33)),
+        owned == Some(Err(ResourceFault::BorrowAsOwn)),
+        ledger.live() == 0,
+    ])
+}
+
+#[test]
+fn an_instance_gets_the_representation_of_its_own(rt: HostRuntime) {
+    assert!(rt; with_ledger(rt.alloc(), given_to_its_own) == Some([true; 3]));
 }
