@@ -2,19 +2,31 @@
 
 use canon_json::ScriptError;
 use canon_layout::{layout_lines, listing_of_json, type_of_json, types_of_json};
-use canon_types::InterfaceType;
+use canon_types::{ComponentTypes, InterfaceType};
 use serde_json::Value;
 use std::alloc::{AllocError, Global};
-use std::test::Fail;
 
-/// What an input prints.
-fn printed(alloc: Global, input: &str) -> Result<Result<String, ScriptError>, Fail> {
-    let tree = Value::from_str(alloc, input)?;
-    Ok(layout_lines(alloc, &tree))
+/// What an input prints. None where it is no JSON.
+fn printed(alloc: Global, input: &str) -> Option<Result<String, ScriptError>> {
+    let tree = Value::from_str(alloc, input).ok()?;
+    Some(layout_lines(alloc, &tree))
+}
+
+/// Whether an input prints this text.
+fn prints(alloc: Global, input: &str, text: &str) -> bool {
+    match printed(alloc, input) {
+        Some(Ok(lines)) => lines.as_str() == text,
+        _ => false,
+    }
+}
+
+/// Why an input is refused. None where it prints something, or is no JSON.
+fn refusal(alloc: Global, input: &str) -> Option<ScriptError> {
+    printed(alloc, input)?.err()
 }
 
 #[test]
-fn each_type_and_function_prints_its_line(rt: HostRuntime) -> Result<(), Fail> {
+fn each_type_and_function_prints_its_line(rt: HostRuntime) {
     // Numbers by CanonicalABI.md's alignment, elem_size and flatten_type; at most 16 words of parameters and 1 of results.
     let rows = [
         (
@@ -36,14 +48,12 @@ fn each_type_and_function_prints_its_line(rt: HostRuntime) -> Result<(), Fail> {
         (r#"{}"#, ""),
     ];
     for (input, text) in rows {
-        let lines = printed(rt.alloc(), input)?.expect(&rt, "an input of `layout`");
-        assert!(rt; lines.as_str() == text);
+        assert!(rt; prints(rt.alloc(), input, text));
     }
-    Ok(())
 }
 
 #[test]
-fn an_input_that_asks_for_no_table_is_refused(rt: HostRuntime) -> Result<(), Fail> {
+fn an_input_that_asks_for_no_table_is_refused(rt: HostRuntime) {
     let inputs = [
         r#"{"types":[{"list":5}]}"#,
         r#"{"types":[{"list":0}]}"#,
@@ -70,11 +80,10 @@ fn an_input_that_asks_for_no_table_is_refused(rt: HostRuntime) -> Result<(), Fai
     ];
     for input in inputs {
         assert!(rt;
-            printed(rt.alloc(), input)?.is_err_and(|e| e == ScriptError::BadScript),
+            refusal(rt.alloc(), input) == Some(ScriptError::BadScript),
             "{input}"
         );
     }
-    Ok(())
 }
 
 /// An input with one flags type of so many names.
@@ -98,65 +107,115 @@ fn lists(alloc: Global, depth: u32) -> Result<String, AllocError> {
     Ok(text)
 }
 
-#[test]
-fn flags_end_at_8160_names(rt: HostRuntime) -> Result<(), Fail> {
-    let most = flags(rt.alloc(), 8160)?;
-    let lines = printed(rt.alloc(), most.as_str())?.expect(&rt, "8,160 flags");
-    assert!(rt; lines.as_str() == "type 0 flags size 1020 align 4 flat -\n");
-    Ok(())
+/// Whether the most flags print their line.
+fn most_flags_print(alloc: Global) -> Option<bool> {
+    let most = flags(alloc, 8160).ok()?;
+    Some(prints(
+        alloc,
+        most.as_str(),
+        "type 0 flags size 1020 align 4 flat -\n",
+    ))
 }
 
 #[test]
-fn lists_end_at_depth_100(rt: HostRuntime) -> Result<(), Fail> {
-    let deepest = lists(rt.alloc(), 99)?;
-    assert!(rt; printed(rt.alloc(), deepest.as_str())?.is_ok());
-    Ok(())
+fn flags_end_at_8160_names(rt: HostRuntime) {
+    assert!(rt; most_flags_print(rt.alloc()) == Some(true));
+}
+
+/// Whether the deepest list prints something.
+fn deepest_list_prints(alloc: Global) -> Option<bool> {
+    let deepest = lists(alloc, 99).ok()?;
+    Some(printed(alloc, deepest.as_str())?.is_ok())
 }
 
 #[test]
-fn more_flags_and_deeper_lists_are_refused(rt: HostRuntime) -> Result<(), Fail> {
-    for input in [flags(rt.alloc(), 8161)?, lists(rt.alloc(), 100)?] {
-        let refused = printed(rt.alloc(), input.as_str())?;
-        assert!(rt; refused.is_err_and(|e| e == ScriptError::BadScript));
-    }
-    Ok(())
+fn lists_end_at_depth_100(rt: HostRuntime) {
+    assert!(rt; deepest_list_prints(rt.alloc()) == Some(true));
 }
 
-/// What a reference is read as, where these are the types of the entries.
+/// Why one flag more is refused.
+fn flags_refusal(alloc: Global) -> Option<ScriptError> {
+    let more = flags(alloc, 8161).ok()?;
+    refusal(alloc, more.as_str())
+}
+
+/// Why a list over the deepest is.
+fn lists_refusal(alloc: Global) -> Option<ScriptError> {
+    let deeper = lists(alloc, 100).ok()?;
+    refusal(alloc, deeper.as_str())
+}
+
+#[test]
+fn more_flags_and_deeper_lists_are_refused(rt: HostRuntime) {
+    let refused = [flags_refusal(rt.alloc()), lists_refusal(rt.alloc())];
+    assert!(rt; refused == [Some(ScriptError::BadScript); 2]);
+}
+
+/// What a reference is read as, where these are the types of the entries. None where it is no JSON.
 fn referred(
     alloc: Global,
     text: &str,
     types: &[InterfaceType],
-) -> Result<Result<InterfaceType, ScriptError>, Fail> {
-    let tree = Value::from_str(alloc, text)?;
-    Ok(type_of_json(&tree, types))
+) -> Option<Result<InterfaceType, ScriptError>> {
+    let tree = Value::from_str(alloc, text).ok()?;
+    Some(type_of_json(&tree, types))
+}
+
+/// What something answers of the types that entries read as.
+fn with_types<R, F: FnOnce(Global, &ComponentTypes, &[InterfaceType]) -> Option<R>>(
+    alloc: Global,
+    entries: &str,
+    ask: F,
+) -> Option<R>
+    requires { F.IsAlwaysCallable ask }
+{
+    let tree = Value::from_str(alloc, entries).ok()?;
+    let (table, types) = types_of_json(alloc, &tree).ok()?;
+    ask(alloc, &table, &types)
+}
+
+/// Whether two types are of the table, a list first, and are read by number as a plain type is by name.
+fn tell_two(alloc: Global, table: &ComponentTypes, types: &[InterfaceType]) -> Option<[bool; 5]> {
+    let [first, second] = types else {
+        return None;
+    };
+    let number = referred(alloc, "1", types)?;
+    let name = referred(alloc, r#""string""#, types)?;
+    let later = referred(alloc, "2", types)?;
+    Some([
+        table.contains(second),
+        matches!(first, InterfaceType::List(_)),
+        number == Ok(*second),
+        name == Ok(InterfaceType::String),
+        later == Err(ScriptError::BadScript),
+    ])
 }
 
 #[test]
-fn types_are_read_by_name_and_by_number(rt: HostRuntime) -> Result<(), Fail> {
-    let entries = Value::from_str(rt.alloc(), r#"[{"list":"u8"},{"option":0}]"#)?;
-    let (table, types) = types_of_json(rt.alloc(), &entries)?;
-    assert!(rt; types.len() == 2);
-    assert!(rt; table.contains(&types[1]) && matches!(&types[0], InterfaceType::List(_)));
-    let number = referred(rt.alloc(), "1", &types)?;
-    let name = referred(rt.alloc(), r#""string""#, &types)?;
-    let later = referred(rt.alloc(), "2", &types)?;
-    let refused = Err(ScriptError::BadScript);
-    assert!(rt; (number, name, later) == (Ok(types[1]), Ok(InterfaceType::String), refused));
-    Ok(())
+fn types_are_read_by_name_and_by_number(rt: HostRuntime) {
+    let told = with_types(rt.alloc(), r#"[{"list":"u8"},{"option":0}]"#, tell_two);
+    assert!(rt; told == Some([true; 5]));
+}
+
+/// Why an own handle of no resource is refused. None where it is read, or there is no tree.
+fn own_refusal(alloc: Global) -> Option<ScriptError> {
+    let owned = Value::from_str(alloc, r#"[{"own":0}]"#).ok()?;
+    types_of_json(alloc, &owned).err()
 }
 
 #[test]
-fn an_own_of_no_resource_is_no_type(rt: HostRuntime) -> Result<(), Fail> {
-    let owned = Value::from_str(rt.alloc(), r#"[{"own":0}]"#)?;
-    assert!(rt; types_of_json(rt.alloc(), &owned).is_err_and(|e| e == ScriptError::BadScript));
-    Ok(())
+fn an_own_of_no_resource_is_no_type(rt: HostRuntime) {
+    assert!(rt; own_refusal(rt.alloc()) == Some(ScriptError::BadScript));
+}
+
+/// How many types an input of one entry has.
+fn types_of_one_entry(alloc: Global) -> Option<usize> {
+    let all = Value::from_str(alloc, r#"{"types":[{"list":"u8"}]}"#).ok()?;
+    let (_, types) = listing_of_json(alloc, &all).ok()?;
+    Some(types.len())
 }
 
 #[test]
-fn an_input_has_a_type_for_each_entry(rt: HostRuntime) -> Result<(), Fail> {
-    let all = Value::from_str(rt.alloc(), r#"{"types":[{"list":"u8"}]}"#)?;
-    let (_, types) = listing_of_json(rt.alloc(), &all)?;
-    assert!(rt; types.len() == 1);
-    Ok(())
+fn an_input_has_a_type_for_each_entry(rt: HostRuntime) {
+    assert!(rt; types_of_one_entry(rt.alloc()) == Some(1));
 }
