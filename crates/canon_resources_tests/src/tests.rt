@@ -1,4 +1,5 @@
-//! Worked examples, and each public call once.
+//! Worked examples, and each public call once. One function owns each ledger and lends it to another, which tells whether each of its steps
+//! answers as it should.
 
 use canon_indices::{RuntimeInstance, StoreId};
 use canon_ledger::{
@@ -9,7 +10,8 @@ use canon_resources::{
     HostResource, HostResourceType, HostType, Resource, ResourceAny, ResourceDynamic,
     ResourceState, ResourceType,
 };
-use std::test::Fail;
+use std::alloc::Global;
+use std::fmt::Debug;
 
 /// A host type of the examples.
 struct File;
@@ -65,150 +67,224 @@ fn lower_borrow(ledger: &mut Ledger, rep: u32) -> Result<HostResourceIndex, Reso
     tables.host_resource_lower_borrow(rep)
 }
 
+/// What something answers of a new ledger with room for so many handles.
+fn with_ledger<R, F: FnOnce(&mut Ledger) -> Option<R>>(
+    alloc: Global,
+    limit: u64,
+    ask: F,
+) -> Option<R>
+    requires { F.IsAlwaysCallable ask }
+{
+    let mut ledger = Ledger::new(alloc, limit, HostResourceData::new(alloc)).ok()?;
+    ask(&mut ledger)
+}
+
 #[test]
 fn a_resource_type_tells_what_it_was_made_of(rt: HostRuntime) {
     let file = ResourceType::host::<File>();
-    assert!(rt; file.is_host::<File>());
-    assert!(rt; !file.is_host::<Socket>());
-    assert!(rt; file.as_host_dynamic() == None);
-    assert!(rt; file != ResourceType::host_dynamic(3));
-    assert!(rt; ResourceType::host_dynamic(3).as_host_dynamic() == Some(3));
     let first = ResourceType::guest(StoreId::from_u64(1), RuntimeInstance::from_u32(0), 3);
     let second = ResourceType::guest(StoreId::from_u64(2), RuntimeInstance::from_u32(0), 3);
-    assert!(rt; first != second);
-    assert!(rt; !first.is_host::<File>());
+    let told = [
+        file.is_host::<File>(),
+        !file.is_host::<Socket>(),
+        file.as_host_dynamic() == None,
+        file != ResourceType::host_dynamic(3),
+        ResourceType::host_dynamic(3).as_host_dynamic() == Some(3),
+        first != second,
+        !first.is_host::<File>(),
+    ];
+    assert!(rt; told == [true; 7]);
 }
 
-#[test]
-fn a_host_resource_tells_its_state(rt: HostRuntime) -> Result<(), Fail> {
-    let alloc = rt.alloc();
+/// Whether a value is shown as this text.
+fn shows<T: Debug>(alloc: Global, value: &T, text: &str) -> bool {
+    match format!(in alloc; "{value:?}") {
+        Ok(shown) => shown.as_str() == text,
+        Err(_) => false,
+    }
+}
+
+/// Whether an own resource tells its state, before it is given away and after.
+fn own_is_told(alloc: Global) -> [bool; 4] {
     let mut own = ResourceDynamic::new_own(7, 1);
     let told = (own.rep(), own.ty(), own.owned(), own.state());
-    assert!(rt; told == (7, 1, true, ResourceState::NotInTable));
-    assert!(rt;
-        format!(in alloc; "{own:?}")?.as_str()
-            == "Resource { rep: 7, state: \"own (not in table)\" }"
-    );
+    let before = "Resource { rep: 7, state: \"own (not in table)\" }";
+    let is_shown = shows(alloc, &own, before);
     own.take();
-    assert!(rt; own.owned());
-    assert!(rt; format!(in alloc; "{own:?}")?.as_str() == "Resource { rep: 7, state: \"taken\" }");
+    [
+        told == (7, 1, true, ResourceState::NotInTable),
+        is_shown,
+        own.owned(),
+        shows(alloc, &own, "Resource { rep: 7, state: \"taken\" }"),
+    ]
+}
+
+/// Whether a borrow does.
+fn borrow_is_told(alloc: Global) -> [bool; 2] {
     let borrow = ResourceDynamic::new_borrow(8, 1);
-    assert!(rt; !borrow.owned());
-    assert!(rt;
-        format!(in alloc; "{borrow:?}")?.as_str() == "Resource { rep: 8, state: \"borrow\" }"
-    );
+    [
+        !borrow.owned(),
+        shows(alloc, &borrow, "Resource { rep: 8, state: \"borrow\" }"),
+    ]
+}
+
+/// Whether an own resource does that is in the table.
+fn placed_is_told(alloc: Global) -> [bool; 2] {
     let mut placed: Resource<File> = Resource::new_own(9);
     placed.place(HostResourceIndex::new(1, 0));
     let state = ResourceState::Index(HostResourceIndex::new(1, 0));
-    assert!(rt; (placed.owned(), placed.rep(), placed.state()) == (true, 9, state));
-    assert!(rt; format!(in alloc; "{placed:?}")?.as_str() == "Resource { rep: 9, state: \"own\" }");
-    Ok(())
+    [
+        (placed.owned(), placed.rep(), placed.state()) == (true, 9, state),
+        shows(alloc, &placed, "Resource { rep: 9, state: \"own\" }"),
+    ]
 }
 
 #[test]
-fn a_kind_of_ones_own_has_host_resources(rt: HostRuntime) -> Result<(), Fail> {
+fn a_host_resource_tells_its_state(rt: HostRuntime) {
     let alloc = rt.alloc();
-    let mut ledger = Ledger::new(alloc, 100, HostResourceData::new(alloc))?;
-    let mut tables = HostResourceTables::new_host(&mut ledger);
-    let borrow: HostResource<Numbered, u32> = HostResource::new_borrow(6, 2);
-    assert!(rt; !borrow.owned());
-    let mut own: HostResource<Numbered, u32> = HostResource::new_own(7, 2);
-    assert!(rt; (own.owned(), own.rep(), own.ty()) == (true, 7, 2));
-    let idx = tables.host_resource_lower_own(7, None, None)?;
-    own.place(idx);
-    let any = own.try_into_resource_any(&mut tables)?;
-    assert!(rt; any.ty().as_host_dynamic() == Some(2));
-    let mut back = any.try_into_resource_dynamic(&mut tables)?;
-    assert!(rt; back.rep() == 7);
-    back.place(idx);
-    assert!(rt; back.state() == ResourceState::Index(idx));
-    Ok(())
-}
-
-#[test]
-fn an_own_resource_goes_into_the_table_and_comes_out(rt: HostRuntime) -> Result<(), Fail> {
-    let alloc = rt.alloc();
-    let mut ledger = Ledger::new(alloc, 100, HostResourceData::new(alloc))?;
-    let mut tables = HostResourceTables::new_host(&mut ledger);
-    let file: Resource<File> = Resource::new_own(7);
-    let any = ResourceAny::try_from_resource(file, &mut tables)?;
-    let again = ResourceAny::new(
-        HostResourceIndex::new(1, 0),
-        ResourceType::host::<File>(),
-        true,
+    let told = (
+        own_is_told(alloc),
+        borrow_is_told(alloc),
+        placed_is_told(alloc),
     );
-    assert!(rt; any == again);
-    assert!(rt; any.owned());
-    assert!(rt; any.ty().is_host::<File>());
+    assert!(rt; told == ([true; 4], [true; 2], [true; 2]));
+}
+
+/// Whether resources of a kind of one's own tell what they are.
+fn kind_is_told() -> [bool; 2] {
+    let borrow: HostResource<Numbered, u32> = HostResource::new_borrow(6, 2);
+    let own: HostResource<Numbered, u32> = HostResource::new_own(7, 2);
+    [
+        !borrow.owned(),
+        (own.owned(), own.rep(), own.ty()) == (true, 7, 2),
+    ]
+}
+
+/// Whether one that is in the table keeps its type and its representation.
+fn kind_is_kept(ledger: &mut Ledger) -> Option<[bool; 3]> {
+    let mut tables = HostResourceTables::new_host(ledger);
+    let idx = tables.host_resource_lower_own(7, None, None).ok()?;
+    let mut own: HostResource<Numbered, u32> = HostResource::new_own(7, 2);
+    own.place(idx);
+    let any = own.try_into_resource_any(&mut tables).ok()?;
+    let mut back = any.try_into_resource_dynamic(&mut tables).ok()?;
+    let rep = back.rep();
+    back.place(idx);
+    Some([
+        any.ty().as_host_dynamic() == Some(2),
+        rep == 7,
+        back.state() == ResourceState::Index(idx),
+    ])
+}
+
+#[test]
+fn a_kind_of_ones_own_has_host_resources(rt: HostRuntime) {
+    let told = (kind_is_told(), with_ledger(rt.alloc(), 100, kind_is_kept));
+    assert!(rt; told == ([true; 2], Some([true; 3])));
+}
+
+/// Whether a resource that is put into the table tells what it is.
+fn is_the_first_file(any: &ResourceAny) -> [bool; 4] {
     let index = HostResourceIndex::new(1, 0);
-    assert!(rt; (any.host_index(), any.synthetic_rep()) == (Some(index), None));
+    let again = ResourceAny::new(index, ResourceType::host::<File>(), true);
+    [
+        *any == again,
+        any.owned(),
+        any.ty().is_host::<File>(),
+        (any.host_index(), any.synthetic_rep()) == (Some(index), None),
+    ]
+}
+
+/// Whether it does, and comes out once, and as nothing of another type.
+fn put_in_and_taken_out(ledger: &mut Ledger) -> Option<([bool; 4], [bool; 4])> {
+    let mut tables = HostResourceTables::new_host(ledger);
+    let file: Resource<File> = Resource::new_own(7);
+    let any = ResourceAny::try_from_resource(file, &mut tables).ok()?;
     let refused = [
         any.try_into_resource::<Socket>(&mut tables).err(),
         any.try_into_resource_dynamic(&mut tables).err(),
     ];
-    let mismatch = ResourceFault::ResourceTypeMismatch;
-    assert!(rt; refused == [Some(mismatch), Some(mismatch)]);
-    let file = any.try_into_resource::<File>(&mut tables)?;
-    assert!(rt; (file.rep(), file.state()) == (7, ResourceState::NotInTable));
-    assert!(rt;
-        any.try_into_resource::<File>(&mut tables).err() == Some(ResourceFault::UnknownHandle(1))
-    );
-    assert!(rt; ledger.live() == 0);
-    Ok(())
+    let file = any.try_into_resource::<File>(&mut tables).ok()?;
+    let told = (file.rep(), file.state());
+    let twice = any.try_into_resource::<File>(&mut tables).err();
+    let taken_out = [
+        refused == [Some(ResourceFault::ResourceTypeMismatch); 2],
+        told == (7, ResourceState::NotInTable),
+        twice == Some(ResourceFault::UnknownHandle(1)),
+        ledger.live() == 0,
+    ];
+    Some((is_the_first_file(&any), taken_out))
 }
 
 #[test]
-fn a_resource_that_was_given_away_is_refused(rt: HostRuntime) -> Result<(), Fail> {
-    let alloc = rt.alloc();
-    let mut ledger = Ledger::new(alloc, 1, HostResourceData::new(alloc))?;
-    let mut tables = HostResourceTables::new_host(&mut ledger);
+fn an_own_resource_goes_into_the_table_and_comes_out(rt: HostRuntime) {
+    let told = with_ledger(rt.alloc(), 100, put_in_and_taken_out);
+    assert!(rt; told == Some(([true; 4], [true; 4])));
+}
+
+/// Whether one that was given away is refused, and one past the limit, and the one within it comes back.
+fn given_away(ledger: &mut Ledger) -> Option<[bool; 3]> {
+    let mut tables = HostResourceTables::new_host(ledger);
     let mut taken = ResourceDynamic::new_own(7, 1);
     taken.take();
-    assert!(rt;
-        taken.try_into_resource_any(&mut tables).err() == Some(ResourceFault::HostConsumed)
-    );
-    let any = ResourceDynamic::new_own(8, 1).try_into_resource_any(&mut tables)?;
-    assert!(rt;
-        ResourceDynamic::new_own(9, 1)
-            .try_into_resource_any(&mut tables)
-            .err()
-            == Some(ResourceFault::HandleLimit)
-    );
-    let back = ResourceDynamic::try_from_resource_any(any, &mut tables)?;
-    assert!(rt; (back.rep(), back.ty()) == (8, 1));
-    Ok(())
+    let refused = taken.try_into_resource_any(&mut tables).err();
+    let within = ResourceDynamic::new_own(8, 1);
+    let any = within.try_into_resource_any(&mut tables).ok()?;
+    let past = ResourceDynamic::new_own(9, 1);
+    let limit = past.try_into_resource_any(&mut tables).err();
+    let back = ResourceDynamic::try_from_resource_any(any, &mut tables).ok()?;
+    Some([
+        refused == Some(ResourceFault::HostConsumed),
+        limit == Some(ResourceFault::HandleLimit),
+        (back.rep(), back.ty()) == (8, 1),
+    ])
 }
 
 #[test]
-fn a_borrow_of_the_hosts_own_making_has_no_handle(rt: HostRuntime) -> Result<(), Fail> {
-    let alloc = rt.alloc();
-    let mut ledger = Ledger::new(alloc, 100, HostResourceData::new(alloc))?;
-    let mut tables = HostResourceTables::new_host(&mut ledger);
-    let any = ResourceDynamic::new_borrow(7, 1).try_into_resource_any(&mut tables)?;
+fn a_resource_that_was_given_away_is_refused(rt: HostRuntime) {
+    assert!(rt; with_ledger(rt.alloc(), 1, given_away) == Some([true; 3]));
+}
+
+/// Whether a borrow of the host's own making tells what it is, and is in no table.
+fn borrow_of_its_own(ledger: &mut Ledger) -> Option<[bool; 3]> {
+    let mut tables = HostResourceTables::new_host(ledger);
+    let made = ResourceDynamic::new_borrow(7, 1);
+    let any = made.try_into_resource_any(&mut tables).ok()?;
     let again = ResourceAny::new_borrow(7, ResourceType::host_dynamic(1));
-    assert!(rt; any == again);
     let told = (any.owned(), any.host_index(), any.synthetic_rep());
-    assert!(rt; told == (false, None, Some(7)));
-    let borrow = any.try_into_resource_dynamic(&mut tables)?;
-    let told = (borrow.rep(), borrow.state(), ledger.live());
-    assert!(rt; told == (7, ResourceState::Borrow, 0));
-    Ok(())
+    let borrow = any.try_into_resource_dynamic(&mut tables).ok()?;
+    let kept = (borrow.rep(), borrow.state(), ledger.live());
+    Some([
+        any == again,
+        told == (false, None, Some(7)),
+        kept == (7, ResourceState::Borrow, 0),
+    ])
 }
 
 #[test]
-fn a_borrow_handle_is_dropped_where_it_is_converted(rt: HostRuntime) -> Result<(), Fail> {
-    let alloc = rt.alloc();
-    let mut ledger = Ledger::new(alloc, 100, HostResourceData::new(alloc))?;
-    let _scope = ledger.enter()?;
-    let index = lower_borrow(&mut ledger, 7)?;
-    assert!(rt; ledger.live() == 1);
+fn a_borrow_of_the_hosts_own_making_has_no_handle(rt: HostRuntime) {
+    assert!(rt; with_ledger(rt.alloc(), 100, borrow_of_its_own) == Some([true; 3]));
+}
+
+/// Whether a borrow handle is gone once it is converted.
+fn borrow_is_converted(ledger: &mut Ledger) -> Option<[bool; 4]> {
+    let _scope = ledger.enter().ok()?;
+    let index = lower_borrow(ledger, 7).ok()?;
+    let before = ledger.live();
     let any = ResourceAny::new(index, ResourceType::host::<File>(), false);
-    let mut tables = HostResourceTables::new_host(&mut ledger);
-    let borrow: Resource<File> = Resource::try_from_resource_any(any, &mut tables)?;
-    assert!(rt; (borrow.rep(), borrow.owned()) == (7, false));
-    assert!(rt;
-        any.try_into_resource::<File>(&mut tables).err() == Some(ResourceFault::UnknownHandle(1))
-    );
-    assert!(rt; ledger.live() == 0);
-    Ok(())
+    let mut tables = HostResourceTables::new_host(ledger);
+    let borrow: Resource<File> = Resource::try_from_resource_any(any, &mut tables).ok()?;
+    let told = (borrow.rep(), borrow.owned());
+    let twice = any.try_into_resource::<File>(&mut tables).err();
+    Some([
+        before == 1,
+        told == (7, false),
+        twice == Some(ResourceFault::UnknownHandle(1)),
+        ledger.live() == 0,
+    ])
+}
+
+#[test]
+fn a_borrow_handle_is_dropped_where_it_is_converted(rt: HostRuntime) {
+    assert!(rt; with_ledger(rt.alloc(), 100, borrow_is_converted) == Some([true; 4]));
 }
