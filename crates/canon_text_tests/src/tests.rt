@@ -1,16 +1,16 @@
-//! Worked values, and short inputs against plain decoders.
+//! Worked values, and short inputs against plain decoders. A function that owns a text or a buffer has few ways out, and tells what a test
+//! asserts on.
 
 ghost use Rattle.std.specs.Prelude.{◌≡◌, ◌%◌, ◌≤◌, length};
 
 use canon_text::{
-    DecodeError, SizePair, TextError, decode_latin1, decode_utf8, decode_utf16,
+    CowStr, DecodeError, SizePair, TextError, decode_latin1, decode_utf8, decode_utf16,
     inflate_latin1_bytes, inflate_latin1_parts, latin1_to_latin1, latin1_to_utf8, latin1_to_utf16,
     utf8_to_compact_utf16, utf8_to_latin1, utf8_to_utf8, utf8_to_utf16,
     utf16_to_compact_probably_utf16, utf16_to_compact_utf16, utf16_to_latin1, utf16_to_utf8,
     utf16_to_utf16,
 };
 use std::alloc::Global;
-use std::test::Fail;
 
 fn pair(src_read: u64, dst_written: u64) -> SizePair {
     SizePair {
@@ -123,25 +123,25 @@ fn whole_texts_are_copied_and_widened(rt: HostRuntime) {
     assert!(rt; units == [0x61, 0xE9, 0xFF]);
 }
 
-#[test]
-fn texts_are_borrowed_where_they_can_be(rt: HostRuntime) -> Result<(), Fail> {
-    let text = decode_utf8(&[0xE4, 0xB8, 0xAD])?;
-    assert!(rt; (text.as_str(), text.is_borrowed()) == ("中", true));
-    let text = decode_latin1(rt.alloc(), b"ab")?;
-    assert!(rt; (text.as_str(), text.is_borrowed()) == ("ab", true));
-    let text = decode_latin1(rt.alloc(), &[0x61, 0xE9])?;
-    assert!(rt; (text.as_str(), text.is_borrowed()) == ("aé", false));
-    let text = decode_utf16(rt.alloc(), &[0x61, 0, 0x3D, 0xD8, 0, 0xDE])?;
-    assert!(rt; (text.as_str(), text.is_borrowed()) == ("a😀", false));
-    Ok(())
+/// Whether a text is borrowed. None where it is none, or isn't these bytes.
+fn borrowed_as(text: Option<CowStr<'_>>, bytes: &[u8]) -> Option<bool> {
+    match &text {
+        Some(text) if text.as_str().as_bytes() == bytes => Some(text.is_borrowed()),
+        _ => None,
+    }
 }
 
 #[test]
-fn decoding_names_the_lone_surrogate_by_its_unit(rt: HostRuntime) {
-    match decode_utf16(rt.alloc(), &[0x61, 0, 0, 0xD8]) {
-        Ok(_) => assert!(rt; false),
-        Err(error) => assert!(rt; error == DecodeError::Text(TextError::InvalidUtf16(1))),
-    }
+fn texts_are_borrowed_where_they_can_be(rt: HostRuntime) {
+    let alloc = rt.alloc();
+    let utf16 = [0x61, 0, 0x3D, 0xD8, 0, 0xDE];
+    let told = [
+        borrowed_as(decode_utf8(&[0xE4, 0xB8, 0xAD]).ok(), "中".as_bytes()),
+        borrowed_as(decode_latin1(alloc, b"ab").ok(), "ab".as_bytes()),
+        borrowed_as(decode_latin1(alloc, &[0x61, 0xE9]).ok(), "aé".as_bytes()),
+        borrowed_as(decode_utf16(alloc, &utf16).ok(), "a😀".as_bytes()),
+    ];
+    assert!(rt; told == [Some(true), Some(true), Some(false), Some(false)]);
 }
 
 // The bytes of 255 units of U+0000 and one or two more: units are made 256 at a time.
@@ -171,13 +171,30 @@ fn fault_of(alloc: Global, src: &[u8]) -> Option<u64>
 }
 
 #[test]
-fn a_pair_is_decoded_across_two_pieces(rt: HostRuntime) -> Result<(), Fail> {
+fn decoding_names_the_lone_surrogate_by_its_unit(rt: HostRuntime) {
+    assert!(rt; fault_of(rt.alloc(), &[0x61, 0, 0, 0xD8]) == Some(1));
+}
+
+/// How many bytes a text has, and whether those from the 256th on are the pair.
+fn has_the_pair(text: &str) -> (usize, bool) {
+    let bytes = text.as_bytes();
+    let is_last = match bytes.get(255..) {
+        Some(last) => last == [0xF0, 0x9F, 0x98, 0x80].as_slice(),
+        None => false,
+    };
+    (bytes.len(), is_last)
+}
+
+/// The same of a pair across two pieces.
+fn pair_is_decoded(alloc: Global) -> Option<(usize, bool)> {
     let src = in_two_pieces(0xD83D, 0xDE00);
-    let text = decode_utf16(rt.alloc(), &src)?;
-    let bytes = text.as_str().as_bytes();
-    assert!(rt; bytes.len() == 259);
-    assert!(rt; &bytes[255..] == [0xF0, 0x9F, 0x98, 0x80].as_slice());
-    Ok(())
+    let text = decode_utf16(alloc, &src).ok()?;
+    Some(has_the_pair(text.as_str()))
+}
+
+#[test]
+fn a_pair_is_decoded_across_two_pieces(rt: HostRuntime) {
+    assert!(rt; pair_is_decoded(rt.alloc()) == Some((259, true)));
 }
 
 #[test]
@@ -328,112 +345,167 @@ struct Forms {
     utf16_bytes: Vec<u8>,
 }
 
-fn spelled(alloc: Global, count: usize, accent: usize) -> Result<Forms, Fail> {
-    let mut forms = Forms {
-        latin1: Vec::new(alloc),
-        utf8: Vec::new(alloc),
-        utf16: Vec::new(alloc),
-        utf16_bytes: Vec::new(alloc),
-    };
+/// Adds a character to each form.
+fn add(forms: &mut Forms, byte: u8) -> Option<()> {
+    forms.latin1.push(byte).ok()?;
+    forms.utf16.push(u16::from(byte)).ok()?;
+    forms.utf16_bytes.push(byte).ok()?;
+    forms.utf16_bytes.push(0).ok()?;
+    if byte < 128 {
+        return forms.utf8.push(byte).ok();
+    }
+    forms.utf8.push(0xC3).ok()?;
+    forms.utf8.push(0xA9).ok()
+}
+
+/// Adds so many letters, of which this one has an accent.
+fn spell(forms: &mut Forms, count: usize, accent: usize) -> Option<()> {
     for i in 0..count {
         let byte = if i == accent {
             0xE9
         } else {
             97 + (i % 26) as u8
         };
-        forms.latin1.push(byte)?;
-        forms.utf16.push(u16::from(byte))?;
-        forms.utf16_bytes.push(byte)?;
-        forms.utf16_bytes.push(0)?;
-        if byte < 128 {
-            forms.utf8.push(byte)?;
-        } else {
-            forms.utf8.push(0xC3)?;
-            forms.utf8.push(0xA9)?;
-        }
+        add(forms, byte)?;
     }
-    Ok(forms)
+    Some(())
 }
 
-// Whether the conversions from UTF-8 and from Latin-1 give these forms.
-fn bytes_agree(alloc: Global, forms: &Forms) -> Result<bool, Fail> {
-    let mut bytes = Vec::from_elem(alloc, 0u8, forms.utf8.len())?;
-    let mut units = Vec::from_elem(alloc, 0u16, forms.utf8.len())?;
+/// Whether UTF-8 is copied, and made of Latin-1, and Latin-1 of it.
+fn bytes_agree(alloc: Global, forms: &Forms) -> Option<[bool; 3]> {
+    let mut bytes = Vec::from_elem(alloc, 0u8, forms.utf8.len()).ok()?;
     let copied = utf8_to_utf8(&forms.utf8, &mut bytes).is_ok() && bytes == forms.utf8;
-    let widened = utf8_to_utf16(&forms.utf8, &mut units).is_ok();
-    units.truncate(forms.utf16.len());
     let pass = latin1_to_utf8(&forms.latin1, &mut bytes, false);
     let spelled = pass.src_read == forms.latin1.len() as u64 && bytes == forms.utf8;
     let narrowed = utf8_to_latin1(&forms.utf8, &mut bytes).src_read == forms.utf8.len() as u64;
     bytes.truncate(forms.latin1.len());
-    let mut same = Vec::from_elem(alloc, 0u16, forms.latin1.len())?;
-    latin1_to_utf16(&forms.latin1, &mut same);
-    let kept = bytes == forms.latin1 && units == forms.utf16 && same == forms.utf16;
-    Ok(copied && widened && spelled && narrowed && kept)
+    Some([copied, spelled, narrowed && bytes == forms.latin1])
 }
 
-// Whether the decoders, a copy of Latin-1 and an inflation in place give these forms.
-fn decoders_agree(alloc: Global, forms: &Forms) -> Result<bool, Fail> {
+/// Whether UTF-8 is widened.
+fn utf8_widens(alloc: Global, forms: &Forms) -> Option<bool> {
+    let mut units = Vec::from_elem(alloc, 0u16, forms.utf8.len()).ok()?;
+    let widened = utf8_to_utf16(&forms.utf8, &mut units).is_ok();
+    units.truncate(forms.utf16.len());
+    Some(widened && units == forms.utf16)
+}
+
+/// Whether Latin-1 is.
+fn latin1_widens(alloc: Global, forms: &Forms) -> Option<bool> {
+    let mut units = Vec::from_elem(alloc, 0u16, forms.latin1.len()).ok()?;
+    latin1_to_utf16(&forms.latin1, &mut units);
+    Some(units == forms.utf16)
+}
+
+/// Whether Latin-1 is copied, and inflated in place.
+fn latin1_inflates(alloc: Global, forms: &Forms) -> Option<[bool; 2]> {
     let count = forms.latin1.len();
-    if count > 65 || forms.utf16_bytes.len() % 2 != 0 {
-        return Ok(false);
+    if count > 65 {
+        return None;
     }
-    let whole = decode_utf8(&forms.utf8)?;
-    let narrow = decode_latin1(alloc, &forms.latin1)?;
-    let wide = decode_utf16(alloc, &forms.utf16_bytes)?;
-    let same = narrow.as_str() == whole.as_str() && wide.as_str() == whole.as_str();
-    let mut copy = Vec::from_elem(alloc, 0u8, count)?;
+    let mut copy = Vec::from_elem(alloc, 0u8, count).ok()?;
     latin1_to_latin1(&forms.latin1, &mut copy);
     let copied = copy == forms.latin1;
-    copy.extend_from_slice(&forms.latin1)?;
+    copy.extend_from_slice(&forms.latin1).ok()?;
     let rest = inflate_latin1_bytes(&mut copy, count as u64).len();
-    let is_text = whole.as_str().as_bytes() == forms.utf8.as_slice();
-    Ok(is_text && same && copied && rest == 0 && copy == forms.utf16_bytes)
+    Some([copied, rest == 0 && copy == forms.utf16_bytes])
 }
 
-// Whether the conversions from UTF-16 and into the compact form give these forms.
-fn units_agree(alloc: Global, forms: &Forms) -> Result<bool, Fail> {
-    let count = forms.utf16.len();
-    if count > 65 || forms.utf8.len() > 66 {
-        return Ok(false);
+/// Whether each form is decoded as the same text.
+fn decoders_agree(alloc: Global, forms: &Forms) -> [bool; 3] {
+    if forms.utf16_bytes.len() % 2 != 0 {
+        return [false; 3];
     }
-    let mut bytes = Vec::from_elem(alloc, 0u8, forms.utf8.len())?;
-    let mut units = Vec::from_elem(alloc, 0u16, count)?;
-    let copied = utf16_to_utf16(&forms.utf16, &mut units).is_ok() && units == forms.utf16;
-    let spelled = utf16_to_utf8(&forms.utf16, &mut bytes, false).is_ok() && bytes == forms.utf8;
-    let mut narrow = Vec::from_elem(alloc, 0u8, count)?;
+    let (utf8, latin1, utf16) = (&forms.utf8, &forms.latin1, &forms.utf16_bytes);
+    [
+        borrowed_as(decode_utf8(utf8).ok(), utf8).is_some(),
+        borrowed_as(decode_latin1(alloc, latin1).ok(), utf8).is_some(),
+        borrowed_as(decode_utf16(alloc, utf16).ok(), utf8).is_some(),
+    ]
+}
+
+/// Whether UTF-16 is copied.
+fn units_are_copied(alloc: Global, forms: &Forms) -> Option<bool> {
+    let mut units = Vec::from_elem(alloc, 0u16, forms.utf16.len()).ok()?;
+    let copied = utf16_to_utf16(&forms.utf16, &mut units).is_ok();
+    Some(copied && units == forms.utf16)
+}
+
+/// Whether it is made UTF-8.
+fn units_are_spelled(alloc: Global, forms: &Forms) -> Option<bool> {
+    let mut bytes = Vec::from_elem(alloc, 0u8, forms.utf8.len()).ok()?;
+    let spelled = utf16_to_utf8(&forms.utf16, &mut bytes, false).is_ok();
+    Some(spelled && bytes == forms.utf8)
+}
+
+/// Whether it is made Latin-1.
+fn units_are_narrowed(alloc: Global, forms: &Forms) -> Option<bool> {
+    let count = forms.utf16.len();
+    let mut narrow = Vec::from_elem(alloc, 0u8, count).ok()?;
     let narrowed = utf16_to_latin1(&forms.utf16, &mut narrow).src_read == count as u64;
-    let mut wide = Vec::from_elem(alloc, 0u8, 2 * count)?;
+    Some(narrowed && narrow == forms.latin1)
+}
+
+/// Whether its units stand in the compact form, and its Latin-1 where it is probably UTF-16.
+fn units_are_compacted(alloc: Global, forms: &Forms) -> Option<[bool; 2]> {
+    let count = forms.utf16.len();
+    if count > 65 {
+        return None;
+    }
+    let mut wide = Vec::from_elem(alloc, 0u8, 2 * count).ok()?;
     let went_on = utf16_to_compact_utf16(&forms.utf16, &mut wide, 0).is_ok();
-    let mut inflated = Vec::from_elem(alloc, 0u8, 2 * forms.utf8.len())?;
-    let began = utf8_to_compact_utf16(&forms.utf8, &mut inflated, 0).is_ok();
-    inflated.truncate(2 * count);
-    let kept = wide == forms.utf16_bytes && inflated == forms.utf16_bytes;
+    let kept = wide == forms.utf16_bytes;
     let compacted = utf16_to_compact_probably_utf16(&forms.utf16, &mut wide).is_ok();
     wide.truncate(count);
-    Ok(
-        copied
-            && spelled
-            && narrowed
-            && narrow == forms.latin1
-            && went_on
-            && began
-            && kept
-            && compacted
-            && wide == forms.latin1,
-    )
+    Some([went_on && kept, compacted && wide == forms.latin1])
+}
+
+/// Whether the units of UTF-8 stand there.
+fn utf8_is_compacted(alloc: Global, forms: &Forms) -> Option<bool> {
+    let len = forms.utf8.len();
+    if len > 66 {
+        return None;
+    }
+    let mut inflated = Vec::from_elem(alloc, 0u8, 2 * len).ok()?;
+    let began = utf8_to_compact_utf16(&forms.utf8, &mut inflated, 0).is_ok();
+    inflated.truncate(forms.utf16_bytes.len());
+    Some(began && inflated == forms.utf16_bytes)
+}
+
+/// What each conversion of one of these forms tells.
+fn conversions_tell(alloc: Global, forms: &Forms) -> [bool; 10] {
+    [
+        bytes_agree(alloc, forms) == Some([true; 3]),
+        utf8_widens(alloc, forms) == Some(true),
+        latin1_widens(alloc, forms) == Some(true),
+        latin1_inflates(alloc, forms) == Some([true; 2]),
+        decoders_agree(alloc, forms) == [true; 3],
+        units_are_copied(alloc, forms) == Some(true),
+        units_are_spelled(alloc, forms) == Some(true),
+        units_are_narrowed(alloc, forms) == Some(true),
+        units_are_compacted(alloc, forms) == Some([true; 2]),
+        utf8_is_compacted(alloc, forms) == Some(true),
+    ]
+}
+
+/// The same of a text of so many letters, of which this one has an accent.
+fn runs_tell(alloc: Global, count: usize, accent: usize) -> Option<[bool; 10]> {
+    let mut forms = Forms {
+        latin1: Vec::new(alloc),
+        utf8: Vec::new(alloc),
+        utf16: Vec::new(alloc),
+        utf16_bytes: Vec::new(alloc),
+    };
+    spell(&mut forms, count, accent)?;
+    Some(conversions_tell(alloc, &forms))
 }
 
 #[test]
-fn runs_are_converted_as_a_plain_loop_converts_them(rt: HostRuntime) -> Result<(), Fail> {
+fn runs_are_converted_as_a_plain_loop_converts_them(rt: HostRuntime) {
     for count in [0usize, 1, 31, 32, 33, 64, 65] {
         // At 65 no character is one.
         for accent in [0usize, 31, 32, count.saturating_sub(1), 65] {
-            let forms = spelled(rt.alloc(), count, accent)?;
-            assert!(rt; bytes_agree(rt.alloc(), &forms)?);
-            assert!(rt; units_agree(rt.alloc(), &forms)?);
-            assert!(rt; decoders_agree(rt.alloc(), &forms)?);
+            assert!(rt; runs_tell(rt.alloc(), count, accent) == Some([true; 10]));
         }
     }
-    Ok(())
 }
