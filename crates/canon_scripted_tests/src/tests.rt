@@ -51,16 +51,16 @@ fn with_guest<R, F: FnOnce(Global, &mut Memory, &mut ScriptedGuest) -> Option<R>
 }
 
 /// Whether a step returns this word.
-fn returns(step: &Result<Step, GuestFault>, word: u32) -> bool {
-    match step {
+fn returns(step: Result<Step, GuestFault>, word: u32) -> bool {
+    match &step {
         Ok(Step::Return(words)) => words.as_slice() == [ValRaw::u32(word)].as_slice(),
         _ => false,
     }
 }
 
 /// Whether it asks for the import of this number, with this word.
-fn asks(step: &Result<Step, GuestFault>, number: u32, word: u32) -> bool {
-    match step {
+fn asks(step: Result<Step, GuestFault>, number: u32, word: u32) -> bool {
+    match &step {
         Ok(Step::Import { index, words }) => {
             *index == number && words.as_slice() == [ValRaw::u32(word)].as_slice()
         }
@@ -69,11 +69,8 @@ fn asks(step: &Result<Step, GuestFault>, number: u32, word: u32) -> bool {
 }
 
 /// Whether it traps.
-fn traps(step: &Result<Step, GuestFault>) -> bool {
-    match step {
-        Err(fault) => *fault == GuestFault::Trap,
-        Ok(_) => false,
-    }
+fn traps(step: Result<Step, GuestFault>) -> bool {
+    step.err() == Some(GuestFault::Trap)
 }
 
 /// What five requests for memory answer.
@@ -212,10 +209,10 @@ fn takes_asking(
     let actions = actions_of(alloc, add_asking)?;
     guest.load(actions, Vec::new(alloc), false, false);
     Some([
-        asks(&guest.start(memory, 0, &[]), 5, 1),
+        asks(guest.start(memory, 0, &[]), 5, 1),
         memory.as_slice() == [0, 7, 8, 0, 0].as_slice(),
-        returns(&guest.resume(memory, &[]), 2),
-        traps(&guest.start(memory, 0, &[])),
+        returns(guest.resume(memory, &[]), 2),
+        traps(guest.start(memory, 0, &[])),
     ])
 }
 
@@ -242,10 +239,10 @@ fn takes_trapping(
     let actions = actions_of(alloc, add_trapping)?;
     guest.load(actions, Vec::new(alloc), false, false);
     Some([
-        traps(&guest.start(memory, 0, &[])),
+        traps(guest.start(memory, 0, &[])),
         memory.as_slice() == [7, 0, 0].as_slice(),
-        traps(&guest.start(memory, 0, &[])),
-        returns(&guest.start(memory, 0, &[]), 2),
+        traps(guest.start(memory, 0, &[])),
+        returns(guest.start(memory, 0, &[]), 2),
     ])
 }
 
