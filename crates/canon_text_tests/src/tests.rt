@@ -23,27 +23,32 @@ fn pair(src_read: u64, dst_written: u64) -> SizePair {
 fn a_surrogate_pair_is_read_whole_or_not_at_all(rt: HostRuntime) {
     let mut dst = [0; 4];
     let read = utf16_to_utf8(&[0x61, 0xD83D, 0xDE00], &mut dst, false);
-    assert!(rt; read == Ok(pair(1, 1)));
-    assert!(rt; dst == [0x61, 0, 0, 0]);
+    let first = (read, dst);
     let read = utf16_to_utf8(&[0xD83D, 0xDE00], &mut dst, false);
-    assert!(rt; read == Ok(pair(2, 4)));
-    assert!(rt; dst == [0xF0, 0x9F, 0x98, 0x80]);
+    let want = (Ok(pair(1, 1)), [0x61, 0, 0, 0]);
+    assert!(rt; (first, (read, dst)) == (want, (Ok(pair(2, 4)), [0xF0, 0x9F, 0x98, 0x80])));
 }
 
 #[test]
 fn a_pass_stops_where_a_character_does_not_fit(rt: HostRuntime) {
     let mut dst = [0; 3];
-    assert!(rt; utf16_to_utf8(&[0x61, 0x4E2D], &mut dst, false) == Ok(pair(1, 1)));
-    assert!(rt; dst == [0x61, 0, 0]);
+    let read = utf16_to_utf8(&[0x61, 0x4E2D], &mut dst, false);
+    assert!(rt; (read, dst) == (Ok(pair(1, 1)), [0x61, 0, 0]));
 }
 
 #[test]
 fn a_first_pass_stops_above_u_007f(rt: HostRuntime) {
     let mut dst = [0; 4];
-    assert!(rt; latin1_to_utf8(&[0x61, 0xE9], &mut dst, true) == pair(1, 1));
-    assert!(rt; dst == [0x61, 0, 0, 0]);
-    assert!(rt; latin1_to_utf8(&[0x61, 0xE9], &mut dst, false) == pair(2, 3));
-    assert!(rt; dst == [0x61, 0xC3, 0xA9, 0]);
+    let first = latin1_to_utf8(&[0x61, 0xE9], &mut dst, true);
+    let kept = dst;
+    let second = latin1_to_utf8(&[0x61, 0xE9], &mut dst, false);
+    let told = ((first, kept), (second, dst));
+    assert!(rt;
+        told == (
+            (pair(1, 1), [0x61, 0, 0, 0]),
+            (pair(2, 3), [0x61, 0xC3, 0xA9, 0])
+        )
+    );
     assert!(rt; utf16_to_utf8(&[0x80], &mut dst, true) == Ok(pair(0, 0)));
 }
 
@@ -51,76 +56,77 @@ fn a_first_pass_stops_above_u_007f(rt: HostRuntime) {
 fn a_fault_keeps_what_was_written_before_it(rt: HostRuntime) {
     let mut dst = [0; 4];
     let refused = utf16_to_utf8(&[0x61, 0xD800], &mut dst, false);
-    assert!(rt; refused == Err(TextError::InvalidUtf16(1)));
-    assert!(rt; dst == [0x61, 0, 0, 0]);
+    assert!(rt; (refused, dst) == (Err(TextError::InvalidUtf16(1)), [0x61, 0, 0, 0]));
     let mut units = [7; 3];
     let refused = utf16_to_utf16(&[0x61, 0xDC00, 0x62], &mut units);
-    assert!(rt; refused == Err(TextError::InvalidUtf16(1)));
-    assert!(rt; units == [0x61, 7, 7]);
+    assert!(rt; (refused, units) == (Err(TextError::InvalidUtf16(1)), [0x61, 7, 7]));
     let mut bytes = [7; 2];
     let refused = utf8_to_utf8(&[0x61, 0xFF], &mut bytes);
-    assert!(rt; refused == Err(TextError::InvalidUtf8(1)));
-    assert!(rt; bytes == [7, 7]);
+    assert!(rt; (refused, bytes) == (Err(TextError::InvalidUtf8(1)), [7, 7]));
 }
 
 #[test]
 fn latin1_stops_without_a_fault_above_u_00ff(rt: HostRuntime) {
     let mut dst = [0; 6];
     let read = utf8_to_latin1(&[0x61, 0xC3, 0xA9, 0xE4, 0xB8, 0xAD], &mut dst);
-    assert!(rt; read == pair(3, 2));
-    assert!(rt; dst == [0x61, 0xE9, 0, 0, 0, 0]);
+    assert!(rt; (read, dst) == (pair(3, 2), [0x61, 0xE9, 0, 0, 0, 0]));
     let mut dst = [0; 3];
-    assert!(rt; utf16_to_latin1(&[0x61, 0xE9, 0x100], &mut dst) == pair(2, 2));
-    assert!(rt; dst == [0x61, 0xE9, 0]);
+    let read = utf16_to_latin1(&[0x61, 0xE9, 0x100], &mut dst);
+    assert!(rt; (read, dst) == (pair(2, 2), [0x61, 0xE9, 0]));
 }
 
 #[test]
 fn a_compact_text_is_latin1_where_it_can_be(rt: HostRuntime) {
     let mut dst = [0; 4];
-    assert!(rt; utf16_to_compact_probably_utf16(&[0x61, 0xE9], &mut dst) == Ok(2));
-    assert!(rt; dst == [0x61, 0xE9, 0xE9, 0]);
+    let plain = utf16_to_compact_probably_utf16(&[0x61, 0xE9], &mut dst);
+    let first = (plain, dst);
     // The length 2 with UTF16_TAG of CanonicalABI.md, which is 2^31.
     let tagged = utf16_to_compact_probably_utf16(&[0x61, 0x4E2D], &mut dst);
-    assert!(rt; tagged == Ok(2_147_483_650));
-    assert!(rt; dst == [0x61, 0, 0x2D, 0x4E]);
+    let want = (Ok(2_147_483_650), [0x61, 0, 0x2D, 0x4E]);
+    assert!(rt; (first, (tagged, dst)) == ((Ok(2), [0x61, 0xE9, 0xE9, 0]), want));
 }
 
 #[test]
 fn a_text_begun_in_latin1_goes_on_as_utf16(rt: HostRuntime) {
     let mut dst = [0x61, 0, 0, 0, 0, 0];
-    assert!(rt; utf8_to_compact_utf16(&[0xC3, 0xA9], &mut dst, 1) == Ok(2));
-    assert!(rt; dst == [0x61, 0, 0xE9, 0, 0, 0]);
+    let read = utf8_to_compact_utf16(&[0xC3, 0xA9], &mut dst, 1);
+    assert!(rt; (read, dst) == (Ok(2), [0x61, 0, 0xE9, 0, 0, 0]));
     let mut dst = [0x61, 0xE9, 0, 0, 0, 0, 0, 0];
-    assert!(rt; utf16_to_compact_utf16(&[0xD83D, 0xDE00], &mut dst, 2) == Ok(4));
-    assert!(rt; dst == [0x61, 0, 0xE9, 0, 0x3D, 0xD8, 0, 0xDE]);
+    let read = utf16_to_compact_utf16(&[0xD83D, 0xDE00], &mut dst, 2);
+    assert!(rt; (read, dst) == (Ok(4), [0x61, 0, 0xE9, 0, 0x3D, 0xD8, 0, 0xDE]));
 }
 
 #[test]
 fn inflation_hands_out_the_rest(rt: HostRuntime) {
     let mut dst = [0x61, 0xE9, 1, 2, 3];
-    let rest = inflate_latin1_bytes(&mut dst, 2);
-    assert!(rt; rest.len() == 1);
-    assert!(rt; dst == [0x61, 0, 0xE9, 0, 3]);
+    let rest = inflate_latin1_bytes(&mut dst, 2).len();
+    assert!(rt; (rest, dst) == (1, [0x61, 0, 0xE9, 0, 3]));
     let mut dst = [0x61, 0xE9, 1, 2, 3];
     let (first, rest) = inflate_latin1_parts(&mut dst, 2);
-    assert!(rt; (first.len(), rest.len()) == (4, 1));
-    assert!(rt; dst == [0x61, 0, 0xE9, 0, 3]);
+    let lens = (first.len(), rest.len());
+    assert!(rt; (lens, dst) == ((4, 1), [0x61, 0, 0xE9, 0, 3]));
 }
 
 #[test]
-fn whole_texts_are_copied_and_widened(rt: HostRuntime) {
+fn whole_texts_are_copied(rt: HostRuntime) {
     let mut bytes = [0; 3];
-    assert!(rt; utf8_to_utf8(&[0xE4, 0xB8, 0xAD], &mut bytes) == Ok(()));
-    assert!(rt; bytes == [0xE4, 0xB8, 0xAD]);
+    let read = utf8_to_utf8(&[0xE4, 0xB8, 0xAD], &mut bytes);
+    let utf8 = (read, bytes);
     latin1_to_latin1(&[0x61, 0xE9, 0xFF], &mut bytes);
-    assert!(rt; bytes == [0x61, 0xE9, 0xFF]);
+    let want = (Ok(()), [0xE4, 0xB8, 0xAD]);
+    assert!(rt; (utf8, bytes) == (want, [0x61, 0xE9, 0xFF]));
+}
+
+#[test]
+fn whole_texts_are_widened(rt: HostRuntime) {
     let mut units = [7; 3];
-    assert!(rt; utf8_to_utf16(&[0xE4, 0xB8, 0xAD], &mut units) == Ok(1));
-    assert!(rt; units == [0x4E2D, 7, 7]);
-    assert!(rt; utf16_to_utf16(&[0x61, 0xD83D, 0xDE00], &mut units) == Ok(()));
-    assert!(rt; units == [0x61, 0xD83D, 0xDE00]);
+    let read = utf8_to_utf16(&[0xE4, 0xB8, 0xAD], &mut units);
+    let utf8 = (read, units);
+    let read = utf16_to_utf16(&[0x61, 0xD83D, 0xDE00], &mut units);
+    let utf16 = (read, units);
     latin1_to_utf16(&[0x61, 0xE9, 0xFF], &mut units);
-    assert!(rt; units == [0x61, 0xE9, 0xFF]);
+    let want = ((Ok(1), [0x4E2D, 7, 7]), (Ok(()), [0x61, 0xD83D, 0xDE00]));
+    assert!(rt; ((utf8, utf16), units) == (want, [0x61, 0xE9, 0xFF]));
 }
 
 /// Whether a text is borrowed. None where it is none, or isn't these bytes.
@@ -234,13 +240,12 @@ fn two_bytes_are_read_as_a_plain_decoder_reads_them(rt: HostRuntime) {
             let src = [a as u8, b as u8];
             let mut units = [0; 2];
             let answer = utf8_to_utf16(&src, &mut units);
-            match plain_two(a as u8, b as u8) {
-                Ok((one, None)) => assert!(rt; (answer, units) == (Ok(1), [one, 0])),
-                Ok((one, Some(two))) => assert!(rt; (answer, units) == (Ok(2), [one, two])),
-                Err(at) => assert!(rt;
-                    (answer, units) == (Err(TextError::InvalidUtf8(at)), [0, 0])
-                ),
-            }
+            let want = match plain_two(a as u8, b as u8) {
+                Ok((one, None)) => (Ok(1), [one, 0]),
+                Ok((one, Some(two))) => (Ok(2), [one, two]),
+                Err(at) => (Err(TextError::InvalidUtf8(at)), [0, 0]),
+            };
+            assert!(rt; (answer, units) == want);
         }
     }
 }
@@ -250,11 +255,12 @@ fn one_byte_is_a_text_below_128(rt: HostRuntime) {
     for a in 0..256u16 {
         let mut unit = [7; 1];
         let answer = utf8_to_utf16(&[a as u8], &mut unit);
-        if a < 128 {
-            assert!(rt; (answer, unit) == (Ok(1), [a]));
+        let want = if a < 128 {
+            (Ok(1), [a])
         } else {
-            assert!(rt; (answer, unit) == (Err(TextError::InvalidUtf8(0)), [7]));
-        }
+            (Err(TextError::InvalidUtf8(0)), [7])
+        };
+        assert!(rt; (answer, unit) == want);
     }
 }
 
@@ -277,38 +283,6 @@ fn plain_units(u: u16, v: u16) -> Result<(u32, Option<u32>), u64> {
     Ok((u32::from(u), Some(u32::from(v))))
 }
 
-#[test]
-fn units_around_the_surrogates_are_read_as_a_plain_decoder_reads_them(rt: HostRuntime) {
-    // The borders of UTF-8's lengths and of the surrogates, and their neighbours.
-    let edges: [u16; 16] = [
-        0, 0x7F, 0x80, 0x7FF, 0x800, 0xD7FE, 0xD7FF, 0xD800, 0xD801, 0xDBFF, 0xDC00, 0xDC01,
-        0xDFFF, 0xE000, 0xE001, 0xFFFF,
-    ];
-    for u in edges {
-        for v in edges {
-            let mut units = [7; 2];
-            let copied = utf16_to_utf16(&[u, v], &mut units);
-            let mut bytes = [0; 8];
-            let passed = utf16_to_utf8(&[u, v], &mut bytes, false);
-            match plain_units(u, v) {
-                Ok((_, None)) => {
-                    assert!(rt; (copied, units) == (Ok(()), [u, v]));
-                    assert!(rt; passed == Ok(pair(2, 4)));
-                }
-                Ok((one, Some(two))) => {
-                    assert!(rt; (copied, units) == (Ok(()), [u, v]));
-                    assert!(rt; passed == Ok(pair(2, plain_len(one) + plain_len(two))));
-                }
-                Err(at) => {
-                    let kept = if at == 0 { [7, 7] } else { [u, 7] };
-                    assert!(rt; (copied, units) == (Err(TextError::InvalidUtf16(at)), kept));
-                    assert!(rt; passed == Err(TextError::InvalidUtf16(at)));
-                }
-            }
-        }
-    }
-}
-
 // The bytes of a scalar value below 2 to the 16.
 fn plain_len(c: u32) -> u64
     ensures { result ≤ 3 }
@@ -322,18 +296,63 @@ fn plain_len(c: u32) -> u64
     }
 }
 
+/// What a copy of two units answers and leaves, and what a pass into UTF-8 answers.
+type Read = (
+    (Result<(), TextError>, [u16; 2]),
+    Result<SizePair, TextError>,
+);
+
+fn read_two(u: u16, v: u16) -> Read {
+    let mut units = [7; 2];
+    let copied = utf16_to_utf16(&[u, v], &mut units);
+    let mut bytes = [0; 8];
+    let passed = utf16_to_utf8(&[u, v], &mut bytes, false);
+    ((copied, units), passed)
+}
+
+/// The same as a plain decoder tells it.
+fn plainly_read(u: u16, v: u16) -> Read {
+    match plain_units(u, v) {
+        Ok((_, None)) => ((Ok(()), [u, v]), Ok(pair(2, 4))),
+        Ok((one, Some(two))) => {
+            let len = plain_len(one) + plain_len(two);
+            ((Ok(()), [u, v]), Ok(pair(2, len)))
+        }
+        Err(at) => {
+            let kept = if at == 0 { [7, 7] } else { [u, 7] };
+            let fault = TextError::InvalidUtf16(at);
+            ((Err(fault), kept), Err(fault))
+        }
+    }
+}
+
+#[test]
+fn units_around_the_surrogates_are_read_as_a_plain_decoder_reads_them(rt: HostRuntime) {
+    // The borders of UTF-8's lengths and of the surrogates, and their neighbours.
+    let edges: [u16; 16] = [
+        0, 0x7F, 0x80, 0x7FF, 0x800, 0xD7FE, 0xD7FF, 0xD800, 0xD801, 0xDBFF, 0xDC00, 0xDC01,
+        0xDFFF, 0xE000, 0xE001, 0xFFFF,
+    ];
+    for u in edges {
+        for v in edges {
+            assert!(rt; read_two(u, v) == plainly_read(u, v));
+        }
+    }
+}
+
 #[test]
 fn overlong_forms_and_surrogates_are_no_utf8(rt: HostRuntime) {
     let mut units = [0; 4];
     // By RFC 3629's table: E0 is followed by A0 to BF, ED by 80 to 9F, F0 by 90 to BF, F4 by 80 to 8F.
-    let zero = Err(TextError::InvalidUtf8(0));
-    assert!(rt; utf8_to_utf16(&[0xE0, 0x9F, 0xBF], &mut units) == zero);
-    assert!(rt; utf8_to_utf16(&[0xED, 0xA0, 0x80], &mut units) == zero);
-    assert!(rt; utf8_to_utf16(&[0xF0, 0x8F, 0xBF, 0xBF], &mut units) == zero);
-    assert!(rt; utf8_to_utf16(&[0xF4, 0x90, 0x80, 0x80], &mut units) == zero);
-    assert!(rt; units == [0, 0, 0, 0]);
-    assert!(rt; utf8_to_utf16(&[0xF4, 0x8F, 0xBF, 0xBF], &mut units) == Ok(2));
-    assert!(rt; units == [0xDBFF, 0xDFFF, 0, 0]);
+    let refused = [
+        utf8_to_utf16(&[0xE0, 0x9F, 0xBF], &mut units),
+        utf8_to_utf16(&[0xED, 0xA0, 0x80], &mut units),
+        utf8_to_utf16(&[0xF0, 0x8F, 0xBF, 0xBF], &mut units),
+        utf8_to_utf16(&[0xF4, 0x90, 0x80, 0x80], &mut units),
+    ];
+    assert!(rt; (refused, units) == ([Err(TextError::InvalidUtf8(0)); 4], [0, 0, 0, 0]));
+    let last = utf8_to_utf16(&[0xF4, 0x8F, 0xBF, 0xBF], &mut units);
+    assert!(rt; (last, units) == (Ok(2), [0xDBFF, 0xDFFF, 0, 0]));
 }
 
 // A text up to U+00FF in each form, by a plain loop.
