@@ -26,7 +26,7 @@ use Rattle.canon_model.specs.Requests.{requests}
 use Rattle.canon_model.specs.Shape.{Members, of_places, product}
 use Rattle.canon_model.specs.Text.{Encoding}
 use Rattle.canon_model.specs.Tree.{Tree, Trees, parts, trees_of}
-use Rattle.canon_value.specs.Args.{LowersResults}
+use Rattle.canon_value_parts.specs.Args.{LowersResults}
 
 -- the words of a tuple are those of its members
 row_turns : (enc : Encoding) (ms : Members) (Has : Tree → Type 0) (ws : List ℕ) (after : Moment) → AreProducts Has

@@ -20,8 +20,8 @@ use Rattle.canon_context.specs.declared.fault.Fault.TheVariants as fault
 use Rattle.canon_context.specs.declared.host.HostStop.{HostStop}
 use Rattle.canon_context.specs.declared.host.HostStop.TheVariants as stop
 use Rattle.canon_leaves.specs.Parts.{Passed}
-use Rattle.canon_value.specs.Args.{IsNoArea, LowersResults}
-use Rattle.canon_value.specs.Resources.{EndsAs, UsesLedger, all_passes}
+use Rattle.canon_value_parts.specs.Args.{IsNoArea, LowersResults}
+use Rattle.canon_value_parts.specs.Resources.{EndsAs, UsesLedger, all_passes}
 use Rattle.canon_val.specs.Value.{HaveTrees}
 use Rattle.canon_val.specs.declared.val.Val.{Val}
 use Rattle.canon_host.specs.Serves.{stopped}

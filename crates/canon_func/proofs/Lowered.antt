@@ -19,12 +19,12 @@ use Rattle.canon_lowering.proofs.Lowerings.{none_answered}
 use Rattle.canon_lowering.specs.Attempt.{LowersArgs}
 use Rattle.canon_lowering.specs.Lowering.{Answer, CauseOf, Ending, Trap, done, events_of, marks_of, refused, short}
 use Rattle.canon_context.specs.Core.{Parts}
-use Rattle.canon_value.specs.Args.{LowersParams}
-use Rattle.canon_value.specs.Fails.{AreSmall, BlamesMembers}
+use Rattle.canon_value_parts.specs.Args.{LowersParams}
+use Rattle.canon_value_parts.specs.Fails.{AreSmall, BlamesMembers}
 use Rattle.canon_context.specs.Lowers.{fault_ending}
 use Rattle.canon_context.specs.Moves.{Moves}
 use Rattle.canon_context.specs.Quiet.{have_block, have_handle}
-use Rattle.canon_value.specs.Resources.{Crosses, EndsAs, UsesLedger, all_passes, stop_of, told_fault}
+use Rattle.canon_value_parts.specs.Resources.{Crosses, EndsAs, UsesLedger, all_passes, stop_of, told_fault}
 use Rattle.canon_val.specs.Value.{HaveTrees}
 use Rattle.canon_context.specs.declared.fault.Fault.{Fault}
 use Rattle.canon_context.specs.declared.fault.Fault.TheVariants as fault

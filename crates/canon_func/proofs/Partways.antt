@@ -11,7 +11,7 @@ use Rattle.canon_leaves.specs.Parts.{Part}
 use Rattle.canon_leaves.specs.Steps.{leaves_steps}
 use Rattle.canon_lowering.specs.Lowering.{Answer, Trap}
 use Rattle.canon_context.specs.declared.fault.Fault.TheVariants as fault
-use Rattle.canon_value.specs.Resources.{stop_of}
+use Rattle.canon_value_parts.specs.Resources.{stop_of}
 use Rattle.canon_host.specs.Forms.{IsLawful}
 use Rattle.canon_host.specs.HostSide.{Answering, Giving, HostSide}
 use Rattle.canon_host.specs.declared.asked.Asked.{Asked}

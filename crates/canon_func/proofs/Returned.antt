@@ -15,9 +15,9 @@ use Rattle.canon_context.specs.Lifter.{origin_in}
 use Rattle.canon_context.specs.Core.{Parts, types_of}
 use Rattle.canon_context.specs.declared.component.Export.{Export}
 use Rattle.canon_context.specs.declared.fault.Fault.{Fault}
-use Rattle.canon_value.proofs.Values.{have_count}
-use Rattle.canon_value.specs.Lifts.{LiftsResults}
-use Rattle.canon_value.specs.Resources.{all_resources}
+use Rattle.canon_value_parts.proofs.Values.{have_count}
+use Rattle.canon_value_parts.specs.Lifts.{LiftsResults}
+use Rattle.canon_value_parts.specs.Resources.{all_resources}
 use Rattle.canon_val.specs.declared.val.Val.{Val}
 use Rattle.canon_func.specs.Call.{dynamic_results, returned_leaves}
 use Rattle.canon_func.specs.Steps.{Lifted, LiftsIn, items_in}

@@ -25,7 +25,7 @@ use Rattle.canon_types.specs.Depth.{has_borrow, member_borrows}
 use Rattle.canon_types.specs.Instance.{Instance}
 use Rattle.canon_types.specs.Table.{shape_of}
 use Rattle.canon_types.specs.declared.types.InterfaceType.{InterfaceType}
-use Rattle.canon_value.specs.Resources as value
+use Rattle.canon_value_parts.specs.Resources as value
 use Rattle.canon_func.specs.Call.{result_words}
 use Rattle.canon_func.specs.Steps.{Lifted}
 use Rattle.canon_func.specs.Stores.{Callee, export_callee}

@@ -29,7 +29,7 @@ use Rattle.canon_context.specs.Quiet.{have_block}
 use Rattle.canon_context.specs.declared.component.Export.{Export}
 use Rattle.canon_context.specs.declared.fault.Fault.{Fault}
 use Rattle.canon_context.specs.declared.fault.Fault.TheVariants as fault
-use Rattle.canon_value.specs.Args.{args_words}
+use Rattle.canon_value_parts.specs.Args.{args_words}
 use Rattle.canon_host.specs.Forms.{IsOfOthers, RustTypes, TypedAnswering}
 use Rattle.canon_host.specs.HostSide.{Entry, Giving}
 use Rattle.canon_host.specs.Imports.{Declines, steps_of_types}

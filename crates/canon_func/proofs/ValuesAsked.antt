@@ -26,11 +26,11 @@ use Rattle.canon_context.specs.Told.{place_of}
 use Rattle.canon_context.specs.declared.component.Export.{Export}
 use Rattle.canon_context.specs.declared.fault.Fault.{Fault}
 use Rattle.canon_context.specs.declared.fault.Fault.TheVariants as fault
-use Rattle.canon_value.proofs.Values.{failure_excludes}
-use Rattle.canon_value.specs.Args.{args_words}
-use Rattle.canon_value.specs.Fails.{AreSmall, BlamesMembers, Failure, IsTypeFailure, MemberFails, field_name, mismatch, payload_expected, payload_not_expected, unknown_case, unknown_flag, wrong_length}
-use Rattle.canon_value.specs.Lifts.{LiftsParams}
-use Rattle.canon_value.specs.Resources.{EndsAs, all_passes, stop_of, told_fault}
+use Rattle.canon_value_parts.proofs.Values.{failure_excludes}
+use Rattle.canon_value_parts.specs.Args.{args_words}
+use Rattle.canon_value_parts.specs.Fails.{AreSmall, BlamesMembers, Failure, IsTypeFailure, MemberFails, field_name, mismatch, payload_expected, payload_not_expected, unknown_case, unknown_flag, wrong_length}
+use Rattle.canon_value_parts.specs.Lifts.{LiftsParams}
+use Rattle.canon_value_parts.specs.Resources.{EndsAs, all_passes, stop_of, told_fault}
 use Rattle.canon_val.specs.Value.{HaveTrees}
 use Rattle.canon_val.specs.declared.val.Val.{Val}
 use Rattle.canon_host.specs.HostSide.{Entry, Giving, entry}

@@ -25,13 +25,13 @@ use Rattle.canon_ledger.specs.Ledger.{Done, LedgerState, enter, leave, validate_
 use Rattle.canon_ledger.specs.declared.fault.ResourceFault.{ResourceFault}
 use Rattle.canon_resources.specs.Held.{Any}
 use Rattle.canon_leaves.specs.Parts.{LeavesLift, LeavesStop, LeavesTake, Part, lift_parts, lower_parts, refusal_of}
-use Rattle.canon_value.specs.Args.{AsksTuple}
-use Rattle.canon_value.specs.Fails.{AreSmall, BlamesMembers}
-use Rattle.canon_value.specs.Lifts.{AreResults}
+use Rattle.canon_value_parts.specs.Args.{AsksTuple}
+use Rattle.canon_value_parts.specs.Fails.{AreSmall, BlamesMembers}
+use Rattle.canon_value_parts.specs.Lifts.{AreResults}
 use Rattle.canon_context.specs.Lowers.{fault_ending}
 use Rattle.canon_context.specs.Told.{place_of}
 use Rattle.canon_context.specs.Quiet.{have_block}
-use Rattle.canon_value.specs.Resources.{all_passes, all_resources, stop_of}
+use Rattle.canon_value_parts.specs.Resources.{all_passes, all_resources, stop_of}
 use Rattle.canon_val.specs.Value.{HaveTrees}
 use Rattle.canon_context.specs.declared.fault.At.{At}
 use Rattle.canon_context.specs.declared.fault.Fault.{Fault}

@@ -13,9 +13,9 @@ use Rattle.canon_model.proofs.Reached.{reach_is_the_cost}
 use Rattle.canon_leaves.proofs.Lifts.{lifts_take}
 use Rattle.canon_lowering.specs.Storing.{narrow}
 use Rattle.canon_context.specs.declared.fault.Fault.TheVariants as fault
-use Rattle.canon_value.proofs.Values.{failure_excludes}
-use Rattle.canon_value.specs.Fails.{field_name, mismatch, payload_expected, payload_not_expected, unknown_case, unknown_flag, wrong_length}
-use Rattle.canon_value.specs.Resources.{all_resources}
+use Rattle.canon_value_parts.proofs.Values.{failure_excludes}
+use Rattle.canon_value_parts.specs.Fails.{field_name, mismatch, payload_expected, payload_not_expected, unknown_case, unknown_flag, wrong_length}
+use Rattle.canon_value_parts.specs.Resources.{all_resources}
 use Rattle.canon_val.specs.declared.val.Val.{Val}
 use Rattle.canon_func.specs.Call.{dynamic, dynamic_results, result_words, returned_leaves}
 use Rattle.canon_func.specs.Passed.{BlamesRightly, ReadsRightly}

@@ -14,12 +14,12 @@ use Rattle.canon_memory.specs.Journal.{step_event, trap_event}
 use Rattle.canon_memory.specs.declared.guest.Step.{Step}
 use Rattle.canon_lowering.specs.Attempt.{LowersArgs}
 use Rattle.canon_lowering.specs.Lowering.{AllLawful, Answer, Ending, Trap, done, events_of, marks_of, refused, short}
-use Rattle.canon_value.specs.Fails.{AreSmall, BlamesMembers}
+use Rattle.canon_value_parts.specs.Fails.{AreSmall, BlamesMembers}
 use Rattle.canon_ledger.specs.Ledger.{LedgerState, leave}
 use Rattle.canon_leaves.specs.Parts.{LeavesStop, LeavesTake, refusal_of}
-use Rattle.canon_value.specs.Args.{LowersParams}
-use Rattle.canon_value.specs.Lifts.{LiftsResults}
-use Rattle.canon_value.specs.Resources.{Crosses, QuietBut, all_passes, stop_of, told_fault}
+use Rattle.canon_value_parts.specs.Args.{LowersParams}
+use Rattle.canon_value_parts.specs.Lifts.{LiftsResults}
+use Rattle.canon_value_parts.specs.Resources.{Crosses, QuietBut, all_passes, stop_of, told_fault}
 use Rattle.canon_types.specs.Table.{tuple_members}
 use Rattle.canon_context.specs.Asks.{SameButHandles}
 use Rattle.canon_context.specs.Core.{Parts, SameButLedger, encoding_by, guest_of, moment_of, types_of}

@@ -8,8 +8,8 @@ use Rattle.canon_model.specs.Layout.{flat, members_flat}
 use Rattle.canon_model.specs.Shape.{Members, member_count, of_places, product}
 use Rattle.canon_types.specs.Table.{Table, members_of}
 use Rattle.canon_types.specs.declared.types.InterfaceType.{InterfaceType}
-use Rattle.canon_value.proofs.Far.{far_words, near_words}
-use Rattle.canon_value.specs.Args.{args_words}
+use Rattle.canon_value_parts.proofs.Far.{far_words, near_words}
+use Rattle.canon_value_parts.specs.Args.{args_words}
 use Rattle.canon_host.specs.Asked.{AreEnough, pointer_words, row_words, storage_words}
 
 pub member_count-members_of : (t : Table) (types : List InterfaceType) → member_count (members_of t types) ≡ length types

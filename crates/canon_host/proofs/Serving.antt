@@ -25,13 +25,13 @@ use Rattle.canon_model.specs.Text.{Encoding}
 use Rattle.canon_model.specs.Tree.{Trees}
 use Rattle.canon_types.specs.Table.{param_members, result_members}
 use Rattle.canon_types.specs.declared.types.TypeFunc.{TypeFunc}
-use Rattle.canon_value.specs.Args.{LowersResults}
-use Rattle.canon_value.specs.Fails.{AreSmall, BlamesMembers}
-use Rattle.canon_value.specs.Resources.{Crosses, QuietBut, all_passes}
+use Rattle.canon_value_parts.specs.Args.{LowersResults}
+use Rattle.canon_value_parts.specs.Fails.{AreSmall, BlamesMembers}
+use Rattle.canon_value_parts.specs.Resources.{Crosses, QuietBut, all_passes}
 use Rattle.canon_val.specs.Value.{HaveTrees}
 use Rattle.canon_val.specs.declared.val.Val.{Val}
 use Rattle.canon_val.specs.declared.val.Val.TheVariants as val
-use Rattle.canon_value.proofs.Values.{have_count}
+use Rattle.canon_value_parts.proofs.Values.{have_count}
 use Rattle.canon_host.specs.Asked.{RestStays, row_words}
 use Rattle.canon_host.specs.Serves.{Answers, AnswersBy, AskValues, Calling, Calls, CallsBlank, Concludes, ConcludesBy, EndsAsk, InRow, LiftsAsked, Lowering, LowersGiven, Serves, ServesBy, ServesEntered, ServesEnteredBy, Steps, Values, blank, value_steps, values_of}
 use Rattle.canon_host.specs.declared.asked.Asked.{Asked}

@@ -31,7 +31,7 @@ use Rattle.canon_model.specs.Shape.{Shape, of_places, product}
 use Rattle.canon_model.specs.Tree.{Tree}
 use Rattle.canon_types.specs.Instance.{Instance}
 use Rattle.canon_types.specs.Table.{param_members, result_members}
-use Rattle.canon_value.specs.Resources.{stop_of}
+use Rattle.canon_value_parts.specs.Resources.{stop_of}
 
 -- ---- the end of the scope
 

@@ -24,10 +24,10 @@ use Rattle.canon_model.specs.Flat.{max_results}
 use Rattle.canon_model.specs.Layout.{members_flat}
 use Rattle.canon_model.specs.Shape.{member_count}
 use Rattle.canon_types.specs.Table.{Table, param_members, result_members}
-use Rattle.canon_value.specs.Args.{IsArea, IsNoArea, LowersResults, args_words}
-use Rattle.canon_value.specs.Fails.{AreSmall, BlamesMembers}
-use Rattle.canon_value.specs.Lifts.{LiftsParams}
-use Rattle.canon_value.specs.Resources.{Crosses, QuietBut, all_passes}
+use Rattle.canon_value_parts.specs.Args.{IsArea, IsNoArea, LowersResults, args_words}
+use Rattle.canon_value_parts.specs.Fails.{AreSmall, BlamesMembers}
+use Rattle.canon_value_parts.specs.Lifts.{LiftsParams}
+use Rattle.canon_value_parts.specs.Resources.{Crosses, QuietBut, all_passes}
 use Rattle.canon_val.specs.Value.{HaveTrees}
 use Rattle.canon_val.specs.declared.val.Val.{Val}
 use Rattle.canon_val.specs.declared.val.Val.TheVariants as val

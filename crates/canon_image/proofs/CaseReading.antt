@@ -15,10 +15,10 @@ use Rattle.canon_types.specs.Table.{IsDefined, Table}
 use Rattle.canon_types.specs.declared.types.InterfaceType.TheVariants as ty
 use Rattle.canon_types.specs.declared.types.TypeFlags.{TypeFlags}
 use Rattle.canon_plan.specs.NoHandle.{HaveNoHandle, HasNoHandle}
-use Rattle.canon_value.specs.Flags.{flag_names}
+use Rattle.canon_value_parts.specs.Flags.{flag_names}
 use Rattle.canon_val.specs.declared.val.Val.{Val}
-use Rattle.canon_value.proofs.Cases.{case_no_handle, case_shallow}
-use Rattle.canon_value.proofs.FlagNames.{names_are}
+use Rattle.canon_value_parts.proofs.Cases.{case_no_handle, case_shallow}
+use Rattle.canon_value_parts.proofs.FlagNames.{names_are}
 use Rattle.canon_image.proofs.Fetching.{number_here}
 use Rattle.canon_image.proofs.Reading.{PartsRead, have_count}
 use Rattle.canon_image.specs.Read.{ReadsTo}

@@ -3,15 +3,15 @@ use Rattle.std.proofs.Common.{Err, List, Ok, Result, ap, ap₂, arith, inl, inr,
 use Rattle.canon_lowering.specs.Copies.{case_members, copies}
 use Rattle.canon_model.specs.Shape.{Cases, Members, Name, ProductKind, Shape, VariantKind, fixed, member, member_count, product, variant}
 use Rattle.canon_model.specs.Text.{utf8}
-use Rattle.canon_value.specs.Fails.{Blames, FailsAt, MemberFails}
+use Rattle.canon_value_parts.specs.Fails.{Blames, FailsAt, MemberFails}
 use Rattle.canon_val.specs.Value.{IsCase, IsFixed, IsProduct, all_places, cap, member_names, places}
 use Rattle.canon_context.specs.declared.fault.Fault.{Fault}
 use Rattle.canon_val.specs.declared.val.Val.{Val}
-use Rattle.canon_value.proofs.Cases.{case_fails, case_places}
-use Rattle.canon_value.proofs.Contents.{places_fixed}
-use Rattle.canon_value.proofs.Steps.{blames_later, places_product}
-use Rattle.canon_value.proofs.StoreSteps.{tails}
-use Rattle.canon_value.proofs.Walks.{copies_fail}
+use Rattle.canon_value_parts.proofs.Cases.{case_fails, case_places}
+use Rattle.canon_value_parts.proofs.Contents.{places_fixed}
+use Rattle.canon_value_parts.proofs.Steps.{blames_later, places_product}
+use Rattle.canon_value_parts.proofs.StoreSteps.{tails}
+use Rattle.canon_value_parts.proofs.Walks.{copies_fail}
 use Rattle.canon_image.specs.Written.{CountsFields, CountsPlaces}
 
 pub fields_count : (place : ℕ) (name named : Name) (s : Shape) (ms : Members) (names : List Name) (v : Val) (vs : List Val) (from mid : ℕ) (r : Result ℕ Fault) → named ≡ name → mid ≡ cap (from + places v)

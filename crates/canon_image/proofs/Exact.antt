@@ -10,11 +10,11 @@ use Rattle.canon_model.specs.Tree.{Tree, Trees, no_trees, tree}
 use Rattle.canon_plan.specs.NoHandle.{HasNoHandle}
 use Rattle.canon_context.specs.declared.fault.Fault.{Fault}
 use Rattle.canon_context.specs.declared.fault.Fault.TheVariants as fault
-use Rattle.canon_value.specs.Fails.{BlamesValue, Failure, FailsAt, IsTypeFailure, field_name, mismatch, payload_expected, payload_not_expected, unknown_case, unknown_flag, wrong_length}
+use Rattle.canon_value_parts.specs.Fails.{BlamesValue, Failure, FailsAt, IsTypeFailure, field_name, mismatch, payload_expected, payload_not_expected, unknown_case, unknown_flag, wrong_length}
 use Rattle.canon_val.specs.Value.{HasTree}
 use Rattle.canon_val.specs.declared.val.Val.{Val}
-use Rattle.canon_value.proofs.Values.{failure_excludes}
-use Rattle.canon_value.proofs.OneValue.{trees_one}
+use Rattle.canon_value_parts.proofs.Values.{failure_excludes}
+use Rattle.canon_value_parts.proofs.OneValue.{trees_one}
 use Rattle.canon_image.proofs.Stopping.{image_good, stops_at_one}
 use Rattle.canon_image.specs.Read.{IsRead, IsSameReading}
 use Rattle.canon_image.specs.Stops.{IsFollowed, Stop, StopsAt, malformed, truncated}

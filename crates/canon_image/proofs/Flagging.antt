@@ -13,12 +13,12 @@ use Rattle.canon_model.specs.Rep.{bits_of}
 use Rattle.canon_model.specs.Shape.{Name, Shape, flags}
 use Rattle.canon_model.specs.Tree.{bits}
 use Rattle.canon_types.specs.Keeps.{names_of}
-use Rattle.canon_value.specs.Flags.{SomeUnknown}
+use Rattle.canon_value_parts.specs.Flags.{SomeUnknown}
 use Rattle.canon_val.specs.Value.{cap}
 use Rattle.canon_context.specs.declared.fault.Fault.{Fault}
 use Rattle.canon_context.specs.declared.fault.Fault.TheVariants as fault
 use Rattle.canon_val.specs.declared.val.Val.TheVariants as val
-use Rattle.canon_value.proofs.MapsAndFlags.{places_flags}
+use Rattle.canon_value_parts.proofs.MapsAndFlags.{places_flags}
 use Rattle.canon_image.proofs.Bytes.{le_number_bytes}
 use Rattle.canon_image.specs.Written.{AreMarkedAt, MarksTo, WritesTo}
 

@@ -10,7 +10,7 @@ use Rattle.canon_plan.specs.Element.{IsMap, first_of, second_of}
 use Rattle.canon_val.specs.Value.{EachHas, PairHas}
 use Rattle.canon_val.specs.declared.val.Val.{Val}
 use Rattle.canon_val.specs.declared.val.Val.TheVariants as val
-use Rattle.canon_value.proofs.Contents.{each_count}
+use Rattle.canon_value_parts.proofs.Contents.{each_count}
 use Rattle.canon_image.proofs.Reading.{first_span, first_stops, spans_join, spans_none, stops_as, stops_later}
 use Rattle.canon_image.proofs.PairsWriting.{pair_of}
 use Rattle.canon_image.specs.Read.{NumberReadTo, PairsReadTo, ReadsTo, Spans, StopsFrom}

@@ -7,17 +7,17 @@ use Rattle.canon_model.specs.Text.{utf8}
 use Rattle.canon_model.specs.Tree.{items, no_trees, parts, tree, tree_count}
 use Rattle.canon_types.specs.Depth.{element_shape}
 use Rattle.canon_plan.specs.NoHandle.{HasNoHandle, has_no_handle}
-use Rattle.canon_value.specs.Elements.{by_turns}
-use Rattle.canon_value.specs.Fails.{FailsAt, MemberFails, PairFails, SomeFails}
+use Rattle.canon_value_parts.specs.Elements.{by_turns}
+use Rattle.canon_value_parts.specs.Fails.{FailsAt, MemberFails, PairFails, SomeFails}
 use Rattle.canon_val.specs.Value.{PairHas, all_places, cap, pair_places, total}
 use Rattle.canon_plan.specs.Element.{IsMap, first_of, second_of}
 use Rattle.canon_context.specs.declared.fault.Fault.{Fault}
 use Rattle.canon_val.specs.declared.val.Val.{Val}
 use Rattle.canon_val.specs.declared.val.Val.TheVariants as val
-use Rattle.canon_value.proofs.Contents.{each_count}
+use Rattle.canon_value_parts.proofs.Contents.{each_count}
 use Rattle.canon_plan.proofs.Lookups.{both, drop_all}
-use Rattle.canon_value.proofs.PairRows.{places_map}
-use Rattle.canon_value.proofs.Steps.{blames_first, blames_later}
+use Rattle.canon_value_parts.proofs.PairRows.{places_map}
+use Rattle.canon_value_parts.proofs.Steps.{blames_first, blames_later}
 use Rattle.canon_image.proofs.Counting.{count_members}
 use Rattle.canon_image.proofs.Writing.{join, parts_cons, parts_none, parts_stop}
 use Rattle.canon_image.specs.Written.{CountsPlaces, PairsWriteTo, PartsWriteTo, WritesTo}

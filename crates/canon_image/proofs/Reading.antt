@@ -12,11 +12,11 @@ use Rattle.canon_types.specs.Table.{Table, shape_of}
 use Rattle.canon_plan.specs.Plan.{IsSlot, LiesAs, members_from}
 use Rattle.canon_plan.specs.declared.plan.Slot.{Slot}
 use Rattle.canon_plan.proofs.Lookups.{copies_count, members_from-all}
-use Rattle.canon_value.specs.Plan.{IsCaseRebuilt, IsRebuilt, parts_of}
+use Rattle.canon_value_parts.specs.Plan.{IsCaseRebuilt, IsRebuilt, parts_of}
 use Rattle.canon_val.specs.Value.{AreLiftedFrom, EachHas, HaveTreesAs, IsLiftedFrom}
 use Rattle.canon_val.specs.declared.val.Val.{Val}
 use Rattle.canon_val.specs.declared.val.Val.TheVariants as val
-use Rattle.canon_value.proofs.Walks.{copies_have}
+use Rattle.canon_value_parts.proofs.Walks.{copies_have}
 use Rattle.canon_image.proofs.Fields.{field_length, length-le_bytes}
 use Rattle.canon_image.proofs.Writing.{case_imaged, copies_image}
 use Rattle.canon_image.specs.Read.{NumberReadTo, PartsReadTo, ReadsTo, Spans, StopsFrom}

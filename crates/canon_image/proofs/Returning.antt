@@ -5,8 +5,8 @@ use Rattle.canon_model.specs.Same.{Carried, CarriedTrees}
 use Rattle.canon_model.specs.Shape.{Cases, Members, Scalar, Shape, bare, bool, borrow, char, f32, f64, fixed, flags, list, member, no_cases, no_members, of_items, of_pairs, own, payload, product, s16, s32, s64, s8, scalar, string, u16, u32, u64, u8, variant}
 use Rattle.canon_model.specs.Tree.{Tree, Trees, no_trees, tree}
 use Rattle.canon_lowering.specs.Copies.{case_tree}
-use Rattle.canon_value.proofs.LiftedValues.{unlifted}
-use Rattle.canon_value.proofs.OneValue.{tree_one, value_one}
+use Rattle.canon_value_parts.proofs.LiftedValues.{unlifted}
+use Rattle.canon_value_parts.proofs.OneValue.{tree_one, value_one}
 use Rattle.canon_val.specs.Value.{CaseHas, EachHas, HasScalar, HasTreeAs, HaveTreesAs, PairHas}
 use Rattle.canon_val.specs.declared.val.Val.{Val}
 use Rattle.canon_image.specs.Laws.{ImagesComeBack}

@@ -7,8 +7,8 @@ use Rattle.std.proofs.lemmas.Bool.{cases_lt}
 use Rattle.std.proofs.lemmas.Nat.Bits.{bit_at-suc, bit_at-zero, bit_at_lowest, same_from_bits}
 use Rattle.canon_lowering.specs.Storing.{narrow}
 use Rattle.canon_model.specs.Memory.{num}
-use Rattle.canon_value.proofs.FlagBits.{digit_bit, digit_end, digits}
-use Rattle.canon_value.proofs.FlagDigits.{num_digits}
+use Rattle.canon_value_parts.proofs.FlagBits.{digit_bit, digit_end, digits}
+use Rattle.canon_value_parts.proofs.FlagDigits.{num_digits}
 
 below : (w n : ℕ) → ((k : ℕ) → w ≤ k → bit_at n k ≡ 0) → n < 2 ^ w
 below zero n none = let e : n ≡ 0 = same_from_bits n 0 (λ i. none i (omega arith) ∙ sym (bit_at-zero i)) in omega (arith, e)

@@ -13,27 +13,27 @@ use Rattle.canon_abi.specs.Sizes.{tag_bytes}
 use Rattle.canon_types.specs.Table.{Table, shape_of}
 use Rattle.canon_types.specs.declared.types.InterfaceType.{InterfaceType}
 use Rattle.canon_plan.specs.NoHandle.{HaveNoHandle, HasNoHandle}
-use Rattle.canon_value.specs.Fails.{Blames, FailsAt, MemberFails}
+use Rattle.canon_value_parts.specs.Fails.{Blames, FailsAt, MemberFails}
 use Rattle.canon_val.specs.Value.{HaveTrees, IsCase, IsProduct, cap, member_names, no_names}
 use Rattle.canon_plan.specs.Plan.{LiesAs, members_from}
-use Rattle.canon_value.specs.View.{IsMember, names_of, shapes_of, values_of}
-use Rattle.canon_value.specs.Viewed.{HasMembers, IsCaseSeen}
-use Rattle.canon_value.specs.Words.{IsWordOf}
+use Rattle.canon_value_parts.specs.View.{IsMember, names_of, shapes_of, values_of}
+use Rattle.canon_value_parts.specs.Viewed.{HasMembers, IsCaseSeen}
+use Rattle.canon_value_parts.specs.Words.{IsWordOf}
 use Rattle.canon_context.specs.declared.fault.Fault.{Fault}
 use Rattle.canon_context.specs.declared.fault.Fault.TheVariants as fault
-use Rattle.canon_value.specs.declared.case_view.Case.{Case}
-use Rattle.canon_value.specs.declared.members.Member.{Member}
+use Rattle.canon_value_parts.specs.declared.case_view.Case.{Case}
+use Rattle.canon_value_parts.specs.declared.members.Member.{Member}
 use Rattle.canon_val.specs.declared.val.Val.{Val}
 use Rattle.canon_val.specs.declared.val.Val.TheVariants as val
-use Rattle.canon_value.proofs.Cases.{case_no_handle, case_has}
-use Rattle.canon_value.proofs.Contents.{places_list, places_text, spelled}
+use Rattle.canon_value_parts.proofs.Cases.{case_no_handle, case_has}
+use Rattle.canon_value_parts.proofs.Contents.{places_list, places_text, spelled}
 use Rattle.canon_plan.proofs.Lookups.{both, copies_count, drop_all, members_from-all}
 use Rattle.canon_plan.proofs.ScalarTypes.{scalar_shape}
-use Rattle.canon_value.proofs.Scalars.{scalar_places}
-use Rattle.canon_value.proofs.Steps.{blames_first, blames_later}
-use Rattle.canon_value.proofs.StoreSteps.{heads, least_low}
-use Rattle.canon_value.proofs.WalkCases.{tag_fits}
-use Rattle.canon_value.proofs.Walks.{copies_fail, copies_have, copies_names}
+use Rattle.canon_value_parts.proofs.Scalars.{scalar_places}
+use Rattle.canon_value_parts.proofs.Steps.{blames_first, blames_later}
+use Rattle.canon_value_parts.proofs.StoreSteps.{heads, least_low}
+use Rattle.canon_value_parts.proofs.WalkCases.{tag_fits}
+use Rattle.canon_value_parts.proofs.Walks.{copies_fail, copies_have, copies_names}
 use Rattle.canon_image.proofs.Bytes.{le_bytes_low}
 use Rattle.canon_image.proofs.Counting.{case_counted, count_members, fields_count, fixed_counted, product_counts}
 use Rattle.canon_image.specs.Written.{CountsFields, IsTold, PartsWriteTo, WritesTo}

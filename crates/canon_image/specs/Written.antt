@@ -11,8 +11,8 @@ use Rattle.canon_model.specs.Shape.{Members, Name, Shape}
 use Rattle.canon_model.specs.Text.{utf8}
 use Rattle.canon_model.specs.Tree.{Tree, Trees}
 use Rattle.canon_plan.specs.NoHandle.{HasNoHandle}
-use Rattle.canon_value.specs.Fails.{Blames, BlamesValue, FailsAt, Failure, MemberFails, PairFails, SomeFails}
-use Rattle.canon_value.specs.Flags.{AreSet, SomeUnknown}
+use Rattle.canon_value_parts.specs.Fails.{Blames, BlamesValue, FailsAt, Failure, MemberFails, PairFails, SomeFails}
+use Rattle.canon_value_parts.specs.Flags.{AreSet, SomeUnknown}
 use Rattle.canon_val.specs.Value.{EachHas, HasTree, HaveTrees, PairHas, all_places, cap, member_names, pair_places, places, total}
 use Rattle.canon_context.specs.declared.fault.Fault.{Fault}
 use Rattle.canon_context.specs.declared.fault.Fault.TheVariants as fault

@@ -1,6 +1,6 @@
 //! The errors of writing and reading images.
 
-use canon_value::Fault;
+use canon_context::Fault;
 use thiserror::Error;
 
 /// Why a value has no image, or why bytes are none. A place is the number of bytes before it.

@@ -11,15 +11,15 @@ ghost use Rattle.canon_plan.specs.Element.{IsKnown, IsMap, list_shape};
 ghost use Rattle.canon_plan.specs.Plan.{AreKnown, IsCaseKind, IsVariant, shapes_of};
 ghost use Rattle.canon_types.specs.Depth.{element_shape, variant_cases};
 ghost use Rattle.canon_types.specs.Table.{Knows, shape_of};
-ghost use Rattle.canon_value.specs.Flags.{flag_names};
+ghost use Rattle.canon_value_parts.specs.Flags.{flag_names};
 ghost use Rattle.canon_image.specs.Read.{IsOnlyReading, IsRead, NumberReadTo, PairsReadTo, PartsReadTo, ReadsTo};
 
 use crate::ImageError;
 use canon_bytes::load_tag;
 use canon_plan::{Element, Plan, Slots, case_of, has_no_handle, plan_of, slot_count, slot_of};
 use canon_types::{ComponentTypes, InterfaceType, TypeFlagsIndex, TypeMapIndex, VariantInfo};
-use canon_value::Val;
-use canon_value::parts::{Marks, flags_of, load_scalar, rebuild, rebuild_case};
+use canon_val::Val;
+use canon_value_parts::{Marks, flags_of, load_scalar, rebuild, rebuild_case};
 use std::alloc::Global;
 
 /// The value whose image these bytes are. Answers `Resource` where the type reaches a handle, `Truncated` or `Malformed` at the

@@ -8,21 +8,22 @@ ghost use Rattle.canon_types.specs.Depth.{element_shape};
 ghost use Rattle.canon_types.specs.Table.{Knows, shape_of};
 ghost use Rattle.canon_plan.specs.NoHandle.{HaveNoHandle, HasNoHandle};
 ghost use Rattle.canon_plan.specs.Element.{IsKnown, IsMap, list_shape};
-ghost use Rattle.canon_value.specs.Elements.{element_in, list_value};
-ghost use Rattle.canon_value.specs.Flags.{IsFlagsType, flag_names};
-ghost use Rattle.canon_value.specs.View.{AreFew, AreKnown, names_of, shapes_of, values_of};
-ghost use Rattle.canon_value.specs.Viewed.{IsCaseSeen};
-ghost use Rattle.canon_value.specs.Words.{IsWordOf};
+ghost use Rattle.canon_value_parts.specs.Elements.{element_in, list_value};
+ghost use Rattle.canon_value_parts.specs.Flags.{IsFlagsType, flag_names};
+ghost use Rattle.canon_value_parts.specs.View.{AreFew, AreKnown, names_of, shapes_of, values_of};
+ghost use Rattle.canon_value_parts.specs.Viewed.{IsCaseSeen};
+ghost use Rattle.canon_value_parts.specs.Words.{IsWordOf};
 ghost use Rattle.canon_val.specs.declared.val.Val.TheVariants as val;
 ghost use Rattle.canon_image.specs.Written.{IsImaged, IsOnlyImage, IsTold, MarksTo, PairsWriteTo, PartsWriteTo, WritesTo};
 
 use crate::ImageError;
+use canon_context::Fault;
 use canon_plan::has_no_handle;
 use canon_types::{ComponentTypes, InterfaceType, TypeFlagsIndex, TypeMapIndex};
-use canon_value::parts::{
+use canon_val::Val;
+use canon_value_parts::{
     Case, Elements, Members, View, count_of, mark_byte, member_of, number_of, view_of,
 };
-use canon_value::{Fault, Val};
 use std::alloc::Global;
 
 /// The image of a value. Answers `Resource` where the type reaches a handle, and `NotOfType` where the value isn't of the type.

@@ -10,10 +10,10 @@ use Rattle.canon_context.specs.declared.fault.Fault.TheVariants as fault
 use Rattle.canon_leaves.proofs.Leaves.{leaves_stop_first, leaves_stop_then, leaves_then, stops_at_once}
 use Rattle.canon_leaves.specs.Parts.{LeavesStop, LeavesTake, Part}
 use Rattle.canon_ledger.specs.Ledger.{LedgerState}
-use Rattle.canon_value.proofs.Passing.{handles_then, no_stop}
+use Rattle.canon_value_parts.proofs.Passing.{handles_then, no_stop}
 use Rattle.canon_lower.specs.Blames.{IsElsewhere}
 use Rattle.canon_lower.specs.Lowers.{EndsBy, HandlesCross, TypedAttempt}
-use Rattle.canon_value.specs.Resources.{ledger_fault, stop_of}
+use Rattle.canon_value_parts.specs.Resources.{ledger_fault, stop_of}
 use Rattle.canon_lowering.proofs.Attempts.{attempt_other}
 use Rattle.canon_lowering.proofs.Lowerings.{NotDone}
 use Rattle.canon_lowering.specs.Attempt.{Aim, Attempt}

@@ -27,7 +27,7 @@ use Rattle.canon_model.specs.Text.{Encoding}
 use Rattle.canon_model.specs.Tree.{Tree, Trees, items, tree_count, trees_of}
 use Rattle.canon_lower.proofs.Attempts.{Cause, cause_of, cross_stopped, ends_done, ends_early, not_false}
 use Rattle.canon_lower.proofs.TooLarge.{block_small}
-use Rattle.canon_value.proofs.Passing.{handles_then, same_handles, same_ledger, ungiven_elsewhere}
+use Rattle.canon_value_parts.proofs.Passing.{handles_then, same_handles, same_ledger, ungiven_elsewhere}
 use Rattle.canon_lower.specs.Blames.{HasLarge, HaveLarge, IsElsewhere, SomeTree}
 use Rattle.canon_lower.specs.Lowers.{HandlesCross}
 use Rattle.canon_lower.specs.Places.{BlockAsked, IsGivenBlock, IsNoBlock, IsPairPut, TypedPlaces}

@@ -17,7 +17,7 @@ use Rattle.canon_model.specs.Tree.{Tree, Trees, case_number, no_trees}
 use Rattle.canon_typed.specs.Meaning.{CaseMeans}
 use Rattle.canon_lower.proofs.Attempts.{cause_as, small_as}
 use Rattle.canon_lower.proofs.TooLarge.{variant_large}
-use Rattle.canon_value.proofs.Steps.{no_first, no_later}
+use Rattle.canon_value_parts.proofs.Steps.{no_first, no_later}
 use Rattle.canon_lower.specs.Blames.{HasLarge, HaveLarge}
 use Rattle.canon_lower.specs.CasePuts.{IsCasePut, PayloadTrees, unless_unit}
 use Rattle.canon_lower.specs.Cases.{payload_members}

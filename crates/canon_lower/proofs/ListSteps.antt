@@ -20,7 +20,7 @@ use Rattle.canon_typed.specs.Meaning.{EachMeans, ListMeans}
 use Rattle.canon_typed.specs.Types.{IsListOf}
 use Rattle.canon_lower.proofs.Items.{each_count, list_trees, row_some, some_row}
 use Rattle.canon_lower.proofs.BlockSteps.{AsItems, list_broken, list_placed, list_refused, list_put, placed_stops}
-use Rattle.canon_value.proofs.Passing.{handles_instance, same_handles}
+use Rattle.canon_value_parts.proofs.Passing.{handles_instance, same_handles}
 use Rattle.canon_lower.specs.Blames.{IsTooLarge}
 use Rattle.canon_lower.specs.Gives.{item_shape}
 use Rattle.canon_lower.specs.Lists.{IsElementOf}

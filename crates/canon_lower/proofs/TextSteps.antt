@@ -22,7 +22,7 @@ use Rattle.canon_types.specs.declared.types.InterfaceType.TheVariants as ty
 use Rattle.canon_typed.specs.Meaning.{TextMeans}
 use Rattle.canon_lower.proofs.Attempts.{cross_stopped, not_false}
 use Rattle.canon_lower.proofs.BlockSteps.{placed_stops, text_put}
-use Rattle.canon_value.proofs.Passing.{ledger_unless, same_handles, same_ledger}
+use Rattle.canon_value_parts.proofs.Passing.{ledger_unless, same_handles, same_ledger}
 use Rattle.canon_lower.proofs.TooLarge.{text_small}
 use Rattle.canon_lower.specs.Blames.{HasLarge, IsElsewhere}
 use Rattle.canon_lower.specs.Places.{IsPairPut, TypedPlaces}

@@ -28,7 +28,7 @@ use Rattle.canon_types.specs.Instance.{Instance}
 use Rattle.canon_types.specs.Table.{shape_of}
 use Rattle.canon_types.specs.declared.types.InterfaceType.{InterfaceType}
 use Rattle.canon_typed.specs.Meaning.{EachMeans, RowMeans}
-use Rattle.canon_value.proofs.Walks.{copies_quiet}
+use Rattle.canon_value_parts.proofs.Walks.{copies_quiet}
 
 -- ---- a row
 

@@ -5,7 +5,7 @@ use Rattle.canon_context.specs.Asks.{SameButHandles}
 use Rattle.canon_context.specs.Core.{Parts, types_of}
 use Rattle.canon_context.specs.declared.fault.Fault.{Fault}
 use Rattle.canon_leaves.specs.Parts.{Part}
-use Rattle.canon_value.proofs.Passing.{handles_instance, handles_then, handles_types}
+use Rattle.canon_value_parts.proofs.Passing.{handles_instance, handles_then, handles_types}
 use Rattle.canon_lower.proofs.TupleSteps.{no_tuple_gives}
 use Rattle.canon_lower.proofs.TupleTypes.{IsNext, next_of, none_after, tuple_seen}
 use Rattle.canon_lower.proofs.WordSteps.{first_stay, first_stay_at, members_more, members_none, members_stop, product_lowers, stays_then}

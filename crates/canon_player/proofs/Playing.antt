@@ -5,7 +5,7 @@ use Rattle.std.specs.Prelude.{slice_index_or}
 use Rattle.canon_types.specs.Instance.{Instance}
 use Rattle.canon_context.specs.declared.component.Component.{Component}
 use Rattle.canon_resources.specs.Held.{Any}
-use Rattle.canon_value.specs.Resources.{all_resources}
+use Rattle.canon_value_parts.specs.Resources.{all_resources}
 use Rattle.canon_func.specs.Call.{refusal}
 use Rattle.canon_func.specs.Asks.{Limits, allowed}
 use Rattle.canon_func.specs.Stores.{Callee}

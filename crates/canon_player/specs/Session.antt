@@ -19,7 +19,7 @@ use Rattle.canon_resources.specs.Held.{Any, any, host_index, table_handle}
 use Rattle.canon_resources.specs.declared.any.ResourceAnyHandle.{ResourceAnyHandle}
 use Rattle.canon_resources.specs.declared.any.ResourceAnyHandle.TheVariants.{Synthetic}
 use Rattle.canon_context.specs.declared.fault.Fault.TheVariants as fault
-use Rattle.canon_value.specs.Resources.{all_resources}
+use Rattle.canon_value_parts.specs.Resources.{all_resources}
 use Rattle.canon_val.specs.declared.val.Val.{Val}
 use Rattle.canon_val.specs.declared.val.Val.TheVariants as val
 use Rattle.canon_host.specs.HostSide.{Entry, HostSide}

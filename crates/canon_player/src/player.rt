@@ -1,7 +1,7 @@
 //! Plays the items of a script on one store, and records each.
 
 ghost use Rattle.std.specs.Prelude.{◌≡◌, ◌≢◌, ◌++◌, [], All, Err, IfOk, OnErr, OnOk, Some, length, map};
-ghost use Rattle.canon_value.specs.Resources.{all_resources};
+ghost use Rattle.canon_value_parts.specs.Resources.{all_resources};
 ghost use Rattle.canon_script.specs.Script.{IsWellFormed, call_item, call_item_view, drop_item, item_view, new_item, play_of};
 ghost use Rattle.canon_player.specs.Session.{IsEnd, Session, WasDropped, answer_values, outcome};
 ghost use Rattle.canon_player.specs.Steps.{MadeAnswer, MakesCall, MakesResource, PlaysItem, PlaysItems};

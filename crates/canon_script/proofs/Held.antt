@@ -3,7 +3,7 @@ use Rattle.std.proofs.Common.{◌≡◌, ◌∙◌, ◌++◌, Err, List, None, O
 use Rattle.std.specs.Prelude.{OnOk}
 use Rattle.std.specs.declared.alloc.Global.{Global}
 use Rattle.canon_resources.specs.Held.{Any}
-use Rattle.canon_value.specs.Resources.{all_resources, joined, resources, resources_step}
+use Rattle.canon_value_parts.specs.Resources.{all_resources, joined, resources, resources_step}
 use Rattle.canon_val.specs.Value.{values_in}
 use Rattle.canon_val.specs.declared.val.Val.{Val, the_lemmas}
 use Rattle.canon_val.specs.declared.val.Val.TheFolds.{fold-roll-Val, ind-Val, map-Val}

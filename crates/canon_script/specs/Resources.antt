@@ -2,7 +2,7 @@
 use Rattle.std.specs.Prelude.{Box, List, None, Option, Some, String, [], map, string_bytes, ◌++◌}
 use Rattle.std.specs.declared.alloc.Global.{Global}
 use Rattle.canon_resources.specs.Held.{Any}
-use Rattle.canon_value.specs.Resources.{joined, resources}
+use Rattle.canon_value_parts.specs.Resources.{joined, resources}
 use Rattle.canon_val.specs.declared.val.Val.{Val}
 use Rattle.canon_model.specs.Shape.{Name}
 use Rattle.canon_script.specs.Literals.{Literal, literal_view, replaced}

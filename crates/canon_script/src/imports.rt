@@ -14,11 +14,12 @@ ghost use Rattle.canon_script.specs.Imports as spec;
 ghost use Rattle.canon_script.specs.Values.{plain_value_of};
 
 use crate::values::PlainValues;
+use canon_context::Import;
 use canon_indices::{OptionsIndex, TypeFuncIndex};
 use canon_json::{Reader, ScriptError, each_of, has_len, u32_of};
 use canon_layout::type_of_json;
 use canon_types::{InterfaceType, TypeBuilder, TypeError, TypeResourceTableIndex};
-use canon_value::{Import, Val};
+use canon_val::Val;
 use serde_json::Value;
 use std::alloc::Global;
 

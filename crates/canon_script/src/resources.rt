@@ -3,12 +3,12 @@
 ghost use Rattle.std.specs.Prelude.{◌≡◌, ◌++◌, ◌∷◌, [], IfOk, OnOk, length, map, nat_eq, string_bytes};
 ghost use Rattle.canon_script.specs.Literals.{all_known, held_among, held_in, is_known, listed, literal_view, literals_view, number_of, pairs_view, payload_replaced, payload_view, replaced};
 ghost use Rattle.canon_script.specs.Resources.{field_replaced, field_view, pair_replaced, pair_resources, payload_resources};
-ghost use Rattle.canon_value.specs.Resources.{all_resources, resources};
+ghost use Rattle.canon_value_parts.specs.Resources.{all_resources, resources};
 ghost use Rattle.canon_val.specs.Value.{values_in};
 
 use canon_resources::ResourceAny;
 use canon_types::OutOfMemory;
-use canon_value::Val;
+use canon_val::Val;
 use std::alloc::Global;
 
 /// The resources in values, depth first.

@@ -1,8 +1,9 @@
 //! A script and its items, once they are read.
 
+use canon_context::Import;
 use canon_scripted::{Action, Ordered};
 use canon_types::{ComponentTypes, StringEncoding};
-use canon_value::{Import, Val};
+use canon_val::Val;
 
 /// One call of a function.
 #[derive(Debug, Drop)]

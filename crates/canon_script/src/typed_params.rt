@@ -8,7 +8,7 @@ ghost use Rattle.canon_script.specs.Typed as spec;
 
 use crate::script::TypedParams;
 use canon_json::ScriptError;
-use canon_value::Val;
+use canon_val::Val;
 use std::alloc::Global;
 
 /// What is read as the parameters of a typed call is of the signature, and has the literals that it was read from; and the literals of any

@@ -16,7 +16,7 @@ use crate::resources::is_plain;
 use canon_json::{Reader, ScriptError, each_of, only_member, two, u32_of};
 use canon_resources::{ResourceAny, ResourceType};
 use canon_types::OutOfMemory;
-use canon_value::Val;
+use canon_val::Val;
 use serde_json::Value;
 use std::alloc::Global;
 

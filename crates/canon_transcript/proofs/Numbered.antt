@@ -4,7 +4,7 @@ use Rattle.std.proofs.Math.ListN.{drop_of_length-le}
 use Rattle.std.specs.Prelude.{OnOk, codes}
 use Rattle.std.specs.declared.alloc.Global.{Global}
 use Rattle.canon_resources.specs.Held.{Any}
-use Rattle.canon_value.specs.Resources.{all_resources, resources, resources_step}
+use Rattle.canon_value_parts.specs.Resources.{all_resources, resources, resources_step}
 use Rattle.canon_val.specs.declared.val.Val.{Val}
 use Rattle.canon_val.specs.declared.val.Val.TheFolds.{fold-roll-Val, ind-Val, map-Val}
 use Rattle.canon_val.specs.declared.val.Val.TheOpen.{Val-F, Val-F as F}

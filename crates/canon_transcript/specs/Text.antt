@@ -14,7 +14,7 @@ use Rattle.canon_context.specs.declared.fault.Fault.TheVariants as fault
 use Rattle.canon_ledger.specs.declared.fault.ResourceFault.{ResourceFault}
 use Rattle.canon_ledger.specs.declared.fault.ResourceFault.TheVariants as resource
 use Rattle.canon_resources.specs.Held.{Any}
-use Rattle.canon_value.specs.Resources.{all_resources}
+use Rattle.canon_value_parts.specs.Resources.{all_resources}
 use Rattle.canon_val.specs.declared.val.Val.{Val}
 use Rattle.canon_val.specs.declared.val.Val.TheFolds.{fold-Val}
 use Rattle.canon_val.specs.declared.val.Val.TheOpen.{Val-F}

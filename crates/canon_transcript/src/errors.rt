@@ -3,10 +3,10 @@
 ghost use Rattle.std.specs.Prelude.{◌≡◌, ◌++◌, IfOk, OnOk, string_bytes};
 ghost use Rattle.canon_transcript.specs.Text as spec;
 
+use canon_context::{At, Fault};
 use canon_func::Error;
 use canon_indices::OutOfMemory;
 use canon_ledger::ResourceFault;
-use canon_value::{At, Fault};
 use std::alloc::{AllocError, Global};
 
 /// The text of an error: its name, and what it carries after a space. Answers OutOfMemory alone.

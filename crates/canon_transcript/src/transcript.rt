@@ -6,7 +6,7 @@ ghost use Rattle.canon_transcript.specs.declared.transcript.Record.{Record};
 use canon_func::Error;
 use canon_indices::OutOfMemory;
 use canon_memory::Events;
-use canon_value::Val;
+use canon_val::Val;
 use std::alloc::Global;
 use std::marker::Model;
 

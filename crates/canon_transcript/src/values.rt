@@ -4,7 +4,7 @@ ghost use Rattle.std.specs.Prelude.{[], if◌then◌else◌, ◌≡◌, ◌++◌
 ghost use Rattle.canon_transcript.specs.Text as spec;
 
 use canon_indices::OutOfMemory;
-use canon_value::Val;
+use canon_val::Val;
 use std::alloc::{AllocError, Global};
 
 /// The text of a value, whose resources have no numbers. Answers OutOfMemory alone.

@@ -6,24 +6,23 @@ ghost use Rattle.canon_model.specs.Layout.{members_flat, size};
 ghost use Rattle.canon_model.specs.Shape.{member_count, of_places, product};
 ghost use Rattle.canon_lowering.specs.Attempt.{StoresMembers};
 ghost use Rattle.canon_types.specs.Table.{HasTuple, tuple_members};
-ghost use Rattle.canon_value.specs.Args.{IsArea, IsNoArea, LowersResults};
-ghost use Rattle.canon_value.specs.Resources.{Crosses, PartsLower, QuietBut, all_passes};
+ghost use Rattle.canon_value_parts.specs.Args.{IsArea, IsNoArea, LowersResults};
+ghost use Rattle.canon_value_parts.specs.Resources.{Crosses, PartsLower, QuietBut, all_passes};
 ghost use Rattle.canon_context.specs.Core.{encoding_by, guest_of, moment_of, types_of};
-ghost use Rattle.canon_value.specs.Fails.{AreSmall, BlamesMembers};
+ghost use Rattle.canon_value_parts.specs.Fails.{AreSmall, BlamesMembers};
 ghost use Rattle.canon_context.specs.Lowers.{ending_of};
 ghost use Rattle.canon_context.specs.Moves.{Moves};
 ghost use Rattle.canon_context.specs.Quiet.{Quiet, have_block, have_handle};
 ghost use Rattle.canon_context.specs.Asks.{SameButHandles};
 ghost use Rattle.canon_val.specs.Value.{HaveTrees};
 
-use crate::handles::told;
 use crate::lower::lower_results_near;
-use crate::members::Members;
 use crate::store::store_parts;
 use crate::{At, Core, Fault, LowerContext, Val};
 use canon_abi::MAX_FLAT_RESULTS;
 use canon_memory::{Guest, ValRaw};
 use canon_types::TypeTupleIndex;
+use canon_value_parts::{Members, told};
 
 /// The address that a word gives for the results of a function, where they are stored as a tuple. It is tested first that it is a
 /// multiple of the tuple's alignment (`PointerMisaligned`), then that the tuple ends inside memory (`PointerOutOfBounds`).

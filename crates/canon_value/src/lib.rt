@@ -2,24 +2,13 @@
 #![tactic(auto)]
 
 mod args;
-mod blocks;
-mod case_view;
-mod elements;
-mod flags;
 mod given;
-mod handles;
 pub mod laws;
 mod lift;
 mod load;
 mod lower;
-mod members;
-pub mod parts;
-mod rebuild;
-mod rebuild_case;
 mod results;
-mod scalar_bytes;
 mod store;
-mod view;
 
 pub use args::lower_args;
 pub use canon_context::{

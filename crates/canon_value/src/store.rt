@@ -8,31 +8,29 @@ ghost use Rattle.canon_types.specs.Table.{Knows, shape_of};
 ghost use Rattle.canon_plan.specs.Plan.{shape_of_handle, type_of_handle};
 ghost use Rattle.canon_context.specs.Core.{encoding_by, guest_of, moment_of, types_of};
 ghost use Rattle.canon_plan.specs.Element.{IsKnown, list_shape};
-ghost use Rattle.canon_value.specs.Elements.{element_in, list_value};
-ghost use Rattle.canon_value.specs.Fails.{BlamesValue, IsSmall};
+ghost use Rattle.canon_value_parts.specs.Elements.{element_in, list_value};
+ghost use Rattle.canon_value_parts.specs.Fails.{BlamesValue, IsSmall};
 ghost use Rattle.canon_context.specs.Lowers.{ending_of};
 ghost use Rattle.canon_context.specs.Moves.{Moves};
 ghost use Rattle.canon_context.specs.Quiet.{has_block, has_handle};
-ghost use Rattle.canon_value.specs.Resources.{Crosses, QuietBut, passes};
+ghost use Rattle.canon_value_parts.specs.Resources.{Crosses, QuietBut, passes};
 ghost use Rattle.canon_context.specs.Asks.{SameButHandles};
-ghost use Rattle.canon_value.specs.Stores.{PartsStoreTo, PlacesTo, StoresTo};
+ghost use Rattle.canon_value_parts.specs.Stores.{PartsStoreTo, PlacesTo, StoresTo};
 ghost use Rattle.canon_val.specs.declared.val.Val.TheVariants as val;
 ghost use Rattle.canon_val.specs.Value.{HasTree};
-ghost use Rattle.canon_value.specs.View.{AreKnown, names_of, shapes_of, values_of};
-ghost use Rattle.canon_value.specs.Words.{IsWordOf};
+ghost use Rattle.canon_value_parts.specs.View.{AreKnown, names_of, shapes_of, values_of};
+ghost use Rattle.canon_value_parts.specs.Words.{IsWordOf};
 
-use crate::blocks::{Placed, ask_items, place_text};
-use crate::elements::{Elements, element_count, element_of};
-use crate::flags::store_names;
-use crate::handles::{give_handle, told};
-use crate::members::{Members, count_of, member_of, members_in};
-use crate::view::{View, view_of};
 use crate::{Fault, LowerContext, Val};
 use canon_bytes::{block_size, put_low_bytes, put_pair};
 use canon_memory::Guest;
 use canon_plan::{HandleType, element_abi};
 use canon_resources::ResourceAny;
 use canon_types::InterfaceType;
+use canon_value_parts::{
+    Elements, Members, Placed, View, ask_items, count_of, element_count, element_of, give_handle,
+    member_of, members_in, place_text, store_names, told, view_of,
+};
 
 /// Stores the value at an address of the guest's memory (CanonicalABI.md, "store"). Answers `TypeMismatch`,
 /// `LengthMismatch`, `FieldName`, `UnknownCase`, `UnknownFlag`, `PayloadExpected` or `PayloadNotExpected` where the value

@@ -14,9 +14,9 @@ use Rattle.canon_plan.specs.NoHandle.{HaveNoHandle, HasNoHandle}
 use Rattle.canon_plan.specs.Plan.{members_from, shapes_of}
 use Rattle.canon_plan.proofs.Pairs.{key_known, map_shape, value_known}
 use Rattle.canon_val.specs.declared.val.Val.{Val}
-use Rattle.canon_value.proofs.Viewing.{lies_no_handle, lies_depth}
-use Rattle.canon_value.proofs.WalkLoops.{member_shallow}
-use Rattle.canon_value.proofs.Walks.{copies_no_handle, copies_deepest}
+use Rattle.canon_value_parts.proofs.Viewing.{lies_no_handle, lies_depth}
+use Rattle.canon_value_parts.proofs.WalkLoops.{member_shallow}
+use Rattle.canon_value_parts.proofs.Walks.{copies_no_handle, copies_deepest}
 use Rattle.canon_image.proofs.CaseReading.{case_cut, case_falls, case_none, payload_no_handle, payload_count, tag_here}
 use Rattle.canon_image.proofs.Fetching.{left_short}
 use Rattle.canon_image.proofs.PairsReading.{PairsAreRead, key_stop, map_read, map_stops, pair_read, pairs_begin, pairs_done, value_stop}

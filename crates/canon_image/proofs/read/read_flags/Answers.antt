@@ -7,10 +7,10 @@ use Rattle.canon_model.specs.Shape.{Shape, flags}
 use Rattle.canon_model.specs.Tree.{bits}
 use Rattle.canon_types.specs.Table.{shape_of}
 use Rattle.canon_types.specs.declared.types.InterfaceType.TheVariants as ty
-use Rattle.canon_value.specs.Flags.{flag_names, names_in_flags}
+use Rattle.canon_value_parts.specs.Flags.{flag_names, names_in_flags}
 use Rattle.canon_val.specs.Value.{IsLiftedFrom}
-use Rattle.canon_value.proofs.FlagNames.{flags_are}
-use Rattle.canon_value.proofs.FlagSteps.{flags_bytes}
+use Rattle.canon_value_parts.proofs.FlagNames.{flags_are}
+use Rattle.canon_value_parts.proofs.FlagSteps.{flags_bytes}
 use Rattle.canon_image.proofs.CaseReading.{flags_many}
 use Rattle.canon_image.proofs.Fetching.{flags_bad, flags_cut, flags_good, left_short}
 use Rattle.canon_image.proofs.read.read_flags.Goals.{After-from-size}

@@ -7,12 +7,12 @@ use Rattle.canon_types.specs.declared.types.InterfaceType.TheVariants as ty
 use Rattle.canon_plan.specs.NoHandle.{HasNoHandle}
 use Rattle.canon_plan.proofs.Lookups.{copies_count}
 use Rattle.canon_plan.proofs.Pairs.{key_known, map_shape, value_known}
-use Rattle.canon_value.specs.View.{names_of, shapes_of, values_of}
-use Rattle.canon_value.proofs.Viewing.{lies_no_handle, lies_depth, names_count}
-use Rattle.canon_value.proofs.WalkCases.{case_wants}
-use Rattle.canon_value.proofs.WalkLoops.{member_shallow}
-use Rattle.canon_value.proofs.Walks.{copies_no_handle, copies_deepest}
-use Rattle.canon_value.proofs.Steps.{blocks_none}
+use Rattle.canon_value_parts.specs.View.{names_of, shapes_of, values_of}
+use Rattle.canon_value_parts.proofs.Viewing.{lies_no_handle, lies_depth, names_count}
+use Rattle.canon_value_parts.proofs.WalkCases.{case_wants}
+use Rattle.canon_value_parts.proofs.WalkLoops.{member_shallow}
+use Rattle.canon_value_parts.proofs.Walks.{copies_no_handle, copies_deepest}
+use Rattle.canon_value_parts.proofs.Steps.{blocks_none}
 use Rattle.canon_image.proofs.PairsWriting.{key_stops, map_parts, map_told, pair_goes_on, pair_here, pairs_end, value_stops}
 use Rattle.canon_image.proofs.Writing.{case_told, end, go_on, items_told, member_no_handle, members_written, misnamed, parts_told, refused, seen_no_handle, stop}
 use Rattle.canon_image.proofs.write.+write.Goals.{write_pairs-After-map-map}

@@ -4,8 +4,8 @@ use Rattle.canon_types.specs.Depth.{deepest, depth, element_shape}
 use Rattle.canon_types.specs.Table.{shape_of}
 use Rattle.canon_types.specs.declared.types.InterfaceType.TheVariants as ty
 use Rattle.canon_plan.specs.Element.{list_shape}
-use Rattle.canon_value.specs.Elements.{element_in}
-use Rattle.canon_value.specs.View.{names_of, shapes_of, values_of}
+use Rattle.canon_value_parts.specs.Elements.{element_in}
+use Rattle.canon_value_parts.specs.View.{names_of, shapes_of, values_of}
 use Rattle.canon_image.proofs.PairsWriting.{PairsAreWritten}
 use Rattle.canon_image.proofs.Writing.{AreWritten}
 use Rattle.canon_image.proofs.write.+write.Given as goal

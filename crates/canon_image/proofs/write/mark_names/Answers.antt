@@ -2,11 +2,11 @@ use Rattle.std.proofs.Common.{List, arith, length, refl, rules, string_bytes, su
 use Rattle.canon_model.specs.Layout.{flags_size}
 use Rattle.canon_model.specs.Shape.{Name}
 use Rattle.canon_types.specs.Keeps.{names_of}
-use Rattle.canon_value.specs.Flags.{flag_names}
+use Rattle.canon_value_parts.specs.Flags.{flag_names}
 use Rattle.canon_val.specs.Value.{Occurs}
-use Rattle.canon_value.proofs.FlagDigits.{byte_inside}
-use Rattle.canon_value.proofs.FlagNames.{marked_all}
-use Rattle.canon_value.proofs.FlagWriting.{AreStored, last_name, next_name, next_unknown, stored_begin, stored_more}
+use Rattle.canon_value_parts.proofs.FlagDigits.{byte_inside}
+use Rattle.canon_value_parts.proofs.FlagNames.{marked_all}
+use Rattle.canon_value_parts.proofs.FlagWriting.{AreStored, last_name, next_name, next_unknown, stored_begin, stored_more}
 use Rattle.canon_image.proofs.write.mark_names.Goals as goal
 
 pub loop-name-init : goal.loop-name-init

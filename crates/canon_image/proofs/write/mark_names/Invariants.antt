@@ -1,7 +1,7 @@
 use Rattle.std.proofs.Common.{length, map, string_bytes, take}
 use Rattle.canon_model.specs.Layout.{flags_size}
-use Rattle.canon_value.specs.Flags.{flag_names}
-use Rattle.canon_value.proofs.FlagWriting.{AreStored}
+use Rattle.canon_value_parts.specs.Flags.{flag_names}
+use Rattle.canon_value_parts.proofs.FlagWriting.{AreStored}
 use Rattle.canon_image.proofs.write.mark_names.Given as goal
 
 -- the bits of the names so far are set

@@ -4,10 +4,10 @@ use Rattle.canon_model.specs.Layout.{flags_size}
 use Rattle.canon_types.specs.Keeps.{names_of}
 use Rattle.canon_types.specs.Table.{shape_of}
 use Rattle.canon_types.specs.declared.types.InterfaceType.TheVariants as ty
-use Rattle.canon_value.specs.Flags.{flag_names}
+use Rattle.canon_value_parts.specs.Flags.{flag_names}
 use Rattle.canon_val.specs.declared.val.Val.TheVariants as val
-use Rattle.canon_value.proofs.FlagNames.{flags_are}
-use Rattle.canon_value.proofs.FlagSteps.{flags_bytes}
+use Rattle.canon_value_parts.proofs.FlagNames.{flags_are}
+use Rattle.canon_value_parts.proofs.FlagSteps.{flags_bytes}
 use Rattle.canon_image.proofs.Flagging.{filled, flags_told, whole}
 use Rattle.canon_image.specs.Written.{MarksTo, WritesTo}
 use Rattle.canon_image.proofs.write.write_flags.Goals as goal

@@ -1,5 +1,5 @@
 use Rattle.std.proofs.Common.{arith}
-use Rattle.canon_value.proofs.StoreSteps.{scalar_type_bytes}
+use Rattle.canon_value_parts.proofs.StoreSteps.{scalar_type_bytes}
 use Rattle.canon_image.proofs.Writing.{scalar_written}
 use Rattle.canon_image.proofs.write.write_scalar.Goals as goal
 

@@ -4,7 +4,7 @@ use Rattle.canon_lower.proofs.WordRows.{row_begin, row_end, row_more, row_room, 
 use Rattle.canon_plan.proofs.Lookups.{drop_at}
 use Rattle.canon_types.specs.Instance.{Instance}
 use Rattle.canon_types.specs.Table.{Knows}
-use Rattle.canon_value.proofs.Passing.{handles_instance, handles_types}
+use Rattle.canon_value_parts.proofs.Passing.{handles_instance, handles_types}
 use Rattle.canon_typed.specs.Typed.{walked_shaped}
 use Rattle.canon_lower.proofs.fixed_list.lower_shared_items.Goals as goal
 

@@ -5,7 +5,7 @@ use Rattle.canon_context.specs.Core.{types_of}
 use Rattle.canon_model.specs.Layout.{size}
 use Rattle.canon_types.specs.Instance.{Instance}
 use Rattle.canon_typed.specs.Meaning.{PairMeans}
-use Rattle.canon_value.proofs.Passing.{handles_instance}
+use Rattle.canon_value_parts.proofs.Passing.{handles_instance}
 use Rattle.canon_lower.proofs.Items.{left_below, left_next}
 use Rattle.canon_lower.proofs.MapSteps.{one_inside, pair_stood}
 use Rattle.canon_lower.proofs.Rows.{RowIsStored, row_begin, row_broken, row_ended, row_go_on}

@@ -1,7 +1,7 @@
 -- The resources so far and those of what is left are all of them.
 use Rattle.std.proofs.Common.{◌≡◌, ◌++◌, drop}
 use Rattle.canon_script.specs.Resources.{pair_resources}
-use Rattle.canon_value.specs.Resources.{all_resources}
+use Rattle.canon_value_parts.specs.Resources.{all_resources}
 use Rattle.canon_val.specs.Value.{values_in}
 use Rattle.canon_script.proofs.resources.+collect.Given as goal
 

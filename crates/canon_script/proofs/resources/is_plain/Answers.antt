@@ -1,5 +1,5 @@
 use Rattle.std.proofs.Common.{ap, length, nat_eq, sym, ◌++◌, ◌∙◌}
-use Rattle.canon_value.specs.Resources.{resources}
+use Rattle.canon_value_parts.specs.Resources.{resources}
 use Rattle.canon_script.proofs.Held.{held_is}
 use Rattle.canon_script.proofs.resources.is_plain.Goals as goal
 

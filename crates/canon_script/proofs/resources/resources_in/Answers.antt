@@ -1,5 +1,5 @@
 use Rattle.std.proofs.Common.{ap, sym, ◌++◌, ◌∙◌}
-use Rattle.canon_value.specs.Resources.{all_resources}
+use Rattle.canon_value_parts.specs.Resources.{all_resources}
 use Rattle.canon_script.proofs.Held.{held_are}
 use Rattle.canon_script.proofs.resources.resources_in.Goals as goal
 

@@ -3,13 +3,13 @@ use Rattle.canon_context.proofs.Moves.{GuestLaws}
 use Rattle.canon_context.specs.Core.{encoding_by, guest_of, moment_of, types_of}
 use Rattle.canon_context.specs.Quiet.{have_block, have_handle}
 use Rattle.canon_types.specs.Table.{tuple_members}
-use Rattle.canon_value.proofs.Crossing.{crossed, quiet_but, told_blames, told_moves}
-use Rattle.canon_value.proofs.PassesOf.{no_row_passes}
-use Rattle.canon_value.specs.Args.{LowersResults}
-use Rattle.canon_value.specs.Fails.{MemberFails}
-use Rattle.canon_value.specs.Resources.{all_passes}
+use Rattle.canon_value_parts.proofs.Crossing.{crossed, quiet_but, told_blames, told_moves}
+use Rattle.canon_value_parts.proofs.PassesOf.{no_row_passes}
+use Rattle.canon_value_parts.specs.Args.{LowersResults}
+use Rattle.canon_value_parts.specs.Fails.{MemberFails}
+use Rattle.canon_value_parts.specs.Resources.{all_passes}
 use Rattle.canon_val.specs.Value.{HaveTrees}
-use Rattle.canon_value.proofs.given.lower_results.Goals as goal
+use Rattle.canon_value_parts.proofs.given.lower_results.Goals as goal
 
 pub returns-in-Ok-clause-lowered : goal.returns-in-Ok-clause-lowered
 returns-in-Ok-clause-lowered g c = let h = c.in-Ok.ensures.lowered in record { given = h.handles; ending = _; ends = refl; lowered = h.lowered; passed = h.passed; as_told = tt }

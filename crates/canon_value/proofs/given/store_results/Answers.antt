@@ -5,10 +5,10 @@ use Rattle.canon_model.specs.Shape.{of_places}
 use Rattle.canon_types.specs.Table.{tuple_members}
 use Rattle.canon_context.specs.Core.{encoding_by, moment_of, types_of}
 use Rattle.canon_val.specs.Value.{HaveTrees, no_names}
-use Rattle.canon_value.proofs.Givens.{stored_as}
-use Rattle.canon_value.proofs.Lookups.{tuple_names}
-use Rattle.canon_value.proofs.StoreSteps.{Named, count_members}
-use Rattle.canon_value.proofs.given.store_results.Goals as goal
+use Rattle.canon_value_parts.proofs.Givens.{stored_as}
+use Rattle.canon_value_parts.proofs.Lookups.{tuple_names}
+use Rattle.canon_value_parts.proofs.StoreSteps.{Named, count_members}
+use Rattle.canon_value_parts.proofs.given.store_results.Goals as goal
 
 pub store_parts-requires-clause-room : goal.store_parts-requires-clause-room
 unfolding size

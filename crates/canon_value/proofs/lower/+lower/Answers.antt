@@ -5,30 +5,30 @@ use Rattle.canon_types.specs.Depth.{deepest, depth}
 use Rattle.canon_types.specs.Table.{Knows, Table, shape_of}
 use Rattle.canon_model.specs.Shape.{Shape}
 use Rattle.canon_types.specs.declared.types.InterfaceType.{InterfaceType}
-use Rattle.canon_value.proofs.HandleLifting.{handle_shape}
-use Rattle.canon_value.proofs.HandleSteps.{handle_flat}
+use Rattle.canon_value_parts.proofs.HandleLifting.{handle_shape}
+use Rattle.canon_value_parts.proofs.HandleSteps.{handle_flat}
 use Rattle.canon_val.specs.declared.val.Val.{Val}
 use Rattle.canon_val.specs.declared.val.Val.TheVariants as val
 use Rattle.canon_context.specs.Core.{types_of, encoding_by}
-use Rattle.canon_value.specs.Elements.{element_in}
-use Rattle.canon_value.specs.View.{IsMember, names_of, shapes_of, values_of}
-use Rattle.canon_value.specs.Words.{LowersTo, PartsLowerTo}
-use Rattle.canon_value.specs.declared.lower.Spot.{Spot}
+use Rattle.canon_value_parts.specs.Elements.{element_in}
+use Rattle.canon_value_parts.specs.View.{IsMember, names_of, shapes_of, values_of}
+use Rattle.canon_value_parts.specs.Words.{LowersTo, PartsLowerTo}
+use Rattle.canon_value_parts.specs.declared.spot.Spot.{Spot}
 use Rattle.canon_val.specs.declared.val.Val.{the_lemmas}
 use Rattle.canon_context.proofs.Moves.{GuestLaws}
-use Rattle.canon_value.proofs.Steps.{blocks_none}
-use Rattle.canon_value.proofs.Passing.{handles_types}
-use Rattle.canon_value.proofs.PassesOf.{case_passes, members_passes}
-use Rattle.canon_value.proofs.Listing.{row}
-use Rattle.canon_value.proofs.Viewing.{lies_depth, lies_words, names_count}
-use Rattle.canon_value.proofs.WalkCases.{case_wants}
-use Rattle.canon_value.proofs.WalkLoops.{member_shallow}
-use Rattle.canon_value.proofs.WordCases.{case_lowered, case_room, case_stopped}
-use Rattle.canon_value.proofs.WordLoops.{end, go_on, has_room, misnamed, stop}
-use Rattle.canon_value.proofs.WordSteps.{members_lower, value_refused}
-use Rattle.canon_value.proofs.lower.+lower.Given.{Over}
-use Rattle.canon_value.proofs.lower.+lower.Goals.{lower_parts-After-member_of-member}
-use Rattle.canon_value.proofs.lower.+lower.Goals as goal
+use Rattle.canon_value_parts.proofs.Steps.{blocks_none}
+use Rattle.canon_value_parts.proofs.Passing.{handles_types}
+use Rattle.canon_value_parts.proofs.PassesOf.{case_passes, members_passes}
+use Rattle.canon_value_parts.proofs.Listing.{row}
+use Rattle.canon_value_parts.proofs.Viewing.{lies_depth, lies_words, names_count}
+use Rattle.canon_value_parts.proofs.WalkCases.{case_wants}
+use Rattle.canon_value_parts.proofs.WalkLoops.{member_shallow}
+use Rattle.canon_value_parts.proofs.WordCases.{case_lowered, case_room, case_stopped}
+use Rattle.canon_value_parts.proofs.WordLoops.{end, go_on, has_room, misnamed, stop}
+use Rattle.canon_value_parts.proofs.WordSteps.{members_lower, value_refused}
+use Rattle.canon_value_parts.proofs.lower.+lower.Given.{Over}
+use Rattle.canon_value_parts.proofs.lower.+lower.Goals.{lower_parts-After-member_of-member}
+use Rattle.canon_value_parts.proofs.lower.+lower.Goals as goal
 
 -- ---- members
 

@@ -4,12 +4,12 @@ use Rattle.canon_context.specs.Core.{encoding_by, guest_of, moment_of, types_of}
 use Rattle.canon_context.specs.Quiet.{has_block, has_handle}
 use Rattle.canon_lowering.specs.Attempt.{LowersValue}
 use Rattle.canon_types.specs.Table.{shape_of}
-use Rattle.canon_value.proofs.Crossing.{crossed, quiet_but, told_blames, told_moves}
-use Rattle.canon_value.proofs.PassesOf.{no_passes}
-use Rattle.canon_value.specs.Fails.{FailsAt}
-use Rattle.canon_value.specs.Resources.{passes}
+use Rattle.canon_value_parts.proofs.Crossing.{crossed, quiet_but, told_blames, told_moves}
+use Rattle.canon_value_parts.proofs.PassesOf.{no_passes}
+use Rattle.canon_value_parts.specs.Fails.{FailsAt}
+use Rattle.canon_value_parts.specs.Resources.{passes}
 use Rattle.canon_val.specs.Value.{HasTree}
-use Rattle.canon_value.proofs.lower.linear_lower_to_flat.Goals as goal
+use Rattle.canon_value_parts.proofs.lower.linear_lower_to_flat.Goals as goal
 
 pub returns-in-Ok-clause-lowered : goal.returns-in-Ok-clause-lowered
 returns-in-Ok-clause-lowered g c = let h = c.in-Ok.ensures.lowers in record { given = h.handles; ending = _; ends = refl; lowered = h.lowered; passed = h.handed; as_told = tt }

@@ -3,12 +3,12 @@ use Rattle.canon_leaves.specs.Parts.{passed}
 use Rattle.canon_plan.specs.Plan.{shape_of_handle}
 use Rattle.canon_context.specs.Core.{Parts}
 use Rattle.canon_context.specs.declared.fault.Fault.{Fault}
-use Rattle.canon_value.specs.Words.{LowersTo}
+use Rattle.canon_value_parts.specs.Words.{LowersTo}
 use Rattle.canon_val.specs.declared.val.Val.TheVariants as val
 use Rattle.canon_context.proofs.Moves.{GuestLaws}
-use Rattle.canon_value.proofs.HandleSteps.{handle_lowered, handle_not_lowered}
-use Rattle.canon_value.proofs.Passing.{Ended}
-use Rattle.canon_value.proofs.lower.lower_handle.Goals as goal
+use Rattle.canon_value_parts.proofs.HandleSteps.{handle_lowered, handle_not_lowered}
+use Rattle.canon_value_parts.proofs.Passing.{Ended}
+use Rattle.canon_value_parts.proofs.lower.lower_handle.Goals as goal
 
 pub returns-in-Ok-clause-lowers : goal.returns-in-Ok-clause-lowers
 returns-in-Ok-clause-lowers g c =

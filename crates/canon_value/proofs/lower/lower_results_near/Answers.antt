@@ -2,10 +2,10 @@ use Rattle.std.proofs.Common.{Err, Ok}
 use Rattle.canon_types.specs.Table.{tuple_members}
 use Rattle.canon_context.specs.Core.{encoding_by, moment_of, types_of}
 use Rattle.canon_val.specs.Value.{HaveTrees, no_names}
-use Rattle.canon_value.proofs.Givens.{words_as}
-use Rattle.canon_value.proofs.Lookups.{tuple_names}
-use Rattle.canon_value.proofs.StoreSteps.{Named, count_members}
-use Rattle.canon_value.proofs.lower.lower_results_near.Goals as goal
+use Rattle.canon_value_parts.proofs.Givens.{words_as}
+use Rattle.canon_value_parts.proofs.Lookups.{tuple_names}
+use Rattle.canon_value_parts.proofs.StoreSteps.{Named, count_members}
+use Rattle.canon_value_parts.proofs.lower.lower_results_near.Goals as goal
 
 pub returns-in-Ok-clause-lowered : goal.returns-in-Ok-clause-lowered
 returns-in-Ok-clause-lowered g c =

@@ -1,12 +1,12 @@
 use Rattle.std.proofs.Common.{ap, arith, refl, subst, sym, ℕ}
 use Rattle.canon_model.specs.Layout.{flat}
 use Rattle.canon_context.specs.Core.{types_of}
-use Rattle.canon_value.specs.Words.{IsWordOf}
+use Rattle.canon_value_parts.specs.Words.{IsWordOf}
 use Rattle.canon_context.proofs.Moves.{GuestLaws}
 use Rattle.canon_plan.proofs.ScalarTypes.{scalar_shape}
-use Rattle.canon_value.proofs.PassesOf.{scalar_passes}
-use Rattle.canon_value.proofs.WordSteps.{scalar_lowers}
-use Rattle.canon_value.proofs.lower.lower_word.Goals as goal
+use Rattle.canon_value_parts.proofs.PassesOf.{scalar_passes}
+use Rattle.canon_value_parts.proofs.WordSteps.{scalar_lowers}
+use Rattle.canon_value_parts.proofs.lower.lower_word.Goals as goal
 
 pub bounds-dst-from : goal.bounds-dst-from
 unfolding flat

@@ -1,5 +1,5 @@
 use Rattle.canon_plan.proofs.Lookups.{begins_here, ends_here}
-use Rattle.canon_value.proofs.Steps.{blocks_none}
+use Rattle.canon_value_parts.proofs.Steps.{blocks_none}
 use Rattle.std.proofs.Common.{Err, List, Ok, Result, ap, ap₂, arith, false, length, refl, rules, subst, sym, ℕ, ◌%◌, ◌*◌, ◌+◌, ◌-◌, ◌<◌, ◌^◌, ◌∙◌, ◌≡◌, ◌≤◌, ◌⊎◌}
 use Rattle.canon_lowering.specs.Storing.{IsPair, narrow}
 use Rattle.canon_model.specs.Memory.{num}
@@ -8,33 +8,33 @@ use Rattle.canon_model.specs.Shape.{Shape}
 use Rattle.canon_types.specs.Depth.{deepest, depth, element_shape}
 use Rattle.canon_types.specs.Table.{Knows, Table, shape_of}
 use Rattle.canon_types.specs.declared.types.InterfaceType.{InterfaceType}
-use Rattle.canon_value.proofs.HandleLifting.{handle_shape}
-use Rattle.canon_value.proofs.HandleSteps.{handle_size}
+use Rattle.canon_value_parts.proofs.HandleLifting.{handle_shape}
+use Rattle.canon_value_parts.proofs.HandleSteps.{handle_size}
 use Rattle.canon_val.specs.declared.val.Val.{Val}
 use Rattle.canon_val.specs.declared.val.Val.TheVariants as val
 use Rattle.canon_context.specs.Core.{Parts, types_of, encoding_by}
 use Rattle.canon_context.specs.Asks.{AsksFor}
-use Rattle.canon_value.specs.Stores.{PartsStoreTo, StoresTo}
+use Rattle.canon_value_parts.specs.Stores.{PartsStoreTo, StoresTo}
 use Rattle.canon_lowering.specs.Attempt.{items_call}
 use Rattle.canon_plan.specs.Element.{IsKnown, list_shape, row_of}
-use Rattle.canon_value.specs.Elements.{element_in, list_length, list_value}
+use Rattle.canon_value_parts.specs.Elements.{element_in, list_length, list_value}
 use Rattle.canon_plan.specs.declared.element.Element.{Element}
 use Rattle.canon_context.specs.declared.fault.Fault.{Fault}
-use Rattle.canon_value.specs.View.{IsMember, names_of, shapes_of, values_of}
+use Rattle.canon_value_parts.specs.View.{IsMember, names_of, shapes_of, values_of}
 use Rattle.canon_val.specs.declared.val.Val.{the_lemmas}
 use Rattle.canon_context.proofs.Cores.{same_types}
-use Rattle.canon_value.proofs.Passing.{handles_types}
-use Rattle.canon_value.proofs.PassesOf.{case_passes, listed_passes, members_passes}
-use Rattle.canon_value.proofs.Viewing.{lies_depth, lies_room, names_count, values_count}
-use Rattle.canon_value.proofs.WalkCases.{case_stored, case_wants, written_length}
-use Rattle.canon_value.proofs.WalkLoops.{end, go_on, member_shallow, misnamed, parts_stood, stands, stop}
+use Rattle.canon_value_parts.proofs.Passing.{handles_types}
+use Rattle.canon_value_parts.proofs.PassesOf.{case_passes, listed_passes, members_passes}
+use Rattle.canon_value_parts.proofs.Viewing.{lies_depth, lies_room, names_count, values_count}
+use Rattle.canon_value_parts.proofs.WalkCases.{case_stored, case_wants, written_length}
+use Rattle.canon_value_parts.proofs.WalkLoops.{end, go_on, member_shallow, misnamed, parts_stood, stands, stop}
 use Rattle.canon_context.proofs.Moves.{GuestLaws}
-use Rattle.canon_value.proofs.Walks.{list_told, members_store, placed_stop, value_refused}
-use Rattle.canon_value.proofs.Listing.{element_size, listed, row}
-use Rattle.canon_value.proofs.Placing.{list_broken, list_placed, list_refused, list_too_large}
-use Rattle.canon_value.proofs.store.+store.Given.{Over}
-use Rattle.canon_value.proofs.store.+store.Goals.{store_parts-After-member_of-member, store_parts-After-next_field32_size-start}
-use Rattle.canon_value.proofs.store.+store.Goals as goal
+use Rattle.canon_value_parts.proofs.Walks.{list_told, members_store, placed_stop, value_refused}
+use Rattle.canon_value_parts.proofs.Listing.{element_size, listed, row}
+use Rattle.canon_value_parts.proofs.Placing.{list_broken, list_placed, list_refused, list_too_large}
+use Rattle.canon_value_parts.proofs.store.+store.Given.{Over}
+use Rattle.canon_value_parts.proofs.store.+store.Goals.{store_parts-After-member_of-member, store_parts-After-next_field32_size-start}
+use Rattle.canon_value_parts.proofs.store.+store.Goals as goal
 
 -- ---- members
 

@@ -4,12 +4,12 @@ use Rattle.canon_context.specs.Core.{encoding_by, guest_of, moment_of, types_of}
 use Rattle.canon_context.specs.Quiet.{has_block, has_handle}
 use Rattle.canon_lowering.specs.Attempt.{StoresValue}
 use Rattle.canon_types.specs.Table.{shape_of}
-use Rattle.canon_value.proofs.Crossing.{crossed, quiet_but, told_blames, told_moves}
-use Rattle.canon_value.proofs.PassesOf.{no_passes}
-use Rattle.canon_value.specs.Fails.{FailsAt}
-use Rattle.canon_value.specs.Resources.{passes}
+use Rattle.canon_value_parts.proofs.Crossing.{crossed, quiet_but, told_blames, told_moves}
+use Rattle.canon_value_parts.proofs.PassesOf.{no_passes}
+use Rattle.canon_value_parts.specs.Fails.{FailsAt}
+use Rattle.canon_value_parts.specs.Resources.{passes}
 use Rattle.canon_val.specs.Value.{HasTree}
-use Rattle.canon_value.proofs.store.linear_lower_to_memory.Goals as goal
+use Rattle.canon_value_parts.proofs.store.linear_lower_to_memory.Goals as goal
 
 pub returns-in-Ok-clause-stored : goal.returns-in-Ok-clause-stored
 returns-in-Ok-clause-stored g c = let h = c.in-Ok.ensures.stores in record { given = h.handles; ending = _; ends = refl; lowered = h.storing; passed = h.handed; as_told = tt }

@@ -4,11 +4,11 @@ use Rattle.canon_memory.specs.Realloc.{block}
 use Rattle.canon_model.specs.Layout.{size}
 use Rattle.canon_types.specs.Table.{Table, shape_of}
 use Rattle.canon_context.specs.Core.{types_of}
-use Rattle.canon_value.proofs.StoreSteps.{scalar_type_bytes}
+use Rattle.canon_value_parts.proofs.StoreSteps.{scalar_type_bytes}
 use Rattle.canon_context.proofs.Moves.{GuestLaws}
-use Rattle.canon_value.proofs.PassesOf.{scalar_passes}
-use Rattle.canon_value.proofs.Walks.{scalar_stores}
-use Rattle.canon_value.proofs.store.store_word.Goals as goal
+use Rattle.canon_value_parts.proofs.PassesOf.{scalar_passes}
+use Rattle.canon_value_parts.proofs.Walks.{scalar_stores}
+use Rattle.canon_value_parts.proofs.store.store_word.Goals as goal
 
 pub put_low_bytes-requires-clause-few : goal.put_low_bytes-requires-clause-few
 put_low_bytes-requires-clause-few g c =

@@ -13,18 +13,18 @@ use Rattle.canon_model.specs.Leaves.{Leaf, flat_leaves}
 use Rattle.canon_indices.specs.Options.{encoding_of}
 use Rattle.canon_plan.specs.Plan.{shapes_of, members_from}
 use Rattle.canon_context.proofs.Told.{on_err}
-use Rattle.canon_value.proofs.LiftLoops.{lift_part_leaves}
-use Rattle.canon_value.proofs.LiftCases.{case_weighs_words, variant_word}
-use Rattle.canon_value.proofs.LiftSteps.{word_found}
-use Rattle.canon_value.proofs.LiftingParts.{weighs_words}
+use Rattle.canon_value_parts.proofs.LiftLoops.{lift_part_leaves}
+use Rattle.canon_value_parts.proofs.LiftCases.{case_weighs_words, variant_word}
+use Rattle.canon_value_parts.proofs.LiftSteps.{word_found}
+use Rattle.canon_value_parts.proofs.LiftingParts.{weighs_words}
 use Rattle.canon_plan.proofs.ScalarTypes.{plain_scalar, scalar_shape}
 use Rattle.canon_plan.proofs.Lookups.{members_from-all}
-use Rattle.canon_value.proofs.HandleLifting.{handle_flat_lifts, handle_lifted, handle_no_scalar, handle_words}
-use Rattle.canon_value.proofs.LeavesAt.{no_flat_left, scalar_flat_leaves, text_flat_leaves}
-use Rattle.canon_value.proofs.Lifted.{lifts_nothing, no_refusal, parts_of_leaves, put_together, refused_after, refused_before, stops_before, taking_ends, taking_goes_on, taking_stops_first, taking_stops_here}
-use Rattle.canon_value.proofs.LiftSteps.{lifted_scalar_none, lifted_text_none}
-use Rattle.canon_value.specs.Resources.{all_resources, resources, stop_of}
-use Rattle.canon_value.proofs.lift.+lift.Goals as goal
+use Rattle.canon_value_parts.proofs.HandleLifting.{handle_flat_lifts, handle_lifted, handle_no_scalar, handle_words}
+use Rattle.canon_value_parts.proofs.LeavesAt.{no_flat_left, scalar_flat_leaves, text_flat_leaves}
+use Rattle.canon_value_parts.proofs.Lifted.{lifts_nothing, no_refusal, parts_of_leaves, put_together, refused_after, refused_before, stops_before, taking_ends, taking_goes_on, taking_stops_first, taking_stops_here}
+use Rattle.canon_value_parts.proofs.LiftSteps.{lifted_scalar_none, lifted_text_none}
+use Rattle.canon_value_parts.specs.Resources.{all_resources, resources, stop_of}
+use Rattle.canon_value_parts.proofs.lift.+lift.Goals as goal
 
 pub lift_parts-returns-in_err-values-clause-handles : goal.lift_parts-returns-in_err-values-clause-handles
 lift_parts-returns-in_err-values-clause-handles t c = refused_before c.args.source.now.instance.now _ c.args.ledger.now _ c.from_residual.result _ c.from_residual.ensures refl

@@ -4,11 +4,11 @@ use Rattle.canon_indices.specs.Options.{encoding_of}
 use Rattle.canon_lowering.specs.Storing.{narrow}
 use Rattle.canon_model.specs.Leaves.{flat_leaves}
 use Rattle.canon_types.specs.Table.{Table, shape_of}
-use Rattle.canon_value.specs.Lifts.{LiftsWords}
-use Rattle.canon_value.specs.Resources.{resources}
-use Rattle.canon_value.proofs.LiftSteps.{lift_err, lift_ok}
-use Rattle.canon_value.proofs.LiftedSteps.{lifted_after}
-use Rattle.canon_value.proofs.lift.LiftingLifter.lift.Goals as goal
+use Rattle.canon_value_parts.specs.Lifts.{LiftsWords}
+use Rattle.canon_value_parts.specs.Resources.{resources}
+use Rattle.canon_value_parts.proofs.LiftSteps.{lift_err, lift_ok}
+use Rattle.canon_value_parts.proofs.LiftedSteps.{lifted_after}
+use Rattle.canon_value_parts.proofs.lift.LiftingLifter.lift.Goals as goal
 
 pub returns-clause-gives : goal.returns-clause-gives
 returns-clause-gives c =

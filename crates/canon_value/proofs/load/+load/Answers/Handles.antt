@@ -15,26 +15,26 @@ use Rattle.canon_context.specs.Told.{Exactly, IsNoRefusal, LiftBlames, place_of}
 use Rattle.canon_context.specs.declared.fault.At.TheVariants as place
 use Rattle.canon_context.specs.declared.fault.Fault.TheVariants as fault
 use Rattle.canon_leaves.specs.Parts.{LeavesLift, LeavesStop}
-use Rattle.canon_value.specs.Loads.{AreCharged, IsLoaded, charged_reach}
+use Rattle.canon_value_parts.specs.Loads.{AreCharged, IsLoaded, charged_reach}
 use Rattle.canon_plan.specs.CasePlan.{name_charge}
-use Rattle.canon_value.specs.Plan.{ArePartsLoaded, IsCaseRebuilt, IsListLoaded}
+use Rattle.canon_value_parts.specs.Plan.{ArePartsLoaded, IsCaseRebuilt, IsListLoaded}
 use Rattle.canon_plan.specs.Plan.{shapes_of, members_from}
 use Rattle.canon_plan.specs.Element.{ItemsFault, element_cost, items_reach, list_shape}
 use Rattle.canon_val.specs.declared.val.Val.{Val}
-use Rattle.canon_value.proofs.LoadCases.{case_weighs, tag_inside}
+use Rattle.canon_value_parts.proofs.LoadCases.{case_weighs, tag_inside}
 use Rattle.canon_context.proofs.Told.{exhausted, on_err, on_ok}
-use Rattle.canon_value.proofs.Loading.{next_leaves}
-use Rattle.canon_value.proofs.ListLoading.{list_inside, list_parts, list_refused, row_refused, row_weighs}
-use Rattle.canon_value.proofs.Listing.{row}
-use Rattle.canon_value.proofs.LoadingParts.{weighs}
+use Rattle.canon_value_parts.proofs.Loading.{next_leaves}
+use Rattle.canon_value_parts.proofs.ListLoading.{list_inside, list_parts, list_refused, row_refused, row_weighs}
+use Rattle.canon_value_parts.proofs.Listing.{row}
+use Rattle.canon_value_parts.proofs.LoadingParts.{weighs}
 use Rattle.canon_plan.proofs.Lookups.{members_from-all}
 use Rattle.canon_plan.proofs.ScalarTypes.{scalar_shape}
-use Rattle.canon_value.proofs.HandleLifting.{handle_blamed, handle_bytes, handle_lifts, handle_loaded, handle_no_scalar}
-use Rattle.canon_value.proofs.LeavesAt.{items_leaves, no_members_left, scalar_leaves, stored_leaves, text_leaves}
-use Rattle.canon_value.proofs.Lifted.{lifts_nothing, no_refusal, parts_of_leaves, put_together, refused_after, refused_before, stops_before, taking_ends, taking_goes_on, taking_stops_first, taking_stops_here}
-use Rattle.canon_value.proofs.ResourcesOf.{scalar_has_none, text_has_none}
-use Rattle.canon_value.specs.Resources.{LiftsHandles, all_resources, resources, stop_of}
-use Rattle.canon_value.proofs.load.+load.Goals as goal
+use Rattle.canon_value_parts.proofs.HandleLifting.{handle_blamed, handle_bytes, handle_lifts, handle_loaded, handle_no_scalar}
+use Rattle.canon_value_parts.proofs.LeavesAt.{items_leaves, no_members_left, scalar_leaves, stored_leaves, text_leaves}
+use Rattle.canon_value_parts.proofs.Lifted.{lifts_nothing, no_refusal, parts_of_leaves, put_together, refused_after, refused_before, stops_before, taking_ends, taking_goes_on, taking_stops_first, taking_stops_here}
+use Rattle.canon_value_parts.proofs.ResourcesOf.{scalar_has_none, text_has_none}
+use Rattle.canon_value_parts.specs.Resources.{LiftsHandles, all_resources, resources, stop_of}
+use Rattle.canon_value_parts.proofs.load.+load.Goals as goal
 
 pub load_parts-returns-in_err-values-clause-handles : goal.load_parts-returns-in_err-values-clause-handles
 load_parts-returns-in_err-values-clause-handles t c = refused_before c.args.source.now.instance.now _ c.args.ledger.now _ c.from_residual.result _ c.from_residual.ensures refl

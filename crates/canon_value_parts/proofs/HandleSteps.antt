@@ -1,0 +1,152 @@
+-- A handle as a value: stored and lowered, or refused by the ledger.
+use Rattle.std.proofs.Common.{◌≡◌, ◌≤◌, ◌<◌, ◌+◌, ◌%◌, ◌^◌, ◌∙◌, ◌∷◌, [], Bool, Err, List, Ok, ap, arith, false, length, refl, rules, set, slice_index, subst, sym, true, ℕ}
+use Rattle.std.proofs.Math.Nat.{mod-eq_of_lt}
+use Rattle.std.proofs.lemmas.List.{get_or-set_other, get_or-set_same, length-set}
+use Rattle.canon_context.proofs.Cores.{written_whole}
+use Rattle.canon_context.proofs.Moves.{GuestLaws, moves_none, moves_written}
+use Rattle.canon_context.specs.Core.{Parts, encoding_by, guest_of, moment_of}
+use Rattle.canon_context.specs.Lowers.{fault_ending}
+use Rattle.canon_context.specs.declared.fault.Fault.{Fault}
+use Rattle.canon_context.specs.declared.fault.Fault.TheVariants as fault
+use Rattle.canon_ledger.specs.Ledger.{LedgerState}
+use Rattle.canon_ledger.specs.declared.fault.ResourceFault.{ResourceFault}
+use Rattle.canon_leaves.specs.Parts.{Passed, passed}
+use Rattle.canon_lowering.proofs.AimedAt.{borrow_stored, own_stored}
+use Rattle.canon_lowering.proofs.AimedWords.{borrow_words, own_words}
+use Rattle.canon_lowering.proofs.Attempts.{attempt_refused}
+use Rattle.canon_lowering.specs.Attempt.{LowersValue, StoresValue}
+use Rattle.canon_lowering.specs.Lowering.{done}
+use Rattle.canon_lowering.specs.Steps.{Writes}
+use Rattle.canon_lowering.specs.Storing.{narrow}
+use Rattle.canon_memory.specs.Guest.{moment}
+use Rattle.canon_memory.specs.Memory.{written_over}
+use Rattle.canon_memory.specs.Realloc.{block}
+use Rattle.canon_model.specs.Layout.{flat, size}
+use Rattle.canon_model.specs.Memory.{low, num}
+use Rattle.canon_model.specs.Shape.{borrow, own}
+use Rattle.canon_model.specs.Text.{Encoding}
+use Rattle.canon_plan.specs.Plan.{shaped_handle}
+use Rattle.canon_resources.specs.Held.{Any}
+use Rattle.canon_types.specs.Instance.{Instance}
+use Rattle.canon_value_parts.proofs.Passing.{Ended, Took}
+use Rattle.canon_value_parts.specs.Fails.{IsSmall}
+use Rattle.canon_value_parts.specs.Resources.{passes}
+use Rattle.canon_value_parts.specs.Stores.{StoresTo}
+use Rattle.canon_val.specs.Value.{HasTree, cap, places}
+use Rattle.canon_value_parts.specs.Words.{LowersTo}
+use Rattle.canon_value_parts.specs.declared.spot.Spot.{Spot}
+use Rattle.canon_val.specs.declared.val.Val.{Val, the_lemmas}
+use Rattle.canon_val.specs.declared.val.Val.TheVariants as val
+
+-- ---- of the value
+
+handle_places : (x : Any) → places (val.Resource x) ≡ 1
+handle_places x = search (rules, the_lemmas)
+
+own_passes : (r : ℕ) (x : Any) → passes (val.Resource x) (own r) ≡ passed true r x ∷ []
+own_passes r x = search (rules, the_lemmas)
+
+borrow_passes : (r : ℕ) (x : Any) → passes (val.Resource x) (borrow r) ≡ passed false r x ∷ []
+borrow_passes r x = search (rules, the_lemmas)
+
+pub resource_passes : (owned : Bool) (r : ℕ) (x : Any) → passes (val.Resource x) (shaped_handle owned r) ≡ passed owned r x ∷ []
+resource_passes true r x = own_passes r x
+resource_passes false r x = borrow_passes r x
+
+handle_small : (enc : Encoding) (owned : Bool) (r : ℕ) (v : Val) → IsSmall enc (shaped_handle owned r) v
+handle_small enc true r v = record { texts = λ n k f. f.1; lists = λ n k f. f.1 }
+handle_small enc false r v = record { texts = λ n k f. f.1; lists = λ n k f. f.1 }
+
+-- how many bytes and words it takes
+pub handle_size : (owned : Bool) (r : ℕ) → size false (shaped_handle owned r) ≡ 4
+unfolding size
+handle_size true r = refl
+handle_size false r = refl
+
+pub handle_flat : (owned : Bool) (r : ℕ) → flat (shaped_handle owned r) ≡ 1
+unfolding flat
+handle_flat true r = refl
+handle_flat false r = refl
+
+took_as : (types : Instance) (l n : LedgerState) (owned : Bool) (r : ℕ) (x : Any) (h k : ℕ) → k ≡ h → Took types l n (passed owned r x ∷ []) (h ∷ []) → Took types l n (passes (val.Resource x) (shaped_handle owned r)) (k ∷ [])
+took_as types l n owned r x h k e took =
+    subst (λ (ps : List Passed). Took types l n ps (k ∷ [])) (sym (resource_passes owned r x)) (subst (λ (j : ℕ). Took types l n (passed owned r x ∷ []) (j ∷ [])) (sym e) took)
+
+ended_as : (types : Instance) (l n : LedgerState) (owned : Bool) (r : ℕ) (x : Any) (e : Fault) → Ended types l n (passed owned r x ∷ []) e → Ended types l n (passes (val.Resource x) (shaped_handle owned r)) e
+ended_as types l n owned r x e ended = subst (λ (ps : List Passed). Ended types l n ps e) (sym (resource_passes owned r x)) ended
+
+module _ {T G : Type 0} (L : GuestLaws G) (options : ℕ) (a : Parts T G) (l : LedgerState) (owned : Bool) (r : ℕ) (x : Any) (small : length a.memory ≤ 2 ^ 32) where
+  abbrev taken : Parts T G
+  taken = record a { ledger = l }
+
+  -- ---- in memory
+
+  storing : (m : List ℕ) (at : ℕ) (owns : Bool) → at + 4 ≤ length a.memory → Writes (block at 4) a.memory m
+      → StoresValue false (moment_of L.seen a) (moment (L.seen a.guest) m) (encoding_by a options) (shaped_handle owns r) at (HasTree (shaped_handle owns r) (val.Resource x)) (num (narrow m) at 4 ∷ []) done
+  storing m at true room w = own_stored false (L.seen a.guest) a.memory m (encoding_by a options) at (HasTree (own r) (val.Resource x)) small r room w (x, num (narrow m) at 4, refl, refl)
+  storing m at false room w = borrow_stored false (L.seen a.guest) a.memory m (encoding_by a options) at (HasTree (borrow r) (val.Resource x)) small r room w (x, num (narrow m) at 4, refl, refl)
+
+  pub handle_stored : (m : List ℕ) (at h place next : ℕ) → at + 4 ≤ length a.memory → h < 2 ^ 32 → Writes (block at 4) a.memory m → num (narrow m) at 4 ≡ h % 256 ^ 4 → next ≡ cap (place + 1)
+      → Took a.component.types a.ledger l (passed owned r x ∷ []) (h ∷ [])
+      → StoresTo L.seen L.moves options a (record taken { memory = written_over a.memory m }) (shaped_handle owned r) at (val.Resource x) place (Ok next)
+  handle_stored m at h place next room few w there counted took =
+      subst (λ (bytes : List ℕ). StoresTo L.seen L.moves options a (record taken { memory = bytes }) (shaped_handle owned r) at (val.Resource x) place (Ok next)) (sym (written_whole a.memory m w.same_length)) (record {
+        handles = num (narrow m) at 4 ∷ [];
+        storing = storing m at owned room w;
+        handed = took_as a.component.types a.ledger l owned r x h (num (narrow m) at 4) (there ∙ mod-eq_of_lt few) took;
+        counted = (omega (arith, counted, handle_places x), handle_small (encoding_by a options) owned r (val.Resource x));
+        moved = moves_written L (guest_of a) a.guest a.memory m done w.same_length (moves_none L (guest_of a) done);
+        same = refl;
+        quiet = λ none. (refl, tt);
+      })
+
+  -- ---- in words
+
+  lowering : (ws : List ℕ) (i : ℕ) (owns : Bool) → slice_index ws i < 2 ^ 32
+      → LowersValue false (moment_of L.seen a) (moment_of L.seen a) (encoding_by a options) (shaped_handle owns r) ws i (HasTree (shaped_handle owns r) (val.Resource x)) (low (slice_index ws i) ∷ []) done
+  lowering ws i true few = own_words false (moment_of L.seen a) (encoding_by a options) ws i (HasTree (own r) (val.Resource x)) small r few (x, low (slice_index ws i), refl, refl)
+  lowering ws i false few = borrow_words false (moment_of L.seen a) (encoding_by a options) ws i (HasTree (borrow r) (val.Resource x)) small r few (x, low (slice_index ws i), refl, refl)
+
+  pub handle_lowered : (dst : List ℕ) (from to : Spot) (h w : ℕ) → from.word + 1 ≤ length dst → h < 2 ^ 32 → w ≡ h → to.word ≡ from.word + 1 → to.place ≡ cap (from.place + 1)
+      → Took a.component.types a.ledger l (passed owned r x ∷ []) (h ∷ []) → LowersTo L.seen L.moves options a taken dst (set dst from.word w) from (Ok to) (shaped_handle owned r) (val.Resource x)
+  handle_lowered dst from to h w room few same ew ep took =
+      let here : slice_index (set dst from.word w) from.word ≡ h = get_or-set_same dst from.word w 0 (omega (arith, room)) ∙ same in
+      let is : low (slice_index (set dst from.word w) from.word) ≡ h = ap low here ∙ mod-eq_of_lt few in
+      record {
+        handles = low (slice_index (set dst from.word w) from.word) ∷ [];
+        lowered = lowering (set dst from.word w) from.word owned (omega (arith, here, few));
+        handed = took_as a.component.types a.ledger l owned r x h (low (slice_index (set dst from.word w) from.word)) is took;
+        stays = record { same_length = length-set dst from.word w; before = λ p lt. get_or-set_other dst from.word p w 0 (omega (arith, lt)) };
+        passed = omega (arith, ew, handle_flat owned r);
+        counted = (omega (arith, ep, handle_places x), handle_small (encoding_by a options) owned r (val.Resource x));
+        moved = moves_none L (guest_of a) done;
+        same = refl;
+        quiet = λ none. (refl, tt);
+      }
+
+  -- ---- refused
+
+  module _ (e : ResourceFault) (ended : Ended a.component.types a.ledger l (passed owned r x ∷ []) (fault.Resource e)) where
+    pub handle_not_stored : (at place : ℕ) → StoresTo L.seen L.moves options a taken (shaped_handle owned r) at (val.Resource x) place (Err (fault.Resource e))
+    handle_not_stored at place = record {
+      handles = [];
+      storing = attempt_refused false (moment_of L.seen a) _ _ small;
+      handed = ended_as a.component.types a.ledger l owned r x (fault.Resource e) ended;
+      counted = tt;
+      moved = moves_none L (guest_of a) (fault_ending (fault.Resource e));
+      same = refl;
+      quiet = λ none. (refl, refl);
+    }
+
+    pub handle_not_lowered : (dst : List ℕ) (from : Spot) → LowersTo L.seen L.moves options a taken dst dst from (Err (fault.Resource e)) (shaped_handle owned r) (val.Resource x)
+    handle_not_lowered dst from = record {
+      handles = [];
+      lowered = attempt_refused false (moment_of L.seen a) [] _ small;
+      handed = ended_as a.component.types a.ledger l owned r x (fault.Resource e) ended;
+      stays = record { same_length = refl; before = λ p lt. refl };
+      passed = tt;
+      counted = tt;
+      moved = moves_none L (guest_of a) (fault_ending (fault.Resource e));
+      same = refl;
+      quiet = λ none. (refl, refl);
+    }

@@ -1,0 +1,144 @@
+-- A text or a list in a block of its own.
+use Rattle.std.proofs.Common.{◌≡◌, ◌≤◌, ◌<◌, ◌+◌, ◌^◌, ◌∙◌, Err, List, Ok, Result, [], ◌∷◌, ap, arith, length, ap₂, refl, subst, subst₂, sym, ℕ, false, ◌*◌, ◌⊎◌}
+use Rattle.canon_lowering.proofs.Attempts.{attempt_refused, attempt_other}
+use Rattle.canon_lowering.specs.Attempt.{LowersValue, StoresMembers, items_call, value_words}
+use Rattle.canon_lowering.specs.Lowering.{Ending, Reallocated}
+use Rattle.canon_memory.specs.Guest.{Moment}
+use Rattle.canon_model.specs.Requests.{Call}
+use Rattle.canon_model.specs.Shape.{Members, Shape, list}
+use Rattle.canon_model.specs.Text.{Encoding, utf8}
+use Rattle.canon_model.specs.Tree.{Tree, tree_count, trees_of}
+use Rattle.canon_types.specs.Depth.{element_shape}
+use Rattle.canon_context.specs.Core.{Parts, encoding_by, guest_of, moment_of}
+use Rattle.canon_value_parts.specs.Fails.{AreSmall, Blames, Failure, FailsAt, IsSmall, MemberFails, overflow, too_long}
+use Rattle.canon_context.specs.Lowers.{fault_ending, ending_of}
+use Rattle.canon_context.specs.Asks.{AsksFor}
+use Rattle.canon_value_parts.specs.Stores.{PlacesTo, Counts, FieldsCount, PartsStoreTo}
+use Rattle.canon_val.specs.Value.{HasTree, all_places, cap, no_names, places}
+use Rattle.canon_context.specs.declared.fault.Fault.{Fault}
+use Rattle.canon_context.specs.declared.fault.Fault.TheVariants as fault
+use Rattle.canon_val.specs.declared.val.Val.{Val}
+use Rattle.canon_value_parts.proofs.Listing.{IsListOf}
+use Rattle.canon_value_parts.proofs.Passing.{IsOwn, handles_then, own_elsewhere, own_ends, passes_as, passes_from, passes_stopped, same_handles, same_ledger, ungiven_elsewhere}
+use Rattle.canon_value_parts.specs.Resources.{LowersHandles, all_passes, passes}
+use Rattle.canon_context.proofs.Moves.{moves_none, GuestLaws, moves_then}
+use Rattle.canon_value_parts.proofs.Sizes.{small_by}
+use Rattle.canon_context.proofs.Cores.{not_done, same_encoding}
+use Rattle.canon_value_parts.proofs.StoreSteps.{Named, count_members}
+use Rattle.canon_value_parts.proofs.Steps.{blames_later, blames_unless}
+use Rattle.canon_lowering.proofs.AimedPairs.{list_ungiven, rows_words}
+use Rattle.canon_model.specs.Layout.{size}
+use Rattle.canon_context.specs.Moves.{Moves}
+use Rattle.canon_context.specs.declared.fault.Fault.TheVariants as fault
+
+-- ---- a block that isn't given: no value is to blame
+
+asked_blames : (enc : Encoding) (F : Failure → ℕ → Type 0) (from : ℕ) (a b : Moment) (c : Call) (e : Fault) (p : ℕ) → Reallocated a b c (fault_ending e) p → Blames enc F from e
+asked_blames enc F from a b c e p h = blames_unless enc F from e (λ is. absurd (subst (λ (x : Ending). Reallocated a b c x p) is h))
+
+-- ---- a value that is refused
+
+module _ {T G : Type 0} (L : GuestLaws G) (options : ℕ) where
+  -- a value refused for its own fault
+  pub unplaced : (a : Parts T G) (s : Shape) (v : Val) (place : ℕ) (e : Fault) → length a.memory ≤ 2 ^ 32 → IsOwn e → Blames (encoding_by a options) (λ how k. FailsAt how s v k) place e
+      → PlacesTo L.seen L.moves options a a s v place (Err e)
+  unplaced a s v place e small is b = record {
+    handles = [];
+    lowered = subst (λ (end : Ending). LowersValue false (moment_of L.seen a) (moment_of L.seen a) (encoding_by a options) s [] 0 (HasTree s v) [] end) (sym (own_ends e is)) (attempt_refused false (moment_of L.seen a) [] _ small);
+    handed = passes_stopped a.component.types a.ledger a.ledger (passes v s) e refl (own_elsewhere e is);
+    narrow = tt;
+    counted = b;
+    moved = moves_none L (guest_of a) (fault_ending e);
+    same = refl;
+  }
+
+-- ---- a list or a map in a block of its own
+
+module _ (whole : Shape) (v : Val) (n : ℕ) (ms : Members) (vs : List Val) (l : IsListOf whole v n ms vs) (given : passes v whole ≡ all_passes ms vs) where
+  abbrev shape : Shape
+  shape = list l.kind l.part
+
+  -- the shape by its parts
+  by_parts : (P : Shape → Type 0) → P shape → P whole
+  by_parts P h = subst P (sym l.shape) h
+
+  list_count : (t : Tree) → HasTree shape v t → tree_count (trees_of t) ≡ n
+  list_count t has = let (named, same) = l.back t has in ap tree_count same ∙ (l.row utf8).count (l.ungroup t) (l.is (l.ungroup t) named).1
+
+  small : (enc : Encoding) → n < 2 ^ 32 → n * size false l.part < 2 ^ 32 → AreSmall enc ms vs → IsSmall enc shape v
+  small enc few fit h = small_by enc (λ how k. MemberFails how ms vs k) (λ how k. FailsAt how shape v k) (λ m j f. l.inner (too_long enc m) j (λ g. g) f) (λ m j f. l.inner (overflow m) j (l.fits m few fit) f) h
+
+  counts : (enc : Encoding) (place : ℕ) (r : Result ℕ Fault) → n < 2 ^ 32 → n * size false l.part < 2 ^ 32 → Counts enc (λ how k. MemberFails how ms vs k) (cap (place + 1)) (all_places vs) r
+      → Counts enc (λ how k. FailsAt how shape v k) place (places v) r
+  counts enc place (Ok to) few fit (e, h) = (omega (arith, e, l.counted), small enc few fit h)
+  counts enc place (Err e) few fit b = blames_later enc (λ how k. MemberFails how ms vs k) (λ how k. FailsAt how shape v k) 1 place (cap (place + 1)) e refl l.fails b
+
+  module _ {T G : Type 0} (L : GuestLaws G) (options : ℕ) where
+    pub list_too_large : (a : Parts T G) (place k : ℕ) → length a.memory ≤ 2 ^ 32 → k ≡ n → (2 ^ 32 ≤ k) ⊎ (2 ^ 32 ≤ k * size false (element_shape whole)) → PlacesTo L.seen L.moves options a a whole v place (Err (fault.SizeOverflow k))
+    list_too_large a place k small is many =
+        let large : (2 ^ 32 ≤ n) ⊎ (2 ^ 32 ≤ n * size false l.part) = subst₂ (λ (j : ℕ) (s : Shape). (2 ^ 32 ≤ j) ⊎ (2 ^ 32 ≤ j * size false s)) is (ap element_shape l.shape) many in
+        subst (λ (j : ℕ). PlacesTo L.seen L.moves options a a whole v place (Err (fault.SizeOverflow j))) (sym is)
+        (unplaced L options a whole v place (fault.SizeOverflow n) small refl (0, by_parts (λ s. FailsAt (overflow n) s v 0) (l.overflows large)))
+
+    -- its block isn't given
+    pub list_refused : (a b : Parts T G) (place k : ℕ) (e : Fault) → k ≡ n → AsksFor L.seen L.moves a b (items_call false (element_shape whole) k) (Err e) → PlacesTo L.seen L.moves options a b whole v place (Err e)
+    list_refused a b place k e is asked =
+        let h : AsksFor L.seen L.moves a b (items_call false l.part n) (Err e) = subst₂ (λ (j : ℕ) (s : Shape). AsksFor L.seen L.moves a b (items_call false s j) (Err e)) is (ap element_shape l.shape) asked in
+        by_parts (λ s. PlacesTo L.seen L.moves options a b s v place (Err e)) (record {
+          handles = [];
+          lowered = list_ungiven false (moment_of L.seen a) (moment_of L.seen b) (encoding_by a options) l.kind l.part n 0 [] 0 (HasTree shape v) (fault_ending e) (not_done e) h.small list_count h.does;
+          handed = passes_stopped a.component.types a.ledger b.ledger (passes v shape) e (same_ledger a b h.same) (ungiven_elsewhere (moment_of L.seen a) (moment_of L.seen b) (items_call false l.part n) e 0 h.does);
+          narrow = tt;
+          counted = asked_blames (encoding_by a options) (λ how k. FailsAt how shape v k) place (moment_of L.seen a) (moment_of L.seen b) (items_call false l.part n) e 0 h.does;
+          moved = h.moved;
+          same = same_handles a b h.same;
+        })
+
+    -- its block is given, and its members are stored there
+    module _ (a b c : Parts T G) (place k p : ℕ) (is : k ≡ n) (few : k < 2 ^ 32) (fit : k * size false (element_shape whole) < 2 ^ 32) (asked : AsksFor L.seen L.moves a b (items_call false (element_shape whole) k) (Ok p)) where
+      g : AsksFor L.seen L.moves a b (items_call false l.part n) (Ok p)
+      g = subst₂ (λ (j : ℕ) (s : Shape). AsksFor L.seen L.moves a b (items_call false s j) (Ok p)) is (ap element_shape l.shape) asked
+
+      module _ (r : Result ℕ Fault) (h : PartsStoreTo L.seen L.moves options b c place ms 0 p (no_names vs) vs (cap (place + 1)) r) where
+        row_words : LowersValue false (moment_of L.seen a) (moment_of L.seen c) (encoding_by a options) shape (p ∷ n ∷ []) 0 (HasTree shape v) h.handles (ending_of r)
+        row_words = rows_words false (moment_of L.seen a) (moment_of L.seen b) (moment_of L.seen c) (encoding_by a options) l.kind l.part n p l.all ms l.group l.ungroup (l.row (encoding_by a options))
+            (Named ms (no_names vs) vs) (HasTree shape v) (ending_of r) g.small g.does (λ _. omega (arith, is, few)) l.is l.back
+            (subst (λ (x : Encoding). StoresMembers false (moment_of L.seen b) (moment_of L.seen c) x ms 0 p (Named ms (no_names vs) vs) h.handles (ending_of r)) (same_encoding a b options g.same) h.storing)
+
+        row_handed : LowersHandles a.component.types a.ledger c.ledger (passes v shape) h.handles r
+        row_handed = passes_as a.component.types a.ledger c.ledger (all_passes ms vs) (passes v shape) h.handles r (ap (passes v) (sym l.shape) ∙ given) (passes_from a b c.ledger (all_passes ms vs) h.handles r g.same h.handed)
+
+        row_counted : Counts (encoding_by a options) (λ how k. FailsAt how shape v k) place (places v) r
+        row_counted =
+            counts (encoding_by a options) place r (omega (arith, is, few)) (omega (arith, ap₂ (λ (j : ℕ) (s : Shape). j * size false s) is (ap element_shape l.shape), fit))
+            (count_members (encoding_by a options) place ms (no_names vs) vs (cap (place + 1)) r l.named
+            (subst (λ (x : Encoding). FieldsCount x place ms (no_names vs) vs (cap (place + 1)) r) (same_encoding a b options g.same) h.counted))
+
+        row_moves : Moves L.seen L.moves (guest_of a) (guest_of c) (ending_of r)
+        row_moves = moves_then L (guest_of a) (guest_of b) (guest_of c) (ending_of r) _ _ g.does.answered.goes.events h.storing.lowering.goes.events g.moved h.moved
+
+      pub list_placed : (next : ℕ) → PartsStoreTo L.seen L.moves options b c place ms 0 p (no_names vs) vs (cap (place + 1)) (Ok next)
+          → PlacesTo L.seen L.moves options a c whole v place (Ok (record { pointer = p; length = k; next = next }))
+      list_placed next h =
+          let here : PlacesTo L.seen L.moves options a c shape v place (Ok (record { pointer = p; length = n; next = next })) = record {
+            handles = h.handles;
+            lowered = row_words (Ok next) h;
+            handed = row_handed (Ok next) h;
+            narrow = (g.does.narrow, omega (arith, is, few));
+            counted = row_counted (Ok next) h;
+            moved = row_moves (Ok next) h;
+            same = handles_then a b c (same_handles a b g.same) h.same;
+          } in
+          subst (λ (j : ℕ). PlacesTo L.seen L.moves options a c whole v place (Ok (record { pointer = p; length = j; next = next }))) (sym is)
+          (by_parts (λ s. PlacesTo L.seen L.moves options a c s v place (Ok (record { pointer = p; length = n; next = next }))) here)
+
+      pub list_broken : (e : Fault) → PartsStoreTo L.seen L.moves options b c place ms 0 p (no_names vs) vs (cap (place + 1)) (Err e) → PlacesTo L.seen L.moves options a c whole v place (Err e)
+      list_broken e h = by_parts (λ s. PlacesTo L.seen L.moves options a c s v place (Err e)) (record {
+        handles = h.handles;
+        lowered = attempt_other false (moment_of L.seen a) (moment_of L.seen c) [] _ (value_words false (encoding_by a options) shape [] 0 (HasTree shape v)) (fault_ending e) (not_done e) (λ t has. (has, refl)) (row_words (Err e) h);
+        handed = row_handed (Err e) h;
+        narrow = tt;
+        counted = row_counted (Err e) h;
+        moved = row_moves (Err e) h;
+        same = handles_then a b c (same_handles a b g.same) h.same;
+      })

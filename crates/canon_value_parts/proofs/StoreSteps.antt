@@ -1,0 +1,102 @@
+-- Steps of storing, over plain variables.
+use Rattle.std.proofs.Common.{◌≡◌, ◌≤◌, ◌<◌, ◌+◌, ◌%◌, ◌^◌, Err, List, Ok, Result, ◌∷◌, ap₂, arith, false, inl, inr, length, refl, subst, sym, ℕ}
+use Rattle.canon_lowering.proofs.Attempts.{FirstAnd}
+use Rattle.canon_model.specs.Flat.{IsLeastWord, flat_bits}
+use Rattle.canon_model.specs.Layout.{scalar_size, size}
+use Rattle.canon_model.specs.Rep.{IsLeast, ScalarIs}
+use Rattle.canon_model.specs.Shape.{Members, Name, ProductKind, Scalar, Shape, bool, char, f32, f64, member, member_count, product, s16, s32, s64, s8, u16, u32, u64, u8}
+use Rattle.canon_model.specs.Tree.{Tree, Trees}
+use Rattle.canon_types.specs.Table.{Table, shape_of}
+use Rattle.canon_types.specs.declared.types.InterfaceType.{InterfaceType}
+use Rattle.canon_plan.specs.NoHandle.{IsScalarType}
+use Rattle.canon_value_parts.specs.Fails.{Blames, FailsAt, IsSmall, MemberFails}
+use Rattle.canon_value_parts.specs.Stores.{Counts, FieldsCount}
+use Rattle.canon_val.specs.Value.{HasTree, HaveTrees, IsProduct, all_places, cap, member_names, places}
+use Rattle.canon_context.specs.declared.fault.Fault.{Fault}
+use Rattle.canon_val.specs.declared.val.Val.{Val}
+use Rattle.canon_value_parts.proofs.Sizes.{member_small, product_small}
+use Rattle.canon_value_parts.proofs.Steps.{blames_later, places_product}
+use Rattle.canon_plan.proofs.ScalarTypes.{scalar_shape}
+use Rattle.canon_model.specs.Text.{Encoding}
+
+-- ---- a scalar's word, cut to the scalar's bytes
+
+pub least_low : (k : Scalar) (w : ℕ) (t : Tree) → ScalarIs k (w % 2 ^ flat_bits k) t → IsLeastWord k w → ScalarIs k (w % 256 ^ scalar_size k) t × IsLeast k (w % 256 ^ scalar_size k)
+least_low bool w t is least =
+    let same : w % 2 ^ 32 ≡ w % 256 ^ 1 = omega (arith, least) in
+    (subst (λ (n : ℕ). ScalarIs bool n t) same is, omega (arith, least))
+least_low s8 w t is least = (is, tt)
+least_low u8 w t is least = (is, tt)
+least_low s16 w t is least = (is, tt)
+least_low u16 w t is least = (is, tt)
+least_low s32 w t is least = (is, tt)
+least_low u32 w t is least = (is, tt)
+least_low s64 w t is least = (is, tt)
+least_low u64 w t is least = (is, tt)
+least_low f32 w t is least = (is, tt)
+least_low f64 w t is least = (is, tt)
+least_low char w t is least = (is, tt)
+
+pub scalar_bytes : (k : Scalar) → scalar_size k ≤ 8
+scalar_bytes bool = omega arith
+scalar_bytes s8 = omega arith
+scalar_bytes u8 = omega arith
+scalar_bytes s16 = omega arith
+scalar_bytes u16 = omega arith
+scalar_bytes s32 = omega arith
+scalar_bytes u32 = omega arith
+scalar_bytes s64 = omega arith
+scalar_bytes u64 = omega arith
+scalar_bytes f32 = omega arith
+scalar_bytes f64 = omega arith
+scalar_bytes char = omega arith
+
+pub scalar_type_bytes : (t : Table) (type : InterfaceType) → IsScalarType type → size false (shape_of t type) ≤ 8
+unfolding size
+scalar_type_bytes t type (k, e) = subst (λ (s : Shape). size false s ≤ 8) (sym (scalar_shape t type k e)) (scalar_bytes k)
+
+-- ---- names
+
+pub heads : (n m : Name) (ns ms : List Name) → n ∷ ns ≡ m ∷ ms → n ≡ m
+heads n m ns ms e = cc
+
+pub tails : (n m : Name) (ns ms : List Name) → n ∷ ns ≡ m ∷ ms → ns ≡ ms
+tails n m ns ms e = cc
+
+-- the names are the members', and the values are of their types
+abbrev pub Named : Members → List Name → List Val → Trees → Type 0
+Named ms names vs ts = (names ≡ member_names ms) × HaveTrees ms vs ts
+
+pub named_join : (name named : Name) (s : Shape) (ms : Members) (names : List Name) (v : Val) (vs : List Val) → named ≡ name → (ts : Trees) → FirstAnd (HasTree s v) (Named ms names vs) ts
+    → Named (member name s ms) (named ∷ names) (v ∷ vs) ts
+named_join name named s ms names v vs en ts (t, rest, is, has, (same, have)) = (ap₂ (λ x xs. x ∷ xs) en same, (v, vs, t, rest, refl, is, has, have))
+
+pub named_split : (name named : Name) (s : Shape) (ms : Members) (names : List Name) (v : Val) (vs : List Val) → (ts : Trees) → Named (member name s ms) (named ∷ names) (v ∷ vs) ts → FirstAnd (HasTree s v) (Named ms names vs) ts
+named_split name named s ms names v vs ts (same, (w, others, t, rest, ev, et, has, have)) =
+    let first : w ≡ v = cc in
+    let tail : others ≡ vs = cc in
+    (t, rest, et, subst (λ x. HasTree s x t) first has, (tails named name names (member_names ms) same, subst (λ xs. HaveTrees ms xs rest) tail have))
+
+-- ---- counting
+
+pub fields_count : (enc : Encoding) (place : ℕ) (name named : Name) (s : Shape) (ms : Members) (names : List Name) (v : Val) (vs : List Val) (from mid : ℕ) (r : Result ℕ Fault) → named ≡ name → mid ≡ cap (from + places v) → IsSmall enc s v
+    → FieldsCount enc place ms names vs mid r → FieldsCount enc place (member name s ms) (named ∷ names) (v ∷ vs) from r
+fields_count enc place name named s ms names v vs from mid (Ok to) en em first (same, e, rest) = (ap₂ (λ x xs. x ∷ xs) en same, omega (arith, em, e), member_small enc name s ms v vs first rest)
+fields_count enc place name named s ms names v vs from mid (Err e) en em first (inl (is, other)) = inl (is, λ same. other (tails named name names (member_names ms) same))
+fields_count enc place name named s ms names v vs from mid (Err e) en em first (inr b) =
+    inr (blames_later enc (λ how k. MemberFails how ms vs k) (λ how k. MemberFails how (member name s ms) (v ∷ vs) k) (places v) from mid e em (λ how j f. inr (j, refl, f)) b)
+
+pub product_counts : (enc : Encoding) (place : ℕ) (k : ProductKind) (ms : Members) (names : List Name) (vs : List Val) (v : Val) (r : Result ℕ Fault) → place < 2 ^ 64 → IsProduct k names vs v → length vs ≡ member_count ms
+    → FieldsCount enc place ms names vs (cap (place + 1)) r → Counts enc (λ how j. FailsAt how (product k ms) v j) place (places v) r
+product_counts enc place k ms names vs v (Ok to) small p count (same, e, fit) = (omega (arith, e, places_product k names vs v p), product_small enc k ms names vs v p fit)
+product_counts enc place k ms names vs v (Err e) small p count (inl (is, other)) =
+    subst (λ x. Blames enc (λ how j. FailsAt how (product k ms) v j) place x) (sym is) (0, omega (arith, small), inl (refl, (names, vs, p, count, other)))
+product_counts enc place k ms names vs v (Err e) small p count (inr b) =
+    blames_later enc (λ how j. MemberFails how ms vs j) (λ how j. FailsAt how (product k ms) v j) 1 place (cap (place + 1)) e refl (λ how j f. inr (names, vs, j, p, count, refl, f)) b
+
+-- of values whose names are right
+pub count_members : (enc : Encoding) (place : ℕ) (ms : Members) (names : List Name) (vs : List Val) (from : ℕ) (r : Result ℕ Fault) → names ≡ member_names ms → FieldsCount enc place ms names vs from r
+    → Counts enc (λ how k. MemberFails how ms vs k) from (all_places vs) r
+count_members enc place ms names vs from (Ok to) same (_, e, small) = (e, small)
+count_members enc place ms names vs from (Err e) same (inl (is, other)) = absurd (other same)
+count_members enc place ms names vs from (Err e) same (inr b) = b

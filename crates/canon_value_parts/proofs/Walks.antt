@@ -1,0 +1,329 @@
+-- Steps of a walk that stores, over plain variables.
+use Rattle.std.proofs.Common.{◌≡◌, ◌++◌, ◌≤◌, ◌<◌, ◌+◌, ◌%◌, ◌^◌, ◌∙◌, Bool, Err, List, Ok, Result, Vec, [], ◌∷◌, ap, arith, false, inl, inr, length, refl, subst, suc, sym, true, zero, ℕ}
+use Rattle.std.specs.declared.alloc.Global.{Global}
+use Rattle.canon_memory.specs.Guest.{Moment, moment}
+use Rattle.canon_memory.specs.Memory.{written_over}
+use Rattle.canon_memory.specs.Realloc.{block}
+use Rattle.canon_lowering.proofs.AimedAt.{fixed_stored, members_cons, members_stop, product_stored, scalar_stored}
+use Rattle.canon_lowering.proofs.AimedPairs.{list_stored, pair_aim, pair_place, pair_written, string_stored}
+use Rattle.canon_lowering.proofs.Attempts.{attempt_as, attempt_none, attempt_refused, FirstAnd}
+use Rattle.canon_lowering.proofs.Lowerings.{NotDone, lowering_within, when_not}
+use Rattle.canon_lowering.specs.Attempt.{Attempt, LowersValue, StoresMembers, StoresValue, members_at}
+use Rattle.canon_lowering.specs.Copies.{copies}
+use Rattle.canon_lowering.specs.Lowering.{Ending, done, refused}
+use Rattle.canon_lowering.specs.Steps.{Writes}
+use Rattle.canon_lowering.specs.Storing.{IsPair, narrow}
+use Rattle.canon_model.specs.Layout.{begins, ends, scalar_size, size}
+use Rattle.canon_model.specs.Memory.{num}
+use Rattle.canon_model.specs.Rep.{IsLeast, ScalarIs}
+use Rattle.canon_model.specs.Requests.{requests}
+use Rattle.canon_model.specs.Shape.{ListKind, Members, Name, Shape, borrow, fixed, flags, list, member, member_count, no_members, of_items, own, product, scalar, string, variant, ProductKind}
+use Rattle.canon_model.specs.Text.{Encoding}
+use Rattle.canon_model.specs.Tree.{Tree, Trees, no_trees, parts, tree_count, trees_of, items}
+use Rattle.canon_types.specs.Depth.{deepest, depth}
+use Rattle.canon_types.specs.Table.{shape_of}
+use Rattle.canon_types.specs.declared.types.InterfaceType.{InterfaceType}
+use Rattle.canon_plan.specs.NoHandle.{HaveNoHandle, HasNoHandle}
+use Rattle.canon_context.specs.Core.{Parts, encoding_by, guest_of, moment_of, types_of}
+use Rattle.canon_value_parts.specs.Fails.{Blames, Failure, FailsAt, MemberFails, SomeFails}
+use Rattle.canon_context.specs.Lowers.{ending_of, fault_ending}
+use Rattle.canon_context.specs.Quiet.{has_block, have_block}
+use Rattle.canon_value_parts.specs.Stores.{Counts, FieldsCount, PartsStoreTo, PlacesTo, StoresTo}
+use Rattle.canon_val.specs.Value.{EachHas, HasTree, HaveTrees, IsFixed, IsProduct, all_places, cap, member_names, no_names, places, HasTreeAs, HaveTreesAs}
+use Rattle.canon_value_parts.specs.Viewed.{HasMembers}
+use Rattle.canon_plan.specs.Plan.{LiesAs}
+use Rattle.canon_value_parts.specs.Words.{IsWordOf}
+use Rattle.canon_value_parts.specs.declared.blocks.Placed.{Placed}
+use Rattle.canon_context.specs.declared.fault.Fault.{Fault}
+use Rattle.canon_context.specs.declared.fault.Fault.TheVariants as fault
+use Rattle.canon_val.specs.declared.val.Val.{Val}
+use Rattle.canon_val.specs.declared.val.Val.TheVariants as val
+use Rattle.canon_value_parts.proofs.Contents.{each_count, fixed_values, list_trees, places_fixed}
+use Rattle.canon_value_parts.proofs.Sizes.{fixed_small, none_small, scalar_small}
+use Rattle.canon_context.proofs.Moves.{moves_none, moves_then, moves_written, GuestLaws}
+use Rattle.canon_value_parts.proofs.Steps.{blocks_none, no_first, no_later, blames_first, blames_later}
+use Rattle.canon_plan.proofs.Lookups.{copies_count}
+use Rattle.canon_value_parts.proofs.Scalars.{scalar_places}
+use Rattle.canon_plan.proofs.ScalarTypes.{scalar_shape}
+use Rattle.canon_context.proofs.Cores.{not_done, written_whole}
+use Rattle.canon_model.specs.Leaves.{leaves}
+use Rattle.canon_types.specs.Instance.{Instance}
+use Rattle.canon_value_parts.proofs.Passing.{IsOwn, handles_encoding, handles_instance, handles_then, own_elsewhere, own_ends, passes_as, passes_none, passes_stop, passes_stopped, passes_then}
+use Rattle.canon_value_parts.specs.Resources.{LowersHandles, all_passes, passes}
+use Rattle.canon_value_parts.proofs.StoreSteps.{Named, count_members, fields_count, heads, least_low, named_join, named_split, product_counts}
+use Rattle.canon_value_parts.proofs.Values.{product_names, product_values}
+
+-- ---- a row of values, as members of one shape
+
+pub copies_have : (lifted : Bool) (n : ℕ) (s : Shape) (vs : List Val) (ts : Trees) → HaveTreesAs lifted (copies n s) vs ts → (length vs ≡ n) × EachHas (λ v t. HasTreeAs lifted s v t) vs ts
+copies_have lifted zero s [] ts (ev, et) = (refl, et)
+copies_have lifted zero s (v ∷ vs) ts (ev, et) = cc
+copies_have lifted (suc n) s [] ts (v, others, t, rest, ev, et, has, have) = cc
+copies_have lifted (suc n) s (x ∷ xs) ts (v, others, t, rest, ev, et, has, have) =
+    let first : v ≡ x = cc in
+    let tail : others ≡ xs = cc in
+    let more = copies_have lifted n s xs rest (subst (λ ws. HaveTreesAs lifted (copies n s) ws rest) tail have) in
+    (ap suc more.0, (t, rest, et, subst (λ w. HasTreeAs lifted s w t) first has, more.1))
+
+pub have_copies : (n : ℕ) (s : Shape) (vs : List Val) (ts : Trees) → length vs ≡ n → EachHas (λ v t. HasTree s v t) vs ts → HaveTrees (copies n s) vs ts
+have_copies zero s [] ts e h = (refl, h)
+have_copies zero s (v ∷ vs) ts e h = absurd (omega (arith, e))
+have_copies (suc n) s [] ts e h = absurd (omega (arith, e))
+have_copies (suc n) s (v ∷ vs) ts e (t, rest, et, has, have) = (v, vs, t, rest, refl, et, has, have_copies n s vs rest (omega (arith, e)) have)
+
+pub copies_fail : (how : Failure) (n : ℕ) (s : Shape) (vs : List Val) (k : ℕ) → MemberFails how (copies n s) vs k → SomeFails places (λ v i. FailsAt how s v i) vs k
+copies_fail how zero s vs k f = absurd f
+copies_fail how (suc n) s [] k f = absurd f
+copies_fail how (suc n) s (v ∷ vs) k (inl f) = inl f
+copies_fail how (suc n) s (v ∷ vs) k (inr (j, e, f)) = inr (j, e, copies_fail how n s vs j f)
+
+pub copies_no_handle : (n : ℕ) (s : Shape) → HasNoHandle s → HaveNoHandle (copies n s)
+copies_no_handle zero s h = refl
+copies_no_handle (suc n) s h = rw h (copies_no_handle n s h)
+
+pub copies_deepest : (n : ℕ) (s : Shape) → deepest (copies n s) ≤ depth s
+copies_deepest zero s = omega arith
+copies_deepest (suc n) s = omega (arith, copies_deepest n s)
+
+pub copies_quiet : (n : ℕ) (s : Shape) → has_block s ≡ false → have_block (copies n s) ≡ false
+copies_quiet zero s e = refl
+copies_quiet (suc n) s e = rw e (copies_quiet n s e)
+
+pub copies_names : (n : ℕ) (s : Shape) (vs : List Val) → length vs ≡ n → no_names vs ≡ member_names (copies n s)
+copies_names zero s [] e = refl
+copies_names zero s (v ∷ vs) e = absurd (omega (arith, e))
+copies_names (suc n) s [] e = absurd (omega (arith, e))
+copies_names (suc n) s (v ∷ vs) e = ap (λ ns. [] ∷ ns) (copies_names n s vs (omega (arith, e)))
+
+pub fixed_counted : (enc : Encoding) (n : ℕ) (s : Shape) (names : List Name) (vs : List Val) (v : Val) (place : ℕ) (r : Result ℕ Fault) → length vs ≡ n → IsFixed vs v
+    → Counts enc (λ how k. MemberFails how (copies n s) vs k) (cap (place + 1)) (all_places vs) r
+    → Counts enc (λ how k. FailsAt how (fixed n s) v k) place (places v) r
+fixed_counted enc n s names vs v place (Ok to) count (xs, ev, same) (e, small) = (omega (arith, e, ap places ev ∙ places_fixed xs, ap all_places same), fixed_small enc n s vs v count (xs, ev, same) small)
+fixed_counted enc n s names vs v place (Err e) count (xs, ev, same) b =
+    blames_later enc (λ how k. MemberFails how (copies n s) vs k) (λ how k. FailsAt how (fixed n s) v k) 1 place (cap (place + 1)) e refl (λ how j f. inr (vs, j, (xs, ev, same), count, refl, copies_fail how n s vs j f)) b
+
+-- ---- a value's tree from its members' trees, and back
+
+pub product_is : (k : ProductKind) (ms : Members) (names : List Name) (vs : List Val) (v : Val) → IsProduct k names vs v → (ts : Trees) → Named ms names vs ts → HasTree (product k ms) v (parts ts)
+product_is k ms names vs v p ts (same, have) = (vs, ts, subst (λ (xs : List Name). IsProduct k xs vs v) same p, refl, have)
+
+pub product_back : (k : ProductKind) (ms : Members) (names : List Name) (vs : List Val) (v : Val) → IsProduct k names vs v → (t : Tree) → HasTree (product k ms) v t → Named ms names vs (trees_of t)
+product_back k ms names vs v p t (ws, ts, q, et, have) = (
+  product_names k names (member_names ms) vs ws v p q,
+  subst (λ (u : Tree). HaveTrees ms vs (trees_of u)) (sym et) (subst (λ (xs : List Val). HaveTrees ms xs ts) (product_values k (member_names ms) names ws vs v q p) have),
+)
+
+pub fixed_is : (n : ℕ) (s : Shape) (names : List Name) (vs : List Val) (v : Val) → length vs ≡ n → IsFixed vs v → (ts : Trees) → Named (copies n s) names vs ts → HasTree (fixed n s) v (parts ts) × (tree_count ts ≡ n)
+fixed_is n s names vs v enough p ts (_, have) = let (l, each) = copies_have false n s vs ts have in ((vs, ts, p, enough, refl, each), each_count (λ w u. HasTree s w u) vs ts each ∙ enough)
+
+pub fixed_back : (n : ℕ) (s : Shape) (names : List Name) (vs : List Val) (v : Val) → names ≡ no_names vs → length vs ≡ n → IsFixed vs v → (t : Tree) → HasTree (fixed n s) v t → Named (copies n s) names vs (trees_of t)
+fixed_back n s names vs v en enough p t (ws, ts, q, l, et, each) = (
+  en ∙ copies_names n s vs enough,
+  subst (λ (u : Tree). HaveTrees (copies n s) vs (trees_of u)) (sym et) (have_copies n s vs ts enough (subst (λ (ys : List Val). EachHas (λ w u. HasTree s w u) ys ts) (fixed_values ws vs v q p) each)),
+)
+
+pub row_is : (n : ℕ) (s : Shape) (xs : Vec Val Global) → length xs.items ≡ n → (ts : Trees) → Named (copies n s) (no_names xs.items) xs.items ts → HasTree (list of_items s) (val.List xs) (items ts) × (tree_count ts ≡ n)
+row_is n s xs is ts (_, have) = let (l, each) = copies_have false n s xs.items ts have in ((xs.items, ts, (xs, refl, refl), refl, each), each_count (λ w u. HasTree s w u) xs.items ts each ∙ is)
+
+pub row_back : (n : ℕ) (s : Shape) (xs : Vec Val Global) → length xs.items ≡ n → (t : Tree) → HasTree (list of_items s) (val.List xs) t → Named (copies n s) (no_names xs.items) xs.items (trees_of t)
+row_back n s xs is t has = (copies_names n s xs.items is, have_copies n s xs.items (trees_of t) is (list_trees s xs t has))
+
+-- a value that was lowered to words and not to its end
+stop_at : {hs : List ℕ} (wide : Bool) (a b : Moment) (enc : Encoding) (s : Shape) (at : ℕ) (Has : Tree → Type 0) (ws : List ℕ) (e : Ending) → NotDone e → LowersValue wide a b enc s ws 0 Has hs e → StoresValue wide a b enc s at Has hs e
+stop_at wide a b enc s at Has ws e not h = record {
+  answers = h.answers;
+  trap = h.trap;
+  fresh = h.fresh;
+  lowering = lowering_within a b [] _ e _ _ _ (λ i q. absurd q) h.lowering;
+  requested = h.requested;
+  shown = when_not e _ not;
+}
+
+module _ {T G : Type 0} (L : GuestLaws G) (options : ℕ) where
+  -- ---- a value by itself
+
+  pub value_refused : (a : Parts T G) (s : Shape) (at : ℕ) (v : Val) (from : ℕ) (e : Fault) → length a.memory ≤ 2 ^ 32 → IsOwn e → Blames (encoding_by a options) (λ how k. FailsAt how s v k) from e
+      → StoresTo L.seen L.moves options a a s at v from (Err e)
+  value_refused a s at v from e small is b = record {
+    handles = [];
+    storing = subst (λ (end : Ending). StoresValue false (moment_of L.seen a) (moment_of L.seen a) (encoding_by a options) s at (HasTree s v) [] end) (sym (own_ends e is)) (attempt_refused false (moment_of L.seen a) _ _ small);
+    handed = passes_stopped a.component.types a.ledger a.ledger (passes v s) e refl (own_elsewhere e is);
+    counted = b;
+    moved = moves_none L (guest_of a) (fault_ending e);
+    same = refl;
+    quiet = λ none. (refl, own_ends e is);
+  }
+
+  pub scalar_stores : (a : Parts T G) (m : List ℕ) (type : InterfaceType) (at : ℕ) (v : Val) (w n place next : ℕ) → length a.memory ≤ 2 ^ 32 → at + n ≤ length a.memory → n ≡ size false (shape_of (types_of a) type)
+      → IsWordOf type v w → num (narrow m) at n ≡ w % 256 ^ n → Writes (block at n) a.memory m → next ≡ cap (place + 1) → passes v (shape_of (types_of a) type) ≡ []
+      → StoresTo L.seen L.moves options a (record a { memory = written_over a.memory m }) (shape_of (types_of a) type) at v place (Ok next)
+  unfolding size
+  scalar_stores a m type at v w n place next small room en (k, t, e, has, is, least) stored writes counted none =
+      let shape : shape_of (types_of a) type ≡ scalar k = scalar_shape (types_of a) type k e in
+      let bytes : n ≡ scalar_size k = en ∙ ap (size false) shape in
+      let (is2, least2) = least_low k w t is least in
+      let there : num (narrow m) at (scalar_size k) ≡ w % 256 ^ scalar_size k = subst (λ (j : ℕ). num (narrow m) at j ≡ w % 256 ^ j) bytes stored in
+      subst (λ (bytes : List ℕ). StoresTo L.seen L.moves options a (record a { memory = bytes }) (shape_of (types_of a) type) at v place (Ok next)) (sym (written_whole a.memory m writes.same_length))
+      (subst (λ (s : Shape). StoresTo L.seen L.moves options a (record a { memory = m }) s at v place (Ok next)) (sym shape) (record {
+        handles = [];
+        storing = scalar_stored false (L.seen a.guest) a.memory m (encoding_by a options) at (HasTree (scalar k) v) small k t (omega (arith, room, bytes)) (subst (λ (j : ℕ). Writes (block at j) a.memory m) bytes writes)
+            (subst (λ (j : ℕ). ScalarIs k j t) (sym there) is2) (subst (λ (j : ℕ). IsLeast k j) (sym there) least2) has;
+        handed = passes_none a.component.types a.ledger a.ledger (passes v (scalar k)) refl (ap (passes v) (sym shape) ∙ none);
+        counted = (omega (arith, counted, scalar_places k v t has), scalar_small (encoding_by a options) k v);
+        moved = moves_written L (guest_of a) a.guest a.memory m done writes.same_length (moves_none L (guest_of a) done);
+        same = refl;
+        quiet = λ none. (refl, tt);
+      }))
+
+  -- ---- a text or a list by its pointer and its length
+
+  pub placed_stop : (a b : Parts T G) (s : Shape) (at : ℕ) (v : Val) (place : ℕ) (e : Fault) → has_block s ≡ true → PlacesTo L.seen L.moves options a b s v place (Err e) → StoresTo L.seen L.moves options a b s at v place (Err e)
+  placed_stop a b s at v place e block h = record {
+    handles = h.handles;
+    storing = words_stop;
+    handed = h.handed;
+    counted = h.counted;
+    moved = h.moved;
+    same = h.same;
+    quiet = λ none. absurd (blocks_none (has_block s) block none);
+  }
+    where
+      words_stop : StoresValue false (moment_of L.seen a) (moment_of L.seen b) (encoding_by a options) s at (HasTree s v) h.handles (fault_ending e)
+      words_stop = stop_at false (moment_of L.seen a) (moment_of L.seen b) (encoding_by a options) s at (HasTree s v) [] (fault_ending e) (not_done e) h.lowered
+
+  module _ (a b : Parts T G) (m : List ℕ) (at : ℕ) (v : Val) (place : ℕ) (x : Placed) (room : at + 8 ≤ length b.memory) (small : length b.memory ≤ 2 ^ 32) (lp : x.pointer < 2 ^ 32)
+      (ln : x.length < 2 ^ 32) (w : IsPair b.memory m at x.pointer x.length) where
+    abbrev told : Parts T G → Shape → Type 0
+    told c s = StoresTo L.seen L.moves options a c s at v place (Ok x.next)
+
+    written : Attempt false (moment (L.seen b.guest) b.memory) (moment (L.seen b.guest) m) (pair_place false at ∷ []) (pair_aim false at x.pointer x.length) [] done
+    written = pair_written false (L.seen b.guest) b.memory m at x.pointer x.length small room w.writes w.pointer w.count
+
+    pub block_told : (s : Shape) → has_block s ≡ true → (h : PlacesTo L.seen L.moves options a b s v place (Ok x)) → StoresValue false (moment_of L.seen a) (moment (L.seen b.guest) m) (encoding_by a options) s at (HasTree s v) h.handles done
+        → told (record b { memory = written_over b.memory m }) s
+    block_told s block h storing = subst (λ (bytes : List ℕ). told (record b { memory = bytes }) s) (sym (written_whole b.memory m w.writes.same_length)) (record {
+      handles = h.handles;
+      storing = storing;
+      handed = h.handed;
+      counted = h.counted;
+      moved = moves_written L (guest_of a) b.guest b.memory m done w.writes.same_length h.moved;
+      same = ap (λ (y : Parts T G). record y { memory = m }) h.same;
+      quiet = λ none. absurd (blocks_none (has_block s) block none);
+    })
+
+    pub text_told : PlacesTo L.seen L.moves options a b string v place (Ok x) → told (record b { memory = written_over b.memory m }) string
+    text_told h = block_told string refl h (string_stored false (encoding_by a options) at x.pointer x.length (HasTree string v) (λ _. lp) (λ _. ln) (moment_of L.seen a) (L.seen b.guest) b.memory m written h.lowered)
+
+    pub list_told : (s part : Shape) (k : ListKind) → s ≡ list k part → PlacesTo L.seen L.moves options a b s v place (Ok x) → told (record b { memory = written_over b.memory m }) s
+    list_told s part k is h = subst (λ (y : Shape). told (record b { memory = written_over b.memory m }) y) (sym is) (
+        let placed = subst (λ (y : Shape). PlacesTo L.seen L.moves options a b y v place (Ok x)) is h in
+        block_told (list k part) refl placed
+        (list_stored false (encoding_by a options) at x.pointer x.length (HasTree (list k part) v) (λ _. lp) (λ _. ln) (moment_of L.seen a) (L.seen b.guest) b.memory m written k part placed.lowered))
+
+  -- ---- members, one after another
+
+  pub parts_none : (a : Parts T G) (place at o from : ℕ) → length a.memory ≤ 2 ^ 32 → from < 2 ^ 64 → PartsStoreTo L.seen L.moves options a a place no_members o at [] [] from (Ok from)
+  unfolding requests leaves
+  parts_none a place at o from small few = record {
+    handles = [];
+    storing = attempt_none false (moment_of L.seen a) _ (members_at false (encoding_by a options) no_members o at (Named no_members [] [])) no_trees small (refl, (refl, refl)) (λ ts h. refl) refl (λ pointer rest. refl);
+    handed = passes_none a.component.types a.ledger a.ledger [] refl refl;
+    counted = (refl, omega (arith, few), none_small (encoding_by a options));
+    moved = moves_none L (guest_of a) done;
+    same = refl;
+    quiet = λ none. (refl, tt);
+  }
+
+  -- the trees of members are a first one and others
+  first_and : {hs : List ℕ} (wide : Bool) (a b : Parts T G) (enc : Encoding) (name named : Name) (s : Shape) (ms : Members) (o at : ℕ) (names : List Name) (v : Val) (vs : List Val) (e : Ending) → named ≡ name
+      → StoresMembers wide (moment_of L.seen a) (moment_of L.seen b) enc (member name s ms) o at (FirstAnd (HasTree s v) (Named ms names vs)) hs e
+      → StoresMembers wide (moment_of L.seen a) (moment_of L.seen b) enc (member name s ms) o at (Named (member name s ms) (named ∷ names) (v ∷ vs)) hs e
+  first_and wide a b enc name named s ms o at names v vs e en h = attempt_as wide (moment_of L.seen a) (moment_of L.seen b) _ _ (members_at wide enc (member name s ms) o at (FirstAnd (HasTree s v) (Named ms names vs)))
+      (members_at wide enc (member name s ms) o at (Named (member name s ms) (named ∷ names) (v ∷ vs))) e (λ i q. q)
+      (record { turn = λ ts. ts; back = λ ts. ts; is = named_join name named s ms names v vs en; is_back = named_split name named s ms names v vs; asks = λ ts h. refl; rep = λ fresh ts is h. h; home = λ pointer ts xs ys is h. h; handles = λ ts h. refl }) h
+
+  pub parts_cons : (a b c : Parts T G) (place : ℕ) (name named : Name) (s : Shape) (ms : Members) (o at : ℕ) (names : List Name) (v : Val) (vs : List Val) (from mid : ℕ) (r : Result ℕ Fault) → named ≡ name
+      → StoresTo L.seen L.moves options a b s (at + begins false o s) v from (Ok mid) → PartsStoreTo L.seen L.moves options b c place ms (ends false o s) at names vs mid r
+      → PartsStoreTo L.seen L.moves options a c place (member name s ms) o at (named ∷ names) (v ∷ vs) from r
+  parts_cons a b c place name named s ms o at names v vs from mid r en h k =
+      let enc : Encoding = encoding_by a options in
+      let rest : StoresMembers false (moment_of L.seen b) (moment_of L.seen c) enc ms (ends false o s) at (Named ms names vs) k.handles (ending_of r) =
+      subst (λ (x : Encoding). StoresMembers false (moment_of L.seen b) (moment_of L.seen c) x ms (ends false o s) at (Named ms names vs) k.handles (ending_of r)) (handles_encoding a b options h.same) k.storing in
+      record {
+        handles = h.handles ++ k.handles;
+        storing = first_and false a c enc name named s ms o at names v vs (ending_of r) en
+            (members_cons false enc name s ms o at (HasTree s v) (Named ms names vs) (moment_of L.seen a) (moment_of L.seen b) (moment_of L.seen c) (ending_of r) h.storing rest);
+        handed = passes_then a.component.types a.ledger b.ledger c.ledger (passes v s) (all_passes ms vs) h.handles k.handles r h.handed
+            (subst (λ (i : Instance). LowersHandles i b.ledger c.ledger (all_passes ms vs) k.handles r) (handles_instance a b h.same) k.handed);
+        counted = fields_count enc place name named s ms names v vs from mid r en h.counted.0 h.counted.1
+            (subst (λ (x : Encoding). FieldsCount x place ms names vs mid r) (handles_encoding a b options h.same) k.counted);
+        moved = moves_then L (guest_of a) (guest_of b) (guest_of c) (ending_of r) _ _ h.storing.lowering.goes.events rest.lowering.goes.events h.moved k.moved;
+        same = handles_then a b c h.same k.same;
+        quiet = λ none. let one = h.quiet (no_first (has_block s) (have_block ms) none) in let others = k.quiet (no_later (has_block s) (have_block ms) none) in (others.0 ∙ one.0, others.1);
+      }
+
+  -- a first one ends it
+  pub parts_stop : (a b : Parts T G) (place : ℕ) (name named : Name) (s : Shape) (ms : Members) (o at : ℕ) (names : List Name) (v : Val) (vs : List Val) (from : ℕ) (e : Fault) → named ≡ name
+      → StoresTo L.seen L.moves options a b s (at + begins false o s) v from (Err e) → PartsStoreTo L.seen L.moves options a b place (member name s ms) o at (named ∷ names) (v ∷ vs) from (Err e)
+  parts_stop a b place name named s ms o at names v vs from e en h = record {
+    handles = h.handles;
+    storing = first_and false a b (encoding_by a options) name named s ms o at names v vs (fault_ending e) en
+        (members_stop false (encoding_by a options) name s ms o at (HasTree s v) (Named ms names vs) (moment_of L.seen a) (moment_of L.seen b) (fault_ending e) (not_done e) h.storing);
+    handed = passes_stop a.component.types a.ledger b.ledger (passes v s) (all_passes ms vs) e h.handed;
+    counted = inr (blames_first (encoding_by a options) (λ how k. FailsAt how s v k) (λ how k. MemberFails how (member name s ms) (v ∷ vs) k) from e (λ how j f. inl f) h.counted);
+    moved = h.moved;
+    same = h.same;
+    quiet = λ none. h.quiet (no_first (has_block s) (have_block ms) none);
+  }
+
+  -- its name is another
+  pub parts_named : (a : Parts T G) (place : ℕ) (name named : Name) (s : Shape) (ms : Members) (o at : ℕ) (names : List Name) (v : Val) (vs : List Val) (from : ℕ) → length a.memory ≤ 2 ^ 32 → ¬ (named ≡ name)
+      → PartsStoreTo L.seen L.moves options a a place (member name s ms) o at (named ∷ names) (v ∷ vs) from (Err (fault.FieldName place))
+  parts_named a place name named s ms o at names v vs from small other = record {
+    handles = [];
+    storing = attempt_refused false (moment_of L.seen a) _ _ small;
+    handed = passes_stopped a.component.types a.ledger a.ledger (all_passes (member name s ms) (v ∷ vs)) (fault.FieldName place) refl refl;
+    counted = inl (refl, λ same. other (heads named name names (member_names ms) same));
+    moved = moves_none L (guest_of a) refused;
+    same = refl;
+    quiet = λ none. (refl, refl);
+  }
+
+  -- ---- a value from its members
+
+  pub members_store : (a c : Parts T G) (place : ℕ) (s : Shape) (ms : Members) (at : ℕ) (names : List Name) (vs : List Val) (v : Val) (r : Result ℕ Fault) → at + size false s ≤ length a.memory → place < 2 ^ 64
+      → LiesAs s ms → HasMembers s names vs v → length vs ≡ member_count ms → passes v s ≡ all_passes ms vs → PartsStoreTo L.seen L.moves options a c place ms 0 at names vs (cap (place + 1)) r
+      → StoresTo L.seen L.moves options a c s at v place r
+  members_store a c place (product k ns) ms at names vs v r room few e p count given h = record {
+    handles = h.handles;
+    storing = product_stored false (moment_of L.seen a) (moment_of L.seen c) (encoding_by a options) k ns at (Named ns names vs) (HasTree (product k ns) v) (ending_of r) (omega (arith, room, h.storing.lowering.goes.no_shorter))
+        (product_is k ns names vs v p) (product_back k ns names vs v p)
+        (subst (λ (xs : Members). StoresMembers false (moment_of L.seen a) (moment_of L.seen c) (encoding_by a options) xs 0 at (Named xs names vs) h.handles (ending_of r)) e h.storing);
+    handed = passes_as a.component.types a.ledger c.ledger (all_passes ms vs) (passes v (product k ns)) h.handles r given h.handed;
+    counted = product_counts (encoding_by a options) place k ns names vs v r few p (count ∙ ap member_count e) (subst (λ (xs : Members). FieldsCount (encoding_by a options) place xs names vs (cap (place + 1)) r) e h.counted);
+    moved = h.moved;
+    same = h.same;
+    quiet = λ none. h.quiet (ap have_block e ∙ none);
+  }
+  members_store a c place (fixed n s) ms at names vs v r room few e (en, (xs, ev, same)) count given h =
+      let enough : length vs ≡ n = count ∙ (ap member_count e ∙ copies_count n s) in
+      let named : names ≡ member_names (copies n s) = en ∙ copies_names n s vs enough in
+      record {
+        handles = h.handles;
+        storing = fixed_stored false (moment_of L.seen a) (moment_of L.seen c) (encoding_by a options) n s at (Named (copies n s) names vs) (HasTree (fixed n s) v) (ending_of r) (omega (arith, room, h.storing.lowering.goes.no_shorter))
+            (fixed_is n s names vs v enough (xs, ev, same)) (fixed_back n s names vs v en enough (xs, ev, same))
+            (subst (λ (ys : Members). StoresMembers false (moment_of L.seen a) (moment_of L.seen c) (encoding_by a options) ys 0 at (Named ys names vs) h.handles (ending_of r)) e h.storing);
+        handed = passes_as a.component.types a.ledger c.ledger (all_passes ms vs) (passes v (fixed n s)) h.handles r given h.handed;
+        counted = fixed_counted (encoding_by a options) n s names vs v place r enough (xs, ev, same)
+            (count_members (encoding_by a options) place (copies n s) names vs (cap (place + 1)) r named (subst (λ (ys : Members). FieldsCount (encoding_by a options) place ys names vs (cap (place + 1)) r) e h.counted));
+        moved = h.moved;
+        same = h.same;
+        quiet = λ none. h.quiet (ap have_block e ∙ copies_quiet n s none);
+      }
+  members_store a c place (scalar k) ms at names vs v r room few e p count given h = absurd e
+  members_store a c place string ms at names vs v r room few e p count given h = absurd e
+  members_store a c place (own i) ms at names vs v r room few e p count given h = absurd e
+  members_store a c place (borrow i) ms at names vs v r room few e p count given h = absurd e
+  members_store a c place (list k s) ms at names vs v r room few e p count given h = absurd e
+  members_store a c place (variant k cs) ms at names vs v r room few e p count given h = absurd e
+  members_store a c place (flags ns) ms at names vs v r room few e p count given h = absurd e

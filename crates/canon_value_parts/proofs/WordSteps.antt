@@ -1,0 +1,302 @@
+-- Steps of lowering to words, over plain variables.
+use Rattle.std.proofs.Common.{◌∙◌, ◌++◌, List, [], ◌∷◌, subst, sym, ◌≡◌, ◌≤◌, ◌<◌, ◌+◌, ◌^◌, Err, Ok, Result, ap, arith, inl, inr, length, refl, set, suc, true, zero, ℕ, ◌%◌, false}
+use Rattle.canon_model.specs.Shape.{Cases, Members, Shape, bare, borrow, fixed, flags, list, member, no_cases, no_members, own, payload, product, scalar, string, variant, Name, member_count}
+use Rattle.canon_model.specs.Tree.{Tree, Trees, no_trees, payload_of}
+use Rattle.canon_model.specs.Fits.{AllTrees, CaseFits, Fits, MembersFit}
+use Rattle.canon_val.specs.Value.{CaseHas, EachHas, HasTree, HaveTrees, cap, member_names, no_names}
+use Rattle.canon_val.specs.declared.val.Val.{Val}
+use Rattle.canon_value_parts.proofs.Contents.{each_count}
+use Rattle.canon_lowering.proofs.Parameters.{args_near}
+use Rattle.canon_value_parts.proofs.Walks.{copies_names, copies_quiet, fixed_back, fixed_counted, fixed_is, product_back, product_is}
+use Rattle.canon_plan.proofs.Lookups.{copies_count}
+use Rattle.canon_value_parts.proofs.Steps.{blocks_none, no_first, no_later, blames_first}
+use Rattle.canon_value_parts.specs.Viewed.{HasMembers}
+use Rattle.canon_plan.specs.Plan.{LiesAs}
+use Rattle.canon_model.specs.Requests.{requests}
+use Rattle.canon_model.specs.Rep.{ScalarIs}
+use Rattle.canon_lowering.specs.Copies.{case_tree, copies}
+use Rattle.canon_lowering.proofs.AimedCases.{number_of}
+use Rattle.canon_lowering.specs.Attempt.{LowersMembers, LowersValue, members_words, value_words, LowersArgs}
+use Rattle.canon_lowering.proofs.Copying.{copies_flat}
+use Rattle.canon_lowering.proofs.Attempts.{attempt_as, attempt_none, attempt_other, attempt_refused, FirstAnd}
+use Rattle.canon_lowering.proofs.AimedWords.{fixed_words, members_words_cons, members_words_stop, product_words, scalar_words, words_moved}
+use Rattle.std.proofs.lemmas.List.{get_or-set_other, get_or-set_same, length-set}
+use Rattle.std.specs.Prelude.{slice_index}
+use Rattle.canon_lowering.specs.Lowering.{Ending, done, refused}
+use Rattle.canon_model.specs.Flat.{SameWords, IsLeastWord, flat_bits, max_params}
+use Rattle.canon_model.specs.Layout.{flat, members_flat}
+use Rattle.canon_model.specs.Text.{Encoding}
+use Rattle.canon_types.specs.Table.{shape_of}
+use Rattle.canon_types.specs.declared.types.InterfaceType.{InterfaceType}
+use Rattle.canon_context.specs.Core.{Parts, encoding_by, guest_of, moment_of, types_of}
+use Rattle.canon_value_parts.specs.Fails.{Blames, FailsAt, MemberFails}
+use Rattle.canon_context.specs.Lowers.{ending_of, fault_ending}
+use Rattle.canon_context.specs.Quiet.{has_block, have_block}
+use Rattle.canon_value_parts.specs.Stores.{PlacesTo, FieldsCount}
+use Rattle.canon_value_parts.specs.Words.{IsWordOf, LowersTo, PartsLowerTo, WordsStay, WordsPassed, inside, place_after}
+use Rattle.canon_value_parts.specs.declared.blocks.Placed.{Placed}
+use Rattle.canon_context.specs.declared.fault.Fault.{Fault}
+use Rattle.canon_context.specs.declared.fault.Fault.TheVariants as fault
+use Rattle.canon_value_parts.specs.declared.spot.Spot.{Spot}
+use Rattle.canon_context.proofs.Moves.{moves_none, moves_then, GuestLaws}
+use Rattle.canon_value_parts.proofs.Scalars.{scalar_places}
+use Rattle.canon_value_parts.proofs.Sizes.{none_small, scalar_small}
+use Rattle.canon_plan.proofs.ScalarTypes.{scalar_shape}
+use Rattle.canon_context.proofs.Cores.{not_done}
+use Rattle.canon_model.specs.Leaves.{leaves}
+use Rattle.canon_types.specs.Instance.{Instance}
+use Rattle.canon_value_parts.proofs.Passing.{IsOwn, handles_encoding, handles_instance, handles_then, own_elsewhere, own_ends, passes_as, passes_none, passes_stop, passes_stopped, passes_then}
+use Rattle.canon_value_parts.specs.Resources.{LowersHandles, all_passes, passes}
+use Rattle.canon_value_parts.proofs.StoreSteps.{Named, heads, named_join, named_split, fields_count, product_counts, count_members}
+
+-- ---- a value's lists of fixed length are as long as its type says
+
+pub each_fits : {A : Type 0} → (Has : A → Tree → Type 0) (P : Tree → Type 0) → ((v : A) (t : Tree) → Has v t → P t) → (vs : List A) (ts : Trees) → EachHas Has vs ts → AllTrees P ts
+each_fits Has P one [] ts is = subst (AllTrees P) (sym is) tt
+each_fits Has P one (v ∷ vs) ts (t, rest, is, has, have) = subst (AllTrees P) (sym is) (one v t has, each_fits Has P one vs rest have)
+
+mutual
+  pub has_fits : (s : Shape) (v : Val) (t : Tree) → HasTree s v t → Fits s t
+  has_fits (scalar k) v t h = tt
+  has_fits string v t h = tt
+  has_fits (own r) v t h = tt
+  has_fits (borrow r) v t h = tt
+  has_fits (list k s) v t h = tt
+  has_fits (fixed n s) v t (vs, ts, is, count, et, have) = subst (Fits (fixed n s)) (sym et)
+      (each_count (λ w u. HasTree s w u) vs ts have ∙ count, each_fits (λ w u. HasTree s w u) (λ u. Fits s u) (λ w u h. has_fits s w u h) vs ts have)
+  has_fits (product k ms) v t (vs, ts, is, et, have) = subst (Fits (product k ms)) (sym et) (have_fit ms vs ts have)
+  has_fits (variant k cs) v t (d, vs, ts, is, et, have) = subst (Fits (variant k cs)) (sym et)
+      (subst (λ n. CaseFits cs n (payload_of (case_tree d ts))) (sym (number_of d ts)) (case_fits cs d d vs ts have))
+  has_fits (flags names) v t h = tt
+
+  case_fits : (cs : Cases) (i d : ℕ) (vs : List Val) (ts : Trees) → CaseHas false cs i vs ts → CaseFits cs i (payload_of (case_tree d ts))
+  case_fits no_cases i d vs ts h = tt
+  case_fits (bare name cs) zero d vs ts h = tt
+  case_fits (bare name cs) (suc i) d vs ts h = case_fits cs i d vs ts h
+  case_fits (payload name s cs) zero d vs ts (v, t, ev, et, has) = subst (λ us. Fits s (payload_of (case_tree d us))) (sym et) (has_fits s v t has)
+  case_fits (payload name s cs) (suc i) d vs ts h = case_fits cs i d vs ts h
+
+  pub have_fit : (ms : Members) (vs : List Val) (ts : Trees) → HaveTrees ms vs ts → MembersFit ms ts
+  have_fit no_members vs ts h = tt
+  have_fit (member name s ms) vs ts (v, others, t, rest, ev, et, has, have) = subst (MembersFit (member name s ms)) (sym et) (has_fits s v t has, have_fit ms others rest have)
+
+-- ---- words that stay
+
+stays_none : (i : ℕ) (dst : List ℕ) → WordsStay i dst dst
+stays_none i dst = record { same_length = refl; before = λ p l. refl }
+
+stays_then : (i j : ℕ) (dst dst2 dst3 : List ℕ) → i ≤ j → WordsStay i dst dst2 → WordsStay j dst2 dst3 → WordsStay i dst dst3
+stays_then i j dst dst2 dst3 later h k = record { same_length = k.same_length ∙ h.same_length; before = λ p l. k.before p (omega (arith, l, later)) ∙ h.before p l }
+
+-- the first words stay where the rest are written
+first_stay : (i j n : ℕ) (dst dst2 : List ℕ) → j ≡ i + n → WordsStay j dst dst2 → SameWords dst i dst2 i n
+first_stay i j n dst dst2 e h p q l u is = let same : p ≡ q = omega (arith, is) in ap (slice_index dst) same ∙ sym (h.before q (omega (arith, u, is, e)))
+
+-- ---- counting
+
+passed_both : (from mid : Spot) (n m : ℕ) (r : Result Spot Fault) → mid.word ≡ from.word + n → WordsPassed mid m r → WordsPassed from (n + m) r
+passed_both from mid n m (Ok to) e h = omega (arith, e, h)
+passed_both from mid n m (Err x) e h = tt
+
+module _ {T G : Type 0} (L : GuestLaws G) (options : ℕ) where
+  -- ---- a value by itself
+
+  pub value_refused : (a : Parts T G) (dst : List ℕ) (from : Spot) (s : Shape) (v : Val) (e : Fault) → length a.memory ≤ 2 ^ 32 → IsOwn e → Blames (encoding_by a options) (λ how k. FailsAt how s v k) from.place e
+      → LowersTo L.seen L.moves options a a dst dst from (Err e) s v
+  value_refused a dst from s v e small is b = record {
+    handles = [];
+    lowered = subst (λ (end : Ending). LowersValue false (moment_of L.seen a) (moment_of L.seen a) (encoding_by a options) s dst from.word (HasTree s v) [] end) (sym (own_ends e is)) (attempt_refused false (moment_of L.seen a) [] _ small);
+    handed = passes_stopped a.component.types a.ledger a.ledger (passes v s) e refl (own_elsewhere e is);
+    stays = stays_none from.word dst;
+    passed = tt;
+    counted = b;
+    moved = moves_none L (guest_of a) (fault_ending e);
+    same = refl;
+    quiet = λ none. (refl, own_ends e is);
+  }
+
+  pub scalar_lowers : (a : Parts T G) (dst : List ℕ) (from to : Spot) (type : InterfaceType) (v : Val) (w : ℕ) → length a.memory ≤ 2 ^ 32 → from.word + flat (shape_of (types_of a) type) ≤ length dst → IsWordOf type v w
+      → to.word ≡ from.word + 1 → to.place ≡ cap (from.place + 1) → passes v (shape_of (types_of a) type) ≡ []
+      → LowersTo L.seen L.moves options a a dst (set dst from.word w) from (Ok to) (shape_of (types_of a) type) v
+  unfolding flat
+  scalar_lowers a dst from to type v w small room (k, t, e, has, is, least) ew ep none =
+      let shape : shape_of (types_of a) type ≡ scalar k = scalar_shape (types_of a) type k e in
+      let here : slice_index (set dst from.word w) from.word ≡ w = get_or-set_same dst from.word w 0 (omega (arith, room, ap flat shape)) in
+      subst (λ (s : Shape). LowersTo L.seen L.moves options a a dst (set dst from.word w) from (Ok to) s v) (sym shape) (record {
+        handles = [];
+        lowered = scalar_words false (moment_of L.seen a) (encoding_by a options) (set dst from.word w) from.word (HasTree (scalar k) v) small k t
+            (subst (λ (x : ℕ). ScalarIs k (x % 2 ^ flat_bits k) t) (sym here) is) (subst (λ (x : ℕ). IsLeastWord k x) (sym here) least) has;
+        handed = passes_none a.component.types a.ledger a.ledger (passes v (scalar k)) refl (ap (passes v) (sym shape) ∙ none);
+        stays = record { same_length = length-set dst from.word w; before = λ p l. get_or-set_other dst from.word p w 0 (omega (arith, l)) };
+        passed = ew;
+        counted = (omega (arith, ep, scalar_places k v t has), scalar_small (encoding_by a options) k v);
+        moved = moves_none L (guest_of a) done;
+        same = refl;
+        quiet = λ none. (refl, tt);
+      })
+
+  -- ---- a text or a list, by a pointer and a length
+
+  pub placed_lowers : (a c : Parts T G) (dst dst2 : List ℕ) (from : Spot) (s : Shape) (v : Val) (b : Placed) → has_block s ≡ true → flat s ≡ 2 → WordsStay from.word dst dst2 → SameWords (b.pointer ∷ b.length ∷ []) 0 dst2 from.word 2
+      → PlacesTo L.seen L.moves options a c s v from.place (Ok b) → LowersTo L.seen L.moves options a c dst dst2 from (Ok (record { word = from.word + 2; place = b.next })) s v
+  placed_lowers a c dst dst2 from s v b block two stays there h = record {
+    handles = h.handles;
+    lowered = words_moved false (moment_of L.seen a) (moment_of L.seen c) (encoding_by a options) s (b.pointer ∷ b.length ∷ []) dst2 0 from.word (HasTree s v) done (has_fits s v)
+        (subst (λ (n : ℕ). SameWords (b.pointer ∷ b.length ∷ []) 0 dst2 from.word n) (sym two) there) h.lowered;
+    handed = h.handed;
+    stays = stays;
+    passed = omega (arith, two);
+    counted = h.counted;
+    moved = h.moved;
+    same = h.same;
+    quiet = λ none. absurd (blocks_none (has_block s) block none);
+  }
+
+  pub placed_refused : (a c : Parts T G) (dst : List ℕ) (from : Spot) (s : Shape) (v : Val) (e : Fault) → has_block s ≡ true → PlacesTo L.seen L.moves options a c s v from.place (Err e)
+      → LowersTo L.seen L.moves options a c dst dst from (Err e) s v
+  placed_refused a c dst from s v e block h = record {
+    handles = h.handles;
+    lowered = attempt_other false (moment_of L.seen a) (moment_of L.seen c) [] _ (value_words false (encoding_by a options) s dst from.word (HasTree s v)) (fault_ending e) (not_done e) (λ t has. (has, refl)) h.lowered;
+    handed = h.handed;
+    stays = stays_none from.word dst;
+    passed = tt;
+    counted = h.counted;
+    moved = h.moved;
+    same = h.same;
+    quiet = λ none. absurd (blocks_none (has_block s) block none);
+  }
+
+  -- ---- members, one after another
+
+  pub parts_none : (a : Parts T G) (dst : List ℕ) (from : Spot) (place : ℕ) → length a.memory ≤ 2 ^ 32 → from.place < 2 ^ 64 → PartsLowerTo L.seen L.moves options a a dst dst from (Ok from) place no_members [] []
+  unfolding flat requests leaves
+  parts_none a dst from place small few = record {
+    handles = [];
+    lowered = attempt_none false (moment_of L.seen a) [] (members_words false (encoding_by a options) no_members dst from.word (Named no_members [] [])) no_trees small (refl, (refl, refl)) (λ ts h. refl) refl (λ pointer rest. refl);
+    handed = passes_none a.component.types a.ledger a.ledger [] refl refl;
+    stays = stays_none from.word dst;
+    passed = omega arith;
+    counted = (refl, omega (arith, few), none_small (encoding_by a options));
+    moved = moves_none L (guest_of a) done;
+    same = refl;
+    quiet = λ none. (refl, tt);
+  }
+
+  -- the trees of members are a first one and others
+  first_and : {hs : List ℕ} (a b : Parts T G) (enc : Encoding) (name named : Name) (s : Shape) (ms : Members) (ws : List ℕ) (i : ℕ) (names : List Name) (v : Val) (vs : List Val) (e : Ending) → named ≡ name
+      → LowersMembers false (moment_of L.seen a) (moment_of L.seen b) enc (member name s ms) ws i (FirstAnd (HasTree s v) (Named ms names vs)) hs e
+      → LowersMembers false (moment_of L.seen a) (moment_of L.seen b) enc (member name s ms) ws i (Named (member name s ms) (named ∷ names) (v ∷ vs)) hs e
+  first_and a b enc name named s ms ws i names v vs e en h = attempt_as false (moment_of L.seen a) (moment_of L.seen b) [] [] (members_words false enc (member name s ms) ws i (FirstAnd (HasTree s v) (Named ms names vs)))
+      (members_words false enc (member name s ms) ws i (Named (member name s ms) (named ∷ names) (v ∷ vs))) e (λ j q. q)
+      (record { turn = λ ts. ts; back = λ ts. ts; is = named_join name named s ms names v vs en; is_back = named_split name named s ms names v vs; asks = λ ts h. refl; rep = λ fresh ts is h. h; home = λ pointer ts xs ys is h. h; handles = λ ts h. refl }) h
+
+  pub parts_cons : (a b c : Parts T G) (dst dst2 dst3 : List ℕ) (place : ℕ) (name named : Name) (s : Shape) (ms : Members) (names : List Name) (v : Val) (vs : List Val) (from mid : Spot) (r : Result Spot Fault) → named ≡ name
+      → LowersTo L.seen L.moves options a b dst dst2 from (Ok mid) s v → PartsLowerTo L.seen L.moves options b c dst2 dst3 mid r place ms names vs
+      → PartsLowerTo L.seen L.moves options a c dst dst3 from r place (member name s ms) (named ∷ names) (v ∷ vs)
+  unfolding flat
+  parts_cons a b c dst dst2 dst3 place name named s ms names v vs from mid r en h k =
+      let enc : Encoding = encoding_by a options in
+      let rest : LowersMembers false (moment_of L.seen b) (moment_of L.seen c) enc ms dst3 (from.word + flat s) (Named ms names vs) k.handles (ending_of r) =
+      subst (λ (i : ℕ). LowersMembers false (moment_of L.seen b) (moment_of L.seen c) enc ms dst3 i (Named ms names vs) k.handles (ending_of r)) h.passed
+      (subst (λ (x : Encoding). LowersMembers false (moment_of L.seen b) (moment_of L.seen c) x ms dst3 mid.word (Named ms names vs) k.handles (ending_of r)) (handles_encoding a b options h.same) k.lowered) in
+      record {
+        handles = h.handles ++ k.handles;
+        lowered = first_and a c enc name named s ms dst3 from.word names v vs (ending_of r) en
+            (members_words_cons false enc name s ms from.word (HasTree s v) (Named ms names vs) dst3 (moment_of L.seen a) (moment_of L.seen b) (moment_of L.seen c) dst2 (ending_of r) (has_fits s v)
+            (first_stay from.word mid.word (flat s) dst2 dst3 h.passed k.stays) h.lowered rest);
+        handed = passes_then a.component.types a.ledger b.ledger c.ledger (passes v s) (all_passes ms vs) h.handles k.handles r h.handed
+            (subst (λ (i : Instance). LowersHandles i b.ledger c.ledger (all_passes ms vs) k.handles r) (handles_instance a b h.same) k.handed);
+        stays = stays_then from.word mid.word dst dst2 dst3 (omega (arith, h.passed)) h.stays k.stays;
+        passed = passed_both from mid (flat s) (members_flat ms) r h.passed k.passed;
+        counted = fields_count enc place name named s ms names v vs from.place mid.place (place_after r) en h.counted.0 h.counted.1
+            (subst (λ (x : Encoding). FieldsCount x place ms names vs mid.place (place_after r)) (handles_encoding a b options h.same) k.counted);
+        moved = moves_then L (guest_of a) (guest_of b) (guest_of c) (ending_of r) _ _ h.lowered.lowering.goes.events rest.lowering.goes.events h.moved k.moved;
+        same = handles_then a b c h.same k.same;
+        quiet = λ none. let one = h.quiet (no_first (has_block s) (have_block ms) none) in let others = k.quiet (no_later (has_block s) (have_block ms) none) in (others.0 ∙ ap (λ (x : Parts T G). record x { ledger = c.ledger }) one.0, others.1);
+      }
+
+  -- a first one ends it
+  pub parts_stop : (a b : Parts T G) (dst dst2 : List ℕ) (place : ℕ) (name named : Name) (s : Shape) (ms : Members) (names : List Name) (v : Val) (vs : List Val) (from : Spot) (e : Fault) → named ≡ name
+      → LowersTo L.seen L.moves options a b dst dst2 from (Err e) s v → PartsLowerTo L.seen L.moves options a b dst dst2 from (Err e) place (member name s ms) (named ∷ names) (v ∷ vs)
+  parts_stop a b dst dst2 place name named s ms names v vs from e en h = record {
+    handles = h.handles;
+    lowered = first_and a b (encoding_by a options) name named s ms dst2 from.word names v vs (fault_ending e) en
+        (members_words_stop false (encoding_by a options) name s ms from.word (HasTree s v) (Named ms names vs) dst2 (moment_of L.seen a) (moment_of L.seen b) dst2 (fault_ending e) (not_done e) h.lowered);
+    handed = passes_stop a.component.types a.ledger b.ledger (passes v s) (all_passes ms vs) e h.handed;
+    stays = h.stays;
+    passed = tt;
+    counted = inr (blames_first (encoding_by a options) (λ how k. FailsAt how s v k) (λ how k. MemberFails how (member name s ms) (v ∷ vs) k) from.place e (λ how j f. inl f) h.counted);
+    moved = h.moved;
+    same = h.same;
+    quiet = λ none. h.quiet (no_first (has_block s) (have_block ms) none);
+  }
+
+  -- its name is another
+  pub parts_named : (a : Parts T G) (dst : List ℕ) (place : ℕ) (name named : Name) (s : Shape) (ms : Members) (names : List Name) (v : Val) (vs : List Val) (from : Spot) → length a.memory ≤ 2 ^ 32 → ¬ (named ≡ name)
+      → PartsLowerTo L.seen L.moves options a a dst dst from (Err (fault.FieldName place)) place (member name s ms) (named ∷ names) (v ∷ vs)
+  parts_named a dst place name named s ms names v vs from small other = record {
+    handles = [];
+    lowered = attempt_refused false (moment_of L.seen a) [] _ small;
+    handed = passes_stopped a.component.types a.ledger a.ledger (all_passes (member name s ms) (v ∷ vs)) (fault.FieldName place) refl refl;
+    stays = stays_none from.word dst;
+    passed = tt;
+    counted = inl (refl, λ same. other (heads named name names (member_names ms) same));
+    moved = moves_none L (guest_of a) refused;
+    same = refl;
+    quiet = λ none. (refl, refl);
+  }
+
+  -- ---- a value from its members
+
+  pub members_lower : (a c : Parts T G) (dst dst2 : List ℕ) (from : Spot) (s : Shape) (ms : Members) (names : List Name) (vs : List Val) (v : Val) (r : Result Spot Fault) → from.place < 2 ^ 64
+      → LiesAs s ms → HasMembers s names vs v → length vs ≡ member_count ms → passes v s ≡ all_passes ms vs → PartsLowerTo L.seen L.moves options a c dst dst2 (inside from) r from.place ms names vs
+      → LowersTo L.seen L.moves options a c dst dst2 from r s v
+  unfolding flat
+  members_lower a c dst dst2 from (product k ns) ms names vs v r few e p count given h = record {
+    handles = h.handles;
+    lowered =
+        product_words false (moment_of L.seen a) (moment_of L.seen c) (encoding_by a options) k ns dst2 from.word (Named ns names vs) (HasTree (product k ns) v) (ending_of r) (product_is k ns names vs v p) (product_back k ns names vs v p)
+        (subst (λ (xs : Members). LowersMembers false (moment_of L.seen a) (moment_of L.seen c) (encoding_by a options) xs dst2 from.word (Named xs names vs) h.handles (ending_of r)) e h.lowered);
+    handed = passes_as a.component.types a.ledger c.ledger (all_passes ms vs) (passes v (product k ns)) h.handles r given h.handed;
+    stays = h.stays;
+    passed = subst (λ (n : ℕ). WordsPassed from n r) (ap members_flat e) h.passed;
+    counted = product_counts (encoding_by a options) from.place k ns names vs v (place_after r) few p (count ∙ ap member_count e)
+        (subst (λ (xs : Members). FieldsCount (encoding_by a options) from.place xs names vs (cap (from.place + 1)) (place_after r)) e h.counted);
+    moved = h.moved;
+    same = h.same;
+    quiet = λ none. h.quiet (ap have_block e ∙ none);
+  }
+  members_lower a c dst dst2 from (fixed n s) ms names vs v r few e (en, p) count given h =
+      let enough : length vs ≡ n = count ∙ (ap member_count e ∙ copies_count n s) in
+      let named : names ≡ member_names (copies n s) = en ∙ copies_names n s vs enough in
+      record {
+        handles = h.handles;
+        lowered = fixed_words false (moment_of L.seen a) (moment_of L.seen c) (encoding_by a options) n s dst2 from.word (Named (copies n s) names vs) (HasTree (fixed n s) v) (ending_of r)
+            (fixed_is n s names vs v enough p) (fixed_back n s names vs v en enough p)
+            (subst (λ (ys : Members). LowersMembers false (moment_of L.seen a) (moment_of L.seen c) (encoding_by a options) ys dst2 from.word (Named ys names vs) h.handles (ending_of r)) e h.lowered);
+        handed = passes_as a.component.types a.ledger c.ledger (all_passes ms vs) (passes v (fixed n s)) h.handles r given h.handed;
+        stays = h.stays;
+        passed = subst (λ (k : ℕ). WordsPassed from k r) (ap members_flat e ∙ copies_flat n s) h.passed;
+        counted = fixed_counted (encoding_by a options) n s names vs v from.place (place_after r) enough p
+            (count_members (encoding_by a options) from.place (copies n s) names vs (cap (from.place + 1)) (place_after r) named
+            (subst (λ (ys : Members). FieldsCount (encoding_by a options) from.place ys names vs (cap (from.place + 1)) (place_after r)) e h.counted));
+        moved = h.moved;
+        same = h.same;
+        quiet = λ none. h.quiet (ap have_block e ∙ copies_quiet n s none);
+      }
+  members_lower a c dst dst2 from (scalar k) ms names vs v r few e p count given h = absurd e
+  members_lower a c dst dst2 from string ms names vs v r few e p count given h = absurd e
+  members_lower a c dst dst2 from (own i) ms names vs v r few e p count given h = absurd e
+  members_lower a c dst dst2 from (borrow i) ms names vs v r few e p count given h = absurd e
+  members_lower a c dst dst2 from (list k s) ms names vs v r few e p count given h = absurd e
+  members_lower a c dst dst2 from (variant k cs) ms names vs v r few e p count given h = absurd e
+  members_lower a c dst dst2 from (flags ns) ms names vs v r few e p count given h = absurd e
+
+-- ---- parameters in a row, whose names are none
+
+module _ {T G : Type 0} (L : GuestLaws G) (options : ℕ) (a c : Parts T G) (dst dst2 : List ℕ) (ms : Members) (vs : List Val) (r : Result Spot Fault) (named : no_names vs ≡ member_names ms) (from : Spot) (first : from.word ≡ 0)
+    (h : PartsLowerTo L.seen L.moves options a c dst dst2 from r 0 ms (no_names vs) vs) where
+  pub near_lowered : members_flat ms ≤ max_params → length dst ≡ members_flat ms → LowersArgs false (moment_of L.seen a) (moment_of L.seen c) (encoding_by a options) ms (HaveTrees ms vs) dst2 h.handles (ending_of r)
+  near_lowered near count =
+      args_near false (encoding_by a options) ms (Named ms (no_names vs) vs) (HaveTrees ms vs) (λ ts have. have.1) (λ ts have. (named, have)) (moment_of L.seen a) (moment_of L.seen c) dst2 (ending_of r) near (h.stays.same_length ∙ count)
+      (subst (λ (i : ℕ). LowersMembers false (moment_of L.seen a) (moment_of L.seen c) (encoding_by a options) ms dst2 i (Named ms (no_names vs) vs) h.handles (ending_of r)) first h.lowered)

@@ -1,0 +1,65 @@
+-- A value as the shape of its type sees it.
+use Rattle.std.specs.Prelude.{IsTrue, List, [], drop, length, ℕ, ⊤, ◌+◌, ◌<◌, ◌^◌, ◌↔◌, ◌∷◌, ◌≡◌}
+use Rattle.canon_lowering.specs.Copies.{copies}
+use Rattle.canon_model.specs.Shape as shape
+use Rattle.canon_model.specs.Shape.{Name, member, member_count, no_members}
+use Rattle.canon_types.specs.Depth.{product_members}
+use Rattle.canon_types.specs.Table.{HasTuple, Knows, Table, shape_of, tuple_members}
+use Rattle.canon_types.specs.declared.types.InterfaceType.TheVariants as ty
+use Rattle.canon_plan.specs.Element.{IsMap, row_of}
+use Rattle.canon_value_parts.specs.Elements.{by_turns}
+use Rattle.canon_val.specs.Value.{names_in, no_names, values_in}
+use Rattle.canon_value_parts.specs.declared.members.Member.{Member}
+use Rattle.canon_value_parts.specs.declared.members.Members.{Members}
+use Rattle.canon_value_parts.specs.declared.members.Members.TheVariants as members
+use Rattle.canon_val.specs.declared.val.Val.{Val}
+use Rattle.canon_plan.specs.Plan.{members_from}
+
+-- their shapes, by the table, their values and their names
+abbrev pub shapes_of : Table → Members → shape.Members
+shapes_of t (members.Fields i values) = product_members (shape_of t (ty.Record i))
+shapes_of t (members.Places i values) = tuple_members t i
+shapes_of t (members.Items type values) = copies (length values.now) (shape_of t type)
+shapes_of t members.Empty = no_members
+shapes_of t (members.Single type value) = member [] (shape_of t type) no_members
+shapes_of t (members.Pairs i values) = row_of (shape_of t (ty.Map i)) (length values.now)
+
+abbrev pub values_of : Members → List Val
+values_of (members.Fields i values) = values_in values.now
+values_of (members.Places i values) = values.now
+values_of (members.Items type values) = values.now
+values_of members.Empty = []
+values_of (members.Single type value) = value.now ∷ []
+values_of (members.Pairs i values) = by_turns values.now
+
+abbrev pub names_of : Members → List Name
+names_of (members.Fields i values) = names_in values.now
+names_of (members.Places i values) = no_names values.now
+names_of (members.Items type values) = no_names values.now
+names_of members.Empty = []
+names_of (members.Single type value) = [] ∷ []
+names_of (members.Pairs i values) = no_names (by_turns values.now)
+
+-- the table knows their types, as many as there are values
+abbrev pub AreKnown : Table → Members → Type 0
+AreKnown t (members.Fields i values) = Knows t (ty.Record i) × (length values.now ≡ member_count (product_members (shape_of t (ty.Record i))))
+AreKnown t (members.Places i values) = HasTuple t i × (length values.now ≡ member_count (tuple_members t i))
+AreKnown t (members.Items type values) = Knows t type
+AreKnown t members.Empty = Unit {0}
+AreKnown t (members.Single type value) = Knows t type
+AreKnown t (members.Pairs i values) = Knows t (ty.Map i) × IsMap (shape_of t (ty.Map i)) × (length values.now < 2 ^ 32)
+
+-- of pairs there are fewer than 2^32
+abbrev pub AreFew : Members → Type 0
+AreFew (members.Pairs i values) = length values.now < 2 ^ 32
+AreFew _ = ⊤
+
+-- of members of these shapes, names and values, the one of number k
+pub record IsMember (t : Table) (ms : shape.Members) (all : List Name) (vs : List Val) (k : ℕ) (m : Member) : Type 0 where
+  pub known : Knows t m.ty
+  pub name : Name
+  pub named : Name
+  pub same : IsTrue m.is_named ↔ (named ≡ name)
+  pub shapes : members_from k ms ≡ member name (shape_of t m.ty) (members_from (k + 1) ms)
+  pub names : drop k all ≡ named ∷ drop (k + 1) all
+  pub values : drop k vs ≡ m.value.now ∷ drop (k + 1) vs

@@ -1,0 +1,85 @@
+-- How words are written one after another: each value's from its first word on, and its fault, if it fails, at its place.
+-- A core goes from one to another.
+use Rattle.std.specs.Prelude.{◌≡◌, ◌+◌, ◌<◌, ◌%◌, ◌^◌, Err, IfOk, List, Ok, Result, Some, length, slice_index, ℕ, false}
+use Rattle.canon_lowering.specs.Attempt.{LowersMembers, LowersValue}
+use Rattle.canon_memory.specs.Guest.{GuestIn, Seen}
+use Rattle.canon_memory.specs.declared.event.Event.{Event}
+use Rattle.canon_model.specs.Flat.{AreZero, IsLeastWord, flat_bits}
+use Rattle.canon_model.specs.Layout.{flat, members_flat}
+use Rattle.canon_model.specs.Rep.{ScalarIs}
+use Rattle.canon_model.specs.Shape.{Members, Name, Scalar, Shape}
+use Rattle.canon_model.specs.Tree.{Tree}
+use Rattle.canon_types.specs.declared.types.InterfaceType.{InterfaceType}
+use Rattle.canon_plan.specs.NoHandle.{scalar_type}
+use Rattle.canon_context.specs.Core.{Parts, encoding_by, guest_of, moment_of}
+use Rattle.canon_value_parts.specs.Fails.{FailsAt, IsOtherScalar}
+use Rattle.canon_context.specs.Lowers.{ending_of}
+use Rattle.canon_context.specs.Moves.{Moves}
+use Rattle.canon_context.specs.Quiet.{Quiet, has_block, have_block}
+use Rattle.canon_context.specs.Asks.{SameButHandles}
+use Rattle.canon_value_parts.specs.Resources.{LowersHandles, all_passes, passes}
+use Rattle.canon_value_parts.specs.Stores.{Counts, FieldsCount}
+use Rattle.canon_val.specs.Value.{HasScalar, HasTree, HaveTrees, cap, member_names, places}
+use Rattle.canon_context.specs.declared.fault.Fault.{Fault}
+use Rattle.canon_value_parts.specs.declared.spot.Spot.{Spot}
+use Rattle.canon_val.specs.declared.val.Val.{Val}
+
+-- the first member of a value that has members and stands there
+abbrev pub inside : Spot → Spot
+inside from = record { word = from.word; place = cap (from.place + 1) }
+
+-- the payload of a case whose number stands there
+abbrev pub behind_tag : Spot → Spot
+behind_tag from = record { word = from.word + 1; place = cap (from.place + 1) }
+
+-- The word strictly represents the scalar.
+abbrev pub IsWordOf : InterfaceType → Val → ℕ → Type 0
+IsWordOf type v w = (k : Scalar) × (t : Tree) × (scalar_type type ≡ Some k) × HasScalar k v t × ScalarIs k (w % 2 ^ flat_bits k) t × IsLeastWord k w
+
+-- the value isn't of the scalar type
+abbrev pub IsNoneOf : InterfaceType → Val → Type 0
+IsNoneOf type v = (k : Scalar) → scalar_type type ≡ Some k → IsOtherScalar k v
+
+-- where the next value's first word is, and its place
+abbrev pub place_after : Result Spot Fault → Result ℕ Fault
+place_after (Ok to) = Ok to.place
+place_after (Err e) = Err e
+
+abbrev pub WordsPassed : Spot → ℕ → Result Spot Fault → Type 0
+WordsPassed from n result = IfOk result (λ to. to.word ≡ from.word + n)
+
+-- the words before word i, and how many there are, stay
+pub record WordsStay (i : ℕ) (dst dst2 : List ℕ) : Type 0 where
+  pub same_length : length dst2 ≡ length dst
+  pub before : (p : ℕ) → p < i → slice_index dst2 p ≡ slice_index dst p
+
+-- the words from i up to e become 0, and those before stay
+pub record Clears (i e : ℕ) (dst dst2 : List ℕ) : Type 0 where
+  pub same_length : length dst2 ≡ length dst
+  pub zeros : AreZero dst2 i e
+  pub before : (p : ℕ) → p < i → slice_index dst2 p ≡ slice_index dst p
+
+module _ {T G : Type 0} (seen : G → Seen) (moves : GuestIn G → List Event → GuestIn G → Type 0) (options : ℕ) (before after : Parts T G) (dst dst2 : List ℕ) (from : Spot) (result : Result Spot Fault) where
+  -- a value of the shape s
+  pub record LowersTo (s : Shape) (v : Val) : Type 0 where
+    pub handles : List ℕ
+    pub lowered : LowersValue false (moment_of seen before) (moment_of seen after) (encoding_by before options) s dst2 from.word (HasTree s v) handles (ending_of result)
+    pub handed : LowersHandles before.component.types before.ledger after.ledger (passes v s) handles result
+    pub stays : WordsStay from.word dst dst2
+    pub passed : WordsPassed from (flat s) result
+    pub counted : Counts (encoding_by before options) (λ how k. FailsAt how s v k) from.place (places v) (place_after result)
+    pub moved : Moves seen moves (guest_of before) (guest_of after) (ending_of result)
+    pub same : SameButHandles before after
+    pub quiet : Quiet (has_block s) (after ≡ record before { ledger = after.ledger }) result
+
+  -- values in a row as members; the names of a record that has this place are tested
+  pub record PartsLowerTo (place : ℕ) (ms : Members) (names : List Name) (vs : List Val) : Type 0 where
+    pub handles : List ℕ
+    pub lowered : LowersMembers false (moment_of seen before) (moment_of seen after) (encoding_by before options) ms dst2 from.word (λ ts. (names ≡ member_names ms) × HaveTrees ms vs ts) handles (ending_of result)
+    pub handed : LowersHandles before.component.types before.ledger after.ledger (all_passes ms vs) handles result
+    pub stays : WordsStay from.word dst dst2
+    pub passed : WordsPassed from (members_flat ms) result
+    pub counted : FieldsCount (encoding_by before options) place ms names vs from.place (place_after result)
+    pub moved : Moves seen moves (guest_of before) (guest_of after) (ending_of result)
+    pub same : SameButHandles before after
+    pub quiet : Quiet (have_block ms) (after ≡ record before { ledger = after.ledger }) result

@@ -1,0 +1,84 @@
+//! Blocks of texts and lists, which the guest is asked for.
+
+ghost use Rattle.std.specs.Prelude.{◌≡◌, ◌≤◌, ◌<◌, ◌+◌, ◌*◌, ◌^◌, false, length};
+ghost use Rattle.canon_lowering.specs.Attempt.{args_call, items_call};
+ghost use Rattle.canon_memory.specs.Realloc.{call};
+ghost use Rattle.canon_model.specs.Laws.{IsAlignment};
+ghost use Rattle.canon_model.specs.Layout.{size};
+ghost use Rattle.canon_model.specs.Shape.{string};
+ghost use Rattle.canon_types.specs.Depth.{element_shape};
+ghost use Rattle.canon_types.specs.Table.{HasTuple, tuple_members};
+ghost use Rattle.canon_context.specs.Core.{encoding_by, types_of};
+ghost use Rattle.canon_plan.specs.Element.{IsKnown, list_shape};
+ghost use Rattle.canon_context.specs.Asks.{AsksFor};
+ghost use Rattle.canon_value_parts.specs.Stores.{PlacesTo};
+ghost use Rattle.canon_val.specs.declared.val.Val.TheVariants as val;
+
+use canon_context::{Fault, LowerContext, ask};
+use canon_memory::Guest;
+use canon_plan::{Element, element_abi};
+use canon_string::put_text;
+use canon_types::TypeTupleIndex;
+
+/// Where a text or a list stands, its length, and the place of the value after it.
+#[derive(Clone, Copy)]
+pub struct Placed {
+    pub pointer: u64,
+    pub length: u64,
+    pub next: u64,
+}
+
+/// Puts a text that has this place among the values into a block of its own.
+pub fn place_text<T, G: Guest>(
+    cx: &mut LowerContext<'_, T, G>,
+    text: &String,
+    place: u64,
+) -> Result<Placed, Fault>
+    requires small { length cx.old.core.now.memory ≤ 2 ^ 32 }
+    ensures places { PlacesTo G.seen G.moves cx.old.options cx.old.core.now cx.new.core.now string (val.String text.now) place result }
+    ensures same_reference { cx.new.core.ghost_name ≡ cx.old.core.ghost_name }
+    ensures same_options { cx.new.options ≡ cx.old.options }
+{
+    match put_text(cx, text.as_bytes()) {
+        Ok(block) => Ok(Placed {
+            pointer: block.pointer,
+            length: block.length,
+            next: place.saturating_add(1),
+        }),
+        Err(fault) => Err(fault),
+    }
+}
+
+/// The block of a list of so many elements.
+pub fn ask_items<T, G: Guest>(
+    cx: &mut LowerContext<'_, T, G>,
+    element: &Element,
+    length: u64,
+    bytes: u64,
+) -> Result<u64, Fault>
+    requires known { IsKnown (types_of cx.old.core.now) element.now }
+    requires whole { bytes ≡ length * size false (element_shape (list_shape (types_of cx.old.core.now) element.now)) }
+    requires sized { bytes < 2 ^ 32 }
+    ensures asked { AsksFor G.seen G.moves cx.old.core.now cx.new.core.now (items_call false (element_shape (list_shape (types_of cx.old.core.now) element.now)) length) result }
+    ensures same_reference { cx.new.core.ghost_name ≡ cx.old.core.ghost_name }
+    ensures same_options { cx.new.options ≡ cx.old.options }
+{
+    let _ = length;
+    let align = element_abi(cx.types(), element).align32;
+    ask(cx, align, bytes)
+}
+
+/// The address of the block of a function's parameters as a tuple, which the guest is asked for (CanonicalABI.md,
+/// "lower_flat_values"). Answers the errors of `LowerContext::realloc`.
+pub fn ask_tuple<T, G: Guest>(
+    cx: &mut LowerContext<'_, T, G>,
+    ty: TypeTupleIndex,
+) -> Result<u64, Fault>
+    requires tuple { HasTuple (types_of cx.old.core.now) ty }
+    ensures asked { AsksFor G.seen G.moves cx.old.core.now cx.new.core.now (args_call false (tuple_members (types_of cx.old.core.now) ty)) result }
+    ensures same_reference { cx.new.core.ghost_name ≡ cx.old.core.ghost_name }
+    ensures same_options { cx.new.options ≡ cx.old.options }
+{
+    let abi = cx.types().tuple(ty).abi;
+    ask(cx, abi.align32, u64::from(abi.size32))
+}
