@@ -130,7 +130,10 @@ impl<'a, T, G> LiftContext<'a, T, G> {
         index: u32,
     ) -> Result<(u32, Option<u32>, Option<RuntimeInstance>), Fault>
         requires known { HasResource (types_of self.old.core.now) t }
-        ensures step { SteppedSurely (mapped (λ rep. (rep, dtor_for self.old.core.now.component.types t, instance_for self.old.core.now.component.types t)) (ledger.resource_lift_own self.old.core.now.ledger (table_for self.old.core.now.component.types t) (ComponentIndex t index))) result self.new.core.now.ledger }
+        ensures step { SteppedSurely
+            (mapped (λ rep. (rep, dtor_for self.old.core.now.component.types t, instance_for self.old.core.now.component.types t))
+            (ledger.resource_lift_own self.old.core.now.ledger (table_for self.old.core.now.component.types t) (ComponentIndex t index)))
+            result self.new.core.now.ledger }
         ensures places { SamePlaces self.old.core.now.ledger self.new.core.now.ledger }
         ensures same { SameButLedger self.old.core.now self.new.core.now }
         ensures rest { self.new ≡ record self.old { core = self.new.core } }

@@ -68,7 +68,9 @@ impl<
         ensures served { IfSome (slice_get (types_of cx.entry.core.now).funcs cx.entry.ty) (λ t. ServedBy F.Fn self.old.func G.seen G.moves (record { ty = cx.entry.ty; func = t; options = cx.entry.options }) cx.entry.core.now storage.old result cx.exit.0.now storage.new) }
         ensures counts { CountsOnce result self.old.refusals self.new.refusals }
         ensures refusals { self.old.refusals ≤ self.new.refusals }
-        ensures serves { IfSome (slice_get (types_of cx.entry.core.now).funcs cx.entry.ty) (λ t. ServesImport AnyAnswer None n G.seen G.moves (record { ty = cx.entry.ty; func = t; options = cx.entry.options }) None self.old.refusals self.new.refusals cx.entry.core.now storage.old result cx.exit.0.now storage.new) }
+        ensures serves { IfSome (slice_get (types_of cx.entry.core.now).funcs cx.entry.ty)
+            (λ t. ServesImport AnyAnswer None n G.seen G.moves (record { ty = cx.entry.ty; func = t; options = cx.entry.options }) None
+            self.old.refusals self.new.refusals cx.entry.core.now storage.old result cx.exit.0.now storage.new) }
         ensures same { cx.exit.0.now ≡ record cx.entry.core.now { state = cx.exit.0.now.state; guest = cx.exit.0.now.guest; memory = cx.exit.0.now.memory; ledger = cx.exit.0.now.ledger } }
     {
         // A component with several functions has a field for each, and `n` says which import is asked for.
@@ -98,7 +100,9 @@ fn serve_by<
     ensures served { IfSome (slice_get (types_of cx.entry.core.now).funcs cx.entry.ty) (λ t. ServedBy F.Fn func.now G.seen G.moves (record { ty = cx.entry.ty; func = t; options = cx.entry.options }) cx.entry.core.now storage.old result cx.exit.0.now storage.new) }
     ensures counts { CountsOnce result refusals.old refusals.new }
     ensures refusals { refusals.old ≤ refusals.new }
-    ensures serves { IfSome (slice_get (types_of cx.entry.core.now).funcs cx.entry.ty) (λ t. ServesImport AnyAnswer None n G.seen G.moves (record { ty = cx.entry.ty; func = t; options = cx.entry.options }) None refusals.old refusals.new cx.entry.core.now storage.old result cx.exit.0.now storage.new) }
+    ensures serves { IfSome (slice_get (types_of cx.entry.core.now).funcs cx.entry.ty)
+        (λ t. ServesImport AnyAnswer None n G.seen G.moves (record { ty = cx.entry.ty; func = t; options = cx.entry.options }) None refusals.old
+        refusals.new cx.entry.core.now storage.old result cx.exit.0.now storage.new) }
     ensures same { cx.exit.0.now ≡ record cx.entry.core.now { state = cx.exit.0.now.state; guest = cx.exit.0.now.guest; memory = cx.exit.0.now.memory; ledger = cx.exit.0.now.ledger } }
 {
     match func.entrypoint(alloc, cx, storage) {

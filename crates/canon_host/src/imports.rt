@@ -50,7 +50,10 @@ pub trait Imports<T, G: Guest> {
         ensures still_ready { ready self.new }
         ensures plan { plan self.new ≡ plan self.old }
         ensures refusals { refusals self.old ≤ refusals self.new }
-        ensures serves { IfSome (slice_get (types_of cx.entry.core.now).funcs cx.entry.ty) (λ t. ServesImport (gives (plan self.old)) (log self.old) n G.seen G.moves (record { ty = cx.entry.ty; func = t; options = cx.entry.options }) (log self.new) (refusals self.old) (refusals self.new) cx.entry.core.now storage.old result cx.exit.0.now storage.new) }
+        ensures serves { IfSome (slice_get (types_of cx.entry.core.now).funcs cx.entry.ty)
+            (λ t. ServesImport (gives (plan self.old)) (log self.old) n G.seen G.moves
+            (record { ty = cx.entry.ty; func = t; options = cx.entry.options }) (log self.new) (refusals self.old) (refusals self.new)
+            cx.entry.core.now storage.old result cx.exit.0.now storage.new) }
         ensures same { cx.exit.0.now ≡ record cx.entry.core.now { state = cx.exit.0.now.state; guest = cx.exit.0.now.guest; memory = cx.exit.0.now.memory; ledger = cx.exit.0.now.ledger } };
 
     // those over Rust types keep the laws of the traits `ComponentType`, `Lift` and `Lower`

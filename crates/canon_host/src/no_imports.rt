@@ -105,7 +105,9 @@ impl<T, G: Guest> Imports<T, G> for NoImports {
         ensures still_ready { Unit {0} }
         ensures plan { tt {0} ≡ tt {0} }
         ensures refusals { self.old.refusals ≤ self.new.refusals }
-        ensures serves { IfSome (slice_get (types_of cx.entry.core.now).funcs cx.entry.ty) (λ t. ServesImport RefusesAll (Some []) n G.seen G.moves (record { ty = cx.entry.ty; func = t; options = cx.entry.options }) (Some []) self.old.refusals self.new.refusals cx.entry.core.now storage.old result cx.exit.0.now storage.new) }
+        ensures serves { IfSome (slice_get (types_of cx.entry.core.now).funcs cx.entry.ty)
+            (λ t. ServesImport RefusesAll (Some []) n G.seen G.moves (record { ty = cx.entry.ty; func = t; options = cx.entry.options }) (Some [])
+            self.old.refusals self.new.refusals cx.entry.core.now storage.old result cx.exit.0.now storage.new) }
         ensures same { cx.exit.0.now ≡ record cx.entry.core.now { state = cx.exit.0.now.state; guest = cx.exit.0.now.guest; memory = cx.exit.0.now.memory; ledger = cx.exit.0.now.ledger } }
     {
         match refuse(alloc, cx, storage) {

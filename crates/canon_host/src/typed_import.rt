@@ -38,8 +38,13 @@ pub fn serve_typed_import<
     requires room { HasRoomFor (types_of cx.core.now) cx.ty storage.old }
     ensures refusals { refusals.old ≤ refusals.new }
     ensures counts { CountsOnce result refusals.old refusals.new }
-    ensures serves { IfSome (slice_get (types_of cx.entry.core.now).funcs cx.entry.ty) (λ t. ServesTypes (rust_types P.fits R.fits P.reading P.is_told P.lifts P.cost R.means R.walks R.gives) (MayGive F.Fn func.now) None G.seen G.moves (record { ty = cx.entry.ty; func = t; options = cx.entry.options }) None refusals.old refusals.new cx.entry.core.now storage.old result cx.exit.0.now storage.new) }
-    ensures served { IfSome (slice_get (types_of cx.entry.core.now).funcs cx.entry.ty) (λ t. ServedByTyped F.Fn func.now (rust_types P.fits R.fits P.reading P.is_told P.lifts P.cost R.means R.walks R.gives) G.seen G.moves (record { ty = cx.entry.ty; func = t; options = cx.entry.options }) cx.entry.core.now storage.old result cx.exit.0.now storage.new) }
+    ensures serves { IfSome (slice_get (types_of cx.entry.core.now).funcs cx.entry.ty)
+        (λ t. ServesTypes (rust_types P.fits R.fits P.reading P.is_told P.lifts P.cost R.means R.walks R.gives) (MayGive F.Fn func.now) None
+        G.seen G.moves (record { ty = cx.entry.ty; func = t; options = cx.entry.options }) None refusals.old refusals.new cx.entry.core.now
+        storage.old result cx.exit.0.now storage.new) }
+    ensures served { IfSome (slice_get (types_of cx.entry.core.now).funcs cx.entry.ty)
+        (λ t. ServedByTyped F.Fn func.now (rust_types P.fits R.fits P.reading P.is_told P.lifts P.cost R.means R.walks R.gives) G.seen G.moves
+        (record { ty = cx.entry.ty; func = t; options = cx.entry.options }) cx.entry.core.now storage.old result cx.exit.0.now storage.new) }
     ensures same { cx.exit.0.now ≡ record cx.entry.core.now { state = cx.exit.0.now.state; guest = cx.exit.0.now.guest; memory = cx.exit.0.now.memory; ledger = cx.exit.0.now.ledger } }
 {
     let HostCx { core, ty, options } = cx;
@@ -76,8 +81,13 @@ fn serve_fitting<
     requires room { HasRoomFor (types_of cx.core.now) cx.ty storage.old }
     ensures refusals { refusals.old ≤ refusals.new }
     ensures counts { CountsOnce result refusals.old refusals.new }
-    ensures serves { IfSome (slice_get (types_of cx.entry.core.now).funcs cx.entry.ty) (λ t. ServesTypes (rust_types P.fits R.fits P.reading P.is_told P.lifts P.cost R.means R.walks R.gives) (MayGive F.Fn func.now) None G.seen G.moves (record { ty = cx.entry.ty; func = t; options = cx.entry.options }) None refusals.old refusals.new cx.entry.core.now storage.old result cx.exit.0.now storage.new) }
-    ensures served { IfSome (slice_get (types_of cx.entry.core.now).funcs cx.entry.ty) (λ t. ServedByTyped F.Fn func.now (rust_types P.fits R.fits P.reading P.is_told P.lifts P.cost R.means R.walks R.gives) G.seen G.moves (record { ty = cx.entry.ty; func = t; options = cx.entry.options }) cx.entry.core.now storage.old result cx.exit.0.now storage.new) }
+    ensures serves { IfSome (slice_get (types_of cx.entry.core.now).funcs cx.entry.ty)
+        (λ t. ServesTypes (rust_types P.fits R.fits P.reading P.is_told P.lifts P.cost R.means R.walks R.gives) (MayGive F.Fn func.now) None
+        G.seen G.moves (record { ty = cx.entry.ty; func = t; options = cx.entry.options }) None refusals.old refusals.new cx.entry.core.now
+        storage.old result cx.exit.0.now storage.new) }
+    ensures served { IfSome (slice_get (types_of cx.entry.core.now).funcs cx.entry.ty)
+        (λ t. ServedByTyped F.Fn func.now (rust_types P.fits R.fits P.reading P.is_told P.lifts P.cost R.means R.walks R.gives) G.seen G.moves
+        (record { ty = cx.entry.ty; func = t; options = cx.entry.options }) cx.entry.core.now storage.old result cx.exit.0.now storage.new) }
     ensures same { cx.exit.0.now ≡ record cx.entry.core.now { state = cx.exit.0.now.state; guest = cx.exit.0.now.guest; memory = cx.exit.0.now.memory; ledger = cx.exit.0.now.ledger } }
 {
     match func.entrypoint(alloc, cx, storage) {

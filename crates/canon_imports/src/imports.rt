@@ -189,7 +189,10 @@ impl<T, G: Guest> Imports<T, G> for ScriptedImports {
         ensures still_ready { Unit {0} }
         ensures plan { self.new.answers ≡ self.old.answers }
         ensures refusals { self.old.refusals ≤ self.new.refusals }
-        ensures serves { IfSome (slice_get (types_of cx.entry.core.now).funcs cx.entry.ty) (λ t. ServesImport (GivesAnswers (answers_view self.old.answers.items)) (Some (entries_of self.old.lines.items)) n G.seen G.moves (record { ty = cx.entry.ty; func = t; options = cx.entry.options }) (Some (entries_of self.new.lines.items)) self.old.refusals self.new.refusals cx.entry.core.now storage.old result cx.exit.0.now storage.new) }
+        ensures serves { IfSome (slice_get (types_of cx.entry.core.now).funcs cx.entry.ty)
+            (λ t. ServesImport (GivesAnswers (answers_view self.old.answers.items)) (Some (entries_of self.old.lines.items)) n G.seen G.moves
+            (record { ty = cx.entry.ty; func = t; options = cx.entry.options }) (Some (entries_of self.new.lines.items)) self.old.refusals
+            self.new.refusals cx.entry.core.now storage.old result cx.exit.0.now storage.new) }
         ensures same { cx.exit.0.now ≡ record cx.entry.core.now { state = cx.exit.0.now.state; guest = cx.exit.0.now.guest; memory = cx.exit.0.now.memory; ledger = cx.exit.0.now.ledger } }
     {
         if self.lines.reserve(1).is_err() {

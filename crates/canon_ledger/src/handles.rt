@@ -113,7 +113,9 @@ impl StoreHandles {
         requires within { table < length self.old.tables.items }
         requires scope_open { number < length self.old.scopes.items }
         requires sound { IsConsistent (handles_of self.old.tables.items self.old.counter self.old.scopes.items) }
-        ensures { Takes (handles.lower_borrow_in (Some number) (handles_of self.old.tables.items self.old.counter self.old.scopes.items) table resource) result (handles_of self.old.tables.items self.old.counter self.old.scopes.items) (handles_of self.new.tables.items self.new.counter self.new.scopes.items) }
+        ensures { Takes (handles.lower_borrow_in (Some number) (handles_of self.old.tables.items self.old.counter self.old.scopes.items) table resource)
+            result (handles_of self.old.tables.items self.old.counter self.old.scopes.items)
+            (handles_of self.new.tables.items self.new.counter self.new.scopes.items) }
     {
         let index = self.insert_entry(table, resource, number)?;
         let _live = self.counter.live(); // the counter is below 2^64
@@ -243,7 +245,9 @@ impl StoreHandles {
         requires within { table < length self.old.tables.items }
         requires scope_open { number < length self.old.scopes.items }
         requires sound { IsConsistent (handles_of self.old.tables.items self.old.counter self.old.scopes.items) }
-        ensures { Takes (handles.lift_borrow_in (Some number) (handles_of self.old.tables.items self.old.counter self.old.scopes.items) table index) result (handles_of self.old.tables.items self.old.counter self.old.scopes.items) (handles_of self.new.tables.items self.new.counter self.new.scopes.items) }
+        ensures { Takes (handles.lift_borrow_in (Some number) (handles_of self.old.tables.items self.old.counter self.old.scopes.items) table index)
+            result (handles_of self.old.tables.items self.old.counter self.old.scopes.items)
+            (handles_of self.new.tables.items self.new.counter self.new.scopes.items) }
     {
         let seen = &index;
         if self.reserve_lender(number).is_err() {
@@ -263,7 +267,9 @@ impl StoreHandles {
         index: TypedResourceIndex,
     ) -> Result<u32, ResourceFault>
         requires within { table < length self.now.tables.items }
-        ensures { TakesSurely (handles.lift_borrow_in None (handles_of self.now.tables.items self.now.counter self.now.scopes.items) table index) result (handles_of self.now.tables.items self.now.counter self.now.scopes.items) (handles_of self.now.tables.items self.now.counter self.now.scopes.items) }
+        ensures { TakesSurely (handles.lift_borrow_in None (handles_of self.now.tables.items self.now.counter self.now.scopes.items) table index)
+            result (handles_of self.now.tables.items self.now.counter self.now.scopes.items)
+            (handles_of self.now.tables.items self.now.counter self.now.scopes.items) }
     {
         let seen = &index;
         let rep = self.rep(table, *seen)?;

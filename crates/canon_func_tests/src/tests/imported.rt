@@ -70,8 +70,14 @@ impl<
         ensures still_ready { StaticKeeps F.Fn self.new.func }
         ensures plan { self.new.func ≡ self.old.func }
         ensures refusals { self.old.refusals ≤ self.new.refusals }
-        ensures serves { IfSome (slice_get (types_of cx.entry.core.now).funcs cx.entry.ty) (λ t. ServesImport (gives_types (rust_types P.fits R.fits P.reading P.is_told P.lifts P.cost R.means R.walks R.gives) (MayGive F.Fn self.old.func)) None _n G.seen G.moves (record { ty = cx.entry.ty; func = t; options = cx.entry.options }) None self.old.refusals self.new.refusals cx.entry.core.now storage.old result cx.exit.0.now storage.new) }
-        ensures served { IfSome (slice_get (types_of cx.entry.core.now).funcs cx.entry.ty) (λ t. ServedByTyped F.Fn self.old.func (rust_types P.fits R.fits P.reading P.is_told P.lifts P.cost R.means R.walks R.gives) G.seen G.moves (record { ty = cx.entry.ty; func = t; options = cx.entry.options }) cx.entry.core.now storage.old result cx.exit.0.now storage.new) }
+        ensures serves { IfSome (slice_get (types_of cx.entry.core.now).funcs cx.entry.ty)
+            (λ t. ServesImport (gives_types (rust_types P.fits R.fits P.reading P.is_told P.lifts P.cost R.means R.walks R.gives)
+            (MayGive F.Fn self.old.func)) None _n G.seen G.moves (record { ty = cx.entry.ty; func = t; options = cx.entry.options }) None
+            self.old.refusals self.new.refusals cx.entry.core.now storage.old result cx.exit.0.now storage.new) }
+        ensures served { IfSome (slice_get (types_of cx.entry.core.now).funcs cx.entry.ty)
+            (λ t. ServedByTyped F.Fn self.old.func (rust_types P.fits R.fits P.reading P.is_told P.lifts P.cost R.means R.walks R.gives) G.seen
+            G.moves (record { ty = cx.entry.ty; func = t; options = cx.entry.options }) cx.entry.core.now storage.old result cx.exit.0.now
+            storage.new) }
         ensures counts { CountsOnce result self.old.refusals self.new.refusals }
         ensures same { cx.exit.0.now ≡ record cx.entry.core.now { state = cx.exit.0.now.state; guest = cx.exit.0.now.guest; memory = cx.exit.0.now.memory; ledger = cx.exit.0.now.ledger } }
     {

@@ -7,7 +7,10 @@ use Rattle.canon_ledger.proofs.handles.StoreHandles.drop_handle.Goals as goal
 
 pub drop_borrow-requires-clause-scope_open : goal.drop_borrow-requires-clause-scope_open
 drop_borrow-requires-clause-scope_open c =
-    let w = removed_counts (handles_of c.args.self.now.tables.items c.args.self.now.counter c.args.self.now.scopes.items) c.args.table c.args.index c.in-Borrow.scope (handles_of c.remove.new.self.tables.items c.remove.new.self.counter c.remove.new.self.scopes.items) c.requires.sound (c.in_ok-rep.ensures ∙ ap (λ (r : RemovedResource). Ok (r, handles_of c.remove.new.self.tables.items c.remove.new.self.counter c.remove.new.self.scopes.items)) c.in-Borrow.is) in
+    let w = removed_counts (handles_of c.args.self.now.tables.items c.args.self.now.counter c.args.self.now.scopes.items) c.args.table c.args.index
+    c.in-Borrow.scope (handles_of c.remove.new.self.tables.items c.remove.new.self.counter c.remove.new.self.scopes.items) c.requires.sound
+    (c.in_ok-rep.ensures ∙ ap (λ (r : RemovedResource). Ok
+    (r, handles_of c.remove.new.self.tables.items c.remove.new.self.counter c.remove.new.self.scopes.items)) c.in-Borrow.is) in
     let m = length-map c.remove.new.self.scopes.items (λ (x : Context). x.scope) in
     let lt = w.0 in
     omega arith

@@ -8,7 +8,9 @@ use Rattle.canon_ledger.proofs.handles.StoreHandles.insert_borrow.Goals as goal
 pub add_borrow-requires : goal.add_borrow-requires
 add_borrow-requires c =
     let a = borrow_count_le (handles_of c.args.self.now.tables.items c.args.self.now.counter c.args.self.now.scopes.items) c.requires.sound c.args.number in
-    let b = live_inserted (handles_of c.args.self.now.tables.items c.args.self.now.counter c.args.self.now.scopes.items) c.args.table c.args.number c.args.resource c.in_ok-index.index (handles_of c.insert_entry.new.self.tables.items c.insert_entry.new.self.counter c.insert_entry.new.self.scopes.items) c.in_ok-index.ensures.step in
+    let b = live_inserted (handles_of c.args.self.now.tables.items c.args.self.now.counter c.args.self.now.scopes.items) c.args.table c.args.number
+    c.args.resource c.in_ok-index.index (handles_of c.insert_entry.new.self.tables.items c.insert_entry.new.self.counter
+    c.insert_entry.new.self.scopes.items) c.in_ok-index.ensures.step in
     let d : (scope_at (handles_of c.args.self.now.tables.items c.args.self.now.counter c.args.self.now.scopes.items) c.args.number).borrow_count ≡ c.index_mut.result.now.scope.borrow_count =
     ap (λ (l : List Context). (scope_at (handles_of c.args.self.now.tables.items c.args.self.now.counter l) c.args.number).borrow_count) (sym c.insert_entry.ensures.scopes)
     ∙ ap (λ (s : OpenScope). s.borrow_count)

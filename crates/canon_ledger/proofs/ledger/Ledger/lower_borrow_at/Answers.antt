@@ -15,4 +15,9 @@ write_at-requires c =
 
 pub invariant_of-self-2 : goal.invariant_of-self-2
 invariant_of-self-2 c =
-    kept_lower_borrow (ledger_of c.self.inside.handles.tables.items c.self.inside.handles.counter c.self.inside.handles.scopes.items c.self.inside.host.indexes) c.args.number c.args.table c.args.resource c.in_ok-index.index (handles_of c.insert_borrow.new.self.tables.items c.insert_borrow.new.self.counter c.insert_borrow.new.self.scopes.items) c.write_at.new.self.indexes (let v = ap (λ (l : LedgerState). length l.handles.scopes) c.self.view_is in let h = c.requires.scope_open in omega arith) c.in_ok-index.ensures (c.write_at.ensures ∙ ap (written_at c.args.table c.in_ok-index.index) c.reserve_at.ensures.indexes) c.self.invariant
+    kept_lower_borrow (ledger_of c.self.inside.handles.tables.items c.self.inside.handles.counter c.self.inside.handles.scopes.items
+    c.self.inside.host.indexes) c.args.number c.args.table c.args.resource c.in_ok-index.index
+    (handles_of c.insert_borrow.new.self.tables.items c.insert_borrow.new.self.counter c.insert_borrow.new.self.scopes.items)
+    c.write_at.new.self.indexes
+    (let v = ap (λ (l : LedgerState). length l.handles.scopes) c.self.view_is in let h = c.requires.scope_open in omega arith) c.in_ok-index.ensures
+    (c.write_at.ensures ∙ ap (written_at c.args.table c.in_ok-index.index) c.reserve_at.ensures.indexes) c.self.invariant
