@@ -11,7 +11,7 @@ mod keep;
 mod members;
 mod rebuild;
 mod rebuild_case;
-mod scalars;
+mod scalar;
 mod spot;
 mod view;
 
@@ -26,6 +26,6 @@ pub use keep::keep;
 pub use members::{Member, Members, count_of, member_of, members_in};
 pub use rebuild::rebuild;
 pub use rebuild_case::rebuild_case;
-pub use scalars::{load_scalar, scalar_word};
+pub use scalar::{load_scalar, scalar_word};
 pub use spot::Spot;
 pub use view::{View, view_of};
