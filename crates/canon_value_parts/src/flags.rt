@@ -24,7 +24,7 @@ ghost use Rattle.canon_val.specs.Value.{Occurs};
 ghost use Rattle.canon_value_parts.specs.Words.{LowersTo, WordsStay};
 ghost use Rattle.canon_val.specs.declared.val.Val.TheVariants as val;
 
-use crate::keep::keep;
+use crate::lists::keep;
 use crate::spot::Spot;
 use canon_context::{Fault, LowerContext, Source, charge};
 use canon_memory::{Guest, ValRaw};

@@ -7,11 +7,11 @@ mod case_view;
 mod elements;
 mod flags;
 mod handles;
-mod keep;
+mod lists;
 mod members;
-mod rebuild;
-mod rebuild_case;
-mod scalars;
+mod rebuilt;
+mod rebuilt_case;
+mod scalar;
 mod spot;
 mod view;
 
@@ -22,10 +22,10 @@ pub use flags::{
     Marks, flags_of, lift_flags, load_flags, lower_names, mark_byte, number_of, store_names,
 };
 pub use handles::{give_handle, take_handle, told};
-pub use keep::keep;
+pub use lists::keep;
 pub use members::{Member, Members, count_of, member_of, members_in};
-pub use rebuild::rebuild;
-pub use rebuild_case::rebuild_case;
-pub use scalars::{load_scalar, scalar_word};
+pub use rebuilt::rebuild;
+pub use rebuilt_case::rebuild_case;
+pub use scalar::{load_scalar, scalar_word};
 pub use spot::Spot;
 pub use view::{View, view_of};

@@ -10,7 +10,7 @@ ghost use Rattle.canon_value_parts.specs.Viewed.{Viewed};
 use crate::case_view::{Case, enum_view, option_view, result_view, variant_view};
 use crate::elements::Elements;
 use crate::members::Members;
-use crate::scalars::scalar_word;
+use crate::scalar::scalar_word;
 use canon_context::Fault;
 use canon_plan::HandleType;
 use canon_resources::ResourceAny;

@@ -6,7 +6,7 @@ use Rattle.canon_types.specs.declared.types.InterfaceType.TheVariants as ty
 use Rattle.canon_val.specs.Value.{IsFirst, case_names}
 use Rattle.canon_plan.proofs.CasePlans.{count_names}
 use Rattle.canon_value_parts.proofs.CaseValues.{first_of_names}
-use Rattle.canon_value_parts.proofs.rebuild_case.enum_value.Goals as goal
+use Rattle.canon_value_parts.proofs.rebuilt_case.enum_value.Goals as goal
 
 pub unwrap-name-requires : goal.unwrap-name-requires
 unwrap-name-requires c = c.get_index.ensures.found.1 (omega (arith, c.requires.tag, count_names c.args.types.now c.args.i c.enum_.result.now.names.keys c.enum_.ensures.entry))

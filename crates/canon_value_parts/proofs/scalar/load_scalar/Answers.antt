@@ -6,7 +6,7 @@ use Rattle.canon_model.specs.Shape.{bool, char, f32, f64, s16, s32, s64, s8, u16
 use Rattle.canon_model.specs.Tree.{number, truth}
 use Rattle.canon_plan.specs.NoHandle.{scalar_type}
 use Rattle.canon_value_parts.proofs.LoadedBytes.{char_loaded, scalar_loaded}
-use Rattle.canon_value_parts.proofs.scalar_bytes.load_scalar.Goals as goal
+use Rattle.canon_value_parts.proofs.scalar.load_scalar.Goals as goal
 
 pub load_u8-requires : goal.load_u8-requires
 load_u8-requires c = c.requires.inside bool (ap scalar_type c.in-Bool.is)

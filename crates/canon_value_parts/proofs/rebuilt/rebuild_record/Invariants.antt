@@ -5,7 +5,7 @@ use Rattle.canon_types.specs.Table.{shape_of}
 use Rattle.canon_types.specs.declared.types.InterfaceType.TheVariants as ty
 use Rattle.canon_val.specs.Value.{member_names, names_in, values_in}
 use Rattle.canon_plan.specs.Plan.{members_from}
-use Rattle.canon_value_parts.proofs.rebuild.rebuild_record.Given as goal
+use Rattle.canon_value_parts.proofs.rebuilt.rebuild_record.Given as goal
 
 abbrev pub invariant-loop-value : goal.invariant-loop-value
 invariant-loop-value l =

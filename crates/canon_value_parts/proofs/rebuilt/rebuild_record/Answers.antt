@@ -10,7 +10,7 @@ use Rattle.canon_val.specs.Value.{member_names, names_in, values_in}
 use Rattle.canon_val.specs.declared.val.Val.{Val}
 use Rattle.canon_value_parts.proofs.Planning.{name_end, name_next, nothing_left}
 use Rattle.canon_plan.proofs.Lookups.{field_member, in_fields, members_from-all}
-use Rattle.canon_value_parts.proofs.rebuild.rebuild_record.Goals as goal
+use Rattle.canon_value_parts.proofs.rebuilt.rebuild_record.Goals as goal
 
 pub loop-value-init : goal.loop-value-init
 loop-value-init c =

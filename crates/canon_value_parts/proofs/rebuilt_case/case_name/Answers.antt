@@ -8,7 +8,7 @@ use Rattle.canon_model.specs.Shape.{Name}
 use Rattle.canon_val.specs.Value.{IsFirst, case_names}
 use Rattle.canon_plan.proofs.CasePlans.{count_cases}
 use Rattle.canon_value_parts.proofs.CaseValues.{first_of_cases}
-use Rattle.canon_value_parts.proofs.rebuild_case.case_name.Goals as goal
+use Rattle.canon_value_parts.proofs.rebuilt_case.case_name.Goals as goal
 
 pub unwrap-requires : goal.unwrap-requires
 unwrap-requires c = c.get_index.ensures.found.1 (omega (arith, c.requires.tag, count_cases c.args.types.now c.args.i c.variant.result.now.cases.entries c.variant.ensures.entry))

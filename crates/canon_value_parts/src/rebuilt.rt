@@ -10,7 +10,7 @@ ghost use Rattle.canon_value_parts.specs.Plan.{IsRebuilt, parts_of};
 ghost use Rattle.canon_value_parts.specs.Resources.{all_resources, resources};
 ghost use Rattle.canon_val.specs.Value.{IsPairs, IsProduct, member_names, names_in, values_in};
 
-use crate::keep::keep;
+use crate::lists::keep;
 use canon_context::Fault;
 use canon_types::{ComponentTypes, InterfaceType, RecordField, TypeRecordIndex};
 use canon_val::Val;

@@ -2,7 +2,7 @@
 use Rattle.std.proofs.Common.{◌≡◌, ◌++◌, length}
 use Rattle.std.specs.Vec.Iter.{into_iter_items, into_iter_len}
 use Rattle.canon_value_parts.specs.Elements.{by_turns}
-use Rattle.canon_value_parts.proofs.rebuild.rebuild_map.Given as goal
+use Rattle.canon_value_parts.proofs.rebuilt.rebuild_map.Given as goal
 
 abbrev pub invariant-loop : goal.invariant-loop
 invariant-loop l =

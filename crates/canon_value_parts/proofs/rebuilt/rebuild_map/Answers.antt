@@ -5,7 +5,7 @@ use Rattle.canon_value_parts.specs.Elements.{by_turns}
 use Rattle.canon_val.specs.declared.val.Val.{Val}
 use Rattle.canon_value_parts.proofs.PairRows.{count_turns, turns_push}
 use Rattle.canon_value_parts.proofs.Planning.{nothing_left}
-use Rattle.canon_value_parts.proofs.rebuild.rebuild_map.Goals as goal
+use Rattle.canon_value_parts.proofs.rebuilt.rebuild_map.Goals as goal
 
 -- as many are left as aren't in pairs
 left : (ps : List (Val × Val)) (rest values : List Val) → by_turns ps ++ rest ≡ values → length ps + length ps + length rest ≡ length values

@@ -12,7 +12,7 @@ use Rattle.canon_value_parts.proofs.CaseValues.{case_rebuilt, enum_none, enum_re
 use Rattle.canon_context.proofs.Told.{on_ok}
 use Rattle.canon_value_parts.proofs.ResourcesOf.{case_resources}
 use Rattle.canon_value_parts.specs.Resources.{all_resources, resources}
-use Rattle.canon_value_parts.proofs.rebuild_case.rebuild_case.Goals as goal
+use Rattle.canon_value_parts.proofs.rebuilt_case.rebuild_case.Goals as goal
 
 pub variant_value-requires-clause-few : goal.variant_value-requires-clause-few
 variant_value-requires-clause-few c = omega (arith, c.requires.count, one_payload (variant_cases (shape_of c.args.types.now c.args.ty.now)) c.args.tag)

@@ -12,7 +12,7 @@ use Rattle.canon_value_parts.proofs.Planning.{fixed_rebuilt, list_rebuilt, map_e
 use Rattle.canon_plan.proofs.TypeKinds.{list_left}
 use Rattle.canon_value_parts.proofs.ResourcesOf.{pair_resources, product_resources, resources_fixed, resources_list, resources_tuple}
 use Rattle.canon_value_parts.specs.Resources.{all_resources, resources}
-use Rattle.canon_value_parts.proofs.rebuild.rebuild.Goals as goal
+use Rattle.canon_value_parts.proofs.rebuilt.rebuild.Goals as goal
 
 pub rebuild_record-requires-clause-count : goal.rebuild_record-requires-clause-count
 rebuild_record-requires-clause-count c =
