@@ -14,7 +14,7 @@ use Rattle.canon_leaves.proofs.Leaves.{leaves_excluded}
 use Rattle.canon_leaves.specs.Parts.{LeavesStop, LeavesTake, Part}
 use Rattle.canon_ledger.specs.Ledger.{LedgerState}
 use Rattle.canon_ledger.specs.declared.fault.ResourceFault.{ResourceFault}
-use Rattle.canon_lift.proofs.Exactness.{lifts_exactly_there}
+use Rattle.canon_lift_parts.proofs.Exactness.{lifts_exactly_there}
 use Rattle.canon_reading.specs.Laws.{IsLifted, LiftsExactly}
 use Rattle.canon_reading.specs.OfTrees.{IsFaulted, IsOfTrees, IsPriced}
 use Rattle.canon_reading.specs.Reading.{AreTaken, Lifts, Reading, Refused, Setting, stop_of}

@@ -1,16 +1,6 @@
-pub mod Refusals
 pub mod Rows
-pub mod Settings
 pub mod ScalarBytes
 pub mod Pairs
-pub mod Lookups
-pub mod CaseLifting
-pub mod MemberSteps
-pub mod PairLifting
 pub mod MapLifting
-pub mod HandleSteps
-pub mod WordRooms
 pub mod TextViews
 pub mod IntegerRows
-pub mod Exactness
-pub mod HostSteps

@@ -21,7 +21,7 @@ use Rattle.canon_reading.specs.Reading.{Lifts, Reading, Setting, setting_in, sto
 use Rattle.canon_reading.specs.Readings.{IsGoodList, each_reach, each_steps, list_reading, read_as}
 use Rattle.canon_reading.specs.Spots.{HasRoom, Spot, length_in, pointer_in, stored}
 use Rattle.canon_lift.specs.declared.wasm_list.WasmList.{WasmList}
-use Rattle.canon_lift.proofs.Refusals.{named_in, refused_by}
+use Rattle.canon_lift_parts.proofs.Refusals.{named_in, refused_by}
 
 -- the charges and the handles of a list that lies in memory
 module _ {A : Type 0} (bytes : ℕ) (P : Reading A) (w : Setting) (at : Spot) (s : Shape) (good : IsGoodList w.memory (element_shape s) (pointer_in w.memory at) (length_in w.memory at)) where

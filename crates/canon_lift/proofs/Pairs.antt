@@ -30,7 +30,7 @@ use Rattle.canon_reading.specs.Reading.{Lifts, NamedBy, Reading, Refused, Settin
 use Rattle.canon_reading.specs.Readings.{IsGoodList, ListPointerFault, each_reach, list_reading, read_as, text_charge, text_reading}
 use Rattle.canon_reading.specs.Spots.{Faulty, HasRoom, Represents, Spot, at_of, flat_in, length_in, pointer_in, stored}
 use Rattle.canon_lift.specs.declared.wasm_list.WasmList.{WasmList}
-use Rattle.canon_lift.proofs.Refusals.{named_by, refused_before, refused_by, stops_nowhere}
+use Rattle.canon_lift_parts.proofs.Refusals.{named_by, refused_before, refused_by, stops_nowhere}
 
 -- ---- their bytes
 

@@ -21,8 +21,8 @@ use Rattle.canon_reading.specs.Readings.{EachFault, EachReads, IsGoodList, each_
 use Rattle.canon_reading.specs.Spots.{Spot, behind, flat_in, stored}
 use Rattle.canon_reading.specs.Taken.{each_counted}
 use Rattle.canon_lift.specs.declared.wasm_list.WasmList.{WasmList}
-use Rattle.canon_lift.proofs.Refusals.{named_by, refused_by, stops_after, stops_first, stops_second}
-use Rattle.canon_lift.proofs.Settings.{same_setting, same_shape}
+use Rattle.canon_lift_parts.proofs.Refusals.{named_by, refused_by, stops_after, stops_first, stops_second}
+use Rattle.canon_lift_parts.proofs.Settings.{same_setting, same_shape}
 
 -- ---- where items stand
 

@@ -3,5 +3,4 @@ pub mod Ranges
 pub mod RangesOfTrees
 pub mod Views
 pub mod Iteration
-pub mod Integers
 pub mod Scalars

@@ -15,9 +15,9 @@ ghost use Rattle.canon_reading.specs.Spots.{flat_in, stored};
 ghost use Rattle.canon_reading.specs.Taken.{boxed_taken, option_taken, result_taken};
 
 use crate::Lift;
-use crate::words::{word_at, word_u32};
 use canon_bytes::load_tag;
 use canon_context::{At, Fault, LiftContext};
+use canon_lift_parts::{word_at, word_u32};
 use canon_memory::ValRaw;
 use canon_types::InterfaceType;
 use std::alloc::Global;

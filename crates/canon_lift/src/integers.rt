@@ -1,73 +1,17 @@
 //! Integers in a row in memory.
 
-ghost use Rattle.std.specs.Prelude.{◌≡◌, ◌≤◌, ◌<◌, ◌+◌, ◌*◌, IfOk, length, ℕ};
+ghost use Rattle.std.specs.Prelude.{◌≡◌, ◌<◌, IfOk, length};
 ghost use Rattle.std.specs.Int.{cast_signed, w16, w32, w64, w8};
 ghost use Rattle.canon_types.specs.declared.types.InterfaceType.TheVariants as ty;
-ghost use Rattle.canon_lift.specs.Integers.{AreHeld};
+ghost use Rattle.canon_lift_parts.specs.Integers.{AreHeld};
 ghost use Rattle.canon_lift.specs.Views.{ListFits};
 ghost use Rattle.canon_lowering.specs.Storing.{narrow};
-ghost use Rattle.canon_model.specs.Memory.{num};
 
 use crate::WasmList;
-use canon_bytes::{load_u8, load_u16, load_u32, load_u64};
 use canon_context::MemoryView;
 use canon_indices::OutOfMemory;
+use canon_lift_parts::numbers;
 use std::alloc::Global;
-
-/// An integer whose lowest byte stands first.
-trait Integer: Drop {
-    // how many bytes it takes
-    ghost bytes: { ℕ };
-
-    // it is the one that its bytes spell as this number
-    ghost held: { Self → ℕ → Type 0 };
-
-    fn width() -> u64
-        ensures width { result ≡ bytes }
-        ensures few { bytes ≤ 8 };
-
-    fn load(memory: &[u8], at: u64) -> Self
-    where
-        Self: Sized,
-        requires { at + bytes ≤ length memory.now }
-        ensures { held result (num (narrow memory.now) at bytes) };
-}
-
-/// The integers that stand in a row from an address on.
-fn numbers<T: Integer>(
-    alloc: Global,
-    memory: &[u8],
-    pointer: u64,
-    count: u64,
-) -> Result<Vec<T>, OutOfMemory>
-    requires inside { pointer + count * T.bytes ≤ length memory.now }
-    ensures count { IfOk result (λ v. length v.items ≡ count) }
-    ensures held { IfOk result (λ v. AreHeld T.held T.bytes (narrow memory.now) pointer v.items) }
-{
-    let width = T::width();
-    let mut items = Vec::new(alloc);
-    for k in 0..count {
-        match items.push(T::load(memory, pointer + k * width)) {
-            Ok(()) => {}
-            Err(_) => return Err(OutOfMemory),
-        }
-    }
-    Ok(items)
-}
-
-impl Integer for i8 {
-    ghost bytes = { 1 };
-
-    ghost held = { λ x n. x ≡ cast_signed w8 n };
-
-    fn width() -> u64 {
-        1
-    }
-
-    fn load(memory: &[u8], at: u64) -> i8 {
-        load_u8(memory, at).cast_signed()
-    }
-}
 
 impl WasmList<i8> {
     /// The integers themselves.
@@ -77,20 +21,6 @@ impl WasmList<i8> {
         ensures items { IfOk result (λ v. AreHeld (λ x n. x ≡ cast_signed w8 n) 1 (narrow view.now.bytes.now) self.now.pointer v.items) }
     {
         numbers(alloc, view.memory(), self.pointer, self.count)
-    }
-}
-
-impl Integer for u8 {
-    ghost bytes = { 1 };
-
-    ghost held = { λ x n. x ≡ n };
-
-    fn width() -> u64 {
-        1
-    }
-
-    fn load(memory: &[u8], at: u64) -> u8 {
-        load_u8(memory, at)
     }
 }
 
@@ -105,20 +35,6 @@ impl WasmList<u8> {
     }
 }
 
-impl Integer for i16 {
-    ghost bytes = { 2 };
-
-    ghost held = { λ x n. x ≡ cast_signed w16 n };
-
-    fn width() -> u64 {
-        2
-    }
-
-    fn load(memory: &[u8], at: u64) -> i16 {
-        load_u16(memory, at).cast_signed()
-    }
-}
-
 impl WasmList<i16> {
     /// The integers themselves.
     pub fn to_le_vec(&self, alloc: Global, view: &MemoryView<'_>) -> Result<Vec<i16>, OutOfMemory>
@@ -127,20 +43,6 @@ impl WasmList<i16> {
         ensures items { IfOk result (λ v. AreHeld (λ x n. x ≡ cast_signed w16 n) 2 (narrow view.now.bytes.now) self.now.pointer v.items) }
     {
         numbers(alloc, view.memory(), self.pointer, self.count)
-    }
-}
-
-impl Integer for u16 {
-    ghost bytes = { 2 };
-
-    ghost held = { λ x n. x ≡ n };
-
-    fn width() -> u64 {
-        2
-    }
-
-    fn load(memory: &[u8], at: u64) -> u16 {
-        load_u16(memory, at)
     }
 }
 
@@ -155,20 +57,6 @@ impl WasmList<u16> {
     }
 }
 
-impl Integer for i32 {
-    ghost bytes = { 4 };
-
-    ghost held = { λ x n. x ≡ cast_signed w32 n };
-
-    fn width() -> u64 {
-        4
-    }
-
-    fn load(memory: &[u8], at: u64) -> i32 {
-        load_u32(memory, at).cast_signed()
-    }
-}
-
 impl WasmList<i32> {
     /// The integers themselves.
     pub fn to_le_vec(&self, alloc: Global, view: &MemoryView<'_>) -> Result<Vec<i32>, OutOfMemory>
@@ -177,20 +65,6 @@ impl WasmList<i32> {
         ensures items { IfOk result (λ v. AreHeld (λ x n. x ≡ cast_signed w32 n) 4 (narrow view.now.bytes.now) self.now.pointer v.items) }
     {
         numbers(alloc, view.memory(), self.pointer, self.count)
-    }
-}
-
-impl Integer for u32 {
-    ghost bytes = { 4 };
-
-    ghost held = { λ x n. x ≡ n };
-
-    fn width() -> u64 {
-        4
-    }
-
-    fn load(memory: &[u8], at: u64) -> u32 {
-        load_u32(memory, at)
     }
 }
 
@@ -205,20 +79,6 @@ impl WasmList<u32> {
     }
 }
 
-impl Integer for i64 {
-    ghost bytes = { 8 };
-
-    ghost held = { λ x n. x ≡ cast_signed w64 n };
-
-    fn width() -> u64 {
-        8
-    }
-
-    fn load(memory: &[u8], at: u64) -> i64 {
-        load_u64(memory, at).cast_signed()
-    }
-}
-
 impl WasmList<i64> {
     /// The integers themselves.
     pub fn to_le_vec(&self, alloc: Global, view: &MemoryView<'_>) -> Result<Vec<i64>, OutOfMemory>
@@ -227,20 +87,6 @@ impl WasmList<i64> {
         ensures items { IfOk result (λ v. AreHeld (λ x n. x ≡ cast_signed w64 n) 8 (narrow view.now.bytes.now) self.now.pointer v.items) }
     {
         numbers(alloc, view.memory(), self.pointer, self.count)
-    }
-}
-
-impl Integer for u64 {
-    ghost bytes = { 8 };
-
-    ghost held = { λ x n. x ≡ n };
-
-    fn width() -> u64 {
-        8
-    }
-
-    fn load(memory: &[u8], at: u64) -> u64 {
-        load_u64(memory, at)
     }
 }
 

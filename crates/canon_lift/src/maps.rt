@@ -17,10 +17,10 @@ ghost use Rattle.canon_reading.specs.Reading.{Lifts, setting_in};
 ghost use Rattle.canon_reading.specs.Spots.{stored};
 
 use crate::Lift;
-use crate::words::{word_at, word_u32};
 use canon_bytes::load_u32;
 use canon_context::{At, Fault, LiftContext};
 use canon_indices::OutOfMemory;
+use canon_lift_parts::{word_at, word_u32};
 use canon_memory::ValRaw;
 use canon_typed::ComponentType;
 use canon_types::{CanonicalAbiInfo, InterfaceType};
@@ -67,7 +67,7 @@ fn lift_pair<K: Lift, V: Lift, U, G>(
 }
 
 /// Puts a pair behind those that were lifted before it.
-#[tactic(auto, using(crate::proofs::PairLifting::filled_more))]
+#[tactic(auto, using(canon_lift_parts::proofs::PairLifting::filled_more))]
 fn put<K: Eq + Hash + Drop, V: Drop>(
     map: &mut HashMap<K, V>,
     key: K,

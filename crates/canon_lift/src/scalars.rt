@@ -11,9 +11,10 @@ ghost use Rattle.canon_reading.specs.Taken.{scalar_taken};
 ghost use Rattle.canon_types.specs.declared.types.InterfaceType.TheVariants as ty;
 
 use crate::Lift;
-use crate::words::{LoadedScalar, word_at, word_of};
+use crate::words::LoadedScalar;
 use canon_bytes::{load_u8, load_u16, load_u32, load_u64};
 use canon_context::{At, Fault, LiftContext};
+use canon_lift_parts::{word_at, word_of};
 use canon_memory::ValRaw;
 use canon_typed::{Float32Bits, Float64Bits};
 use canon_types::InterfaceType;

@@ -1,6 +1,6 @@
 //! Lists that stay in memory.
 
-ghost use Rattle.std.specs.Prelude.{◌≡◌, ◌↔◌, ◌≤◌, ◌<◌, ◌+◌, ◌*◌, ◌%◌, ◌^◌, IfNone, IfSome, IsNone, IsTrue, false, length, ℕ};
+ghost use Rattle.std.specs.Prelude.{◌≡◌, ◌↔◌, ◌≤◌, ◌<◌, ◌+◌, ◌*◌, ◌%◌, ◌^◌, IfNone, IfSome, IsNone, IsTrue, false, ℕ};
 ghost use Rattle.canon_context.specs.Core.{types_of};
 ghost use Rattle.std.proofs.Common.{refl};
 ghost use Rattle.canon_reading.specs.Scopes.{plain_kept};
@@ -20,9 +20,9 @@ ghost use Rattle.canon_lift.specs.Views.{ListFits};
 ghost use Rattle.canon_model.specs.Memory.{bytes_at};
 
 use crate::Lift;
-use crate::words::{word_at, word_u32};
 use canon_bytes::load_u32;
 use canon_context::{At, Core, Fault, LiftContext, MemoryView};
+use canon_lift_parts::{is_row, word_at, word_u32};
 use canon_memory::ValRaw;
 use canon_typed::{ComponentType, TypecheckFailed};
 use canon_types::{CanonicalAbiInfo, InstanceType, InterfaceType, OptionsIndex, StoreId};
@@ -67,23 +67,6 @@ pub(crate) fn list_from<T: ComponentType, U, G>(
         return Err(Fault::PointerMisaligned(at));
     }
     Ok(WasmList::row(cx, element, pointer, count))
-}
-
-/// Whether so many items of a size stand in a row from an address on inside memory, aligned.
-fn is_row(memory: &[u8], pointer: u64, count: u64, size: u64, align: u64) -> bool
-    requires some { 0 < align }
-    ensures { IsTrue result ↔ ((pointer % align ≡ 0) × (pointer + count * size ≤ length memory.now)) }
-{
-    if pointer % align != 0 {
-        return false;
-    }
-    match count.checked_mul(size) {
-        Some(bytes) => match pointer.checked_add(bytes) {
-            Some(end) => end <= memory.len() as u64,
-            None => false,
-        },
-        None => false,
-    }
 }
 
 impl<T> WasmList<T> {

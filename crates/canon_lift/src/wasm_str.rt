@@ -16,9 +16,9 @@ ghost use Rattle.canon_reading.specs.Taken.{none_taken};
 ghost use Rattle.canon_lift.specs.Views.{IsTextOf, TextFits, TextLost, WideLost, text_in};
 
 use crate::Lift;
-use crate::words::{word_at, word_u32};
 use canon_bytes::load_u32;
 use canon_context::{At, Fault, LiftContext, MemoryView};
+use canon_lift_parts::{word_at, word_u32};
 use canon_memory::ValRaw;
 use canon_text::{CowStr, DecodeError, UTF16_TAG, decode_latin1, decode_utf8, decode_utf16};
 use canon_typed::{ComponentType, TypecheckFailed};

@@ -1,12 +1,11 @@
 //! Scalars, and numbers and pointers in words.
 
-ghost use Rattle.std.specs.Prelude.{◌≡◌, ◌<◌, ◌≤◌, ◌+◌, ◌%◌, ◌^◌, IfSome, IsNone, false, length, slice_index};
-ghost use Rattle.canon_context.specs.Told.{IsPlace};
+ghost use Rattle.std.specs.Prelude.{◌≡◌, ◌<◌, ◌≤◌, ◌+◌, ◌%◌, ◌^◌, IfSome, IsNone, false, length};
 ghost use Rattle.canon_lift.specs.Scalars.{StandsFor, StandsForNone};
 ghost use Rattle.canon_lowering.specs.Storing.{narrow};
 ghost use Rattle.canon_model.specs.Flat.{flat_bits};
 ghost use Rattle.canon_model.specs.Layout.{scalar_size};
-ghost use Rattle.canon_model.specs.Memory.{low, num};
+ghost use Rattle.canon_model.specs.Memory.{num};
 ghost use Rattle.canon_model.specs.Reach.{word};
 ghost use Rattle.canon_model.specs.Shape.{Scalar, scalar};
 ghost use Rattle.canon_types.specs.Instance.{Instance};
@@ -14,7 +13,6 @@ ghost use Rattle.canon_types.specs.Table.{shape_of};
 ghost use Rattle.canon_types.specs.declared.types.InterfaceType.{InterfaceType};
 ghost use Rattle.canon_typed.specs.Charges.{free};
 
-use canon_context::At;
 use canon_memory::ValRaw;
 use canon_typed::ComponentType;
 
@@ -43,27 +41,4 @@ pub trait LoadedScalar: ComponentType {
     ghost no_unit: { Self.is_unit ≡ false };
 
     ghost uncharged: { Self.cost ≡ free };
-}
-
-/// A word.
-pub(crate) fn word_of(src: &[ValRaw], index: usize) -> ValRaw
-    requires { index < length src.now }
-    ensures { result ≡ slice_index src.now index }
-{
-    src[index]
-}
-
-/// The low half of a word.
-pub(crate) fn word_u32(src: &[ValRaw], index: usize) -> u32
-    requires { index < length src.now }
-    ensures { result ≡ low (slice_index src.now index) }
-{
-    src[index].get_u32()
-}
-
-/// The place of a word, whose index stays at the last number of a `u32`.
-pub(crate) fn word_at(index: usize) -> At
-    ensures { IsPlace result (word index) }
-{
-    At::Word(index.min(0xffff_ffff) as u32)
 }

@@ -1,4 +1,4 @@
-use Rattle.canon_lift.proofs.Exactness.{lifts_exactly_there}
+use Rattle.canon_lift_parts.proofs.Exactness.{lifts_exactly_there}
 use Rattle.canon_lift.proofs.laws.lifts_exactly.Goals as goal
 
 pub returns : goal.returns

@@ -2,7 +2,7 @@ use Rattle.std.proofs.Common.{◌≡◌, ◌≤◌, ◌+◌, ◌%◌, arith, fal
 use Rattle.canon_context.specs.Core.{Parts, types_of}
 use Rattle.canon_model.specs.Layout.{align, size}
 use Rattle.canon_types.specs.Table.{shape_of}
-use Rattle.canon_lift.proofs.PairLifting.{key_aligned, key_inside, key_refused, value_aligned, value_inside, value_refused}
+use Rattle.canon_lift_parts.proofs.PairLifting.{key_aligned, key_inside, key_refused, value_aligned, value_inside, value_refused}
 use Rattle.canon_lift.proofs.maps.lift_pair.Goals as goal
 
 pub linear_lift_from_memory-requires-clause-aligned : goal.linear_lift_from_memory-requires-clause-aligned

@@ -8,9 +8,9 @@ use Rattle.canon_reading.specs.MapsOfTrees.{pair_reading}
 use Rattle.canon_reading.specs.Reading.{setting_in}
 use Rattle.canon_reading.specs.Readings.{item_spot}
 use Rattle.canon_reading.specs.Spots.{stored}
-use Rattle.canon_lift.proofs.PairLifting.{pair_item, pair_law, pairs_refused}
+use Rattle.canon_lift_parts.proofs.PairLifting.{pair_item, pair_law, pairs_refused}
 use Rattle.canon_lift.proofs.Rows.{each_more, item_lost, item_refused, reach_more}
-use Rattle.canon_lift.proofs.Settings.{element_aligned}
+use Rattle.canon_lift_parts.proofs.Settings.{element_aligned}
 use Rattle.canon_lift.proofs.maps.lift_pairs.Goals as goal
 
 pub lift_pair-requires-clause-aligned : goal.lift_pair-requires-clause-aligned

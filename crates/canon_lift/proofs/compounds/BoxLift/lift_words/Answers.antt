@@ -3,7 +3,7 @@ use Rattle.canon_context.specs.Core.{types_of}
 use Rattle.canon_types.specs.Table.{shape_of}
 use Rattle.canon_reading.specs.Reading.{setting_in}
 use Rattle.canon_reading.specs.Spots.{flat_in}
-use Rattle.canon_lift.proofs.Refusals.{out_of_memory_after}
+use Rattle.canon_lift_parts.proofs.Refusals.{out_of_memory_after}
 use Rattle.canon_lift.proofs.compounds.BoxLift.lift_words.Goals as goal
 
 pub returns-in-Ok-clause-lifts : goal.returns-in-Ok-clause-lifts

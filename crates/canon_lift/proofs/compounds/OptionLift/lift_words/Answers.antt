@@ -1,8 +1,8 @@
 use Rattle.std.proofs.Common.{arith, length}
 use Rattle.canon_context.specs.Core.{types_of}
 use Rattle.canon_types.specs.Table.{shape_of}
-use Rattle.canon_lift.proofs.Lookups.{option_known, option_shape}
-use Rattle.canon_lift.proofs.WordRooms.{option_words}
+use Rattle.canon_lift_parts.proofs.Lookups.{option_known, option_shape}
+use Rattle.canon_lift_parts.proofs.WordRooms.{option_words}
 use Rattle.canon_lift.proofs.compounds.OptionLift.lift_words.Goals as goal
 
 pub word_u32-requires : goal.word_u32-requires

@@ -2,8 +2,8 @@ use Rattle.std.proofs.Common.{◌≡◌, ◌+◌, ◌%◌, ap, arith, false, sub
 use Rattle.canon_context.specs.Core.{types_of}
 use Rattle.canon_model.specs.Layout.{align, size}
 use Rattle.canon_types.specs.Table.{shape_of}
-use Rattle.canon_lift.proofs.CaseLifting.{payload_aligned, payload_inside, place_small, tag_room}
-use Rattle.canon_lift.proofs.Lookups.{option_cases, option_few, option_known, option_payload}
+use Rattle.canon_lift_parts.proofs.CaseLifting.{payload_aligned, payload_inside, place_small, tag_room}
+use Rattle.canon_lift_parts.proofs.Lookups.{option_cases, option_few, option_known, option_payload}
 use Rattle.canon_lift.proofs.compounds.OptionLift.linear_lift_from_memory.Goals as goal
 
 pub overflow_add-place : goal.overflow_add-place

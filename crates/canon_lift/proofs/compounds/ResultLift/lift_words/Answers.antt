@@ -1,8 +1,8 @@
 use Rattle.std.proofs.Common.{arith, length}
 use Rattle.canon_context.specs.Core.{types_of}
 use Rattle.canon_types.specs.Table.{all_shapes, payload_in, shape_of}
-use Rattle.canon_lift.proofs.Lookups.{error_known, ok_known, result_shape}
-use Rattle.canon_lift.proofs.WordRooms.{error_words, ok_words}
+use Rattle.canon_lift_parts.proofs.Lookups.{error_known, ok_known, result_shape}
+use Rattle.canon_lift_parts.proofs.WordRooms.{error_words, ok_words}
 use Rattle.canon_lift.proofs.compounds.ResultLift.lift_words.Goals as goal
 
 pub word_u32-requires : goal.word_u32-requires

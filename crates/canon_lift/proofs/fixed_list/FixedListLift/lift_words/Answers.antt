@@ -2,9 +2,9 @@ use Rattle.canon_context.specs.Core.{types_of}
 use Rattle.canon_types.specs.Table.{shape_of}
 use Rattle.canon_reading.specs.Reading.{setting_in}
 use Rattle.canon_reading.specs.Spots.{flat_in}
-use Rattle.canon_lift.proofs.Lookups.{fixed_part, fixed_there}
+use Rattle.canon_lift_parts.proofs.Lookups.{fixed_part, fixed_there}
 use Rattle.canon_lift.proofs.Rows.{fixed_refused}
-use Rattle.canon_lift.proofs.WordRooms.{fixed_words}
+use Rattle.canon_lift_parts.proofs.WordRooms.{fixed_words}
 use Rattle.std.proofs.Common.{length}
 use Rattle.canon_lift.proofs.fixed_list.FixedListLift.lift_words.Goals as goal
 

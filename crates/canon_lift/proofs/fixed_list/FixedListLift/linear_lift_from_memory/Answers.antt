@@ -2,7 +2,7 @@ use Rattle.canon_context.specs.Core.{types_of}
 use Rattle.canon_types.specs.Table.{shape_of}
 use Rattle.canon_reading.specs.Reading.{setting_in}
 use Rattle.canon_reading.specs.Spots.{stored}
-use Rattle.canon_lift.proofs.Lookups.{fixed_aligned, fixed_inside, fixed_part, fixed_there}
+use Rattle.canon_lift_parts.proofs.Lookups.{fixed_aligned, fixed_inside, fixed_part, fixed_there}
 use Rattle.canon_lift.proofs.Rows.{fixed_refused, row_items, row_refused}
 use Rattle.canon_lift.proofs.fixed_list.FixedListLift.linear_lift_from_memory.Goals as goal
 

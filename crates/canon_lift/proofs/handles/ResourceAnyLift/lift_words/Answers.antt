@@ -1,8 +1,8 @@
 use Rattle.std.proofs.Common.{length}
 use Rattle.canon_reading.specs.Reading.{setting_in}
 use Rattle.canon_reading.specs.Spots.{flat_in}
-use Rattle.canon_lift.proofs.HandleSteps.{any_lifts}
-use Rattle.canon_lift.proofs.WordRooms.{handle_words}
+use Rattle.canon_lift_parts.proofs.HandleSteps.{any_lifts}
+use Rattle.canon_lift_parts.proofs.WordRooms.{handle_words}
 use Rattle.canon_lift.proofs.handles.ResourceAnyLift.lift_words.Goals as goal
 
 pub word_u32-requires : goal.word_u32-requires

@@ -6,7 +6,7 @@ use Rattle.canon_model.specs.Memory.{num}
 use Rattle.canon_types.specs.Table.{shape_of}
 use Rattle.canon_reading.specs.Reading.{setting_in}
 use Rattle.canon_reading.specs.Spots.{stored}
-use Rattle.canon_lift.proofs.HandleSteps.{any_lifts, handle_room}
+use Rattle.canon_lift_parts.proofs.HandleSteps.{any_lifts, handle_room}
 use Rattle.canon_lift.proofs.handles.ResourceAnyLift.linear_lift_from_memory.Goals as goal
 
 pub load_u32-index-requires : goal.load_u32-index-requires

@@ -3,8 +3,8 @@ use Rattle.canon_resources.specs.Types.{as_host}
 use Rattle.canon_reading.specs.HostHandles.{IsMadeBy}
 use Rattle.canon_reading.specs.Reading.{setting_in}
 use Rattle.canon_reading.specs.Spots.{flat_in}
-use Rattle.canon_lift.proofs.HostSteps.{held_lifts, is_handle}
-use Rattle.canon_lift.proofs.WordRooms.{handle_words}
+use Rattle.canon_lift_parts.proofs.HostSteps.{held_lifts, is_handle}
+use Rattle.canon_lift_parts.proofs.WordRooms.{handle_words}
 use Rattle.canon_lift.proofs.host_handles.ResourceLift.lift_words.Goals as goal
 
 pub word_u32-requires : goal.word_u32-requires

@@ -2,7 +2,8 @@ use Rattle.std.proofs.Common.{◌≡◌, ℤ, refl}
 use Rattle.std.specs.Int.{cast_signed, w64}
 use Rattle.canon_model.specs.Shape.{s64}
 use Rattle.canon_types.specs.declared.types.InterfaceType.TheVariants as ty
-use Rattle.canon_lift.proofs.IntegerRows.{held_there, integers_inside}
+use Rattle.canon_lift_parts.proofs.IntegerRows.{held_there}
+use Rattle.canon_lift.proofs.IntegerRows.{integers_inside}
 use Rattle.canon_lift.proofs.integers.WasmList+i64.to_le_vec.Goals as goal
 
 pub returns-clause-items : goal.returns-clause-items

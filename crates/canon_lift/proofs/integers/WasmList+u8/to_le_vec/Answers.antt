@@ -1,7 +1,8 @@
 use Rattle.std.proofs.Common.{◌≡◌, ℕ, refl}
 use Rattle.canon_model.specs.Shape.{u8}
 use Rattle.canon_types.specs.declared.types.InterfaceType.TheVariants as ty
-use Rattle.canon_lift.proofs.IntegerRows.{held_there, integers_inside}
+use Rattle.canon_lift_parts.proofs.IntegerRows.{held_there}
+use Rattle.canon_lift.proofs.IntegerRows.{integers_inside}
 use Rattle.canon_lift.proofs.integers.WasmList+u8.to_le_vec.Goals as goal
 
 pub returns-clause-items : goal.returns-clause-items

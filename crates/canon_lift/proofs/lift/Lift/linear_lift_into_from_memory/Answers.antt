@@ -4,7 +4,7 @@ use Rattle.canon_types.specs.Table.{shape_of}
 use Rattle.canon_reading.specs.Reading.{setting_in}
 use Rattle.canon_reading.specs.Spots.{stored}
 use Rattle.canon_reading.specs.Taken.{each_counted}
-use Rattle.canon_lift.proofs.Refusals.{out_of_memory_after}
+use Rattle.canon_lift_parts.proofs.Refusals.{out_of_memory_after}
 use Rattle.canon_lift.proofs.lift.Lift.linear_lift_into_from_memory.Goals as goal
 
 pub returns-in-Ok-clause-lifts : goal.returns-in-Ok-clause-lifts

@@ -6,7 +6,7 @@ use Rattle.canon_reading.specs.Reading.{setting_in}
 use Rattle.canon_reading.specs.Readings.{EachReads, item_spot}
 use Rattle.canon_reading.specs.Spots.{stored}
 use Rattle.canon_lift.proofs.Rows.{each_more, item_lifts, item_lost, item_refused, reach_more}
-use Rattle.canon_lift.proofs.Settings.{element_aligned, looked_up_size, same_shape}
+use Rattle.canon_lift_parts.proofs.Settings.{element_aligned, looked_up_size, same_shape}
 use Rattle.canon_lift.proofs.lift.Lift.linear_lift_list_from_memory.Goals as goal
 
 pub linear_lift_from_memory-requires-clause-aligned : goal.linear_lift_from_memory-requires-clause-aligned

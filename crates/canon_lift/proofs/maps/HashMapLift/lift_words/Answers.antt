@@ -7,10 +7,10 @@ use Rattle.canon_typed.specs.Charges.{cap}
 use Rattle.canon_reading.specs.MapsOfTrees.{pairs_reading}
 use Rattle.canon_reading.specs.Reading.{Lifts, setting_in}
 use Rattle.canon_reading.specs.Spots.{flat_in, stored}
-use Rattle.canon_lift.proofs.Lookups.{map_element, map_layout, map_there}
+use Rattle.canon_lift_parts.proofs.Lookups.{map_element, map_layout, map_there}
 use Rattle.canon_lift.proofs.MapLifting.{map_lifts}
 use Rattle.canon_lift.proofs.Pairs.{map_range_refused, refused_list}
-use Rattle.canon_lift.proofs.WordRooms.{list_words}
+use Rattle.canon_lift_parts.proofs.WordRooms.{list_words}
 use Rattle.canon_lift.proofs.maps.HashMapLift.lift_words.Goals as goal
 
 pub word_u32-requires : goal.word_u32-requires

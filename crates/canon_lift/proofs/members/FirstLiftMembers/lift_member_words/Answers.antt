@@ -10,8 +10,8 @@ use Rattle.canon_reading.specs.Readings.{first_reading}
 use Rattle.canon_reading.specs.Rests.{rest_reading}
 use Rattle.canon_reading.specs.Spots.{flat_from, flat_in}
 use Rattle.canon_lift.specs.declared.members.First.{First}
-use Rattle.canon_lift.proofs.MemberSteps.{member_refused, members_are, members_read, next_of_tuple, others_in_words, others_refused}
-use Rattle.canon_lift.proofs.WordRooms.{member_words}
+use Rattle.canon_lift_parts.proofs.MemberSteps.{member_refused, members_are, members_read, next_of_tuple, others_in_words, others_refused}
+use Rattle.canon_lift_parts.proofs.WordRooms.{member_words}
 use Rattle.canon_lift.proofs.members.FirstLiftMembers.lift_member_words.Goals as goal
 
 pub flat_words-requires-clause-few : goal.flat_words-requires-clause-few

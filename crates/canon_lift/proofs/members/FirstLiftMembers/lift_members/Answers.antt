@@ -10,7 +10,7 @@ use Rattle.canon_reading.specs.Readings.{first_reading}
 use Rattle.canon_reading.specs.Rests.{rest_reading}
 use Rattle.canon_reading.specs.Spots.{stored, stored_from}
 use Rattle.canon_lift.specs.declared.members.First.{First}
-use Rattle.canon_lift.proofs.MemberSteps.{member_refused, members_are, members_read, next_aligned, next_end, next_fits, next_inside, next_of_tuple, others_here, others_refused, place_is, rest_aligned, rest_inside}
+use Rattle.canon_lift_parts.proofs.MemberSteps.{member_refused, members_are, members_read, next_aligned, next_end, next_fits, next_inside, next_of_tuple, others_here, others_refused, place_is, rest_aligned, rest_inside}
 use Rattle.canon_lift.proofs.members.FirstLiftMembers.lift_members.Goals as goal
 
 pub next_field32_size-start-requires : goal.next_field32_size-start-requires

@@ -6,7 +6,7 @@ use Rattle.canon_model.specs.Reach.{word}
 use Rattle.canon_reading.specs.Reading.{setting_in}
 use Rattle.canon_reading.specs.Spots.{flat_in}
 use Rattle.canon_lift.proofs.Pairs.{text_lifts}
-use Rattle.canon_lift.proofs.WordRooms.{text_words}
+use Rattle.canon_lift_parts.proofs.WordRooms.{text_words}
 use Rattle.canon_lift.proofs.texts.StringLift.lift_words.Goals as goal
 
 pub word_u32-requires : goal.word_u32-requires

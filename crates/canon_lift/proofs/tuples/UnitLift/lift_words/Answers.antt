@@ -1,5 +1,5 @@
 use Rattle.std.proofs.Common.{[], length}
-use Rattle.canon_lift.proofs.MemberSteps.{tuple_words}
+use Rattle.canon_lift_parts.proofs.MemberSteps.{tuple_words}
 use Rattle.canon_lift.proofs.tuples.UnitLift.lift_words.Goals as goal
 
 pub lift_member_words-requires-clause-words : goal.lift_member_words-requires-clause-words

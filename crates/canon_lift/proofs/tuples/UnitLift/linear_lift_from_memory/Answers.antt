@@ -1,5 +1,5 @@
 use Rattle.std.proofs.Common.{[]}
-use Rattle.canon_lift.proofs.MemberSteps.{tuple_aligned, tuple_inside}
+use Rattle.canon_lift_parts.proofs.MemberSteps.{tuple_aligned, tuple_inside}
 use Rattle.canon_lift.proofs.tuples.UnitLift.linear_lift_from_memory.Goals as goal
 
 pub lift_members-requires-clause-aligned : goal.lift_members-requires-clause-aligned

@@ -2,7 +2,7 @@ use Rattle.std.proofs.Common.{◌≡◌, ◌+◌, ◌*◌, ◌%◌, ◌∙◌, a
 use Rattle.canon_context.specs.Core.{Parts, types_of}
 use Rattle.canon_model.specs.Layout.{align, size}
 use Rattle.canon_types.specs.Table.{Table, shape_of}
-use Rattle.canon_lift.proofs.Settings.{element_aligned}
+use Rattle.canon_lift_parts.proofs.Settings.{element_aligned}
 use Rattle.canon_lift.proofs.wasm_list.WasmList.get.Goals as goal
 
 pub linear_lift_from_memory-requires-clause-aligned : goal.linear_lift_from_memory-requires-clause-aligned

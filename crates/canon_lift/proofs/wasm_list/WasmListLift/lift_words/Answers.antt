@@ -6,9 +6,9 @@ use Rattle.canon_types.specs.Table.{shape_of}
 use Rattle.canon_typed.specs.Charges.{cap}
 use Rattle.canon_reading.specs.Reading.{setting_in}
 use Rattle.canon_reading.specs.Spots.{flat_in}
-use Rattle.canon_lift.proofs.Lookups.{list_element, list_fits, list_known, list_shape}
+use Rattle.canon_lift_parts.proofs.Lookups.{list_element, list_fits, list_known, list_shape}
 use Rattle.canon_lift.proofs.Pairs.{list_lifts}
-use Rattle.canon_lift.proofs.WordRooms.{list_words}
+use Rattle.canon_lift_parts.proofs.WordRooms.{list_words}
 use Rattle.canon_lift.proofs.wasm_list.WasmListLift.lift_words.Goals as goal
 
 pub word_u32-requires : goal.word_u32-requires

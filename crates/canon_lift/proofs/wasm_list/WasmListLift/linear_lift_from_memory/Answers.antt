@@ -7,7 +7,7 @@ use Rattle.canon_types.specs.Table.{shape_of}
 use Rattle.canon_typed.specs.Charges.{cap}
 use Rattle.canon_reading.specs.Reading.{setting_in}
 use Rattle.canon_reading.specs.Spots.{stored}
-use Rattle.canon_lift.proofs.Lookups.{list_element, list_fits, list_known, list_shape}
+use Rattle.canon_lift_parts.proofs.Lookups.{list_element, list_fits, list_known, list_shape}
 use Rattle.canon_lift.proofs.Pairs.{list_lifts, list_room}
 use Rattle.canon_lift.proofs.wasm_list.WasmListLift.linear_lift_from_memory.Goals as goal
 

@@ -1,7 +1,7 @@
 use Rattle.std.proofs.Common.{ap, arith, length}
 use Rattle.canon_context.specs.Core.{types_of}
 use Rattle.canon_types.specs.Table.{shape_of}
-use Rattle.canon_lift.proofs.WordRooms.{text_words}
+use Rattle.canon_lift_parts.proofs.WordRooms.{text_words}
 use Rattle.canon_lift.proofs.wasm_str.WasmStrLift.lift_words.Goals as goal
 
 pub word_u32-pointer-requires : goal.word_u32-pointer-requires

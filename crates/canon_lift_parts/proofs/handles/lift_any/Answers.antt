@@ -1,6 +1,6 @@
 use Rattle.std.proofs.Common.{subst, sym}
 use Rattle.canon_reading.specs.Handles.{HandleLifts, leaf_of}
-use Rattle.canon_lift.proofs.handles.lift_any.Goals as goal
+use Rattle.canon_lift_parts.proofs.handles.lift_any.Goals as goal
 
 pub returns-in-Own-clause-lifts : goal.returns-in-Own-clause-lifts
 returns-in-Own-clause-lifts g c =

@@ -2,8 +2,8 @@ use Rattle.std.proofs.Common.{subst, sym}
 use Rattle.canon_leaves.specs.Parts.{LeafMoves}
 use Rattle.canon_model.specs.Leaves.{leaf}
 use Rattle.canon_reading.specs.Ways.{rep_parts}
-use Rattle.canon_lift.proofs.HostSteps.{lent_rep, took_rep}
-use Rattle.canon_lift.proofs.host_handles.taken_rep.Goals as goal
+use Rattle.canon_lift_parts.proofs.HostSteps.{lent_rep, took_rep}
+use Rattle.canon_lift_parts.proofs.host_handles.taken_rep.Goals as goal
 
 pub returns-then-handle : goal.returns-then-handle
 returns-then-handle c =

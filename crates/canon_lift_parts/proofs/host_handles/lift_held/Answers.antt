@@ -1,7 +1,7 @@
 use Rattle.std.proofs.Common.{subst, sym}
 use Rattle.canon_reading.specs.Handles.{leaf_of}
 use Rattle.canon_reading.specs.HostHandles.{HeldLifts}
-use Rattle.canon_lift.proofs.host_handles.lift_held.Goals as goal
+use Rattle.canon_lift_parts.proofs.host_handles.lift_held.Goals as goal
 
 pub returns-in-Own-clause-lifts : goal.returns-in-Own-clause-lifts
 returns-in-Own-clause-lifts g c =

@@ -1,7 +1,7 @@
 use Rattle.std.proofs.Common.{◌≡◌, length}
-use Rattle.canon_lift.specs.Integers.{AreHeld}
+use Rattle.canon_lift_parts.specs.Integers.{AreHeld}
 use Rattle.canon_lowering.specs.Storing.{narrow}
-use Rattle.canon_lift.proofs.integers.numbers.Given as goal
+use Rattle.canon_lift_parts.proofs.integers.numbers.Given as goal
 
 abbrev pub invariant-loop-k : goal.invariant-loop-k
 invariant-loop-k g l = record {

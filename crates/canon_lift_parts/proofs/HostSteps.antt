@@ -24,7 +24,7 @@ use Rattle.canon_reading.specs.HostHandles.{HeldLifts, RepLifts, held_reading}
 use Rattle.canon_reading.specs.Reading.{Lifts, NamedBy, Setting}
 use Rattle.canon_reading.specs.Spots.{HasRoom, Spot, handle_in}
 use Rattle.canon_reading.specs.Ways.{rep_parts}
-use Rattle.canon_lift.proofs.HandleSteps.{blames_none, is_refusal, same_leaf, stops_so, stopped_steps, took_steps}
+use Rattle.canon_lift_parts.proofs.HandleSteps.{blames_none, is_refusal, same_leaf, stops_so, stopped_steps, took_steps}
 use Rattle.std.proofs.lemmas.Option.{none-some}
 
 did_of : (d : Done ℕ) (r : Result ℕ ResourceFault) (l n : LedgerState) → DidSurely d r n → Did d r l n

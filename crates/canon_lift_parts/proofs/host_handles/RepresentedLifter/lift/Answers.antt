@@ -1,8 +1,8 @@
 use Rattle.std.proofs.Common.{Err, Ok, refl, subst, sym}
 use Rattle.canon_model.specs.Leaves.{leaf}
 use Rattle.canon_reading.specs.HostHandles.{RepLifts}
-use Rattle.canon_lift.proofs.HostSteps.{rep_refused, rep_steps}
-use Rattle.canon_lift.proofs.host_handles.RepresentedLifter.lift.Goals as goal
+use Rattle.canon_lift_parts.proofs.HostSteps.{rep_refused, rep_steps}
+use Rattle.canon_lift_parts.proofs.host_handles.RepresentedLifter.lift.Goals as goal
 
 pub returns-in-Ok-clause-steps : goal.returns-in-Ok-clause-steps
 returns-in-Ok-clause-steps c =

@@ -1,9 +1,9 @@
 use Rattle.std.proofs.Common.{rules, ◌≡◌, ◌+◌, ◌*◌, ap₂, length, subst, sym, ℕ}
 use Rattle.canon_lowering.specs.Storing.{narrow}
 use Rattle.canon_model.specs.Memory.{num}
-use Rattle.canon_lift.specs.Integers.{AreHeld}
-use Rattle.canon_lift.proofs.IntegerRows.{held_more}
-use Rattle.canon_lift.proofs.integers.numbers.Goals as goal
+use Rattle.canon_lift_parts.specs.Integers.{AreHeld}
+use Rattle.canon_lift_parts.proofs.IntegerRows.{held_more}
+use Rattle.canon_lift_parts.proofs.integers.numbers.Goals as goal
 
 pub loop-k-preserved : goal.loop-k-preserved
 loop-k-preserved g c =

@@ -20,8 +20,8 @@ use Rattle.canon_reading.specs.MapsOfTrees.{of_key, of_none, of_value, pair_read
 use Rattle.canon_reading.specs.Reading.{AreTaken, Lifts, Reading, Refused, Setting, setting_in}
 use Rattle.canon_reading.specs.Readings.{item_spot, none_reading}
 use Rattle.canon_reading.specs.Spots.{Spot, stored, stored_from}
-use Rattle.canon_lift.proofs.MemberSteps.{first_aligned, first_inside, member_refused, others_refused, rest_aligned, rest_inside}
-use Rattle.canon_lift.proofs.Settings.{same_setting, same_shape}
+use Rattle.canon_lift_parts.proofs.MemberSteps.{first_aligned, first_inside, member_refused, others_refused, rest_aligned, rest_inside}
+use Rattle.canon_lift_parts.proofs.Settings.{same_setting, same_shape}
 
 starts-at-zero : (s : Shape) → begins false 0 s ≡ 0
 starts-at-zero s = begins-same false 0 s (dvd_of_mod-eq-zero (align false s) (zero-mod _))

@@ -14,7 +14,7 @@ use Rattle.canon_types.specs.declared.types.InterfaceType.TheVariants as ty
 use Rattle.canon_typed.specs.Types.{IsFixedOf, IsListOf, IsMapOf}
 use Rattle.canon_reading.specs.OfTrees.{second_shape, two_cases}
 use Rattle.canon_reading.specs.Readings.{fixed_element}
-use Rattle.canon_lift.proofs.CaseLifting.{IsOfCases}
+use Rattle.canon_lift_parts.proofs.CaseLifting.{IsOfCases}
 
 -- ---- lists
 

@@ -1,8 +1,8 @@
 use Rattle.std.proofs.Common.{Err, Ok, refl, subst, sym}
 use Rattle.canon_model.specs.Leaves.{leaf}
 use Rattle.canon_reading.specs.Handles.{HandleLifts}
-use Rattle.canon_lift.proofs.HandleSteps.{handle_refused, lifted_steps}
-use Rattle.canon_lift.proofs.handles.HandleLifter.lift.Goals as goal
+use Rattle.canon_lift_parts.proofs.HandleSteps.{handle_refused, lifted_steps}
+use Rattle.canon_lift_parts.proofs.handles.HandleLifter.lift.Goals as goal
 
 pub returns-in-Ok-clause-steps : goal.returns-in-Ok-clause-steps
 returns-in-Ok-clause-steps c =

@@ -26,8 +26,8 @@ use Rattle.canon_reading.specs.Reading.{AreTaken, Lifts, NamedBy, Reading, Refus
 use Rattle.canon_reading.specs.Readings.{RestReading, first_reading}
 use Rattle.canon_reading.specs.Rests.{rest_reading}
 use Rattle.canon_reading.specs.Spots.{Rest, Spot, first_spot, flat_from, flat_in, others, stored, stored_from}
-use Rattle.canon_lift.proofs.CaseLifting.{or_left, or_right}
-use Rattle.canon_lift.proofs.Refusals.{named_by, refused_by, stops_first, stops_second}
+use Rattle.canon_lift_parts.proofs.CaseLifting.{or_left, or_right}
+use Rattle.canon_lift_parts.proofs.Refusals.{named_by, refused_by, stops_first, stops_second}
 
 -- ---- the next type
 

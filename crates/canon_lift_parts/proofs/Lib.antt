@@ -1,0 +1,11 @@
+pub mod CaseLifting
+pub mod Exactness
+pub mod HandleSteps
+pub mod HostSteps
+pub mod Lookups
+pub mod MemberSteps
+pub mod PairLifting
+pub mod Refusals
+pub mod Settings
+pub mod WordRooms
+pub mod IntegerRows
