@@ -12,7 +12,8 @@ use Rattle.canon_model.specs.Shape.{ListKind, Shape, list}
 use Rattle.canon_types.specs.Depth.{deepest, depth}
 use Rattle.std.proofs.lemmas.Bool.Decides.{nat_tests}
 use Rattle.canon_types.specs.Table.{Definition, Knows, Table, all_shapes, defined_shape, definition_at, has, knows, members_of, no_shape, parts, place, plain_shape, shape_of}
-use Rattle.canon_types.specs.Refusal.{Adds, is_empty, is_full_for, laid_shape, most_names, names, names_refusal, or_else, parts_refusal, refusal, shape_refusal, with_definition}
+use Rattle.canon_types.specs.Measured.{FitsWithRoom}
+use Rattle.canon_types.specs.Refusal.{Adds, first_error, is_empty, is_full_for, laid_shape, most_names, names, names_refusal, or_else, parts_refusal, refusal, shape_refusal, with_definition}
 use Rattle.canon_types.proofs.Measures.{depth_defined}
 use Rattle.canon_types.proofs.Growth.{all_shapes-with, length-all_shapes, defined_shape-with, shape_of-with, knows-with}
 
@@ -125,6 +126,12 @@ large_refused t d b h = refused_large t d b.passes b.shallow h
 
 pub room_refused : (t : Table) (d : Definition) → Before t d → size false (laid_shape (all_shapes t) d) < 2 ^ 32 → is_full_for 1 t ≡ true → refusal t d ≡ Some error.TooManyTypes
 room_refused t d b h full = refused_full t d b.passes b.shallow h full
+
+shape_room : (t : Table) (deep bytes : ℕ) → deep ≤ 100 → bytes < 2 ^ 32 → shape_refusal t deep bytes ≡ first_error ((is_full_for 1 t, error.TooManyTypes) ∷ [])
+shape_room t deep bytes h k = grind (arith, nat_tests)
+
+pub fits_with_room : (t : Table) (d : Definition) → Before t d → size false (laid_shape (all_shapes t) d) < 2 ^ 32 → FitsWithRoom t d
+fits_with_room t d b h = refused_at_shape t d b.passes.parts_pass b.passes.names_pass ∙ shape_room t _ _ b.shallow h
 
 pub accepted : (t : Table) (d : Definition) → Before t d → size false (laid_shape (all_shapes t) d) < 2 ^ 32 → is_full_for 1 t ≡ false → refusal t d ≡ None
 accepted t d b h room = accepted_by t d b.passes b.shallow h room

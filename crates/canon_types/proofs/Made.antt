@@ -41,6 +41,10 @@ names_many ns most many = grind (arith, nat_tests)
 pub names_repeat : (ns : List Name) (most : ℕ) → length ns ≤ most → has_repeats ns ≡ true → names_refusal ns most ≡ Some error.RepeatedName
 names_repeat ns most few twice = grind (arith, nat_tests)
 
+-- names that pass are apart
+pub names_apart : (ns : List Name) (most : ℕ) → names_refusal ns most ≡ None → has_repeats ns ≡ false
+names_apart ns most h = grind (arith, nat_tests)
+
 -- a definition whose names are refused
 pub names_refused : (t : Table) (d : Definition) (types : List InterfaceType) (empty : Bool) (e : TypeError) → types ≡ parts d → empty ≡ is_empty d → None ≡ parts_refusal t types empty → names_refusal (names d) (most_names d) ≡ Some e → refusal t d ≡ Some e
 names_refused t d types empty e same_types same_empty h refused =
