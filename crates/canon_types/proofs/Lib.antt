@@ -9,3 +9,4 @@ pub mod Adding
 pub mod Made
 pub mod Measured
 pub mod Funcs
+pub mod FuncTests

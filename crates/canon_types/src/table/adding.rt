@@ -9,7 +9,7 @@ ghost use Rattle.canon_model.specs.Shape.{VariantKind, fixed, of_option, of_plac
 ghost use Rattle.canon_types.specs.Depth.{deepest, has_borrow, member_borrows};
 ghost use Rattle.canon_types.specs.Keeps.{IsEntry, KeepsLayout, cases_type, definition_of, entry_of, fields_type, names_of};
 ghost use Rattle.canon_types.specs.Laid.{AreLaid, ArePayloadsLaid, IsPayloadLaid, unnamed_cases};
-ghost use Rattle.canon_types.specs.Measured.{IsMeasured, measure_refusal};
+ghost use Rattle.canon_types.specs.Measured.{IsMeasured, MakeTuple, measure_refusal};
 ghost use Rattle.canon_types.specs.Refusal.{Adds, AddsFunc, AddsResource, func_parts_refusal, func_refusal, is_full_for, refusal, is_unit_type, resource_refusal, with_definition, with_func_of};
 ghost use Rattle.canon_types.specs.Table.{EnumType, FixedListType, FlagsType, Knows, KnowsPayload, ListType, MapType, OptionType, ResultType, TupleType, all_shapes, defined_shape, is_tuple, knows, members_of, shape_of};
 
@@ -477,19 +477,38 @@ impl ComponentTypes {
         ensures err { OnErr result (self.new ≡ self.old) }
         ensures cause { IfErr result (λ e. e ≢ TypeError.OutOfMemory → func_refusal self.old params.items results.items ≡ Some e) }
     {
-        self.check_func_parts(&params, &results)?;
-        let params_deepest = self.deepest(&params);
-        let results_deepest = self.deepest(&results);
+        let (params_abi, results_abi) = self.measure_func(&params, &results)?;
+        let params = self.tuple_entry(params, params_abi);
+        let results = self.tuple_entry(results, results_abi);
+        self.push_func(params, results, async_)
+    }
+
+    /// Tests a function, and tells the numbers of its parameters and of its results.
+    fn measure_func(
+        &self,
+        params: &[InterfaceType],
+        results: &[InterfaceType],
+    ) -> Result<(CanonicalAbiInfo, CanonicalAbiInfo), TypeError>
+        ensures fits { OnOk result (func_refusal self.now params.now results.now ≡ None) }
+        ensures room { OnOk result (is_full_for 3 self.now ≡ false) }
+        ensures params { IfOk result (λ abis. MakeTuple self.now params.now abis.0) }
+        ensures results { IfOk result (λ abis. MakeTuple self.now results.now abis.1) }
+        ensures borrows { OnOk result (member_borrows (members_of self.now results.now) ≡ false) }
+        ensures cause { IfErr result (λ e. e ≢ TypeError.OutOfMemory → func_refusal self.now params.now results.now ≡ Some e) }
+    {
+        self.check_func_parts(params, results)?;
+        let params_deepest = self.deepest(params);
+        let results_deepest = self.deepest(results);
         if params_deepest.max(results_deepest) >= MAX_DEPTH {
             return Err(TypeError::TooDeep);
         }
-        let params = self.tuple_entry(params)?;
-        let results = self.tuple_entry(results)?;
-        if results.has_borrow {
+        let params_abi = self.record_abi(params)?;
+        let results_abi = self.record_abi(results)?;
+        if self.any_borrow(results) {
             return Err(TypeError::BorrowInResult);
         }
         self.check_room(3)?;
-        self.push_func(params, results, async_)
+        Ok((params_abi, results_abi))
     }
 
     fn check_func_parts(
@@ -522,24 +541,20 @@ impl ComponentTypes {
         self.any_unit(params) || self.any_unit(results)
     }
 
-    /// The entry of a tuple of known types, which may have no members.
-    fn tuple_entry(&self, types: Vec<InterfaceType>) -> Result<TupleEntry, TypeError>
-        requires known { All (Knows self.now) types.items }
-        requires shallow { deepest (members_of self.now types.items) < 100 }
-        ensures ok { IfOk result (λ e. definition_of (entry_of e).item ≡ TupleType types.items) }
-        ensures entry { IfOk result (λ e. IsEntry self.now (defined_shape (all_shapes self.now) (definition_of (entry_of e).item)) (entry_of e)) }
-        ensures borrows { IfOk result (λ e. e.has_borrow ≡ member_borrows (members_of self.now types.items)) }
-        ensures fits { OnOk result (size false (product of_places (members_of self.now types.items)) < 2 ^ 32) }
-        ensures cause { IfErr result (λ e. e ≢ TypeError.OutOfMemory → (e ≡ TypeError.SizeTooLarge) × (2 ^ 32 ≤ size false (product of_places (members_of self.now types.items)))) }
+    /// The entry of a tuple of these types and numbers, which may have no members.
+    fn tuple_entry(&self, types: Vec<InterfaceType>, abi: CanonicalAbiInfo) -> TupleEntry
+        requires { MakeTuple self.now types.items abi }
+        ensures definition { definition_of (entry_of result).item ≡ TupleType types.items }
+        ensures entry { IsEntry self.now (defined_shape (all_shapes self.now) (definition_of (entry_of result).item)) (entry_of result) }
+        ensures borrows { result.has_borrow ≡ member_borrows (members_of self.now types.items) }
     {
         let depth = self.deepest(&types) + 1;
         let has_borrow = self.any_borrow(&types);
-        let abi = self.record_abi(&types)?;
-        Ok(TupleEntry {
+        TupleEntry {
             tuple: TypeTuple { types, abi },
             depth,
             has_borrow,
-        })
+        }
     }
 
     /// Adds two tuples and a function over them, all or none.
