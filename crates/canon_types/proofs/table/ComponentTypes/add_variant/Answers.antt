@@ -86,7 +86,7 @@ enter-requires-clause-measured c =
     let whole : c.as_slice-payloads.result.now ≡ map (λ x. x.1) (map (λ x. (string_bytes x.0, x.1)) c.args.cases.items) = listed ∙ case_payload_list c.args.cases.items in
     let known = passed_parts c.args.self.now c.as_slice-parts.result.now c.is_empty.result (sym c.in_ok-check_parts.ensures) in
     let m : IsMeasured c.args.self.now d c.in_ok-depth.depth c.in_ok-depth.has_borrow = measured_by c.args.self.now d c.as_slice-parts.result.now c.in_ok-depth.depth c.in_ok-depth.has_borrow b same known c.in_ok-depth.ensures.depth c.in_ok-depth.ensures.borrows (names_apart (names d) 1048576 apart)
-        (subst (λ (n : ℕ). n < 2 ^ 32) (bytes_same c.args.self.now c.args.cases.items c.as_slice-payloads.result.now whole) c.in_ok-abi.ensures.fits) in
+    (subst (λ (n : ℕ). n < 2 ^ 32) (bytes_same c.args.self.now c.args.cases.items c.as_slice-payloads.result.now whole) c.in_ok-abi.ensures.fits) in
     subst (λ (x : Definition). IsMeasured c.args.self.now x c.in_ok-depth.depth c.in_ok-depth.has_borrow) (ap cases_type (sym c.in_ok-cases.ensures.ok)) m
 
 pub enter-requires-clause-layout : goal.enter-requires-clause-layout
