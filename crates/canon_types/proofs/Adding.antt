@@ -12,7 +12,8 @@ use Rattle.canon_model.specs.Shape.{ListKind, Shape, list}
 use Rattle.canon_types.specs.Depth.{deepest, depth}
 use Rattle.std.proofs.lemmas.Bool.Decides.{nat_tests}
 use Rattle.canon_types.specs.Table.{Definition, Knows, Table, all_shapes, defined_shape, definition_at, has, knows, members_of, no_shape, parts, place, plain_shape, shape_of}
-use Rattle.canon_types.specs.Refusal.{Adds, is_empty, is_full_for, laid_shape, most_names, names, names_refusal, or_else, parts_refusal, refusal, shape_refusal, with_definition}
+use Rattle.canon_types.specs.Measured.{FitsWithRoom}
+use Rattle.canon_types.specs.Refusal.{Adds, first_error, is_empty, is_full_for, laid_shape, most_names, names, names_refusal, or_else, parts_refusal, refusal, shape_refusal, with_definition}
 use Rattle.canon_types.proofs.Measures.{depth_defined}
 use Rattle.canon_types.proofs.Growth.{all_shapes-with, length-all_shapes, defined_shape-with, shape_of-with, knows-with}
 
@@ -84,23 +85,11 @@ shape_deep t deep bytes h = grind (arith, nat_tests)
 shape_large : (t : Table) (deep bytes : ℕ) → deep ≤ 100 → 2 ^ 32 ≤ bytes → shape_refusal t deep bytes ≡ Some error.SizeTooLarge
 shape_large t deep bytes h k = grind (arith, nat_tests)
 
-shape_full : (t : Table) (deep bytes : ℕ) → deep ≤ 100 → bytes < 2 ^ 32 → is_full_for 1 t ≡ true → shape_refusal t deep bytes ≡ Some error.TooManyTypes
-shape_full t deep bytes h k full = grind (arith, nat_tests)
-
-shape_fits : (t : Table) (deep bytes : ℕ) → deep ≤ 100 → bytes < 2 ^ 32 → is_full_for 1 t ≡ false → shape_refusal t deep bytes ≡ None
-shape_fits t deep bytes h k room = grind (arith, nat_tests)
-
 pub refused_deep : (t : Table) (d : Definition) → Passes t d → 100 < depth (defined_shape (all_shapes t) d) → refusal t d ≡ Some error.TooDeep
 refused_deep t d p h = refused_at_shape t d p.parts_pass p.names_pass ∙ shape_deep t _ (size false (laid_shape (all_shapes t) d)) h
 
 pub refused_large : (t : Table) (d : Definition) → Passes t d → depth (defined_shape (all_shapes t) d) ≤ 100 → 2 ^ 32 ≤ size false (laid_shape (all_shapes t) d) → refusal t d ≡ Some error.SizeTooLarge
 refused_large t d p h k = refused_at_shape t d p.parts_pass p.names_pass ∙ shape_large t _ _ h k
-
-pub refused_full : (t : Table) (d : Definition) → Passes t d → depth (defined_shape (all_shapes t) d) ≤ 100 → size false (laid_shape (all_shapes t) d) < 2 ^ 32 → is_full_for 1 t ≡ true → refusal t d ≡ Some error.TooManyTypes
-refused_full t d p h k full = refused_at_shape t d p.parts_pass p.names_pass ∙ shape_full t _ _ h k full
-
-pub accepted_by : (t : Table) (d : Definition) → Passes t d → depth (defined_shape (all_shapes t) d) ≤ 100 → size false (laid_shape (all_shapes t) d) < 2 ^ 32 → is_full_for 1 t ≡ false → refusal t d ≡ None
-accepted_by t d p h k room = refused_at_shape t d p.parts_pass p.names_pass ∙ shape_fits t _ _ h k room
 
 -- parts, names and depth are as they should be
 pub record Before (t : Table) (d : Definition) : Type 0 where
@@ -123,11 +112,11 @@ deep_refused t d types measured empty same_types same_measured same_empty h name
 pub large_refused : (t : Table) (d : Definition) → Before t d → 2 ^ 32 ≤ size false (laid_shape (all_shapes t) d) → refusal t d ≡ Some error.SizeTooLarge
 large_refused t d b h = refused_large t d b.passes b.shallow h
 
-pub room_refused : (t : Table) (d : Definition) → Before t d → size false (laid_shape (all_shapes t) d) < 2 ^ 32 → is_full_for 1 t ≡ true → refusal t d ≡ Some error.TooManyTypes
-room_refused t d b h full = refused_full t d b.passes b.shallow h full
+shape_room : (t : Table) (deep bytes : ℕ) → deep ≤ 100 → bytes < 2 ^ 32 → shape_refusal t deep bytes ≡ first_error ((is_full_for 1 t, error.TooManyTypes) ∷ [])
+shape_room t deep bytes h k = grind (arith, nat_tests)
 
-pub accepted : (t : Table) (d : Definition) → Before t d → size false (laid_shape (all_shapes t) d) < 2 ^ 32 → is_full_for 1 t ≡ false → refusal t d ≡ None
-accepted t d b h room = accepted_by t d b.passes b.shallow h room
+pub fits_with_room : (t : Table) (d : Definition) → Before t d → size false (laid_shape (all_shapes t) d) < 2 ^ 32 → FitsWithRoom t d
+fits_with_room t d b h = refused_at_shape t d b.passes.parts_pass b.passes.names_pass ∙ shape_room t _ _ b.shallow h
 
 pub list_small : (k : ListKind) (s : Shape) → size false (list k s) < 2 ^ 32
 unfolding size

@@ -7,4 +7,6 @@ pub mod Distinct
 pub mod Kept
 pub mod Adding
 pub mod Made
+pub mod Measured
 pub mod Funcs
+pub mod FuncTests

@@ -1,11 +1,10 @@
 -- Definitions made of what a call is handed.
-use Rattle.std.proofs.Common.{Err, Ok, Result, ◌≢◌, ◌≡◌, ℕ, ◌+◌, ◌<◌, ◌≤◌, ◌^◌, Bool, true, false, nat_lt, max, ◌==◌, Option, Some, None, List, [], ◌∷◌, length, map, filter_map, All, string_bytes, String, refl, sym, ap, ◌∙◌, subst, arith}
+use Rattle.std.proofs.Common.{Err, Ok, Result, ◌≢◌, ◌≡◌, ℕ, ◌+◌, ◌<◌, ◌≤◌, Bool, true, false, ◌==◌, Option, Some, None, List, [], ◌∷◌, length, map, filter_map, All, string_bytes, String, refl, sym, ap, ◌∙◌, subst, arith}
 use Rattle.std.specs.Prelude.{IfErr, IsErr, IsErrAnd}
 use Rattle.std.proofs.lemmas.Bool.Decides.{nat_tests}
 use Rattle.std.proofs.lemmas.List.{length-map}
 use Rattle.std.proofs.lemmas.List.Elements.{All-cons, All-head, All-nil, All-tail}
-use Rattle.canon_model.specs.Layout.{size}
-use Rattle.canon_model.specs.Shape.{of_places, product, Name}
+use Rattle.canon_model.specs.Shape.{Name}
 use Rattle.canon_types.specs.declared.error.TypeError.{TypeError}
 use Rattle.canon_types.specs.declared.error.TypeError.TheVariants as error
 use Rattle.canon_types.specs.declared.types.InterfaceType.{InterfaceType}
@@ -13,7 +12,7 @@ use Rattle.canon_types.specs.declared.types.RecordField.{RecordField}
 use Rattle.canon_types.specs.declared.table.Entry.{Entry}
 use Rattle.canon_types.specs.Depth.{deepest, depth, has_borrow, member_borrows}
 use Rattle.canon_types.specs.Keeps.{IsEntry, KeepsLayout, cases_type, definition_of, fields_type}
-use Rattle.canon_types.specs.Refusal.{first_error, func_parts_refusal, func_refusal, is_full_for, or_else, has_repeats, is_empty, most_names, names, names_refusal, parts_refusal, refusal}
+use Rattle.canon_types.specs.Refusal.{has_repeats, is_empty, most_names, names, names_refusal, parts_refusal, refusal}
 use Rattle.canon_types.specs.Table.{Definition, Knows, KnowsPayload, ResultType, Table, all_shapes, defined_shape, members_of, parts}
 use Rattle.canon_types.proofs.Measures.{borrows_defined, depth_defined}
 use Rattle.canon_types.proofs.Adding.{refused_at_names}
@@ -41,6 +40,10 @@ names_many ns most many = grind (arith, nat_tests)
 pub names_repeat : (ns : List Name) (most : ℕ) → length ns ≤ most → has_repeats ns ≡ true → names_refusal ns most ≡ Some error.RepeatedName
 names_repeat ns most few twice = grind (arith, nat_tests)
 
+-- names that pass are apart
+pub names_apart : (ns : List Name) (most : ℕ) → names_refusal ns most ≡ None → has_repeats ns ≡ false
+names_apart ns most h = grind (arith, nat_tests)
+
 -- a definition whose names are refused
 pub names_refused : (t : Table) (d : Definition) (types : List InterfaceType) (empty : Bool) (e : TypeError) → types ≡ parts d → empty ≡ is_empty d → None ≡ parts_refusal t types empty → names_refusal (names d) (most_names d) ≡ Some e → refusal t d ≡ Some e
 names_refused t d types empty e same_types same_empty h refused =
@@ -65,11 +68,6 @@ fields_empty fs types e =
     ap (λ (ts : List InterfaceType). length ts == 0) e
     ∙ ap (λ (n : ℕ). n == 0) (length-map (map (λ f. (string_bytes f.name, f.ty)) fs) (λ (f : Name × InterfaceType). f.1))
 
-pub fields_count : (fs : List RecordField) (types : List InterfaceType) → types ≡ parts (fields_type fs) → length (names (fields_type fs)) ≡ length types
-fields_count fs types e =
-    length-map (map (λ f. (string_bytes f.name, f.ty)) fs) (λ (f : Name × InterfaceType). f.0)
-    ∙ sym (length-map (map (λ f. (string_bytes f.name, f.ty)) fs) (λ (f : Name × InterfaceType). f.1)) ∙ ap (λ (ts : List InterfaceType). length ts) (sym e)
-
 -- ---- variants
 
 pub case_names : {Z : Type 0} (cs : List (String Z × Option InterfaceType)) → map (λ c. string_bytes c.0) cs ≡ names (cases_type cs)
@@ -90,11 +88,6 @@ cases_empty {Z} cs ps e =
     ap (λ (xs : List (Option InterfaceType)). length xs == 0) e ∙ ap (λ (n : ℕ). n == 0) (length-map cs (λ (c : String Z × Option InterfaceType). c.1))
     ∙ sym (ap (λ (n : ℕ). n == 0) (length-map cs (λ (c : String Z × Option InterfaceType). let r : Name × Option InterfaceType = (string_bytes c.0, c.1) in r)))
 
-pub cases_count : {Z : Type 0} (cs : List (String Z × Option InterfaceType)) (ps : List (Option InterfaceType)) → ps ≡ map (λ c. c.1) cs → length (names (cases_type cs)) ≡ length ps
-cases_count {Z} cs ps e =
-    ap (λ (ns : List Name). length ns) (sym (case_names cs)) ∙ length-map cs (λ (c : String Z × Option InterfaceType). string_bytes c.0)
-    ∙ sym (length-map cs (λ (c : String Z × Option InterfaceType). c.1)) ∙ ap (λ (xs : List (Option InterfaceType)). length xs) (sym e)
-
 -- where the types that are there are known, so is each payload
 pub payloads_known : (t : Table) (ps : List (Option InterfaceType)) → All (Knows t) (filter_map (λ p. p) ps) → All (KnowsPayload t) ps
 payloads_known t [] h = All-nil (KnowsPayload t)
@@ -113,17 +106,3 @@ result_parts (Some o) (Some e) = refl
 pub caused : {X : Type 0} (r : Result X TypeError) (e : TypeError) (why : Option TypeError) → IsErr r × IsErrAnd r (λ x. x ≡ e) → (e ≢ error.OutOfMemory → why ≡ Some e) → IfErr r (λ x. x ≢ error.OutOfMemory → why ≡ Some x)
 caused (Ok y) e why h f = tt
 caused (Err x) e why h f = λ n. f (λ q. n (h.1 ∙ q)) ∙ ap Some (sym h.1)
-
--- ---- functions
-
-last_full : (deep bytes : ℕ) (borrows full : Bool) → deep ≤ 100 → bytes < 2 ^ 32 → borrows ≡ false → full ≡ true
-    → first_error ((nat_lt 100 deep, error.TooDeep) ∷ (nat_lt 4294967295 bytes, error.SizeTooLarge) ∷ (borrows, error.BorrowInResult) ∷ (full, error.TooManyTypes) ∷ []) ≡ Some error.TooManyTypes
-last_full deep bytes borrows full h k none all = grind (arith, nat_tests)
-
-pub func_full : (t : Table) (ps rs : List InterfaceType) → None ≡ func_parts_refusal t ps rs → deepest (members_of t ps) < 100 → deepest (members_of t rs) < 100 → size false (product of_places (members_of t ps)) < 2 ^ 32 → size false (product of_places (members_of t rs)) < 2 ^ 32
-    → member_borrows (members_of t rs) ≡ false → is_full_for 3 t ≡ true → func_refusal t ps rs ≡ Some error.TooManyTypes
-func_full t ps rs parts_pass first second small short none full =
-    let p = product of_places (members_of t ps) in
-    let r = product of_places (members_of t rs) in
-    ap (λ (o : Option TypeError). or_else o (first_error ((nat_lt 100 (max (depth p) (depth r)), error.TooDeep) ∷ (nat_lt 4294967295 (max (size false p) (size false r)), error.SizeTooLarge) ∷ (has_borrow r, error.BorrowInResult) ∷ (is_full_for 3 t, error.TooManyTypes) ∷ []))) (sym parts_pass)
-    ∙ last_full (max (depth p) (depth r)) (max (size false p) (size false r)) (has_borrow r) (is_full_for 3 t) (omega arith) (omega arith) none full

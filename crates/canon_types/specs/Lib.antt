@@ -2,6 +2,7 @@ pub mod Depth
 pub mod Instance
 pub mod Keeps
 pub mod Laid
+pub mod Measured
 pub mod Refusal
 pub mod Resource
 pub mod Table

@@ -7,12 +7,13 @@ ghost use Rattle.canon_abi.specs.Abi.{AreOfCases, AreOfMembers, HasInfo, HasLayo
 ghost use Rattle.canon_model.specs.Layout.{offset, size};
 ghost use Rattle.canon_model.specs.Shape.{VariantKind, fixed, of_option, of_places, product, tuple, tuple_members, variant};
 ghost use Rattle.canon_types.specs.Depth.{deepest, has_borrow, member_borrows};
-ghost use Rattle.canon_types.specs.Keeps.{IsEntry, cases_type, definition_of, entry_of, fields_type, names_of};
+ghost use Rattle.canon_types.specs.Keeps.{IsEntry, KeepsLayout, cases_type, definition_of, entry_of, fields_type, names_of};
 ghost use Rattle.canon_types.specs.Laid.{AreLaid, ArePayloadsLaid, IsPayloadLaid, unnamed_cases};
+ghost use Rattle.canon_types.specs.Measured.{IsMeasured, MakeTuple, measure_refusal};
 ghost use Rattle.canon_types.specs.Refusal.{Adds, AddsFunc, AddsResource, func_parts_refusal, func_refusal, is_full_for, refusal, is_unit_type, resource_refusal, with_definition, with_func_of};
 ghost use Rattle.canon_types.specs.Table.{EnumType, FixedListType, FlagsType, Knows, KnowsPayload, ListType, MapType, OptionType, ResultType, TupleType, all_shapes, defined_shape, is_tuple, knows, members_of, shape_of};
 
-use super::names::{MAX_FLAGS, MAX_NAMES, case_map, check_count, check_fields, name_set};
+use super::names::{MAX_FLAGS, MAX_NAMES, case_map, check_fields, check_name_count, name_set};
 use super::{ComponentTypes, Entry, Item, MAX_DEPTH, TupleEntry};
 use crate::{
     InterfaceType, RecordField, TypeEnum, TypeEnumIndex, TypeError, TypeFixedLengthList,
@@ -39,6 +40,21 @@ impl ComponentTypes {
         Ok((deepest + 1, self.any_borrow(parts)))
     }
 
+    /// Tests the types that a new type is to have as parts, and measures them.
+    fn measure_parts(
+        &self,
+        parts: &[InterfaceType],
+        is_empty: bool,
+    ) -> Result<(u32, bool), TypeError>
+        ensures refusal { result_err result ≡ measure_refusal self.now parts.now is_empty }
+        ensures known { OnOk result (All (Knows self.now) parts.now) }
+        ensures depth { IfOk result (λ m. m.0 ≡ 1 + deepest (members_of self.now parts.now)) }
+        ensures borrows { IfOk result (λ m. m.1 ≡ member_borrows (members_of self.now parts.now)) }
+    {
+        self.check_parts(parts, is_empty)?;
+        self.measure(parts)
+    }
+
     /// Tests that the table takes so many further entries.
     fn check_room(&self, more: usize) -> Result<(), TypeError>
         requires { more < 2 ^ 32 }
@@ -51,14 +67,16 @@ impl ComponentTypes {
         Ok(())
     }
 
-    /// Adds an entry at the end, and tells its number.
-    fn push(&mut self, entry: Entry) -> Result<u32, TypeError>
-        requires room { is_full_for 1 self.old ≡ false }
-        requires entry { IsEntry self.old (defined_shape (all_shapes self.old) (definition_of entry.item)) entry }
+    /// Adds an entry at the end, if there is room, and tells its number.
+    fn enter(&mut self, entry: Entry) -> Result<u32, TypeError>
+        requires measured { IsMeasured self.old (definition_of entry.item) entry.depth entry.has_borrow }
+        requires layout { KeepsLayout entry.item (defined_shape (all_shapes self.old) (definition_of entry.item)) }
         ensures ok { IfOk result (λ i. (i ≡ length self.old.definitions) × (self.new ≡ with_definition self.old (definition_of entry.item))) }
+        ensures fits { OnOk result (refusal self.old (definition_of entry.item) ≡ None) }
         ensures err { OnErr result (self.new ≡ self.old) }
-        ensures cause { IfErr result (λ e. e ≡ TypeError.OutOfMemory) }
+        ensures cause { IfErr result (λ e. e ≢ TypeError.OutOfMemory → refusal self.old (definition_of entry.item) ≡ Some e) }
     {
+        self.check_room(1)?;
         let place = self.entries.len() as u32;
         self.entries.push(entry)?;
         Ok(place)
@@ -185,11 +203,9 @@ impl ComponentTypes {
         ensures cause { IfErr result (λ e. e ≢ TypeError.OutOfMemory → refusal self.old (ListType element) ≡ Some e) }
     {
         let parts = [element];
-        self.check_parts(&parts, false)?;
-        let (depth, has_borrow) = self.measure(&parts)?;
-        self.check_room(1)?;
+        let (depth, has_borrow) = self.measure_parts(&parts, false)?;
         let item = Item::List(TypeList { element: parts[0] });
-        let place = self.push(Entry {
+        let place = self.enter(Entry {
             item,
             depth,
             has_borrow,
@@ -206,12 +222,10 @@ impl ComponentTypes {
         ensures cause { IfErr result (λ e. e ≢ TypeError.OutOfMemory → refusal self.old (TupleType types.items) ≡ Some e) }
     {
         let parts = types.as_slice();
-        self.check_parts(parts, parts.is_empty())?;
-        let (depth, has_borrow) = self.measure(parts)?;
+        let (depth, has_borrow) = self.measure_parts(parts, parts.is_empty())?;
         let abi = self.record_abi(parts)?;
-        self.check_room(1)?;
         let item = Item::Tuple(TypeTuple { types, abi });
-        let place = self.push(Entry {
+        let place = self.enter(Entry {
             item,
             depth,
             has_borrow,
@@ -227,21 +241,45 @@ impl ComponentTypes {
         ensures err { OnErr result (self.new ≡ self.old) }
         ensures cause { IfErr result (λ e. e ≢ TypeError.OutOfMemory → refusal self.old (fields_type fields.items) ≡ Some e) }
     {
-        let types = self.field_types(&fields)?;
-        let parts = types.as_slice();
-        self.check_parts(parts, parts.is_empty())?;
-        check_count(parts.len(), MAX_NAMES)?;
-        check_fields(*self.entries.allocator(), &fields)?;
-        let (depth, has_borrow) = self.measure(parts)?;
-        let abi = self.record_abi(parts)?;
-        self.check_room(1)?;
+        let (abi, depth, has_borrow) = self.measure_fields(&fields)?;
         let item = Item::Record(TypeRecord { fields, abi });
-        let place = self.push(Entry {
+        let place = self.enter(Entry {
             item,
             depth,
             has_borrow,
         })?;
         Ok(InterfaceType::Record(TypeRecordIndex::from_u32(place)))
+    }
+
+    /// Tests the fields of a record, and tells its numbers, its depth, and whether a borrowed handle occurs in it.
+    fn measure_fields(
+        &self,
+        fields: &[RecordField],
+    ) -> Result<(CanonicalAbiInfo, u32, bool), TypeError>
+        ensures measured { IfOk result (λ m. IsMeasured self.now (fields_type fields.now) m.1 m.2) }
+        ensures abi { IfOk result (λ m. HasLayout m.0 (defined_shape (all_shapes self.now) (fields_type fields.now))) }
+        ensures cause { IfErr result (λ e. e ≢ TypeError.OutOfMemory → refusal self.now (fields_type fields.now) ≡ Some e) }
+    {
+        let types = self.field_types(fields)?;
+        self.measure_record(fields, types.as_slice())
+    }
+
+    /// The same, where the types of the fields are given.
+    fn measure_record(
+        &self,
+        fields: &[RecordField],
+        parts: &[InterfaceType],
+    ) -> Result<(CanonicalAbiInfo, u32, bool), TypeError>
+        requires { parts.now ≡ map (λ f. f.ty) fields.now }
+        ensures measured { IfOk result (λ m. IsMeasured self.now (fields_type fields.now) m.1 m.2) }
+        ensures abi { IfOk result (λ m. HasLayout m.0 (defined_shape (all_shapes self.now) (fields_type fields.now))) }
+        ensures cause { IfErr result (λ e. e ≢ TypeError.OutOfMemory → refusal self.now (fields_type fields.now) ≡ Some e) }
+    {
+        self.check_parts(parts, parts.is_empty())?;
+        check_fields(*self.entries.allocator(), fields)?;
+        let (depth, has_borrow) = self.measure(parts)?;
+        let abi = self.record_abi(parts)?;
+        Ok((abi, depth, has_borrow))
     }
 
     pub(super) fn add_map(
@@ -254,18 +292,16 @@ impl ComponentTypes {
         ensures cause { IfErr result (λ e. e ≢ TypeError.OutOfMemory → refusal self.old (MapType key value) ≡ Some e) }
     {
         let parts = [key, value];
-        self.check_parts(&parts, false)?;
-        let (depth, has_borrow) = self.measure(&parts)?;
+        let (depth, has_borrow) = self.measure_parts(&parts, false)?;
         let entry_abi = self.record_abi(&parts)?;
         let value_offset32 = self.value_offset(&parts[0], &parts[1]);
-        self.check_room(1)?;
         let item = Item::Map(TypeMap {
             key: parts[0],
             value: parts[1],
             entry_abi,
             value_offset32,
         });
-        let place = self.push(Entry {
+        let place = self.enter(Entry {
             item,
             depth,
             has_borrow,
@@ -298,13 +334,11 @@ impl ComponentTypes {
         let types = self.payload_types(payloads)?;
         let parts = types.as_slice();
         self.check_parts(parts, payloads.is_empty())?;
-        check_count(payloads.len(), MAX_NAMES)?;
         let cases = case_map(*self.entries.allocator(), cases)?;
         let (depth, has_borrow) = self.measure(parts)?;
         let (abi, info) = self.variant_abi(payloads)?;
-        self.check_room(1)?;
         let item = Item::Variant(TypeVariant { cases, abi, info });
-        let place = self.push(Entry {
+        let place = self.enter(Entry {
             item,
             depth,
             has_borrow,
@@ -318,15 +352,11 @@ impl ComponentTypes {
         ensures cause { IfErr result (λ e. e ≢ TypeError.OutOfMemory → refusal self.old (EnumType (names_of names.items)) ≡ Some e) }
     {
         let count = names.as_slice().len();
-        if count == 0 {
-            return Err(TypeError::Empty);
-        }
-        check_count(count, MAX_NAMES)?;
+        check_name_count(count, MAX_NAMES)?;
         let (abi, info) = CanonicalAbiInfo::enum_(count as u64);
         let names = name_set(*self.entries.allocator(), names)?;
-        self.check_room(1)?;
         let item = Item::Enum(TypeEnum { names, abi, info });
-        let place = self.push(Entry {
+        let place = self.enter(Entry {
             item,
             depth: 1,
             has_borrow: false,
@@ -340,15 +370,11 @@ impl ComponentTypes {
         ensures cause { IfErr result (λ e. e ≢ TypeError.OutOfMemory → refusal self.old (FlagsType (names_of names.items)) ≡ Some e) }
     {
         let count = names.as_slice().len();
-        if count == 0 {
-            return Err(TypeError::Empty);
-        }
-        check_count(count, MAX_FLAGS)?;
+        check_name_count(count, MAX_FLAGS)?;
         let abi = CanonicalAbiInfo::flags(count as u64);
         let names = name_set(*self.entries.allocator(), names)?;
-        self.check_room(1)?;
         let item = Item::Flags(TypeFlags { names, abi });
-        let place = self.push(Entry {
+        let place = self.enter(Entry {
             item,
             depth: 1,
             has_borrow: false,
@@ -362,16 +388,14 @@ impl ComponentTypes {
         ensures cause { IfErr result (λ e. e ≢ TypeError.OutOfMemory → refusal self.old (OptionType ty) ≡ Some e) }
     {
         let parts = [ty];
-        self.check_parts(&parts, false)?;
-        let (depth, has_borrow) = self.measure(&parts)?;
+        let (depth, has_borrow) = self.measure_parts(&parts, false)?;
         let (abi, info) = self.variant_abi(&[None, Some(parts[0])])?;
-        self.check_room(1)?;
         let item = Item::Option(TypeOption {
             ty: parts[0],
             abi,
             info,
         });
-        let place = self.push(Entry {
+        let place = self.enter(Entry {
             item,
             depth,
             has_borrow,
@@ -391,17 +415,15 @@ impl ComponentTypes {
         let payloads = [ok, err];
         let types = self.payload_types(&payloads)?;
         let parts = types.as_slice();
-        self.check_parts(parts, false)?;
-        let (depth, has_borrow) = self.measure(parts)?;
+        let (depth, has_borrow) = self.measure_parts(parts, false)?;
         let (abi, info) = self.variant_abi(&payloads)?;
-        self.check_room(1)?;
         let item = Item::Result(TypeResult {
             ok: payloads[0],
             err: payloads[1],
             abi,
             info,
         });
-        let place = self.push(Entry {
+        let place = self.enter(Entry {
             item,
             depth,
             has_borrow,
@@ -419,18 +441,16 @@ impl ComponentTypes {
         ensures cause { IfErr result (λ e. e ≢ TypeError.OutOfMemory → refusal self.old (FixedListType element size) ≡ Some e) }
     {
         let parts = [element];
-        self.check_parts(&parts, size == 0)?;
-        let (depth, has_borrow) = self.measure(&parts)?;
+        let (depth, has_borrow) = self.measure_parts(&parts, size == 0)?;
         let Some(abi) = self.fixed_abi(&parts[0], size) else {
             return Err(TypeError::SizeTooLarge);
         };
-        self.check_room(1)?;
         let item = Item::FixedLengthList(TypeFixedLengthList {
             element: parts[0],
             size,
             abi,
         });
-        let place = self.push(Entry {
+        let place = self.enter(Entry {
             item,
             depth,
             has_borrow,
@@ -457,19 +477,38 @@ impl ComponentTypes {
         ensures err { OnErr result (self.new ≡ self.old) }
         ensures cause { IfErr result (λ e. e ≢ TypeError.OutOfMemory → func_refusal self.old params.items results.items ≡ Some e) }
     {
-        self.check_func_parts(&params, &results)?;
-        let params_deepest = self.deepest(&params);
-        let results_deepest = self.deepest(&results);
+        let (params_abi, results_abi) = self.measure_func(&params, &results)?;
+        let params = self.tuple_entry(params, params_abi);
+        let results = self.tuple_entry(results, results_abi);
+        self.push_func(params, results, async_)
+    }
+
+    /// Tests a function, and tells the numbers of its parameters and of its results.
+    fn measure_func(
+        &self,
+        params: &[InterfaceType],
+        results: &[InterfaceType],
+    ) -> Result<(CanonicalAbiInfo, CanonicalAbiInfo), TypeError>
+        ensures fits { OnOk result (func_refusal self.now params.now results.now ≡ None) }
+        ensures room { OnOk result (is_full_for 3 self.now ≡ false) }
+        ensures params { IfOk result (λ abis. MakeTuple self.now params.now abis.0) }
+        ensures results { IfOk result (λ abis. MakeTuple self.now results.now abis.1) }
+        ensures borrows { OnOk result (member_borrows (members_of self.now results.now) ≡ false) }
+        ensures cause { IfErr result (λ e. e ≢ TypeError.OutOfMemory → func_refusal self.now params.now results.now ≡ Some e) }
+    {
+        self.check_func_parts(params, results)?;
+        let params_deepest = self.deepest(params);
+        let results_deepest = self.deepest(results);
         if params_deepest.max(results_deepest) >= MAX_DEPTH {
             return Err(TypeError::TooDeep);
         }
-        let params = self.tuple_entry(params)?;
-        let results = self.tuple_entry(results)?;
-        if results.has_borrow {
+        let params_abi = self.record_abi(params)?;
+        let results_abi = self.record_abi(results)?;
+        if self.any_borrow(results) {
             return Err(TypeError::BorrowInResult);
         }
         self.check_room(3)?;
-        self.push_func(params, results, async_)
+        Ok((params_abi, results_abi))
     }
 
     fn check_func_parts(
@@ -502,24 +541,20 @@ impl ComponentTypes {
         self.any_unit(params) || self.any_unit(results)
     }
 
-    /// The entry of a tuple of known types, which may have no members.
-    fn tuple_entry(&self, types: Vec<InterfaceType>) -> Result<TupleEntry, TypeError>
-        requires known { All (Knows self.now) types.items }
-        requires shallow { deepest (members_of self.now types.items) < 100 }
-        ensures ok { IfOk result (λ e. definition_of (entry_of e).item ≡ TupleType types.items) }
-        ensures entry { IfOk result (λ e. IsEntry self.now (defined_shape (all_shapes self.now) (definition_of (entry_of e).item)) (entry_of e)) }
-        ensures borrows { IfOk result (λ e. e.has_borrow ≡ member_borrows (members_of self.now types.items)) }
-        ensures fits { OnOk result (size false (product of_places (members_of self.now types.items)) < 2 ^ 32) }
-        ensures cause { IfErr result (λ e. e ≢ TypeError.OutOfMemory → (e ≡ TypeError.SizeTooLarge) × (2 ^ 32 ≤ size false (product of_places (members_of self.now types.items)))) }
+    /// The entry of a tuple of these types and numbers, which may have no members.
+    fn tuple_entry(&self, types: Vec<InterfaceType>, abi: CanonicalAbiInfo) -> TupleEntry
+        requires { MakeTuple self.now types.items abi }
+        ensures definition { definition_of (entry_of result).item ≡ TupleType types.items }
+        ensures entry { IsEntry self.now (defined_shape (all_shapes self.now) (definition_of (entry_of result).item)) (entry_of result) }
+        ensures borrows { result.has_borrow ≡ member_borrows (members_of self.now types.items) }
     {
         let depth = self.deepest(&types) + 1;
         let has_borrow = self.any_borrow(&types);
-        let abi = self.record_abi(&types)?;
-        Ok(TupleEntry {
+        TupleEntry {
             tuple: TypeTuple { types, abi },
             depth,
             has_borrow,
-        })
+        }
     }
 
     /// Adds two tuples and a function over them, all or none.
