@@ -9,7 +9,7 @@ use Rattle.canon_value_parts.specs.Args.{LowersResults}
 use Rattle.canon_value_parts.specs.Fails.{MemberFails}
 use Rattle.canon_value_parts.specs.Resources.{all_passes}
 use Rattle.canon_val.specs.Value.{HaveTrees}
-use Rattle.canon_value_parts.proofs.given.lower_results.Goals as goal
+use Rattle.canon_value.proofs.given.lower_results.Goals as goal
 
 pub returns-in-Ok-clause-lowered : goal.returns-in-Ok-clause-lowered
 returns-in-Ok-clause-lowered g c = let h = c.in-Ok.ensures.lowered in record { given = h.handles; ending = _; ends = refl; lowered = h.lowered; passed = h.passed; as_told = tt }

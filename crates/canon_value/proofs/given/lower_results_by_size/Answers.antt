@@ -5,9 +5,9 @@ use Rattle.canon_types.specs.declared.types.InterfaceType.TheVariants as ty
 use Rattle.canon_context.specs.Core.{Parts, types_of}
 use Rattle.canon_value_parts.proofs.Far.{tuple_shape_of_now}
 use Rattle.canon_value_parts.proofs.Givens.{more_than_one, one_or_none}
-use Rattle.canon_value_parts.proofs.given.lower_results_by_size.Given.{Over}
-use Rattle.canon_value_parts.proofs.given.lower_results_by_size.Goals.{After-tuple}
-use Rattle.canon_value_parts.proofs.given.lower_results_by_size.Goals as goal
+use Rattle.canon_value.proofs.given.lower_results_by_size.Given.{Over}
+use Rattle.canon_value.proofs.given.lower_results_by_size.Goals.{After-tuple}
+use Rattle.canon_value.proofs.given.lower_results_by_size.Goals as goal
 
 shape : (g : Over) (c : After-tuple g) → shape_of c.types.result.now (ty.Tuple c.args.ty) ≡ product of_places (tuple_members (types_of c.args.cx.now.core.now) c.args.ty)
 shape g c = tuple_shape_of_now (types_of c.args.cx.now.core.now) c.types.result.now c.args.ty c.tuple.result.now.types.items c.types.ensures c.tuple.ensures.entry c.tuple.ensures.types

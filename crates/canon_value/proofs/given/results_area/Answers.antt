@@ -10,9 +10,9 @@ use Rattle.canon_types.specs.declared.types.InterfaceType.TheVariants as ty
 use Rattle.canon_types.specs.Table.{shape_of, tuple_members}
 use Rattle.canon_value_parts.proofs.Far.{tuple_shape_of_now}
 use Rattle.canon_value_parts.proofs.Pointed.{tuple_align, tuple_size}
-use Rattle.canon_value_parts.proofs.given.results_area.Given.{Over}
-use Rattle.canon_value_parts.proofs.given.results_area.Goals.{After-from}
-use Rattle.canon_value_parts.proofs.given.results_area.Goals as goal
+use Rattle.canon_value.proofs.given.results_area.Given.{Over}
+use Rattle.canon_value.proofs.given.results_area.Goals.{After-from}
+use Rattle.canon_value.proofs.given.results_area.Goals as goal
 
 shape : (g : Over) (c : After-from g) → shape_of c.types.result.now (ty.Tuple c.args.ty) ≡ product of_places (tuple_members (types_of c.args.core.now) c.args.ty)
 shape g c = tuple_shape_of_now (types_of c.args.core.now) c.types.result.now c.args.ty c.tuple-tuple.result.now.types.items (c.types.ensures ∙ ap (λ (x : Component). x.types.types) c.component.ensures.component) c.tuple-tuple.ensures.entry c.tuple-tuple.ensures.types

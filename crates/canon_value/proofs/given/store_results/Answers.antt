@@ -8,7 +8,7 @@ use Rattle.canon_val.specs.Value.{HaveTrees, no_names}
 use Rattle.canon_value_parts.proofs.Givens.{stored_as}
 use Rattle.canon_value_parts.proofs.Lookups.{tuple_names}
 use Rattle.canon_value_parts.proofs.StoreSteps.{Named, count_members}
-use Rattle.canon_value_parts.proofs.given.store_results.Goals as goal
+use Rattle.canon_value.proofs.given.store_results.Goals as goal
 
 pub store_parts-requires-clause-room : goal.store_parts-requires-clause-room
 unfolding size

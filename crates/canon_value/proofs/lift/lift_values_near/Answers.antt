@@ -9,7 +9,7 @@ use Rattle.canon_value_parts.proofs.LiftSteps.{results_err, results_ok}
 use Rattle.canon_value_parts.proofs.LiftingParts.{unnamed_lifted}
 use Rattle.canon_value_parts.specs.Resources.{LiftsHandles, all_resources}
 use Rattle.canon_val.specs.declared.val.Val.{Val}
-use Rattle.canon_value_parts.proofs.lift.lift_values_near.Goals as goal
+use Rattle.canon_value.proofs.lift.lift_values_near.Goals as goal
 
 pub returns-clause-ok : goal.returns-clause-ok
 returns-clause-ok c = λ most near.

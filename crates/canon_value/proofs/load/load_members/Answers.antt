@@ -9,7 +9,7 @@ use Rattle.canon_value_parts.specs.Loads.{AreCharged, AreLoaded, charged_reach}
 use Rattle.canon_val.specs.declared.val.Val.{Val}
 use Rattle.canon_context.proofs.Told.{on_err, on_ok}
 use Rattle.canon_value_parts.proofs.Loading.{members_loaded, members_refused}
-use Rattle.canon_value_parts.proofs.load.load_members.Goals as goal
+use Rattle.canon_value.proofs.load.load_members.Goals as goal
 
 pub returns-clause-ok : goal.returns-clause-ok
 returns-clause-ok c =

@@ -26,9 +26,9 @@ use Rattle.canon_value_parts.proofs.WalkLoops.{member_shallow}
 use Rattle.canon_value_parts.proofs.WordCases.{case_lowered, case_room, case_stopped}
 use Rattle.canon_value_parts.proofs.WordLoops.{end, go_on, has_room, misnamed, stop}
 use Rattle.canon_value_parts.proofs.WordSteps.{members_lower, value_refused}
-use Rattle.canon_value_parts.proofs.lower.+lower.Given.{Over}
-use Rattle.canon_value_parts.proofs.lower.+lower.Goals.{lower_parts-After-member_of-member}
-use Rattle.canon_value_parts.proofs.lower.+lower.Goals as goal
+use Rattle.canon_value.proofs.lower.+lower.Given.{Over}
+use Rattle.canon_value.proofs.lower.+lower.Goals.{lower_parts-After-member_of-member}
+use Rattle.canon_value.proofs.lower.+lower.Goals as goal
 
 -- ---- members
 

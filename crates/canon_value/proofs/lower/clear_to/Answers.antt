@@ -1,7 +1,7 @@
 use Rattle.std.proofs.Common.{arith, subst, ℕ}
 use Rattle.canon_value_parts.specs.Words.{Clears}
 use Rattle.canon_value_parts.proofs.WordCases.{clears_none, clears_one}
-use Rattle.canon_value_parts.proofs.lower.clear_to.Goals as goal
+use Rattle.canon_value.proofs.lower.clear_to.Goals as goal
 
 pub loop-k-init : goal.loop-k-init
 loop-k-init c = clears_none c.args.from.word c.args.dst.now

@@ -9,7 +9,7 @@ use Rattle.canon_value_parts.proofs.PassesOf.{no_passes}
 use Rattle.canon_value_parts.specs.Fails.{FailsAt}
 use Rattle.canon_value_parts.specs.Resources.{passes}
 use Rattle.canon_val.specs.Value.{HasTree}
-use Rattle.canon_value_parts.proofs.lower.linear_lower_to_flat.Goals as goal
+use Rattle.canon_value.proofs.lower.linear_lower_to_flat.Goals as goal
 
 pub returns-in-Ok-clause-lowered : goal.returns-in-Ok-clause-lowered
 returns-in-Ok-clause-lowered g c = let h = c.in-Ok.ensures.lowers in record { given = h.handles; ending = _; ends = refl; lowered = h.lowered; passed = h.handed; as_told = tt }

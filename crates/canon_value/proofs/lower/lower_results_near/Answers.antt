@@ -5,7 +5,7 @@ use Rattle.canon_val.specs.Value.{HaveTrees, no_names}
 use Rattle.canon_value_parts.proofs.Givens.{words_as}
 use Rattle.canon_value_parts.proofs.Lookups.{tuple_names}
 use Rattle.canon_value_parts.proofs.StoreSteps.{Named, count_members}
-use Rattle.canon_value_parts.proofs.lower.lower_results_near.Goals as goal
+use Rattle.canon_value.proofs.lower.lower_results_near.Goals as goal
 
 pub returns-in-Ok-clause-lowered : goal.returns-in-Ok-clause-lowered
 returns-in-Ok-clause-lowered g c =

@@ -6,7 +6,7 @@ use Rattle.canon_context.proofs.Moves.{GuestLaws}
 use Rattle.canon_plan.proofs.ScalarTypes.{scalar_shape}
 use Rattle.canon_value_parts.proofs.PassesOf.{scalar_passes}
 use Rattle.canon_value_parts.proofs.WordSteps.{scalar_lowers}
-use Rattle.canon_value_parts.proofs.lower.lower_word.Goals as goal
+use Rattle.canon_value.proofs.lower.lower_word.Goals as goal
 
 pub bounds-dst-from : goal.bounds-dst-from
 unfolding flat

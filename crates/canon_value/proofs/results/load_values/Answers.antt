@@ -18,8 +18,8 @@ use Rattle.canon_value_parts.specs.Resources.{LiftsHandles, all_resources}
 use Rattle.canon_val.specs.declared.val.Val.{Val}
 use Rattle.std.specs.declared.alloc.Global.{Global}
 use Rattle.canon_value_parts.proofs.Pointed.{far_err, far_ok, misaligned_blamed, tuple_align, tuple_size}
-use Rattle.canon_value_parts.proofs.results.load_values.Goals.{After-load_members, After-tuple-tuple}
-use Rattle.canon_value_parts.proofs.results.load_values.Goals as goal
+use Rattle.canon_value.proofs.results.load_values.Goals.{After-load_members, After-tuple-tuple}
+use Rattle.canon_value.proofs.results.load_values.Goals as goal
 
 shape : (c : After-tuple-tuple) → shape_of c.args.source.now.types.now (ty.Tuple c.args.ty) ≡ product of_places (tuple_members c.args.source.now.types.now c.args.ty)
 shape c = c.tuple-tuple.ensures.entry.shape ∙ ap (λ (xs : List InterfaceType). product of_places (members_of c.args.source.now.types.now xs)) c.tuple-tuple.ensures.types

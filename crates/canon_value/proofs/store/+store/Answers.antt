@@ -32,9 +32,9 @@ use Rattle.canon_context.proofs.Moves.{GuestLaws}
 use Rattle.canon_value_parts.proofs.Walks.{list_told, members_store, placed_stop, value_refused}
 use Rattle.canon_value_parts.proofs.Listing.{element_size, listed, row}
 use Rattle.canon_value_parts.proofs.Placing.{list_broken, list_placed, list_refused, list_too_large}
-use Rattle.canon_value_parts.proofs.store.+store.Given.{Over}
-use Rattle.canon_value_parts.proofs.store.+store.Goals.{store_parts-After-member_of-member, store_parts-After-next_field32_size-start}
-use Rattle.canon_value_parts.proofs.store.+store.Goals as goal
+use Rattle.canon_value.proofs.store.+store.Given.{Over}
+use Rattle.canon_value.proofs.store.+store.Goals.{store_parts-After-member_of-member, store_parts-After-next_field32_size-start}
+use Rattle.canon_value.proofs.store.+store.Goals as goal
 
 -- ---- members
 

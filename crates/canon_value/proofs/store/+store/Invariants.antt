@@ -7,7 +7,7 @@ use Rattle.canon_value_parts.specs.Elements.{element_in}
 use Rattle.canon_plan.specs.Element.{list_shape}
 use Rattle.canon_value_parts.specs.View.{names_of, shapes_of, values_of}
 use Rattle.canon_value_parts.proofs.WalkLoops.{PartsAreStored}
-use Rattle.canon_value_parts.proofs.store.+store.Given as goal
+use Rattle.canon_value.proofs.store.+store.Given as goal
 
 abbrev pub decreases-store_value : goal.decreases-store_value
 decreases-store_value g l = 4 * depth (shape_of (types_of l.cx.now.core.now) l.ty)

@@ -9,7 +9,7 @@ use Rattle.canon_value_parts.proofs.PassesOf.{no_passes}
 use Rattle.canon_value_parts.specs.Fails.{FailsAt}
 use Rattle.canon_value_parts.specs.Resources.{passes}
 use Rattle.canon_val.specs.Value.{HasTree}
-use Rattle.canon_value_parts.proofs.store.linear_lower_to_memory.Goals as goal
+use Rattle.canon_value.proofs.store.linear_lower_to_memory.Goals as goal
 
 pub returns-in-Ok-clause-stored : goal.returns-in-Ok-clause-stored
 returns-in-Ok-clause-stored g c = let h = c.in-Ok.ensures.stores in record { given = h.handles; ending = _; ends = refl; lowered = h.storing; passed = h.handed; as_told = tt }

@@ -11,7 +11,7 @@ use Rattle.canon_val.specs.declared.val.Val.TheVariants as val
 use Rattle.canon_context.proofs.Moves.{GuestLaws}
 use Rattle.canon_value_parts.proofs.HandleSteps.{handle_not_stored, handle_stored}
 use Rattle.canon_value_parts.proofs.Passing.{Ended}
-use Rattle.canon_value_parts.proofs.store.store_handle.Goals as goal
+use Rattle.canon_value.proofs.store.store_handle.Goals as goal
 
 pub returns-in-Ok-clause-stores : goal.returns-in-Ok-clause-stores
 returns-in-Ok-clause-stores g c =

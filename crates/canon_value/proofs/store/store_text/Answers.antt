@@ -3,7 +3,7 @@ use Rattle.canon_lowering.specs.Storing.{IsPair}
 use Rattle.canon_model.specs.Shape.{string}
 use Rattle.canon_context.proofs.Moves.{GuestLaws}
 use Rattle.canon_value_parts.proofs.Walks.{placed_stop, text_told}
-use Rattle.canon_value_parts.proofs.store.store_text.Goals as goal
+use Rattle.canon_value.proofs.store.store_text.Goals as goal
 
 pub returns-in-Ok-clause-stores : goal.returns-in-Ok-clause-stores
 returns-in-Ok-clause-stores g c =

@@ -8,7 +8,7 @@ use Rattle.canon_value_parts.proofs.StoreSteps.{scalar_type_bytes}
 use Rattle.canon_context.proofs.Moves.{GuestLaws}
 use Rattle.canon_value_parts.proofs.PassesOf.{scalar_passes}
 use Rattle.canon_value_parts.proofs.Walks.{scalar_stores}
-use Rattle.canon_value_parts.proofs.store.store_word.Goals as goal
+use Rattle.canon_value.proofs.store.store_word.Goals as goal
 
 pub put_low_bytes-requires-clause-few : goal.put_low_bytes-requires-clause-few
 put_low_bytes-requires-clause-few g c =

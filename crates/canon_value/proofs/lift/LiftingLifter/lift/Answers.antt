@@ -8,7 +8,7 @@ use Rattle.canon_value_parts.specs.Lifts.{LiftsWords}
 use Rattle.canon_value_parts.specs.Resources.{resources}
 use Rattle.canon_value_parts.proofs.LiftSteps.{lift_err, lift_ok}
 use Rattle.canon_value_parts.proofs.LiftedSteps.{lifted_after}
-use Rattle.canon_value_parts.proofs.lift.LiftingLifter.lift.Goals as goal
+use Rattle.canon_value.proofs.lift.LiftingLifter.lift.Goals as goal
 
 pub returns-clause-gives : goal.returns-clause-gives
 returns-clause-gives c =

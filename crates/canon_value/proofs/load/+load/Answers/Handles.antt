@@ -34,7 +34,7 @@ use Rattle.canon_value_parts.proofs.LeavesAt.{items_leaves, no_members_left, sca
 use Rattle.canon_value_parts.proofs.Lifted.{lifts_nothing, no_refusal, parts_of_leaves, put_together, refused_after, refused_before, stops_before, taking_ends, taking_goes_on, taking_stops_first, taking_stops_here}
 use Rattle.canon_value_parts.proofs.ResourcesOf.{scalar_has_none, text_has_none}
 use Rattle.canon_value_parts.specs.Resources.{LiftsHandles, all_resources, resources, stop_of}
-use Rattle.canon_value_parts.proofs.load.+load.Goals as goal
+use Rattle.canon_value.proofs.load.+load.Goals as goal
 
 pub load_parts-returns-in_err-values-clause-handles : goal.load_parts-returns-in_err-values-clause-handles
 load_parts-returns-in_err-values-clause-handles t c = refused_before c.args.source.now.instance.now _ c.args.ledger.now _ c.from_residual.result _ c.from_residual.ensures refl

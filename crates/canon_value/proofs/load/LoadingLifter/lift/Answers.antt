@@ -3,7 +3,7 @@ use Rattle.canon_model.specs.Leaves.{reach_leaves}
 use Rattle.canon_types.specs.Table.{shape_of}
 use Rattle.canon_value_parts.specs.Resources.{resources}
 use Rattle.canon_value_parts.proofs.LiftedSteps.{lifted_after}
-use Rattle.canon_value_parts.proofs.load.LoadingLifter.lift.Goals as goal
+use Rattle.canon_value.proofs.load.LoadingLifter.lift.Goals as goal
 
 pub returns-clause-steps : goal.returns-clause-steps
 returns-clause-steps c =

@@ -13,8 +13,8 @@ use Rattle.canon_value_parts.specs.Lifts.{HaveWords, LiftsValues}
 use Rattle.canon_value_parts.specs.Resources.{all_resources}
 use Rattle.canon_value_parts.proofs.LiftedSteps.{lifted_after}
 use Rattle.canon_value_parts.proofs.NearFaults.{near_err, passes_most, tuple_flat}
-use Rattle.canon_value_parts.proofs.results.ValuesLifter.lift.Goals.{After-tuple}
-use Rattle.canon_value_parts.proofs.results.ValuesLifter.lift.Goals as goal
+use Rattle.canon_value.proofs.results.ValuesLifter.lift.Goals.{After-tuple}
+use Rattle.canon_value.proofs.results.ValuesLifter.lift.Goals as goal
 
 words : (c : After-tuple) → flat (shape_of c.args.source.now.types.now (ty.Tuple c.args.self.now.ty)) ≡ members_flat (tuple_members c.args.source.now.types.now c.args.self.now.ty)
 words c =
