@@ -41,14 +41,20 @@ module _ (t : Table) (ps rs : List InterfaceType) where
   func_passed h = ap (λ (o : Option TypeError). or_else o func_later) (sym h)
 
   pub func_deep : None ≡ func_parts_refusal t ps rs → 100 ≤ max (deepest (members_of t ps)) (deepest (members_of t rs)) → func_refusal t ps rs ≡ Some error.TooDeep
-  func_deep pass h = func_passed pass ∙ later_deep (max (depth (product of_places (members_of t ps))) (depth (product of_places (members_of t rs)))) (max (size false (product of_places (members_of t ps))) (size false (product of_places (members_of t rs)))) (member_borrows (members_of t rs)) (is_full_for 3 t) (omega (arith, h))
+  func_deep pass h = func_passed pass ∙ later_deep
+      (max (depth (product of_places (members_of t ps))) (depth (product of_places (members_of t rs))))
+      (max (size false (product of_places (members_of t ps))) (size false (product of_places (members_of t rs)))) (member_borrows (members_of t rs)) (is_full_for 3 t) (omega (arith, h))
 
   module _ (pass : None ≡ func_parts_refusal t ps rs) (first : deepest (members_of t ps) < 100) (second : deepest (members_of t rs) < 100) where
     pub func_large : 2 ^ 32 ≤ max (size false (product of_places (members_of t ps))) (size false (product of_places (members_of t rs))) → func_refusal t ps rs ≡ Some error.SizeTooLarge
-    func_large h = func_passed pass ∙ later_large (max (depth (product of_places (members_of t ps))) (depth (product of_places (members_of t rs)))) (max (size false (product of_places (members_of t ps))) (size false (product of_places (members_of t rs)))) (member_borrows (members_of t rs)) (is_full_for 3 t) (omega (arith, first, second)) h
+    func_large h = func_passed pass ∙ later_large
+        (max (depth (product of_places (members_of t ps))) (depth (product of_places (members_of t rs))))
+        (max (size false (product of_places (members_of t ps))) (size false (product of_places (members_of t rs)))) (member_borrows (members_of t rs)) (is_full_for 3 t) (omega (arith, first, second)) h
 
     pub func_last : size false (product of_places (members_of t ps)) < 2 ^ 32 → size false (product of_places (members_of t rs)) < 2 ^ 32 → func_refusal t ps rs ≡ last_error (member_borrows (members_of t rs)) (is_full_for 3 t)
-    func_last small short = func_passed pass ∙ later_last (max (depth (product of_places (members_of t ps))) (depth (product of_places (members_of t rs)))) (max (size false (product of_places (members_of t ps))) (size false (product of_places (members_of t rs)))) (member_borrows (members_of t rs)) (is_full_for 3 t) (omega (arith, first, second)) (omega (arith, small, short))
+    func_last small short = func_passed pass ∙ later_last
+        (max (depth (product of_places (members_of t ps))) (depth (product of_places (members_of t rs))))
+        (max (size false (product of_places (members_of t ps))) (size false (product of_places (members_of t rs)))) (member_borrows (members_of t rs)) (is_full_for 3 t) (omega (arith, first, second)) (omega (arith, small, short))
 
     pub func_borrows : size false (product of_places (members_of t ps)) < 2 ^ 32 → size false (product of_places (members_of t rs)) < 2 ^ 32 → member_borrows (members_of t rs) ≡ true → func_refusal t ps rs ≡ Some error.BorrowInResult
     func_borrows small short h = func_last small short ∙ ap (λ (b : Bool). last_error b (is_full_for 3 t)) h
