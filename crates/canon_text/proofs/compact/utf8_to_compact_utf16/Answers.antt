@@ -16,15 +16,15 @@ spread_ascii-run-requires-clause-dst c =
 pub scalar_at-scalar-requires-clause-utf8 : goal.scalar_at-scalar-requires-clause-utf8
 scalar_at-scalar-requires-clause-utf8 c =
     let mid = advancing_bytes-run c.args.src.now c.inflate.new.dst c.loop-read.dst c.spread_ascii-run.new.dst (2 * c.args.latin1_bytes_so_far)
-            c.loop-read.read c.loop-read.end c.spread_ascii-run.result (omega (arith, c.requires.room, c.inflate.auto.dst)) c.loop-read.invariant
-            c.spread_ascii-run.ensures in
+    c.loop-read.read c.loop-read.end c.spread_ascii-run.result (omega (arith, c.requires.room, c.inflate.auto.dst)) c.loop-read.invariant
+    c.spread_ascii-run.ensures in
     mid.so_far.read.utf8
 
 pub write_utf16_bytes-end-requires-clause-room : goal.write_utf16_bytes-end-requires-clause-room
 write_utf16_bytes-end-requires-clause-room c =
     let mid = advancing_bytes-run c.args.src.now c.inflate.new.dst c.loop-read.dst c.spread_ascii-run.new.dst (2 * c.args.latin1_bytes_so_far)
-            c.loop-read.read c.loop-read.end c.spread_ascii-run.result (omega (arith, c.requires.room, c.inflate.auto.dst)) c.loop-read.invariant
-            c.spread_ascii-run.ensures in
+    c.loop-read.read c.loop-read.end c.spread_ascii-run.result (omega (arith, c.requires.room, c.inflate.auto.dst)) c.loop-read.invariant
+    c.spread_ascii-run.ensures in
     let run = c.spread_ascii-run in
     let code = c.scalar_at-scalar.result.code in
     let place = c.loop-read.read + run.result in
@@ -38,8 +38,8 @@ loop-read-smaller-then-read-src c = omega (arith, c.scalar_at-scalar.ensures.len
 pub loop-read-preserved-then-read-src : goal.loop-read-preserved-then-read-src
 loop-read-preserved-then-read-src c =
     let mid = advancing_bytes-run c.args.src.now c.inflate.new.dst c.loop-read.dst c.spread_ascii-run.new.dst (2 * c.args.latin1_bytes_so_far)
-            c.loop-read.read c.loop-read.end c.spread_ascii-run.result (omega (arith, c.requires.room, c.inflate.auto.dst)) c.loop-read.invariant
-            c.spread_ascii-run.ensures in
+    c.loop-read.read c.loop-read.end c.spread_ascii-run.result (omega (arith, c.requires.room, c.inflate.auto.dst)) c.loop-read.invariant
+    c.spread_ascii-run.ensures in
     let run = c.spread_ascii-run in
     let place = c.loop-read.read + run.result in
     advancing_bytes-more c.args.src.now c.inflate.new.dst run.new.dst _ (2 * c.args.latin1_bytes_so_far) place (c.loop-read.end + 2 * run.result) _ _
