@@ -1,5 +1,4 @@
-//! Tests of the commands of the program `canon`, of sources and sinks, and of the calls of canon_gen and canon_player that
-//! stand behind the commands.
+//! Tests of the commands of the program `canon` over sources and sinks that fail, and of what canon_gen makes.
 #![tactic(auto)]
 
 #[cfg(test)]

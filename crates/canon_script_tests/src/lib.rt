@@ -1,4 +1,4 @@
-//! Tests of values, actions and scripts, as they are read and as they are refused.
+//! Tests of actions that are read by themselves.
 #![tactic(auto)]
 
 #[cfg(test)]

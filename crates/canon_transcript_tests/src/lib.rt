@@ -1,4 +1,4 @@
-//! Tests of the lines of a transcript.
+//! Tests of the lines of a transcript that no script shows.
 #![tactic(auto)]
 
 #[cfg(test)]
