@@ -11,10 +11,10 @@ use Rattle.canon_context.specs.Quiet.{have_block}
 use Rattle.canon_context.specs.declared.fault.Fault.{Fault}
 use Rattle.canon_leaves.specs.Parts.{Part}
 use Rattle.canon_ledger.specs.Ledger.{LedgerState}
-use Rattle.canon_lower.proofs.Attempts.{cross_stopped, ends_done, ends_early}
-use Rattle.canon_lower.proofs.BlockSteps.{elsewhere_asked}
-use Rattle.canon_lower.specs.Lowers.{EndsBy, HandlesCross}
-use Rattle.canon_lower.specs.Stores.{TypedStores}
+use Rattle.canon_lower_parts.proofs.Attempts.{cross_stopped, ends_done, ends_early}
+use Rattle.canon_lower_parts.proofs.BlockSteps.{elsewhere_asked}
+use Rattle.canon_lower_parts.specs.Lowers.{EndsBy, HandlesCross}
+use Rattle.canon_lower_parts.specs.Stores.{TypedStores}
 use Rattle.canon_lowering.proofs.AimedAt.{value_framed}
 use Rattle.canon_lowering.proofs.Attempts.{Points, attempt_block, block_first, block_only}
 use Rattle.canon_lowering.proofs.Lowerings.{none_answered}

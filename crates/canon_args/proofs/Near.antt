@@ -6,7 +6,7 @@ use Rattle.canon_context.proofs.Moves.{GuestLaws}
 use Rattle.canon_context.specs.Core.{Parts, encoding_by, moment_of}
 use Rattle.canon_context.specs.declared.fault.Fault.{Fault}
 use Rattle.canon_leaves.specs.Parts.{Part}
-use Rattle.canon_lower.specs.Words.{TypedLowers}
+use Rattle.canon_lower_parts.specs.Words.{TypedLowers}
 use Rattle.canon_lowering.proofs.Attempts.{Turns, attempt_as}
 use Rattle.canon_lowering.specs.Attempt.{args_in, value_words}
 use Rattle.canon_memory.specs.Guest.{Moment}

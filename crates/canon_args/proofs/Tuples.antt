@@ -8,8 +8,8 @@ use Rattle.canon_args.specs.Results.{LowersTuple, TypedResults}
 use Rattle.canon_context.specs.Core.{Parts, encoding_by, moment_of}
 use Rattle.canon_context.specs.declared.fault.Fault.{Fault}
 use Rattle.canon_leaves.specs.Parts.{Part}
-use Rattle.canon_lower.specs.Stores.{TypedStores}
-use Rattle.canon_lower.specs.Words.{TypedLowers}
+use Rattle.canon_lower_parts.specs.Stores.{TypedStores}
+use Rattle.canon_lower_parts.specs.Words.{TypedLowers}
 use Rattle.canon_lowering.proofs.AimedAt.{members_framed}
 use Rattle.canon_lowering.proofs.Attempts.{Turns, attempt_as, keeps_same, with_blocks, within_block}
 use Rattle.canon_lowering.specs.Attempt.{LowersMembers, members_at, members_span, members_words, value_at, value_place, value_words}

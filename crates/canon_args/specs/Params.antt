@@ -6,8 +6,8 @@ use Rattle.canon_context.specs.Moves.{Moves}
 use Rattle.canon_context.specs.Quiet.{have_block}
 use Rattle.canon_context.specs.declared.fault.Fault.{Fault}
 use Rattle.canon_leaves.specs.Parts.{Part}
-use Rattle.canon_lower.specs.Blames.{HaveLarge, IsElsewhere}
-use Rattle.canon_lower.specs.Lowers.{EndsBy, HandlesCross}
+use Rattle.canon_lower_parts.specs.Blames.{HaveLarge, IsElsewhere}
+use Rattle.canon_lower_parts.specs.Lowers.{EndsBy, HandlesCross}
 use Rattle.canon_lowering.specs.Lowering.{Ending, refused}
 use Rattle.canon_memory.specs.Guest.{GuestIn, Seen}
 use Rattle.canon_memory.specs.declared.event.Event.{Event}

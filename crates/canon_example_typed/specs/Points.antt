@@ -1,8 +1,8 @@
 -- The laws of a point: those of a tuple, over the laws of its coordinates.
 use Rattle.std.specs.Prelude.{[], ◌∷◌, ◌≡◌, pos, refl, ℕ}
 use Rattle.std.proofs.Common.{ap}
-use Rattle.canon_lower.specs.Given.{IsGiven, first_given, none_given, scalar_given, tuple_given}
-use Rattle.canon_lower.specs.Gives.{no_handles, product_gives}
+use Rattle.canon_lower_parts.specs.Given.{IsGiven, first_given, none_given, scalar_given, tuple_given}
+use Rattle.canon_lower_parts.specs.Gives.{no_handles, product_gives}
 use Rattle.canon_model.specs.Shape as shape
 use Rattle.canon_model.specs.Tree.{Tree, number}
 use Rattle.canon_types.specs.Instance.{Instance}

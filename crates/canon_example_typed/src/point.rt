@@ -3,7 +3,7 @@
 ghost use Rattle.std.specs.Prelude.{false, refl};
 ghost use Rattle.canon_example_typed.specs.Points.{point_apart, point_faulted, point_given, point_kept, point_priced, point_taken, point_told, point_typed};
 ghost use Rattle.canon_reading.specs.Readings.{read_as};
-ghost use Rattle.canon_lower.specs.Walkable.{first_walkable, none_walkable, product_walkable};
+ghost use Rattle.canon_lower_parts.specs.Walkable.{first_walkable, none_walkable, product_walkable};
 
 use canon_context::{Fault, LiftContext, LowerContext};
 use canon_lift::Lift;

@@ -9,9 +9,9 @@ use Rattle.canon_context.specs.declared.fault.Fault.{Fault}
 use Rattle.canon_context.specs.declared.fault.Fault.TheVariants as fault
 use Rattle.canon_leaves.specs.Parts.{LeavesStop, LeavesTake, Part}
 use Rattle.canon_ledger.specs.declared.fault.ResourceFault.TheVariants as resource
-use Rattle.canon_lower.proofs.Attempts.{ends_done}
-use Rattle.canon_lower.specs.Blames.{IsElsewhere, IsLargeFault}
-use Rattle.canon_lower.specs.Lowers.{EndsBy}
+use Rattle.canon_lower_parts.proofs.Attempts.{ends_done}
+use Rattle.canon_lower_parts.specs.Blames.{IsElsewhere, IsLargeFault}
+use Rattle.canon_lower_parts.specs.Lowers.{EndsBy}
 use Rattle.canon_lowering.specs.Attempt.{LowersArgs}
 use Rattle.canon_lowering.specs.Lowering.{Ending, done, events_of}
 use Rattle.canon_memory.specs.Guest.{GuestIn, Seen}

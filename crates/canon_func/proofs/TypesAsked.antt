@@ -17,9 +17,9 @@ use Rattle.canon_leaves.proofs.Leaves.{leaves_excluded}
 use Rattle.canon_leaves.specs.Parts.{LeavesStop, Part}
 use Rattle.canon_reading.specs.Reading.{AreTaken, Lifts, Reading}
 use Rattle.canon_reading.specs.Spots.{flat_in}
-use Rattle.canon_lower.proofs.Attempts.{ends_done}
-use Rattle.canon_lower.specs.Blames.{IsElsewhere, IsLargeFault}
-use Rattle.canon_lower.specs.Lowers.{EndsBy}
+use Rattle.canon_lower_parts.proofs.Attempts.{ends_done}
+use Rattle.canon_lower_parts.specs.Blames.{IsElsewhere, IsLargeFault}
+use Rattle.canon_lower_parts.specs.Lowers.{EndsBy}
 use Rattle.canon_lowering.proofs.Lowerings.{none_answered}
 use Rattle.canon_lowering.specs.Lowering.{AllLawful, Answer, CauseOf, Ending, Trap, events_of, marks_of, refused}
 use Rattle.canon_context.specs.Core.{Parts, guest_of, moment_of}

@@ -12,7 +12,7 @@ use Rattle.canon_leaves.specs.Parts.{LeavesTake}
 use Rattle.canon_ledger.specs.Ledger.{LedgerState}
 use Rattle.canon_reading.specs.Spots.{flat_in}
 use Rattle.canon_reading.specs.Ways.{AreLiftedBy}
-use Rattle.canon_lower.specs.Given.{AreGivenBy}
+use Rattle.canon_lower_parts.specs.Given.{AreGivenBy}
 use Rattle.canon_lowering.specs.Storing.{narrow}
 use Rattle.canon_model.specs.Flat.{RepArgs}
 use Rattle.canon_model.specs.Leaves.{members_leaves}

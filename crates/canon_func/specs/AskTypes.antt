@@ -14,7 +14,7 @@ use Rattle.canon_ledger.specs.Ledger.{LedgerState}
 use Rattle.canon_leaves.specs.Parts.{LeavesTake, Part}
 use Rattle.canon_reading.specs.Reading.{Lifts, Reading, Setting}
 use Rattle.canon_reading.specs.Spots.{flat_in}
-use Rattle.canon_lower.specs.Lowers.{EndsBy, HandlesCross}
+use Rattle.canon_lower_parts.specs.Lowers.{EndsBy, HandlesCross}
 use Rattle.canon_lowering.specs.Attempt.{LowersMembers}
 use Rattle.canon_lowering.specs.Lowering.{Answer, Ending, Trap}
 use Rattle.canon_lowering.specs.Storing.{narrow}

@@ -20,7 +20,7 @@ use Rattle.canon_host.specs.declared.asked.Asked.{Asked}
 use Rattle.canon_func.specs.Asks.{IsBuiltinServed, builtin_at, builtin_step}
 use Rattle.canon_reading.specs.Reading.{Reading}
 use Rattle.canon_reading.specs.Ways.{AreLiftedBy}
-use Rattle.canon_lower.specs.Given.{AreGivenBy}
+use Rattle.canon_lower_parts.specs.Given.{AreGivenBy}
 use Rattle.canon_model.specs.Leaves.{members_leaves}
 use Rattle.canon_types.specs.Instance.{Instance}
 use Rattle.canon_types.specs.Table.{shape_of}

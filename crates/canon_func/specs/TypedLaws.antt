@@ -8,8 +8,8 @@ use Rattle.canon_context.specs.declared.fault.Fault.TheVariants as fault
 use Rattle.canon_leaves.specs.Parts.{Part}
 use Rattle.canon_reading.specs.Reading.{AreTaken, Reading}
 use Rattle.canon_reading.specs.Spots.{flat_in}
-use Rattle.canon_lower.proofs.Blamed.{large_fault}
-use Rattle.canon_lower.specs.Blames.{IsElsewhere, IsLargeFault}
+use Rattle.canon_lower_parts.proofs.Blamed.{large_fault}
+use Rattle.canon_lower_parts.specs.Blames.{IsElsewhere, IsLargeFault}
 use Rattle.canon_model.specs.Flat.{max_results}
 use Rattle.canon_model.specs.Layout.{flat}
 use Rattle.canon_model.specs.Shape.{Members}

@@ -18,8 +18,8 @@ use Rattle.canon_leaves.specs.Parts.{LeavesTake, Part}
 use Rattle.canon_ledger.specs.Handles.{top_scope}
 use Rattle.canon_ledger.specs.Ledger.{ExitScope, LedgerState, Through, do_step, enter, leave}
 use Rattle.canon_reading.specs.Reading.{AreTaken, Reading}
-use Rattle.canon_lower.specs.Given.{AreGivenBy, IsGiven}
-use Rattle.canon_lower.specs.Lowers.{EndsBy}
+use Rattle.canon_lower_parts.specs.Given.{AreGivenBy, IsGiven}
+use Rattle.canon_lower_parts.specs.Lowers.{EndsBy}
 use Rattle.canon_lowering.specs.Attempt.{AreHeld, LowersMembers, handle_numbers, value_place}
 use Rattle.canon_lowering.specs.Lowering.{AllLawful, Ending, Requested, Trap, done, events_of, marks_of}
 use Rattle.canon_lowering.specs.Storing.{narrow}

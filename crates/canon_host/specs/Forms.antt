@@ -11,7 +11,7 @@ use Rattle.canon_ledger.specs.Reached.{ledger_in}
 use Rattle.canon_reading.specs.Apart.{IsApart}
 use Rattle.canon_reading.specs.OfTrees.{IsFaulted, IsOfTrees, IsPriced}
 use Rattle.canon_reading.specs.Reading.{AreTaken, Reading}
-use Rattle.canon_lower.specs.Given.{IsGiven}
+use Rattle.canon_lower_parts.specs.Given.{IsGiven}
 use Rattle.canon_model.specs.Shape.{Shape}
 use Rattle.canon_model.specs.Tree.{Tree}
 use Rattle.canon_typed.specs.Typed.{IsTyped}

@@ -18,7 +18,7 @@ use Rattle.canon_ledger.specs.Handles.{top_scope}
 use Rattle.canon_ledger.specs.Ledger.{Enter, ExitScope, Leave, LedgerState, LedgerStep, Partway, Through, do_step, enter, leave}
 use Rattle.canon_reading.specs.Reading.{Reading, setting_in}
 use Rattle.canon_reading.specs.Ways.{AreLiftedBy}
-use Rattle.canon_lower.specs.Given.{AreGivenBy}
+use Rattle.canon_lower_parts.specs.Given.{AreGivenBy}
 use Rattle.canon_lowering.specs.Attempt.{AreHeld, handle_numbers, value_place}
 use Rattle.canon_lowering.specs.Lowering.{AllLawful, Answer, Requested, done, events_of, marks_of}
 use Rattle.canon_lowering.specs.Storing.{narrow}

@@ -1,13 +1,14 @@
 //! Options and results.
 
-ghost use Rattle.canon_lower.specs.Given.{option_given, result_given};
-ghost use Rattle.canon_lower.specs.Gives.{option_gives, result_gives};
-ghost use Rattle.canon_lower.specs.Walkable.{option_walkable, result_walkable};
+ghost use Rattle.canon_lower_parts.specs.Given.{option_given, result_given};
+ghost use Rattle.canon_lower_parts.specs.Gives.{option_gives, result_gives};
+ghost use Rattle.canon_lower_parts.specs.Walkable.{option_walkable, result_walkable};
 
-use crate::cases::{put_option, put_result, store_payload, store_shared_payload};
-use crate::words::{lower_bare, lower_case, lower_payload, lower_shared_payload};
+use crate::cases::{store_payload, store_shared_payload};
+use crate::words::{lower_case, lower_payload, lower_shared_payload};
 use crate::{Lower, LowerShared};
 use canon_context::{Fault, LowerContext};
+use canon_lower_parts::{lower_bare, put_option, put_result};
 use canon_memory::{Guest, ValRaw};
 use canon_types::InterfaceType;
 

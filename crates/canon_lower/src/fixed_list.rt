@@ -2,39 +2,22 @@
 
 ghost use Rattle.std.specs.Prelude.{◌≡◌, ◌≤◌, flat_map, length};
 ghost use Rattle.canon_context.specs.Core.{types_of};
-ghost use Rattle.canon_lower.specs.Given.{fixed_given};
-ghost use Rattle.canon_lower.specs.Gives.{item_shape};
-ghost use Rattle.canon_lower.specs.Lists.{IsElementOf};
-ghost use Rattle.canon_lower.specs.Words.{TypedMembersLower};
+ghost use Rattle.canon_lower_parts.specs.Given.{fixed_given};
+ghost use Rattle.canon_lower_parts.specs.Gives.{item_shape};
+ghost use Rattle.canon_lower_parts.specs.Words.{TypedMembersLower};
 ghost use Rattle.canon_lowering.specs.Copies.{copies};
 ghost use Rattle.canon_model.specs.Layout.{members_flat};
-ghost use Rattle.canon_model.specs.Shape.{fixed};
 ghost use Rattle.canon_types.specs.Table.{Knows, shape_of};
 ghost use Rattle.canon_typed.specs.Meaning.{EachMeans};
-ghost use Rattle.canon_typed.specs.Types.{IsFixedOf};
-ghost use Rattle.canon_lower.specs.Walkable.{row_walkable};
+ghost use Rattle.canon_lower_parts.specs.Walkable.{row_walkable};
 
 use crate::words::lower_at;
 use crate::{Lower, LowerShared};
 use canon_context::{Fault, LowerContext};
+use canon_lower_parts::fixed_element;
 use canon_memory::{Guest, ValRaw};
-use canon_typed::{ComponentType, FixedList};
-use canon_types::{InstanceType, InterfaceType};
-
-/// The type of the items of a list of `N`.
-fn fixed_element<T: ComponentType, const N: usize>(
-    types: &InstanceType,
-    ty: &InterfaceType,
-) -> InterfaceType
-    requires known { Knows types.now.types ty.now }
-    requires fits { IsFixedOf N T.fits types.now ty.now }
-    ensures { IsElementOf (λ s. fixed N s) T.fits types.now ty.now result }
-{
-    let InterfaceType::FixedLengthList(i) = *ty else {
-        unreachable!()
-    };
-    types.types().fixed_length_list(i).element
-}
+use canon_typed::FixedList;
+use canon_types::InterfaceType;
 
 /// Lowers values of one type in a row.
 fn lower_items<T: Lower, D, G: Guest>(

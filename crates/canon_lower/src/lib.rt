@@ -1,7 +1,6 @@
 //! Values of Rust types, lowered to a guest without a `Val` in between: into words, and into the guest's memory.
 #![tactic(auto)]
 
-mod blocks;
 mod cases;
 mod compounds;
 mod fixed_list;
@@ -10,7 +9,6 @@ mod lists;
 mod lower;
 mod maps;
 mod members;
-mod put;
 mod references;
 mod resources;
 mod scalars;

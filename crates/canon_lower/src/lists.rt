@@ -1,35 +1,20 @@
 //! Lists: their items stand in a row in a block of their own.
 
-ghost use Rattle.std.specs.Prelude.{◌≡◌, ◌≤◌, ◌+◌, false, flat_map, length};
+ghost use Rattle.std.specs.Prelude.{◌≡◌, flat_map, length};
 ghost use Rattle.canon_context.specs.Core.{types_of};
-ghost use Rattle.canon_lower.specs.Given.{list_given};
-ghost use Rattle.canon_lower.specs.Gives.{item_shape};
-ghost use Rattle.canon_lower.specs.Lists.{IsElementOf};
-ghost use Rattle.canon_lower.specs.Places.{TypedPlaces};
-ghost use Rattle.canon_model.specs.Shape.{list, of_items};
+ghost use Rattle.canon_lower_parts.specs.Given.{list_given};
+ghost use Rattle.canon_lower_parts.specs.Gives.{item_shape};
+ghost use Rattle.canon_lower_parts.specs.Places.{TypedPlaces};
 ghost use Rattle.canon_types.specs.Table.{Knows, shape_of};
 ghost use Rattle.canon_typed.specs.Meaning.{ListMeans};
 ghost use Rattle.canon_typed.specs.Types.{IsListOf};
-ghost use Rattle.canon_lower.specs.Walkable.{list_walkable};
+ghost use Rattle.canon_lower_parts.specs.Walkable.{list_walkable};
 
-use crate::blocks::{Placed, ask_items, put_placed, put_words};
 use crate::{Lower, LowerShared};
 use canon_context::{Fault, LowerContext};
+use canon_lower_parts::{Placed, ask_items, list_element, put_placed, put_words};
 use canon_memory::{Guest, ValRaw};
-use canon_typed::ComponentType;
-use canon_types::{InstanceType, InterfaceType};
-
-/// The type of a list's items.
-fn list_element<T: ComponentType>(types: &InstanceType, ty: &InterfaceType) -> InterfaceType
-    requires known { Knows types.now.types ty.now }
-    requires fits { IsListOf T.fits types.now ty.now }
-    ensures { IsElementOf (λ s. list of_items s) T.fits types.now ty.now result }
-{
-    let InterfaceType::List(i) = *ty else {
-        unreachable!()
-    };
-    types.types().list(i).element
-}
+use canon_types::InterfaceType;
 
 /// Puts values into a block of their own, as the items of a list (CanonicalABI.md, "store_list_into_range").
 fn place_list<T: Lower, D, G: Guest>(

@@ -3,9 +3,9 @@
 ghost use Rattle.std.specs.Prelude.{◌≡◌, ◌≤◌, ◌+◌, ◌*◌, List, false, flat_map, length};
 ghost use Rattle.canon_context.specs.Core.{types_of};
 ghost use Rattle.canon_leaves.specs.Parts.{Part};
-ghost use Rattle.canon_lower.specs.Given.{IsGiven};
-ghost use Rattle.canon_lower.specs.Stores.{TypedMembersStore, TypedStores};
-ghost use Rattle.canon_lower.specs.Words.{TypedLowers};
+ghost use Rattle.canon_lower_parts.specs.Given.{IsGiven};
+ghost use Rattle.canon_lower_parts.specs.Stores.{TypedMembersStore, TypedStores};
+ghost use Rattle.canon_lower_parts.specs.Words.{TypedLowers};
 ghost use Rattle.canon_lowering.specs.Copies.{copies};
 ghost use Rattle.canon_model.specs.Layout.{flat, size};
 ghost use Rattle.canon_model.specs.Shape.{Shape};

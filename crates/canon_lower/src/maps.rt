@@ -2,60 +2,27 @@
 
 ghost use Rattle.std.specs.Prelude.{◌≡◌, ◌≤◌, ◌+◌, ◌*◌, false, flat_map, length};
 ghost use Rattle.canon_context.specs.Core.{types_of};
-ghost use Rattle.canon_lower.specs.Given.{map_given};
-ghost use Rattle.canon_lower.specs.Gives.{map_gives, pair_gives};
-ghost use Rattle.canon_lower.specs.Pairs.{IsPairType, pair_in};
-ghost use Rattle.canon_lower.specs.Places.{TypedPlaces};
-ghost use Rattle.canon_lower.specs.Stores.{TypedMembersStore, TypedStores};
-ghost use Rattle.canon_lower.specs.Words.{TypedLowers};
+ghost use Rattle.canon_lower_parts.specs.Given.{map_given};
+ghost use Rattle.canon_lower_parts.specs.Gives.{map_gives, pair_gives};
+ghost use Rattle.canon_lower_parts.specs.Pairs.{IsPairType, pair_in};
+ghost use Rattle.canon_lower_parts.specs.Places.{TypedPlaces};
+ghost use Rattle.canon_lower_parts.specs.Stores.{TypedMembersStore, TypedStores};
+ghost use Rattle.canon_lower_parts.specs.Words.{TypedLowers};
 ghost use Rattle.canon_lowering.specs.Copies.{copies};
 ghost use Rattle.canon_model.specs.Layout.{flat, size};
-ghost use Rattle.canon_model.specs.Shape.{map_of};
 ghost use Rattle.canon_types.specs.Table.{Knows, shape_of};
 ghost use Rattle.canon_typed.specs.Maps.{MapWalks};
 ghost use Rattle.canon_typed.specs.Meaning.{EachMeans, PairMeans};
 ghost use Rattle.canon_typed.specs.Types.{IsMapOf};
-ghost use Rattle.canon_lower.specs.Walkable.{map_walkable};
+ghost use Rattle.canon_lower_parts.specs.Walkable.{map_walkable};
 
-use crate::blocks::{Placed, ask_items, put_placed, put_words};
 use crate::{Lower, LowerShared};
 use canon_context::{Fault, LowerContext};
+use canon_lower_parts::{PairType, Placed, ask_items, pair_type, put_placed, put_words};
 use canon_memory::{Guest, ValRaw};
-use canon_typed::ComponentType;
-use canon_types::{CanonicalAbiInfo, InstanceType, InterfaceType};
+use canon_types::InterfaceType;
 use std::collections::HashMap;
 use std::hash::Hash;
-
-/// The types of a map's keys and values, where the value begins in a pair, and how a pair lies.
-#[derive(Clone, Copy)]
-pub(crate) struct PairType {
-    pub(crate) key: InterfaceType,
-    pub(crate) value: InterfaceType,
-    pub(crate) second: u32,
-    pub(crate) abi: CanonicalAbiInfo,
-}
-
-/// The pairs of a map's type.
-fn pair_type<K: ComponentType, V: ComponentType>(
-    types: &InstanceType,
-    ty: &InterfaceType,
-) -> PairType
-    requires known { Knows types.now.types ty.now }
-    requires fits { IsMapOf K.fits V.fits types.now ty.now }
-    ensures shape { shape_of types.now.types ty.now ≡ map_of (shape_of types.now.types result.key) (shape_of types.now.types result.value) }
-    ensures pair { IsPairType K.fits V.fits types.now result }
-{
-    let InterfaceType::Map(i) = *ty else {
-        unreachable!()
-    };
-    let map = types.types().map(i);
-    PairType {
-        key: map.key,
-        value: map.value,
-        second: map.value_offset32,
-        abi: map.entry_abi,
-    }
-}
 
 /// Stores a pair at an address.
 fn store_pair<K: LowerShared, V: LowerShared, D, G: Guest>(

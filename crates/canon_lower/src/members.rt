@@ -1,12 +1,12 @@
 //! The members of a tuple, one after another.
 
-ghost use Rattle.std.specs.Prelude.{◌≡◌, ◌≤◌, ◌<◌, ◌+◌, ◌^◌, ◌∷◌, List, [], ⊤, false, length, refl};
+ghost use Rattle.std.specs.Prelude.{◌≡◌, ◌≤◌, ◌<◌, ◌+◌, ◌∷◌, List, [], ⊤, false, length, refl};
 ghost use Rattle.canon_context.specs.Core.{types_of};
 ghost use Rattle.canon_leaves.specs.Parts.{Part};
-ghost use Rattle.canon_lower.specs.Gives.{row_gives};
-ghost use Rattle.canon_lower.specs.Stores.{TypedMembersStore, TypedStores};
-ghost use Rattle.canon_lower.specs.Tuples.{member_type, members_after, types_from, types_in};
-ghost use Rattle.canon_lower.specs.Words.{Stays, TypedLowers, TypedMembersLower};
+ghost use Rattle.canon_lower_parts.specs.Gives.{row_gives};
+ghost use Rattle.canon_lower_parts.specs.Stores.{TypedMembersStore, TypedStores};
+ghost use Rattle.canon_lower_parts.specs.Tuples.{member_type, members_after, types_from, types_in};
+ghost use Rattle.canon_lower_parts.specs.Words.{Stays, TypedLowers, TypedMembersLower};
 ghost use Rattle.canon_model.specs.Layout.{begins, ends, flat, members_end, members_flat};
 ghost use Rattle.canon_model.specs.Shape.{Shape};
 ghost use Rattle.canon_model.specs.Tree.{Trees};
@@ -19,45 +19,9 @@ ghost use Rattle.canon_typed.specs.Types.{AreOf};
 use crate::Lower;
 use crate::words::lower_at;
 use canon_context::{Fault, LowerContext};
+use canon_lower_parts::{next_place, next_type};
 use canon_memory::{Guest, ValRaw};
-use canon_types::{ComponentTypes, InterfaceType};
-
-/// The type of a tuple's member, and the number of the next one.
-fn next_type(types: &ComponentTypes, ty: &InterfaceType, k: &mut usize) -> InterfaceType
-    requires known { Knows types.now ty.now }
-    requires member { k.old < length (types_in types.now ty.now) }
-    ensures member { result ≡ member_type types.now ty.now k.old }
-    ensures known { Knows types.now result }
-    ensures next { k.new ≡ k.old + 1 }
-{
-    let InterfaceType::Tuple(i) = *ty else {
-        unreachable!()
-    };
-    let part = types.tuple(i).types[*k];
-    *k += 1;
-    part
-}
-
-/// The same, and the offset that the member begins at where the one before it ends at `end`.
-fn next_place(
-    types: &ComponentTypes,
-    ty: &InterfaceType,
-    k: &mut usize,
-    end: &mut u64,
-) -> (InterfaceType, u64)
-    requires known { Knows types.now ty.now }
-    requires member { k.old < length (types_in types.now ty.now) }
-    requires room { ends false end.old (shape_of types.now (member_type types.now ty.now k.old)) < 2 ^ 64 }
-    ensures member { result.0 ≡ member_type types.now ty.now k.old }
-    ensures known { Knows types.now result.0 }
-    ensures start { result.1 ≡ begins false end.old (shape_of types.now (member_type types.now ty.now k.old)) }
-    ensures next { k.new ≡ k.old + 1 }
-    ensures end { end.new ≡ ends false end.old (shape_of types.now (member_type types.now ty.now k.old)) }
-{
-    let part = next_type(types, ty, k);
-    let start = types.canonical_abi(&part).next_field32_size(end);
-    (part, start)
-}
+use canon_types::InterfaceType;
 
 /// Lowers the tuple's member of number `k` into its words from `at` on, and moves both behind it.
 fn lower_member<A: Lower, D, G: Guest>(

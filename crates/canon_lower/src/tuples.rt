@@ -1,9 +1,9 @@
 //! Tuples: a member at a time.
 
 ghost use Rattle.std.specs.Prelude.{◌∷◌, []};
-ghost use Rattle.canon_lower.specs.Given.{empty_given, first_given, none_given, tuple_given};
-ghost use Rattle.canon_lower.specs.Gives.{no_handles, product_gives};
-ghost use Rattle.canon_lower.specs.Walkable.{first_walkable, none_walkable, product_walkable};
+ghost use Rattle.canon_lower_parts.specs.Given.{empty_given, first_given, none_given, tuple_given};
+ghost use Rattle.canon_lower_parts.specs.Gives.{no_handles, product_gives};
+ghost use Rattle.canon_lower_parts.specs.Walkable.{first_walkable, none_walkable, product_walkable};
 
 use crate::members::LowerMembers;
 use crate::{Lower, LowerShared};

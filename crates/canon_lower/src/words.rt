@@ -1,76 +1,22 @@
-//! Words of scalars, of parts, and of cases.
+//! Words of parts, and of cases.
 
-ghost use Rattle.std.specs.Prelude.{◌≡◌, ◌≤◌, ◌+◌, IfOk, Ok, [], false, length};
+ghost use Rattle.std.specs.Prelude.{◌≡◌, ◌≤◌, ◌+◌, IfOk, length};
 ghost use Rattle.canon_context.specs.Core.{types_of};
-ghost use Rattle.canon_lower.specs.Cases.{HasCase, payload_members};
-ghost use Rattle.canon_lower.specs.Gives.{payload_gives};
+ghost use Rattle.canon_lower_parts.specs.Cases.{HasCase, payload_members};
+ghost use Rattle.canon_lower_parts.specs.Gives.{payload_gives};
 ghost use Rattle.canon_typed.specs.Meaning.{CaseMeans};
 ghost use Rattle.canon_typed.specs.Types.{IsPayloadOf};
-ghost use Rattle.canon_lower.specs.Scalars.{IsScalarWord};
-ghost use Rattle.canon_lower.specs.Stores.{TypedStores};
-ghost use Rattle.canon_lower.specs.Words.{IsCaseWords, Stays, TypedLowers};
-ghost use Rattle.canon_model.specs.Flat.{AreZero};
-ghost use Rattle.canon_model.specs.Layout.{flat, members_flat, size};
-ghost use Rattle.canon_model.specs.Shape.{Scalar, Shape, scalar};
-ghost use Rattle.canon_types.specs.Instance.{Instance};
+ghost use Rattle.canon_lower_parts.specs.Words.{IsCaseWords, Stays, TypedLowers};
+ghost use Rattle.canon_model.specs.Layout.{flat, members_flat};
+ghost use Rattle.canon_model.specs.Shape.{Shape};
 ghost use Rattle.canon_types.specs.Table.{Knows, KnowsPayload, all_shapes, payload_in, shape_of};
-ghost use Rattle.canon_types.specs.declared.types.InterfaceType.{InterfaceType};
 
-use crate::put::put;
 use crate::{Lower, LowerShared};
 use canon_context::{Fault, LowerContext};
+use canon_lower_parts::{clear_from, lower_bare};
 use canon_memory::{Guest, ValRaw};
 use canon_plan::flat_words;
-use canon_typed::ComponentType;
 use canon_types::InterfaceType;
-
-/// A scalar, which one word represents.
-pub(crate) trait WordScalar: ComponentType {
-    ghost kind: { Scalar };
-
-    /// The word, with no bit set above the scalar's own.
-    fn word(&self) -> ValRaw
-        ensures { IsScalarWord kind (Self.walks self.now) result };
-
-    ghost shape: { (i : Instance) (type : InterfaceType) → Self.fits i type → shape_of i.types type ≡ scalar kind };
-}
-
-/// Lowers a scalar into its word.
-pub(crate) fn lower_scalar<S: WordScalar, D, G: Guest>(
-    value: &S,
-    cx: &mut LowerContext<'_, D, G>,
-    ty: InterfaceType,
-    dst: &mut [ValRaw],
-)
-    requires fits { S.fits cx.old.core.now.component.types ty }
-    requires words { length dst.old ≡ flat (shape_of (types_of cx.old.core.now) ty) }
-    ensures lowers { TypedLowers G.seen G.moves cx.old.options cx.old.core.now cx.new.core.now (shape_of (types_of cx.old.core.now) ty) dst.new 0 (S.walks value.now) [] (Ok tt) }
-    ensures count { length dst.new ≡ length dst.old }
-    ensures same_reference { cx.new.core.ghost_name ≡ cx.old.core.ghost_name }
-    ensures same_options { cx.new.options ≡ cx.old.options }
-{
-    let _memory = cx.core.memory(); // memory has at most 2^32 bytes
-    dst[0] = value.word();
-}
-
-/// Stores a scalar: its word, cut to the scalar's bytes.
-pub(crate) fn store_scalar<S: WordScalar, D, G: Guest>(
-    value: &S,
-    cx: &mut LowerContext<'_, D, G>,
-    ty: InterfaceType,
-    offset: u64,
-)
-    requires known { Knows (types_of cx.old.core.now) ty }
-    requires fits { S.fits cx.old.core.now.component.types ty }
-    requires room { offset + size false (shape_of (types_of cx.old.core.now) ty) ≤ length cx.old.core.now.memory }
-    ensures stores { TypedStores G.seen G.moves cx.old.options cx.old.core.now cx.new.core.now (shape_of (types_of cx.old.core.now) ty) offset (S.walks value.now) [] (Ok tt) }
-    ensures same_reference { cx.new.core.ghost_name ≡ cx.old.core.ghost_name }
-    ensures same_options { cx.new.options ≡ cx.old.options }
-{
-    let _memory = cx.core.memory(); // memory has at most 2^32 bytes
-    let size = cx.types().canonical_abi(&ty).size32;
-    put(cx, offset, value.word().get_u64(), size);
-}
 
 /// Lowers a value into its words from `at` on, and moves `at` behind them.
 pub(crate) fn lower_at<T: Lower, D, G: Guest>(
@@ -93,27 +39,6 @@ pub(crate) fn lower_at<T: Lower, D, G: Guest>(
     let start = *at;
     *at = start + flat_words(cx.types(), &ty) as usize;
     value.linear_lower_to_flat(cx, ty, &mut dst[start..*at])
-}
-
-/// Writes zeros from a word on.
-fn clear_from(dst: &mut [ValRaw], from: usize)
-    requires { from ≤ length dst.old }
-    ensures stays { Stays from dst.old dst.new }
-    ensures zeros { AreZero dst.new from (length dst.new) }
-{
-    for k in from..dst.len() {
-        dst[k] = ValRaw::u32(0);
-    }
-}
-
-/// Lowers a case without a payload: its number, and zeros.
-pub(crate) fn lower_bare(dst: &mut [ValRaw], case: u32)
-    requires { 1 ≤ length dst.old }
-    ensures words { IsCaseWords case 1 dst.new }
-    ensures count { length dst.new ≡ length dst.old }
-{
-    dst[0] = ValRaw::u32(case);
-    clear_from(dst, 1);
 }
 
 /// Lowers a case: its number, the words of its payload, and zeros.

@@ -10,7 +10,7 @@ use Rattle.canon_types.specs.declared.types.InterfaceType.TheVariants as ty
 use Rattle.canon_typed.specs.Charges.{cap}
 use Rattle.canon_typed.specs.Meaning.{FirstAnd, ListMeans, NoTrees, OptionMeans, ProductMeans, TextMeans}
 use Rattle.canon_typed.specs.Types.{IsListOf, IsOptionOf, IsResultOf, IsTupleOf}
-use Rattle.canon_lower.specs.Gives.{item_shape, no_handles, option_gives, product_gives}
+use Rattle.canon_lower_parts.specs.Gives.{item_shape, no_handles, option_gives, product_gives}
 use Rattle.canon_lift.specs.Firsts.{first_and, first_in, no_more, rest_in}
 use Rattle.canon_reading.specs.Reading.{Reading}
 use Rattle.canon_reading.specs.Readings.{first_reading, list_reading, none_reading, product_reading, read_as, result_reading, scalar_reading, text_reading}

@@ -3,8 +3,8 @@ use Rattle.canon_args.proofs.Areas.{few_words, many_words}
 use Rattle.canon_args.proofs.Near.{AreProducts, products_of}
 use Rattle.canon_args.proofs.Tuples.{results_far, results_near}
 use Rattle.canon_context.specs.Core.{types_of}
-use Rattle.canon_lower.specs.Stores.{TypedStores}
-use Rattle.canon_lower.specs.Words.{TypedLowers}
+use Rattle.canon_lower_parts.specs.Stores.{TypedStores}
+use Rattle.canon_lower_parts.specs.Words.{TypedLowers}
 use Rattle.canon_model.specs.Flat.{max_results}
 use Rattle.canon_model.specs.Layout.{flat, members_flat, size}
 use Rattle.canon_model.specs.Shape.{Shape, of_places, product}

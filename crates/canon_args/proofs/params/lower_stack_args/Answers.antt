@@ -1,7 +1,7 @@
 use Rattle.std.proofs.Common.{ap, subst, sym, ◌∙◌, ◌≡◌}
 use Rattle.canon_context.proofs.Moves.{GuestLaws}
 use Rattle.canon_context.specs.Core.{types_of}
-use Rattle.canon_lower.specs.Words.{TypedLowers}
+use Rattle.canon_lower_parts.specs.Words.{TypedLowers}
 use Rattle.canon_model.specs.Layout.{flat}
 use Rattle.canon_model.specs.Shape.{Shape, of_places, product}
 use Rattle.canon_types.specs.Table.{Table, shape_of, tuple_members}

@@ -1,5 +1,5 @@
 use Rattle.canon_context.proofs.Moves.{GuestLaws}
-use Rattle.canon_lower.proofs.ResultSteps.{no_payload, payload_fits, some_payload}
+use Rattle.canon_lower_parts.proofs.ResultSteps.{no_payload, payload_fits, some_payload}
 use Rattle.canon_lower.proofs.cases.store_shared_payload.Goals as goal
 
 pub returns-in-None-clause-stores : goal.returns-in-None-clause-stores

@@ -1,8 +1,8 @@
 use Rattle.std.proofs.Common.{◌+◌, ◌∙◌, arith, drop, get_or, length, refl, subst, sym}
 use Rattle.std.proofs.lemmas.List.{drop-set-lt}
 use Rattle.canon_context.proofs.Moves.{GuestLaws}
-use Rattle.canon_lower.proofs.Items.{here_at, next_same}
-use Rattle.canon_lower.proofs.WordRows.{row_begin, row_end, row_more, row_room, row_stop}
+use Rattle.canon_lower_parts.proofs.Items.{here_at, next_same}
+use Rattle.canon_lower_parts.proofs.WordRows.{row_begin, row_end, row_more, row_room, row_stop}
 use Rattle.canon_types.specs.Instance.{Instance}
 use Rattle.canon_types.specs.Table.{Knows}
 use Rattle.canon_value_parts.proofs.Passing.{handles_instance, handles_types}

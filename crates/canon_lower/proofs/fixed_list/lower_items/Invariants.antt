@@ -1,6 +1,6 @@
 -- The items from number k on are as at the start, and what is left completes what is done.
 use Rattle.std.proofs.Common.{◌≡◌, drop, length, ◌≤◌, ◌^◌}
-use Rattle.canon_lower.proofs.WordRows.{RowDone}
+use Rattle.canon_lower_parts.proofs.WordRows.{RowDone}
 use Rattle.canon_lower.proofs.fixed_list.lower_items.Given as goal
 
 abbrev pub invariant-loop-k : goal.invariant-loop-k

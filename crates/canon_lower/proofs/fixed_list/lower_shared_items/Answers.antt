@@ -1,6 +1,6 @@
 use Rattle.std.proofs.Common.{◌+◌, ◌∙◌, arith, drop, length, refl, subst, sym}
 use Rattle.canon_context.proofs.Moves.{GuestLaws}
-use Rattle.canon_lower.proofs.WordRows.{row_begin, row_end, row_more, row_room, row_stop}
+use Rattle.canon_lower_parts.proofs.WordRows.{row_begin, row_end, row_more, row_room, row_stop}
 use Rattle.canon_plan.proofs.Lookups.{drop_at}
 use Rattle.canon_types.specs.Instance.{Instance}
 use Rattle.canon_types.specs.Table.{Knows}

@@ -1,6 +1,6 @@
 -- What is left completes what is done.
 use Rattle.std.proofs.Common.{◌≡◌, drop, length, ◌≤◌, ◌^◌}
-use Rattle.canon_lower.proofs.WordRows.{RowDone}
+use Rattle.canon_lower_parts.proofs.WordRows.{RowDone}
 use Rattle.canon_lower.proofs.fixed_list.lower_shared_items.Given as goal
 
 abbrev pub invariant-loop-k : goal.invariant-loop-k

@@ -4,9 +4,9 @@ use Rattle.canon_context.specs.Core.{types_of}
 use Rattle.canon_model.specs.Shape.{list, of_items}
 use Rattle.canon_types.specs.Instance.{Instance}
 use Rattle.canon_types.specs.Table.{shape_of}
-use Rattle.canon_lower.specs.Lists.{IsElementOf}
-use Rattle.canon_lower.proofs.ListSteps.{items_filled, items_stopped, items_ungiven}
-use Rattle.canon_lower.proofs.Types.{layout_here}
+use Rattle.canon_lower_parts.specs.Lists.{IsElementOf}
+use Rattle.canon_lower_parts.proofs.ListSteps.{items_filled, items_stopped, items_ungiven}
+use Rattle.canon_lower_parts.proofs.Types.{layout_here}
 use Rattle.canon_lower.proofs.lists.place_shared_list.Goals as goal
 
 pub returns-in-Err-clause-places : goal.returns-in-Err-clause-places

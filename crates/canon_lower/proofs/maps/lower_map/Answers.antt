@@ -5,10 +5,10 @@ use Rattle.canon_lowering.proofs.Pairing.{pair_shape}
 use Rattle.canon_model.specs.Shape.{of_pairs}
 use Rattle.canon_types.specs.Table.{shape_of}
 use Rattle.canon_typed.specs.Maps.{MapWalks}
-use Rattle.canon_lower.proofs.ListSteps.{list_blocks}
-use Rattle.canon_lower.proofs.MapSteps.{map_is}
-use Rattle.canon_lower.proofs.WordBlocks.{list_words, placed_lowers, placed_refused, rows_fit}
-use Rattle.canon_lower.specs.Gives.{map_gives}
+use Rattle.canon_lower_parts.proofs.ListSteps.{list_blocks}
+use Rattle.canon_lower_parts.proofs.MapSteps.{map_is}
+use Rattle.canon_lower_parts.proofs.WordBlocks.{list_words, placed_lowers, placed_refused, rows_fit}
+use Rattle.canon_lower_parts.specs.Gives.{map_gives}
 use Rattle.canon_lower.proofs.maps.lower_map.Goals as goal
 
 pub put_words-requires-clause-room : goal.put_words-requires-clause-room

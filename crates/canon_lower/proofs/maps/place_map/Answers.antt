@@ -5,9 +5,9 @@ use Rattle.canon_model.specs.Shape.{map_of}
 use Rattle.canon_types.specs.Instance.{Instance}
 use Rattle.canon_types.specs.Table.{shape_of}
 use Rattle.canon_typed.specs.Meaning.{PairMeans}
-use Rattle.canon_lower.proofs.MapSteps.{pairs_filled, pairs_fit, pairs_room, pairs_stopped, pairs_ungiven}
-use Rattle.canon_lower.specs.Gives.{pair_gives}
-use Rattle.canon_lower.specs.Pairs.{IsPairType, pair_in}
+use Rattle.canon_lower_parts.proofs.MapSteps.{pairs_filled, pairs_fit, pairs_room, pairs_stopped, pairs_ungiven}
+use Rattle.canon_lower_parts.specs.Gives.{pair_gives}
+use Rattle.canon_lower_parts.specs.Pairs.{IsPairType, pair_in}
 use Rattle.canon_lower.proofs.maps.place_map.Goals as goal
 
 pub returns-in-Err-clause-places : goal.returns-in-Err-clause-places

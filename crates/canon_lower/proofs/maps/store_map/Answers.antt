@@ -5,9 +5,9 @@ use Rattle.canon_lowering.proofs.Pairing.{pair_shape}
 use Rattle.canon_model.specs.Shape.{of_pairs}
 use Rattle.canon_types.specs.Table.{shape_of}
 use Rattle.canon_typed.specs.Maps.{MapWalks}
-use Rattle.canon_lower.proofs.ListSteps.{list_stops, list_stores, pair_room}
-use Rattle.canon_lower.proofs.MapSteps.{map_is}
-use Rattle.canon_lower.specs.Gives.{map_gives}
+use Rattle.canon_lower_parts.proofs.ListSteps.{list_stops, list_stores, pair_room}
+use Rattle.canon_lower_parts.proofs.MapSteps.{map_is}
+use Rattle.canon_lower_parts.specs.Gives.{map_gives}
 use Rattle.canon_lower.proofs.maps.store_map.Goals as goal
 
 pub put_placed-requires-clause-room : goal.put_placed-requires-clause-room

@@ -4,9 +4,9 @@ use Rattle.canon_context.specs.Core.{types_of}
 use Rattle.canon_model.specs.Layout.{begins, ends, size}
 use Rattle.canon_types.specs.Instance.{Instance}
 use Rattle.canon_types.specs.Table.{shape_of}
-use Rattle.canon_lower.proofs.PairSteps.{first_inside, pair_stops, pair_stores, second_inside}
-use Rattle.canon_lower.proofs.Stood.{value_stood}
-use Rattle.canon_lower.specs.Stores.{TypedStores}
+use Rattle.canon_lower_parts.proofs.PairSteps.{first_inside, pair_stops, pair_stores, second_inside}
+use Rattle.canon_lower_parts.proofs.Stood.{value_stood}
+use Rattle.canon_lower_parts.specs.Stores.{TypedStores}
 use Rattle.canon_value_parts.proofs.Passing.{handles_instance}
 use Rattle.canon_lower.proofs.maps.store_pair.Goals as goal
 

@@ -6,11 +6,11 @@ use Rattle.canon_model.specs.Layout.{size}
 use Rattle.canon_types.specs.Instance.{Instance}
 use Rattle.canon_typed.specs.Meaning.{PairMeans}
 use Rattle.canon_value_parts.proofs.Passing.{handles_instance}
-use Rattle.canon_lower.proofs.Items.{left_below, left_next}
-use Rattle.canon_lower.proofs.MapSteps.{one_inside, pair_stood}
-use Rattle.canon_lower.proofs.Rows.{RowIsStored, row_begin, row_broken, row_ended, row_go_on}
-use Rattle.canon_lower.specs.Gives.{pair_gives}
-use Rattle.canon_lower.specs.Pairs.{IsPairType, pair_in}
+use Rattle.canon_lower_parts.proofs.Items.{left_below, left_next}
+use Rattle.canon_lower_parts.proofs.MapSteps.{one_inside, pair_stood}
+use Rattle.canon_lower_parts.proofs.Rows.{RowIsStored, row_begin, row_broken, row_ended, row_go_on}
+use Rattle.canon_lower_parts.specs.Gives.{pair_gives}
+use Rattle.canon_lower_parts.specs.Pairs.{IsPairType, pair_in}
 use Rattle.canon_lower.proofs.maps.store_pairs.Goals as goal
 
 pub loop-key-init : goal.loop-key-init

@@ -4,9 +4,9 @@ use Rattle.canon_context.proofs.Moves.{GuestLaws}
 use Rattle.canon_context.specs.Core.{types_of}
 use Rattle.canon_model.specs.Layout.{size}
 use Rattle.canon_typed.specs.Meaning.{PairMeans}
-use Rattle.canon_lower.proofs.Rows.{RowIsStored}
-use Rattle.canon_lower.specs.Gives.{pair_gives}
-use Rattle.canon_lower.specs.Pairs.{pair_in}
+use Rattle.canon_lower_parts.proofs.Rows.{RowIsStored}
+use Rattle.canon_lower_parts.specs.Gives.{pair_gives}
+use Rattle.canon_lower_parts.specs.Pairs.{pair_in}
 use Rattle.canon_lower.proofs.maps.store_pairs.Given as goal
 
 abbrev pub invariant-loop-key : goal.invariant-loop-key

@@ -1,7 +1,7 @@
 use Rattle.std.proofs.Common.{◌≡◌, ◌+◌, ◌-◌, ◌∙◌, ap, arith}
 use Rattle.canon_context.proofs.Moves.{GuestLaws}
 use Rattle.canon_context.specs.Core.{types_of}
-use Rattle.canon_lower.proofs.WordSteps.{at_lowers}
+use Rattle.canon_lower_parts.proofs.WordSteps.{at_lowers}
 use Rattle.canon_model.specs.Layout.{flat}
 use Rattle.canon_types.specs.Table.{Table, shape_of}
 use Rattle.canon_typed.specs.Typed.{walked_shaped}

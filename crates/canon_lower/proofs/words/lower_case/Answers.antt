@@ -1,7 +1,7 @@
 use Rattle.std.proofs.Common.{Ok}
 use Rattle.canon_context.proofs.Moves.{GuestLaws}
 use Rattle.canon_context.specs.Core.{types_of}
-use Rattle.canon_lower.proofs.WordSteps.{first_stay_at, moved_lowers}
+use Rattle.canon_lower_parts.proofs.WordSteps.{first_stay_at, moved_lowers}
 use Rattle.canon_model.specs.Layout.{flat}
 use Rattle.canon_types.specs.Table.{shape_of}
 use Rattle.canon_typed.specs.Typed.{walked_shaped}

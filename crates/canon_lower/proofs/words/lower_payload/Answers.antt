@@ -1,9 +1,9 @@
 use Rattle.std.proofs.Common.{Option, ap, arith, subst}
 use Rattle.canon_context.proofs.Moves.{GuestLaws}
 use Rattle.canon_context.specs.Core.{types_of}
-use Rattle.canon_lower.proofs.WordCases.{bare_case, payload_case}
-use Rattle.canon_lower.proofs.WordTypes.{no_payload, only_flat, some_payload}
-use Rattle.canon_lower.specs.Cases.{HasCase, payload_members}
+use Rattle.canon_lower_parts.proofs.WordCases.{bare_case, payload_case}
+use Rattle.canon_lower_parts.proofs.WordTypes.{no_payload, only_flat, some_payload}
+use Rattle.canon_lower_parts.specs.Cases.{HasCase, payload_members}
 use Rattle.canon_model.specs.Layout.{members_flat}
 use Rattle.canon_types.specs.Table.{all_shapes, payload_in, shape_of}
 use Rattle.canon_types.specs.declared.types.InterfaceType.{InterfaceType}

@@ -1,10 +1,10 @@
 use Rattle.std.proofs.Common.{Ok, arith, subst, sym}
 use Rattle.canon_context.proofs.Moves.{GuestLaws}
 use Rattle.canon_context.specs.Core.{types_of}
-use Rattle.canon_lower.proofs.WordCases.{case_shape_is, has_bare, has_lowers}
-use Rattle.canon_lower.proofs.WordTypes.{bare_room, option_known, option_none, option_shape, option_some, some_room}
-use Rattle.canon_lower.specs.Gives.{option_gives}
-use Rattle.canon_lower.specs.Words.{CaseOf, TypedLowers}
+use Rattle.canon_lower_parts.proofs.WordCases.{case_shape_is, has_bare, has_lowers}
+use Rattle.canon_lower_parts.proofs.WordTypes.{bare_room, option_known, option_none, option_shape, option_some, some_room}
+use Rattle.canon_lower_parts.specs.Gives.{option_gives}
+use Rattle.canon_lower_parts.specs.Words.{CaseOf, TypedLowers}
 use Rattle.canon_model.specs.Shape.{Shape}
 use Rattle.canon_types.specs.Table.{shape_of}
 use Rattle.canon_typed.specs.Meaning.{OptionMeans}

@@ -1,5 +1,5 @@
 use Rattle.canon_context.proofs.Moves.{GuestLaws}
-use Rattle.canon_lower.proofs.OptionSteps.{none_stores, some_room, some_stores}
+use Rattle.canon_lower_parts.proofs.OptionSteps.{none_stores, some_room, some_stores}
 use Rattle.canon_lower.proofs.compounds.OptionLower.linear_lower_to_memory.Goals as goal
 
 pub linear_lower_to_memory-requires-clause-room : goal.linear_lower_to_memory-requires-clause-room

@@ -2,9 +2,9 @@ use Rattle.std.proofs.Common.{Option, subst}
 use Rattle.canon_context.specs.Core.{types_of}
 use Rattle.canon_types.specs.Table.{shape_of}
 use Rattle.canon_typed.specs.Meaning.{OptionMeans}
-use Rattle.canon_lower.proofs.Seen.{option_seen}
-use Rattle.canon_lower.specs.Gives.{option_gives}
-use Rattle.canon_lower.specs.Words.{TypedLowers}
+use Rattle.canon_lower_parts.proofs.Seen.{option_seen}
+use Rattle.canon_lower_parts.specs.Gives.{option_gives}
+use Rattle.canon_lower_parts.specs.Words.{TypedLowers}
 use Rattle.canon_lower.proofs.compounds.OptionLowerShared.linear_lower_to_flat.Goals as goal
 
 pub returns-clause-lowers : goal.returns-clause-lowers

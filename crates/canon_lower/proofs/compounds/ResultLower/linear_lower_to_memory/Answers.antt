@@ -3,9 +3,9 @@ use Rattle.canon_context.proofs.Moves.{GuestLaws}
 use Rattle.canon_context.specs.Core.{types_of}
 use Rattle.canon_types.specs.Table.{shape_of}
 use Rattle.canon_typed.specs.Meaning.{ResultMeans}
-use Rattle.canon_lower.proofs.ResultSteps.{error_room, error_stores, ok_room, ok_stores}
-use Rattle.canon_lower.specs.Gives.{result_gives}
-use Rattle.canon_lower.specs.Stores.{TypedStores}
+use Rattle.canon_lower_parts.proofs.ResultSteps.{error_room, error_stores, ok_room, ok_stores}
+use Rattle.canon_lower_parts.specs.Gives.{result_gives}
+use Rattle.canon_lower_parts.specs.Stores.{TypedStores}
 use Rattle.canon_lower.proofs.compounds.ResultLower.linear_lower_to_memory.Goals as goal
 
 pub store_payload-requires-clause-room : goal.store_payload-requires-clause-room

@@ -1,8 +1,8 @@
 use Rattle.std.proofs.Common.{arith, subst, sym}
 use Rattle.canon_context.specs.Core.{types_of}
-use Rattle.canon_lower.proofs.WordTypes.{case_room, result_err, result_knows, result_ok, result_shape}
-use Rattle.canon_lower.specs.Gives.{result_gives}
-use Rattle.canon_lower.specs.Words.{TypedLowers}
+use Rattle.canon_lower_parts.proofs.WordTypes.{case_room, result_err, result_knows, result_ok, result_shape}
+use Rattle.canon_lower_parts.specs.Gives.{result_gives}
+use Rattle.canon_lower_parts.specs.Words.{TypedLowers}
 use Rattle.canon_types.specs.Table.{all_shapes, payload_in, shape_of}
 use Rattle.canon_typed.specs.Meaning.{ResultMeans}
 use Rattle.canon_lower.proofs.compounds.ResultLowerShared.linear_lower_to_flat.Goals as goal

@@ -2,10 +2,10 @@ use Rattle.std.proofs.Common.{◌∙◌, ap, length, subst, sym}
 use Rattle.std.specs.Prelude.{flat_map}
 use Rattle.canon_context.proofs.Moves.{GuestLaws}
 use Rattle.canon_context.specs.Core.{types_of}
-use Rattle.canon_lower.proofs.WordRows.{fixed_lowers, fixed_room}
-use Rattle.canon_lower.specs.Gives.{item_shape}
-use Rattle.canon_lower.specs.Lists.{IsElementOf}
-use Rattle.canon_lower.specs.Words.{TypedLowers, TypedMembersLower}
+use Rattle.canon_lower_parts.proofs.WordRows.{fixed_lowers, fixed_room}
+use Rattle.canon_lower_parts.specs.Gives.{item_shape}
+use Rattle.canon_lower_parts.specs.Lists.{IsElementOf}
+use Rattle.canon_lower_parts.specs.Words.{TypedLowers, TypedMembersLower}
 use Rattle.canon_lowering.specs.Copies.{copies}
 use Rattle.canon_model.specs.Shape.{Shape, fixed}
 use Rattle.canon_types.specs.Instance.{Instance}

@@ -8,9 +8,9 @@ use Rattle.canon_model.specs.Shape.{fixed}
 use Rattle.canon_types.specs.Instance.{Instance}
 use Rattle.canon_types.specs.Table.{shape_of}
 use Rattle.canon_typed.specs.Meaning.{EachMeans}
-use Rattle.canon_lower.proofs.FixedSteps.{fixed_room, fixed_stores}
-use Rattle.canon_lower.specs.Lists.{IsElementOf}
-use Rattle.canon_lower.specs.Stores.{TypedMembersStore}
+use Rattle.canon_lower_parts.proofs.FixedSteps.{fixed_room, fixed_stores}
+use Rattle.canon_lower_parts.specs.Lists.{IsElementOf}
+use Rattle.canon_lower_parts.specs.Stores.{TypedMembersStore}
 use Rattle.canon_lower.proofs.fixed_list.FixedListLowerShared.linear_lower_to_memory.Goals as goal
 
 pub linear_store_list_to_memory-requires-clause-room : goal.linear_store_list_to_memory-requires-clause-room

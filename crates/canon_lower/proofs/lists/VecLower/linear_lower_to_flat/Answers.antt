@@ -5,10 +5,10 @@ use Rattle.canon_context.specs.Core.{types_of}
 use Rattle.canon_model.specs.Shape.{of_items}
 use Rattle.canon_types.specs.Table.{shape_of}
 use Rattle.canon_typed.specs.Meaning.{ListMeans}
-use Rattle.canon_lower.proofs.ListSteps.{list_blocks, list_shape}
-use Rattle.canon_lower.proofs.WordBlocks.{list_words, placed_lowers, placed_refused, rows_fit}
-use Rattle.canon_lower.specs.Gives.{item_shape}
-use Rattle.canon_lower.specs.Places.{TypedPlaces}
+use Rattle.canon_lower_parts.proofs.ListSteps.{list_blocks, list_shape}
+use Rattle.canon_lower_parts.proofs.WordBlocks.{list_words, placed_lowers, placed_refused, rows_fit}
+use Rattle.canon_lower_parts.specs.Gives.{item_shape}
+use Rattle.canon_lower_parts.specs.Places.{TypedPlaces}
 use Rattle.canon_lower.proofs.lists.VecLower.linear_lower_to_flat.Goals as goal
 
 pub put_words-requires-clause-room : goal.put_words-requires-clause-room

@@ -5,9 +5,9 @@ use Rattle.canon_context.specs.Core.{types_of}
 use Rattle.canon_model.specs.Shape.{of_items}
 use Rattle.canon_types.specs.Table.{shape_of}
 use Rattle.canon_typed.specs.Meaning.{ListMeans}
-use Rattle.canon_lower.proofs.ListSteps.{list_shape, list_stops, list_stores, pair_room}
-use Rattle.canon_lower.specs.Gives.{item_shape}
-use Rattle.canon_lower.specs.Places.{TypedPlaces}
+use Rattle.canon_lower_parts.proofs.ListSteps.{list_shape, list_stops, list_stores, pair_room}
+use Rattle.canon_lower_parts.specs.Gives.{item_shape}
+use Rattle.canon_lower_parts.specs.Places.{TypedPlaces}
 use Rattle.canon_lower.proofs.lists.VecLowerShared.linear_lower_to_memory.Goals as goal
 
 pub put_placed-requires-clause-room : goal.put_placed-requires-clause-room

@@ -4,10 +4,10 @@ use Rattle.canon_context.proofs.Moves.{GuestLaws}
 use Rattle.canon_context.specs.Core.{types_of}
 use Rattle.canon_model.specs.Layout.{size}
 use Rattle.canon_types.specs.Table.{shape_of}
-use Rattle.canon_lower.proofs.Items.{here_at, next_same}
-use Rattle.canon_lower.proofs.Rows.{item_stood, row_broken, row_end, row_go_on}
+use Rattle.canon_lower_parts.proofs.Items.{here_at, next_same}
+use Rattle.canon_lower_parts.proofs.Rows.{item_stood, row_broken, row_end, row_go_on}
 use Rattle.canon_value_parts.proofs.Passing.{handles_instance}
-use Rattle.canon_lower.proofs.Types.{size_here}
+use Rattle.canon_lower_parts.proofs.Types.{size_here}
 use Rattle.canon_lower.proofs.lower.Lower.linear_store_list_to_memory.Goals as goal
 
 pub returns-in-Err-clause-stores : goal.returns-in-Err-clause-stores

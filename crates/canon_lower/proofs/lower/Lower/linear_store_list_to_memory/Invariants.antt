@@ -2,7 +2,7 @@ use Rattle.std.proofs.Common.{◌≡◌, drop}
 use Rattle.canon_context.proofs.Moves.{GuestLaws}
 use Rattle.canon_context.specs.Core.{types_of}
 use Rattle.canon_types.specs.Table.{shape_of}
-use Rattle.canon_lower.proofs.Rows.{RowIsStored}
+use Rattle.canon_lower_parts.proofs.Rows.{RowIsStored}
 use Rattle.canon_lower.proofs.lower.Lower.linear_store_list_to_memory.Given as goal
 
 abbrev pub invariant-loop-k : goal.invariant-loop-k

@@ -1,8 +1,8 @@
 use Rattle.canon_context.proofs.Moves.{GuestLaws}
-use Rattle.canon_lower.proofs.TupleTypes.{next_of}
-use Rattle.canon_lower.proofs.WordTuples.{first_room, later_room, lowered_more, lowered_stop}
+use Rattle.canon_lower_parts.proofs.TupleTypes.{next_of}
+use Rattle.canon_lower_parts.proofs.WordTuples.{first_room, later_room, lowered_more, lowered_stop}
 use Rattle.canon_typed.specs.Typed.{walked_shaped}
-use Rattle.canon_lower.specs.Tuples.{member_type}
+use Rattle.canon_lower_parts.specs.Tuples.{member_type}
 use Rattle.canon_lower.proofs.members.Tuple2RefMutLowerMembers.lower_members.Goals as goal
 
 pub lower_member-requires-clause-room : goal.lower_member-requires-clause-room

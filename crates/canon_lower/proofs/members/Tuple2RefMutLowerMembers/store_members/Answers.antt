@@ -1,5 +1,5 @@
 use Rattle.canon_context.proofs.Moves.{GuestLaws}
-use Rattle.canon_lower.proofs.TupleSteps.{first_room, later_room, stored_more, stored_stop}
+use Rattle.canon_lower_parts.proofs.TupleSteps.{first_room, later_room, stored_more, stored_stop}
 use Rattle.canon_lower.proofs.members.Tuple2RefMutLowerMembers.store_members.Goals as goal
 
 pub store_member-requires-clause-room : goal.store_member-requires-clause-room

@@ -1,5 +1,5 @@
 use Rattle.canon_context.proofs.Moves.{GuestLaws}
-use Rattle.canon_lower.proofs.WordTuples.{lowered_none}
+use Rattle.canon_lower_parts.proofs.WordTuples.{lowered_none}
 use Rattle.canon_lower.proofs.members.UnitLowerMembers.lower_members.Goals as goal
 
 pub returns-clause-lowers : goal.returns-clause-lowers

@@ -1,5 +1,5 @@
 use Rattle.canon_context.proofs.Moves.{GuestLaws}
-use Rattle.canon_lower.proofs.TupleSteps.{stored_none}
+use Rattle.canon_lower_parts.proofs.TupleSteps.{stored_none}
 use Rattle.canon_lower.proofs.members.UnitLowerMembers.store_members.Goals as goal
 
 pub returns-clause-stores : goal.returns-clause-stores

@@ -1,6 +1,6 @@
 use Rattle.std.proofs.Common.{[], ◌∷◌}
 use Rattle.canon_context.proofs.Moves.{GuestLaws}
-use Rattle.canon_lower.proofs.WordTuples.{tuple_lowered, tuple_room}
+use Rattle.canon_lower_parts.proofs.WordTuples.{tuple_lowered, tuple_room}
 use Rattle.canon_lower.proofs.tuples.Tuple2Lower.linear_lower_to_flat.Goals as goal
 
 pub lower_members-requires-clause-room : goal.lower_members-requires-clause-room

@@ -1,6 +1,6 @@
 use Rattle.std.proofs.Common.{[], ◌∷◌}
 use Rattle.canon_context.proofs.Moves.{GuestLaws}
-use Rattle.canon_lower.proofs.TupleSteps.{tuple_room, tuple_stored}
+use Rattle.canon_lower_parts.proofs.TupleSteps.{tuple_room, tuple_stored}
 use Rattle.canon_lower.proofs.tuples.Tuple6Lower.linear_lower_to_memory.Goals as goal
 
 pub store_members-requires-clause-room : goal.store_members-requires-clause-room

@@ -1,5 +1,5 @@
 use Rattle.canon_context.proofs.Moves.{GuestLaws}
-use Rattle.canon_lower.proofs.WordTuples.{unit_lowers}
+use Rattle.canon_lower_parts.proofs.WordTuples.{unit_lowers}
 use Rattle.canon_lower.proofs.tuples.UnitLower.linear_lower_to_flat.Goals as goal
 
 pub returns-clause-lowers : goal.returns-clause-lowers

@@ -1,5 +1,5 @@
 use Rattle.canon_context.proofs.Moves.{GuestLaws}
-use Rattle.canon_lower.proofs.TupleSteps.{unit_stores}
+use Rattle.canon_lower_parts.proofs.TupleSteps.{unit_stores}
 use Rattle.canon_lower.proofs.tuples.UnitLowerShared.linear_lower_to_memory.Goals as goal
 
 pub returns-clause-stores : goal.returns-clause-stores

@@ -1,0 +1,130 @@
+-- Typed values as words: scalars, parts of more words, and members in a row.
+use Rattle.std.proofs.Common.{◌≡◌, ◌≤◌, ◌<◌, ◌+◌, ◌++◌, ◌^◌, ◌%◌, ◌∙◌, Err, List, Ok, Result, [], ap, arith, false, length, refl, set, subst, sym, ℕ}
+use Rattle.std.proofs.lemmas.List.{get_or-set_same}
+use Rattle.std.proofs.lemmas.List.Edits.{get_or-between}
+use Rattle.std.proofs.lemmas.Slice.{between-put_mid}
+use Rattle.std.specs.Prelude.{slice_index}
+use borrow.Rule.Slice.PartMut.{put_mid}
+use Rattle.canon_context.proofs.Moves.{GuestLaws}
+use Rattle.canon_context.specs.Core.{Parts, encoding_by, moment_of}
+use Rattle.canon_context.specs.Quiet.{has_block, have_block}
+use Rattle.canon_context.specs.declared.fault.Fault.{Fault}
+use Rattle.canon_leaves.specs.Parts.{Part}
+use Rattle.canon_lower_parts.proofs.Attempts.{Kept, typed_map, typed_none, typed_stop, typed_then}
+use Rattle.canon_value_parts.proofs.Passing.{handles_encoding}
+use Rattle.canon_value_parts.proofs.Steps.{no_first, no_later}
+use Rattle.canon_lower_parts.proofs.TooLarge.{first_large, product_large}
+use Rattle.canon_lower_parts.specs.Blames.{HasLarge, HaveLarge}
+use Rattle.canon_lower_parts.specs.Lowers.{TypedAttempt}
+use Rattle.canon_lower_parts.specs.Scalars.{IsScalarWord}
+use Rattle.canon_lower_parts.specs.Words.{Stays, TypedLowers, TypedMembersLower}
+use Rattle.canon_lowering.proofs.Attempts.{FirstAnd, attempt_none}
+use Rattle.canon_lowering.proofs.AimedWords.{members_words_cons, members_words_stop, product_words, scalar_words, words_moved}
+use Rattle.canon_lowering.specs.Attempt.{members_words, value_words}
+use Rattle.canon_model.specs.Fits.{Fits}
+use Rattle.canon_model.specs.Flat.{IsLeastWord, SameWords, flat_bits}
+use Rattle.canon_model.specs.Layout.{flat}
+use Rattle.canon_model.specs.Leaves.{leaves}
+use Rattle.canon_model.specs.Rep.{ScalarIs}
+use Rattle.canon_model.specs.Requests.{requests}
+use Rattle.canon_model.specs.Shape.{Members, ProductKind, Scalar, Shape, member, no_members, product, scalar}
+use Rattle.canon_model.specs.Text.{Encoding}
+use Rattle.canon_model.specs.Tree.{Tree, Trees, no_trees, trees_of}
+use Rattle.canon_typed.specs.Meaning.{NoTrees, ProductMeans}
+
+-- ---- words that stay
+
+-- the first words stay where the rest are written
+pub first_stay : (i n : ℕ) (ws vs : List ℕ) → Stays (i + n) ws vs → SameWords ws i vs i n
+first_stay i n ws vs h p q l u is = let same : p ≡ q = omega (arith, is) in ap (slice_index ws) same ∙ sym (h.before q (omega (arith, u, is)))
+
+pub stays_then : (i j : ℕ) (ws vs us : List ℕ) → i ≤ j → Stays i ws vs → Stays j vs us → Stays i ws us
+stays_then i j ws vs us later h k = record { same_length = k.same_length ∙ h.same_length; before = λ p l. k.before p (omega (arith, l, later)) ∙ h.before p l }
+
+placed : (i k : ℕ) (dst vs : List ℕ) (p : ℕ) → i + k ≤ length dst → length vs ≡ k → p < k → slice_index (put_mid i k dst vs) (i + p) ≡ slice_index vs p
+placed i k dst vs p room count lt =
+    sym (get_or-between (put_mid i k dst vs) i (i + k) p 0 (omega (arith, lt))) ∙ ap (λ (zs : List ℕ). slice_index zs p) (between-put_mid i k dst vs (i + k) (omega (arith, room)) (omega (arith, count)))
+
+-- words that were put into their place
+put_same : (i k : ℕ) (dst vs : List ℕ) → i + k ≤ length dst → length vs ≡ k → SameWords vs 0 (put_mid i k dst vs) i k
+put_same i k dst vs room count p q l u is = let at : i + p ≡ q = omega (arith, is) in sym (ap (slice_index (put_mid i k dst vs)) (sym at) ∙ placed i k dst vs p room count (omega (arith, u)))
+
+module _ {D G : Type 0} (L : GuestLaws G) (options : ℕ) where
+  abbrev Low : Parts D G → Parts D G → Shape → List ℕ → ℕ → (Tree → Type 0) → List (List Part) → Result (Unit {0}) Fault → Type 0
+  Low a b s ws i Has gives r = TypedLowers L.seen L.moves options a b s ws i Has gives r
+
+  abbrev Lows : Parts D G → Parts D G → Members → List ℕ → ℕ → (Trees → Type 0) → List (List Part) → Result (Unit {0}) Fault → Type 0
+  Lows a b ms ws i Have gives r = TypedMembersLower L.seen L.moves options a b ms ws i Have gives r
+
+  -- ---- a scalar
+
+  pub scalar_lowers : (a : Parts D G) (dst : List ℕ) (s : Shape) (k : Scalar) (Has : Tree → Type 0) (w : ℕ) → length a.memory ≤ 2 ^ 32 → s ≡ scalar k → length dst ≡ flat s → IsScalarWord k Has w
+      → Low a a s (set dst 0 w) 0 Has [] (Ok tt)
+  unfolding flat
+  scalar_lowers a dst s k Has w small shape room (t, has, is, least) =
+      let here : w ≡ slice_index (set dst 0 w) 0 = sym (get_or-set_same dst 0 w 0 (omega (arith, room, ap flat shape))) in
+      subst (λ (z : Shape). Low a a z (set dst 0 w) 0 Has [] (Ok tt)) (sym shape)
+      (typed_none L a [] (value_words false (encoding_by a options) (scalar k) (set dst 0 w) 0 Has) (has_block (scalar k)) (HasLarge (encoding_by a options) (scalar k))
+      (scalar_words false (moment_of L.seen a) (encoding_by a options) (set dst 0 w) 0 Has small k t
+      (subst (λ (x : ℕ). ScalarIs k (x % 2 ^ flat_bits k) t) here is) (subst (λ (x : ℕ). IsLeastWord k x) here least) has) (λ u is e some. some))
+
+  -- ---- a value whose words are a part of more
+
+  pub moved_lowers : (a c : Parts D G) (s : Shape) (ws vs : List ℕ) (i j : ℕ) (Has : Tree → Type 0) (gives : List (List Part)) (r : Result (Unit {0}) Fault) → ((t : Tree) → Has t → Fits s t) → SameWords ws i vs j (flat s)
+      → Low a c s ws i Has gives r → Low a c s vs j Has gives r
+  moved_lowers a c s ws vs i j Has gives r fits same h =
+      typed_map L a c [] [] (value_words false (encoding_by a options) s ws i Has) (value_words false (encoding_by a options) s vs j Has) gives (has_block s) (has_block s) (Kept a c)
+      (HasLarge (encoding_by a options) s) (HasLarge (encoding_by a options) s) r
+      (λ hs e k. words_moved false (moment_of L.seen a) (moment_of L.seen c) (encoding_by a options) s ws vs i j Has e fits same k) (λ e. e) (λ t has. (t, has, λ e b. b, λ e b. b)) h
+
+  pub at_lowers : (a c : Parts D G) (s : Shape) (dst vs : List ℕ) (i k : ℕ) (Has : Tree → Type 0) (gives : List (List Part)) (r : Result (Unit {0}) Fault) → ((t : Tree) → Has t → Fits s t) → k ≡ flat s → i + flat s ≤ length dst
+      → length vs ≡ flat s → Low a c s vs 0 Has gives r → Low a c s (put_mid i k dst vs) i Has gives r
+  at_lowers a c s dst vs i k Has gives r fits words room count h =
+      moved_lowers a c s vs (put_mid i k dst vs) 0 i Has gives r fits (subst (λ (n : ℕ). SameWords vs 0 (put_mid i k dst vs) i n) words (put_same i k dst vs (omega (arith, room, words)) (count ∙ sym words))) h
+
+  -- ---- members
+
+  pub members_none : (a : Parts D G) (ws : List ℕ) (i : ℕ) → length a.memory ≤ 2 ^ 32 → Lows a a no_members ws i NoTrees [] (Ok tt)
+  unfolding flat requests leaves
+  members_none a ws i small = typed_none L a [] (members_words false (encoding_by a options) no_members ws i NoTrees) (have_block no_members) (HaveLarge (encoding_by a options) no_members)
+      (attempt_none false (moment_of L.seen a) [] (members_words false (encoding_by a options) no_members ws i NoTrees) no_trees small refl (λ ts h. refl) refl (λ pointer rest. refl)) (λ ts none e some. some)
+
+  -- the first member's words are there at the end too
+  pub members_more : (a b c : Parts D G) (s : Shape) (ms : Members) (ws vs : List ℕ) (i : ℕ) (Has : Tree → Type 0) (Have : Trees → Type 0) (gs fs : List (List Part)) (r : Result (Unit {0}) Fault)
+      → ((t : Tree) → Has t → Fits s t) → SameWords ws i vs i (flat s) → Low a b s ws i Has gs (Ok tt) → Lows b c ms vs (i + flat s) Have fs r → Lows a c (member [] s ms) vs i (FirstAnd Has Have) (gs ++ fs) r
+  members_more a b c s ms ws vs i Has Have gs fs r fits same h k =
+      let enc : Encoding = encoding_by a options in
+      let rest : TypedAttempt L.seen L.moves b c [] (members_words false enc ms vs (i + flat s) Have) fs (have_block ms) (Kept b c) (HaveLarge enc ms) r =
+      subst (λ (x : Encoding). TypedAttempt L.seen L.moves b c [] (members_words false x ms vs (i + flat s) Have) fs (have_block ms) (Kept b c) (HaveLarge x ms) r) (handles_encoding a b options h.same) k in
+      typed_then L a b c [] [] [] (value_words false enc s ws i Has) (members_words false enc ms vs (i + flat s) Have) (members_words false enc (member [] s ms) vs i (FirstAnd Has Have)) gs fs
+      (has_block s) (have_block ms) (have_block (member [] s ms)) (Kept a b) (Kept b c) (Kept a c) (HasLarge enc s) (HaveLarge enc ms) (HaveLarge enc (member [] s ms)) r
+      (λ hs ks e first second. members_words_cons false enc [] s ms i Has Have vs (moment_of L.seen a) (moment_of L.seen b) (moment_of L.seen c) ws e fits same first second)
+      (λ none. (no_first (has_block s) (have_block ms) none, no_later (has_block s) (have_block ms) none)) (λ one two. two ∙ ap (λ (x : Parts D G). record x { ledger = c.ledger }) one)
+      (first_large enc s ms Has Have) h rest
+
+  -- a first one fails
+  pub members_stop : (a b : Parts D G) (s : Shape) (ms : Members) (ws : List ℕ) (i : ℕ) (Has : Tree → Type 0) (Have : Trees → Type 0) (gs fs : List (List Part)) (e : Fault) → Low a b s ws i Has gs (Err e)
+      → Lows a b (member [] s ms) ws i (FirstAnd Has Have) (gs ++ fs) (Err e)
+  members_stop a b s ms ws i Has Have gs fs e h =
+      let enc : Encoding = encoding_by a options in
+      typed_stop L a b [] [] (value_words false enc s ws i Has) Have (members_words false enc (member [] s ms) ws i (FirstAnd Has Have)) gs fs (has_block s) (have_block (member [] s ms)) (Kept a b)
+      (HasLarge enc s) (HaveLarge enc ms) (HaveLarge enc (member [] s ms)) e
+      (λ hs d not first. members_words_stop false enc [] s ms i Has Have ws (moment_of L.seen a) (moment_of L.seen b) ws d not first) (no_first (has_block s) (have_block ms))
+      (first_large enc s ms Has Have) h
+
+  pub product_lowers : (a c : Parts D G) (s : Shape) (k : ProductKind) (ms : Members) (ws : List ℕ) (Have : Trees → Type 0) (gives : List (List Part)) (r : Result (Unit {0}) Fault) → s ≡ product k ms
+      → Lows a c ms ws 0 Have gives r → Low a c s ws 0 (ProductMeans Have) gives r
+  product_lowers a c s k ms ws Have gives r shape h =
+      let enc : Encoding = encoding_by a options in
+      subst (λ (z : Shape). Low a c z ws 0 (ProductMeans Have) gives r) (sym shape)
+      (typed_map L a c [] [] (members_words false enc ms ws 0 Have) (value_words false enc (product k ms) ws 0 (ProductMeans Have)) gives (have_block ms) (has_block (product k ms)) (Kept a c)
+      (HaveLarge enc ms) (HasLarge enc (product k ms)) r
+      (λ hs e m. product_words false (moment_of L.seen a) (moment_of L.seen c) enc k ms ws 0 Have (ProductMeans Have) e (λ ts have. (ts, refl, have)) (λ t (ts, e2, have). subst Have (sym (ap trees_of e2)) have) m) (λ e. e)
+      (product_large enc k ms Have) h)
+
+pub scalar_room : (s : Shape) (k : Scalar) (dst : List ℕ) → s ≡ scalar k → length dst ≡ flat s → 0 < length dst
+unfolding flat
+scalar_room s k dst shape room = omega (arith, room, ap flat shape)
+
+pub first_stay_at : (i n j : ℕ) (ws vs : List ℕ) → j ≡ i + n → Stays j ws vs → SameWords ws i vs i n
+first_stay_at i n j ws vs e h = first_stay i n ws vs (subst (λ (k : ℕ). Stays k ws vs) e h)

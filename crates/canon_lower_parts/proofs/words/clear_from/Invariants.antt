@@ -1,0 +1,6 @@
+-- The words before this one are 0, from the first on.
+use Rattle.canon_lower_parts.specs.Words.{Clears}
+use Rattle.canon_lower_parts.proofs.words.clear_from.Given as goal
+
+abbrev pub invariant-loop-k : goal.invariant-loop-k
+invariant-loop-k l = Clears l.from l.k l.fn.dst l.dst

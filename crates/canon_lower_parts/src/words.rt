@@ -1,0 +1,88 @@
+//! Words of scalars, and of cases without a payload.
+
+ghost use Rattle.std.specs.Prelude.{◌≡◌, ◌≤◌, ◌+◌, Ok, [], false, length};
+ghost use Rattle.canon_context.specs.Core.{types_of};
+ghost use Rattle.canon_lower_parts.specs.Scalars.{IsScalarWord};
+ghost use Rattle.canon_lower_parts.specs.Stores.{TypedStores};
+ghost use Rattle.canon_lower_parts.specs.Words.{IsCaseWords, Stays, TypedLowers};
+ghost use Rattle.canon_model.specs.Flat.{AreZero};
+ghost use Rattle.canon_model.specs.Layout.{flat, size};
+ghost use Rattle.canon_model.specs.Shape.{Scalar, scalar};
+ghost use Rattle.canon_types.specs.Instance.{Instance};
+ghost use Rattle.canon_types.specs.Table.{Knows, shape_of};
+ghost use Rattle.canon_types.specs.declared.types.InterfaceType.{InterfaceType};
+
+use crate::put::put;
+use canon_context::LowerContext;
+use canon_memory::{Guest, ValRaw};
+use canon_typed::ComponentType;
+use canon_types::InterfaceType;
+
+/// A scalar, which one word represents.
+pub trait WordScalar: ComponentType {
+    ghost kind: { Scalar };
+
+    /// The word, with no bit set above the scalar's own.
+    fn word(&self) -> ValRaw
+        ensures { IsScalarWord kind (Self.walks self.now) result };
+
+    ghost shape: { (i : Instance) (type : InterfaceType) → Self.fits i type → shape_of i.types type ≡ scalar kind };
+}
+
+/// Lowers a scalar into its word.
+pub fn lower_scalar<S: WordScalar, D, G: Guest>(
+    value: &S,
+    cx: &mut LowerContext<'_, D, G>,
+    ty: InterfaceType,
+    dst: &mut [ValRaw],
+)
+    requires fits { S.fits cx.old.core.now.component.types ty }
+    requires words { length dst.old ≡ flat (shape_of (types_of cx.old.core.now) ty) }
+    ensures lowers { TypedLowers G.seen G.moves cx.old.options cx.old.core.now cx.new.core.now (shape_of (types_of cx.old.core.now) ty) dst.new 0 (S.walks value.now) [] (Ok tt) }
+    ensures count { length dst.new ≡ length dst.old }
+    ensures same_reference { cx.new.core.ghost_name ≡ cx.old.core.ghost_name }
+    ensures same_options { cx.new.options ≡ cx.old.options }
+{
+    let _memory = cx.core.memory(); // memory has at most 2^32 bytes
+    dst[0] = value.word();
+}
+
+/// Stores a scalar: its word, cut to the scalar's bytes.
+pub fn store_scalar<S: WordScalar, D, G: Guest>(
+    value: &S,
+    cx: &mut LowerContext<'_, D, G>,
+    ty: InterfaceType,
+    offset: u64,
+)
+    requires known { Knows (types_of cx.old.core.now) ty }
+    requires fits { S.fits cx.old.core.now.component.types ty }
+    requires room { offset + size false (shape_of (types_of cx.old.core.now) ty) ≤ length cx.old.core.now.memory }
+    ensures stores { TypedStores G.seen G.moves cx.old.options cx.old.core.now cx.new.core.now (shape_of (types_of cx.old.core.now) ty) offset (S.walks value.now) [] (Ok tt) }
+    ensures same_reference { cx.new.core.ghost_name ≡ cx.old.core.ghost_name }
+    ensures same_options { cx.new.options ≡ cx.old.options }
+{
+    let _memory = cx.core.memory(); // memory has at most 2^32 bytes
+    let size = cx.types().canonical_abi(&ty).size32;
+    put(cx, offset, value.word().get_u64(), size);
+}
+
+/// Writes zeros from a word on.
+pub fn clear_from(dst: &mut [ValRaw], from: usize)
+    requires { from ≤ length dst.old }
+    ensures stays { Stays from dst.old dst.new }
+    ensures zeros { AreZero dst.new from (length dst.new) }
+{
+    for k in from..dst.len() {
+        dst[k] = ValRaw::u32(0);
+    }
+}
+
+/// Lowers a case without a payload: its number, and zeros.
+pub fn lower_bare(dst: &mut [ValRaw], case: u32)
+    requires { 1 ≤ length dst.old }
+    ensures words { IsCaseWords case 1 dst.new }
+    ensures count { length dst.new ≡ length dst.old }
+{
+    dst[0] = ValRaw::u32(case);
+    clear_from(dst, 1);
+}
