@@ -1,7 +1,7 @@
 -- A session of one call leaves one record.
 use Rattle.std.proofs.Common.{◌≡◌, ℕ, List, [], ◌∷◌, None, Option, Some, ap, arith, get_or, length, option_map, refl, subst, sym}
 use Rattle.canon_val.specs.declared.val.Val.{Val}
-use Rattle.canon_script.specs.Literals.{literal_view}
+use Rattle.canon_literals.specs.Literals.{literal_view}
 use Rattle.canon_script.specs.Script.{Play}
 use Rattle.canon_player.specs.Session.{Session}
 use Rattle.canon_transcript.specs.declared.transcript.Record.{Record}

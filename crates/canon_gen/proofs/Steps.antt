@@ -3,7 +3,7 @@ use Rattle.std.proofs.Common.{◌≡◌, ◌∙◌, ◌++◌, ◌-◌, ◌+◌, 
 use Rattle.std.proofs.lemmas.List.{map-append}
 use Rattle.std.specs.Prelude.{encode_utf8}
 use Rattle.canon_val.specs.declared.val.Val.{Val}
-use Rattle.canon_script.specs.Literals.{Literal, literal_view, literals_view, text}
+use Rattle.canon_literals.specs.Literals.{Literal, literal_view, literals_view, text}
 use Rattle.canon_gen.specs.Draws.{after_draws, after_text, after_texts, character, characters, drawn, next, text_drawn, texts}
 use Rattle.canon_gen.specs.Records.{after_record, record_drawn, records}
 

@@ -7,7 +7,7 @@ use Rattle.canon_memory.specs.declared.event.Event.{Event}
 use Rattle.canon_memory.specs.declared.event.Event.TheVariants as event
 use Rattle.canon_val.specs.declared.val.Val.{Val}
 use Rattle.canon_val.specs.Equal.{is_equal}
-use Rattle.canon_script.specs.Literals.{literal_view}
+use Rattle.canon_literals.specs.Literals.{literal_view}
 use Rattle.canon_script.specs.Script.{Play}
 use Rattle.canon_player.specs.Session.{Session}
 use Rattle.canon_transcript.specs.Blocks.{block_bytes}

@@ -1,7 +1,7 @@
 -- The records that a number draws.
 use Rattle.std.specs.Prelude.{ℕ, suc, zero, ◌+◌, ◌==◌, List, [], ◌∷◌, codes, if◌then◌else◌, map}
 use Rattle.canon_model.specs.Shape.{Name}
-use Rattle.canon_script.specs.Literals.{Literal, bool, field, fields, list, literals_of, no_fields, no_payload, option, text, u32, with_payload}
+use Rattle.canon_literals.specs.Literals.{Literal, bool, field, fields, list, literals_of, no_fields, no_payload, option, text, u32, with_payload}
 use Rattle.canon_gen.specs.Draws.{after_text, after_texts, drawn, next, text_drawn, texts}
 
 -- the number of tags is drawn below 4, and then each

@@ -1,7 +1,7 @@
 //! What is printed of the script that a number makes.
 
 ghost use Rattle.std.specs.Prelude.{◌≡◌, ◌≤◌, ◌⊎◌, ℕ, List, [], ◌∷◌, ◌++◌, IfOk, OnErr, OnOk, length, string_bytes, take};
-ghost use Rattle.canon_script.specs.Literals.{literal_view};
+ghost use Rattle.canon_literals.specs.Literals.{literal_view};
 ghost use Rattle.canon_gen.specs.Records.{list_drawn};
 ghost use Rattle.canon_transcript.specs.declared.transcript.Record.{Record};
 ghost use Rattle.canon_gen.specs.Lines as spec;

@@ -3,7 +3,7 @@
 ghost use Rattle.std.specs.Prelude.{◌≡◌, ◌<◌, Some, IfOk};
 ghost use Rattle.serde_json.specs.Read.{read};
 ghost use Rattle.serde_json.specs.View.{view};
-ghost use Rattle.canon_script.specs.Literals.{literal_view};
+ghost use Rattle.canon_literals.specs.Literals.{literal_view};
 ghost use Rattle.canon_script.specs.Script.{IsWellFormed, call_item_view, play_of};
 ghost use Rattle.canon_gen.specs.Records.{list_drawn};
 ghost use Rattle.canon_gen.specs.Made as spec;

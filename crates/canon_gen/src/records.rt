@@ -2,7 +2,7 @@
 
 ghost use Rattle.std.specs.Prelude.{◌≡◌, List, [], ◌∷◌, ◌++◌, IfOk, OnOk, codes, map, string_bytes};
 ghost use Rattle.canon_model.specs.Shape.{Name};
-ghost use Rattle.canon_script.specs.Literals.{fields_view, literal_view, literals_view, text};
+ghost use Rattle.canon_literals.specs.Literals.{fields_view, literal_view, literals_view, text};
 ghost use Rattle.canon_gen.specs.Records as spec;
 
 use crate::draws::{draw, draw_text};

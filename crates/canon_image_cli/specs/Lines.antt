@@ -10,7 +10,7 @@ use Rattle.canon_image.specs.Read.{IsRead}
 use Rattle.canon_image.specs.Written.{IsImaged}
 use Rattle.canon_image.specs.declared.error.ImageError.{ImageError}
 use Rattle.canon_image.specs.declared.error.ImageError.TheVariants as error
-use Rattle.canon_script.specs.Literals.{literal_view}
+use Rattle.canon_literals.specs.Literals.{literal_view}
 use Rattle.canon_transcript.specs.Text.{fault_text, value_text}
 use Rattle.canon_image_cli.specs.Task.{Question, Told, a_value, some_bytes}
 

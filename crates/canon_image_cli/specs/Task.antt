@@ -8,7 +8,7 @@ use Rattle.canon_types.specs.Table.{Table}
 use Rattle.canon_types.specs.declared.types.InterfaceType.{InterfaceType}
 use Rattle.canon_layout.specs.Asked.{types_listed}
 use Rattle.canon_layout.specs.Entries.{reference_of}
-use Rattle.canon_script.specs.Literals.{Literal, literal_view}
+use Rattle.canon_literals.specs.Literals.{Literal, literal_view}
 use Rattle.canon_script.specs.Values.{plain_value_of}
 use Rattle.canon_image_cli.specs.declared.task.Given.{Given}
 use Rattle.canon_image_cli.specs.declared.task.Given.TheVariants as given

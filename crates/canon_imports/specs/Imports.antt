@@ -6,7 +6,7 @@ use Rattle.canon_context.specs.declared.host.HostStop.TheVariants as stop
 use Rattle.canon_val.specs.declared.val.Val.{Val}
 use Rattle.canon_host.specs.HostSide.{Entry, Giving, gives_values}
 use Rattle.canon_script.specs.Imports.{HostAnswer, answer_after}
-use Rattle.canon_script.specs.Literals.{literals_view}
+use Rattle.canon_literals.specs.Literals.{literals_view}
 use Rattle.canon_imports.specs.declared.imports.Line.{Line}
 
 -- ---- the log

@@ -24,7 +24,7 @@ use Rattle.canon_func.specs.Stores.{Callee, Named, callee_of}
 use Rattle.canon_func.specs.declared.error.Error.{Error}
 use Rattle.canon_func.specs.declared.error.Error.TheVariants as error
 use Rattle.canon_resources.specs.Held.{Any}
-use Rattle.canon_script.specs.Literals.{listed, literal_view, literals_view, replaced}
+use Rattle.canon_literals.specs.Literals.{listed, literal_view, literals_view, replaced}
 use Rattle.canon_script.specs.Script.{ScriptCall}
 use Rattle.canon_transcript.specs.declared.transcript.Answer.{Answer}
 use Rattle.canon_transcript.specs.declared.transcript.Answer.TheVariants as answer

@@ -32,7 +32,7 @@ use Rattle.canon_func.specs.Typed.{FitsParams, FitsResults, params_shape, typed_
 use Rattle.canon_func.specs.declared.error.Error.{Error}
 use Rattle.canon_func.specs.declared.error.Error.TheVariants as error
 use Rattle.canon_script.specs.Imports.{HostAnswer}
-use Rattle.canon_script.specs.Literals.{Literal, all_known, held_among, listed, literals_view, replaced}
+use Rattle.canon_literals.specs.Literals.{Literal, all_known, held_among, listed, literals_view, replaced}
 use Rattle.canon_script.specs.Script.{Play, ScriptCall, ScriptItem, ScriptTyped, call_item, drop_item, new_item, typed_item}
 use Rattle.canon_script.specs.Typed.{TypedValues, a_number, a_text, the_numbers, the_pairs}
 use Rattle.canon_script.specs.declared.script.NewItem.{NewItem}

@@ -14,7 +14,7 @@ use Rattle.canon_lower_parts.specs.Gives.{item_shape, no_handles, option_gives, 
 use Rattle.canon_lift.specs.Firsts.{first_and, first_in, no_more, rest_in}
 use Rattle.canon_reading.specs.Reading.{Reading}
 use Rattle.canon_reading.specs.Readings.{first_reading, list_reading, none_reading, product_reading, read_as, result_reading, scalar_reading, text_reading}
-use Rattle.canon_script.specs.Literals.{Literal, error, list, literals_of, ok, text, u32, with_payload}
+use Rattle.canon_literals.specs.Literals.{Literal, error, list, literals_of, ok, text, u32, with_payload}
 use Rattle.canon_script.specs.Typed.{TypedValues, a_number, a_text, name_view, the_numbers, the_pairs}
 
 -- a Rust tuple of one member

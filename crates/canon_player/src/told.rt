@@ -1,7 +1,7 @@
 //! The results of typed calls as dynamic values, as they are printed.
 
 ghost use Rattle.std.specs.Prelude.{◌≡◌, ◌∷◌, [], IfOk, List, map, string_bytes};
-ghost use Rattle.canon_script.specs.Literals.{Literal, list, literal_view, literals_of, literals_view, text, u32};
+ghost use Rattle.canon_literals.specs.Literals.{Literal, list, literal_view, literals_of, literals_view, text, u32};
 ghost use Rattle.canon_player.specs.Signatures.{outcome_literal};
 
 use canon_types::OutOfMemory;

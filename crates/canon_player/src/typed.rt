@@ -4,7 +4,7 @@ ghost use Rattle.std.specs.Prelude.{◌≡◌, ◌≢◌, [], Err, IfOk};
 ghost use Rattle.canon_func.specs.Call.{entry_refusal};
 ghost use Rattle.canon_func.specs.Stores.{type_of};
 ghost use Rattle.canon_func.specs.Typed.{FitsParams, FitsResults};
-ghost use Rattle.canon_script.specs.Literals.{literals_view};
+ghost use Rattle.canon_literals.specs.Literals.{literals_view};
 ghost use Rattle.canon_script.specs.Script.{typed_item_view};
 ghost use Rattle.canon_script.specs.Typed.{typed_view};
 ghost use Rattle.canon_player.specs.Session.{Tells, TypedCalled, TypedWith, WasTyped, plan_with};

@@ -9,7 +9,7 @@ use Rattle.canon_json.specs.declared.error.ScriptError.{ScriptError}
 use Rattle.canon_json.specs.declared.error.ScriptError.TheVariants as refused
 use Rattle.canon_model.specs.Shape.{Name}
 use Rattle.canon_val.specs.declared.val.Val.{Val}
-use Rattle.canon_script.specs.Literals.{Literal, Payload, literal_view, no_payload, option, pair_view, payload_view, variant, with_payload}
+use Rattle.canon_literals.specs.Literals.{Literal, Payload, literal_view, no_payload, option, pair_view, payload_view, variant, with_payload}
 use Rattle.canon_script.specs.Values.{case_in, case_items, case_parts, optional_of, pair_of, payload_by, result_by, value_by, value_of}
 use Rattle.canon_script.specs.declared.kinds.ValueKind.TheVariants as kind
 

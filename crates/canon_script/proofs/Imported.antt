@@ -21,7 +21,7 @@ use Rattle.canon_types.specs.Table.{HasResource, Table, TupleType, tuple_types}
 use Rattle.canon_types.specs.declared.types.InterfaceType.{InterfaceType}
 use Rattle.canon_types.specs.declared.types.TypeFunc.{TypeFunc}
 use Rattle.canon_script.specs.Imports.{HasAnswers, HaveAnswers, HostAnswer, HostParts, ImportStands, Imported, IsAnswer, add_import, answer_after, answer_of, builtin_by, builtin_of, host_of, host_with, if_many, known_resource, result_count, with_builtin, with_host, with_import}
-use Rattle.canon_script.specs.Literals.{Literal}
+use Rattle.canon_literals.specs.Literals.{Literal}
 use Rattle.canon_script.specs.Numbers.{if_below}
 use Rattle.canon_script.specs.Values.{plain_value_of}
 

@@ -1,11 +1,7 @@
 pub mod Cases
 pub mod Declared
-pub mod Filled
-pub mod Held
 pub mod Imported
 pub mod Members
-pub mod Same
 pub mod Sound
 pub mod TypedForm
-pub mod Views
 pub mod Work

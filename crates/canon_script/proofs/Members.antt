@@ -11,7 +11,7 @@ use Rattle.canon_json.specs.declared.error.ScriptError.{ScriptError}
 use Rattle.canon_json.specs.declared.error.ScriptError.TheVariants as refused
 use Rattle.canon_model.specs.Shape.{Name}
 use Rattle.canon_val.specs.declared.val.Val.{Val}
-use Rattle.canon_script.specs.Literals.{Literal, enum, fields, fields_of, fixed, flags, list, literal_view, literals_of, pairs, pairs_of, text, tuple}
+use Rattle.canon_literals.specs.Literals.{Literal, enum, fields, fields_of, fixed, flags, list, literal_view, literals_of, pairs, pairs_of, text, tuple}
 use Rattle.canon_script.specs.Values.{field_of, fields_in, pairs_in, value_kind_named, only_char, scalar_by, value_by, value_of, values_of}
 use Rattle.canon_script.specs.declared.kinds.ValueKind.{ValueKind}
 use Rattle.canon_script.specs.declared.kinds.ValueKind.TheVariants as kind

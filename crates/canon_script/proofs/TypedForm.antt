@@ -5,7 +5,7 @@ use Rattle.std.proofs.lemmas.Option.{option_and_then_some, same_Some}
 use Rattle.canon_model.specs.Shape.{Name}
 use Rattle.canon_json.proofs.Found.{by_map}
 use Rattle.canon_val.specs.declared.val.Val.{Val}
-use Rattle.canon_script.specs.Literals.{Literal, Literals, Payload, literals_view, bool, list, literal, literals_of, no_literals, no_payload, option, text, tuple, u32, u64, with_payload}
+use Rattle.canon_literals.specs.Literals.{Literal, Literals, Payload, literals_view, bool, list, literal, literals_of, no_literals, no_payload, option, text, tuple, u32, u64, with_payload}
 use Rattle.canon_script.specs.Typed.{IsForm, IsRead, TypedValues, a_number, a_text, alone, both, each_literal, flag_from, flag_in, flag_payload, items_in, long_in, number_in, pair_in, pair_literal, signature_of, text_in, the_numbers, the_pairs, truth_in, tuple_in, two_in, typed_literals, typed_values}
 
 -- a row of another length has no two members

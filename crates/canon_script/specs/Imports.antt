@@ -13,7 +13,7 @@ use Rattle.canon_types.specs.Refusal.{func_refusal, with_func}
 use Rattle.canon_types.specs.Table.{HasFunc, HasResource, Table, types_of}
 use Rattle.canon_types.specs.declared.types.InterfaceType.{InterfaceType}
 use Rattle.canon_val.specs.declared.val.Val.{Val}
-use Rattle.canon_script.specs.Literals.{Literal, literals_view}
+use Rattle.canon_literals.specs.Literals.{Literal, literals_view}
 use Rattle.canon_script.specs.Numbers.{if_below}
 use Rattle.canon_script.specs.Values.{plain_value_of}
 use Rattle.canon_script.specs.declared.imports.Host.{Host}

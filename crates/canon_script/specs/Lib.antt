@@ -1,8 +1,6 @@
 pub mod Actions
 pub mod Imports
-pub mod Literals
 pub mod Numbers
-pub mod Resources
 pub mod Script
 pub mod Typed
 pub mod Types

@@ -16,7 +16,7 @@ use Rattle.canon_scripted.specs.Orders.{AreNarrow}
 use Rattle.canon_scripted.specs.declared.orders.Ordered.{Ordered}
 use Rattle.canon_script.specs.Actions.{action_of, ask_count, growth, ordered_of}
 use Rattle.canon_script.specs.Imports.{HaveAnswers, HostAnswer, ImportStands, answers_view, result_count}
-use Rattle.canon_script.specs.Literals.{Literal, literals_view}
+use Rattle.canon_literals.specs.Literals.{Literal, literals_view}
 use Rattle.canon_script.specs.Numbers.{if_below, number_to}
 use Rattle.canon_script.specs.Typed.{TypedValues, typed_values, typed_view}
 use Rattle.canon_script.specs.Types.{Declared, declared_of}

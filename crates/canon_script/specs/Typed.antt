@@ -2,7 +2,7 @@
 use Rattle.std.specs.Prelude.{ℕ, Bool, List, [], ◌∷◌, None, Option, Some, String, if◌then◌else◌, map, nat_eq, option_and_then, option_map, string_bytes, ◌≡◌}
 use Rattle.std.specs.declared.alloc.Global.{Global}
 use Rattle.canon_model.specs.Shape.{Name}
-use Rattle.canon_script.specs.Literals.{Literal, Literals, Payload, bool, list, literal, literals_of, no_literals, no_payload, option, text, tuple, u32, u64, with_payload}
+use Rattle.canon_literals.specs.Literals.{Literal, Literals, Payload, bool, list, literal, literals_of, no_literals, no_payload, option, text, tuple, u32, u64, with_payload}
 use Rattle.canon_script.specs.declared.script.TypedParams.{TypedParams}
 use Rattle.canon_script.specs.declared.script.TypedParams.TheVariants as params
 

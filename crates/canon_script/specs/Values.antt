@@ -7,7 +7,7 @@ use Rattle.serde_json.specs.Data.{Data, null, boolean, number, string, array, ob
 use Rattle.serde_json.specs.Find.{as_array, as_bool, as_str}
 use Rattle.canon_json.specs.Json.{each, u32_of, word_of}
 use Rattle.canon_model.specs.Shape.{Name}
-use Rattle.canon_script.specs.Literals.{Literal, Payload, bool, char, enum, error, f32, f64, fields, fields_of, fixed, flags, held, held_in, list, literals_of, no_payload, numbered, ok, option, pairs, pairs_of, s16, s32, s64, s8, text, tuple, u16, u32, u64, u8, variant, with_payload}
+use Rattle.canon_literals.specs.Literals.{Literal, Payload, bool, char, enum, error, f32, f64, fields, fields_of, fixed, flags, held, held_in, list, literals_of, no_payload, numbered, ok, option, pairs, pairs_of, s16, s32, s64, s8, text, tuple, u16, u32, u64, u8, variant, with_payload}
 use Rattle.canon_script.specs.Numbers.{integer_of, integer_within, number_below}
 use Rattle.canon_script.specs.declared.kinds.ValueKind.{ValueKind}
 use Rattle.canon_script.specs.declared.kinds.ValueKind.TheVariants as kind

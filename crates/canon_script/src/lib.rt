@@ -61,15 +61,14 @@ mod items;
 mod kinds;
 mod limits;
 mod reading;
-mod resources;
 mod script;
 mod typed_params;
 mod types;
 mod values;
 
 pub use actions::actions_of_json;
+pub use canon_literals::{are_known, copies_of, resources_in, with_resources};
 pub use reading::script_of_json;
-pub use resources::{are_known, copies_of, resources_in, with_resources};
 pub use script::{CallItem, DropItem, Item, NewItem, Script, TypedItem, TypedParams};
 pub use typed_params::typed_form;
 pub use values::value_of_json;

@@ -3,7 +3,7 @@
 ghost use Rattle.std.specs.Prelude.{◌≡◌, ◌++◌, ◌∷◌, [], List, IfErr, OnOk, Some, map, option_map, string_bytes, ℕ};
 ghost use Rattle.canon_json.specs.Json.{Gives};
 ghost use Rattle.canon_json.specs.declared.error.ScriptError.TheVariants as refused;
-ghost use Rattle.canon_script.specs.Literals.{Literal, literal_view, literals_of, literals_view, payload_view};
+ghost use Rattle.canon_literals.specs.Literals.{Literal, literal_view, literals_of, literals_view, payload_view};
 ghost use Rattle.canon_script.specs.Typed as spec;
 
 use crate::script::TypedParams;

@@ -7,13 +7,13 @@ ghost use Rattle.serde_json.specs.View.{view};
 ghost use Rattle.canon_json.specs.Json.{Gives, each_of};
 ghost use Rattle.canon_json.specs.declared.error.ScriptError.TheVariants as refused;
 ghost use Rattle.canon_model.specs.Shape.{Name};
-ghost use Rattle.canon_script.specs.Literals.{Literal, fields_view, literal_view, literals_view, numbered, pair_view, pairs_view, payload_view, variant, with_payload};
+ghost use Rattle.canon_literals.specs.Literals.{Literal, fields_view, literal_view, literals_view, numbered, pair_view, pairs_view, payload_view, variant, with_payload};
 ghost use Rattle.canon_script.specs.Numbers as numbers;
 ghost use Rattle.canon_script.specs.Values as spec;
 
 use crate::kinds::{ValueKind, value_kind_named};
-use crate::resources::is_plain;
 use canon_json::{Reader, ScriptError, each_of, only_member, two, u32_of};
+use canon_literals::is_plain;
 use canon_resources::{ResourceAny, ResourceType};
 use canon_types::OutOfMemory;
 use canon_val::Val;

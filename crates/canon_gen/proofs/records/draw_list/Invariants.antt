@@ -1,5 +1,5 @@
 use Rattle.std.proofs.Common.{◌≡◌, ◌-◌, ◌++◌}
-use Rattle.canon_script.specs.Literals.{literals_view}
+use Rattle.canon_literals.specs.Literals.{literals_view}
 use Rattle.canon_gen.specs.Records as spec
 use Rattle.canon_gen.proofs.records.draw_list.Given as goal
 

@@ -1,7 +1,7 @@
 use Rattle.std.proofs.Common.{◌∙◌, ap}
 use Rattle.canon_val.specs.declared.val.Val.TheVariants as val
-use Rattle.canon_script.proofs.Views.{literal-String}
-use Rattle.canon_script.specs.Literals.{text}
+use Rattle.canon_literals.proofs.Views.{literal-String}
+use Rattle.canon_literals.specs.Literals.{text}
 use Rattle.canon_gen.proofs.Steps.{after_texts_step, tag_step}
 use Rattle.canon_gen.proofs.records.draw_tags.Goals as goal
 

@@ -1,5 +1,5 @@
 use Rattle.std.proofs.Common.{◌≡◌, ◌-◌, ◌++◌, map}
-use Rattle.canon_script.specs.Literals.{literals_view, text}
+use Rattle.canon_literals.specs.Literals.{literals_view, text}
 use Rattle.canon_gen.specs.Draws.{after_texts, texts}
 use Rattle.canon_gen.specs.Records as spec
 use Rattle.canon_gen.proofs.records.draw_tags.Given as goal

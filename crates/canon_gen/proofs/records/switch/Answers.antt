@@ -3,8 +3,8 @@ use Rattle.std.proofs.lemmas.Bool.{ne_eqb}
 use Rattle.canon_val.specs.declared.val.Val.{Val, fold-roll-Val}
 use Rattle.canon_val.specs.declared.val.Val.TheOpen.{Val-F}
 use Rattle.canon_val.specs.declared.val.Val.TheVariants as val
-use Rattle.canon_script.proofs.Views.{literal-Option}
-use Rattle.canon_script.specs.Literals.{Literal, bool, literal_step, literal_view, no_payload, option, with_payload}
+use Rattle.canon_literals.proofs.Views.{literal-Option}
+use Rattle.canon_literals.specs.Literals.{Literal, bool, literal_step, literal_view, no_payload, option, with_payload}
 use Rattle.canon_gen.specs.Records.{switch}
 use Rattle.canon_gen.proofs.records.switch.Goals as goal
 

@@ -1,7 +1,7 @@
 use Rattle.std.proofs.Common.{List, ap, drop, length, map, refl, rules, ◌∙◌}
 use Rattle.canon_func.specs.Call.{refusal}
 use Rattle.canon_func.specs.Stores.{callee_of}
-use Rattle.canon_script.specs.Literals.{listed, literals_view, replaced}
+use Rattle.canon_literals.specs.Literals.{listed, literals_view, replaced}
 use Rattle.canon_script.specs.Script.{call_item_view}
 use Rattle.canon_imports.specs.Imports.{entries_of}
 use Rattle.canon_imports.specs.declared.imports.Line.{Line}

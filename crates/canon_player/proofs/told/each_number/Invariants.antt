@@ -1,5 +1,5 @@
 use Rattle.std.proofs.Common.{◌≡◌, map, take}
-use Rattle.canon_script.specs.Literals.{literals_view, u32}
+use Rattle.canon_literals.specs.Literals.{literals_view, u32}
 use Rattle.canon_player.proofs.told.each_number.Given as goal
 
 -- the numbers so far

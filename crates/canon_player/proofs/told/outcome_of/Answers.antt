@@ -1,6 +1,6 @@
 use Rattle.std.proofs.Common.{Some, ℕ, ap, sym, ◌≡◌, ◌∙◌}
-use Rattle.canon_script.proofs.Views.{literal-Err, literal-Ok, literal-String}
-use Rattle.canon_script.specs.Literals.{Literal, error, literal_step, literal_view, ok, u32, with_payload}
+use Rattle.canon_literals.proofs.Views.{literal-Err, literal-Ok, literal-String}
+use Rattle.canon_literals.specs.Literals.{Literal, error, literal_step, literal_view, ok, u32, with_payload}
 use Rattle.canon_val.specs.declared.val.Val.{fold-roll-Val}
 use Rattle.canon_val.specs.declared.val.Val.TheOpen.{Val-F}
 use Rattle.canon_val.specs.declared.val.Val.TheVariants as val

@@ -1,5 +1,5 @@
 use Rattle.std.proofs.Common.{◌≡◌, ◌++◌, drop, option_map}
-use Rattle.canon_script.specs.Literals.{literals_of, literals_view}
+use Rattle.canon_literals.specs.Literals.{literals_of, literals_view}
 use Rattle.canon_script.specs.Typed as spec
 use Rattle.canon_script.proofs.typed_params.each_number.Given as goal
 

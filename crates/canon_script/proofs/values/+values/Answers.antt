@@ -3,12 +3,12 @@ use Rattle.serde_json.specs.Find.{as_array, as_str}
 use Rattle.serde_json.specs.View.{view}
 use Rattle.canon_json.specs.Json.{Gives, each_of}
 use Rattle.canon_val.specs.declared.val.Val.TheVariants as val
-use Rattle.canon_script.specs.Literals.{Literal, enum, fields_view, fixed, flags, list, literal_view, literals_of, literals_view, option, pair_view, pairs, pairs_of, pairs_view, payload_view, text, tuple}
+use Rattle.canon_literals.specs.Literals.{Literal, enum, fields_view, fixed, flags, list, literal_view, literals_of, literals_view, option, pair_view, pairs, pairs_of, pairs_view, payload_view, text, tuple}
 use Rattle.canon_script.specs.Values.{optional_of, pair_of, pairs_in, value_by, value_of, values_of}
 use Rattle.canon_script.specs.declared.kinds.ValueKind.TheVariants as kind
 use Rattle.canon_script.proofs.Cases.{case_given, case_refused, first_in_two, key_refused, option_by, outcome_by, pair_given, payload_within, result_reads, value_refused, variant_by, variant_reads}
 use Rattle.canon_script.proofs.Members.{array_end, array_refused, array_step, enum_by, field_step, fixed_by, flags_by, in_array, in_member, in_two, list_by, made_of, map_by, no_kind, record_end, record_refused, scalar_is, text_by, tuple_by, value_is}
-use Rattle.canon_script.proofs.Views.{literal-Enum, literal-FixedLengthList, literal-Flags, literal-List, literal-Map, literal-Option, literal-Record, literal-String, literal-Tuple}
+use Rattle.canon_literals.proofs.Views.{literal-Enum, literal-FixedLengthList, literal-Flags, literal-List, literal-Map, literal-Option, literal-Record, literal-String, literal-Tuple}
 use Rattle.canon_script.proofs.values.+values.Goals as goal
 
 pub record_of-value_of-requires : goal.record_of-value_of-requires

@@ -1,7 +1,7 @@
 use Rattle.std.proofs.Common.{◌≡◌, ◌+◌, ◌*◌, ◌++◌, drop, option_map}
 use Rattle.serde_json.specs.Data.{depth}
 use Rattle.serde_json.specs.View.{items_view, view}
-use Rattle.canon_script.specs.Literals.{fields_view, literals_view, pairs_view}
+use Rattle.canon_literals.specs.Literals.{fields_view, literals_view, pairs_view}
 use Rattle.canon_script.specs.Values.{fields_in, pairs_in, values_of}
 use Rattle.canon_script.proofs.Cases.{depth_of}
 use Rattle.canon_script.proofs.values.+values.Given as goal

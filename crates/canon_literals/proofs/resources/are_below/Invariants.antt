@@ -1,6 +1,6 @@
 use Rattle.std.proofs.Common.{◌≡◌, drop}
-use Rattle.canon_script.specs.Literals.{all_known}
-use Rattle.canon_script.proofs.resources.are_below.Given as goal
+use Rattle.canon_literals.specs.Literals.{all_known}
+use Rattle.canon_literals.proofs.resources.are_below.Given as goal
 
 -- those before are known
 abbrev pub invariant-loop-x : goal.invariant-loop-x

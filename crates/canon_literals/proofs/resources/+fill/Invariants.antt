@@ -1,8 +1,8 @@
 -- The copies so far.
 use Rattle.std.proofs.Common.{◌≡◌, map, take}
-use Rattle.canon_script.specs.Literals.{listed, literals_view, pairs_view, replaced}
-use Rattle.canon_script.specs.Resources.{field_replaced, field_view, pair_replaced}
-use Rattle.canon_script.proofs.resources.+fill.Given as goal
+use Rattle.canon_literals.specs.Literals.{listed, literals_view, pairs_view, replaced}
+use Rattle.canon_literals.specs.Resources.{field_replaced, field_view, pair_replaced}
+use Rattle.canon_literals.proofs.resources.+fill.Given as goal
 
 abbrev pub invariant-fill_row-loop-value : goal.invariant-fill_row-loop-value
 invariant-fill_row-loop-value l = literals_view l.filled.items ≡ map (replaced (listed l.list)) (literals_view (take l.value-index l.values))

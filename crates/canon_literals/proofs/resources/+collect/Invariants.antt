@@ -1,9 +1,9 @@
 -- The resources so far and those of what is left are all of them.
 use Rattle.std.proofs.Common.{◌≡◌, ◌++◌, drop}
-use Rattle.canon_script.specs.Resources.{pair_resources}
+use Rattle.canon_literals.specs.Resources.{pair_resources}
 use Rattle.canon_value_parts.specs.Resources.{all_resources}
 use Rattle.canon_val.specs.Value.{values_in}
-use Rattle.canon_script.proofs.resources.+collect.Given as goal
+use Rattle.canon_literals.proofs.resources.+collect.Given as goal
 
 abbrev pub invariant-collect_row-loop-value : goal.invariant-collect_row-loop-value
 invariant-collect_row-loop-value l = l.found.items ++ all_resources (drop l.value-index l.values) ≡ l.initial.found.items ++ all_resources l.values

@@ -1,8 +1,8 @@
 //! The resources in values. Those of a script are numbers; the values that are passed have the resources of a list in their place.
 
 ghost use Rattle.std.specs.Prelude.{◌≡◌, ◌++◌, ◌∷◌, [], IfOk, OnOk, length, map, nat_eq, string_bytes};
-ghost use Rattle.canon_script.specs.Literals.{all_known, held_among, held_in, is_known, listed, literal_view, literals_view, number_of, pairs_view, payload_replaced, payload_view, replaced};
-ghost use Rattle.canon_script.specs.Resources.{field_replaced, field_view, pair_replaced, pair_resources, payload_resources};
+ghost use Rattle.canon_literals.specs.Literals.{all_known, held_among, held_in, is_known, listed, literal_view, literals_view, number_of, pairs_view, payload_replaced, payload_view, replaced};
+ghost use Rattle.canon_literals.specs.Resources.{field_replaced, field_view, pair_replaced, pair_resources, payload_resources};
 ghost use Rattle.canon_value_parts.specs.Resources.{all_resources, resources};
 ghost use Rattle.canon_val.specs.Value.{values_in};
 
@@ -22,7 +22,7 @@ pub fn resources_in(alloc: Global, values: &[Val]) -> Result<Vec<ResourceAny>, O
 }
 
 /// Whether no resource stands in a value.
-pub(crate) fn is_plain(alloc: Global, value: &Val) -> Result<bool, OutOfMemory>
+pub fn is_plain(alloc: Global, value: &Val) -> Result<bool, OutOfMemory>
     ensures { IfOk result (λ plain. plain ≡ nat_eq (length (held_in (literal_view value.now))) 0) }
 {
     let mut found = Vec::new(alloc);

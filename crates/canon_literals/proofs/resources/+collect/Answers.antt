@@ -1,5 +1,5 @@
-use Rattle.canon_script.proofs.Held.{map_collected, record_collected}
-use Rattle.canon_script.proofs.resources.+collect.Goals as goal
+use Rattle.canon_literals.proofs.Held.{map_collected, record_collected}
+use Rattle.canon_literals.proofs.resources.+collect.Goals as goal
 
 pub collect-returns-in-Map : goal.collect-returns-in-Map
 collect-returns-in-Map t c =

@@ -5,7 +5,7 @@ use Rattle.canon_resources.specs.Held.{Any}
 use Rattle.canon_value_parts.specs.Resources.{joined, resources}
 use Rattle.canon_val.specs.declared.val.Val.{Val}
 use Rattle.canon_model.specs.Shape.{Name}
-use Rattle.canon_script.specs.Literals.{Literal, literal_view, replaced}
+use Rattle.canon_literals.specs.Literals.{Literal, literal_view, replaced}
 
 -- of keys and values, by turns
 abbrev pub pair_resources : List (Val × Val) → List Any

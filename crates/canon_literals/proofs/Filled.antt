@@ -5,9 +5,9 @@ use Rattle.canon_model.specs.Shape.{Name}
 use Rattle.canon_resources.specs.Held.{Any}
 use Rattle.canon_val.specs.declared.val.Val.{Val}
 use Rattle.canon_val.specs.declared.val.Val.TheVariants as val
-use Rattle.canon_script.specs.Literals.{Fields, Literal, Literals, Pairs, Payload, all_replaced, error, field, fields, fields_of, fields_replaced, fields_view, fixed, flags, list, literal, literal_view, literals_of, literals_view, ok, pair, pairs, pairs_of, pairs_replaced, pairs_view, payload_replaced, payload_view, replaced, tuple}
-use Rattle.canon_script.specs.Resources.{field_replaced, field_view, pair_replaced}
-use Rattle.canon_script.proofs.Views.{literal-Err, literal-FixedLengthList, literal-Flags, literal-List, literal-Map, literal-Ok, literal-Record, literal-Tuple}
+use Rattle.canon_literals.specs.Literals.{Fields, Literal, Literals, Pairs, Payload, all_replaced, error, field, fields, fields_of, fields_replaced, fields_view, fixed, flags, list, literal, literal_view, literals_of, literals_view, ok, pair, pairs, pairs_of, pairs_replaced, pairs_view, payload_replaced, payload_view, replaced, tuple}
+use Rattle.canon_literals.specs.Resources.{field_replaced, field_view, pair_replaced}
+use Rattle.canon_literals.proofs.Views.{literal-Err, literal-FixedLengthList, literal-Flags, literal-List, literal-Map, literal-Ok, literal-Record, literal-Tuple}
 
 module _ (f : Any → Any) where
   all_filled : (xs : List Literal) → literals_of (map (replaced f) xs) ≡ all_replaced f (literals_of xs)

@@ -3,7 +3,7 @@ use Rattle.std.proofs.Common.{◌≡◌, sym, ap, ◌∙◌, map, Box, Option, N
 use Rattle.canon_val.specs.declared.val.Val.{Val, fold-roll-Val}
 use Rattle.canon_val.specs.declared.val.Val.TheOpen.{Val-F}
 use Rattle.canon_val.specs.declared.val.Val.TheVariants as val
-use Rattle.canon_script.specs.Literals.{Literal, enum, fields, fields_of, fields_view, fixed, flags, list, literal_step, literal_view, literals_of, literals_view, ok, error, option, pairs, pairs_of, pairs_view, payload_view, text, tuple, variant}
+use Rattle.canon_literals.specs.Literals.{Literal, enum, fields, fields_of, fields_view, fixed, flags, list, literal_step, literal_view, literals_of, literals_view, ok, error, option, pairs, pairs_of, pairs_view, payload_view, text, tuple, variant}
 
 pub literal-String : (s : String Global) → literal_view (val.String s) ≡ text (string_bytes s)
 literal-String s = ap literal_view (sym (val.rolls-String s)) ∙ fold-roll-Val Literal literal_step (Val-F.String s)

@@ -2,7 +2,7 @@
 use Rattle.std.proofs.Common.{◌≡◌, ◌∙◌, Err, List, Ok, Result, Vec, [], ◌∷◌, ap, ap₂, map, refl}
 use Rattle.std.specs.Prelude.{IfOk}
 use Rattle.std.specs.declared.alloc.Global.{Global}
-use Rattle.canon_script.specs.Literals.{Fields, Literal, Literals, Pairs, Payload, all_replaced, error, field, fields, fields_replaced, fixed, held, list, listed, literal, literals_view, no_fields, no_literals, no_pairs, no_payload, ok, option, pair, pairs, pairs_replaced, payload_replaced, replaced, tuple, variant, with_payload}
+use Rattle.canon_literals.specs.Literals.{Fields, Literal, Literals, Pairs, Payload, all_replaced, error, field, fields, fields_replaced, fixed, held, list, listed, literal, literals_view, no_fields, no_literals, no_pairs, no_payload, ok, option, pair, pairs, pairs_replaced, payload_replaced, replaced, tuple, variant, with_payload}
 use Rattle.canon_val.specs.declared.val.Val.{Val}
 
 mutual

@@ -1,6 +1,6 @@
-use Rattle.canon_script.specs.Literals.{listed}
-use Rattle.canon_script.proofs.Filled.{err_filled, fixed_filled, flags_filled, list_filled, map_filled, ok_filled, record_filled, tuple_filled}
-use Rattle.canon_script.proofs.resources.+fill.Goals as goal
+use Rattle.canon_literals.specs.Literals.{listed}
+use Rattle.canon_literals.proofs.Filled.{err_filled, fixed_filled, flags_filled, list_filled, map_filled, ok_filled, record_filled, tuple_filled}
+use Rattle.canon_literals.proofs.resources.+fill.Goals as goal
 
 pub fill-returns-in_ok-fill_row-in-List : goal.fill-returns-in_ok-fill_row-in-List
 fill-returns-in_ok-fill_row-in-List t c =

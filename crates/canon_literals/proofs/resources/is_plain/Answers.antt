@@ -1,7 +1,7 @@
 use Rattle.std.proofs.Common.{ap, length, nat_eq, sym, ◌++◌, ◌∙◌}
 use Rattle.canon_value_parts.specs.Resources.{resources}
-use Rattle.canon_script.proofs.Held.{held_is}
-use Rattle.canon_script.proofs.resources.is_plain.Goals as goal
+use Rattle.canon_literals.proofs.Held.{held_is}
+use Rattle.canon_literals.proofs.resources.is_plain.Goals as goal
 
 pub returns : goal.returns
 returns c =

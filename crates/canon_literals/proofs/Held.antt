@@ -10,8 +10,8 @@ use Rattle.canon_val.specs.declared.val.Val.TheFolds.{fold-roll-Val, ind-Val, ma
 use Rattle.canon_val.specs.declared.val.Val.TheOpen.{Val-F, Val-F as F}
 use Rattle.canon_val.specs.declared.val.Val.TheShapes.{former-Val-Map-0-at-2, former-Val-Record-0-at-2}
 use Rattle.canon_val.specs.declared.val.Val.TheVariants as val
-use Rattle.canon_script.specs.Resources.{pair_resources}
-use Rattle.canon_script.specs.Literals.{Literal, all_held, fields_held, fields_of, held_among, held_in, literal_step, literal_view, literals_of, literals_view, named, pairs_held, pairs_of}
+use Rattle.canon_literals.specs.Resources.{pair_resources}
+use Rattle.canon_literals.specs.Literals.{Literal, all_held, fields_held, fields_of, held_among, held_in, literal_step, literal_view, literals_of, literals_view, named, pairs_held, pairs_of}
 
 -- one level of a value, of whose parts it is known
 module _ {E : Type 0} (f : E → Val) (h : (e : E) → held_in (literal_view (f e)) ≡ resources (f e)) where

@@ -1,5 +1,5 @@
 use Rattle.std.proofs.Common.{◌≡◌, map, string_bytes, take}
-use Rattle.canon_script.proofs.resources.copy_names.Given as goal
+use Rattle.canon_literals.proofs.resources.copy_names.Given as goal
 
 -- the names so far
 abbrev pub invariant-loop-name : goal.invariant-loop-name

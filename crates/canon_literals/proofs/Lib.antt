@@ -1,0 +1,4 @@
+pub mod Filled
+pub mod Held
+pub mod Same
+pub mod Views
