@@ -3,7 +3,7 @@
 ghost use Rattle.std.specs.Prelude.{◌≡◌, ◌≤◌, ◌<◌, ◌+◌, false, length};
 ghost use Rattle.canon_args.specs.Results.{TypedResults};
 ghost use Rattle.canon_args.specs.Returned.{passed_reading};
-ghost use Rattle.canon_context.specs.Core.{types_of};
+ghost use Rattle.canon_context.specs.Core.{component_types};
 ghost use Rattle.canon_reading.specs.Reading.{Lifts, setting_in};
 ghost use Rattle.canon_reading.specs.Spots.{flat_in};
 ghost use Rattle.canon_model.specs.Flat.{max_params, max_results};
@@ -31,11 +31,11 @@ pub fn lift_params<U, G, P: Lift>(
     ty: TypeTupleIndex,
     src: &[ValRaw],
 ) -> Result<P, Fault>
-    requires tuple { HasTuple (types_of cx.old.core.now) ty }
+    requires tuple { HasTuple (component_types cx.old.core.now) ty }
     requires fits { P.fits cx.old.core.now.component.types (Tuple ty) }
-    requires words { length src.now ≡ args_words (tuple_members (types_of cx.old.core.now) ty) }
-    ensures lifts { Lifts (passed_reading max_params (product of_places (tuple_members (types_of cx.old.core.now) ty)) P.reading) (setting_in cx.old.core.now cx.old.options) (flat_in src.now 0)
-        (product of_places (tuple_members (types_of cx.old.core.now) ty)) cx.old.core.now.ledger cx.old.fuel result cx.new.core.now.ledger cx.new.fuel }
+    requires words { length src.now ≡ args_words (tuple_members (component_types cx.old.core.now) ty) }
+    ensures lifts { Lifts (passed_reading max_params (product of_places (tuple_members (component_types cx.old.core.now) ty)) P.reading) (setting_in cx.old.core.now cx.old.options) (flat_in src.now 0)
+        (product of_places (tuple_members (component_types cx.old.core.now) ty)) cx.old.core.now.ledger cx.old.fuel result cx.new.core.now.ledger cx.new.fuel }
     ensures same_core { cx.new.core.now ≡ record cx.old.core.now { ledger = cx.new.core.now.ledger } }
     ensures same_reference { cx.new.core.ghost_name ≡ cx.old.core.ghost_name }
     ensures same_options { cx.new.options ≡ cx.old.options }
@@ -53,14 +53,14 @@ pub fn lower_results<D, G: Guest, R: Lower>(
     at: u64,
     dst: &mut [ValRaw],
 ) -> Result<(), Fault>
-    requires tuple { HasTuple (types_of cx.old.core.now) ty }
+    requires tuple { HasTuple (component_types cx.old.core.now) ty }
     requires fits { R.fits cx.old.core.now.component.types (Tuple ty) }
-    requires near { members_flat (tuple_members (types_of cx.old.core.now) ty) ≤ max_results → length dst.old ≡ members_flat (tuple_members (types_of cx.old.core.now) ty) }
-    requires far { max_results < members_flat (tuple_members (types_of cx.old.core.now) ty) → at + size false (product of_places (tuple_members (types_of cx.old.core.now) ty)) ≤ length cx.old.core.now.memory }
-    ensures lowers { TypedResults G.seen G.moves cx.old.options cx.old.core.now cx.new.core.now (tuple_members (types_of cx.old.core.now) ty) at dst.new (R.walks results.old)
-        (R.gives cx.old.core.now.component.types (product of_places (tuple_members (types_of cx.old.core.now) ty)) results.old) result }
+    requires near { members_flat (tuple_members (component_types cx.old.core.now) ty) ≤ max_results → length dst.old ≡ members_flat (tuple_members (component_types cx.old.core.now) ty) }
+    requires far { max_results < members_flat (tuple_members (component_types cx.old.core.now) ty) → at + size false (product of_places (tuple_members (component_types cx.old.core.now) ty)) ≤ length cx.old.core.now.memory }
+    ensures lowers { TypedResults G.seen G.moves cx.old.options cx.old.core.now cx.new.core.now (tuple_members (component_types cx.old.core.now) ty) at dst.new (R.walks results.old)
+        (R.gives cx.old.core.now.component.types (product of_places (tuple_members (component_types cx.old.core.now) ty)) results.old) result }
     ensures count { length dst.new ≡ length dst.old }
-    ensures kept { max_results < members_flat (tuple_members (types_of cx.old.core.now) ty) → dst.new ≡ dst.old }
+    ensures kept { max_results < members_flat (tuple_members (component_types cx.old.core.now) ty) → dst.new ≡ dst.old }
     ensures same_reference { cx.new.core.ghost_name ≡ cx.old.core.ghost_name }
     ensures same_options { cx.new.options ≡ cx.old.options }
 {

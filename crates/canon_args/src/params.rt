@@ -2,7 +2,7 @@
 
 ghost use Rattle.std.specs.Prelude.{◌≡◌, ◌≤◌, ◌<◌, length};
 ghost use Rattle.canon_args.specs.Params.{TypedParams};
-ghost use Rattle.canon_context.specs.Core.{types_of};
+ghost use Rattle.canon_context.specs.Core.{component_types};
 ghost use Rattle.canon_model.specs.Flat.{max_params};
 ghost use Rattle.canon_model.specs.Layout.{members_flat};
 ghost use Rattle.canon_model.specs.Shape.{of_places, product};
@@ -26,11 +26,11 @@ pub fn lower_params<D, G: Guest, P: Lower>(
     ty: TypeTupleIndex,
     dst: &mut [ValRaw],
 ) -> Result<(), Fault>
-    requires tuple { HasTuple (types_of cx.old.core.now) ty }
+    requires tuple { HasTuple (component_types cx.old.core.now) ty }
     requires fits { P.fits cx.old.core.now.component.types (Tuple ty) }
-    requires words { length dst.old ≡ args_words (tuple_members (types_of cx.old.core.now) ty) }
-    ensures lowers { TypedParams G.seen G.moves cx.old.options cx.old.core.now cx.new.core.now (tuple_members (types_of cx.old.core.now) ty) dst.new (P.walks params.old)
-        (P.gives cx.old.core.now.component.types (product of_places (tuple_members (types_of cx.old.core.now) ty)) params.old) result }
+    requires words { length dst.old ≡ args_words (tuple_members (component_types cx.old.core.now) ty) }
+    ensures lowers { TypedParams G.seen G.moves cx.old.options cx.old.core.now cx.new.core.now (tuple_members (component_types cx.old.core.now) ty) dst.new (P.walks params.old)
+        (P.gives cx.old.core.now.component.types (product of_places (tuple_members (component_types cx.old.core.now) ty)) params.old) result }
     ensures count { length dst.new ≡ length dst.old }
     ensures same_reference { cx.new.core.ghost_name ≡ cx.old.core.ghost_name }
     ensures same_options { cx.new.options ≡ cx.old.options }
@@ -50,12 +50,12 @@ fn lower_stack_args<D, G: Guest, P: Lower>(
     ty: TypeTupleIndex,
     dst: &mut [ValRaw],
 ) -> Result<(), Fault>
-    requires tuple { HasTuple (types_of cx.old.core.now) ty }
+    requires tuple { HasTuple (component_types cx.old.core.now) ty }
     requires fits { P.fits cx.old.core.now.component.types (Tuple ty) }
-    requires near { members_flat (tuple_members (types_of cx.old.core.now) ty) ≤ max_params }
-    requires words { length dst.old ≡ members_flat (tuple_members (types_of cx.old.core.now) ty) }
-    ensures lowers { TypedParams G.seen G.moves cx.old.options cx.old.core.now cx.new.core.now (tuple_members (types_of cx.old.core.now) ty) dst.new (P.walks params.old)
-        (P.gives cx.old.core.now.component.types (product of_places (tuple_members (types_of cx.old.core.now) ty)) params.old) result }
+    requires near { members_flat (tuple_members (component_types cx.old.core.now) ty) ≤ max_params }
+    requires words { length dst.old ≡ members_flat (tuple_members (component_types cx.old.core.now) ty) }
+    ensures lowers { TypedParams G.seen G.moves cx.old.options cx.old.core.now cx.new.core.now (tuple_members (component_types cx.old.core.now) ty) dst.new (P.walks params.old)
+        (P.gives cx.old.core.now.component.types (product of_places (tuple_members (component_types cx.old.core.now) ty)) params.old) result }
     ensures count { length dst.new ≡ length dst.old }
     ensures same_reference { cx.new.core.ghost_name ≡ cx.old.core.ghost_name }
     ensures same_options { cx.new.options ≡ cx.old.options }
@@ -71,12 +71,12 @@ fn lower_heap_args<D, G: Guest, P: Lower>(
     ty: TypeTupleIndex,
     dst: &mut [ValRaw],
 ) -> Result<(), Fault>
-    requires tuple { HasTuple (types_of cx.old.core.now) ty }
+    requires tuple { HasTuple (component_types cx.old.core.now) ty }
     requires fits { P.fits cx.old.core.now.component.types (Tuple ty) }
-    requires far { max_params < members_flat (tuple_members (types_of cx.old.core.now) ty) }
+    requires far { max_params < members_flat (tuple_members (component_types cx.old.core.now) ty) }
     requires words { length dst.old ≡ 1 }
-    ensures lowers { TypedParams G.seen G.moves cx.old.options cx.old.core.now cx.new.core.now (tuple_members (types_of cx.old.core.now) ty) dst.new (P.walks params.old)
-        (P.gives cx.old.core.now.component.types (product of_places (tuple_members (types_of cx.old.core.now) ty)) params.old) result }
+    ensures lowers { TypedParams G.seen G.moves cx.old.options cx.old.core.now cx.new.core.now (tuple_members (component_types cx.old.core.now) ty) dst.new (P.walks params.old)
+        (P.gives cx.old.core.now.component.types (product of_places (tuple_members (component_types cx.old.core.now) ty)) params.old) result }
     ensures count { length dst.new ≡ length dst.old }
     ensures same_reference { cx.new.core.ghost_name ≡ cx.old.core.ghost_name }
     ensures same_options { cx.new.options ≡ cx.old.options }

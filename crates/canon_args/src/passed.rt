@@ -2,7 +2,7 @@
 
 ghost use Rattle.std.specs.Prelude.{◌≡◌, ◌≤◌, length};
 ghost use Rattle.canon_args.specs.Returned.{area_reading, passed_count, passed_reading};
-ghost use Rattle.canon_context.specs.Core.{types_of};
+ghost use Rattle.canon_context.specs.Core.{component_types};
 ghost use Rattle.canon_reading.specs.Reading.{Lifts, setting_in};
 ghost use Rattle.canon_reading.specs.Spots.{flat_in};
 ghost use Rattle.canon_model.specs.Shape.{of_places, product};
@@ -23,12 +23,12 @@ pub(crate) fn lift_passed<U, G, V: Lift>(
     src: &[ValRaw],
     most: u8,
 ) -> Result<V, Fault>
-    requires tuple { HasTuple (types_of cx.old.core.now) ty }
+    requires tuple { HasTuple (component_types cx.old.core.now) ty }
     requires fits { V.fits cx.old.core.now.component.types (Tuple ty) }
     requires few { most ≤ 16 }
-    requires words { length src.now ≡ passed_count most (tuple_members (types_of cx.old.core.now) ty) }
-    ensures lifts { Lifts (passed_reading most (product of_places (tuple_members (types_of cx.old.core.now) ty)) V.reading) (setting_in cx.old.core.now cx.old.options) (flat_in src.now 0)
-        (product of_places (tuple_members (types_of cx.old.core.now) ty)) cx.old.core.now.ledger cx.old.fuel result cx.new.core.now.ledger cx.new.fuel }
+    requires words { length src.now ≡ passed_count most (tuple_members (component_types cx.old.core.now) ty) }
+    ensures lifts { Lifts (passed_reading most (product of_places (tuple_members (component_types cx.old.core.now) ty)) V.reading) (setting_in cx.old.core.now cx.old.options) (flat_in src.now 0)
+        (product of_places (tuple_members (component_types cx.old.core.now) ty)) cx.old.core.now.ledger cx.old.fuel result cx.new.core.now.ledger cx.new.fuel }
     ensures same_core { cx.new.core.now ≡ record cx.old.core.now { ledger = cx.new.core.now.ledger } }
     ensures same_reference { cx.new.core.ghost_name ≡ cx.old.core.ghost_name }
     ensures same_options { cx.new.options ≡ cx.old.options }
@@ -48,11 +48,11 @@ fn lift_pointed<U, G, V: Lift>(
     ty: TypeTupleIndex,
     src: &[ValRaw],
 ) -> Result<V, Fault>
-    requires tuple { HasTuple (types_of cx.old.core.now) ty }
+    requires tuple { HasTuple (component_types cx.old.core.now) ty }
     requires fits { V.fits cx.old.core.now.component.types (Tuple ty) }
     requires word { length src.now ≡ 1 }
     ensures lifts { Lifts (area_reading V.reading) (setting_in cx.old.core.now cx.old.options) (flat_in src.now 0)
-        (product of_places (tuple_members (types_of cx.old.core.now) ty)) cx.old.core.now.ledger cx.old.fuel result cx.new.core.now.ledger cx.new.fuel }
+        (product of_places (tuple_members (component_types cx.old.core.now) ty)) cx.old.core.now.ledger cx.old.fuel result cx.new.core.now.ledger cx.new.fuel }
     ensures same_core { cx.new.core.now ≡ record cx.old.core.now { ledger = cx.new.core.now.ledger } }
     ensures same_reference { cx.new.core.ghost_name ≡ cx.old.core.ghost_name }
     ensures same_options { cx.new.options ≡ cx.old.options }

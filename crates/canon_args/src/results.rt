@@ -2,7 +2,7 @@
 
 ghost use Rattle.std.specs.Prelude.{◌≡◌, length};
 ghost use Rattle.canon_args.specs.Returned.{passed_reading, result_count};
-ghost use Rattle.canon_context.specs.Core.{types_of};
+ghost use Rattle.canon_context.specs.Core.{component_types};
 ghost use Rattle.canon_reading.specs.Reading.{Lifts, setting_in};
 ghost use Rattle.canon_reading.specs.Spots.{flat_in};
 ghost use Rattle.canon_model.specs.Flat.{max_results};
@@ -27,11 +27,11 @@ pub fn lift_results<U, G, R: Lift>(
     ty: TypeTupleIndex,
     src: &[ValRaw],
 ) -> Result<R, Fault>
-    requires tuple { HasTuple (types_of cx.old.core.now) ty }
+    requires tuple { HasTuple (component_types cx.old.core.now) ty }
     requires fits { R.fits cx.old.core.now.component.types (Tuple ty) }
-    requires words { length src.now ≡ result_count (tuple_members (types_of cx.old.core.now) ty) }
-    ensures lifts { Lifts (passed_reading max_results (product of_places (tuple_members (types_of cx.old.core.now) ty)) R.reading) (setting_in cx.old.core.now cx.old.options) (flat_in src.now 0)
-        (product of_places (tuple_members (types_of cx.old.core.now) ty)) cx.old.core.now.ledger cx.old.fuel result cx.new.core.now.ledger cx.new.fuel }
+    requires words { length src.now ≡ result_count (tuple_members (component_types cx.old.core.now) ty) }
+    ensures lifts { Lifts (passed_reading max_results (product of_places (tuple_members (component_types cx.old.core.now) ty)) R.reading) (setting_in cx.old.core.now cx.old.options) (flat_in src.now 0)
+        (product of_places (tuple_members (component_types cx.old.core.now) ty)) cx.old.core.now.ledger cx.old.fuel result cx.new.core.now.ledger cx.new.fuel }
     ensures same_core { cx.new.core.now ≡ record cx.old.core.now { ledger = cx.new.core.now.ledger } }
     ensures same_reference { cx.new.core.ghost_name ≡ cx.old.core.ghost_name }
     ensures same_options { cx.new.options ≡ cx.old.options }

@@ -113,12 +113,12 @@ pub record ReadsTooMuch (left left' : Option (List ℕ)) : Type 0 where
   pub long : max_input < length input
 
 -- nothing was done: wrong words (2), a failed read (3), too many bytes (6), no JSON (7) or no task (8)
-abbrev pub IsRefusal : Status → Type 0
-IsRefusal s = (s.0 ≡ 2) ⊎ ((s.0 ≡ 3) ⊎ ((s.0 ≡ 6) ⊎ ((s.0 ≡ 7) ⊎ (s.0 ≡ 8))))
+abbrev pub IsRefusedStatus : Status → Type 0
+IsRefusedStatus s = (s.0 ≡ 2) ⊎ ((s.0 ≡ 3) ⊎ ((s.0 ≡ 6) ⊎ ((s.0 ≡ 7) ⊎ (s.0 ≡ 8))))
 
 -- one of these, all written (0), a failed write (4) or out of memory (5)
 abbrev pub IsStatus : Status → Type 0
-IsStatus s = IsRefusal s ⊎ ((s.0 ≡ 0) ⊎ ((s.0 ≡ 4) ⊎ (s.0 ≡ 5)))
+IsStatus s = IsRefusedStatus s ⊎ ((s.0 ≡ 0) ⊎ ((s.0 ≡ 4) ⊎ (s.0 ≡ 5)))
 
 -- The status of an input that was there to be read, where no read failed: each is answered, or memory ran out.
 pub record AnswersInput {T : Type 0} (asks : Data → Option T) (input : List ℕ) (s : Status) : Type 0 where

@@ -8,7 +8,7 @@ ghost use Rattle.canon_memory.specs.Counts.{Rose};
 ghost use Rattle.canon_player.specs.Session.{Session};
 ghost use Rattle.canon_script.specs.Script.{Play, play_of, script_of};
 ghost use Rattle.canon_transcript.specs.Text.{transcript_text};
-ghost use Rattle.canon_cli.specs.Program.{AnswersInput, TaskLeaves, IsJson, IsNoJson, IsPerformed, IsRefusal, IsStatus, IsTask, OnTold, Performed, ReadsJson, ReadsNoJson, ReadsNoTask, ReadsTask, ReadsTooMuch, Task, command_of, max_input, task_of};
+ghost use Rattle.canon_cli.specs.Program.{AnswersInput, TaskLeaves, IsJson, IsNoJson, IsPerformed, IsRefusedStatus, IsStatus, IsTask, OnTold, Performed, ReadsJson, ReadsNoJson, ReadsNoTask, ReadsTask, ReadsTooMuch, Task, command_of, max_input, task_of};
 ghost use Rattle.canon_gen.specs.Lines.{Generated};
 ghost use Rattle.canon_cli.specs.Gen.{IsGenStatus, gen_of};
 ghost use Rattle.canon_cli.specs.Streams.{AppendsPrefix, TakesAtMost};
@@ -58,7 +58,7 @@ pub fn run<S: Source, K: Sink>(
 
     // The other refusals, each with its cause. They leave the sink and the transcript as they were. 3 and 4 come exactly
     // where the source or the sink failed: at every other status their counts of faults stand still.
-    ensures refused { IsRefusal result → (sink.new ≡ sink.old) × (transcript.new ≡ []) }
+    ensures refused { IsRefusedStatus result → (sink.new ≡ sink.old) × (transcript.new ≡ []) }
     ensures read_fault { result ≡ Status.READ_FAULT → Rose (S.faults source.old) (S.faults source.new) }
     ensures no_read_fault { ¬ (result ≡ Status.READ_FAULT) → S.faults source.new ≡ S.faults source.old }
     ensures no_write_fault { ¬ (result ≡ Status.WRITE_FAULT) → K.faults sink.new ≡ K.faults sink.old }
@@ -130,7 +130,7 @@ fn run_command<S: Source, K: Sink>(
         ⊎ ((text : List ℕ) × Performed asked (S.left source.old) (S.left source.new) transcript.new text)) }
 
     // The other refusals, each with its cause. They leave the sink and the transcript as they were.
-    ensures refused { IsRefusal result → (sink.new ≡ sink.old) × (transcript.new ≡ []) }
+    ensures refused { IsRefusedStatus result → (sink.new ≡ sink.old) × (transcript.new ≡ []) }
     ensures read_fault { result ≡ Status.READ_FAULT → Rose (S.faults source.old) (S.faults source.new) }
     ensures no_read_fault { ¬ (result ≡ Status.READ_FAULT) → S.faults source.new ≡ S.faults source.old }
     ensures no_write_fault { ¬ (result ≡ Status.WRITE_FAULT) → K.faults sink.new ≡ K.faults sink.old }

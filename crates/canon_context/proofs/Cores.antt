@@ -5,7 +5,7 @@ use Rattle.std.proofs.lemmas.List.{append-nil}
 use Rattle.canon_lowering.proofs.Lowerings.{NotDone}
 use Rattle.canon_memory.specs.Memory.{written_over}
 use Rattle.canon_context.specs.Asks.{SameBut}
-use Rattle.canon_context.specs.Core.{Parts, encoding_by, types_of}
+use Rattle.canon_context.specs.Core.{Parts, encoding_by, component_types}
 use Rattle.canon_context.specs.Lowers.{fault_ending}
 use Rattle.canon_context.specs.declared.fault.Fault.{Fault}
 use Rattle.canon_context.specs.declared.fault.Fault.TheVariants as fault
@@ -16,8 +16,8 @@ same_then {T} {G} a b c e f = f ∙ ap (λ (x : Parts T G). record x { guest = c
 pub same_encoding : {T G : Type 0} → (a b : Parts T G) (options : ℕ) → SameBut a b → encoding_by b options ≡ encoding_by a options
 same_encoding {T} {G} a b options e = ap (λ (x : Parts T G). encoding_by x options) e
 
-pub same_types : {T G : Type 0} → (a b : Parts T G) → SameBut a b → types_of b ≡ types_of a
-same_types {T} {G} a b e = ap (λ (x : Parts T G). types_of x) e
+pub same_types : {T G : Type 0} → (a b : Parts T G) → SameBut a b → component_types b ≡ component_types a
+same_types {T} {G} a b e = ap (λ (x : Parts T G). component_types x) e
 
 -- all of it written over
 pub written_whole : (xs ws : List ℕ) → length ws ≡ length xs → written_over xs ws ≡ ws

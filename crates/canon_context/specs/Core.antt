@@ -19,17 +19,17 @@ pub record Parts (T G : Type 0) : Type 0 where
   pub ledger : LedgerState
   pub fuel : ℕ
 
-abbrev pub types_of : {T G : Type 0} → Parts T G → Table
-types_of core = core.component.types.types
+abbrev pub component_types : {T G : Type 0} → Parts T G → Table
+component_types core = core.component.types.types
 
 -- where the index is one of a component, its resource type is known
-abbrev pub IsKnown : Table → TypedResourceIndex → Type 0
-IsKnown types (HostIndex i) = Unit {0}
-IsKnown types (ComponentIndex ty i) = HasResource types ty
+abbrev pub HasKnownType : Table → TypedResourceIndex → Type 0
+HasKnownType types (HostIndex i) = Unit {0}
+HasKnownType types (ComponentIndex ty i) = HasResource types ty
 
 -- the table that an index is one of
 abbrev pub table_by : {T G : Type 0} → Parts T G → TypedResourceIndex → ℕ
-table_by core idx = table_of_index (Some (types_of core)) idx
+table_by core idx = table_of_index (Some (component_types core)) idx
 
 -- only the ledger of its handles may differ
 abbrev pub SameButLedger : {T G : Type 0} → Parts T G → Parts T G → Type 0

@@ -8,7 +8,7 @@ ghost use Rattle.canon_memory.specs.Realloc.{call};
 ghost use Rattle.canon_model.specs.Laws.{IsAlignment};
 ghost use Rattle.canon_context.specs.Component.{HasOptions};
 ghost use Rattle.canon_indices.specs.Options.{encoding_of};
-ghost use Rattle.canon_context.specs.Core.{encoding_by, guest_of, moment_of, types_of};
+ghost use Rattle.canon_context.specs.Core.{encoding_by, guest_of, moment_of, component_types};
 ghost use Rattle.canon_context.specs.Fuel.{Charged};
 ghost use Rattle.canon_context.specs.Lifter.{IsAfterSteps, origin_in};
 ghost use Rattle.canon_context.specs.Lowers.{answer_of, ending_of, guest_answer};
@@ -64,7 +64,7 @@ impl<'a, T, G: Guest> LowerContext<'a, T, G> {
 
     /// The component's type table.
     pub fn types(&self) -> &ComponentTypes
-        ensures { result.now ≡ types_of self.now.core.now }
+        ensures { result.now ≡ component_types self.now.core.now }
     {
         self.core.component().types.types()
     }
@@ -232,7 +232,7 @@ impl<'a, T, G> LiftContext<'a, T, G> {
 
     /// The component's type table.
     pub fn types(&self) -> &ComponentTypes
-        ensures { result.now ≡ types_of self.now.core.now }
+        ensures { result.now ≡ component_types self.now.core.now }
     {
         self.core.component().types.types()
     }

@@ -10,7 +10,7 @@ ghost use Rattle.canon_ledger.specs.Places.{SamePlaces};
 ghost use Rattle.canon_types.specs.Resource.{resource_type_at};
 ghost use Rattle.canon_types.specs.Table.{HasResource};
 ghost use Rattle.canon_leaves.specs.Parts.{do_part, dtor_for, instance_for, table_for};
-ghost use Rattle.canon_context.specs.Core.{SameButLedger, types_of};
+ghost use Rattle.canon_context.specs.Core.{SameButLedger, component_types};
 ghost use Rattle.canon_context.specs.Faults.{Stepped, SteppedSurely, borrow_part};
 
 use crate::fault::faulted;
@@ -22,7 +22,7 @@ use canon_types::{ResourceType, RuntimeInstance, TypeResourceTableIndex};
 impl<'a, T, G> LowerContext<'a, T, G> {
     /// The type of a resource table.
     pub fn resource_type(&self, t: TypeResourceTableIndex) -> ResourceType
-        requires { HasResource (types_of self.now.core.now) t }
+        requires { HasResource (component_types self.now.core.now) t }
         ensures { resource_type_at self.now.core.now.component.types t ≡ Some result }
     {
         self.core.component().types.resource_type(t)
@@ -34,7 +34,7 @@ impl<'a, T, G> LowerContext<'a, T, G> {
         t: TypeResourceTableIndex,
         rep: u32,
     ) -> Result<u32, Fault>
-        requires known { HasResource (types_of self.old.core.now) t }
+        requires known { HasResource (component_types self.old.core.now) t }
         ensures step { Stepped (ledger.resource_new self.old.core.now.ledger (table_for self.old.core.now.component.types t) (Component t rep)) result self.old.core.now.ledger self.new.core.now.ledger }
         ensures places { SamePlaces self.old.core.now.ledger self.new.core.now.ledger }
         ensures same { SameButLedger self.old.core.now self.new.core.now }
@@ -50,7 +50,7 @@ impl<'a, T, G> LowerContext<'a, T, G> {
         t: TypeResourceTableIndex,
         rep: u32,
     ) -> Result<u32, Fault>
-        requires known { HasResource (types_of self.old.core.now) t }
+        requires known { HasResource (component_types self.old.core.now) t }
         ensures step { Stepped (do_part rep (borrow_part self.old.core.now.component.types t rep) self.old.core.now.ledger) result self.old.core.now.ledger self.new.core.now.ledger }
         ensures places { SamePlaces self.old.core.now.ledger self.new.core.now.ledger }
         ensures same { SameButLedger self.old.core.now self.new.core.now }
@@ -116,7 +116,7 @@ impl<'a, T, G> LowerContext<'a, T, G> {
 impl<'a, T, G> LiftContext<'a, T, G> {
     /// The type of a resource table.
     pub fn resource_type(&self, t: TypeResourceTableIndex) -> ResourceType
-        requires { HasResource (types_of self.now.core.now) t }
+        requires { HasResource (component_types self.now.core.now) t }
         ensures { resource_type_at self.now.core.now.component.types t ≡ Some result }
     {
         self.core.component().types.resource_type(t)
@@ -129,7 +129,7 @@ impl<'a, T, G> LiftContext<'a, T, G> {
         t: TypeResourceTableIndex,
         index: u32,
     ) -> Result<(u32, Option<u32>, Option<RuntimeInstance>), Fault>
-        requires known { HasResource (types_of self.old.core.now) t }
+        requires known { HasResource (component_types self.old.core.now) t }
         ensures step { SteppedSurely
             (mapped (λ rep. (rep, dtor_for self.old.core.now.component.types t, instance_for self.old.core.now.component.types t))
             (ledger.resource_lift_own self.old.core.now.ledger (table_for self.old.core.now.component.types t) (ComponentIndex t index)))
@@ -152,7 +152,7 @@ impl<'a, T, G> LiftContext<'a, T, G> {
         t: TypeResourceTableIndex,
         index: u32,
     ) -> Result<u32, Fault>
-        requires known { HasResource (types_of self.old.core.now) t }
+        requires known { HasResource (component_types self.old.core.now) t }
         ensures step { Stepped (ledger.resource_lift_borrow (top_scope self.old.core.now.ledger.handles) self.old.core.now.ledger (table_for self.old.core.now.component.types t) (ComponentIndex t index)) result self.old.core.now.ledger self.new.core.now.ledger }
         ensures places { SamePlaces self.old.core.now.ledger self.new.core.now.ledger }
         ensures same { SameButLedger self.old.core.now self.new.core.now }

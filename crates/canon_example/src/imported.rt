@@ -3,7 +3,7 @@
 ghost use Rattle.std.specs.Prelude.{◌≡◌, ◌≤◌, IfSome, None, slice_get};
 ghost use Rattle.canon_types.specs.Table.{HasFunc};
 ghost use Rattle.canon_context.specs.Component.{HasOptions};
-ghost use Rattle.canon_context.specs.Core.{types_of};
+ghost use Rattle.canon_context.specs.Core.{component_types};
 ghost use Rattle.canon_context.specs.Host.{Keeps};
 ghost use Rattle.canon_host.specs.Asked.{HasRoomFor};
 ghost use Rattle.canon_host.specs.Imports.{CountsOnce, ServesImport};
@@ -31,7 +31,7 @@ impl<
     ghost use Rattle.std.specs.Prelude.{◌≡◌, ◌≤◌, IfSome, None, slice_get};
     ghost use Rattle.canon_types.specs.Table.{HasFunc};
     ghost use Rattle.canon_context.specs.Component.{HasOptions};
-    ghost use Rattle.canon_context.specs.Core.{types_of};
+    ghost use Rattle.canon_context.specs.Core.{component_types};
     ghost use Rattle.canon_context.specs.Host.{Keeps};
     ghost use Rattle.canon_host.specs.Asked.{HasRoomFor};
     ghost use Rattle.canon_host.specs.Imports.{CountsOnce, ServesImport};
@@ -59,16 +59,16 @@ impl<
         storage: &mut [ValRaw],
     ) -> Result<(), HostError>
         requires ready { Keeps F.Fn self.old.func }
-        requires func { HasFunc (types_of cx.core.now) cx.ty }
+        requires func { HasFunc (component_types cx.core.now) cx.ty }
         requires options { HasOptions cx.core.now.component cx.options }
-        requires room { HasRoomFor (types_of cx.core.now) cx.ty storage.old }
+        requires room { HasRoomFor (component_types cx.core.now) cx.ty storage.old }
         ensures still_ready { Keeps F.Fn self.new.func }
         ensures plan { tt {0} ≡ tt {0} }
         ensures kept { self.new.func ≡ self.old.func }
-        ensures served { IfSome (slice_get (types_of cx.entry.core.now).funcs cx.entry.ty) (λ t. ServedBy F.Fn self.old.func G.seen G.moves (record { ty = cx.entry.ty; func = t; options = cx.entry.options }) cx.entry.core.now storage.old result cx.exit.0.now storage.new) }
+        ensures served { IfSome (slice_get (component_types cx.entry.core.now).funcs cx.entry.ty) (λ t. ServedBy F.Fn self.old.func G.seen G.moves (record { ty = cx.entry.ty; func = t; options = cx.entry.options }) cx.entry.core.now storage.old result cx.exit.0.now storage.new) }
         ensures counts { CountsOnce result self.old.refusals self.new.refusals }
         ensures refusals { self.old.refusals ≤ self.new.refusals }
-        ensures serves { IfSome (slice_get (types_of cx.entry.core.now).funcs cx.entry.ty)
+        ensures serves { IfSome (slice_get (component_types cx.entry.core.now).funcs cx.entry.ty)
             (λ t. ServesImport AnyAnswer None n G.seen G.moves (record { ty = cx.entry.ty; func = t; options = cx.entry.options }) None
             self.old.refusals self.new.refusals cx.entry.core.now storage.old result cx.exit.0.now storage.new) }
         ensures same { cx.exit.0.now ≡ record cx.entry.core.now { state = cx.exit.0.now.state; guest = cx.exit.0.now.guest; memory = cx.exit.0.now.memory; ledger = cx.exit.0.now.ledger } }
@@ -94,13 +94,13 @@ fn serve_by<
     storage: &mut [ValRaw],
 ) -> Result<(), HostError>
     requires ready { Keeps F.Fn func.now }
-    requires func { HasFunc (types_of cx.core.now) cx.ty }
+    requires func { HasFunc (component_types cx.core.now) cx.ty }
     requires options { HasOptions cx.core.now.component cx.options }
-    requires room { HasRoomFor (types_of cx.core.now) cx.ty storage.old }
-    ensures served { IfSome (slice_get (types_of cx.entry.core.now).funcs cx.entry.ty) (λ t. ServedBy F.Fn func.now G.seen G.moves (record { ty = cx.entry.ty; func = t; options = cx.entry.options }) cx.entry.core.now storage.old result cx.exit.0.now storage.new) }
+    requires room { HasRoomFor (component_types cx.core.now) cx.ty storage.old }
+    ensures served { IfSome (slice_get (component_types cx.entry.core.now).funcs cx.entry.ty) (λ t. ServedBy F.Fn func.now G.seen G.moves (record { ty = cx.entry.ty; func = t; options = cx.entry.options }) cx.entry.core.now storage.old result cx.exit.0.now storage.new) }
     ensures counts { CountsOnce result refusals.old refusals.new }
     ensures refusals { refusals.old ≤ refusals.new }
-    ensures serves { IfSome (slice_get (types_of cx.entry.core.now).funcs cx.entry.ty)
+    ensures serves { IfSome (slice_get (component_types cx.entry.core.now).funcs cx.entry.ty)
         (λ t. ServesImport AnyAnswer None n G.seen G.moves (record { ty = cx.entry.ty; func = t; options = cx.entry.options }) None refusals.old
         refusals.new cx.entry.core.now storage.old result cx.exit.0.now storage.new) }
     ensures same { cx.exit.0.now ≡ record cx.entry.core.now { state = cx.exit.0.now.state; guest = cx.exit.0.now.guest; memory = cx.exit.0.now.memory; ledger = cx.exit.0.now.ledger } }

@@ -14,7 +14,7 @@ use Rattle.canon_context.specs.declared.fault.Fault.TheVariants as fault
 use Rattle.canon_context.specs.declared.host.HostStop.{HostStop}
 use Rattle.canon_value_parts.specs.Resources.{stop_of}
 use Rattle.canon_host.specs.Forms.{in_view}
-use Rattle.canon_host.specs.HostSide.{Answering, Entry}
+use Rattle.canon_host.specs.HostSide.{Answering, LoggedEntry}
 use Rattle.canon_host.specs.Serves.{Steps, Values}
 use Rattle.canon_host.specs.declared.asked.Asked.{Asked}
 use Rattle.canon_host.specs.declared.error.HostError.{HostError}
@@ -31,8 +31,8 @@ use Rattle.canon_func.specs.declared.error.Error.TheVariants as error
 -- of each form
 pub record AskSound {T : Type 0} (its : AskForm T) : Type 0 where
   -- memory may always be wanting, and nothing is done else for a refusal alone
-  pub short : (callee : Callee) (asked : Asked) (index : ℕ) (log : Option (List Entry)) → its.declines callee asked index log (error.Fault fault.OutOfMemory)
-  pub declined : (callee : Callee) (asked : Asked) (index : ℕ) (log : Option (List Entry)) (e : Error) → its.declines callee asked index log e → (e ≡ error.Fault fault.OutOfMemory) ⊎ (e ≡ error.HostRefused index)
+  pub short : (callee : Callee) (asked : Asked) (index : ℕ) (log : Option (List LoggedEntry)) → its.declines callee asked index log (error.Fault fault.OutOfMemory)
+  pub declined : (callee : Callee) (asked : Asked) (index : ℕ) (log : Option (List LoggedEntry)) (e : Error) → its.declines callee asked index log e → (e ≡ error.Fault fault.OutOfMemory) ⊎ (e ≡ error.HostRefused index)
   -- lifting doesn't trap, goes through the handles up to some step, and isn't refused where nothing but memory is wanting
   pub calm : (store : ℕ) (callee : Callee) (fuel : ℕ) (asked : Asked) (words memory : List ℕ) (l n : LedgerState) (f : Fault) → its.lifts store callee fuel asked words memory l (Err f) n → ¬ (f ≡ fault.GuestTrap)
   pub unlifted : (store : ℕ) (callee : Callee) (fuel : ℕ) (asked : Asked) (words memory : List ℕ) (l n : LedgerState) (f : Fault) → its.lifts store callee fuel asked words memory l (Err f) n
@@ -74,8 +74,8 @@ pub record LowersAs {T G : Type 0} (its : AskForm T) (seen : G → Seen) (moves 
   pub moved : (l es : List Event) → (seen a.guest).journal ≡ Some l → (seen b.guest).journal ≡ Some (l ++ es) → OnAnswered {T = Unit {0}} (asked_answer index r) (moves (guest_of a) es (guest_of b))
 
 -- The steps of a form, of an ask on the way from one core to another, say what is said of it; `Logged` is the log after an ask that was served.
-pub record FollowsSteps {T G P S : Type 0} (its : AskForm T) (answers_so : Answering T) (how : Steps T G its.Params P its.Results S) (Logged : Values P its.Results → Option (List Entry)) (seen : G → Seen) (moves : GuestIn G → List Event → GuestIn G → Type 0)
-    (log : Option (List Entry)) (index : ℕ) (a b : Parts T G) (callee : Callee) (asked : Asked) (words pad storage2 : List ℕ) : Type 0 where
+pub record FollowsSteps {T G P S : Type 0} (its : AskForm T) (answers_so : Answering T) (how : Steps T G its.Params P its.Results S) (Logged : Values P its.Results → Option (List LoggedEntry)) (seen : G → Seen) (moves : GuestIn G → List Event → GuestIn G → Type 0)
+    (log : Option (List LoggedEntry)) (index : ℕ) (a b : Parts T G) (callee : Callee) (asked : Asked) (words pad storage2 : List ℕ) : Type 0 where
   pub declines : (e : HostError) → how.declines a e → its.declines callee asked index log (host_error index e)
   pub lifts : (l : LedgerState) (r : Result its.Params Fault) (lifted : Parts T G) → how.lifts (record a { ledger = l }) (words ++ pad) r lifted
       → its.lifts a.id callee a.fuel asked words a.memory l r lifted.ledger × (lifted ≡ record a { ledger = lifted.ledger })

@@ -11,7 +11,7 @@ use Rattle.canon_func.proofs.TypedExact.{faultless, within}
 use Rattle.canon_func.specs.AskValues.{asked_params, asked_results}
 use Rattle.canon_host.proofs.TypedAnswers.{members_given}
 use Rattle.canon_host.proofs.TypedAsked.{its_lifted}
-use Rattle.canon_host.specs.Forms.{AreLawful, Form, IsLawful, RustTypes, TypedAnswering, over_types, over_values}
+use Rattle.canon_host.specs.Forms.{AreLawful, HostFuncForm, IsLawful, RustTypes, TypedAnswering, over_types, over_values}
 use Rattle.canon_reading.specs.Apart.{AreApart, IsApart}
 use Rattle.canon_reading.specs.Reading.{Reading, Setting}
 use Rattle.canon_reading.specs.Spots.{flat_in}
@@ -80,6 +80,6 @@ module _ {T P R : Type 0} (types : RustTypes P R) (may : TypedAnswering T P R) (
   typed_exactly : IsTypedExactly types may
   typed_exactly = record { only = only_meant; enough = meant_enough; liftable = meant_liftable; faultless = lifted_faultless; results = given_walked }
 
-pub form_exact : {T : Type 0} (form : Form T) → IsLawful form → IsExact form
+pub form_exact : {T : Type 0} (form : HostFuncForm T) → IsLawful form → IsExact form
 form_exact over_values law = tt
 form_exact (over_types types may) law = typed_exactly types may law

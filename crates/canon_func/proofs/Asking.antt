@@ -18,7 +18,7 @@ use Rattle.canon_context.specs.declared.fault.Fault.TheVariants as fault
 use Rattle.canon_context.specs.declared.component.Import.{Import}
 use Rattle.canon_context.specs.Asks.{SameBut, SameButHandles}
 use Rattle.canon_context.specs.Core.{Parts, SameButLedger}
-use Rattle.canon_host.specs.HostSide.{Entry, Giving, HostSide, host_side}
+use Rattle.canon_host.specs.HostSide.{LoggedEntry, Giving, HostSide, host_side}
 use Rattle.canon_context.specs.declared.component.Component.{Component}
 use Rattle.canon_context.specs.declared.component.Export.{Export}
 use Rattle.canon_context.specs.declared.component.Import.TheVariants as import
@@ -228,7 +228,7 @@ module _ (component : Component) (export : Export) (index : ℕ) (words : List �
 
 module _ {T G : Type 0} (a b : Parts T G) where
   -- the host is the same where the guest and its memory alone differ
-  pub side_same : (log : Option (List Entry)) (refusals : ℕ) → SameBut a b → host_side b log refusals ≡ host_side a log refusals
+  pub side_same : (log : Option (List LoggedEntry)) (refusals : ℕ) → SameBut a b → host_side b log refusals ≡ host_side a log refusals
   side_same log refusals same = ap (λ (k : Parts T G). host_side k log refusals) same
 
   pub but_host : SameBut a b → SameButHost a b
@@ -243,16 +243,16 @@ module _ {T G : Type 0} (a b : Parts T G) where
   pub then_host : (c : Parts T G) → SameButHost a b → SameButHost b c → SameButHost a c
   then_host c first second = second ∙ ap (λ (k : Parts T G). record k { state = c.state; guest = c.guest; memory = c.memory; ledger = c.ledger }) first
 
-  pub side_ledger_same : (log : Option (List Entry)) (refusals : ℕ) → SameButLedger a b → host_side b log refusals ≡ record (host_side a log refusals) { ledger = b.ledger }
+  pub side_ledger_same : (log : Option (List LoggedEntry)) (refusals : ℕ) → SameButLedger a b → host_side b log refusals ≡ record (host_side a log refusals) { ledger = b.ledger }
   side_ledger_same log refusals same = ap (λ (k : Parts T G). host_side k log refusals) same
 
-  pub side_handles : (log : Option (List Entry)) (refusals : ℕ) → SameButHandles a b → host_side b log refusals ≡ record (host_side a log refusals) { ledger = b.ledger }
+  pub side_handles : (log : Option (List LoggedEntry)) (refusals : ℕ) → SameButHandles a b → host_side b log refusals ≡ record (host_side a log refusals) { ledger = b.ledger }
   side_handles log refusals same = ap (λ (k : Parts T G). host_side k log refusals) same
 
-  pub side_ledger : (log : Option (List Entry)) (refusals : ℕ) → SameButLedger a b → {l : LedgerState} → b.ledger ≡ l → host_side b log refusals ≡ record (host_side a log refusals) { ledger = l }
+  pub side_ledger : (log : Option (List LoggedEntry)) (refusals : ℕ) → SameButLedger a b → {l : LedgerState} → b.ledger ≡ l → host_side b log refusals ≡ record (host_side a log refusals) { ledger = l }
   side_ledger log refusals same left = ap (λ (k : Parts T G). host_side k log refusals) same ∙ (λ i. record (host_side a log refusals) { ledger = left i })
 
-  pub ledger_kept : (log : Option (List Entry)) (refusals : ℕ) → b.ledger ≡ a.ledger → record (host_side a log refusals) { ledger = b.ledger } ≡ host_side a log refusals
+  pub ledger_kept : (log : Option (List LoggedEntry)) (refusals : ℕ) → b.ledger ≡ a.ledger → record (host_side a log refusals) { ledger = b.ledger } ≡ host_side a log refusals
   ledger_kept log refusals same = λ i. record (host_side a log refusals) { ledger = same i }
 
 -- how many words the results take in a row, by the types of the core

@@ -8,7 +8,7 @@ use Rattle.canon_context.specs.Core.{Parts, SameButLedger, guest_of, moment_of}
 use Rattle.canon_context.specs.declared.fault.Fault.{Fault}
 use Rattle.canon_ledger.specs.Handles.{can_leave}
 use Rattle.canon_ledger.specs.Ledger.{LedgerState, leave}
-use Rattle.canon_host.specs.HostSide.{Entry, Giving, HostSide, host_side}
+use Rattle.canon_host.specs.HostSide.{LoggedEntry, Giving, HostSide, host_side}
 use Rattle.canon_func.specs.Asks.{Limits}
 use Rattle.canon_func.specs.Call.{OnAnswered}
 use Rattle.canon_func.specs.Passing.{ReturnedValues}
@@ -22,7 +22,7 @@ use Rattle.canon_func.proofs.Leaving.{lifted_leaves}
 use Rattle.canon_func.specs.Passed.{ReadsRightly}
 
 module _ {T G R : Type 0} (its : ReturnedValues R) (gives : Giving T) (callee : Callee) (limits : Limits) (seen : G → Seen) (moves : GuestIn G → List Event → GuestIn G → Type 0) (Leaves : List ℕ → List ℕ → Type 0)
-    (words : List ℕ) (before ran : Parts T G) (host : HostSide T) (log : Option (List Entry)) (refusals : ℕ) (returned : List ℕ) where
+    (words : List ℕ) (before ran : Parts T G) (host : HostSide T) (log : Option (List LoggedEntry)) (refusals : ℕ) (returned : List ℕ) where
   abbrev pub Ran : Type 0
   Ran = Serving (moment_of seen before) (moment_of seen ran) (λ es. OnAnswered {T = List ℕ} (Ok returned) (moves (guest_of before) es (guest_of ran)))
       (RunsToEnd gives callee limits words (moment_of seen before) (moment_of seen ran) host (host_side ran log refusals) (Ok returned))

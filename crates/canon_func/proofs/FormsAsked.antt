@@ -5,8 +5,8 @@ use Rattle.canon_memory.specs.Guest.{GuestIn, Seen}
 use Rattle.canon_context.specs.Core.{Parts, guest_of}
 use Rattle.canon_context.specs.declared.component.Export.{Export}
 use Rattle.canon_host.specs.Asked.{row_words}
-use Rattle.canon_host.specs.Forms.{Form, over_types, over_values}
-use Rattle.canon_host.specs.HostSide.{Entry, Giving}
+use Rattle.canon_host.specs.Forms.{HostFuncForm, over_types, over_values}
+use Rattle.canon_host.specs.HostSide.{LoggedEntry, Giving}
 use Rattle.canon_host.specs.Imports.{ServesForm, ServesImport, entry_of, logged, steps_of_types, steps_of_values}
 use Rattle.canon_host.specs.declared.asked.Asked.{Asked}
 use Rattle.canon_host.specs.declared.error.HostError.{HostError}
@@ -21,12 +21,12 @@ use Rattle.canon_func.proofs.ValuesAsked.{values_follow, values_sound}
 
 -- ---- from what the imports of a store did
 
-module _ {T G : Type 0} (seen : G → Seen) (moves : GuestIn G → List Event → GuestIn G → Type 0) (gives : Giving T) (log log2 : Option (List Entry)) (refusals refusals2 index : ℕ) (a b : Parts T G) (export : Export) (asked : Asked) (words pad storage storage2 : List ℕ)
+module _ {T G : Type 0} (seen : G → Seen) (moves : GuestIn G → List Event → GuestIn G → Type 0) (gives : Giving T) (log log2 : Option (List LoggedEntry)) (refusals refusals2 index : ℕ) (a b : Parts T G) (export : Export) (asked : Asked) (words pad storage storage2 : List ℕ)
     (is : IsHostAsk (export_callee a.component export) index words asked) (front : storage ≡ words ++ pad) where
   abbrev AskedBy : AskForm T → Result (Unit {0}) Error → Type 0
   AskedBy its r = Out its seen moves gives.answers log log2 refusals refusals2 index a b export asked words storage2 r
 
-  served_by : (form : Form T) → row_words (asked_results (export_callee a.component export) asked) ≤ length storage2 → ServesForm gives log index seen moves asked form log2 refusals refusals2 a storage (Ok tt) b storage2 → AskedBy (ask_form form) (Ok tt)
+  served_by : (form : HostFuncForm T) → row_words (asked_results (export_callee a.component export) asked) ≤ length storage2 → ServesForm gives log index seen moves asked form log2 refusals refusals2 a storage (Ok tt) b storage2 → AskedBy (ask_form form) (Ok tt)
   served_by over_values room h =
       logged_served ask_values values_sound seen moves gives.answers log log2 refusals refusals2 index a b export asked words pad storage2 is (steps_of_values gives log index seen moves asked) (λ told. logged log (entry_of index told))
       (values_follow seen moves gives log index a b export asked words pad storage2 is) storage front room h
@@ -34,7 +34,7 @@ module _ {T G : Type 0} (seen : G → Seen) (moves : GuestIn G → List Event �
       logged_served (ask_types types may) (types_sound types may) seen moves gives.answers log log2 refusals refusals2 index a b export asked words pad storage2 is (steps_of_types types may log seen moves asked) (λ told. log)
       (types_follow types may seen moves gives log index a b export asked words pad storage2 is) storage front room h
 
-  stopped_by : (form : Form T) → moves (guest_of a) [] (guest_of a) → (e : HostError) → ServesForm gives log index seen moves asked form log2 refusals refusals2 a storage (Err e) b storage2 → AskedBy (ask_form form) (Err (host_error index e))
+  stopped_by : (form : HostFuncForm T) → moves (guest_of a) [] (guest_of a) → (e : HostError) → ServesForm gives log index seen moves asked form log2 refusals refusals2 a storage (Err e) b storage2 → AskedBy (ask_form form) (Err (host_error index e))
   stopped_by over_values stays e h =
       logged_stopped ask_values values_sound seen moves gives.answers log log2 refusals refusals2 index a b export asked words pad storage2 is (steps_of_values gives log index seen moves asked) (λ told. logged log (entry_of index told))
       (values_follow seen moves gives log index a b export asked words pad storage2 is) storage front stays e h

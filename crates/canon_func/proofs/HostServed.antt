@@ -15,7 +15,7 @@ use Rattle.canon_ledger.specs.Ledger.{LedgerState, enter, leave}
 use Rattle.canon_ledger.specs.declared.fault.ResourceFault.{ResourceFault}
 use Rattle.canon_lowering.proofs.Lowerings.{goes_none}
 use Rattle.canon_lowering.specs.Lowering.{Answer, Trap, events_of, marks_of}
-use Rattle.canon_context.specs.Core.{Parts, guest_of, moment_of, types_of}
+use Rattle.canon_context.specs.Core.{Parts, guest_of, moment_of, component_types}
 use Rattle.canon_context.specs.declared.fault.Fault.{Fault}
 use Rattle.canon_context.specs.declared.fault.Fault.TheVariants as fault
 use Rattle.canon_context.specs.declared.component.Export.{Export}
@@ -24,9 +24,9 @@ use Rattle.canon_context.specs.declared.host.HostStop.TheVariants as stop
 use Rattle.canon_value_parts.specs.Args.{args_words}
 use Rattle.canon_host.specs.Asked.{AreEnough, row_words}
 use Rattle.canon_host.specs.Forms.{in_view}
-use Rattle.canon_host.specs.HostSide.{Answering, Entry, HostSide, host_side}
+use Rattle.canon_host.specs.HostSide.{Answering, LoggedEntry, HostSide, host_side}
 use Rattle.canon_host.specs.Imports.{ServesLogged}
-use Rattle.canon_host.specs.Serves.{AnswersBy, ConcludesBy, IsNoPlace, IsPlace, ServesBy, Steps, Values, stopped}
+use Rattle.canon_host.specs.Serves.{AnswersBy, ConcludesBy, IsNoPlace, IsResultPlace, ServesBy, Steps, Values, stopped}
 use Rattle.canon_host.specs.declared.asked.Asked.{Asked}
 use Rattle.canon_host.specs.declared.error.HostError.{HostError}
 use Rattle.canon_host.specs.declared.error.HostError.TheVariants as host
@@ -45,15 +45,15 @@ use Rattle.canon_func.proofs.Lowered.{told as told_moves}
 use Rattle.canon_func.proofs.Turns.{done_is}
 
 -- how it ended: on the way from one core to another, with the words of the results in storage
-abbrev pub Out : {T G : Type 0} (its : AskForm T) (seen : G → Seen) (moves : GuestIn G → List Event → GuestIn G → Type 0) (answers_so : Answering T) (log log2 : Option (List Entry)) (refusals refusals2 index : ℕ) (a b : Parts T G) (export : Export) (asked : Asked) (words storage2 : List ℕ)
+abbrev pub Out : {T G : Type 0} (its : AskForm T) (seen : G → Seen) (moves : GuestIn G → List Event → GuestIn G → Type 0) (answers_so : Answering T) (log log2 : Option (List LoggedEntry)) (refusals refusals2 index : ℕ) (a b : Parts T G) (export : Export) (asked : Asked) (words storage2 : List ℕ)
     → Result (Unit {0}) Error → Type 0
 Out its seen moves answers_so log log2 refusals refusals2 index a b export asked words storage2 r = Serving (moment_of seen a) (moment_of seen b) (λ es. OnAnswered r (moves (guest_of a) es (guest_of b)))
     (λ answers es. HostAskedBy its answers_so (export_callee a.component export) a.fuel asked index words (moment_of seen a) (moment_of seen b) (host_side a log refusals) (host_side b log2 refusals2) storage2 r answers es)
 
 -- ---- the chain of steps, said of the ask
 
-module _ {T G P S : Type 0} (its : AskForm T) (sound : AskSound its) (seen : G → Seen) (moves : GuestIn G → List Event → GuestIn G → Type 0) (answers_so : Answering T) (log log2 : Option (List Entry)) (refusals refusals2 index : ℕ) (a b : Parts T G) (export : Export) (asked : Asked)
-    (words pad storage2 : List ℕ) (is : IsHostAsk (export_callee a.component export) index words asked) (how : Steps T G its.Params P its.Results S) (Logged : Values P its.Results → Option (List Entry))
+module _ {T G P S : Type 0} (its : AskForm T) (sound : AskSound its) (seen : G → Seen) (moves : GuestIn G → List Event → GuestIn G → Type 0) (answers_so : Answering T) (log log2 : Option (List LoggedEntry)) (refusals refusals2 index : ℕ) (a b : Parts T G) (export : Export) (asked : Asked)
+    (words pad storage2 : List ℕ) (is : IsHostAsk (export_callee a.component export) index words asked) (how : Steps T G its.Params P its.Results S) (Logged : Values P its.Results → Option (List LoggedEntry))
     (law : FollowsSteps its answers_so how Logged seen moves log index a b (export_callee a.component export) asked words pad storage2) where
   abbrev callee : Callee
   callee = export_callee a.component export
@@ -74,10 +74,10 @@ module _ {T G P S : Type 0} (its : AskForm T) (sound : AskSound its) (seen : G �
   word_is : max_results < members_flat (asked_results callee asked) → slice_index (words ++ pad) (args_words (asked_params callee asked)) ≡ slice_index words (args_words (asked_params callee asked))
   word_is far = get_or_append_left words pad 0 (args_words (asked_params callee asked)) (counts.1 far)
 
-  place : (at : ℕ) → IsPlace (types_of a) asked a.memory (words ++ pad) at → IsPlace callee.types.types asked a.memory words at
+  place : (at : ℕ) → IsResultPlace (component_types a) asked a.memory (words ++ pad) at → IsResultPlace callee.types.types asked a.memory words at
   place at h = λ far. let area = h far in (area.0 ∙ ap low (word_is far), area.1, area.2)
 
-  no_place : (f : Fault) → IsNoPlace (types_of a) asked a.memory (words ++ pad) f → IsNoPlace callee.types.types asked a.memory words f
+  no_place : (f : Fault) → IsNoPlace (component_types a) asked a.memory (words ++ pad) f → IsNoPlace callee.types.types asked a.memory words f
   no_place f (far, inl (e, h)) = (far, inl (e, subst (λ w. ¬ (low w % members_align false (asked_results callee asked) ≡ 0)) (word_is far) h))
   no_place f (far, inr (e, h, g)) = (
     far,

@@ -9,7 +9,7 @@ use Rattle.canon_memory.specs.Journal.{answer_event, asked_trap}
 use Rattle.canon_lowering.proofs.Lowerings.{lawful_second}
 use Rattle.canon_lowering.specs.Lowering.{AllLawful, Answer, LastIs, Trap, events_of}
 use Rattle.canon_func.specs.Steps.{TrapsLate}
-use Rattle.canon_func.specs.Runs.{Each, EndsIn, Grows, IsAnswer, IsNoPost, IsOneRun, IsPrefixOfRun, IsRealloc, IsTrap, OnReturn, asks_in, events_in, last_len, posts}
+use Rattle.canon_func.specs.Runs.{Each, EndsIn, Grows, IsReallocAnswer, IsNoPost, IsOneRun, IsPrefixOfRun, IsRealloc, IsTrap, OnReturn, asks_in, events_in, last_len, posts}
 
 -- what costs more than the fuel doesn't cost so little
 pub past_cost : (fuel reach cost : ℕ) → fuel < reach → reach ≡ cost → cost ≤ fuel → ⊥
@@ -196,10 +196,10 @@ grows_request len last answers (Some t) late h = subst (λ es. Grows len es last
 
 -- the last answer was given to such a request
 pub ends_in_answer : (P : Call → ℕ → Type 0) (answers : List Answer) (trap : Option Trap) (a : ℕ) (Bad : Answer → Type 0) → trap ≡ None → ((x : Answer) → x.at ≡ a → Bad x → P x.call x.at) → LastIs answers a Bad
-    → EndsIn (IsAnswer P) (events_of answers trap)
-ends_in_answer P answers trap a Bad none f (prefix, x, e, is, bad) = subst (λ o. EndsIn (IsAnswer P) (events_of answers o)) (sym none)
-    (subst (λ xs. EndsIn (IsAnswer P) (events_of xs None)) (sym e)
-    (subst (λ es. EndsIn (IsAnswer P) es) (sym (events_of-then prefix (x ∷ []) None)) (ends_after (IsAnswer P) (events_of prefix None) _ (f x is bad))))
+    → EndsIn (IsReallocAnswer P) (events_of answers trap)
+ends_in_answer P answers trap a Bad none f (prefix, x, e, is, bad) = subst (λ o. EndsIn (IsReallocAnswer P) (events_of answers o)) (sym none)
+    (subst (λ xs. EndsIn (IsReallocAnswer P) (events_of xs None)) (sym e)
+    (subst (λ es. EndsIn (IsReallocAnswer P) es) (sym (events_of-then prefix (x ∷ []) None)) (ends_after (IsReallocAnswer P) (events_of prefix None) _ (f x is bad))))
 
 pub ends_in_trap : (answers : List Answer) (t : Trap) → EndsIn IsTrap (events_of answers (Some t))
 ends_in_trap answers t = subst (λ es. EndsIn IsTrap es) (sym (events_of-trap answers t)) (ends_after IsTrap (events_of answers None) _ tt)

@@ -12,7 +12,7 @@ use Rattle.canon_types.specs.declared.types.TypeFunc.{TypeFunc}
 use Rattle.canon_ledger.specs.Ledger.{LedgerState}
 use Rattle.canon_lowering.specs.Storing.{narrow}
 use Rattle.canon_context.specs.Lifter.{origin_in}
-use Rattle.canon_context.specs.Core.{Parts, types_of}
+use Rattle.canon_context.specs.Core.{Parts, component_types}
 use Rattle.canon_context.specs.declared.component.Export.{Export}
 use Rattle.canon_context.specs.declared.fault.Fault.{Fault}
 use Rattle.canon_value_parts.proofs.Values.{have_count}
@@ -27,14 +27,14 @@ use Rattle.canon_func.proofs.Owned.{values_owned}
 
 -- what was lifted in a context, said of the core that it was made from
 pub lifts_at : {T G : Type 0} (core made after : Parts T G) (b : LedgerState) (options own tuple fuel left : ℕ) (words : List ℕ) (result : Result (Vec Val Global) Fault) → made ≡ core → own ≡ options → fuel ≡ core.fuel → after.ledger ≡ b
-    → LiftsResults (origin_in made own) words (tuple_members (types_of made) tuple) made.ledger fuel result after.ledger left
-    → LiftsIn (origin_in core options) words (tuple_members (types_of core) tuple) core.ledger core.fuel result b
+    → LiftsResults (origin_in made own) words (tuple_members (component_types made) tuple) made.ledger fuel result after.ledger left
+    → LiftsIn (origin_in core options) words (tuple_members (component_types core) tuple) core.ledger core.fuel result b
 lifts_at core made after b options own tuple fuel left words result same by full ends h = (
   left,
-  subst (λ l. LiftsResults (origin_in core options) words (tuple_members (types_of core) tuple) core.ledger core.fuel result l left) ends
-      (subst (λ n. LiftsResults (origin_in core options) words (tuple_members (types_of core) tuple) core.ledger n result after.ledger left) full
-      (subst (λ o. LiftsResults (origin_in core o) words (tuple_members (types_of core) tuple) core.ledger fuel result after.ledger left) by
-      (subst (λ k. LiftsResults (origin_in k own) words (tuple_members (types_of k) tuple) k.ledger fuel result after.ledger left) same h))),
+  subst (λ l. LiftsResults (origin_in core options) words (tuple_members (component_types core) tuple) core.ledger core.fuel result l left) ends
+      (subst (λ n. LiftsResults (origin_in core options) words (tuple_members (component_types core) tuple) core.ledger n result after.ledger left) full
+      (subst (λ o. LiftsResults (origin_in core o) words (tuple_members (component_types core) tuple) core.ledger fuel result after.ledger left) by
+      (subst (λ k. LiftsResults (origin_in k own) words (tuple_members (component_types k) tuple) k.ledger fuel result after.ledger left) same h))),
 )
 
 -- the members of the tuple are the callee's results
@@ -47,26 +47,26 @@ no_borrow t i f found all = subst (HoldNoBorrow t) (get_or_from_slice_get t.func
 
 -- ---- the results of an export
 
-module _ {T G : Type 0} (core : Parts T G) (export : Export) (words : List ℕ) (types : Table) (f : TypeFunc) (m : LedgerState) (is : types ≡ types_of core) (found : slice_get types.funcs export.ty ≡ Some f) where
+module _ {T G : Type 0} (core : Parts T G) (export : Export) (words : List ℕ) (types : Table) (f : TypeFunc) (m : LedgerState) (is : types ≡ component_types core) (found : slice_get types.funcs export.ty ≡ Some f) where
   abbrev Callee_ : Callee
   Callee_ = export_callee core.component export
 
   abbrev Lifts : Members → Result (Vec Val Global) Fault → Type 0
   Lifts ms result = LiftsIn (origin_in core export.options) words ms core.ledger core.fuel result m
 
-  of_callee : (result : Result (Vec Val Global) Fault) → Lifts (tuple_members (types_of core) f.results) result → Lifts Callee_.results result
-  of_callee result h = subst (λ ms. Lifts ms result) (members_are (types_of core) types export.ty f is found) h
+  of_callee : (result : Result (Vec Val Global) Fault) → Lifts (tuple_members (component_types core) f.results) result → Lifts Callee_.results result
+  of_callee result h = subst (λ ms. Lifts ms result) (members_are (component_types core) types export.ty f is found) h
 
-  pub lifted_so : (result : Result (Vec Val Global) Fault) → All (HoldNoBorrow types) types.funcs → Lifts (tuple_members (types_of core) f.results) result
+  pub lifted_so : (result : Result (Vec Val Global) Fault) → All (HoldNoBorrow types) types.funcs → Lifts (tuple_members (component_types core) f.results) result
       → Lifted (dynamic_results Callee_) core.fuel words core.memory core.ledger m (items_in result)
   lifted_so (Err e) valid h = let lifts = of_callee (Err e) h in (lifts.1.err, lifts.1.handles)
   lifted_so (Ok vals) valid h =
       let lifts = of_callee (Ok vals) h in
       let none : member_borrows Callee_.results ≡ false =
-      subst (λ ms. member_borrows ms ≡ false) (members_are (types_of core) types export.ty f is found) (subst (λ t. member_borrows (tuple_members t f.results) ≡ false) is (no_borrow types export.ty f found valid)) in
+      subst (λ ms. member_borrows ms ≡ false) (members_are (component_types core) types export.ty f is found) (subst (λ t. member_borrows (tuple_members t f.results) ≡ false) is (no_borrow types export.ty f found valid)) in
       let owned = values_owned (narrow core.memory) words max_results Callee_.results none in
       (lifts.0, lifts.1.ok, lifts.1.handles, lifts_scopes Callee_.types core.ledger m (returned_leaves Callee_ words core.memory) (all_resources vals.items) owned lifts.1.handles)
 
-  pub lifted_count : (result : Result (Vec Val Global) Fault) → Lifts (tuple_members (types_of core) f.results) result → IfOk result (λ vals. length vals.items ≡ member_count Callee_.results)
+  pub lifted_count : (result : Result (Vec Val Global) Fault) → Lifts (tuple_members (component_types core) f.results) result → IfOk result (λ vals. length vals.items ≡ member_count Callee_.results)
   lifted_count (Err e) h = tt
   lifted_count (Ok vals) h = let are = (of_callee (Ok vals) h).1.ok in have_count true Callee_.results vals.items are.its_trees are.have

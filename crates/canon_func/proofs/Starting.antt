@@ -6,7 +6,7 @@ use Rattle.canon_context.specs.Asks.{SameButHandles}
 use Rattle.canon_context.specs.Core.{Parts, SameButLedger, guest_of, moment_of}
 use Rattle.canon_context.specs.declared.fault.Fault.TheVariants as fault
 use Rattle.canon_ledger.specs.Ledger.{enter}
-use Rattle.canon_host.specs.HostSide.{Entry, Giving, HostSide, host_side}
+use Rattle.canon_host.specs.HostSide.{LoggedEntry, Giving, HostSide, host_side}
 use Rattle.canon_func.specs.Asks.{Limits}
 use Rattle.canon_func.specs.Call.{Adding, IsCallOf, OnAnswered}
 use Rattle.canon_func.specs.Passing.{Arguments, ReturnedValues}
@@ -20,7 +20,7 @@ use Rattle.canon_func.specs.Passed.{BlamesRightly}
 
 -- the host has this log and this count of refusals meanwhile
 module _ {T G R : Type 0} (args : Arguments) (its : ReturnedValues R) (gives : Giving T) (callee : Callee) (limits : Limits) (seen : G → Seen) (moves : GuestIn G → List Event → GuestIn G → Type 0) (Leaves : List ℕ → List ℕ → Type 0)
-    (log : Option (List Entry)) (refusals : ℕ) where
+    (log : Option (List LoggedEntry)) (refusals : ℕ) where
   -- by what the function answers, and what is said of it
   abbrev pub Whole : {U : Type 0} → Result U Error → Result R Error → Parts T G → Parts T G → HostSide T → Type 0
   Whole result answer before after left = Adding (moment_of seen before) (moment_of seen after) (λ es. OnAnswered result (moves (guest_of before) es (guest_of after)))

@@ -4,7 +4,7 @@ use Rattle.std.specs.Prelude.{false, nat_le}
 use Rattle.canon_args.specs.Areas.{passed_kept, passed_taken}
 use Rattle.canon_args.specs.Returned.{passed_reading}
 use Rattle.canon_context.proofs.Told.{blamed_by}
-use Rattle.canon_context.specs.Core.{Parts, types_of}
+use Rattle.canon_context.specs.Core.{Parts, component_types}
 use Rattle.canon_context.specs.Told.{Exactly, IsPlace, ToldAt, place_of}
 use Rattle.canon_context.specs.declared.component.Export.{Export}
 use Rattle.canon_context.specs.declared.fault.At.{At as Place}
@@ -74,14 +74,14 @@ module _ {T G A : Type 0} (core : Parts T G) (export : Export) (words : List ℕ
   LiftsAs ms result = LiftsTuple (Whole ms) w words (product of_places ms) core.ledger core.fuel result m
 
   -- the scopes stay, since no result is a borrow
-  scopes_kept : (type : InterfaceType) (ms : Members) (v : A) → Fit core.component.types type → shape_of (types_of core) type ≡ product of_places ms → member_borrows ms ≡ false
+  scopes_kept : (type : InterfaceType) (ms : Members) (v : A) → Fit core.component.types type → shape_of (component_types core) type ≡ product of_places ms → member_borrows ms ≡ false
       → (Whole ms).reads w (flat_in words 0) (product of_places ms) core.ledger v m → m.handles.scopes ≡ core.ledger.handles.scopes
   scopes_kept type ms v fits shape none read =
       let (hs, takes) = passed_taken R taken (nat_le (flat (product of_places ms)) max_results) w (flat_in words 0) (product of_places ms) core.ledger m v read in
       keep_scopes core.ledger m ((Whole ms).steps w (flat_in words 0) (product of_places ms)) hs
       (passed_kept R w (product of_places ms) (λ p. subst (λ (z : Shape). AllKeep (R.steps w p z)) shape (kept.kept w p type fits (subst (λ (z : Shape). has_borrow z ≡ false) (sym shape) none))) (nat_le (flat (product of_places ms)) max_results) (flat_in words 0)) takes
 
-  pub tuple_lifted : (type : InterfaceType) (v : A) → Fit core.component.types type → shape_of (types_of core) type ≡ product of_places callee.results → member_borrows callee.results ≡ false → length words ≡ result_words callee.results → LiftsAs callee.results (Ok v)
+  pub tuple_lifted : (type : InterfaceType) (v : A) → Fit core.component.types type → shape_of (component_types core) type ≡ product of_places callee.results → member_borrows callee.results ≡ false → length words ≡ result_words callee.results → LiftsAs callee.results (Ok v)
       → Lifted (typed_results R export.options core.id callee) core.fuel words core.memory core.ledger m (Ok v)
   tuple_lifted type v fits shape none count (left, (read, spent)) = (left, (count, (core.ledger, m, read), spent), read, scopes_kept type callee.results v fits shape none read)
 

@@ -31,7 +31,7 @@ use Rattle.canon_context.specs.declared.fault.Fault.{Fault}
 use Rattle.canon_context.specs.declared.fault.Fault.TheVariants as fault
 use Rattle.canon_value_parts.specs.Args.{args_words}
 use Rattle.canon_host.specs.Forms.{IsOfOthers, RustTypes, TypedAnswering}
-use Rattle.canon_host.specs.HostSide.{Entry, Giving}
+use Rattle.canon_host.specs.HostSide.{LoggedEntry, Giving}
 use Rattle.canon_host.specs.Imports.{Declines, steps_of_types}
 use Rattle.canon_host.specs.ServesTyped.{LiftsTyped, LowersTyped}
 use Rattle.canon_host.specs.declared.asked.Asked.{Asked}
@@ -209,7 +209,7 @@ tuple_moves : {G : Type 0} (seen : G → Seen) (moves : GuestIn G → List Event
 tuple_moves seen moves g h index gives f ending (inl is) m = asked_moves (Unit {0}) seen moves g h index f (subst (λ e. Moves seen moves g h e) is m)
 tuple_moves seen moves g h index gives f ending (inr both) m = λ l es p q. subst (λ x. OnAnswered {T = Unit {0}} (Err (asked_error index x)) (moves g es h)) (sym (same_fault f fault.OutOfMemory both.0)) tt
 
-module _ {T G P R : Type 0} (types : RustTypes P R) (May : TypedAnswering T P R) (seen : G → Seen) (moves : GuestIn G → List Event → GuestIn G → Type 0) (gives : Giving T) (log : Option (List Entry)) (index : ℕ) (a b : Parts T G) (export : Export) (asked : Asked) (words pad storage2 : List ℕ)
+module _ {T G P R : Type 0} (types : RustTypes P R) (May : TypedAnswering T P R) (seen : G → Seen) (moves : GuestIn G → List Event → GuestIn G → Type 0) (gives : Giving T) (log : Option (List LoggedEntry)) (index : ℕ) (a b : Parts T G) (export : Export) (asked : Asked) (words pad storage2 : List ℕ)
     (is : IsHostAsk (export_callee a.component export) index words asked) where
   abbrev callee : Callee
   callee = export_callee a.component export

@@ -33,7 +33,7 @@ use Rattle.canon_value_parts.specs.Lifts.{LiftsParams}
 use Rattle.canon_value_parts.specs.Resources.{EndsAs, all_passes, stop_of, told_fault}
 use Rattle.canon_val.specs.Value.{HaveTrees}
 use Rattle.canon_val.specs.declared.val.Val.{Val}
-use Rattle.canon_host.specs.HostSide.{Entry, Giving, entry}
+use Rattle.canon_host.specs.HostSide.{LoggedEntry, Giving, entry}
 use Rattle.canon_host.specs.Imports.{entry_of, logged, steps_of_values}
 use Rattle.canon_host.specs.Serves.{LowersGiven}
 use Rattle.canon_host.specs.declared.asked.Asked.{Asked}
@@ -141,7 +141,7 @@ values_lawful = record {
 
 -- ---- its steps
 
-module _ {T G : Type 0} (seen : G → Seen) (moves : GuestIn G → List Event → GuestIn G → Type 0) (gives : Giving T) (log : Option (List Entry)) (index : ℕ) (a b : Parts T G) (export : Export) (asked : Asked) (words pad storage2 : List ℕ)
+module _ {T G : Type 0} (seen : G → Seen) (moves : GuestIn G → List Event → GuestIn G → Type 0) (gives : Giving T) (log : Option (List LoggedEntry)) (index : ℕ) (a b : Parts T G) (export : Export) (asked : Asked) (words pad storage2 : List ℕ)
     (is : IsHostAsk (export_callee a.component export) index words asked) where
   abbrev callee : Callee
   callee = export_callee a.component export

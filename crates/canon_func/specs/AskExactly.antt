@@ -5,7 +5,7 @@ use Rattle.canon_func.specs.AskForms.{ask_types}
 use Rattle.canon_func.specs.AskTypes.{asked_reading, asked_setting, asked_shape, given_shape, typed_given, typed_parts}
 use Rattle.canon_func.specs.AskValues.{asked_origin, asked_params, asked_results}
 use Rattle.canon_func.specs.Stores.{Callee}
-use Rattle.canon_host.specs.Forms.{Form, RustTypes, TypedAnswering, over_types, over_values}
+use Rattle.canon_host.specs.Forms.{HostFuncForm, RustTypes, TypedAnswering, over_types, over_values}
 use Rattle.canon_host.specs.TypedAsks.{IsTreeLifted}
 use Rattle.canon_host.specs.declared.asked.Asked.{Asked}
 use Rattle.canon_leaves.specs.Parts.{LeavesTake}
@@ -90,6 +90,6 @@ module _ {T P R : Type 0} (types : RustTypes P R) (may : TypedAnswering T P R) w
     pub results : GivenIsWalked
 
 -- of an ask in its form: one over values says it itself
-abbrev pub IsExact : {T : Type 0} → Form T → Type 0
+abbrev pub IsExact : {T : Type 0} → HostFuncForm T → Type 0
 IsExact over_values = ⊤
 IsExact (over_types types may) = IsTypedExactly types may

@@ -8,8 +8,8 @@ use Rattle.canon_context.specs.declared.fault.Fault.{Fault}
 use Rattle.canon_context.specs.declared.fault.Fault.TheVariants as fault
 use Rattle.canon_context.specs.declared.host.HostStop.{HostStop}
 use Rattle.canon_val.specs.declared.val.Val.{Val}
-use Rattle.canon_host.specs.Forms.{Form, InView, IsOfOthers, IsOfThese, RustTypes, TypedAnswering, over_types, over_values}
-use Rattle.canon_host.specs.HostSide.{Answering, Entry, Giving, entry}
+use Rattle.canon_host.specs.Forms.{HostFuncForm, InView, IsOfOthers, IsOfThese, RustTypes, TypedAnswering, over_types, over_values}
+use Rattle.canon_host.specs.HostSide.{Answering, LoggedEntry, Giving, entry}
 use Rattle.canon_host.specs.Imports.{logged}
 use Rattle.canon_host.specs.declared.asked.Asked.{Asked}
 use Rattle.canon_func.specs.AskTypes.{TypedAskLiftable, TypedAskLifts, TypedAskLowerable, TypedAskLowers, typed_given, typed_parts}
@@ -23,7 +23,7 @@ pub record AskForm (T : Type 0) : Type 1 where
   pub Params : Type 0
   pub Results : Type 0
   -- why nothing is done, by what is asked for, the number of its import and the log
-  pub declines : Callee → Asked → ℕ → Option (List Entry) → Error → Type 0
+  pub declines : Callee → Asked → ℕ → Option (List LoggedEntry) → Error → Type 0
   -- Parameters were lifted in the store of a number with this fuel from the first words, or why not: by what is asked for, its words and the
   -- memory, the ledger before, the answer, and the ledger after.
   pub lifts : ℕ → Callee → ℕ → Asked → List ℕ → List ℕ → LedgerState → Result Params Fault → LedgerState → Type 0
@@ -33,9 +33,9 @@ pub record AskForm (T : Type 0) : Type 1 where
   pub parts : ℕ → Callee → Asked → List ℕ → List ℕ → List (List Part)
   -- The function answered so, as it may: by what one over values may answer, the number of its import, the log, what it reached and its
   -- parameters; its answer, and the data and the ledger after.
-  pub gave : Answering T → ℕ → Option (List Entry) → InView T → Params → Result Results HostStop → T → LedgerState → Type 0
+  pub gave : Answering T → ℕ → Option (List LoggedEntry) → InView T → Params → Result Results HostStop → T → LedgerState → Type 0
   -- the log after an ask that was served, by the log before and the number of its import
-  pub logged_with : Option (List Entry) → ℕ → Params → Results → Option (List Entry)
+  pub logged_with : Option (List LoggedEntry) → ℕ → Params → Results → Option (List LoggedEntry)
   -- Results were lowered to these words, or at the place, or why not: by what is asked for, the place, the memory before and after, the
   -- answers of `realloc` and perhaps a trap, the ledger before and after, and the answer.
   pub lowers : Callee → Asked → ℕ → List ℕ → List ℕ → Results → List ℕ → List Answer → Option Trap → LedgerState → LedgerState → Result (Unit {0}) Fault → Type 0
@@ -76,7 +76,7 @@ ask_types {T} {P} {R} types May = record {
   gives = typed_given types;
 }
 
-abbrev pub ask_form : {T : Type 0} → Form T → AskForm T
+abbrev pub ask_form : {T : Type 0} → HostFuncForm T → AskForm T
 ask_form over_values = ask_values
 ask_form (over_types types may) = ask_types types may
 

@@ -43,7 +43,7 @@ use Rattle.canon_host.specs.HostSide.{Giving, HostSide}
 use Rattle.canon_func.specs.Asks.{AreServed, AskStops, AcceptsAsk, Limits, import_words}
 use Rattle.canon_func.specs.HostAsks.{IsUnrefused}
 use Rattle.canon_func.specs.Passing.{Arguments, ReturnedValues}
-use Rattle.canon_func.specs.Runs.{AskTurn, BeginsInAsk, Each, EndsIn, Grows, IsAnswer, IsNoPost, IsNoReturn, IsNoStart, IsOneRun, IsPrefixOfRun, IsReturn, IsTrap, MayStart, OnAsk, OnReturn, OnStart, SomeReturn, answers_in, asks_in}
+use Rattle.canon_func.specs.Runs.{AskTurn, BeginsInAsk, Each, EndsIn, Grows, IsReallocAnswer, IsNoPost, IsNoReturn, IsNoStart, IsOneRun, IsPrefixOfRun, IsReturn, IsTrap, MayStart, OnAsk, OnReturn, OnStart, SomeReturn, answers_in, asks_in}
 use Rattle.canon_func.specs.Stores.{Callee}
 use Rattle.canon_func.specs.declared.error.Error.{Error}
 use Rattle.canon_func.specs.declared.error.Error.TheVariants as error
@@ -152,9 +152,9 @@ FaultCause args its callee fuel before after events (fault.LengthMismatch k) = E
 FaultCause args its callee fuel before after events (fault.StringTooLong n) = Each IsNoStart events × ¬ EndsIn IsTrap events × args.blames (fault.StringTooLong n)
 FaultCause args its callee fuel before after events (fault.SizeOverflow n) = Each IsNoStart events × ¬ EndsIn IsTrap events × args.blames (fault.SizeOverflow n)
 FaultCause args its callee fuel before after events (fault.ReallocMisaligned a) =
-    Each IsNoStart events × EndsIn (IsAnswer (λ c answer. (answer ≡ a) × ¬ (a % c.align ≡ 0))) events
+    Each IsNoStart events × EndsIn (IsReallocAnswer (λ c answer. (answer ≡ a) × ¬ (a % c.align ≡ 0))) events
 FaultCause args its callee fuel before after events (fault.ReallocOutOfBounds a) =
-    Each IsNoStart events × EndsIn (IsAnswer (λ c answer. (answer ≡ a) × (a % c.align ≡ 0) × ¬ (a + c.new_size ≤ length after.bytes))) events
+    Each IsNoStart events × EndsIn (IsReallocAnswer (λ c answer. (answer ≡ a) × (a % c.align ≡ 0) × ¬ (a + c.new_size ≤ length after.bytes))) events
 FaultCause args its callee fuel before after events fault.GuestTrap = Rose before.guest.traps after.guest.traps × EndsIn IsTrap events
 FaultCause args its callee fuel before after events (fault.PointerMisaligned at) = EndsIn (IsReturn (HasFault its callee misaligned at)) events
 FaultCause args its callee fuel before after events (fault.PointerOutOfBounds at) = EndsIn (IsReturn (HasFault its callee out_of_bounds at)) events

@@ -17,7 +17,7 @@ use Rattle.canon_context.specs.declared.host.HostStop.TheVariants as stop
 use Rattle.canon_host.specs.Asked.{asked_words, row_words}
 use Rattle.canon_host.specs.Forms.{InView}
 use Rattle.canon_host.specs.HostSide.{Answering, Giving, HostSide}
-use Rattle.canon_host.specs.Serves.{IsNoPlace, IsPlace}
+use Rattle.canon_host.specs.Serves.{IsNoPlace, IsResultPlace}
 use Rattle.canon_host.specs.declared.asked.Asked.{Asked}
 use Rattle.canon_host.specs.declared.error.HostError.{HostError}
 use Rattle.canon_host.specs.declared.error.HostError.TheVariants as host
@@ -99,7 +99,7 @@ module _ {T : Type 0} (its : AskForm T) (answers_so : Answering T) (callee : Cal
     pub lifts : its.lifts before.store callee fuel asked t.words t.memory (enter before.ledger) (Ok params) lifted
     pub steps : HostSteps lifted called
     pub gave : Gives before t.index t.memory lifted params (Ok results) after.state called
-    pub place : IsPlace callee.types.types asked t.memory t.words at
+    pub place : IsResultPlace callee.types.types asked t.memory t.words at
     pub ends : asked_exit called ≡ record { answer = Ok tt; after = ended }
     pub lowers : its.lowers callee asked at t.memory t.resumed_memory results words t.answers None (leave ended) after.ledger (Ok tt)
     pub resumed : t.resumed_words ≡ resumed_with callee asked words
@@ -115,7 +115,7 @@ module _ {T : Type 0} (its : AskForm T) (answers_so : Answering T) (callee : Cal
     abbrev pub StopsGiven : its.Results → LedgerState → Type 0
     StopsGiven results called =
         ((f : Fault) × (e ≡ asked_error index f) × IsNoPlace callee.types.types asked memory words f × (after.ledger ≡ called) × NothingAsked memory memory2 answers trap)
-        ⊎ ((at : ℕ) × IsPlace callee.types.types asked memory words at
+        ⊎ ((at : ℕ) × IsResultPlace callee.types.types asked memory words at
         × (((x : ResourceFault) × (e ≡ asked_error index (fault.Resource x)) × (asked_exit called ≡ record { answer = Err x; after = after.ledger }) × NothingAsked memory memory2 answers trap)
         ⊎ ((ended : LedgerState) × (f : Fault) × (low : List ℕ) × (asked_exit called ≡ record { answer = Ok tt; after = ended }) × (e ≡ asked_error index f)
         × its.lowers callee asked at memory memory2 results low answers trap (leave ended) after.ledger (Err f))))
@@ -148,7 +148,7 @@ module _ {T : Type 0} (its : AskForm T) (answers_so : Answering T) (callee : Cal
   -- scope may end, and it can be lowered.
   pub record AcceptsGiven (asked : Asked) (words memory : List ℕ) (results : its.Results) (called : LedgerState) : Type 0 where
     pub at : ℕ
-    pub place : IsPlace callee.types.types asked memory words at
+    pub place : IsResultPlace callee.types.types asked memory words at
     pub ended : LedgerState
     pub ends : asked_exit called ≡ record { answer = Ok tt; after = ended }
     pub lowerable : its.lowerable callee asked memory results (leave ended)

@@ -41,9 +41,9 @@ SomeReturn P (event.Return words memory ∷ events) = P words memory ⊎ SomeRet
 SomeReturn P (_ ∷ events) = SomeReturn P events
 
 -- it is an answer of `realloc`, to such a request, at such an address
-abbrev pub IsAnswer : (Call → ℕ → Type 0) → Event → Type 0
-IsAnswer P (event.Realloc old old_size align new_size answer) = P (call old old_size align new_size) answer
-IsAnswer P _ = ⊥
+abbrev pub IsReallocAnswer : (Call → ℕ → Type 0) → Event → Type 0
+IsReallocAnswer P (event.Realloc old old_size align new_size answer) = P (call old old_size align new_size) answer
+IsReallocAnswer P _ = ⊥
 
 abbrev pub IsRealloc : Event → Type 0
 IsRealloc (event.Realloc old old_size align new_size answer) = ⊤
@@ -129,7 +129,7 @@ EndsAsking answers trap (event.Ask index words memory ∷ more) = more ≡ event
 EndsAsking answers trap tail = Each IsNoRequest tail × (answers ≡ []) × (trap ≡ None)
 
 -- From the start on: the guest asked so often and was resumed, and of what came after these turns none is resumed.
-pub record Starts (func : ℕ) (turns : List AskTurn) (late : List Answer) (late_trap : Option Trap) (tail events : List Event) : Type 0 where
+pub record StartsCall (func : ℕ) (turns : List AskTurn) (late : List Answer) (late_trap : Option Trap) (tail events : List Event) : Type 0 where
   pub words : List ℕ
   pub memory : List ℕ
   pub is : events ≡ event.Start func words memory ∷ events_in turns ++ tail
@@ -139,7 +139,7 @@ pub record Starts (func : ℕ) (turns : List AskTurn) (late : List Answer) (late
 -- the same of a guest that may not have been started
 abbrev pub MayStart : ℕ → List AskTurn → List Answer → Option Trap → List Event → List Event → Type 0
 MayStart func turns late late_trap tail events =
-    ((events ≡ []) × (turns ≡ []) × (late ≡ []) × (late_trap ≡ None) × (tail ≡ [])) ⊎ Starts func turns late late_trap tail events
+    ((events ≡ []) × (turns ≡ []) × (late ≡ []) × (late_trap ≡ None) × (tail ≡ [])) ⊎ StartsCall func turns late late_trap tail events
 
 -- post-return with the words that were returned, where there is one
 abbrev pub posts : Option ℕ → List ℕ → List Event

@@ -22,7 +22,7 @@ use Rattle.canon_value_parts.specs.Lifts.{LiftsResults}
 use Rattle.canon_value_parts.specs.Resources.{Crosses, QuietBut, all_passes, stop_of, told_fault}
 use Rattle.canon_types.specs.Table.{tuple_members}
 use Rattle.canon_context.specs.Asks.{SameButHandles}
-use Rattle.canon_context.specs.Core.{Parts, SameButLedger, encoding_by, guest_of, moment_of, types_of}
+use Rattle.canon_context.specs.Core.{Parts, SameButLedger, encoding_by, guest_of, moment_of, component_types}
 use Rattle.canon_context.specs.Lifter.{Origin}
 use Rattle.canon_context.specs.Lowers.{ending_of, fault_ending}
 use Rattle.canon_context.specs.Moves.{Moves}
@@ -77,12 +77,14 @@ LoweredArgs args callee before after ledger left (Err _) events = ⊥
 
 -- Parameters whose types are those of the tuple were lowered into these words, with their handles through the ledger.
 pub record LowersFor {T G X : Type 0} (seen : G → Seen) (moves : GuestIn G → List Event → GuestIn G → Type 0) (core after : Parts T G) (options tuple : ℕ) (params : List Val) (words : List ℕ) (result : Result X Fault) : Type 0 where
-  pub crosses : Crosses core.component.types (have_handle (tuple_members (types_of core) tuple)) (all_passes (tuple_members (types_of core) tuple) params)
-      (λ hs ending. LowersParams (moment_of seen core) (moment_of seen after) (encoding_by core options) (tuple_members (types_of core) tuple) (HaveTrees (tuple_members (types_of core) tuple) params) words hs ending)
+  pub crosses : Crosses core.component.types (have_handle (tuple_members (component_types core) tuple)) (all_passes (tuple_members (component_types core) tuple) params)
+      (λ hs ending. LowersParams (moment_of seen core) (moment_of seen after) (encoding_by core options) (tuple_members (component_types core) tuple) (HaveTrees (tuple_members (component_types core) tuple) params) words hs ending)
       core.ledger after.ledger result
-  pub cause : IfErr result (BlamesMembers (encoding_by core options) (tuple_members (types_of core) tuple) params)
-  pub small : OnOk result (AreSmall (encoding_by core options) (tuple_members (types_of core) tuple) params)
-  pub quiet : members_flat (tuple_members (types_of core) tuple) ≤ max_params → QuietBut (have_handle (tuple_members (types_of core) tuple)) (all_passes (tuple_members (types_of core) tuple) params) (have_block (tuple_members (types_of core) tuple)) (SameButLedger core after) result
+  pub cause : IfErr result (BlamesMembers (encoding_by core options) (tuple_members (component_types core) tuple) params)
+  pub small : OnOk result (AreSmall (encoding_by core options) (tuple_members (component_types core) tuple) params)
+  pub quiet : members_flat (tuple_members (component_types core) tuple) ≤ max_params
+      → QuietBut (have_handle (tuple_members (component_types core) tuple)) (all_passes (tuple_members (component_types core) tuple) params)
+      (have_block (tuple_members (component_types core) tuple)) (SameButLedger core after) result
   pub moved : Moves seen moves (guest_of core) (guest_of after) (ending_of result)
   pub same : SameButHandles core after
 

@@ -4,7 +4,7 @@ ghost use Rattle.std.specs.Prelude.{◌≡◌, ◌++◌, IfSome, List, length, s
 ghost use Rattle.canon_types.specs.Table.{HasResource};
 ghost use Rattle.canon_context.specs.Asks.{SameBut, SameButHandles};
 ghost use Rattle.canon_context.specs.Component.{IsComponent, IsImport};
-ghost use Rattle.canon_context.specs.Core.{SameButLedger, guest_of, moment_of, types_of};
+ghost use Rattle.canon_context.specs.Core.{SameButLedger, guest_of, moment_of, component_types};
 ghost use Rattle.canon_context.specs.declared.component.Export.{Export};
 ghost use Rattle.canon_ledger.specs.Ledger.{Did, do_step};
 ghost use Rattle.canon_host.specs.Asked.{HasRoomFor, IsAsked};
@@ -170,7 +170,7 @@ fn serve_builtin<T, G: Guest, I: Imports<T, G>>(
     builtin: Builtin,
     words: &[ValRaw],
 ) -> Result<Step, Error>
-    requires known { HasResource (types_of core.old) (resource_of builtin) }
+    requires known { HasResource (component_types core.old) (resource_of builtin) }
     requires asked { IsAskOf (export_callee core.old.component export.now) index words.now builtin }
     ensures did { Serving (moment_of G.seen core.old) (moment_of G.seen core.new)
         (λ events. OnAnswered result (G.moves (guest_of core.old) events (guest_of core.new)))
@@ -220,7 +220,7 @@ fn serve_in<T, G: Guest, I: Imports<T, G>>(
 ) -> Result<Step, Error>
     requires ready { I.ready imports.old }
     requires asked { IsAsked core.old.component asked.now }
-    requires room { HasRoomFor (types_of core.old) asked.now.ty storage.old }
+    requires room { HasRoomFor (component_types core.old) asked.now.ty storage.old }
     ensures did { (export : Export) (words pad : List ℕ) → storage.old ≡ words ++ pad → IsHostAsk (export_callee core.old.component export) index words asked.now → Serving (moment_of G.seen core.old) (moment_of G.seen core.new)
         (λ events. OnAnswered result (G.moves (guest_of core.old) events (guest_of core.new)))
         (λ answers events. Serves (I.gives (I.plan imports.old)) (export_callee core.old.component export) core.old.fuel index words (moment_of G.seen core.old) (moment_of G.seen core.new)
@@ -248,7 +248,7 @@ fn ask_host<T, G: Guest, I: Imports<T, G>>(
 ) -> Result<(), Error>
     requires ready { I.ready imports.old }
     requires asked { IsAsked core.old.component asked.now }
-    requires room { HasRoomFor (types_of core.old) asked.now.ty storage.old }
+    requires room { HasRoomFor (component_types core.old) asked.now.ty storage.old }
     ensures did { (export : Export) (words pad : List ℕ) → storage.old ≡ words ++ pad → IsHostAsk (export_callee core.old.component export) index words asked.now → Serving (moment_of G.seen core.old) (moment_of G.seen core.new)
         (λ events. OnAnswered result (G.moves (guest_of core.old) events (guest_of core.new)))
         (λ answers events. HostAsked (I.gives (I.plan imports.old)) (export_callee core.old.component export) core.old.fuel asked.now index words (moment_of G.seen core.old) (moment_of G.seen core.new)
@@ -293,7 +293,7 @@ fn asked_error(index: u32, fault: Fault) -> Error
 
 /// The step of a builtin on the handles of its resource type, with the word that it is asked with.
 fn take_step<T, G>(core: &mut Core<T, G>, builtin: Builtin, word: u32) -> Result<u64, ResourceFault>
-    requires known { HasResource (types_of core.old) (resource_of builtin) }
+    requires known { HasResource (component_types core.old) (resource_of builtin) }
     ensures step { Did (do_step (builtin_step core.old.component.types builtin word) core.old.ledger) result core.old.ledger core.new.ledger }
     ensures same { SameButLedger core.old core.new }
 {

@@ -6,7 +6,7 @@ ghost use Rattle.canon_model.specs.Shape.{member_count};
 ghost use Rattle.canon_types.specs.Table.{HasTuple, tuple_members};
 ghost use Rattle.canon_context.specs.Asks.{SameButHandles};
 ghost use Rattle.canon_context.specs.Component.{IsInside};
-ghost use Rattle.canon_context.specs.Core.{SameButLedger, guest_of, moment_of, types_of};
+ghost use Rattle.canon_context.specs.Core.{SameButLedger, guest_of, moment_of, component_types};
 ghost use Rattle.canon_context.specs.Lifter.{origin_in};
 ghost use Rattle.canon_func.specs.Call.{Adding, OnAnswered, dynamic, dynamic_results, result_words, words_within};
 ghost use Rattle.canon_func.specs.Dynamic.{dynamic_blames, dynamic_reads};
@@ -98,9 +98,9 @@ fn lower_into<T, G: Guest>(
     words: &mut [ValRaw],
 ) -> Result<(), Fault>
     requires inside { IsInside core.old.component export.now }
-    requires tuple { HasTuple (types_of core.old) tuple }
-    requires params { length params.now ≡ member_count (tuple_members (types_of core.old) tuple) }
-    requires words { length words.old ≡ words_within max_params (tuple_members (types_of core.old) tuple) }
+    requires tuple { HasTuple (component_types core.old) tuple }
+    requires params { length params.now ≡ member_count (tuple_members (component_types core.old) tuple) }
+    requires words { length words.old ≡ words_within max_params (tuple_members (component_types core.old) tuple) }
     ensures lowers { LowersFor G.seen G.moves core.old core.new export.now.options tuple params.now words.new result }
 {
     let mut cx = LowerContext::new(core, export.options);
@@ -135,9 +135,9 @@ fn lift_tuple<T, G: Guest>(
     words: &[ValRaw],
 ) -> Result<Vec<Val>, Fault>
     requires inside { IsInside core.old.component export.now }
-    requires tuple { HasTuple (types_of core.old) tuple }
-    requires words { length words.now ≡ words_within max_results (tuple_members (types_of core.old) tuple) }
-    ensures lifts { LiftsIn (origin_in core.old export.now.options) words.now (tuple_members (types_of core.old) tuple) core.old.ledger core.old.fuel result core.new.ledger }
+    requires tuple { HasTuple (component_types core.old) tuple }
+    requires words { length words.now ≡ words_within max_results (tuple_members (component_types core.old) tuple) }
+    ensures lifts { LiftsIn (origin_in core.old export.now.options) words.now (tuple_members (component_types core.old) tuple) core.old.ledger core.old.fuel result core.new.ledger }
     ensures same { SameButLedger core.old core.new }
 {
     let mut cx = LiftContext::new(core, export.options);

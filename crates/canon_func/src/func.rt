@@ -3,7 +3,7 @@
 ghost use Rattle.std.specs.Prelude.{◌≡◌, ◌↔◌, Err, Ok, Some, IfOk, IfSome, IsNone, IsTrue, OnErr, OnOk, length, slice_get, true};
 ghost use Rattle.canon_types.specs.Table.{IsOver};
 ghost use Rattle.canon_context.specs.Component.{IsInside};
-ghost use Rattle.canon_context.specs.Core.{guest_of, moment_of, types_of};
+ghost use Rattle.canon_context.specs.Core.{guest_of, moment_of, component_types};
 ghost use Rattle.canon_host.specs.HostSide.{host_side};
 ghost use Rattle.canon_func.specs.Asks.{allowed};
 ghost use Rattle.canon_func.specs.Call.{Adding, IsCall, OnAnswered, entry_refusal, refusal, refused_by};
@@ -63,7 +63,7 @@ impl Func {
     pub fn ty<'a, T, G, I>(&self, store: &'a Store<T, G, I>) -> &'a TypeFunc
         requires { IsOwned store.now self.now }
         ensures found { type_of store.now self.now ≡ Some result.now }
-        ensures known { IsOver (types_of store.now.core) result.now }
+        ensures known { IsOver (component_types store.now.core) result.now }
     {
         let export = self.export_in(store);
         store.core().component().types.types().func(export.ty)

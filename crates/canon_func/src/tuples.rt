@@ -4,7 +4,7 @@ ghost use Rattle.std.specs.Prelude.{◌≡◌, length, slice_get, ⊤};
 ghost use Rattle.canon_args.specs.Params.{TypedParams};
 ghost use Rattle.canon_args.specs.Returned.{passed_reading, result_count};
 ghost use Rattle.canon_context.specs.Component.{IsInside};
-ghost use Rattle.canon_context.specs.Core.{SameButLedger, types_of};
+ghost use Rattle.canon_context.specs.Core.{SameButLedger, component_types};
 ghost use Rattle.canon_reading.specs.Reading.{setting_in};
 ghost use Rattle.canon_reading.specs.Spots.{flat_in};
 ghost use Rattle.canon_model.specs.Flat.{max_params, max_results};
@@ -62,11 +62,11 @@ fn lower_into<T, G: Guest, P: Lower>(
     words: &mut [ValRaw],
 ) -> Result<(), Fault>
     requires inside { IsInside core.old.component export.now }
-    requires tuple { HasTuple (types_of core.old) tuple }
+    requires tuple { HasTuple (component_types core.old) tuple }
     requires fits { P.fits core.old.component.types (Tuple tuple) }
-    requires words { length words.old ≡ words_within max_params (tuple_members (types_of core.old) tuple) }
-    ensures lowers { TypedParams G.seen G.moves export.now.options core.old core.new (tuple_members (types_of core.old) tuple) words.new (P.walks params.old)
-        (P.gives core.old.component.types (product of_places (tuple_members (types_of core.old) tuple)) params.old) result }
+    requires words { length words.old ≡ words_within max_params (tuple_members (component_types core.old) tuple) }
+    ensures lowers { TypedParams G.seen G.moves export.now.options core.old core.new (tuple_members (component_types core.old) tuple) words.new (P.walks params.old)
+        (P.gives core.old.component.types (product of_places (tuple_members (component_types core.old) tuple)) params.old) result }
     ensures count { length words.new ≡ length words.old }
 {
     let mut cx = LowerContext::new(core, export.options);
@@ -112,11 +112,11 @@ fn lift_tuple<T, G: Guest, R: Lift>(
     words: &[ValRaw],
 ) -> Result<R, Fault>
     requires inside { IsInside core.old.component export.now }
-    requires tuple { HasTuple (types_of core.old) tuple }
+    requires tuple { HasTuple (component_types core.old) tuple }
     requires fits { R.fits core.old.component.types (Tuple tuple) }
-    requires words { length words.now ≡ words_within max_results (tuple_members (types_of core.old) tuple) }
-    ensures lifts { LiftsTuple (passed_reading max_results (product of_places (tuple_members (types_of core.old) tuple)) R.reading) (setting_in core.old export.now.options) words.now
-        (product of_places (tuple_members (types_of core.old) tuple)) core.old.ledger core.old.fuel result core.new.ledger }
+    requires words { length words.now ≡ words_within max_results (tuple_members (component_types core.old) tuple) }
+    ensures lifts { LiftsTuple (passed_reading max_results (product of_places (tuple_members (component_types core.old) tuple)) R.reading) (setting_in core.old export.now.options) words.now
+        (product of_places (tuple_members (component_types core.old) tuple)) core.old.ledger core.old.fuel result core.new.ledger }
     ensures same { SameButLedger core.old core.new }
 {
     let mut cx = LiftContext::new(core, export.options);

@@ -4,7 +4,7 @@ use Rattle.std.proofs.lemmas.Option.{none-some, slice_get_cases}
 use Rattle.std.proofs.Math.Seq.{drop-append_seam, take-append_seam}
 use Rattle.std.specs.Prelude.{IfSome, drop, slice_get, take}
 use Rattle.std.specs.declared.alloc.Global.{Global}
-use Rattle.canon_context.specs.Core.{Parts, types_of}
+use Rattle.canon_context.specs.Core.{Parts, component_types}
 use Rattle.canon_context.specs.Host.{Closure, IsOutside, Returns, StaticClosure}
 use Rattle.canon_context.specs.declared.component.Component.{Component}
 use Rattle.canon_context.specs.declared.fault.Fault.{Fault}
@@ -21,10 +21,10 @@ use Rattle.canon_types.specs.Table.{HasFunc, param_members}
 use Rattle.canon_types.specs.declared.types.TypeFunc.{TypeFunc}
 use Rattle.canon_val.specs.declared.val.Val.{Val}
 use Rattle.canon_host.specs.Forms.{IsOfOthers, IsOfThese, MayGive, RustTypes, TypedAnswering, in_view, over_values}
-use Rattle.canon_host.specs.HostSide.{Entry, Giving, outcome}
+use Rattle.canon_host.specs.HostSide.{LoggedEntry, Giving, outcome}
 use Rattle.canon_host.specs.Imports.{CallsImport, CallsUnlogged, Declines, GivesOnly, LiftsOf, ServedByTyped, ServesForm, ServesTypes, ServesWith, entry_of, logged, steps_of_types}
-use Rattle.canon_host.specs.Serves.{AskValues, CallsBlank, InRow, LiftsAsked, Serves, ServesBy, ServesInRow, Values, value_steps, values_of}
-use Rattle.canon_host.specs.ServesTyped.{AreTyped, CallsTyped, ServesTyped, typed_steps}
+use Rattle.canon_host.specs.Serves.{AskValues, CallsBlank, AnswersInRow, LiftsAsked, Serves, ServesBy, ServesInRow, Values, value_steps, values_of}
+use Rattle.canon_host.specs.ServesTyped.{FitRustTypes, CallsTyped, ServesTyped, typed_steps}
 use Rattle.canon_host.specs.declared.asked.Asked.{Asked}
 use Rattle.canon_host.specs.declared.error.HostError.{HostError}
 use Rattle.canon_host.specs.declared.error.HostError.TheVariants as error
@@ -35,9 +35,9 @@ abbrev pub asked_by : ℕ → TypeFunc → ℕ → Asked
 asked_by ty func options = record { ty = ty; func = func; options = options }
 
 -- The function that is called answers only what the import may answer.
-module _ {F T G : Type 0} (g : Closure F (HostView T) Val (Result (Unit {0}) HostStop)) (f : F) (gives : Giving T) (log : Option (List Entry)) (n : ℕ) (seen : G → Seen) (moves : GuestIn G → List Event → GuestIn G → Type 0)
+module _ {F T G : Type 0} (g : Closure F (HostView T) Val (Result (Unit {0}) HostStop)) (f : F) (gives : Giving T) (log : Option (List LoggedEntry)) (n : ℕ) (seen : G → Seen) (moves : GuestIn G → List Event → GuestIn G → Type 0)
     (only : IfSome log (λ entries. GivesOnly g f (gives.answers entries n))) where
-  gave_only : (o : Option (List Entry)) → IfSome o (λ entries. GivesOnly g f (gives.answers entries n)) → (v w : HostView T) (type : TypeFunc) (params slots results : List Val) (r : Result (Unit {0}) HostStop) → IsOutside v → Returns g f v type params slots r w results
+  gave_only : (o : Option (List LoggedEntry)) → IfSome o (λ entries. GivesOnly g f (gives.answers entries n)) → (v w : HostView T) (type : TypeFunc) (params slots results : List Val) (r : Result (Unit {0}) HostStop) → IsOutside v → Returns g f v type params slots r w results
       → IfSome o (λ entries. (ledger_in w.tables ≡ ledger_in v.tables) × gives.answers entries n v.state.now params (outcome r results) w.state.now)
   gave_only (Some entries) h v w type params slots results r outside returned = h v w type params slots results r outside returned
   gave_only None h v w type params slots results r outside returned = tt
@@ -62,22 +62,22 @@ module _ {F T G : Type 0} (g : Closure F (HostView T) Val (Result (Unit {0}) Hos
       (λ b a params results calls. calls_import asked b a params results (Ok tt) calls) (λ b a params why results calls. calls_import asked b a params results (Err why) calls) after words words2 r h
 
   pub served_import : (asked : Asked) (before after : Parts T G) (words words2 : List ℕ) (r : Result (Vec Val Global) HostError) → ServesInRow g f seen moves asked before words r after words2
-      → InRow (λ told. ServesWith gives log n seen moves asked before words told after words2) r
+      → AnswersInRow (λ told. ServesWith gives log n seen moves asked before words told after words2) r
   served_import asked before after words words2 (Ok values) h = (h.0, h.1, serves_import asked before after words words2 (Ok h.0) h.2)
   served_import asked before after words words2 (Err e) h = serves_import asked before after words words2 (Err e) h
 
   -- of a type that was found
   pub found_import : (ty options : ℕ) (before after : Parts T G) (words words2 : List ℕ) (r : Result (Vec Val Global) HostError) (o : Option TypeFunc) → IfSome o (λ t. ServesInRow g f seen moves (asked_by ty t options) before words r after words2)
-      → IfSome o (λ t. InRow (λ told. ServesWith gives log n seen moves (asked_by ty t options) before words told after words2) r)
+      → IfSome o (λ t. AnswersInRow (λ told. ServesWith gives log n seen moves (asked_by ty t options) before words told after words2) r)
   found_import ty options before after words words2 r (Some t) h = served_import (asked_by ty t options) before after words words2 r h
   found_import ty options before after words words2 r None h = tt
 
 -- ---- the entry of values in a row
 
-module _ {T G : Type 0} (gives : Giving T) (log : Option (List Entry)) (n : ℕ) (seen : G → Seen) (moves : GuestIn G → List Event → GuestIn G → Type 0) (asked : Asked) where
+module _ {T G : Type 0} (gives : Giving T) (log : Option (List LoggedEntry)) (n : ℕ) (seen : G → Seen) (moves : GuestIn G → List Event → GuestIn G → Type 0) (asked : Asked) where
   -- as many of them as the type has parameters are the parameters, and the others the results
   pub entry_in_row : (before after : Parts T G) (words words2 : List ℕ) (values : List Val) (told : AskValues) (count : ℕ) → ServesWith gives log n seen moves asked before words (Ok told) after words2 → values ≡ told.params ++ told.results
-      → count ≡ member_count (param_members (types_of before) asked.func) → entry_of n (values_of (take count values) (drop count values)) ≡ entry_of n told
+      → count ≡ member_count (param_members (component_types before) asked.func) → entry_of n (values_of (take count values) (drop count values)) ≡ entry_of n told
   entry_in_row before after words words2 values told count served row is =
       let parts : count ≡ length told.params = is ∙ sym (told_count (CallsImport gives log n) seen moves asked before after words words2 told served) in
       let front : take count values ≡ told.params = ap (take count) row ∙ (ap (λ k. take k (told.params ++ told.results)) parts ∙ take-append_seam told.params told.results) in
@@ -86,15 +86,15 @@ module _ {T G : Type 0} (gives : Giving T) (log : Option (List Entry)) (n : ℕ)
 
 -- ---- one ask over values, by what was done
 
-module _ {T G : Type 0} (gives : Giving T) (log log2 : Option (List Entry)) (n : ℕ) (seen : G → Seen) (moves : GuestIn G → List Event → GuestIn G → Type 0) (ty options r r2 : ℕ) (before after : Parts T G) (words words2 : List ℕ) where
+module _ {T G : Type 0} (gives : Giving T) (log log2 : Option (List LoggedEntry)) (n : ℕ) (seen : G → Seen) (moves : GuestIn G → List Event → GuestIn G → Type 0) (ty options r r2 : ℕ) (before after : Parts T G) (words words2 : List ℕ) where
   -- what was done, by its values in a row
   abbrev pub Done : Result (Vec Val Global) HostError → TypeFunc → Type 0
-  Done result t = InRow (λ told. ServesWith gives log n seen moves (asked_by ty t options) before words told after words2) result
+  Done result t = AnswersInRow (λ told. ServesWith gives log n seen moves (asked_by ty t options) before words told after words2) result
 
   abbrev pub Answered : Result (Unit {0}) HostError → TypeFunc → Type 0
   Answered result t = ServesForm gives log n seen moves (asked_by ty t options) over_values log2 r r2 before words result after words2
 
-  pub logs : (o : Option TypeFunc) (values : Vec Val Global) (count : ℕ) → IfSome o (Done (Ok values)) → IfSome o (λ t. count ≡ member_count (param_members (types_of before) t))
+  pub logs : (o : Option TypeFunc) (values : Vec Val Global) (count : ℕ) → IfSome o (Done (Ok values)) → IfSome o (λ t. count ≡ member_count (param_members (component_types before) t))
       → log2 ≡ logged log (entry_of n (values_of (take count values.items) (drop count values.items))) → r2 ≡ r → IfSome o (Answered (Ok tt))
   logs (Some t) values count (told, row, served) is more same =
       (told, served, more ∙ ap (logged log) (entry_in_row gives log n seen moves (asked_by ty t options) before after words words2 values.items told count served row is), same)
@@ -115,19 +115,19 @@ module _ {T G : Type 0} (gives : Giving T) (log log2 : Option (List Entry)) (n :
 
 -- ---- what its function gave
 
-module _ {T G : Type 0} (gives : Giving T) (entries : List Entry) (n : ℕ) (seen : G → Seen) (moves : GuestIn G → List Event → GuestIn G → Type 0) (P : Type 0) (gave : (s t : T) (params results : List Val) → gives.answers entries n s params (Ok results) t → P)
+module _ {T G : Type 0} (gives : Giving T) (entries : List LoggedEntry) (n : ℕ) (seen : G → Seen) (moves : GuestIn G → List Event → GuestIn G → Type 0) (P : Type 0) (gave : (s t : T) (params results : List Val) → gives.answers entries n s params (Ok results) t → P)
     (before after : Parts T G) (words words2 : List ℕ) where
   gave_in : (asked : Asked) (told : AskValues) → ServesWith gives (Some entries) n seen moves asked before words (Ok told) after words2 → P
   gave_in asked told h = let (params, lifted, lifts, (called, same, c, ends)) = h in gave _ _ _ _ c.may_give.1
 
   -- of a type that was found
-  pub found_gave : (ty options : ℕ) (values : Vec Val Global) (o : Option TypeFunc) → o ≢ None → IfSome o (λ t. InRow (λ told. ServesWith gives (Some entries) n seen moves (asked_by ty t options) before words told after words2) (Ok values)) → P
+  pub found_gave : (ty options : ℕ) (values : Vec Val Global) (o : Option TypeFunc) → o ≢ None → IfSome o (λ t. AnswersInRow (λ told. ServesWith gives (Some entries) n seen moves (asked_by ty t options) before words told after words2) (Ok values)) → P
   found_gave ty options values (Some t) there (told, row, served) = gave_in (asked_by ty t options) told served
   found_gave ty options values None there served = absurd (there refl)
 
 -- a function of the table is found
-pub there : {G T : Type 0} (before : Parts T G) (ty : ℕ) → HasFunc (types_of before) ty → slice_get (types_of before).funcs ty ≢ None
-there before ty inside none = ⊎_elim (λ at. absurd (none-some at.0 (sym none ∙ at.2))) (λ past. absurd (omega (arith, inside, past.0))) (slice_get_cases (types_of before).funcs ty).1
+pub there : {G T : Type 0} (before : Parts T G) (ty : ℕ) → HasFunc (component_types before) ty → slice_get (component_types before).funcs ty ≢ None
+there before ty inside none = ⊎_elim (λ at. absurd (none-some at.0 (sym none ∙ at.2))) (λ past. absurd (omega (arith, inside, past.0))) (slice_get_cases (component_types before).funcs ty).1
 
 -- ---- one ask over Rust types
 
@@ -168,7 +168,7 @@ module _ {F T G P R : Type 0} (g : StaticClosure F (HostView T) P (Result R Host
     DoneTyped result t = ServesTyped g f types.reading types.walks types.gives seen moves (asked_by ty t options) before words result after words2
 
     abbrev pub Fits : TypeFunc → Type 0
-    Fits t = AreTyped types.fits_params types.fits_results before.component.types t
+    Fits t = FitRustTypes types.fits_params types.fits_results before.component.types t
 
     abbrev pub IsSync : TypeFunc → Type 0
     IsSync t = t.async_ ≡ false

@@ -5,7 +5,7 @@ use Rattle.std.proofs.lemmas.List.{append-nil, length-drop, take-append-drop}
 use Rattle.std.specs.Prelude.{IfErr, IfSome, OnOk, Option, Some, drop, replicate, take}
 use Rattle.std.specs.declared.alloc.Global.{Global}
 use Rattle.canon_context.specs.Asks.{SameButHandles}
-use Rattle.canon_context.specs.Core.{Parts, SameButLedger, encoding_by, guest_of, moment_of, types_of}
+use Rattle.canon_context.specs.Core.{Parts, SameButLedger, encoding_by, guest_of, moment_of, component_types}
 use Rattle.canon_context.specs.Host.{Closure, Gave, HostSteps}
 use Rattle.canon_context.specs.Lowers.{ending_of}
 use Rattle.canon_context.specs.Moves.{Moves}
@@ -33,7 +33,7 @@ use Rattle.canon_val.specs.declared.val.Val.{Val}
 use Rattle.canon_val.specs.declared.val.Val.TheVariants as val
 use Rattle.canon_value_parts.proofs.Values.{have_count}
 use Rattle.canon_host.specs.Asked.{RestStays, row_words}
-use Rattle.canon_host.specs.Serves.{Answers, AnswersBy, AskValues, Calling, Calls, CallsBlank, Concludes, ConcludesBy, EndsAsk, InRow, LiftsAsked, Lowering, LowersGiven, Serves, ServesBy, ServesEntered, ServesEnteredBy, Steps, Values, blank, value_steps, values_of}
+use Rattle.canon_host.specs.Serves.{Answers, AnswersBy, AskValues, Calling, CallsFunction, CallsBlank, Concludes, ConcludesBy, EndsAsk, AnswersInRow, LiftsAsked, LoweringRelation, LowersGiven, Serves, ServesBy, ServesEntered, ServesEnteredBy, Steps, Values, blank, value_steps, values_of}
 use Rattle.canon_host.specs.declared.asked.Asked.{Asked}
 use Rattle.canon_host.specs.declared.error.HostError.{HostError}
 use Rattle.canon_host.specs.declared.error.HostError.TheVariants as error
@@ -55,7 +55,7 @@ whole n nv items hn hl =
 module _ {F T G : Type 0} (g : Closure F (HostView T) Val (Result (Unit {0}) HostStop)) (f : F) (asked : Asked) where
   pub called : (before after : Parts T G) (n : ℕ) (values front back new : List Val) (r : Result (Unit {0}) HostStop) (o : Option TypeFunc) → o ≡ Some asked.func → IfSome o (λ t. Gave g f before after t front back r new)
       → HostSteps before.ledger after.ledger → after ≡ record before { state = after.state; ledger = after.ledger } → front ≡ take n values → back ≡ drop n values → length front ≡ n
-      → Calls g f asked before (take n values) (drop n values) r after (drop n (front ++ new))
+      → CallsFunction g f asked before (take n values) (drop n values) r after (drop n (front ++ new))
   called before after n values front back new r o found gave steps same ef eb count =
       let end : drop n (front ++ new) ≡ new = ap (λ m. drop m (front ++ new)) (sym count) ∙ drop-append_seam front new in
       let at : Gave g f before after asked.func front back r new = subst (λ p. IfSome p (λ t. Gave g f before after t front back r new)) found gave in
@@ -77,22 +77,22 @@ lowered_first a c enc ms Have at ws rest hs e count h = record {
 
 module _ {T G : Type 0} (seen : G → Seen) (moves : GuestIn G → List Event → GuestIn G → Type 0) (asked : Asked) where
   pub lowered_given : (before mid after : Parts T G) (at : ℕ) (results : List Val) (ws rest : List ℕ) (r : Result (Unit {0}) Fault)
-      → Crosses before.component.types (have_handle (result_members (types_of before) asked.func)) (all_passes (result_members (types_of before) asked.func) results)
-      (λ hs ending. LowersResults (moment_of seen before) (moment_of seen mid) (encoding_by before asked.options) (result_members (types_of before) asked.func) (HaveTrees (result_members (types_of before) asked.func) results) at ws hs ending)
+      → Crosses before.component.types (have_handle (result_members (component_types before) asked.func)) (all_passes (result_members (component_types before) asked.func) results)
+      (λ hs ending. LowersResults (moment_of seen before) (moment_of seen mid) (encoding_by before asked.options) (result_members (component_types before) asked.func) (HaveTrees (result_members (component_types before) asked.func) results) at ws hs ending)
       before.ledger mid.ledger r
-      → IfErr r (BlamesMembers (encoding_by before asked.options) (result_members (types_of before) asked.func) results)
-      → OnOk r (AreSmall (encoding_by before asked.options) (result_members (types_of before) asked.func) results)
-      → QuietBut (have_handle (result_members (types_of before) asked.func)) (all_passes (result_members (types_of before) asked.func) results) (have_block (result_members (types_of before) asked.func)) (mid.guest ≡ before.guest) r
-      → (members_flat (result_members (types_of before) asked.func) ≤ max_results
-      → QuietBut (have_handle (result_members (types_of before) asked.func)) (all_passes (result_members (types_of before) asked.func) results) (have_block (result_members (types_of before) asked.func)) (SameButLedger before mid) r)
+      → IfErr r (BlamesMembers (encoding_by before asked.options) (result_members (component_types before) asked.func) results)
+      → OnOk r (AreSmall (encoding_by before asked.options) (result_members (component_types before) asked.func) results)
+      → QuietBut (have_handle (result_members (component_types before) asked.func)) (all_passes (result_members (component_types before) asked.func) results) (have_block (result_members (component_types before) asked.func)) (mid.guest ≡ before.guest) r
+      → (members_flat (result_members (component_types before) asked.func) ≤ max_results
+      → QuietBut (have_handle (result_members (component_types before) asked.func)) (all_passes (result_members (component_types before) asked.func) results) (have_block (result_members (component_types before) asked.func)) (SameButLedger before mid) r)
       → Moves seen moves (guest_of before) (guest_of mid) (ending_of r) → SameButHandles before mid
-      → (members_flat (result_members (types_of before) asked.func) ≤ max_results → length ws ≡ members_flat (result_members (types_of before) asked.func)) → after ≡ mid → LowersGiven seen moves asked before at results r after (ws ++ rest)
+      → (members_flat (result_members (component_types before) asked.func) ≤ max_results → length ws ≡ members_flat (result_members (component_types before) asked.func)) → after ≡ mid → LowersGiven seen moves asked before at results r after (ws ++ rest)
   lowered_given before mid after at results ws rest r h cause small quiet quiet_near moved same count is = subst (λ x. LowersGiven seen moves asked before at results r x (ws ++ rest)) (sym is) (record {
     lowered = record {
       given = h.given;
       ending = h.ending;
       ends = h.ends;
-      lowered = lowered_first (moment_of seen before) (moment_of seen mid) (encoding_by before asked.options) (result_members (types_of before) asked.func) (HaveTrees (result_members (types_of before) asked.func) results) at ws rest h.given h.ending count h.lowered;
+      lowered = lowered_first (moment_of seen before) (moment_of seen mid) (encoding_by before asked.options) (result_members (component_types before) asked.func) (HaveTrees (result_members (component_types before) asked.func) results) at ws rest h.given h.ending count h.lowered;
       passed = h.passed;
       as_told = h.as_told;
     };
@@ -110,13 +110,13 @@ rest_stays results words ws n is count =
     ap (λ k. drop k (ws ++ drop n words)) (sym is ∙ sym count) ∙ (drop-append_seam ws (drop n words) ∙ ap (λ k. drop k words) is)
 
 -- the ask ends
-module _ {T G R : Type 0} (L : Lowering T G R) (asked : Asked) where
+module _ {T G R : Type 0} (L : LoweringRelation T G R) (asked : Asked) where
   pub concluded : (before left after : Parts T G) (at : ℕ) (results : R) (words words2 : List ℕ) (r : Result (Unit {0}) Fault) → EndsAsk asked before words (Ok at) left → L left at results r after words2
-      → RestStays (result_members (types_of left) asked.func) words words2 → ConcludesBy L asked before results words r after words2
+      → RestStays (result_members (component_types left) asked.func) words words2 → ConcludesBy L asked before results words r after words2
   concluded before left after at results words words2 (Ok x) (place, (ended, ends, is)) h rest =
-      (at, ended, place, ends, subst (λ k. L k at results (Ok tt) after words2) is h, subst (λ (k : Parts T G). RestStays (result_members (types_of k) asked.func) words words2) is rest)
+      (at, ended, place, ends, subst (λ k. L k at results (Ok tt) after words2) is h, subst (λ (k : Parts T G). RestStays (result_members (component_types k) asked.func) words words2) is rest)
   concluded before left after at results words words2 (Err e) (place, (ended, ends, is)) h rest =
-      inr (at, place, inr (ended, ends, subst (λ k. L k at results (Err e) after words2) is h, subst (λ (k : Parts T G). RestStays (result_members (types_of k) asked.func) words words2) is rest))
+      inr (at, place, inr (ended, ends, subst (λ k. L k at results (Err e) after words2) is h, subst (λ (k : Parts T G). RestStays (result_members (component_types k) asked.func) words words2) is rest))
 
   pub not_ended : (before after : Parts T G) (results : R) (words : List ℕ) (e : Fault) → EndsAsk asked before words (Err e) after → ConcludesBy L asked before results words (Err e) after words
   not_ended before after results words e (inl (bad, same)) = inl (bad, same, refl)
@@ -129,19 +129,19 @@ with_ledger before after l same is = same ∙ ap (λ (x : LedgerState). record b
 -- ---- the call and what follows it
 
 module _ {F T G : Type 0} (g : Closure F (HostView T) Val (Result (Unit {0}) HostStop)) (f : F) (seen : G → Seen) (moves : GuestIn G → List Event → GuestIn G → Type 0) (asked : Asked) where
-  module _ (before made after : Parts T G) (params items old nv shown : List Val) (n k : ℕ) (words words2 : List ℕ) (hn : n ≡ length params) (hk : replicate k (val.Bool false) ≡ blank (types_of before) asked)
-      (hi : items ≡ params ++ replicate k (val.Bool false)) (ho : old ≡ items) (hp : take n nv ≡ take n old) (hc : Calls g f asked before (take n old) (drop n old) (Ok tt) made (drop n nv)) (hs : shown ≡ drop n nv) where
-    old_is : old ≡ params ++ blank (types_of before) asked
+  module _ (before made after : Parts T G) (params items old nv shown : List Val) (n k : ℕ) (words words2 : List ℕ) (hn : n ≡ length params) (hk : replicate k (val.Bool false) ≡ blank (component_types before) asked)
+      (hi : items ≡ params ++ replicate k (val.Bool false)) (ho : old ≡ items) (hp : take n nv ≡ take n old) (hc : CallsFunction g f asked before (take n old) (drop n old) (Ok tt) made (drop n nv)) (hs : shown ≡ drop n nv) where
+    old_is : old ≡ params ++ blank (component_types before) asked
     old_is = ho ∙ (hi ∙ ap (λ xs. params ++ xs) hk)
 
     front : take n old ≡ params
-    front = ap (take n) old_is ∙ (ap (λ m. take m (params ++ blank (types_of before) asked)) hn ∙ take-append_seam params (blank (types_of before) asked))
+    front = ap (take n) old_is ∙ (ap (λ m. take m (params ++ blank (component_types before) asked)) hn ∙ take-append_seam params (blank (component_types before) asked))
 
-    back : drop n old ≡ blank (types_of before) asked
-    back = ap (drop n) old_is ∙ (ap (λ m. drop m (params ++ blank (types_of before) asked)) hn ∙ drop-append_seam params (blank (types_of before) asked))
+    back : drop n old ≡ blank (component_types before) asked
+    back = ap (drop n) old_is ∙ (ap (λ m. drop m (params ++ blank (component_types before) asked)) hn ∙ drop-append_seam params (blank (component_types before) asked))
 
-    calls : Calls g f asked before params (blank (types_of before) asked) (Ok tt) made (drop n nv)
-    calls = subst₂ (λ ps xs. Calls g f asked before ps xs (Ok tt) made (drop n nv)) front back hc
+    calls : CallsFunction g f asked before params (blank (component_types before) asked) (Ok tt) made (drop n nv)
+    calls = subst₂ (λ ps xs. CallsFunction g f asked before ps xs (Ok tt) made (drop n nv)) front back hc
 
     split : nv ≡ params ++ drop n nv
     split = sym (take-append-drop n nv) ∙ ap (λ xs. xs ++ drop n nv) (hp ∙ front)
@@ -168,20 +168,20 @@ module _ {T G A P R S : Type 0} (how : Steps T G A P R S) (asked : Asked) where
 
 module _ {T G : Type 0} (C : Calling T G) (seen : G → Seen) (moves : GuestIn G → List Event → GuestIn G → Type 0) (asked : Asked) where
   pub entered : (before lifted after : Parts T G) (words words2 : List ℕ) (params : Vec Val Global) (r : Result (Vec Val Global) HostError) → LiftsAsked asked before words (Ok params) lifted
-      → InRow (λ told. Answers C seen moves asked lifted params.items words told after words2) r → InRow (λ told. ServesEntered C seen moves asked before words told after words2) r
+      → AnswersInRow (λ told. Answers C seen moves asked lifted params.items words told after words2) r → AnswersInRow (λ told. ServesEntered C seen moves asked before words told after words2) r
   entered before lifted after words words2 params (Ok values) lifts h = (h.0, h.1, entered_by (value_steps C seen moves asked) asked before lifted after words words2 params (Ok h.0) lifts h.2)
   entered before lifted after words words2 params (Err e) lifts h = entered_by (value_steps C seen moves asked) asked before lifted after words words2 params (Err e) lifts h
 
   pub served : (before mid after : Parts T G) (words words2 : List ℕ) (r : Result (Vec Val Global) HostError) → mid ≡ record before { ledger = enter before.ledger }
-      → InRow (λ told. ServesEntered C seen moves asked mid words told after words2) r → InRow (λ told. Serves C seen moves asked before words told after words2) r
+      → AnswersInRow (λ told. ServesEntered C seen moves asked mid words told after words2) r → AnswersInRow (λ told. Serves C seen moves asked before words told after words2) r
   served before mid after words words2 (Ok values) is h = (h.0, h.1, served_by (value_steps C seen moves asked) asked before mid after words words2 (Ok h.0) is h.2)
   served before mid after words words2 (Err e) is h = served_by (value_steps C seen moves asked) asked before mid after words words2 (Err e) is h
 
   -- there are as many parameters as the type has
-  pub params_count : (before lifted : Parts T G) (words : List ℕ) (params : Vec Val Global) → LiftsAsked asked before words (Ok params) lifted → length params.items ≡ member_count (param_members (types_of before) asked.func)
-  params_count before lifted words params lifts = have_count true (param_members (types_of before) asked.func) params.items lifts.0.1.ok.its_trees lifts.0.1.ok.have
+  pub params_count : (before lifted : Parts T G) (words : List ℕ) (params : Vec Val Global) → LiftsAsked asked before words (Ok params) lifted → length params.items ≡ member_count (param_members (component_types before) asked.func)
+  params_count before lifted words params lifts = have_count true (param_members (component_types before) asked.func) params.items lifts.0.1.ok.its_trees lifts.0.1.ok.have
 
-  pub told_count : (before after : Parts T G) (words words2 : List ℕ) (told : AskValues) → Serves C seen moves asked before words (Ok told) after words2 → length told.params ≡ member_count (param_members (types_of before) asked.func)
+  pub told_count : (before after : Parts T G) (words words2 : List ℕ) (told : AskValues) → Serves C seen moves asked before words (Ok told) after words2 → length told.params ≡ member_count (param_members (component_types before) asked.func)
   told_count before after words words2 told h = ap length h.3.1 ∙ params_count (record before { ledger = enter before.ledger }) h.1 words h.0 h.2
 
 -- of the type that was found

@@ -2,13 +2,13 @@
 use Rattle.std.proofs.Common.{Err, List, Ok, Result, inl, inr, length, refl, subst, sym, ℕ, ◌++◌, ◌≡◌, ◌≤◌}
 use Rattle.canon_args.proofs.Tuples.{results_first}
 use Rattle.canon_args.specs.Results.{TypedResults}
-use Rattle.canon_context.specs.Core.{Parts, types_of}
+use Rattle.canon_context.specs.Core.{Parts, component_types}
 use Rattle.canon_context.specs.declared.fault.Fault.{Fault}
 use Rattle.canon_context.specs.declared.host.HostStop.{HostStop}
 use Rattle.canon_context.specs.declared.host.HostView.{HostView}
 use Rattle.canon_host.proofs.Serving.{entered_by, served_by}
 use Rattle.canon_host.specs.Serves.{AnswersBy, ConcludesBy, ServesEnteredBy, stopped}
-use Rattle.canon_host.specs.ServesTyped.{AreTyped, CallsTyped, FitsFunc, LiftsTyped, LowersTyped, ServesTyped, Untold, typed_steps}
+use Rattle.canon_host.specs.ServesTyped.{FitRustTypes, CallsTyped, FitsFunc, LiftsTyped, LowersTyped, ServesTyped, Untold, typed_steps}
 use Rattle.canon_context.specs.Host.{StaticClosure}
 use Rattle.canon_host.specs.declared.asked.Asked.{Asked}
 use Rattle.canon_host.specs.declared.error.HostError.{HostError}
@@ -31,11 +31,11 @@ use Rattle.std.specs.Prelude.{IfSome, Some, slice_get}
 -- the words stand first among others
 module _ {T G R : Type 0} (seen : G → Seen) (moves : GuestIn G → List Event → GuestIn G → Type 0) (walks : R → Tree → Type 0) (gives : Instance → Shape → R → List (List Part)) (asked : Asked) where
   pub lowered_typed : (before mid after : Parts T G) (at : ℕ) (results : R) (ws rest : List ℕ) (r : Result (Unit {0}) Fault)
-      → TypedResults seen moves asked.options before mid (result_members (types_of before) asked.func) at ws (walks results) (gives before.component.types (product of_places (result_members (types_of before) asked.func)) results) r
-      → (members_flat (result_members (types_of before) asked.func) ≤ max_results → length ws ≡ members_flat (result_members (types_of before) asked.func)) → after ≡ mid
+      → TypedResults seen moves asked.options before mid (result_members (component_types before) asked.func) at ws (walks results) (gives before.component.types (product of_places (result_members (component_types before) asked.func)) results) r
+      → (members_flat (result_members (component_types before) asked.func) ≤ max_results → length ws ≡ members_flat (result_members (component_types before) asked.func)) → after ≡ mid
       → LowersTyped seen moves walks gives asked before at results r after (ws ++ rest)
   lowered_typed before mid after at results ws rest r h count is = subst (λ x. LowersTyped seen moves walks gives asked before at results r x (ws ++ rest)) (sym is)
-      (results_first seen moves asked.options before mid (result_members (types_of before) asked.func) at (walks results) (gives before.component.types (product of_places (result_members (types_of before) asked.func)) results) ws rest r count h)
+      (results_first seen moves asked.options before mid (result_members (component_types before) asked.func) at (walks results) (gives before.component.types (product of_places (result_members (component_types before) asked.func)) results) ws rest r count h)
 
 module _ {F T G P R : Type 0} (g : StaticClosure F (HostView T) P (Result R HostStop)) (f : F) (reading : Reading P) (walks : R → Tree → Type 0) (gives : Instance → Shape → R → List (List Part))
     (seen : G → Seen) (moves : GuestIn G → List Event → GuestIn G → Type 0) (asked : Asked) where
@@ -64,5 +64,5 @@ module _ {F T G P R : Type 0} (g : StaticClosure F (HostView T) P (Result R Host
   served_typed before mid after words words2 (Err e) is h = served_by (typed_steps g f reading walks gives seen moves asked) asked before mid after words words2 (Err e) is h
 
 -- of the type that was found
-pub found_typed : (FitParams FitResults : Instance → InterfaceType → Type 0) (i : Instance) (ty : ℕ) (func : TypeFunc) → slice_get i.types.funcs ty ≡ Some func → FitsFunc FitParams FitResults i ty → AreTyped FitParams FitResults i func
-found_typed FitParams FitResults i ty func found h = subst (λ o. IfSome o (λ t. AreTyped FitParams FitResults i t)) found h
+pub found_typed : (FitParams FitResults : Instance → InterfaceType → Type 0) (i : Instance) (ty : ℕ) (func : TypeFunc) → slice_get i.types.funcs ty ≡ Some func → FitsFunc FitParams FitResults i ty → FitRustTypes FitParams FitResults i func
+found_typed FitParams FitResults i ty func found h = subst (λ o. IfSome o (λ t. FitRustTypes FitParams FitResults i t)) found h

@@ -5,12 +5,12 @@ use Rattle.std.proofs.lemmas.Bool.{cases_lt}
 use Rattle.canon_args.specs.Params.{InParts}
 use Rattle.canon_args.specs.Results.{StoresTuple}
 use Rattle.canon_context.specs.Asks.{SameButHandles}
-use Rattle.canon_context.specs.Core.{Parts, encoding_by, moment_of, types_of}
+use Rattle.canon_context.specs.Core.{Parts, encoding_by, moment_of, component_types}
 use Rattle.canon_context.specs.Host.{StaticClosure}
 use Rattle.canon_context.specs.declared.host.HostStop.{HostStop}
 use Rattle.canon_context.specs.declared.host.HostView.{HostView}
 use Rattle.canon_host.proofs.TypedSteps.{concluded_through, was_called}
-use Rattle.canon_host.specs.Serves.{Ends, IsPlace}
+use Rattle.canon_host.specs.Serves.{Ends, IsResultPlace}
 use Rattle.canon_host.specs.ServesTyped.{CallsTyped, LiftsTyped, LowersTyped}
 use Rattle.canon_host.specs.TypedAsks.{AnswersAreGiven, AskAnswered, AskThrough, ServedIsAnswered, WasCalled, given_parts, given_steps}
 use Rattle.canon_host.specs.declared.asked.Asked.{Asked}
@@ -47,7 +47,7 @@ module _ {F T G P R : Type 0} (g : StaticClosure F (HostView T) P (Result R Host
     (seen : G → Seen) (moves : GuestIn G → List Event → GuestIn G → Type 0) where
   module _ (asked : Asked) (before after : Parts T G) (words words2 : List ℕ) (params : P) (results : R) (lifted called : Parts T G) (was : WasCalled g f reading walks gives seen moves asked before words params (Ok results) lifted called)
       (last : Through called.ledger (given_steps (given_parts gives asked before results) called.ledger) after.ledger) (called_is : called ≡ record before { state = called.state; ledger = called.ledger })
-      (at : ℕ) (place : IsPlace (types_of before) asked before.memory words at) (ended : LedgerState) (left : ended ≡ (do_step (ExitScope (top_scope called.ledger.handles)) called.ledger).after)
+      (at : ℕ) (place : IsResultPlace (component_types before) asked before.memory words at) (ended : LedgerState) (left : ended ≡ (do_step (ExitScope (top_scope called.ledger.handles)) called.ledger).after)
       (h : LowersTyped seen moves walks gives asked (record before { state = called.state; ledger = leave ended }) at results (Ok tt) after words2) where
     abbrev through : AskThrough g f reading walks gives seen moves asked before after words
     through = record { params = params; results = results; lifted = lifted; called = called; was = was; last = last }
@@ -56,7 +56,7 @@ module _ {F T G P R : Type 0} (g : StaticClosure F (HostView T) P (Result R Host
     same_but_handles = h.same ∙ ap (λ (k : Parts T G). record k { guest = after.guest; memory = after.memory; ledger = after.ledger }) (sym called_is)
 
     abbrev ms : Members
-    ms = result_members (types_of before) asked.func
+    ms = result_members (component_types before) asked.func
 
     abbrev s : Shape
     s = product of_places ms
@@ -143,7 +143,7 @@ module _ {F T G P R : Type 0} (g : StaticClosure F (HostView T) P (Result R Host
       lowered_answered asked before after words words2 params told.results lifted called
       (was_called g f reading walks gives seen moves law asked before after words words2 params (Ok told.results) lifted called lifts calls)
       (concluded_through g f reading walks gives seen moves law asked before after words words2 params told.results lifted called lifts calls (at, ended, place, e, lowers, rest)) (called_core asked before lifted called words params told.results lifts calls) at
-      (subst (λ (x : Parts T G). IsPlace (types_of x) asked x.memory words at) (called_core asked before lifted called words params told.results lifts calls) place) ended.ledger e.0.1
+      (subst (λ (x : Parts T G). IsResultPlace (component_types x) asked x.memory words at) (called_core asked before lifted called words params told.results lifts calls) place) ended.ledger e.0.1
       (subst (λ (x : Parts T G). LowersTyped seen moves walks gives asked (record x { ledger = leave ended.ledger }) at told.results (Ok tt) after words2)
       (ended_core asked before lifted called ended words params told.results lifts calls e) lowers)
 
@@ -158,4 +158,4 @@ members_given i s row gives results trees is h = subst (λ (u : Shape). AreGiven
 pub answers_given : (T G : Type 0) {R : Type 0} (Fit : Instance → InterfaceType → Type 0) (walks : R → Tree → Type 0) (gives : Instance → Shape → R → List (List Part)) → IsGiven Fit walks gives → AnswersAreGiven T G Fit walks gives
 answers_given T G Fit walks gives law asked before results trees fits is walked =
     let i : Instance = before.component.types in
-    members_given i (shape_of i.types (Tuple asked.func.results)) (result_members (types_of before) asked.func) gives results trees is (law results i (Tuple asked.func.results) (parts trees) fits walked)
+    members_given i (shape_of i.types (Tuple asked.func.results)) (result_members (component_types before) asked.func) gives results trees is (law results i (Tuple asked.func.results) (parts trees) fits walked)

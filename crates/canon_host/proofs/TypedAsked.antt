@@ -3,7 +3,7 @@ use Rattle.std.proofs.Common.{Err, Ok, Result, arith, ℕ}
 use Rattle.std.proofs.lemmas.List.{length-take-le}
 use Rattle.canon_args.specs.Exactly.{IsPassed}
 use Rattle.canon_args.proofs.Exactly.{always_passed, only_passed}
-use Rattle.canon_context.specs.Core.{types_of}
+use Rattle.canon_context.specs.Core.{component_types}
 use Rattle.canon_context.specs.declared.fault.Fault.{Fault}
 use Rattle.canon_host.specs.TypedAsks.{AskedIsEnough, IsTreeLifted, OnlyAsked, param_words}
 use Rattle.canon_ledger.specs.Ledger.{LedgerState}
@@ -29,7 +29,7 @@ module _ (T G : Type 0) {P : Type 0} (Fit : Instance → InterfaceType → Type 
     (faulted : IsFaulted Fit reading) (priced : IsPriced Fit reading price) (told : IsOfTrees Fit reading Means) (taken : AreTaken reading) where
   pub only_asked : OnlyAsked T G Fit reading Means price
   only_asked asked before after words params are ((left, lifts), same) =
-      let ms : Members = param_members (types_of before) asked.func in
+      let ms : Members = param_members (component_types before) asked.func in
       let h : IsPassed reading Means price max_params (setting_in before asked.options) ms (param_words asked before words) before.ledger after.ledger before.fuel left params =
       only_passed faulted priced told taken max_params (setting_in before asked.options) (Tuple asked.func.params) ms (param_words asked before words) are.fits are.shape
       (length-take-le (args_words ms) words are.given) before.ledger after.ledger before.fuel left params lifts in
@@ -38,5 +38,5 @@ module _ (T G : Type 0) {P : Type 0} (Fit : Instance → InterfaceType → Type 
   pub asked_enough : AskedIsEnough T G Fit reading Means price
   asked_enough asked before after words result trees hs end are rep few took ((left, lifts), same) =
       its_lifted reading Means price (parts trees) end after.ledger before.fuel left result
-      (always_passed faulted priced told taken max_params (setting_in before asked.options) (Tuple asked.func.params) (param_members (types_of before) asked.func) (param_words asked before words) are.fits are.shape
+      (always_passed faulted priced told taken max_params (setting_in before asked.options) (Tuple asked.func.params) (param_members (component_types before) asked.func) (param_words asked before words) are.fits are.shape
       before.ledger after.ledger end before.fuel left result trees hs rep few took lifts)

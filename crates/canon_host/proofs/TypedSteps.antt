@@ -1,7 +1,7 @@
 -- The steps that the ledger goes through in an ask that a function over Rust types serves.
 use Rattle.std.proofs.Common.{Err, List, Ok, Option, Result, ap, inl, inr, nat_le, refl, subst, sym, ℕ, ◌∙◌, ◌∷◌, ◌≡◌, []}
 use Rattle.canon_args.specs.Areas.{passed_taken}
-use Rattle.canon_context.specs.Core.{Parts, types_of}
+use Rattle.canon_context.specs.Core.{Parts, component_types}
 use Rattle.canon_context.specs.Host.{StaticClosure}
 use Rattle.canon_context.specs.declared.component.Component.{Component}
 use Rattle.canon_context.specs.declared.fault.Fault.{Fault}
@@ -74,7 +74,7 @@ module _ {F T G P R : Type 0} (g : StaticClosure F (HostView T) P (Result R Host
     entered = record before { ledger = enter before.ledger }
 
     abbrev s : Shape
-    s = product of_places (param_members (types_of before) asked.func)
+    s = product of_places (param_members (component_types before) asked.func)
 
     -- ---- up to the call
 

@@ -43,8 +43,8 @@ pub record AreEnough (params results : Members) (words : List ℕ) : Type 0 wher
 abbrev pub RestStays : Members → List ℕ → List ℕ → Type 0
 RestStays results words words2 = drop (row_words results) words2 ≡ drop (row_words results) words
 
-abbrev pub HasRoom : Table → Asked → List ℕ → Type 0
-HasRoom types asked words = AreEnough (param_members types asked.func) (result_members types asked.func) words
+abbrev pub HasWordsEnough : Table → Asked → List ℕ → Type 0
+HasWordsEnough types asked words = AreEnough (param_members types asked.func) (result_members types asked.func) words
 
 abbrev pub HasRoomFor : Table → ℕ → List ℕ → Type 0
 HasRoomFor types ty words = IfSome (slice_get types.funcs ty) (λ t. AreEnough (param_members types t) (result_members types t) words)

@@ -18,7 +18,7 @@ use Rattle.canon_typed.specs.Typed.{IsTyped}
 use Rattle.canon_types.specs.Instance.{Instance}
 use Rattle.canon_types.specs.declared.types.InterfaceType.{InterfaceType}
 use Rattle.canon_types.specs.declared.types.TypeFunc.{TypeFunc}
-use Rattle.canon_host.specs.ServesTyped.{AreTyped}
+use Rattle.canon_host.specs.ServesTyped.{FitRustTypes}
 
 -- What is said of Rust types for parameters and for results, which are tuples.
 pub record RustTypes (P R : Type 0) : Type 1 where
@@ -86,9 +86,9 @@ pub record MayGive {F T P R : Type 0} (g : StaticClosure F (HostView T) P (Resul
 -- ---- the form
 
 -- a function over values, or over Rust types, which may answer so
-pub data Form (T : Type 0) : Type 1 where
-  over_values : Form T
-  over_types : {P R : Type 0} → RustTypes P R → TypedAnswering T P R → Form T
+pub data HostFuncForm (T : Type 0) : Type 1 where
+  over_values : HostFuncForm T
+  over_types : {P R : Type 0} → RustTypes P R → TypedAnswering T P R → HostFuncForm T
 
 -- the laws of the traits `ComponentType`, `Lift` and `Lower`
 pub record AreLawful {P R : Type 0} (types : RustTypes P R) : Type 0 where
@@ -103,14 +103,14 @@ pub record AreLawful {P R : Type 0} (types : RustTypes P R) : Type 0 where
   pub given : IsGiven types.fits_results types.walks types.gives
 
 -- Rust types keep them
-abbrev pub IsLawful : {T : Type 0} → Form T → Type 0
+abbrev pub IsLawful : {T : Type 0} → HostFuncForm T → Type 0
 IsLawful over_values = ⊤
 IsLawful (over_types types may) = AreLawful types
 
 -- a function type is of these types, and isn't async
 abbrev pub IsOfThese : {P R : Type 0} → RustTypes P R → Instance → TypeFunc → Type 0
-IsOfThese types i func = (func.async_ ≡ false) × AreTyped types.fits_params types.fits_results i func
+IsOfThese types i func = (func.async_ ≡ false) × FitRustTypes types.fits_params types.fits_results i func
 
 -- one that isn't async is of other types
 abbrev pub IsOfOthers : {P R : Type 0} → RustTypes P R → Instance → TypeFunc → Type 0
-IsOfOthers types i func = func.async_ ≡ false → AreTyped types.fits_params types.fits_results i func → ⊥
+IsOfOthers types i func = func.async_ ≡ false → FitRustTypes types.fits_params types.fits_results i func → ⊥

@@ -4,15 +4,15 @@ use Rattle.canon_ledger.specs.Ledger.{LedgerState}
 use Rattle.canon_context.specs.Core.{Parts}
 use Rattle.canon_context.specs.declared.host.HostStop.{HostStop}
 use Rattle.canon_val.specs.declared.val.Val.{Val}
-use Rattle.canon_host.specs.Forms.{Form, RustTypes, TypedAnswering, over_types, over_values}
+use Rattle.canon_host.specs.Forms.{HostFuncForm, RustTypes, TypedAnswering, over_types, over_values}
 
 -- an ask that was served: the number of its import, its parameters and its results
-pub record Entry : Type 0 where
+pub record LoggedEntry : Type 0 where
   pub index : ℕ
   pub params : List Val
   pub results : List Val
 
-abbrev pub entry : ℕ → List Val → List Val → Entry
+abbrev pub entry : ℕ → List Val → List Val → LoggedEntry
 entry index params results = record { index = index; params = params; results = results }
 
 -- what a function answered and left in its slots: the results that it gave, or why it gave none
@@ -23,13 +23,13 @@ outcome (Err why) results = Err why
 -- What the function of an import may answer: by the asks that were served before, its number, the data of the store, its parameters, its
 -- results or why it gave none, and the data after.
 abbrev pub Answering : Type 0 → Type 1
-Answering T = List Entry → ℕ → T → List Val → Result (List Val) HostStop → T → Type 0
+Answering T = List LoggedEntry → ℕ → T → List Val → Result (List Val) HostStop → T → Type 0
 
 -- What is said of the functions of imports: what those over values may answer, where the asks that were served are exposed, and by its
 -- number the form of each, which says of one over Rust types what it may answer.
 pub record Giving (T : Type 0) : Type 1 where
   pub answers : Answering T
-  pub form : ℕ → Form T
+  pub form : ℕ → HostFuncForm T
 
 -- all of them are over values
 abbrev pub gives_values : {T : Type 0} → Answering T → Giving T
@@ -45,8 +45,8 @@ pub record HostSide (T : Type 0) : Type 0 where
   pub store : ℕ
   pub state : T
   pub ledger : LedgerState
-  pub log : Option (List Entry)
+  pub log : Option (List LoggedEntry)
   pub refusals : ℕ
 
-abbrev pub host_side : {T G : Type 0} → Parts T G → Option (List Entry) → ℕ → HostSide T
+abbrev pub host_side : {T G : Type 0} → Parts T G → Option (List LoggedEntry) → ℕ → HostSide T
 host_side core log refusals = record { store = core.id; state = core.state; ledger = core.ledger; log = log; refusals = refusals }

@@ -14,8 +14,8 @@ use Rattle.canon_memory.specs.Guest.{GuestIn, Seen}
 use Rattle.canon_memory.specs.declared.event.Event.{Event}
 use Rattle.canon_types.specs.declared.types.TypeFunc.{TypeFunc}
 use Rattle.canon_val.specs.declared.val.Val.{Val}
-use Rattle.canon_host.specs.Forms.{Form, IsOfOthers, IsOfThese, RustTypes, TypedAnswering, in_view, over_types, over_values}
-use Rattle.canon_host.specs.HostSide.{Answering, Entry, Giving, entry, gives_values, outcome}
+use Rattle.canon_host.specs.Forms.{HostFuncForm, IsOfOthers, IsOfThese, RustTypes, TypedAnswering, in_view, over_types, over_values}
+use Rattle.canon_host.specs.HostSide.{Answering, LoggedEntry, Giving, entry, gives_values, outcome}
 use Rattle.canon_host.specs.Serves.{AskValues, Serves, ServesBy, Steps, Values, value_steps}
 use Rattle.canon_host.specs.ServesTyped.{LiftsTyped, ServesTyped, typed_steps_by}
 use Rattle.canon_host.specs.declared.asked.Asked.{Asked}
@@ -24,24 +24,24 @@ use Rattle.canon_host.specs.declared.error.HostError.TheVariants as error
 
 -- ---- the log
 
-abbrev pub entry_of : ℕ → AskValues → Entry
+abbrev pub entry_of : ℕ → AskValues → LoggedEntry
 entry_of n told = entry n told.params told.results
 
 -- the log with one entry more, where it is exposed
-abbrev pub logged : Option (List Entry) → Entry → Option (List Entry)
+abbrev pub logged : Option (List LoggedEntry) → LoggedEntry → Option (List LoggedEntry)
 logged log last = option_map (λ entries. entries ++ last ∷ []) log
 
 -- ---- the call
 
 -- The function of an import was called. Of the core it changed the data, and the ledger by the host's steps. Where the log is exposed, it left
 -- the ledger as it was, and may answer so.
-pub record CallsImport {T G : Type 0} (gives : Giving T) (log : Option (List Entry)) (n : ℕ) (before : Parts T G) (params : List Val) (result : Result (Unit {0}) HostStop) (after : Parts T G) (results : List Val) : Type 0 where
+pub record CallsImport {T G : Type 0} (gives : Giving T) (log : Option (List LoggedEntry)) (n : ℕ) (before : Parts T G) (params : List Val) (result : Result (Unit {0}) HostStop) (after : Parts T G) (results : List Val) : Type 0 where
   pub steps : HostSteps before.ledger after.ledger
   pub same : after ≡ record before { state = after.state; ledger = after.ledger }
   pub may_give : IfSome log (λ entries. (after.ledger ≡ before.ledger) × gives.answers entries n before.state params (outcome result results) after.state)
 
 -- The same of a function over Rust types, whose parameters and results are of no values: it answered as it may, and its imports expose no log.
-pub record CallsUnlogged {T G P R : Type 0} (May : TypedAnswering T P R) (log : Option (List Entry)) (before : Parts T G) (params : P) (result : Result R HostStop) (after : Parts T G) : Type 0 where
+pub record CallsUnlogged {T G P R : Type 0} (May : TypedAnswering T P R) (log : Option (List LoggedEntry)) (before : Parts T G) (params : P) (result : Result R HostStop) (after : Parts T G) : Type 0 where
   pub steps : HostSteps before.ledger after.ledger
   pub same : after ≡ record before { state = after.state; ledger = after.ledger }
   pub may_give : May (in_view before) params result after.state after.ledger
@@ -69,14 +69,14 @@ CountsOnce (Ok x) before after = after ≡ before
 
 -- One ask, from one log and count of refusals to the next, served by steps of a form; `Logged` is the log after an ask that was served. The
 -- count rises where the function refused, and stays else.
-module _ {T G A P R S : Type 0} (how : Steps T G A P R S) (Logged : Values P R → Option (List Entry)) (asked : Asked) (log log2 : Option (List Entry)) (refusals refusals2 : ℕ) where
+module _ {T G A P R S : Type 0} (how : Steps T G A P R S) (Logged : Values P R → Option (List LoggedEntry)) (asked : Asked) (log log2 : Option (List LoggedEntry)) (refusals refusals2 : ℕ) where
   abbrev pub ServesLogged : Parts T G → List ℕ → Result (Unit {0}) HostError → Parts T G → List ℕ → Type 0
   ServesLogged before words (Ok x) after words2 = (told : Values P R) × ServesBy how asked before words (Ok told) after words2 × (log2 ≡ Logged told) × (refusals2 ≡ refusals)
   ServesLogged before words (Err error.Refused) after words2 = (log2 ≡ log) × Rose refusals refusals2 × ServesBy how asked before words (Err error.Refused) after words2
   ServesLogged before words (Err (error.Fault e)) after words2 = (log2 ≡ log) × (refusals2 ≡ refusals) × ServesBy how asked before words (Err (error.Fault e)) after words2
 
 -- of Rust types: memory for the scope is wanting, or the function is of other types, which is refused where no log is exposed
-abbrev pub Declines : {T G P R : Type 0} → RustTypes P R → Option (List Entry) → Asked → Parts T G → HostError → Type 0
+abbrev pub Declines : {T G P R : Type 0} → RustTypes P R → Option (List LoggedEntry) → Asked → Parts T G → HostError → Type 0
 Declines types log asked before e = (e ≡ error.Fault fault.OutOfMemory) ⊎ ((e ≡ error.Refused) × (log ≡ None) × IsOfOthers types before.component.types asked.func)
 
 -- the function is of these types and isn't async, and its parameters are lifted
@@ -91,14 +91,14 @@ ServedByTyped g f types seen moves asked before words result after words2 =
     ⊎ (IsOfThese types before.component.types asked.func × ServesTyped g f types.reading types.walks types.gives seen moves asked before words result after words2)
 
 -- how a function over Rust types is served, that may answer so
-module _ {T G P R : Type 0} (types : RustTypes P R) (May : TypedAnswering T P R) (log : Option (List Entry)) (seen : G → Seen) (moves : GuestIn G → List Event → GuestIn G → Type 0) (asked : Asked) where
+module _ {T G P R : Type 0} (types : RustTypes P R) (May : TypedAnswering T P R) (log : Option (List LoggedEntry)) (seen : G → Seen) (moves : GuestIn G → List Event → GuestIn G → Type 0) (asked : Asked) where
   abbrev pub steps_of_types : Steps T G P P R (Unit {0})
   steps_of_types = typed_steps_by (Declines types log asked) (LiftsOf types asked) (CallsUnlogged May log) types.walks types.gives seen moves asked
 
-  abbrev pub ServesTypes : Option (List Entry) → ℕ → ℕ → Parts T G → List ℕ → Result (Unit {0}) HostError → Parts T G → List ℕ → Type 0
+  abbrev pub ServesTypes : Option (List LoggedEntry) → ℕ → ℕ → Parts T G → List ℕ → Result (Unit {0}) HostError → Parts T G → List ℕ → Type 0
   ServesTypes log2 refusals refusals2 = ServesLogged steps_of_types (λ told. log) asked log log2 refusals refusals2
 
-module _ {T G : Type 0} (gives : Giving T) (log : Option (List Entry)) (n : ℕ) (seen : G → Seen) (moves : GuestIn G → List Event → GuestIn G → Type 0) (asked : Asked) where
+module _ {T G : Type 0} (gives : Giving T) (log : Option (List LoggedEntry)) (n : ℕ) (seen : G → Seen) (moves : GuestIn G → List Event → GuestIn G → Type 0) (asked : Asked) where
   -- how a function over values is served
   abbrev pub steps_of_values : Steps T G (Vec Val Global) (List Val) (List Val) (List Val)
   steps_of_values = value_steps (CallsImport gives log n) seen moves asked
@@ -108,9 +108,9 @@ module _ {T G : Type 0} (gives : Giving T) (log : Option (List Entry)) (n : ℕ)
   ServesWith before words result after words2 = Serves (CallsImport gives log n) seen moves asked before words result after words2
 
   -- The import was served in its form. The values of an ask over values are added to an exposed log.
-  abbrev pub ServesForm : Form T → Option (List Entry) → ℕ → ℕ → Parts T G → List ℕ → Result (Unit {0}) HostError → Parts T G → List ℕ → Type 0
+  abbrev pub ServesForm : HostFuncForm T → Option (List LoggedEntry) → ℕ → ℕ → Parts T G → List ℕ → Result (Unit {0}) HostError → Parts T G → List ℕ → Type 0
   ServesForm over_values log2 refusals refusals2 = ServesLogged steps_of_values (λ told. logged log (entry_of n told)) asked log log2 refusals refusals2
   ServesForm (over_types types may) log2 refusals refusals2 = ServesTypes types may log seen moves asked log2 refusals refusals2
 
-  abbrev pub ServesImport : Option (List Entry) → ℕ → ℕ → Parts T G → List ℕ → Result (Unit {0}) HostError → Parts T G → List ℕ → Type 0
+  abbrev pub ServesImport : Option (List LoggedEntry) → ℕ → ℕ → Parts T G → List ℕ → Result (Unit {0}) HostError → Parts T G → List ℕ → Type 0
   ServesImport log2 refusals refusals2 before words result after words2 = ServesForm (gives.form n) log2 refusals refusals2 before words result after words2

@@ -3,7 +3,7 @@
 use Rattle.std.specs.Prelude.{◌++◌, ◌<◌, ◌≡◌, ◌≤◌, ◌⊎◌, Err, IfErr, List, Ok, OnOk, Result, Vec, false, replicate, take, ℕ}
 use Rattle.std.specs.declared.alloc.Global.{Global}
 use Rattle.canon_context.specs.Asks.{SameButHandles}
-use Rattle.canon_context.specs.Core.{Parts, SameButLedger, encoding_by, guest_of, moment_of, types_of}
+use Rattle.canon_context.specs.Core.{Parts, SameButLedger, encoding_by, guest_of, moment_of, component_types}
 use Rattle.canon_context.specs.Host.{Closure, Gave, HostSteps}
 use Rattle.canon_context.specs.Lifter.{origin_in}
 use Rattle.canon_context.specs.Lowers.{ending_of}
@@ -39,8 +39,8 @@ use Rattle.canon_host.specs.declared.error.HostError.TheVariants as error
 -- ---- the steps of every form
 
 -- where the results are to be stored, if they don't go in a row
-abbrev pub IsPlace : Table → Asked → List ℕ → List ℕ → ℕ → Type 0
-IsPlace types asked bytes words at = max_results < members_flat (result_members types asked.func) → IsArea bytes (result_members types asked.func) words (args_words (param_members types asked.func)) at
+abbrev pub IsResultPlace : Table → Asked → List ℕ → List ℕ → ℕ → Type 0
+IsResultPlace types asked bytes words at = max_results < members_flat (result_members types asked.func) → IsArea bytes (result_members types asked.func) words (args_words (param_members types asked.func)) at
 
 abbrev pub IsNoPlace : Table → Asked → List ℕ → List ℕ → Fault → Type 0
 IsNoPlace types asked bytes words e = (max_results < members_flat (result_members types asked.func)) × IsNoArea bytes (result_members types asked.func) words (args_words (param_members types asked.func)) e
@@ -52,28 +52,28 @@ Ends before result after = DidSurely (validate_scope_exit (top_scope before.ledg
 -- The pointer is tested, and the scope ends and is left. It is told where the results are to be stored.
 module _ {T G : Type 0} (asked : Asked) where
   abbrev pub EndsAsk : Parts T G → List ℕ → Result ℕ Fault → Parts T G → Type 0
-  EndsAsk before words (Ok at) after = IsPlace (types_of before) asked before.memory words at × ((ended : Parts T G) × Ends before (Ok tt) ended × (after ≡ record ended { ledger = leave ended.ledger }))
+  EndsAsk before words (Ok at) after = IsResultPlace (component_types before) asked before.memory words at × ((ended : Parts T G) × Ends before (Ok tt) ended × (after ≡ record ended { ledger = leave ended.ledger }))
   EndsAsk before words (Err e) after =
-      (IsNoPlace (types_of before) asked before.memory words e × (after ≡ before))
-      ⊎ ((at : ℕ) × IsPlace (types_of before) asked before.memory words at × ((x : ResourceFault) × (e ≡ fault.Resource x) × Ends before (Err x) after))
+      (IsNoPlace (component_types before) asked before.memory words e × (after ≡ before))
+      ⊎ ((at : ℕ) × IsResultPlace (component_types before) asked before.memory words at × ((x : ResourceFault) × (e ≡ fault.Resource x) × Ends before (Err x) after))
 
 -- How results of the type R are lowered to the first words, or stored at an address: the core before, the address, the results, the answer,
 -- and the core and the words after.
-abbrev pub Lowering : Type 0 → Type 0 → Type 0 → Type 1
-Lowering T G R = Parts T G → ℕ → R → Result (Unit {0}) Fault → Parts T G → List ℕ → Type 0
+abbrev pub LoweringRelation : Type 0 → Type 0 → Type 0 → Type 1
+LoweringRelation T G R = Parts T G → ℕ → R → Result (Unit {0}) Fault → Parts T G → List ℕ → Type 0
 
 -- The pointer is tested, the scope ends and is left, and the results are lowered as L says. Words behind those that results take stay, and
 -- all words where it ends before.
-module _ {T G R : Type 0} (L : Lowering T G R) (asked : Asked) where
+module _ {T G R : Type 0} (L : LoweringRelation T G R) (asked : Asked) where
   abbrev pub ConcludesBy : Parts T G → R → List ℕ → Result (Unit {0}) Fault → Parts T G → List ℕ → Type 0
   ConcludesBy before results words (Ok x) after words2 =
-      (at : ℕ) × (ended : Parts T G) × IsPlace (types_of before) asked before.memory words at × Ends before (Ok tt) ended × L (record ended { ledger = leave ended.ledger }) at results (Ok tt) after words2
-      × RestStays (result_members (types_of ended) asked.func) words words2
+      (at : ℕ) × (ended : Parts T G) × IsResultPlace (component_types before) asked before.memory words at × Ends before (Ok tt) ended × L (record ended { ledger = leave ended.ledger }) at results (Ok tt) after words2
+      × RestStays (result_members (component_types ended) asked.func) words words2
   ConcludesBy before results words (Err e) after words2 =
-      (IsNoPlace (types_of before) asked before.memory words e × (after ≡ before) × (words2 ≡ words))
-      ⊎ ((at : ℕ) × IsPlace (types_of before) asked before.memory words at
+      (IsNoPlace (component_types before) asked before.memory words e × (after ≡ before) × (words2 ≡ words))
+      ⊎ ((at : ℕ) × IsResultPlace (component_types before) asked before.memory words at
       × (((x : ResourceFault) × (e ≡ fault.Resource x) × Ends before (Err x) after × (words2 ≡ words))
-      ⊎ ((ended : Parts T G) × Ends before (Ok tt) ended × L (record ended { ledger = leave ended.ledger }) at results (Err e) after words2 × RestStays (result_members (types_of ended) asked.func) words words2)))
+      ⊎ ((ended : Parts T G) × Ends before (Ok tt) ended × L (record ended { ledger = leave ended.ledger }) at results (Err e) after words2 × RestStays (result_members (component_types ended) asked.func) words words2)))
 
 -- How a function in one of its forms is served. Parameters are lifted as a value of the type A; P is what is told of them, R the results,
 -- and S what a call leaves that gives none.
@@ -88,7 +88,7 @@ pub record Steps (T G A P R S : Type 0) : Type 1 where
   -- it is called once, and gives results, or none
   pub gives : Parts T G → P → Parts T G → R → Type 0
   pub stops : Parts T G → P → HostStop → Parts T G → S → Type 0
-  pub lowers : Lowering T G R
+  pub lowers : LoweringRelation T G R
 
 abbrev pub stopped : HostStop → HostError
 stopped stop.Refused = error.Refused
@@ -126,7 +126,7 @@ module _ {T G A P R S : Type 0} (how : Steps T G A P R S) (asked : Asked) where
 -- the parameters are lifted from the first words
 abbrev pub LiftsAsked : {T G : Type 0} → Asked → Parts T G → List ℕ → Result (Vec Val Global) Fault → Parts T G → Type 0
 LiftsAsked asked before words result after =
-    ((left : ℕ) × LiftsParams (origin_in before asked.options) (take (args_words (param_members (types_of before) asked.func)) words) (param_members (types_of before) asked.func) before.ledger before.fuel result after.ledger left)
+    ((left : ℕ) × LiftsParams (origin_in before asked.options) (take (args_words (param_members (component_types before) asked.func)) words) (param_members (component_types before) asked.func) before.ledger before.fuel result after.ledger left)
     × SameButLedger before after
 
 -- a slot for each result
@@ -138,29 +138,29 @@ abbrev pub Calling : Type 0 → Type 0 → Type 1
 Calling T G = Parts T G → List Val → Result (Unit {0}) HostStop → Parts T G → List Val → Type 0
 
 -- the function is called once, and leaves these results in its slots
-pub record Calls {F T G : Type 0} (g : Closure F (HostView T) Val (Result (Unit {0}) HostStop)) (f : F) (asked : Asked) (before : Parts T G) (params slots : List Val) (result : Result (Unit {0}) HostStop) (after : Parts T G) (results : List Val) : Type 0 where
+pub record CallsFunction {F T G : Type 0} (g : Closure F (HostView T) Val (Result (Unit {0}) HostStop)) (f : F) (asked : Asked) (before : Parts T G) (params slots : List Val) (result : Result (Unit {0}) HostStop) (after : Parts T G) (results : List Val) : Type 0 where
   pub gave : Gave g f before after asked.func params slots result results
   pub steps : HostSteps before.ledger after.ledger
   pub same : after ≡ record before { state = after.state; ledger = after.ledger }
 
 -- the same with `Bool false` in each slot
 abbrev pub CallsBlank : {F T G : Type 0} → Closure F (HostView T) Val (Result (Unit {0}) HostStop) → F → Asked → Parts T G → List Val → Result (Unit {0}) HostStop → Parts T G → List Val → Type 0
-CallsBlank g f asked before params result after results = Calls g f asked before params (blank (types_of before) asked) result after results
+CallsBlank g f asked before params result after results = CallsFunction g f asked before params (blank (component_types before) asked) result after results
 
 -- the results are lowered to the first words, or stored at an address
 module _ {T G : Type 0} (seen : G → Seen) (moves : GuestIn G → List Event → GuestIn G → Type 0) (asked : Asked) where
   pub record LowersGiven (before : Parts T G) (at : ℕ) (results : List Val) (result : Result (Unit {0}) Fault) (after : Parts T G) (words : List ℕ) : Type 0 where
-    pub lowered : Crosses before.component.types (have_handle (result_members (types_of before) asked.func)) (all_passes (result_members (types_of before) asked.func) results)
+    pub lowered : Crosses before.component.types (have_handle (result_members (component_types before) asked.func)) (all_passes (result_members (component_types before) asked.func) results)
         (λ hs ending. LowersResults (moment_of seen before) (moment_of seen after) (encoding_by before asked.options)
-        (result_members (types_of before) asked.func) (HaveTrees (result_members (types_of before) asked.func) results) at
-        (take (members_flat (result_members (types_of before) asked.func)) words) hs ending)
+        (result_members (component_types before) asked.func) (HaveTrees (result_members (component_types before) asked.func) results) at
+        (take (members_flat (result_members (component_types before) asked.func)) words) hs ending)
         before.ledger after.ledger result
-    pub cause : IfErr result (BlamesMembers (encoding_by before asked.options) (result_members (types_of before) asked.func) results)
-    pub small : OnOk result (AreSmall (encoding_by before asked.options) (result_members (types_of before) asked.func) results)
+    pub cause : IfErr result (BlamesMembers (encoding_by before asked.options) (result_members (component_types before) asked.func) results)
+    pub small : OnOk result (AreSmall (encoding_by before asked.options) (result_members (component_types before) asked.func) results)
     -- results that reach no text and no list ask for nothing, and leave all but the ledger where they go in a row
-    pub quiet : QuietBut (have_handle (result_members (types_of before) asked.func)) (all_passes (result_members (types_of before) asked.func) results) (have_block (result_members (types_of before) asked.func)) (after.guest ≡ before.guest) result
-    pub quiet_near : members_flat (result_members (types_of before) asked.func) ≤ max_results
-        → QuietBut (have_handle (result_members (types_of before) asked.func)) (all_passes (result_members (types_of before) asked.func) results) (have_block (result_members (types_of before) asked.func)) (SameButLedger before after) result
+    pub quiet : QuietBut (have_handle (result_members (component_types before) asked.func)) (all_passes (result_members (component_types before) asked.func) results) (have_block (result_members (component_types before) asked.func)) (after.guest ≡ before.guest) result
+    pub quiet_near : members_flat (result_members (component_types before) asked.func) ≤ max_results
+        → QuietBut (have_handle (result_members (component_types before) asked.func)) (all_passes (result_members (component_types before) asked.func) results) (have_block (result_members (component_types before) asked.func)) (SameButLedger before after) result
     pub moved : Moves seen moves (guest_of before) (guest_of after) (ending_of result)
     pub same : SameButHandles before after
 
@@ -176,9 +176,9 @@ abbrev pub values_of : List Val → List Val → AskValues
 values_of params results = record { params = params; results = results }
 
 -- they stand in a row
-abbrev pub InRow : (Result AskValues HostError → Type 0) → Result (Vec Val Global) HostError → Type 0
-InRow Is (Ok values) = (told : AskValues) × (values.items ≡ told.params ++ told.results) × Is (Ok told)
-InRow Is (Err e) = Is (Err e)
+abbrev pub AnswersInRow : (Result AskValues HostError → Type 0) → Result (Vec Val Global) HostError → Type 0
+AnswersInRow Is (Ok values) = (told : AskValues) × (values.items ≡ told.params ++ told.results) × Is (Ok told)
+AnswersInRow Is (Err e) = Is (Err e)
 
 module _ {T G : Type 0} (C : Calling T G) (seen : G → Seen) (moves : GuestIn G → List Event → GuestIn G → Type 0) (asked : Asked) where
   -- the function is called as C says; memory for the scope may be wanting, and room for the slots
@@ -205,4 +205,4 @@ module _ {T G : Type 0} (C : Calling T G) (seen : G → Seen) (moves : GuestIn G
 -- a function over values does so, and gives the values of the ask in a row
 abbrev pub ServesInRow : {F T G : Type 0} → Closure F (HostView T) Val (Result (Unit {0}) HostStop) → F → (G → Seen) → (GuestIn G → List Event → GuestIn G → Type 0) → Asked
     → Parts T G → List ℕ → Result (Vec Val Global) HostError → Parts T G → List ℕ → Type 0
-ServesInRow g f seen moves asked before words result after words2 = InRow (λ told. Serves (CallsBlank g f asked) seen moves asked before words told after words2) result
+ServesInRow g f seen moves asked before words result after words2 = AnswersInRow (λ told. Serves (CallsBlank g f asked) seen moves asked before words told after words2) result

@@ -2,13 +2,13 @@
 use Rattle.std.specs.Prelude.{◌≡◌, Err, IfSome, List, Ok, Result, slice_get, take, ℕ}
 use Rattle.canon_args.specs.Results.{TypedResults}
 use Rattle.canon_args.specs.Returned.{passed_reading}
-use Rattle.canon_context.specs.Core.{Parts, SameButLedger, types_of}
+use Rattle.canon_context.specs.Core.{Parts, SameButLedger, component_types}
 use Rattle.canon_context.specs.Host.{HostSteps}
 use Rattle.canon_context.specs.declared.fault.Fault.{Fault}
 use Rattle.canon_context.specs.declared.fault.Fault.TheVariants as fault
 use Rattle.canon_context.specs.declared.host.HostStop.{HostStop}
 use Rattle.canon_context.specs.declared.host.HostView.{HostView}
-use Rattle.canon_host.specs.Serves.{Lowering, ServesBy, Steps, Values}
+use Rattle.canon_host.specs.Serves.{LoweringRelation, ServesBy, Steps, Values}
 use Rattle.canon_context.specs.Host.{StaticClosure, StaticGave}
 use Rattle.canon_host.specs.declared.asked.Asked.{Asked}
 use Rattle.canon_host.specs.declared.error.HostError.{HostError}
@@ -30,19 +30,19 @@ use Rattle.canon_types.specs.declared.types.TypeFunc.{TypeFunc}
 use Rattle.canon_value_parts.specs.Args.{args_words}
 
 -- the tuples of the parameters and of the results are those of Rust types
-pub record AreTyped (FitParams FitResults : Instance → InterfaceType → Type 0) (i : Instance) (func : TypeFunc) : Type 0 where
+pub record FitRustTypes (FitParams FitResults : Instance → InterfaceType → Type 0) (i : Instance) (func : TypeFunc) : Type 0 where
   pub params : FitParams i (Tuple func.params)
   pub results : FitResults i (Tuple func.results)
 
 -- those of the function type of a number are
 abbrev pub FitsFunc : (Instance → InterfaceType → Type 0) → (Instance → InterfaceType → Type 0) → Instance → ℕ → Type 0
-FitsFunc FitParams FitResults i ty = IfSome (slice_get i.types.funcs ty) (λ t. AreTyped FitParams FitResults i t)
+FitsFunc FitParams FitResults i ty = IfSome (slice_get i.types.funcs ty) (λ t. FitRustTypes FitParams FitResults i t)
 
 -- the parameters are lifted from the first words
 abbrev pub LiftsTyped : {T G P : Type 0} → Reading P → Asked → Parts T G → List ℕ → Result P Fault → Parts T G → Type 0
 LiftsTyped reading asked before words result after =
-    ((left : ℕ) × Lifts (passed_reading max_params (product of_places (param_members (types_of before) asked.func)) reading) (setting_in before asked.options)
-    (flat_in (take (args_words (param_members (types_of before) asked.func)) words) 0) (product of_places (param_members (types_of before) asked.func)) before.ledger before.fuel result after.ledger left)
+    ((left : ℕ) × Lifts (passed_reading max_params (product of_places (param_members (component_types before) asked.func)) reading) (setting_in before asked.options)
+    (flat_in (take (args_words (param_members (component_types before) asked.func)) words) 0) (product of_places (param_members (component_types before) asked.func)) before.ledger before.fuel result after.ledger left)
     × SameButLedger before after
 
 -- The function is called once.
@@ -52,10 +52,10 @@ pub record CallsTyped {F T G P R : Type 0} (g : StaticClosure F (HostView T) P (
   pub same : after ≡ record before { state = after.state; ledger = after.ledger }
 
 -- The results are lowered to the first words, or stored at an address; `walks` are their trees as a tuple, and `gives` what their handles do.
-abbrev pub LowersTyped : {T G R : Type 0} → (G → Seen) → (GuestIn G → List Event → GuestIn G → Type 0) → (R → Tree → Type 0) → (Instance → Shape → R → List (List Part)) → Asked → Lowering T G R
+abbrev pub LowersTyped : {T G R : Type 0} → (G → Seen) → (GuestIn G → List Event → GuestIn G → Type 0) → (R → Tree → Type 0) → (Instance → Shape → R → List (List Part)) → Asked → LoweringRelation T G R
 LowersTyped seen moves walks gives asked before at results result after words =
-    TypedResults seen moves asked.options before after (result_members (types_of before) asked.func) at (take (members_flat (result_members (types_of before) asked.func)) words) (walks results)
-    (gives before.component.types (product of_places (result_members (types_of before) asked.func)) results) result
+    TypedResults seen moves asked.options before after (result_members (component_types before) asked.func) at (take (members_flat (result_members (component_types before) asked.func)) words) (walks results)
+    (gives before.component.types (product of_places (result_members (component_types before) asked.func)) results) result
 
 -- some parameters and results were those of the ask
 abbrev pub Untold : {P R : Type 0} → (Result (Values P R) HostError → Type 0) → Result (Unit {0}) HostError → Type 0

@@ -2,13 +2,13 @@
 use Rattle.std.specs.Prelude.{Err, List, None, Ok, Result, [], false, length, take, true, ℕ, ◌<◌, ◌∷◌, ◌≡◌, ◌≤◌, ◌⊎◌}
 use Rattle.canon_args.specs.Exactly.{passed_steps}
 use Rattle.canon_context.specs.Asks.{SameButHandles}
-use Rattle.canon_context.specs.Core.{Parts, encoding_by, moment_of, types_of}
+use Rattle.canon_context.specs.Core.{Parts, encoding_by, moment_of, component_types}
 use Rattle.canon_context.specs.Host.{HostSteps, StaticClosure}
 use Rattle.canon_context.specs.declared.fault.Fault.{Fault}
 use Rattle.canon_context.specs.declared.fault.Fault.TheVariants as fault
 use Rattle.canon_context.specs.declared.host.HostStop.{HostStop}
 use Rattle.canon_context.specs.declared.host.HostView.{HostView}
-use Rattle.canon_host.specs.Serves.{IsPlace, stopped}
+use Rattle.canon_host.specs.Serves.{IsResultPlace, stopped}
 use Rattle.canon_host.specs.ServesTyped.{CallsTyped, LiftsTyped, ServesTyped}
 use Rattle.canon_host.specs.declared.asked.Asked.{Asked}
 use Rattle.canon_host.specs.declared.error.HostError.{HostError}
@@ -48,15 +48,15 @@ pub record AreAsked (Fit : Instance → InterfaceType → Type 0) (i : Instance)
 
 -- the words that they take
 abbrev pub param_words : {T G : Type 0} → Asked → Parts T G → List ℕ → List ℕ
-param_words asked before words = take (args_words (param_members (types_of before) asked.func)) words
+param_words asked before words = take (args_words (param_members (component_types before) asked.func)) words
 
 -- the words and memory represent these trees
 abbrev pub RepAsked : {T G : Type 0} → Asked → Parts T G → List ℕ → Trees → Type 0
-RepAsked asked before words trees = RepArgs false (encoding_by before asked.options) (narrow before.memory) (param_words asked before words) (param_members (types_of before) asked.func) trees
+RepAsked asked before words trees = RepArgs false (encoding_by before asked.options) (narrow before.memory) (param_words asked before words) (param_members (component_types before) asked.func) trees
 
 -- what their handles do
 abbrev pub asked_parts : {T G P : Type 0} → Reading P → Asked → Parts T G → List ℕ → List (List Part)
-asked_parts reading asked before words = passed_steps reading max_params (setting_in before asked.options) (param_members (types_of before) asked.func) (param_words asked before words)
+asked_parts reading asked before words = passed_steps reading max_params (setting_in before asked.options) (param_members (component_types before) asked.func) (param_words asked before words)
 
 -- The words and memory represent trees of a price within the fuel, which the parameters mean, and whose handles went through the ledger.
 pub record AreRead {T G P : Type 0} (reading : Reading P) (Means : P → Tree → Type 0) (price : Tree → ℕ) (asked : Asked) (before : Parts T G) (words : List ℕ) (params : P) (after : LedgerState) : Type 0 where
@@ -64,7 +64,7 @@ pub record AreRead {T G P : Type 0} (reading : Reading P) (Means : P → Tree �
   pub represented : RepAsked asked before words trees
   pub means : Means params (parts trees)
   pub within : price (parts trees) ≤ before.fuel
-  pub steps : AreLiftedBy before.component.types (members_leaves (param_members (types_of before) asked.func) trees) (asked_parts reading asked before words)
+  pub steps : AreLiftedBy before.component.types (members_leaves (param_members (component_types before) asked.func) trees) (asked_parts reading asked before words)
   pub taken : (hs : List ℕ) × LeavesTake before.ledger (asked_parts reading asked before words) hs after
 
 -- the tree was lifted, and its handles left the ledger so; or memory ran out, where lifting takes any
@@ -92,7 +92,7 @@ asked_steps reading asked before words = Enter ∷ leaves_steps (enter before.le
 
 -- what the handles of the results do
 abbrev pub given_parts : {T G R : Type 0} → (Instance → Shape → R → List (List Part)) → Asked → Parts T G → R → List (List Part)
-given_parts gives asked before results = gives before.component.types (product of_places (result_members (types_of before) asked.func)) results
+given_parts gives asked before results = gives before.component.types (product of_places (result_members (component_types before) asked.func)) results
 
 -- from the call on: the scope ends and is left, and the handles of the results are lowered
 abbrev pub given_steps : List (List Part) → LedgerState → List LedgerStep
@@ -146,19 +146,19 @@ module _ {F T G P R : Type 0} (g : StaticClosure F (HostView T) P (Result R Host
     pub through : AskThrough g f reading walks gives seen moves asked before after words
     pub same : SameButHandles through.called after
     pub at : ℕ
-    pub place : IsPlace (types_of before) asked before.memory words at
+    pub place : IsResultPlace (component_types before) asked before.memory words at
     pub trees : Trees
     pub walked : walks through.results (parts trees)
     pub answers : List Answer
     pub goes : Goes (moment_of seen before) (moment_of seen after) (marks_of answers) (events_of answers None)
-    pub requested : Requested (members_requests false (encoding_by before asked.options) (result_members (types_of before) asked.func) trees) done answers None
+    pub requested : Requested (members_requests false (encoding_by before asked.options) (result_members (component_types before) asked.func) trees) done answers None
     pub given : LeavesTake (leave (do_step (ExitScope (top_scope through.called.ledger.handles)) through.called.ledger).after) (given_parts gives asked before through.results)
-        (handle_numbers (members_leaves (result_members (types_of before) asked.func) trees)) after.ledger
-    pub near : members_flat (result_members (types_of before) asked.func) ≤ max_results → AllLawful answers
-        → RepFlatAt true (encoding_by before asked.options) (narrow after.memory) (take (members_flat (result_members (types_of before) asked.func)) words2) 0 (product of_places (result_members (types_of before) asked.func)) (parts trees)
-    pub far : max_results < members_flat (result_members (types_of before) asked.func) → AllLawful answers
-        → AreHeld (moment_of seen before) answers (value_place false (product of_places (result_members (types_of before) asked.func)) at ∷ [])
-        → RepMem true (encoding_by before asked.options) (narrow after.memory) at (product of_places (result_members (types_of before) asked.func)) (parts trees)
+        (handle_numbers (members_leaves (result_members (component_types before) asked.func) trees)) after.ledger
+    pub near : members_flat (result_members (component_types before) asked.func) ≤ max_results → AllLawful answers
+        → RepFlatAt true (encoding_by before asked.options) (narrow after.memory) (take (members_flat (result_members (component_types before) asked.func)) words2) 0 (product of_places (result_members (component_types before) asked.func)) (parts trees)
+    pub far : max_results < members_flat (result_members (component_types before) asked.func) → AllLawful answers
+        → AreHeld (moment_of seen before) answers (value_place false (product of_places (result_members (component_types before) asked.func)) at ∷ [])
+        → RepMem true (encoding_by before asked.options) (narrow after.memory) at (product of_places (result_members (component_types before) asked.func)) (parts trees)
 
   -- An ask that was served is answered so.
   abbrev pub ServedIsAnswered : Type 0
@@ -168,5 +168,5 @@ module _ (T G : Type 0) {R : Type 0} (Fit : Instance → InterfaceType → Type 
   -- What the handles of results do are the ways of the handles of the trees that they walk, in order.
   abbrev pub AnswersAreGiven : Type 0
   AnswersAreGiven = (asked : Asked) (before : Parts T G) (results : R) (trees : Trees) → Fit before.component.types (Tuple asked.func.results)
-      → shape_of (types_of before) (Tuple asked.func.results) ≡ product of_places (result_members (types_of before) asked.func) → walks results (parts trees)
-      → AreGivenBy before.component.types (members_leaves (result_members (types_of before) asked.func) trees) (given_parts gives asked before results)
+      → shape_of (component_types before) (Tuple asked.func.results) ≡ product of_places (result_members (component_types before) asked.func) → walks results (parts trees)
+      → AreGivenBy before.component.types (members_leaves (result_members (component_types before) asked.func) trees) (given_parts gives asked before results)

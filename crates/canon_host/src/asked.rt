@@ -7,7 +7,7 @@ ghost use Rattle.canon_model.specs.Layout.{members_flat};
 ghost use Rattle.canon_model.specs.Shape.{member_count};
 ghost use Rattle.canon_types.specs.Table.{HasFunc, HasTuple, param_members, result_members, tuple_members};
 ghost use Rattle.canon_context.specs.Component.{HasOptions};
-ghost use Rattle.canon_context.specs.Core.{types_of};
+ghost use Rattle.canon_context.specs.Core.{component_types};
 ghost use Rattle.canon_value_parts.specs.Args.{args_words};
 ghost use Rattle.canon_host.specs.Asked.{HasRoomFor, IsAsked, asked_words, pointer_words, row_words, storage_words};
 
@@ -37,9 +37,9 @@ pub struct Asked {
 
 /// What is asked for by a type and options of a core's component.
 pub fn asked_of<T, G>(core: &Core<T, G>, ty: TypeFuncIndex, options: OptionsIndex) -> Asked
-    requires func { HasFunc (types_of core.now) ty }
+    requires func { HasFunc (component_types core.now) ty }
     requires options { HasOptions core.now.component options }
-    ensures found { slice_get (types_of core.now).funcs ty ≡ Some result.func }
+    ensures found { slice_get (component_types core.now).funcs ty ≡ Some result.func }
     ensures is { IsAsked core.now.component result }
     ensures ty { result.ty ≡ ty }
     ensures options { result.options ≡ options }

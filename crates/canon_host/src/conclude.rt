@@ -6,9 +6,9 @@ ghost use Rattle.canon_model.specs.Layout.{members_flat};
 ghost use Rattle.canon_model.specs.Shape.{member_count};
 ghost use Rattle.canon_types.specs.Table.{result_members, tuple_members};
 ghost use Rattle.canon_context.specs.Asks.{SameButHandles};
-ghost use Rattle.canon_context.specs.Core.{SameButLedger, types_of};
-ghost use Rattle.canon_host.specs.Asked.{HasRoom, IsAsked, RestStays};
-ghost use Rattle.canon_host.specs.Serves.{Concludes, EndsAsk, IsNoPlace, IsPlace, LowersGiven};
+ghost use Rattle.canon_context.specs.Core.{SameButLedger, component_types};
+ghost use Rattle.canon_host.specs.Asked.{HasWordsEnough, IsAsked, RestStays};
+ghost use Rattle.canon_host.specs.Serves.{Concludes, EndsAsk, IsNoPlace, IsResultPlace, LowersGiven};
 
 use crate::Asked;
 use crate::asked::{first_words, params_words, results_words};
@@ -23,8 +23,8 @@ pub(crate) fn conclude<T, G: Guest>(
     storage: &mut [ValRaw],
 ) -> Result<(), Fault>
     requires asked { IsAsked core.old.component asked.now }
-    requires room { HasRoom (types_of core.old) asked.now storage.old }
-    requires count { length results.now ≡ member_count (tuple_members (types_of core.old) asked.now.func.results) }
+    requires room { HasWordsEnough (component_types core.old) asked.now storage.old }
+    requires count { length results.now ≡ member_count (tuple_members (component_types core.old) asked.now.func.results) }
     ensures concludes { Concludes G.seen G.moves asked.now core.old results.now storage.old result core.new storage.new }
     ensures same { SameButHandles core.old core.new }
 {
@@ -42,7 +42,7 @@ pub(crate) fn end_ask<T, G>(
     storage: &[ValRaw],
 ) -> Result<u64, Fault>
     requires asked { IsAsked core.old.component asked.now }
-    requires room { HasRoom (types_of core.old) asked.now storage.now }
+    requires room { HasWordsEnough (component_types core.old) asked.now storage.now }
     ensures ends { EndsAsk asked.now core.old storage.now result core.new }
     ensures same { SameButLedger core.old core.new }
 {
@@ -60,9 +60,9 @@ pub(crate) fn end_ask<T, G>(
 /// The address at which results are to be stored that don't go in a row; the last of an ask's words gives it.
 fn place_of<T, G>(core: &Core<T, G>, asked: &Asked, storage: &[ValRaw]) -> Result<u64, Fault>
     requires asked { IsAsked core.now.component asked.now }
-    requires room { HasRoom (types_of core.now) asked.now storage.now }
-    ensures ok { IfOk result (IsPlace (types_of core.now) asked.now core.now.memory storage.now) }
-    ensures err { IfErr result (IsNoPlace (types_of core.now) asked.now core.now.memory storage.now) }
+    requires room { HasWordsEnough (component_types core.now) asked.now storage.now }
+    ensures ok { IfOk result (IsResultPlace (component_types core.now) asked.now core.now.memory storage.now) }
+    ensures err { IfErr result (IsNoPlace (component_types core.now) asked.now core.now.memory storage.now) }
 {
     let types = core.component().types.types();
     if results_words(types, asked.func.results).is_some() {
@@ -81,11 +81,11 @@ fn lower<T, G: Guest>(
     storage: &mut [ValRaw],
 ) -> Result<(), Fault>
     requires asked { IsAsked core.old.component asked.now }
-    requires room { HasRoom (types_of core.old) asked.now storage.old }
-    requires place { IsPlace (types_of core.old) asked.now core.old.memory storage.old at }
-    requires count { length results.now ≡ member_count (tuple_members (types_of core.old) asked.now.func.results) }
+    requires room { HasWordsEnough (component_types core.old) asked.now storage.old }
+    requires place { IsResultPlace (component_types core.old) asked.now core.old.memory storage.old at }
+    requires count { length results.now ≡ member_count (tuple_members (component_types core.old) asked.now.func.results) }
     ensures lowers { LowersGiven G.seen G.moves asked.now core.old at results.now result core.new storage.new }
-    ensures rest { RestStays (result_members (types_of core.old) asked.now.func) storage.old storage.new }
+    ensures rest { RestStays (result_members (component_types core.old) asked.now.func) storage.old storage.new }
     ensures same { SameButHandles core.old core.new }
 {
     let tuple = asked.func.results;

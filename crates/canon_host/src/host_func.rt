@@ -4,7 +4,7 @@ ghost use Rattle.std.specs.Prelude.{◌≡◌, IfErr, IfSome, List, OnOk, Result
 ghost use Rattle.canon_types.specs.Instance.{Instance};
 ghost use Rattle.canon_types.specs.Table.{HasFunc};
 ghost use Rattle.canon_context.specs.Component.{HasOptions};
-ghost use Rattle.canon_context.specs.Core.{Parts, types_of};
+ghost use Rattle.canon_context.specs.Core.{Parts, component_types};
 ghost use Rattle.canon_host.specs.Asked.{HasRoomFor};
 ghost use Rattle.canon_host.specs.declared.asked.Asked.{Asked};
 ghost use Rattle.canon_host.specs.declared.error.HostError.{HostError};
@@ -41,10 +41,10 @@ pub trait HostFn<T, G: Guest> {
     ) -> Result<Self::Log, HostError>
         requires ready { ready self.now }
         requires fits { fits self.now cx.core.now.component.types cx.ty }
-        requires func { HasFunc (types_of cx.core.now) cx.ty }
+        requires func { HasFunc (component_types cx.core.now) cx.ty }
         requires options { HasOptions cx.core.now.component cx.options }
-        requires room { HasRoomFor (types_of cx.core.now) cx.ty storage.old }
-        ensures serves { IfSome (slice_get (types_of cx.entry.core.now).funcs cx.entry.ty) (λ t. serves self.now (record { ty = cx.entry.ty; func = t; options = cx.entry.options }) cx.entry.core.now storage.old result cx.exit.0.now storage.new) }
+        requires room { HasRoomFor (component_types cx.core.now) cx.ty storage.old }
+        ensures serves { IfSome (slice_get (component_types cx.entry.core.now).funcs cx.entry.ty) (λ t. serves self.now (record { ty = cx.entry.ty; func = t; options = cx.entry.options }) cx.entry.core.now storage.old result cx.exit.0.now storage.new) }
         ensures same { cx.exit.0.now ≡ record cx.entry.core.now { state = cx.exit.0.now.state; guest = cx.exit.0.now.guest; memory = cx.exit.0.now.memory; ledger = cx.exit.0.now.ledger } };
 }
 
@@ -68,7 +68,7 @@ impl<
     ghost use Rattle.std.specs.Prelude.{◌≡◌, IfSome, slice_get};
     ghost use Rattle.canon_types.specs.Table.{HasFunc};
     ghost use Rattle.canon_context.specs.Component.{HasOptions};
-    ghost use Rattle.canon_context.specs.Core.{types_of};
+    ghost use Rattle.canon_context.specs.Core.{component_types};
     ghost use Rattle.canon_context.specs.Host.{Keeps};
     ghost use Rattle.canon_host.specs.Asked.{HasRoomFor};
     ghost use Rattle.canon_host.specs.Serves.{ServesInRow};
@@ -89,10 +89,10 @@ impl<
     ) -> Result<Vec<Val>, HostError>
         requires ready { Keeps F.Fn self.now }
         requires fits { Unit {0} }
-        requires func { HasFunc (types_of cx.core.now) cx.ty }
+        requires func { HasFunc (component_types cx.core.now) cx.ty }
         requires options { HasOptions cx.core.now.component cx.options }
-        requires room { HasRoomFor (types_of cx.core.now) cx.ty storage.old }
-        ensures serves { IfSome (slice_get (types_of cx.entry.core.now).funcs cx.entry.ty) (λ t. ServesInRow F.Fn self.now G.seen G.moves (record { ty = cx.entry.ty; func = t; options = cx.entry.options }) cx.entry.core.now storage.old result cx.exit.0.now storage.new) }
+        requires room { HasRoomFor (component_types cx.core.now) cx.ty storage.old }
+        ensures serves { IfSome (slice_get (component_types cx.entry.core.now).funcs cx.entry.ty) (λ t. ServesInRow F.Fn self.now G.seen G.moves (record { ty = cx.entry.ty; func = t; options = cx.entry.options }) cx.entry.core.now storage.old result cx.exit.0.now storage.new) }
         ensures same { cx.exit.0.now ≡ record cx.entry.core.now { state = cx.exit.0.now.state; guest = cx.exit.0.now.guest; memory = cx.exit.0.now.memory; ledger = cx.exit.0.now.ledger } }
     {
         let HostCx { core, ty, options } = cx;
@@ -148,10 +148,10 @@ impl<H> HostFunc<H> {
         H: HostFn<T, G>,
         requires ready { H.ready self.now }
         requires fits { H.fits self.now cx.core.now.component.types cx.ty }
-        requires func { HasFunc (types_of cx.core.now) cx.ty }
+        requires func { HasFunc (component_types cx.core.now) cx.ty }
         requires options { HasOptions cx.core.now.component cx.options }
-        requires room { HasRoomFor (types_of cx.core.now) cx.ty storage.old }
-        ensures serves { IfSome (slice_get (types_of cx.entry.core.now).funcs cx.entry.ty) (λ t. H.serves self.now (record { ty = cx.entry.ty; func = t; options = cx.entry.options }) cx.entry.core.now storage.old result cx.exit.0.now storage.new) }
+        requires room { HasRoomFor (component_types cx.core.now) cx.ty storage.old }
+        ensures serves { IfSome (slice_get (component_types cx.entry.core.now).funcs cx.entry.ty) (λ t. H.serves self.now (record { ty = cx.entry.ty; func = t; options = cx.entry.options }) cx.entry.core.now storage.old result cx.exit.0.now storage.new) }
         ensures same { cx.exit.0.now ≡ record cx.entry.core.now { state = cx.exit.0.now.state; guest = cx.exit.0.now.guest; memory = cx.exit.0.now.memory; ledger = cx.exit.0.now.ledger } }
     {
         self.h.serve(alloc, cx, storage)

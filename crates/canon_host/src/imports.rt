@@ -3,10 +3,10 @@
 ghost use Rattle.std.specs.Prelude.{◌≡◌, ◌≤◌, IfSome, List, Option, slice_get, ℕ};
 ghost use Rattle.canon_types.specs.Table.{HasFunc};
 ghost use Rattle.canon_context.specs.Component.{HasOptions};
-ghost use Rattle.canon_context.specs.Core.{types_of};
+ghost use Rattle.canon_context.specs.Core.{component_types};
 ghost use Rattle.canon_host.specs.Asked.{HasRoomFor};
 ghost use Rattle.canon_host.specs.Forms.{IsLawful};
-ghost use Rattle.canon_host.specs.HostSide.{Entry, Giving};
+ghost use Rattle.canon_host.specs.HostSide.{LoggedEntry, Giving};
 ghost use Rattle.canon_host.specs.Imports.{ServesImport};
 
 use crate::{HostCx, HostError};
@@ -24,7 +24,7 @@ pub trait Imports<T, G: Guest> {
     ghost plan: { Self → Self.Plan };
 
     /// The asks that were served, where they are logged.
-    ghost log: { Self → Option (List Entry) };
+    ghost log: { Self → Option (List LoggedEntry) };
 
     /// How many asks were refused for no fault.
     ghost refusals: { Self → ℕ };
@@ -44,13 +44,13 @@ pub trait Imports<T, G: Guest> {
         storage: &mut [ValRaw],
     ) -> Result<(), HostError>
         requires ready { ready self.old }
-        requires func { HasFunc (types_of cx.core.now) cx.ty }
+        requires func { HasFunc (component_types cx.core.now) cx.ty }
         requires options { HasOptions cx.core.now.component cx.options }
-        requires room { HasRoomFor (types_of cx.core.now) cx.ty storage.old }
+        requires room { HasRoomFor (component_types cx.core.now) cx.ty storage.old }
         ensures still_ready { ready self.new }
         ensures plan { plan self.new ≡ plan self.old }
         ensures refusals { refusals self.old ≤ refusals self.new }
-        ensures serves { IfSome (slice_get (types_of cx.entry.core.now).funcs cx.entry.ty)
+        ensures serves { IfSome (slice_get (component_types cx.entry.core.now).funcs cx.entry.ty)
             (λ t. ServesImport (gives (plan self.old)) (log self.old) n G.seen G.moves
             (record { ty = cx.entry.ty; func = t; options = cx.entry.options }) (log self.new) (refusals self.old) (refusals self.new)
             cx.entry.core.now storage.old result cx.exit.0.now storage.new) }

@@ -3,7 +3,7 @@
 ghost use Rattle.std.specs.Prelude.{◌≡◌, ◌≢◌, [], Err, IfSome, None, Ok, Some, slice_get, ℕ};
 ghost use Rattle.canon_types.specs.Table.{HasFunc};
 ghost use Rattle.canon_context.specs.Component.{HasOptions};
-ghost use Rattle.canon_context.specs.Core.{types_of};
+ghost use Rattle.canon_context.specs.Core.{component_types};
 ghost use Rattle.canon_context.specs.Host.{Keeps};
 ghost use Rattle.canon_host.specs.Asked.{HasRoomFor};
 ghost use Rattle.canon_host.specs.Imports.{GivesOnly, Refuses, RefusesAll, ServesWith};
@@ -41,10 +41,10 @@ fn refuse_by<
 ) -> HostError
     requires keeps { Keeps F.Fn func.now }
     requires gives { GivesOnly F.Fn func.now (Refuses [] 0) }
-    requires func { HasFunc (types_of cx.core.now) cx.ty }
+    requires func { HasFunc (component_types cx.core.now) cx.ty }
     requires options { HasOptions cx.core.now.component cx.options }
-    requires room { HasRoomFor (types_of cx.core.now) cx.ty storage.old }
-    ensures serves { (n : ℕ) → IfSome (slice_get (types_of cx.entry.core.now).funcs cx.entry.ty) (λ t. ServesWith RefusesAll (Some []) n G.seen G.moves (record { ty = cx.entry.ty; func = t; options = cx.entry.options }) cx.entry.core.now storage.old (Err result) cx.exit.0.now storage.new) }
+    requires room { HasRoomFor (component_types cx.core.now) cx.ty storage.old }
+    ensures serves { (n : ℕ) → IfSome (slice_get (component_types cx.entry.core.now).funcs cx.entry.ty) (λ t. ServesWith RefusesAll (Some []) n G.seen G.moves (record { ty = cx.entry.ty; func = t; options = cx.entry.options }) cx.entry.core.now storage.old (Err result) cx.exit.0.now storage.new) }
     ensures same { cx.exit.0.now ≡ record cx.entry.core.now { state = cx.exit.0.now.state; guest = cx.exit.0.now.guest; memory = cx.exit.0.now.memory; ledger = cx.exit.0.now.ledger } }
 {
     let Err(error) = func.entrypoint(alloc, cx, storage) else {
@@ -55,10 +55,10 @@ fn refuse_by<
 
 /// Refuses one ask.
 fn refuse<T, G: Guest>(alloc: Global, cx: HostCx<'_, T, G>, storage: &mut [ValRaw]) -> HostError
-    requires func { HasFunc (types_of cx.core.now) cx.ty }
+    requires func { HasFunc (component_types cx.core.now) cx.ty }
     requires options { HasOptions cx.core.now.component cx.options }
-    requires room { HasRoomFor (types_of cx.core.now) cx.ty storage.old }
-    ensures serves { (n : ℕ) → IfSome (slice_get (types_of cx.entry.core.now).funcs cx.entry.ty) (λ t. ServesWith RefusesAll (Some []) n G.seen G.moves (record { ty = cx.entry.ty; func = t; options = cx.entry.options }) cx.entry.core.now storage.old (Err result) cx.exit.0.now storage.new) }
+    requires room { HasRoomFor (component_types cx.core.now) cx.ty storage.old }
+    ensures serves { (n : ℕ) → IfSome (slice_get (component_types cx.entry.core.now).funcs cx.entry.ty) (λ t. ServesWith RefusesAll (Some []) n G.seen G.moves (record { ty = cx.entry.ty; func = t; options = cx.entry.options }) cx.entry.core.now storage.old (Err result) cx.exit.0.now storage.new) }
     ensures same { cx.exit.0.now ≡ record cx.entry.core.now { state = cx.exit.0.now.state; guest = cx.exit.0.now.guest; memory = cx.exit.0.now.memory; ledger = cx.exit.0.now.ledger } }
 {
     let func = HostFunc::func_new(|_view: &mut HostView<
@@ -75,7 +75,7 @@ impl<T, G: Guest> Imports<T, G> for NoImports {
     ghost use Rattle.std.specs.Prelude.{◌≡◌, ◌≤◌, IfSome, Some, [], slice_get};
     ghost use Rattle.canon_types.specs.Table.{HasFunc};
     ghost use Rattle.canon_context.specs.Component.{HasOptions};
-    ghost use Rattle.canon_context.specs.Core.{types_of};
+    ghost use Rattle.canon_context.specs.Core.{component_types};
     ghost use Rattle.canon_host.specs.Asked.{HasRoomFor};
     ghost use Rattle.canon_host.specs.Imports.{RefusesAll, ServesImport};
 
@@ -99,13 +99,13 @@ impl<T, G: Guest> Imports<T, G> for NoImports {
         storage: &mut [ValRaw],
     ) -> Result<(), HostError>
         requires ready { Unit {0} }
-        requires func { HasFunc (types_of cx.core.now) cx.ty }
+        requires func { HasFunc (component_types cx.core.now) cx.ty }
         requires options { HasOptions cx.core.now.component cx.options }
-        requires room { HasRoomFor (types_of cx.core.now) cx.ty storage.old }
+        requires room { HasRoomFor (component_types cx.core.now) cx.ty storage.old }
         ensures still_ready { Unit {0} }
         ensures plan { tt {0} ≡ tt {0} }
         ensures refusals { self.old.refusals ≤ self.new.refusals }
-        ensures serves { IfSome (slice_get (types_of cx.entry.core.now).funcs cx.entry.ty)
+        ensures serves { IfSome (slice_get (component_types cx.entry.core.now).funcs cx.entry.ty)
             (λ t. ServesImport RefusesAll (Some []) n G.seen G.moves (record { ty = cx.entry.ty; func = t; options = cx.entry.options }) (Some [])
             self.old.refusals self.new.refusals cx.entry.core.now storage.old result cx.exit.0.now storage.new) }
         ensures same { cx.exit.0.now ≡ record cx.entry.core.now { state = cx.exit.0.now.state; guest = cx.exit.0.now.guest; memory = cx.exit.0.now.memory; ledger = cx.exit.0.now.ledger } }

@@ -4,11 +4,11 @@ ghost use Rattle.std.specs.Prelude.{◌≡◌, ◌≤◌, ◌<◌, ◌++◌, IfO
 ghost use Rattle.canon_model.specs.Shape.{member_count};
 ghost use Rattle.canon_types.specs.Table.{tuple_members};
 ghost use Rattle.canon_context.specs.Asks.{SameButHandles};
-ghost use Rattle.canon_context.specs.Core.{SameButLedger, types_of};
+ghost use Rattle.canon_context.specs.Core.{SameButLedger, component_types};
 ghost use Rattle.canon_context.specs.Host.{Keeps};
 ghost use Rattle.canon_val.specs.declared.val.Val.TheVariants as val;
-ghost use Rattle.canon_host.specs.Asked.{HasRoom, IsAsked};
-ghost use Rattle.canon_host.specs.Serves.{Answers, Calls, CallsBlank, InRow, LiftsAsked, ServesEntered, ServesInRow};
+ghost use Rattle.canon_host.specs.Asked.{HasWordsEnough, IsAsked};
+ghost use Rattle.canon_host.specs.Serves.{Answers, CallsFunction, CallsBlank, AnswersInRow, LiftsAsked, ServesEntered, ServesInRow};
 
 use crate::asked::{params_words, value_count};
 use crate::conclude::conclude;
@@ -33,7 +33,7 @@ pub(crate) fn serve<
 ) -> Result<Vec<Val>, HostError>
     requires keeps { Keeps F.Fn f.now }
     requires asked { IsAsked core.old.component asked.now }
-    requires room { HasRoom (types_of core.old) asked.now storage.old }
+    requires room { HasWordsEnough (component_types core.old) asked.now storage.old }
     ensures serves { ServesInRow F.Fn f.now G.seen G.moves asked.now core.old storage.old result core.new storage.new }
     ensures same { core.new ≡ record core.old { state = core.new.state; guest = core.new.guest; memory = core.new.memory; ledger = core.new.ledger } }
 {
@@ -57,8 +57,8 @@ fn serve_entered<
 ) -> Result<Vec<Val>, HostError>
     requires keeps { Keeps F.Fn f.now }
     requires asked { IsAsked core.old.component asked.now }
-    requires room { HasRoom (types_of core.old) asked.now storage.old }
-    ensures serves { InRow (λ told. ServesEntered (CallsBlank F.Fn f.now asked.now) G.seen G.moves asked.now core.old storage.old told core.new storage.new) result }
+    requires room { HasWordsEnough (component_types core.old) asked.now storage.old }
+    ensures serves { AnswersInRow (λ told. ServesEntered (CallsBlank F.Fn f.now asked.now) G.seen G.moves asked.now core.old storage.old told core.new storage.new) result }
     ensures same { core.new ≡ record core.old { state = core.new.state; guest = core.new.guest; memory = core.new.memory; ledger = core.new.ledger } }
 {
     match lift(alloc, core, asked, storage) {
@@ -75,7 +75,7 @@ fn lift<T, G>(
     storage: &[ValRaw],
 ) -> Result<Vec<Val>, Fault>
     requires asked { IsAsked core.old.component asked.now }
-    requires room { HasRoom (types_of core.old) asked.now storage.now }
+    requires room { HasWordsEnough (component_types core.old) asked.now storage.now }
     ensures lifts { LiftsAsked asked.now core.old storage.now result core.new }
 {
     let tuple = asked.func.params;
@@ -85,7 +85,7 @@ fn lift<T, G>(
     lift_args(alloc, &mut cx, tuple, words)
 }
 
-/// Calls the function with these parameters, and ends the ask.
+/// CallsFunction the function with these parameters, and ends the ask.
 fn answer<
     T,
     G: Guest,
@@ -99,8 +99,8 @@ fn answer<
 ) -> Result<Vec<Val>, HostError>
     requires keeps { Keeps F.Fn f.now }
     requires asked { IsAsked core.old.component asked.now }
-    requires room { HasRoom (types_of core.old) asked.now storage.old }
-    ensures answers { InRow (λ told. Answers (CallsBlank F.Fn f.now asked.now) G.seen G.moves asked.now core.old params.items storage.old told core.new storage.new) result }
+    requires room { HasWordsEnough (component_types core.old) asked.now storage.old }
+    ensures answers { AnswersInRow (λ told. Answers (CallsBlank F.Fn f.now asked.now) G.seen G.moves asked.now core.old params.items storage.old told core.new storage.new) result }
     ensures same { core.new ≡ record core.old { state = core.new.state; guest = core.new.guest; memory = core.new.memory; ledger = core.new.ledger } }
 {
     let given = params.len();
@@ -133,7 +133,7 @@ fn with_slots(params: Vec<Val>, count: usize) -> Result<Vec<Val>, OutOfMemory>
     Ok(values)
 }
 
-/// Calls the function over the parameters and the slots after them.
+/// CallsFunction the function over the parameters and the slots after them.
 fn call<
     T,
     G,
@@ -148,7 +148,7 @@ fn call<
     requires keeps { Keeps F.Fn f.now }
     requires asked { IsAsked core.old.component asked.now }
     requires given { given ≤ length values.old }
-    ensures calls { Calls F.Fn f.now asked.now core.old (take given values.old) (drop given values.old) result core.new (drop given values.new) }
+    ensures calls { CallsFunction F.Fn f.now asked.now core.old (take given values.old) (drop given values.old) result core.new (drop given values.new) }
     ensures params { take given values.new ≡ take given values.old }
     ensures count { length values.new ≡ length values.old }
 {

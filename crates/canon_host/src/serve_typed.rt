@@ -2,10 +2,10 @@
 
 ghost use Rattle.std.specs.Prelude.{◌≡◌, ◌≤◌, ◌<◌, length, take};
 ghost use Rattle.canon_context.specs.Asks.{SameButHandles};
-ghost use Rattle.canon_context.specs.Core.{types_of};
-ghost use Rattle.canon_host.specs.Asked.{HasRoom, IsAsked, RestStays};
-ghost use Rattle.canon_host.specs.Serves.{AnswersBy, ConcludesBy, IsPlace, ServesEnteredBy};
-ghost use Rattle.canon_host.specs.ServesTyped.{AreTyped, CallsTyped, LiftsTyped, LowersTyped, ServesTyped, Untold, typed_steps};
+ghost use Rattle.canon_context.specs.Core.{component_types};
+ghost use Rattle.canon_host.specs.Asked.{HasWordsEnough, IsAsked, RestStays};
+ghost use Rattle.canon_host.specs.Serves.{AnswersBy, ConcludesBy, IsResultPlace, ServesEnteredBy};
+ghost use Rattle.canon_host.specs.ServesTyped.{FitRustTypes, CallsTyped, LiftsTyped, LowersTyped, ServesTyped, Untold, typed_steps};
 ghost use Rattle.canon_context.specs.Host.{StaticKeeps};
 ghost use Rattle.canon_types.specs.Table.{result_members};
 ghost use Rattle.canon_types.specs.declared.types.InterfaceType.TheVariants.{Tuple};
@@ -36,9 +36,9 @@ pub(crate) fn serve_typed<
     storage: &mut [ValRaw],
 ) -> Result<(), HostError>
     requires keeps { StaticKeeps F.Fn f.now }
-    requires typed { AreTyped P.fits R.fits core.old.component.types asked.now.func }
+    requires typed { FitRustTypes P.fits R.fits core.old.component.types asked.now.func }
     requires asked { IsAsked core.old.component asked.now }
-    requires room { HasRoom (types_of core.old) asked.now storage.old }
+    requires room { HasWordsEnough (component_types core.old) asked.now storage.old }
     ensures serves { ServesTyped F.Fn f.now P.reading R.walks R.gives G.seen G.moves asked.now core.old storage.old result core.new storage.new }
     ensures same { core.new ≡ record core.old { state = core.new.state; guest = core.new.guest; memory = core.new.memory; ledger = core.new.ledger } }
 {
@@ -63,9 +63,9 @@ fn serve_entered<
     storage: &mut [ValRaw],
 ) -> Result<(), HostError>
     requires keeps { StaticKeeps F.Fn f.now }
-    requires typed { AreTyped P.fits R.fits core.old.component.types asked.now.func }
+    requires typed { FitRustTypes P.fits R.fits core.old.component.types asked.now.func }
     requires asked { IsAsked core.old.component asked.now }
-    requires room { HasRoom (types_of core.old) asked.now storage.old }
+    requires room { HasWordsEnough (component_types core.old) asked.now storage.old }
     ensures serves { Untold (λ told. ServesEnteredBy (typed_steps F.Fn f.now P.reading R.walks R.gives G.seen G.moves asked.now) asked.now core.old storage.old told core.new storage.new) result }
     ensures same { core.new ≡ record core.old { state = core.new.state; guest = core.new.guest; memory = core.new.memory; ledger = core.new.ledger } }
 {
@@ -85,7 +85,7 @@ fn lift<T, G, P: Lift>(
 ) -> Result<P, Fault>
     requires fits { P.fits core.old.component.types (Tuple asked.now.func.params) }
     requires asked { IsAsked core.old.component asked.now }
-    requires room { HasRoom (types_of core.old) asked.now storage.now }
+    requires room { HasWordsEnough (component_types core.old) asked.now storage.now }
     ensures lifts { LiftsTyped P.reading asked.now core.old storage.now result core.new }
 {
     let tuple = asked.func.params;
@@ -112,7 +112,7 @@ fn answer<
     requires keeps { StaticKeeps F.Fn f.now }
     requires fits { R.fits core.old.component.types (Tuple asked.now.func.results) }
     requires asked { IsAsked core.old.component asked.now }
-    requires room { HasRoom (types_of core.old) asked.now storage.old }
+    requires room { HasWordsEnough (component_types core.old) asked.now storage.old }
     ensures answers { Untold (λ told. AnswersBy (typed_steps F.Fn f.now P.reading R.walks R.gives G.seen G.moves asked.now) asked.now core.old params storage.old told core.new storage.new) result }
     ensures same { core.new ≡ record core.old { state = core.new.state; guest = core.new.guest; memory = core.new.memory; ledger = core.new.ledger } }
 {
@@ -149,7 +149,7 @@ fn conclude<T, G: Guest, R: Lower>(
 ) -> Result<(), Fault>
     requires fits { R.fits core.old.component.types (Tuple asked.now.func.results) }
     requires asked { IsAsked core.old.component asked.now }
-    requires room { HasRoom (types_of core.old) asked.now storage.old }
+    requires room { HasWordsEnough (component_types core.old) asked.now storage.old }
     ensures concludes { ConcludesBy (LowersTyped G.seen G.moves R.walks R.gives asked.now) asked.now core.old results.old storage.old result core.new storage.new }
     ensures same { SameButHandles core.old core.new }
 {
@@ -169,10 +169,10 @@ fn lower<T, G: Guest, R: Lower>(
 ) -> Result<(), Fault>
     requires fits { R.fits core.old.component.types (Tuple asked.now.func.results) }
     requires asked { IsAsked core.old.component asked.now }
-    requires room { HasRoom (types_of core.old) asked.now storage.old }
-    requires place { IsPlace (types_of core.old) asked.now core.old.memory storage.old at }
+    requires room { HasWordsEnough (component_types core.old) asked.now storage.old }
+    requires place { IsResultPlace (component_types core.old) asked.now core.old.memory storage.old at }
     ensures lowers { LowersTyped G.seen G.moves R.walks R.gives asked.now core.old at results.old result core.new storage.new }
-    ensures rest { RestStays (result_members (types_of core.old) asked.now.func) storage.old storage.new }
+    ensures rest { RestStays (result_members (component_types core.old) asked.now.func) storage.old storage.new }
     ensures same { SameButHandles core.old core.new }
 {
     let tuple = asked.func.results;

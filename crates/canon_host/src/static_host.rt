@@ -2,7 +2,7 @@
 
 ghost use Rattle.std.specs.Prelude.{◌≡◌, IfSome, OnErr, OnOk, false, slice_get};
 ghost use Rattle.canon_types.specs.Table.{HasFunc};
-ghost use Rattle.canon_host.specs.ServesTyped.{AreTyped, FitsFunc};
+ghost use Rattle.canon_host.specs.ServesTyped.{FitRustTypes, FitsFunc};
 
 use crate::asked::asked_of;
 use crate::serve_typed::serve_typed;
@@ -38,7 +38,7 @@ impl<
     ghost use Rattle.std.specs.Prelude.{◌≡◌, IfSome, slice_get};
     ghost use Rattle.canon_types.specs.Table.{HasFunc};
     ghost use Rattle.canon_context.specs.Component.{HasOptions};
-    ghost use Rattle.canon_context.specs.Core.{types_of};
+    ghost use Rattle.canon_context.specs.Core.{component_types};
     ghost use Rattle.canon_host.specs.Asked.{HasRoomFor};
     ghost use Rattle.canon_host.specs.ServesTyped.{FitsFunc, ServesTyped};
     ghost use Rattle.canon_context.specs.Host.{StaticKeeps};
@@ -59,10 +59,11 @@ impl<
     ) -> Result<(), HostError>
         requires ready { StaticKeeps F.Fn self.now }
         requires fits { FitsFunc P.fits R.fits cx.core.now.component.types cx.ty }
-        requires func { HasFunc (types_of cx.core.now) cx.ty }
+        requires func { HasFunc (component_types cx.core.now) cx.ty }
         requires options { HasOptions cx.core.now.component cx.options }
-        requires room { HasRoomFor (types_of cx.core.now) cx.ty storage.old }
-        ensures serves { IfSome (slice_get (types_of cx.entry.core.now).funcs cx.entry.ty) (λ t. ServesTyped F.Fn self.now P.reading R.walks R.gives G.seen G.moves (record { ty = cx.entry.ty; func = t; options = cx.entry.options }) cx.entry.core.now storage.old result cx.exit.0.now storage.new) }
+        requires room { HasRoomFor (component_types cx.core.now) cx.ty storage.old }
+        ensures serves { IfSome (slice_get (component_types cx.entry.core.now).funcs cx.entry.ty)
+            (λ t. ServesTyped F.Fn self.now P.reading R.walks R.gives G.seen G.moves (record { ty = cx.entry.ty; func = t; options = cx.entry.options }) cx.entry.core.now storage.old result cx.exit.0.now storage.new) }
         ensures same { cx.exit.0.now ≡ record cx.entry.core.now { state = cx.exit.0.now.state; guest = cx.exit.0.now.guest; memory = cx.exit.0.now.memory; ledger = cx.exit.0.now.ledger } }
     {
         let HostCx { core, ty, options } = cx;
@@ -91,7 +92,7 @@ impl<F, P: ComponentNamedList + Lift, R: ComponentNamedList + Lower> HostFunc<
         requires { HasFunc types.now.types ty }
         ensures passed { OnOk result (IfSome (slice_get types.now.types.funcs ty) (λ t. t.async_ ≡ false)) }
         ensures fits { OnOk result (FitsFunc P.fits R.fits types.now ty) }
-        ensures refused { OnErr result (IfSome (slice_get types.now.types.funcs ty) (λ t. t.async_ ≡ false → AreTyped P.fits R.fits types.now t → ⊥)) }
+        ensures refused { OnErr result (IfSome (slice_get types.now.types.funcs ty) (λ t. t.async_ ≡ false → FitRustTypes P.fits R.fits types.now t → ⊥)) }
     {
         let func = *types.types().func(ty);
         if func.async_ {

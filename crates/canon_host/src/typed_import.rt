@@ -3,7 +3,7 @@
 ghost use Rattle.std.specs.Prelude.{◌≡◌, ◌≤◌, IfSome, None, false, slice_get};
 ghost use Rattle.canon_types.specs.Table.{HasFunc};
 ghost use Rattle.canon_context.specs.Component.{HasOptions};
-ghost use Rattle.canon_context.specs.Core.{types_of};
+ghost use Rattle.canon_context.specs.Core.{component_types};
 ghost use Rattle.canon_context.specs.Host.{StaticKeeps};
 ghost use Rattle.canon_host.specs.Asked.{HasRoomFor};
 ghost use Rattle.canon_host.specs.Forms.{MayGive, rust_types};
@@ -33,16 +33,16 @@ pub fn serve_typed_import<
     storage: &mut [ValRaw],
 ) -> Result<(), HostError>
     requires ready { StaticKeeps F.Fn func.now }
-    requires func { HasFunc (types_of cx.core.now) cx.ty }
+    requires func { HasFunc (component_types cx.core.now) cx.ty }
     requires options { HasOptions cx.core.now.component cx.options }
-    requires room { HasRoomFor (types_of cx.core.now) cx.ty storage.old }
+    requires room { HasRoomFor (component_types cx.core.now) cx.ty storage.old }
     ensures refusals { refusals.old ≤ refusals.new }
     ensures counts { CountsOnce result refusals.old refusals.new }
-    ensures serves { IfSome (slice_get (types_of cx.entry.core.now).funcs cx.entry.ty)
+    ensures serves { IfSome (slice_get (component_types cx.entry.core.now).funcs cx.entry.ty)
         (λ t. ServesTypes (rust_types P.fits R.fits P.reading P.is_told P.lifts P.cost R.means R.walks R.gives) (MayGive F.Fn func.now) None
         G.seen G.moves (record { ty = cx.entry.ty; func = t; options = cx.entry.options }) None refusals.old refusals.new cx.entry.core.now
         storage.old result cx.exit.0.now storage.new) }
-    ensures served { IfSome (slice_get (types_of cx.entry.core.now).funcs cx.entry.ty)
+    ensures served { IfSome (slice_get (component_types cx.entry.core.now).funcs cx.entry.ty)
         (λ t. ServedByTyped F.Fn func.now (rust_types P.fits R.fits P.reading P.is_told P.lifts P.cost R.means R.walks R.gives) G.seen G.moves
         (record { ty = cx.entry.ty; func = t; options = cx.entry.options }) cx.entry.core.now storage.old result cx.exit.0.now storage.new) }
     ensures same { cx.exit.0.now ≡ record cx.entry.core.now { state = cx.exit.0.now.state; guest = cx.exit.0.now.guest; memory = cx.exit.0.now.memory; ledger = cx.exit.0.now.ledger } }
@@ -76,16 +76,16 @@ fn serve_fitting<
     requires ready { StaticKeeps F.Fn func.now }
     requires sync { IfSome (slice_get cx.core.now.component.types.types.funcs cx.ty) (λ t. t.async_ ≡ false) }
     requires fits { FitsFunc P.fits R.fits cx.core.now.component.types cx.ty }
-    requires func { HasFunc (types_of cx.core.now) cx.ty }
+    requires func { HasFunc (component_types cx.core.now) cx.ty }
     requires options { HasOptions cx.core.now.component cx.options }
-    requires room { HasRoomFor (types_of cx.core.now) cx.ty storage.old }
+    requires room { HasRoomFor (component_types cx.core.now) cx.ty storage.old }
     ensures refusals { refusals.old ≤ refusals.new }
     ensures counts { CountsOnce result refusals.old refusals.new }
-    ensures serves { IfSome (slice_get (types_of cx.entry.core.now).funcs cx.entry.ty)
+    ensures serves { IfSome (slice_get (component_types cx.entry.core.now).funcs cx.entry.ty)
         (λ t. ServesTypes (rust_types P.fits R.fits P.reading P.is_told P.lifts P.cost R.means R.walks R.gives) (MayGive F.Fn func.now) None
         G.seen G.moves (record { ty = cx.entry.ty; func = t; options = cx.entry.options }) None refusals.old refusals.new cx.entry.core.now
         storage.old result cx.exit.0.now storage.new) }
-    ensures served { IfSome (slice_get (types_of cx.entry.core.now).funcs cx.entry.ty)
+    ensures served { IfSome (slice_get (component_types cx.entry.core.now).funcs cx.entry.ty)
         (λ t. ServedByTyped F.Fn func.now (rust_types P.fits R.fits P.reading P.is_told P.lifts P.cost R.means R.walks R.gives) G.seen G.moves
         (record { ty = cx.entry.ty; func = t; options = cx.entry.options }) cx.entry.core.now storage.old result cx.exit.0.now storage.new) }
     ensures same { cx.exit.0.now ≡ record cx.entry.core.now { state = cx.exit.0.now.state; guest = cx.exit.0.now.guest; memory = cx.exit.0.now.memory; ledger = cx.exit.0.now.ledger } }

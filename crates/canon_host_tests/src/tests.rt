@@ -2,7 +2,7 @@
 
 ghost use Rattle.std.specs.Prelude.{◌≡◌, IfSome, length};
 ghost use Rattle.canon_types.specs.Table.{HasFunc};
-ghost use Rattle.canon_context.specs.Core.{types_of};
+ghost use Rattle.canon_context.specs.Core.{component_types};
 
 mod functions;
 mod views;
@@ -19,7 +19,7 @@ use canon_value::Core;
 use std::alloc::Global;
 
 /// The types of a function, and the function's. The first tuple has six `u16`, the first resources are of the host's type 7.
-fn types_of(
+fn component_types(
     alloc: Global,
     params: &[InterfaceType],
     results: &[InterfaceType],
@@ -50,7 +50,7 @@ fn core_with(
     ensures options { IfSome result (λ r. length r.0.component.options.items ≡ 1) }
 {
     let memory = memory_of(alloc, bytes).ok()?;
-    let (types, ty) = types_of(alloc, params, results, false)?;
+    let (types, ty) = component_types(alloc, params, results, false)?;
     let core = core_of(alloc, StringEncoding::Utf8, types, memory).ok()?;
     Some((core, ty))
 }
@@ -79,7 +79,7 @@ fn ask<G: Guest, H: HostFn<u32, G>>(
 ) -> Option<(Result<H::Log, HostError>, Left)>
     requires ready { H.ready func.now }
     requires fits { H.fits func.now core.old.component.types ty }
-    requires func { HasFunc (types_of core.old) ty }
+    requires func { HasFunc (component_types core.old) ty }
     requires options { length core.old.component.options.items ≡ 1 }
 {
     let mut storage = storage_for(alloc, core.component().types.types(), ty, words).ok()?;

@@ -10,7 +10,7 @@ ghost use Rattle.canon_plan.specs.NoHandle.{HaveNoHandle, HasNoHandle};
 ghost use Rattle.canon_plan.specs.Element.{IsKnown, IsMap, list_shape};
 ghost use Rattle.canon_value_parts.specs.Elements.{element_in, list_value};
 ghost use Rattle.canon_value_parts.specs.Flags.{IsFlagsType, flag_names};
-ghost use Rattle.canon_value_parts.specs.View.{AreFew, AreKnown, names_of, shapes_of, values_of};
+ghost use Rattle.canon_value_parts.specs.View.{AreFew, HaveKnownTypes, names_of, shapes_of, values_of};
 ghost use Rattle.canon_value_parts.specs.Viewed.{IsCaseSeen};
 ghost use Rattle.canon_value_parts.specs.Words.{IsWordOf};
 ghost use Rattle.canon_val.specs.declared.val.Val.TheVariants as val;
@@ -97,7 +97,7 @@ fn write_parts(
     first: u64,
     bytes: &mut Vec<u8>,
 ) -> Result<u64, Fault>
-    requires known { AreKnown types.now members.now }
+    requires known { HaveKnownTypes types.now members.now }
     requires no_handle { HaveNoHandle (shapes_of types.now members.now) }
     requires count { length (values_of members.now) ≡ member_count (shapes_of types.now members.now) }
     ensures writes { PartsWriteTo bytes.old.items bytes.new.items place (shapes_of types.now members.now) (names_of members.now) (values_of members.now) first result }

@@ -3,7 +3,7 @@
 ghost use Rattle.std.specs.Prelude.{◌≡◌, ◌⊎◌, ◌↔◌, ◌≤◌, ◌<◌, ◌^◌, [], List, ℕ, None, IfErr, IfOk, Err, length, string_bytes};
 ghost use Rattle.std.specs.Io.KnownBytes.{Appends};
 ghost use Rattle.canon_memory.specs.Counts.{Rose};
-ghost use Rattle.canon_cli.specs.Program.{AnswersInput, IsRefusal, IsStatus, IsTask, OnTold, ReadsNoJson, ReadsNoTask, ReadsTooMuch, max_input};
+ghost use Rattle.canon_cli.specs.Program.{AnswersInput, IsRefusedStatus, IsStatus, IsTask, OnTold, ReadsNoJson, ReadsNoTask, ReadsTooMuch, max_input};
 ghost use Rattle.canon_cli.specs.Streams.{AppendsPrefix, TakesAtMost};
 ghost use Rattle.canon_image_cli.specs.Program.{IsAnswered};
 ghost use Rattle.canon_image_cli.specs.Task.{image_task_of};
@@ -35,7 +35,7 @@ pub fn image_run<S: Source, K: Sink>(
     // The others, each with its cause but 5, leave the sink as it was. 3 and 4 come exactly where the source or the sink
     // failed: at every other status their counts of faults stand still.
     ensures memory { result ≡ Status.MEMORY → sink.new ≡ sink.old }
-    ensures refused { IsRefusal result → sink.new ≡ sink.old }
+    ensures refused { IsRefusedStatus result → sink.new ≡ sink.old }
     ensures read_fault { result ≡ Status.READ_FAULT → Rose (S.faults source.old) (S.faults source.new) }
     ensures no_read_fault { ¬ (result ≡ Status.READ_FAULT) → S.faults source.new ≡ S.faults source.old }
     ensures no_write_fault { ¬ (result ≡ Status.WRITE_FAULT) → K.faults sink.new ≡ K.faults sink.old }
@@ -68,7 +68,7 @@ fn answer_input<S: Source, K: Sink>(alloc: Global, source: &mut S, sink: &mut K)
         × IsAnswered (S.left source.old) (S.left source.new) line × AppendsPrefix (K.taken sink.old) (K.taken sink.new) line
         × Rose (K.faults sink.old) (K.faults sink.new) }
     ensures memory { result ≡ Status.MEMORY → sink.new ≡ sink.old }
-    ensures refused { IsRefusal result → sink.new ≡ sink.old }
+    ensures refused { IsRefusedStatus result → sink.new ≡ sink.old }
     ensures read_fault { result ≡ Status.READ_FAULT → Rose (S.faults source.old) (S.faults source.new) }
     ensures no_read_fault { ¬ (result ≡ Status.READ_FAULT) → S.faults source.new ≡ S.faults source.old }
     ensures no_write_fault { ¬ (result ≡ Status.WRITE_FAULT) → K.faults sink.new ≡ K.faults sink.old }

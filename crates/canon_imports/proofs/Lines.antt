@@ -2,7 +2,7 @@
 use Rattle.std.proofs.Common.{List, Option, Some, [], Vec, ap, refl, ◌++◌, ◌∙◌, ◌∷◌, ◌≡◌, ℕ}
 use Rattle.std.specs.declared.alloc.Global.{Global}
 use Rattle.canon_val.specs.declared.val.Val.{Val}
-use Rattle.canon_host.specs.HostSide.{Entry}
+use Rattle.canon_host.specs.HostSide.{LoggedEntry}
 use Rattle.canon_host.specs.Imports.{logged}
 use Rattle.canon_script.specs.Imports.{HostAnswer, answers_view}
 use Rattle.canon_imports.specs.Imports.{answer_next, entries_of, line_entry}
@@ -12,7 +12,7 @@ entries_more : (lines : List Line) (l : Line) → entries_of (lines ++ l ∷ [])
 entries_more [] l = refl
 entries_more (k ∷ lines) l = ap (λ es. line_entry k ∷ es) (entries_more lines l)
 
-abbrev pub log_of : List Line → Option (List Entry)
+abbrev pub log_of : List Line → Option (List LoggedEntry)
 log_of lines = Some (entries_of lines)
 
 -- the log of the same lines, and of one more

@@ -3,12 +3,12 @@
 ghost use Rattle.std.specs.Prelude.{◌≡◌, [], IfSome, List, Some, slice_get, ℕ};
 ghost use Rattle.canon_types.specs.Table.{HasFunc};
 ghost use Rattle.canon_context.specs.Component.{HasOptions};
-ghost use Rattle.canon_context.specs.Core.{types_of};
+ghost use Rattle.canon_context.specs.Core.{component_types};
 ghost use Rattle.canon_host.specs.Asked.{HasRoomFor};
 ghost use Rattle.canon_context.specs.Host.{Keeps};
-ghost use Rattle.canon_host.specs.HostSide.{Entry, outcome};
+ghost use Rattle.canon_host.specs.HostSide.{LoggedEntry, outcome};
 ghost use Rattle.canon_host.specs.Imports.{GivesOnly, ServesWith};
-ghost use Rattle.canon_host.specs.Serves.{InRow};
+ghost use Rattle.canon_host.specs.Serves.{AnswersInRow};
 ghost use Rattle.canon_script.specs.Imports.{HostAnswer, answers_view};
 ghost use Rattle.canon_imports.specs.Imports.{GivesAnswer, GivesAnswers, IsAnsweredBy, answer_next, answer_told, entries_of, times};
 
@@ -119,11 +119,12 @@ fn answer_with<
 ) -> Result<Vec<Val>, HostError>
     requires keeps { Keeps F.Fn func.now }
     requires gives { GivesOnly F.Fn func.now (GivesAnswer (answer_told answer)) }
-    requires func { HasFunc (types_of cx.core.now) cx.ty }
+    requires func { HasFunc (component_types cx.core.now) cx.ty }
     requires options { HasOptions cx.core.now.component cx.options }
-    requires room { HasRoomFor (types_of cx.core.now) cx.ty storage.old }
-    ensures serves { (answers : List (List HostAnswer)) (log : List Entry) (n : ℕ) → answer_told answer.entry ≡ answer_next answers log n
-        → IfSome (slice_get (types_of cx.entry.core.now).funcs cx.entry.ty) (λ t. InRow (λ told. ServesWith (GivesAnswers answers) (Some log) n G.seen G.moves (record { ty = cx.entry.ty; func = t; options = cx.entry.options }) cx.entry.core.now storage.old told cx.exit.0.now storage.new) result) }
+    requires room { HasRoomFor (component_types cx.core.now) cx.ty storage.old }
+    ensures serves { (answers : List (List HostAnswer)) (log : List LoggedEntry) (n : ℕ) → answer_told answer.entry ≡ answer_next answers log n
+        → IfSome (slice_get (component_types cx.entry.core.now).funcs cx.entry.ty)
+        (λ t. AnswersInRow (λ told. ServesWith (GivesAnswers answers) (Some log) n G.seen G.moves (record { ty = cx.entry.ty; func = t; options = cx.entry.options }) cx.entry.core.now storage.old told cx.exit.0.now storage.new) result) }
     ensures same { cx.exit.0.now ≡ record cx.entry.core.now { state = cx.exit.0.now.state; guest = cx.exit.0.now.guest; memory = cx.exit.0.now.memory; ledger = cx.exit.0.now.ledger } }
 {
     func.entrypoint(alloc, cx, storage)
@@ -136,11 +137,12 @@ fn answer_by<T, G: Guest>(
     cx: HostCx<'_, T, G>,
     storage: &mut [ValRaw],
 ) -> Result<Vec<Val>, HostError>
-    requires func { HasFunc (types_of cx.core.now) cx.ty }
+    requires func { HasFunc (component_types cx.core.now) cx.ty }
     requires options { HasOptions cx.core.now.component cx.options }
-    requires room { HasRoomFor (types_of cx.core.now) cx.ty storage.old }
-    ensures serves { (answers : List (List HostAnswer)) (log : List Entry) (n : ℕ) → answer_told answer.entry ≡ answer_next answers log n
-        → IfSome (slice_get (types_of cx.entry.core.now).funcs cx.entry.ty) (λ t. InRow (λ told. ServesWith (GivesAnswers answers) (Some log) n G.seen G.moves (record { ty = cx.entry.ty; func = t; options = cx.entry.options }) cx.entry.core.now storage.old told cx.exit.0.now storage.new) result) }
+    requires room { HasRoomFor (component_types cx.core.now) cx.ty storage.old }
+    ensures serves { (answers : List (List HostAnswer)) (log : List LoggedEntry) (n : ℕ) → answer_told answer.entry ≡ answer_next answers log n
+        → IfSome (slice_get (component_types cx.entry.core.now).funcs cx.entry.ty)
+        (λ t. AnswersInRow (λ told. ServesWith (GivesAnswers answers) (Some log) n G.seen G.moves (record { ty = cx.entry.ty; func = t; options = cx.entry.options }) cx.entry.core.now storage.old told cx.exit.0.now storage.new) result) }
     ensures same { cx.exit.0.now ≡ record cx.entry.core.now { state = cx.exit.0.now.state; guest = cx.exit.0.now.guest; memory = cx.exit.0.now.memory; ledger = cx.exit.0.now.ledger } }
 {
     let func = HostFunc::func_new(move |_view: &mut HostView<
@@ -157,7 +159,7 @@ impl<T, G: Guest> Imports<T, G> for ScriptedImports {
     ghost use Rattle.std.specs.Prelude.{◌≡◌, ◌≤◌, IfSome, Some, slice_get};
     ghost use Rattle.canon_types.specs.Table.{HasFunc};
     ghost use Rattle.canon_context.specs.Component.{HasOptions};
-    ghost use Rattle.canon_context.specs.Core.{types_of};
+    ghost use Rattle.canon_context.specs.Core.{component_types};
     ghost use Rattle.canon_host.specs.Asked.{HasRoomFor};
     ghost use Rattle.canon_host.specs.Imports.{ServesImport};
     ghost use Rattle.canon_script.specs.Imports.{answers_view};
@@ -183,13 +185,13 @@ impl<T, G: Guest> Imports<T, G> for ScriptedImports {
         storage: &mut [ValRaw],
     ) -> Result<(), HostError>
         requires ready { Unit {0} }
-        requires func { HasFunc (types_of cx.core.now) cx.ty }
+        requires func { HasFunc (component_types cx.core.now) cx.ty }
         requires options { HasOptions cx.core.now.component cx.options }
-        requires room { HasRoomFor (types_of cx.core.now) cx.ty storage.old }
+        requires room { HasRoomFor (component_types cx.core.now) cx.ty storage.old }
         ensures still_ready { Unit {0} }
         ensures plan { self.new.answers ≡ self.old.answers }
         ensures refusals { self.old.refusals ≤ self.new.refusals }
-        ensures serves { IfSome (slice_get (types_of cx.entry.core.now).funcs cx.entry.ty)
+        ensures serves { IfSome (slice_get (component_types cx.entry.core.now).funcs cx.entry.ty)
             (λ t. ServesImport (GivesAnswers (answers_view self.old.answers.items)) (Some (entries_of self.old.lines.items)) n G.seen G.moves
             (record { ty = cx.entry.ty; func = t; options = cx.entry.options }) (Some (entries_of self.new.lines.items)) self.old.refusals
             self.new.refusals cx.entry.core.now storage.old result cx.exit.0.now storage.new) }

@@ -3,7 +3,7 @@ use Rattle.std.proofs.Common.{◌≡◌, ◌+◌, ◌*◌, ◌%◌, ◌==◌, �
 use Rattle.std.proofs.lemmas.Bool.{and_from, cond-true}
 use Rattle.std.specs.HashMap.{HashMap}
 use Rattle.std.specs.declared.alloc.Global.{Global}
-use Rattle.canon_context.specs.Core.{Parts, types_of}
+use Rattle.canon_context.specs.Core.{Parts, component_types}
 use Rattle.canon_context.specs.declared.fault.Fault.{Fault}
 use Rattle.canon_leaves.specs.Parts.{LeavesStop, Part}
 use Rattle.canon_ledger.specs.Ledger.{LedgerState}
@@ -93,12 +93,12 @@ module _ {D G A : Type 0} (bytes : ℕ) (R : Reading A) (Fit : Instance → Inte
         (λ stops. subst (λ (ps : List (List Part)). LeavesStop (stop_of e) core.ledger ps after) (sym (steps_are bytes R w at s its_good)) stops) (omega (arith, charged)) h
 
     pub vec_lifts : (now : Parts D G) (o2 : ℕ) (r : Result (Vec A Global) Fault) → now ≡ record core { ledger = now.ledger } → now.ledger ≡ core.ledger → o2 ≡ o
-        → Lifts (vec_reading v.count R) (setting_in now o2) (stored v.pointer) (shape_of (types_of now) v.element) now.ledger mid r after left → Lifts (read_as (λ x. x.items) (list_reading bytes R)) w at s core.ledger fuel r after left
+        → Lifts (vec_reading v.count R) (setting_in now o2) (stored v.pointer) (shape_of (component_types now) v.element) now.ledger mid r after left → Lifts (read_as (λ x. x.items) (list_reading bytes R)) w at s core.ledger fuel r after left
     vec_lifts now o2 r same kept eo h =
         of_items_read r
         (subst (λ (z : Shape). Lifts (vec_reading (length_in w.memory at) R) w (stored (pointer_in w.memory at)) z core.ledger mid r after left) there.shape
         (subst (λ k. Lifts (vec_reading (length_in w.memory at) R) w (stored k) (shape_of w.types.types v.element) core.ledger mid r after left) there.pointer
         (subst (λ k. Lifts (vec_reading k R) w (stored v.pointer) (shape_of w.types.types v.element) core.ledger mid r after left) there.count
         (subst (λ (l : LedgerState). Lifts (vec_reading v.count R) w (stored v.pointer) (shape_of w.types.types v.element) l mid r after left) kept
-        (subst (λ n. Lifts (vec_reading v.count R) (setting_in core n) (stored v.pointer) (shape_of (types_of core) v.element) now.ledger mid r after left) eo
-        (subst (λ (z : Parts D G). Lifts (vec_reading v.count R) (setting_in z o2) (stored v.pointer) (shape_of (types_of z) v.element) now.ledger mid r after left) same h))))))
+        (subst (λ n. Lifts (vec_reading v.count R) (setting_in core n) (stored v.pointer) (shape_of (component_types core) v.element) now.ledger mid r after left) eo
+        (subst (λ (z : Parts D G). Lifts (vec_reading v.count R) (setting_in z o2) (stored v.pointer) (shape_of (component_types z) v.element) now.ledger mid r after left) same h))))))

@@ -1,6 +1,6 @@
 -- Values of one type in a row, lifted one after another.
 use Rattle.std.proofs.Common.{◌≡◌, ◌<◌, ◌+◌, ◌-◌, ◌*◌, ◌++◌, ◌∙◌, List, None, [], ◌∷◌, ap, append_assoc, arith, false, length, refl, Result, subst, suc, suc-mul, sym, zero, ℕ}
-use Rattle.canon_context.specs.Core.{Parts, types_of}
+use Rattle.canon_context.specs.Core.{Parts, component_types}
 use Rattle.canon_context.specs.declared.fault.At.{At as Place}
 use Rattle.canon_context.specs.declared.fault.Fault.{Fault}
 use Rattle.canon_context.specs.declared.fault.Fault.TheVariants as fault
@@ -120,16 +120,16 @@ module _ {D G A : Type 0} (R : Reading A) (core : Parts D G) (o : ℕ) (type : I
   w = setting_in core o
 
   abbrev s : Shape
-  s = shape_of (types_of core) type
+  s = shape_of (component_types core) type
 
   -- what lifting an item answered, where only the ledger changed
   pub item_lifts : (now : Parts D G) (o2 p k step at : ℕ) (before after : LedgerState) (fuel left : ℕ) (r : Result A Fault) → now ≡ record core { ledger = now.ledger } → o2 ≡ o → step ≡ size false s → at ≡ p + k * step
-      → Lifts R (setting_in now o2) (stored at) (shape_of (types_of now) type) before fuel r after left → Lifts R w (item_spot w.memory s (stored p) k) s before fuel r after left
+      → Lifts R (setting_in now o2) (stored at) (shape_of (component_types now) type) before fuel r after left → Lifts R w (item_spot w.memory s (stored p) k) s before fuel r after left
   item_lifts now o2 p k step at before after fuel left r same eo es place h =
       let there : stored at ≡ item_spot w.memory s (stored p) k = ap stored (place ∙ ap (λ n. p + k * n) es) in
       subst (λ x. Lifts R w x s before fuel r after left) there
       (subst (λ (z : Shape). Lifts R w (stored at) z before fuel r after left) (same_shape core now same type)
-      (subst (λ (v : Setting). Lifts R v (stored at) (shape_of (types_of now) type) before fuel r after left) (same_setting core now same o o2 eo) h))
+      (subst (λ (v : Setting). Lifts R v (stored at) (shape_of (component_types now) type) before fuel r after left) (same_setting core now same o o2 eo) h))
 
 -- ---- a row that was made of its parts
 
@@ -156,12 +156,12 @@ module _ {D G A : Type 0} (R : Reading A) (core : Parts D G) (o : ℕ) (type : I
   in_words = setting_in core o
 
   -- what lifting an item answered, where only the ledger changed
-  pub word_lifts : (now : Parts D G) (o2 p k step at : ℕ) (before after : LedgerState) (fuel left : ℕ) (r : Result A Fault) → now ≡ record core { ledger = now.ledger } → o2 ≡ o → step ≡ flat (shape_of (types_of core) type) → at ≡ p + k * step
-      → Lifts R (setting_in now o2) (flat_in ws at) (shape_of (types_of now) type) before fuel r after left
-      → Lifts R in_words (item_spot in_words.memory (shape_of (types_of core) type) (flat_in ws p) k) (shape_of (types_of core) type) before fuel r after left
+  pub word_lifts : (now : Parts D G) (o2 p k step at : ℕ) (before after : LedgerState) (fuel left : ℕ) (r : Result A Fault) → now ≡ record core { ledger = now.ledger } → o2 ≡ o → step ≡ flat (shape_of (component_types core) type) → at ≡ p + k * step
+      → Lifts R (setting_in now o2) (flat_in ws at) (shape_of (component_types now) type) before fuel r after left
+      → Lifts R in_words (item_spot in_words.memory (shape_of (component_types core) type) (flat_in ws p) k) (shape_of (component_types core) type) before fuel r after left
   word_lifts now o2 p k step at before after fuel left r same eo es place h =
-      let one : Shape = shape_of (types_of core) type in
+      let one : Shape = shape_of (component_types core) type in
       let there : flat_in ws at ≡ item_spot in_words.memory one (flat_in ws p) k = ap (λ n. flat_in ws n) (place ∙ ap (λ n. p + k * n) es) in
       subst (λ x. Lifts R in_words x one before fuel r after left) there
       (subst (λ (z : Shape). Lifts R in_words (flat_in ws at) z before fuel r after left) (same_shape core now same type)
-      (subst (λ (v : Setting). Lifts R v (flat_in ws at) (shape_of (types_of now) type) before fuel r after left) (same_setting core now same o o2 eo) h))
+      (subst (λ (v : Setting). Lifts R v (flat_in ws at) (shape_of (component_types now) type) before fuel r after left) (same_setting core now same o o2 eo) h))

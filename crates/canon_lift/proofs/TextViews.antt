@@ -10,7 +10,7 @@ use Rattle.canon_model.specs.Text.{Encoding, text_bytes}
 use Rattle.canon_string.proofs.TextLoading.{read_there}
 use Rattle.canon_text.specs.declared.cow.CowStr.{CowStr}
 use Rattle.canon_indices.specs.declared.options.CanonicalOptions.{CanonicalOptions}
-use Rattle.canon_lift.specs.Views.{IsTextOf, TextLost, text_in}
+use Rattle.canon_lift.specs.Views.{IsDecodedText, TextLost, text_in}
 use Rattle.canon_lift.specs.declared.wasm_str.WasmStr.{WasmStr}
 
 module _ (view : MemoryView) (v : WasmStr) (o : CanonicalOptions) (is : slice_get view.component.now.options.items v.options ≡ Some o) (memory : List ℕ) (same : memory ≡ view.bytes.now) (n : ℕ) (count : n ≡ text_bytes (encoding_of o.string_encoding) v.count) where
@@ -21,9 +21,9 @@ module _ (view : MemoryView) (v : WasmStr) (o : CanonicalOptions) (is : slice_ge
   bytes_here = ap (λ ms. take (v.pointer + n - v.pointer) (drop v.pointer ms)) same ∙ read_there view.bytes.now v.pointer n
       ∙ ap (bytes_at (narrow view.bytes.now) v.pointer) (count ∙ ap (λ e. text_bytes e v.count) encoding_here)
 
-  pub text_here : (r : Result CowStr Fault) → IfOk r (IsTextOf (encoding_of o.string_encoding) v.count (take (v.pointer + n - v.pointer) (drop v.pointer memory)))
-      → IfOk r (IsTextOf (encoding_at view.component.now v.options) v.count (text_in view v))
-  text_here r h = subst₂ (λ (e : Encoding) (xs : List ℕ). IfOk r (IsTextOf e v.count xs)) encoding_here bytes_here h
+  pub text_here : (r : Result CowStr Fault) → IfOk r (IsDecodedText (encoding_of o.string_encoding) v.count (take (v.pointer + n - v.pointer) (drop v.pointer memory)))
+      → IfOk r (IsDecodedText (encoding_at view.component.now v.options) v.count (text_in view v))
+  text_here r h = subst₂ (λ (e : Encoding) (xs : List ℕ). IfOk r (IsDecodedText e v.count xs)) encoding_here bytes_here h
 
   pub lost_here : (r : Result CowStr Fault) → IfErr r (TextLost (encoding_of o.string_encoding) v.count (take (v.pointer + n - v.pointer) (drop v.pointer memory)) v.at)
       → IfErr r (TextLost (encoding_at view.component.now v.options) v.count (text_in view v) v.at)

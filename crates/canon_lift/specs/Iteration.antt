@@ -1,6 +1,6 @@
 -- What an iterator over a list that stays in memory gives.
 use Rattle.std.specs.Prelude.{◌≡◌, ◌+◌, ◌-◌, ◌<◌, ◌≤◌, None, Option, Result, Some, ℕ}
-use Rattle.canon_context.specs.Core.{SameButLedger, types_of}
+use Rattle.canon_context.specs.Core.{SameButLedger, component_types}
 use Rattle.canon_context.specs.declared.fault.Fault.{Fault}
 use Rattle.canon_lowering.specs.Storing.{narrow}
 use Rattle.canon_types.specs.Table.{shape_of}
@@ -18,8 +18,8 @@ module _ {A D G : Type 0} (R : Reading A) where
   pub record GivesItem (s : WasmListIter A D G) (r : Result A Fault) (t : WasmListIter A D G) : Type 0 where
     pub some : s.index < s.list.now.count
     pub item : (left : ℕ) × Lifts R (setting_in s.core.now s.list.now.options)
-        (item_spot (narrow s.core.now.memory) (shape_of (types_of s.core.now) s.list.now.element) (stored s.list.now.pointer) s.index)
-        (shape_of (types_of s.core.now) s.list.now.element) s.core.now.ledger s.core.now.fuel r t.core.now.ledger left
+        (item_spot (narrow s.core.now.memory) (shape_of (component_types s.core.now) s.list.now.element) (stored s.list.now.pointer) s.index)
+        (shape_of (component_types s.core.now) s.list.now.element) s.core.now.ledger s.core.now.fuel r t.core.now.ledger left
     pub index : t.index ≡ s.index + 1
     pub list : t.list ≡ s.list
     pub core : SameButLedger s.core.now t.core.now

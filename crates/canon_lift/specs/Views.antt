@@ -36,7 +36,7 @@ IsBorrowable utf8 n bytes = ⊤
 IsBorrowable utf16 n bytes = ⊥
 IsBorrowable compact n bytes = (n < 2 ^ 31) × IsAscii bytes
 
-pub record IsTextOf (enc : Encoding) (n : ℕ) (bytes : List ℕ) (t : CowStr) : Type 0 where
+pub record IsDecodedText (enc : Encoding) (n : ℕ) (bytes : List ℕ) (t : CowStr) : Type 0 where
   pub decodes : Decodes (text_form enc n) bytes (cow_text t)
   pub borrowed : IsTrue (is_borrowed t) ↔ IsBorrowable enc n bytes
 

@@ -1,7 +1,7 @@
 //! Options, results and boxes.
 
 ghost use Rattle.std.specs.Prelude.{◌≡◌, ◌≤◌, ◌+◌, ◌%◌, ◌&&◌, false, length};
-ghost use Rattle.canon_context.specs.Core.{types_of};
+ghost use Rattle.canon_context.specs.Core.{component_types};
 ghost use Rattle.canon_reading.specs.Scopes.{boxed_kept, option_kept, result_kept};
 ghost use Rattle.canon_model.specs.Layout.{align, flat, payload_shape, size};
 ghost use Rattle.canon_model.specs.Shape.{case_for, no_cases};
@@ -93,11 +93,11 @@ fn lift_payload<T: Lift, U, G>(
     ty: Option<InterfaceType>,
     at: u64,
 ) -> Result<T, Fault>
-    requires known { KnowsPayload (types_of cx.old.core.now) ty }
+    requires known { KnowsPayload (component_types cx.old.core.now) ty }
     requires fits { IsPayloadOf T.is_unit T.fits cx.old.core.now.component.types ty }
-    requires aligned { at % align false (payload_shape (case_for (payload_in (all_shapes (types_of cx.old.core.now)) ty) no_cases) 0) ≡ 0 }
-    requires inside { at + size false (payload_shape (case_for (payload_in (all_shapes (types_of cx.old.core.now)) ty) no_cases) 0) ≤ length cx.old.core.now.memory }
-    ensures lifts { Lifts (payload_reading T.is_unit T.reading) (setting_in cx.old.core.now cx.old.options) (stored at) (payload_shape (case_for (payload_in (all_shapes (types_of cx.old.core.now)) ty) no_cases) 0)
+    requires aligned { at % align false (payload_shape (case_for (payload_in (all_shapes (component_types cx.old.core.now)) ty) no_cases) 0) ≡ 0 }
+    requires inside { at + size false (payload_shape (case_for (payload_in (all_shapes (component_types cx.old.core.now)) ty) no_cases) 0) ≤ length cx.old.core.now.memory }
+    ensures lifts { Lifts (payload_reading T.is_unit T.reading) (setting_in cx.old.core.now cx.old.options) (stored at) (payload_shape (case_for (payload_in (all_shapes (component_types cx.old.core.now)) ty) no_cases) 0)
         cx.old.core.now.ledger cx.old.fuel result cx.new.core.now.ledger cx.new.fuel }
     ensures same_core { cx.new.core.now ≡ record cx.old.core.now { ledger = cx.new.core.now.ledger } }
     ensures same_reference { cx.new.core.ghost_name ≡ cx.old.core.ghost_name }
@@ -120,10 +120,10 @@ fn lift_payload_words<T: Lift, U, G>(
     src: &[ValRaw],
     at: usize,
 ) -> Result<T, Fault>
-    requires known { KnowsPayload (types_of cx.old.core.now) ty }
+    requires known { KnowsPayload (component_types cx.old.core.now) ty }
     requires fits { IsPayloadOf T.is_unit T.fits cx.old.core.now.component.types ty }
-    requires words { at + flat (payload_shape (case_for (payload_in (all_shapes (types_of cx.old.core.now)) ty) no_cases) 0) ≤ length src.now }
-    ensures lifts { Lifts (payload_reading T.is_unit T.reading) (setting_in cx.old.core.now cx.old.options) (flat_in src.now at) (payload_shape (case_for (payload_in (all_shapes (types_of cx.old.core.now)) ty) no_cases) 0)
+    requires words { at + flat (payload_shape (case_for (payload_in (all_shapes (component_types cx.old.core.now)) ty) no_cases) 0) ≤ length src.now }
+    ensures lifts { Lifts (payload_reading T.is_unit T.reading) (setting_in cx.old.core.now cx.old.options) (flat_in src.now at) (payload_shape (case_for (payload_in (all_shapes (component_types cx.old.core.now)) ty) no_cases) 0)
         cx.old.core.now.ledger cx.old.fuel result cx.new.core.now.ledger cx.new.fuel }
     ensures same_core { cx.new.core.now ≡ record cx.old.core.now { ledger = cx.new.core.now.ledger } }
     ensures same_reference { cx.new.core.ghost_name ≡ cx.old.core.ghost_name }

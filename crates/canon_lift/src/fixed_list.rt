@@ -1,7 +1,7 @@
 //! Lists of fixed length.
 
 ghost use Rattle.std.specs.Prelude.{◌≡◌, ◌≤◌, ◌<◌, ◌+◌, ◌*◌, length};
-ghost use Rattle.canon_context.specs.Core.{types_of};
+ghost use Rattle.canon_context.specs.Core.{component_types};
 ghost use Rattle.canon_reading.specs.Scopes.{fixed_kept};
 ghost use Rattle.canon_model.specs.Layout.{flat};
 ghost use Rattle.canon_types.specs.Table.{Knows, shape_of};
@@ -34,11 +34,11 @@ fn lift_row<T: Lift, U, G>(
     at: usize,
     count: usize,
 ) -> Result<Vec<T>, Fault>
-    requires known { Knows (types_of cx.old.core.now) ty }
+    requires known { Knows (component_types cx.old.core.now) ty }
     requires fits { T.fits cx.old.core.now.component.types ty }
     requires some { 0 < count }
-    requires words { at + count * flat (shape_of (types_of cx.old.core.now) ty) ≤ length src.now }
-    ensures lifts { Lifts (vec_reading count T.reading) (setting_in cx.old.core.now cx.old.options) (flat_in src.now at) (shape_of (types_of cx.old.core.now) ty)
+    requires words { at + count * flat (shape_of (component_types cx.old.core.now) ty) ≤ length src.now }
+    ensures lifts { Lifts (vec_reading count T.reading) (setting_in cx.old.core.now cx.old.options) (flat_in src.now at) (shape_of (component_types cx.old.core.now) ty)
         cx.old.core.now.ledger cx.old.fuel result cx.new.core.now.ledger cx.new.fuel }
     ensures same_core { cx.new.core.now ≡ record cx.old.core.now { ledger = cx.new.core.now.ledger } }
     ensures same_reference { cx.new.core.ghost_name ≡ cx.old.core.ghost_name }

@@ -1,7 +1,7 @@
 //! The trait of Rust types that values are lifted to.
 
 ghost use Rattle.std.specs.Prelude.{◌≡◌, ◌≤◌, ◌+◌, ◌%◌, IfErr, IsTrue, MatchOption, false, length, true};
-ghost use Rattle.canon_context.specs.Core.{types_of};
+ghost use Rattle.canon_context.specs.Core.{component_types};
 ghost use Rattle.canon_model.specs.Layout.{align, flat, size};
 ghost use Rattle.canon_types.specs.Table.{Knows, shape_of};
 ghost use Rattle.canon_reading.specs.Apart.{IsApart};
@@ -42,11 +42,11 @@ pub trait Lift: ComponentType {
     ) -> Result<Self, Fault>
     where
         Self: Sized,
-        requires known { Knows (types_of cx.old.core.now) ty }
+        requires known { Knows (component_types cx.old.core.now) ty }
         requires fits { Self.fits cx.old.core.now.component.types ty }
-        requires aligned { at % align false (shape_of (types_of cx.old.core.now) ty) ≡ 0 }
-        requires inside { at + size false (shape_of (types_of cx.old.core.now) ty) ≤ length cx.old.core.now.memory }
-        ensures lifts { Lifts reading (setting_in cx.old.core.now cx.old.options) (stored at) (shape_of (types_of cx.old.core.now) ty) cx.old.core.now.ledger cx.old.fuel result cx.new.core.now.ledger cx.new.fuel }
+        requires aligned { at % align false (shape_of (component_types cx.old.core.now) ty) ≡ 0 }
+        requires inside { at + size false (shape_of (component_types cx.old.core.now) ty) ≤ length cx.old.core.now.memory }
+        ensures lifts { Lifts reading (setting_in cx.old.core.now cx.old.options) (stored at) (shape_of (component_types cx.old.core.now) ty) cx.old.core.now.ledger cx.old.fuel result cx.new.core.now.ledger cx.new.fuel }
         ensures same_core { cx.new.core.now ≡ record cx.old.core.now { ledger = cx.new.core.now.ledger } }
         ensures same_reference { cx.new.core.ghost_name ≡ cx.old.core.ghost_name }
         ensures same_options { cx.new.options ≡ cx.old.options };
@@ -62,10 +62,10 @@ pub trait Lift: ComponentType {
     ) -> Result<Self, Fault>
     where
         Self: Sized,
-        requires known { Knows (types_of cx.old.core.now) ty }
+        requires known { Knows (component_types cx.old.core.now) ty }
         requires fits { Self.fits cx.old.core.now.component.types ty }
-        requires words { at + flat (shape_of (types_of cx.old.core.now) ty) ≤ length src.now }
-        ensures lifts { Lifts reading (setting_in cx.old.core.now cx.old.options) (flat_in src.now at) (shape_of (types_of cx.old.core.now) ty) cx.old.core.now.ledger cx.old.fuel result cx.new.core.now.ledger cx.new.fuel }
+        requires words { at + flat (shape_of (component_types cx.old.core.now) ty) ≤ length src.now }
+        ensures lifts { Lifts reading (setting_in cx.old.core.now cx.old.options) (flat_in src.now at) (shape_of (component_types cx.old.core.now) ty) cx.old.core.now.ledger cx.old.fuel result cx.new.core.now.ledger cx.new.fuel }
         ensures same_core { cx.new.core.now ≡ record cx.old.core.now { ledger = cx.new.core.now.ledger } }
         ensures same_reference { cx.new.core.ghost_name ≡ cx.old.core.ghost_name }
         ensures same_options { cx.new.options ≡ cx.old.options };
@@ -80,10 +80,10 @@ pub trait Lift: ComponentType {
     ) -> Result<Self, Fault>
     where
         Self: Sized,
-        requires known { Knows (types_of cx.old.core.now) ty }
+        requires known { Knows (component_types cx.old.core.now) ty }
         requires fits { Self.fits cx.old.core.now.component.types ty }
-        requires words { at + flat (shape_of (types_of cx.old.core.now) ty) ≤ length src.now }
-        ensures lifts { Lifts reading (setting_in cx.old.core.now cx.old.options) (flat_in src.now at) (shape_of (types_of cx.old.core.now) ty) cx.old.core.now.ledger cx.old.fuel result cx.new.core.now.ledger cx.new.fuel }
+        requires words { at + flat (shape_of (component_types cx.old.core.now) ty) ≤ length src.now }
+        ensures lifts { Lifts reading (setting_in cx.old.core.now cx.old.options) (flat_in src.now at) (shape_of (component_types cx.old.core.now) ty) cx.old.core.now.ledger cx.old.fuel result cx.new.core.now.ledger cx.new.fuel }
         ensures same_core { cx.new.core.now ≡ record cx.old.core.now { ledger = cx.new.core.now.ledger } }
         ensures same_reference { cx.new.core.ghost_name ≡ cx.old.core.ghost_name }
         ensures same_options { cx.new.options ≡ cx.old.options }
@@ -100,7 +100,7 @@ pub trait Lift: ComponentType {
     where
         Self: Sized,
         requires items { HasItems Self.fits (setting_in cx.old.core.now cx.old.options) list.now }
-        ensures lifts { Lifts (vec_reading list.now.count reading) (setting_in cx.old.core.now cx.old.options) (stored list.now.pointer) (shape_of (types_of cx.old.core.now) list.now.element)
+        ensures lifts { Lifts (vec_reading list.now.count reading) (setting_in cx.old.core.now cx.old.options) (stored list.now.pointer) (shape_of (component_types cx.old.core.now) list.now.element)
             cx.old.core.now.ledger cx.old.fuel result cx.new.core.now.ledger cx.new.fuel }
         ensures same_core { cx.new.core.now ≡ record cx.old.core.now { ledger = cx.new.core.now.ledger } }
         ensures same_reference { cx.new.core.ghost_name ≡ cx.old.core.ghost_name }
@@ -133,7 +133,7 @@ pub trait Lift: ComponentType {
         Self: Sized,
         requires items { HasItems Self.fits (setting_in cx.old.core.now cx.old.options) list.now }
         ensures kept { IfErr result (λ _. dst.new.items ≡ dst.old.items) }
-        ensures lifts { Lifts (into_reading dst.old.items dst.new.items list.now.count reading) (setting_in cx.old.core.now cx.old.options) (stored list.now.pointer) (shape_of (types_of cx.old.core.now) list.now.element)
+        ensures lifts { Lifts (into_reading dst.old.items dst.new.items list.now.count reading) (setting_in cx.old.core.now cx.old.options) (stored list.now.pointer) (shape_of (component_types cx.old.core.now) list.now.element)
             cx.old.core.now.ledger cx.old.fuel result cx.new.core.now.ledger cx.new.fuel }
         ensures same_core { cx.new.core.now ≡ record cx.old.core.now { ledger = cx.new.core.now.ledger } }
         ensures same_reference { cx.new.core.ghost_name ≡ cx.old.core.ghost_name }

@@ -2,7 +2,7 @@
 
 ghost use Rattle.std.specs.Prelude.{◌≡◌, ◌≤◌, ◌<◌, ◌+◌, ◌*◌, ◌%◌, ◌^◌, ◌&&◌, ◌++◌, ◌∷◌, [], List, OnOk, false, length};
 ghost use Rattle.canon_abi.specs.Abi.{HasLayout};
-ghost use Rattle.canon_context.specs.Core.{types_of};
+ghost use Rattle.canon_context.specs.Core.{component_types};
 ghost use Rattle.canon_reading.specs.Scopes.{map_kept};
 ghost use Rattle.canon_model.specs.Layout.{align, begins, ends, size};
 ghost use Rattle.canon_model.specs.Shape.{Shape, tuple};
@@ -43,14 +43,14 @@ fn lift_pair<K: Lift, V: Lift, U, G>(
     pair: &Pair,
     at: u64,
 ) -> Result<(K, V), Fault>
-    requires key { Knows (types_of cx.old.core.now) pair.now.key }
-    requires value { Knows (types_of cx.old.core.now) pair.now.value }
+    requires key { Knows (component_types cx.old.core.now) pair.now.key }
+    requires value { Knows (component_types cx.old.core.now) pair.now.value }
     requires key_fits { K.fits cx.old.core.now.component.types pair.now.key }
     requires value_fits { V.fits cx.old.core.now.component.types pair.now.value }
-    requires offset { pair.now.offset ≡ begins false (ends false 0 (shape_of (types_of cx.old.core.now) pair.now.key)) (shape_of (types_of cx.old.core.now) pair.now.value) }
-    requires aligned { at % align false (tuple (shape_of (types_of cx.old.core.now) pair.now.key ∷ shape_of (types_of cx.old.core.now) pair.now.value ∷ [])) ≡ 0 }
-    requires inside { at + size false (tuple (shape_of (types_of cx.old.core.now) pair.now.key ∷ shape_of (types_of cx.old.core.now) pair.now.value ∷ [])) ≤ length cx.old.core.now.memory }
-    ensures lifts { Lifts (pair_reading K.reading V.reading) (setting_in cx.old.core.now cx.old.options) (stored at) (tuple (shape_of (types_of cx.old.core.now) pair.now.key ∷ shape_of (types_of cx.old.core.now) pair.now.value ∷ []))
+    requires offset { pair.now.offset ≡ begins false (ends false 0 (shape_of (component_types cx.old.core.now) pair.now.key)) (shape_of (component_types cx.old.core.now) pair.now.value) }
+    requires aligned { at % align false (tuple (shape_of (component_types cx.old.core.now) pair.now.key ∷ shape_of (component_types cx.old.core.now) pair.now.value ∷ [])) ≡ 0 }
+    requires inside { at + size false (tuple (shape_of (component_types cx.old.core.now) pair.now.key ∷ shape_of (component_types cx.old.core.now) pair.now.value ∷ [])) ≤ length cx.old.core.now.memory }
+    ensures lifts { Lifts (pair_reading K.reading V.reading) (setting_in cx.old.core.now cx.old.options) (stored at) (tuple (shape_of (component_types cx.old.core.now) pair.now.key ∷ shape_of (component_types cx.old.core.now) pair.now.value ∷ []))
         cx.old.core.now.ledger cx.old.fuel result cx.new.core.now.ledger cx.new.fuel }
     ensures same_core { cx.new.core.now ≡ record cx.old.core.now { ledger = cx.new.core.now.ledger } }
     ensures same_reference { cx.new.core.ghost_name ≡ cx.old.core.ghost_name }
@@ -90,15 +90,15 @@ fn lift_pairs<K: Lift + Eq + Hash, V: Lift, U, G>(
     at: u64,
     count: u64,
 ) -> Result<HashMap<K, V>, Fault>
-    requires key { Knows (types_of cx.old.core.now) pair.now.key }
-    requires value { Knows (types_of cx.old.core.now) pair.now.value }
+    requires key { Knows (component_types cx.old.core.now) pair.now.key }
+    requires value { Knows (component_types cx.old.core.now) pair.now.value }
     requires key_fits { K.fits cx.old.core.now.component.types pair.now.key }
     requires value_fits { V.fits cx.old.core.now.component.types pair.now.value }
-    requires offset { pair.now.offset ≡ begins false (ends false 0 (shape_of (types_of cx.old.core.now) pair.now.key)) (shape_of (types_of cx.old.core.now) pair.now.value) }
-    requires step { step ≡ size false (tuple (shape_of (types_of cx.old.core.now) pair.now.key ∷ shape_of (types_of cx.old.core.now) pair.now.value ∷ [])) }
-    requires aligned { at % align false (tuple (shape_of (types_of cx.old.core.now) pair.now.key ∷ shape_of (types_of cx.old.core.now) pair.now.value ∷ [])) ≡ 0 }
-    requires inside { at + count * size false (tuple (shape_of (types_of cx.old.core.now) pair.now.key ∷ shape_of (types_of cx.old.core.now) pair.now.value ∷ [])) ≤ length cx.old.core.now.memory }
-    ensures lifts { Lifts (pairs_reading K.eq count K.reading V.reading) (setting_in cx.old.core.now cx.old.options) (stored at) (tuple (shape_of (types_of cx.old.core.now) pair.now.key ∷ shape_of (types_of cx.old.core.now) pair.now.value ∷ []))
+    requires offset { pair.now.offset ≡ begins false (ends false 0 (shape_of (component_types cx.old.core.now) pair.now.key)) (shape_of (component_types cx.old.core.now) pair.now.value) }
+    requires step { step ≡ size false (tuple (shape_of (component_types cx.old.core.now) pair.now.key ∷ shape_of (component_types cx.old.core.now) pair.now.value ∷ [])) }
+    requires aligned { at % align false (tuple (shape_of (component_types cx.old.core.now) pair.now.key ∷ shape_of (component_types cx.old.core.now) pair.now.value ∷ [])) ≡ 0 }
+    requires inside { at + count * size false (tuple (shape_of (component_types cx.old.core.now) pair.now.key ∷ shape_of (component_types cx.old.core.now) pair.now.value ∷ [])) ≤ length cx.old.core.now.memory }
+    ensures lifts { Lifts (pairs_reading K.eq count K.reading V.reading) (setting_in cx.old.core.now cx.old.options) (stored at) (tuple (shape_of (component_types cx.old.core.now) pair.now.key ∷ shape_of (component_types cx.old.core.now) pair.now.value ∷ []))
         cx.old.core.now.ledger cx.old.fuel result cx.new.core.now.ledger cx.new.fuel }
     ensures same_core { cx.new.core.now ≡ record cx.old.core.now { ledger = cx.new.core.now.ledger } }
     ensures same_reference { cx.new.core.ghost_name ≡ cx.old.core.ghost_name }

@@ -1,7 +1,7 @@
 //! The members of a tuple, one after another.
 
 ghost use Rattle.std.specs.Prelude.{◌≡◌, ◌≤◌, ◌+◌, ◌%◌, ◌∷◌, [], List, drop, false, length};
-ghost use Rattle.canon_context.specs.Core.{types_of};
+ghost use Rattle.canon_context.specs.Core.{component_types};
 ghost use Rattle.canon_model.specs.Layout.{members_align, members_end, members_flat};
 ghost use Rattle.canon_model.specs.Shape.{of_places, product};
 ghost use Rattle.canon_types.specs.Instance.{Instance};
@@ -47,12 +47,12 @@ pub(crate) trait LiftMembers: Drop {
     ) -> Result<Self, Fault>
     where
         Self: Sized,
-        requires tuple { HasTuple (types_of cx.old.core.now) i }
-        requires fits { AreOf all cx.old.core.now.component.types (drop k (table.types_of (types_of cx.old.core.now) i)) }
-        requires aligned { at % members_align false (members_of (types_of cx.old.core.now) (drop k (table.types_of (types_of cx.old.core.now) i))) ≡ 0 }
-        requires inside { at + members_end false end (members_of (types_of cx.old.core.now) (drop k (table.types_of (types_of cx.old.core.now) i))) ≤ length cx.old.core.now.memory }
-        ensures lifts { Lifts (rest_reading rest (stored_from at end) (members_of (types_of cx.old.core.now) (drop k (table.types_of (types_of cx.old.core.now) i)))) (setting_in cx.old.core.now cx.old.options)
-            (stored at) (product of_places (members_of (types_of cx.old.core.now) (drop k (table.types_of (types_of cx.old.core.now) i)))) cx.old.core.now.ledger cx.old.fuel result cx.new.core.now.ledger cx.new.fuel }
+        requires tuple { HasTuple (component_types cx.old.core.now) i }
+        requires fits { AreOf all cx.old.core.now.component.types (drop k (table.types_of (component_types cx.old.core.now) i)) }
+        requires aligned { at % members_align false (members_of (component_types cx.old.core.now) (drop k (table.types_of (component_types cx.old.core.now) i))) ≡ 0 }
+        requires inside { at + members_end false end (members_of (component_types cx.old.core.now) (drop k (table.types_of (component_types cx.old.core.now) i))) ≤ length cx.old.core.now.memory }
+        ensures lifts { Lifts (rest_reading rest (stored_from at end) (members_of (component_types cx.old.core.now) (drop k (table.types_of (component_types cx.old.core.now) i)))) (setting_in cx.old.core.now cx.old.options)
+            (stored at) (product of_places (members_of (component_types cx.old.core.now) (drop k (table.types_of (component_types cx.old.core.now) i)))) cx.old.core.now.ledger cx.old.fuel result cx.new.core.now.ledger cx.new.fuel }
         ensures same_core { cx.new.core.now ≡ record cx.old.core.now { ledger = cx.new.core.now.ledger } }
         ensures same_reference { cx.new.core.ghost_name ≡ cx.old.core.ghost_name }
         ensures same_options { cx.new.options ≡ cx.old.options };
@@ -68,11 +68,11 @@ pub(crate) trait LiftMembers: Drop {
     ) -> Result<Self, Fault>
     where
         Self: Sized,
-        requires tuple { HasTuple (types_of cx.old.core.now) i }
-        requires fits { AreOf all cx.old.core.now.component.types (drop k (table.types_of (types_of cx.old.core.now) i)) }
-        requires words { at + members_flat (members_of (types_of cx.old.core.now) (drop k (table.types_of (types_of cx.old.core.now) i))) ≤ length src.now }
-        ensures lifts { Lifts (rest_reading rest (flat_from src.now at) (members_of (types_of cx.old.core.now) (drop k (table.types_of (types_of cx.old.core.now) i)))) (setting_in cx.old.core.now cx.old.options)
-            (flat_in src.now at) (product of_places (members_of (types_of cx.old.core.now) (drop k (table.types_of (types_of cx.old.core.now) i)))) cx.old.core.now.ledger cx.old.fuel result cx.new.core.now.ledger cx.new.fuel }
+        requires tuple { HasTuple (component_types cx.old.core.now) i }
+        requires fits { AreOf all cx.old.core.now.component.types (drop k (table.types_of (component_types cx.old.core.now) i)) }
+        requires words { at + members_flat (members_of (component_types cx.old.core.now) (drop k (table.types_of (component_types cx.old.core.now) i))) ≤ length src.now }
+        ensures lifts { Lifts (rest_reading rest (flat_from src.now at) (members_of (component_types cx.old.core.now) (drop k (table.types_of (component_types cx.old.core.now) i)))) (setting_in cx.old.core.now cx.old.options)
+            (flat_in src.now at) (product of_places (members_of (component_types cx.old.core.now) (drop k (table.types_of (component_types cx.old.core.now) i)))) cx.old.core.now.ledger cx.old.fuel result cx.new.core.now.ledger cx.new.fuel }
         ensures same_core { cx.new.core.now ≡ record cx.old.core.now { ledger = cx.new.core.now.ledger } }
         ensures same_reference { cx.new.core.ghost_name ≡ cx.old.core.ghost_name }
         ensures same_options { cx.new.options ≡ cx.old.options };

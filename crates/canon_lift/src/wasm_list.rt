@@ -1,7 +1,7 @@
 //! Lists that stay in memory.
 
 ghost use Rattle.std.specs.Prelude.{◌≡◌, ◌↔◌, ◌≤◌, ◌<◌, ◌+◌, ◌*◌, ◌%◌, ◌^◌, IfNone, IfSome, IsNone, IsTrue, false, ℕ};
-ghost use Rattle.canon_context.specs.Core.{types_of};
+ghost use Rattle.canon_context.specs.Core.{component_types};
 ghost use Rattle.std.proofs.Common.{refl};
 ghost use Rattle.canon_reading.specs.Scopes.{plain_kept};
 ghost use Rattle.canon_types.specs.Table.{Knows, shape_of};
@@ -49,10 +49,10 @@ pub(crate) fn list_from<T: ComponentType, U, G>(
     count: u64,
     at: At,
 ) -> Result<WasmList<T>, Fault>
-    requires known { Knows (types_of cx.old.core.now) element }
+    requires known { Knows (component_types cx.old.core.now) element }
     requires narrow { pointer < 2 ^ 32 }
     requires narrow_count { count < 2 ^ 32 }
-    ensures tested { ListTested (setting_in cx.old.core.now cx.old.options) (shape_of (types_of cx.old.core.now) element) (cap T.host_bytes) pointer count at cx.old.fuel element result cx.new.fuel }
+    ensures tested { ListTested (setting_in cx.old.core.now cx.old.options) (shape_of (component_types cx.old.core.now) element) (cap T.host_bytes) pointer count at cx.old.fuel element result cx.new.fuel }
     ensures same { cx.new ≡ record cx.old { fuel = cx.new.fuel } }
 {
     let abi = *cx.types().canonical_abi(&element);
@@ -170,7 +170,7 @@ impl<T: Lift> WasmList<T> {
         requires { IsListOfCore T.fits core.old self.now }
         ensures none { IsNone result ↔ (self.now.count ≤ index) }
         ensures item { IfSome result (λ r. (left : ℕ) × Lifts T.reading (setting_in core.old self.now.options)
-            (item_spot (narrow core.old.memory) (shape_of (types_of core.old) self.now.element) (stored self.now.pointer) index) (shape_of (types_of core.old) self.now.element)
+            (item_spot (narrow core.old.memory) (shape_of (component_types core.old) self.now.element) (stored self.now.pointer) index) (shape_of (component_types core.old) self.now.element)
             core.old.ledger core.old.fuel r core.new.ledger left) }
         ensures unread { IfNone result (core.new ≡ core.old) }
         ensures same { core.new ≡ record core.old { ledger = core.new.ledger } }

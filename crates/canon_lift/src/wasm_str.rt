@@ -13,7 +13,7 @@ ghost use Rattle.canon_reading.specs.OfTrees.{text_priced, untrue};
 ghost use Rattle.canon_lift.specs.Ranges.{TextTested, wasm_str_reading};
 ghost use Rattle.canon_reading.specs.Reading.{setting_in};
 ghost use Rattle.canon_reading.specs.Taken.{none_taken};
-ghost use Rattle.canon_lift.specs.Views.{IsTextOf, TextFits, TextLost, WideLost, text_in};
+ghost use Rattle.canon_lift.specs.Views.{IsDecodedText, TextFits, TextLost, WideLost, text_in};
 
 use crate::Lift;
 use canon_bytes::load_u32;
@@ -54,7 +54,7 @@ impl WasmStr {
     /// The text itself, borrowed where its bytes are UTF-8 already. A bad spelling is blamed on where the text's pointer stood.
     pub fn to_str<'a>(&self, alloc: Global, view: &MemoryView<'a>) -> Result<CowStr<'a>, Fault>
         requires { TextFits view.now self.now }
-        ensures text { IfOk result (IsTextOf (encoding_at view.now.component.now self.now.options) self.now.count (text_in view.now self.now)) }
+        ensures text { IfOk result (IsDecodedText (encoding_at view.now.component.now self.now.options) self.now.count (text_in view.now self.now)) }
         ensures lost { IfErr result (TextLost (encoding_at view.now.component.now self.now.options) self.now.count (text_in view.now self.now) self.now.at) }
     {
         let encoding = view.options(self.options).string_encoding;
@@ -74,7 +74,7 @@ fn decoded<'a>(
     at: At,
 ) -> Result<CowStr<'a>, Fault>
     requires { length bytes.now ≡ text_bytes (encoding_of encoding) units }
-    ensures text { IfOk result (IsTextOf (encoding_of encoding) units bytes.now) }
+    ensures text { IfOk result (IsDecodedText (encoding_of encoding) units bytes.now) }
     ensures lost { IfErr result (TextLost (encoding_of encoding) units bytes.now at) }
 {
     match encoding {

@@ -5,7 +5,7 @@ use Rattle.std.proofs.lemmas.Nat.Gcd.{dvd_of_mod-eq-zero, dvd_trans, mod-eq-zero
 use Rattle.std.specs.Prelude.{slice_index_or}
 use Rattle.canon_abi.specs.Abi.{HasLayout}
 use Rattle.canon_abi.specs.declared.abi.CanonicalAbiInfo.{CanonicalAbiInfo}
-use Rattle.canon_context.specs.Core.{Parts, types_of}
+use Rattle.canon_context.specs.Core.{Parts, component_types}
 use Rattle.canon_context.specs.declared.fault.At.{At as Place}
 use Rattle.canon_context.specs.declared.fault.Fault.{Fault}
 use Rattle.canon_ledger.specs.Ledger.{LedgerState}
@@ -162,7 +162,7 @@ module _ {A B C : Type 0} (first : C → A) (others_of : C → B) (R : Reading A
 
 module _ {D G B : Type 0} (S : RestReading B) (core now : Parts D G) (same : now ≡ record core { ledger = now.ledger }) (o o2 : ℕ) (eo : o2 ≡ o) (i j at end : ℕ) where
   abbrev left_of : Parts D G → Members
-  left_of z = members_of (types_of z) (drop j (table.types_of (types_of z) i))
+  left_of z = members_of (component_types z) (drop j (table.types_of (component_types z) i))
 
   pub others_here : (before after : LedgerState) (fuel left : ℕ) (r : Result B Fault) → Lifts (rest_reading S (stored_from at end) (left_of now)) (setting_in now o2) (stored at) (product of_places (left_of now)) before fuel r after left
       → Lifts (rest_reading S (stored_from at end) (left_of core)) (setting_in core o) (stored at) (product of_places (left_of core)) before fuel r after left
@@ -172,7 +172,7 @@ module _ {D G B : Type 0} (S : RestReading B) (core now : Parts D G) (same : now
 
 module _ {D G B : Type 0} (S : RestReading B) (core now : Parts D G) (same : now ≡ record core { ledger = now.ledger }) (o o2 : ℕ) (eo : o2 ≡ o) (i j at : ℕ) (ws : List ℕ) where
   abbrev words_of : Parts D G → Members
-  words_of z = members_of (types_of z) (drop j (table.types_of (types_of z) i))
+  words_of z = members_of (component_types z) (drop j (table.types_of (component_types z) i))
 
   pub others_in_words : (before after : LedgerState) (fuel left : ℕ) (r : Result B Fault) → Lifts (rest_reading S (flat_from ws at) (words_of now)) (setting_in now o2) (flat_in ws at) (product of_places (words_of now)) before fuel r after left
       → Lifts (rest_reading S (flat_from ws at) (words_of core)) (setting_in core o) (flat_in ws at) (product of_places (words_of core)) before fuel r after left

@@ -4,7 +4,7 @@ use Rattle.std.proofs.Math.Nat.{zero-mod}
 use Rattle.std.proofs.lemmas.Nat.Gcd.{dvd_of_mod-eq-zero}
 use Rattle.std.proofs.lemmas.Map.{update_all_push}
 use Rattle.std.specs.HashMap.{HashMap, Updates, get}
-use Rattle.canon_context.specs.Core.{Parts, types_of}
+use Rattle.canon_context.specs.Core.{Parts, component_types}
 use Rattle.canon_context.specs.declared.fault.Fault.{Fault}
 use Rattle.canon_ledger.specs.Ledger.{LedgerState}
 use Rattle.canon_lowering.specs.Storing.{narrow}
@@ -76,10 +76,10 @@ module _ {D G K V : Type 0} (R : Reading K) (S : Reading V) (core : Parts D G) (
   w = setting_in core o
 
   abbrev ks : Shape
-  ks = shape_of (types_of core) key
+  ks = shape_of (component_types core) key
 
   abbrev vs : Shape
-  vs = shape_of (types_of core) value
+  vs = shape_of (component_types core) value
 
   abbrev both : Shape
   both = tuple (ks ∷ vs ∷ [])
@@ -98,14 +98,14 @@ module _ {D G K V : Type 0} (R : Reading K) (S : Reading V) (core : Parts D G) (
   -- the value, where only the ledger changed
   module _ (now : Parts D G) (same : now ≡ record core { ledger = now.ledger }) (o2 : ℕ) (eo : o2 ≡ o) (offset : ℕ) (is : offset ≡ begins false (ends false 0 ks) vs) (before after : LedgerState) (fuel mid left : ℕ) (x : K) (taken : AreTaken R)
       (read : R.reads w (stored at) ks before x now.ledger) (spent : fuel ≡ mid + R.reach w (stored at) ks) where
-    value_lifts : (r : Result V Fault) → Lifts S (setting_in now o2) (stored (at + offset)) (shape_of (types_of now) value) now.ledger mid r after left
+    value_lifts : (r : Result V Fault) → Lifts S (setting_in now o2) (stored (at + offset)) (shape_of (component_types now) value) now.ledger mid r after left
         → Lifts S w (stored (at + begins false (ends false 0 ks) vs)) vs now.ledger mid r after left
     value_lifts r h =
         subst (λ n. Lifts S w (stored (at + n)) vs now.ledger mid r after left) is
         (subst (λ (z : Shape). Lifts S w (stored (at + offset)) z now.ledger mid r after left) (same_shape core now same value)
-        (subst (λ (v : Setting). Lifts S v (stored (at + offset)) (shape_of (types_of now) value) now.ledger mid r after left) (same_setting core now same o o2 eo) h))
+        (subst (λ (v : Setting). Lifts S v (stored (at + offset)) (shape_of (component_types now) value) now.ledger mid r after left) (same_setting core now same o o2 eo) h))
 
-    pub value_refused : (e : Fault) → Lifts S (setting_in now o2) (stored (at + offset)) (shape_of (types_of now) value) now.ledger mid (Err e) after left → Refused (pair_reading R S) w (stored at) both before fuel e after left
+    pub value_refused : (e : Fault) → Lifts S (setting_in now o2) (stored (at + offset)) (shape_of (component_types now) value) now.ledger mid (Err e) after left → Refused (pair_reading R S) w (stored at) both before fuel e after left
     value_refused e r =
         let second = member_refused (of_value {K = K}) of_none S (none_reading {A = Unit {0}}) w (stored_from at (ends false 0 ks)) [] vs no_members both now.ledger mid e after left (value_lifts (Err e) r) in
         let h = others_refused of_key itself R (value_reading {K = K} S) w (stored_from at 0) [] ks (member [] vs no_members) both before fuel taken x now.ledger mid
@@ -116,7 +116,7 @@ module _ {D G K V : Type 0} (R : Reading K) (S : Reading V) (core : Parts D G) (
 
 module _ {D G K V : Type 0} (R : Reading K) (S : Reading V) (core : Parts D G) (o : ℕ) (key value : InterfaceType) where
   abbrev pair_in : Parts D G → Shape
-  pair_in z = tuple (shape_of (types_of z) key ∷ shape_of (types_of z) value ∷ [])
+  pair_in z = tuple (shape_of (component_types z) key ∷ shape_of (component_types z) value ∷ [])
 
   -- what lifting a pair answered, where only the ledger changed
   pub pair_item : (now : Parts D G) (o2 p k step at : ℕ) (before after : LedgerState) (fuel left : ℕ) (r : Result (K × V) Fault) → now ≡ record core { ledger = now.ledger } → o2 ≡ o → step ≡ size false (pair_in core) → at ≡ p + k * step

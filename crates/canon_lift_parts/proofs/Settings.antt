@@ -4,7 +4,7 @@ use Rattle.canon_abi.specs.Abi.{HasLayout}
 use Rattle.canon_abi.specs.declared.abi.CanonicalAbiInfo.{CanonicalAbiInfo}
 use Rattle.canon_model.proofs.Layouts.{elements_fit}
 use Rattle.canon_model.specs.Layout.{align, size}
-use Rattle.canon_context.specs.Core.{Parts, types_of}
+use Rattle.canon_context.specs.Core.{Parts, component_types}
 use Rattle.canon_model.specs.Shape.{Shape}
 use Rattle.canon_types.specs.Table.{Table, shape_of}
 use Rattle.canon_types.specs.declared.types.InterfaceType.{InterfaceType}
@@ -14,10 +14,10 @@ module _ {D G : Type 0} (core now : Parts D G) (same : now ≡ record core { led
   pub same_setting : (o o2 : ℕ) → o2 ≡ o → setting_in now o2 ≡ setting_in core o
   same_setting o o2 e = ap₂ (λ (c : Parts D G) n. setting_in c n) same e
 
-  pub same_types : types_of now ≡ types_of core
-  same_types = ap (λ (c : Parts D G). types_of c) same
+  pub same_types : component_types now ≡ component_types core
+  same_types = ap (λ (c : Parts D G). component_types c) same
 
-  pub same_shape : (type : InterfaceType) → shape_of (types_of now) type ≡ shape_of (types_of core) type
+  pub same_shape : (type : InterfaceType) → shape_of (component_types now) type ≡ shape_of (component_types core) type
   same_shape type = ap (λ (t : Table). shape_of t type) same_types
 
 -- what a look-up gave of a type's size and alignment

@@ -1,7 +1,7 @@
 //! Handles of resources.
 
 ghost use Rattle.std.specs.Prelude.{◌≡◌, false, true};
-ghost use Rattle.canon_context.specs.Core.{types_of};
+ghost use Rattle.canon_context.specs.Core.{component_types};
 ghost use Rattle.canon_context.specs.Faults.{resource_fault};
 ghost use Rattle.canon_context.specs.Lifter.{IsAfterSteps, IsOneOrigin};
 ghost use Rattle.canon_leaves.specs.Parts.{LeafLifts};
@@ -86,7 +86,7 @@ pub fn lift_any<U, G>(
     ty: InterfaceType,
     index: u32,
 ) -> Result<ResourceAny, Fault>
-    requires known { Knows (types_of cx.old.core.now) ty }
+    requires known { Knows (component_types cx.old.core.now) ty }
     requires handle { IsHandleType cx.old.core.now.component.types ty }
     ensures lifts { HandleLifts cx.old.core.now.component.types cx.old.core.now.ledger cx.new.core.now.ledger (leaf_of ty index) result }
     ensures same_fuel { cx.new.fuel ≡ cx.old.fuel }

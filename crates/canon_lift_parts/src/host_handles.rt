@@ -1,7 +1,7 @@
 //! Resources of the host: what the host gets is the representation behind a handle of the guest's, and no table of the host changes.
 
 ghost use Rattle.std.specs.Prelude.{◌≡◌, Bool, Some, true, false, ℕ};
-ghost use Rattle.canon_context.specs.Core.{types_of};
+ghost use Rattle.canon_context.specs.Core.{component_types};
 ghost use Rattle.canon_context.specs.Lifter.{IsAfterSteps, IsOneOrigin};
 ghost use Rattle.canon_leaves.specs.Parts.{LeafMoves};
 ghost use Rattle.canon_model.specs.Leaves.{leaf};
@@ -139,7 +139,7 @@ fn lift_made<R: OfRepresentation, U, G>(
     cx: &mut LiftContext<'_, U, G>,
     handle: Handle,
 ) -> Result<R, Fault>
-    requires known { HasResource (types_of cx.old.core.now) handle.ty }
+    requires known { HasResource (component_types cx.old.core.now) handle.ty }
     requires fits { (kind : Kind) → resource_type_at cx.old.core.now.component.types handle.ty ≡ Some kind → R.wanted kind }
     ensures lifts { HeldLifts R.made cx.old.core.now.component.types cx.old.core.now.ledger cx.new.core.now.ledger (leaf handle.owned handle.ty handle.index) result }
     ensures same_fuel { cx.new.fuel ≡ cx.old.fuel }
@@ -162,7 +162,7 @@ pub fn lift_held<R: OfRepresentation, U, G>(
     ty: InterfaceType,
     index: u32,
 ) -> Result<R, Fault>
-    requires known { Knows (types_of cx.old.core.now) ty }
+    requires known { Knows (component_types cx.old.core.now) ty }
     requires fits { IsHandleWith R.wanted cx.old.core.now.component.types ty }
     ensures lifts { HeldLifts R.made cx.old.core.now.component.types cx.old.core.now.ledger cx.new.core.now.ledger (leaf_of ty index) result }
     ensures same_fuel { cx.new.fuel ≡ cx.old.fuel }

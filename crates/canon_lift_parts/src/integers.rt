@@ -2,7 +2,7 @@
 
 ghost use Rattle.std.specs.Prelude.{◌≡◌, ◌≤◌, ◌<◌, ◌+◌, ◌*◌, IfOk, length, ℕ};
 ghost use Rattle.std.specs.Int.{cast_signed, w16, w32, w64, w8};
-ghost use Rattle.canon_lift_parts.specs.Integers.{AreHeld};
+ghost use Rattle.canon_lift_parts.specs.Integers.{AreSpelled};
 ghost use Rattle.canon_lowering.specs.Storing.{narrow};
 ghost use Rattle.canon_model.specs.Memory.{num};
 
@@ -38,7 +38,7 @@ pub fn numbers<T: Integer>(
 ) -> Result<Vec<T>, OutOfMemory>
     requires inside { pointer + count * T.bytes ≤ length memory.now }
     ensures count { IfOk result (λ v. length v.items ≡ count) }
-    ensures held { IfOk result (λ v. AreHeld T.held T.bytes (narrow memory.now) pointer v.items) }
+    ensures held { IfOk result (λ v. AreSpelled T.held T.bytes (narrow memory.now) pointer v.items) }
 {
     let width = T::width();
     let mut items = Vec::new(alloc);

@@ -1,7 +1,7 @@
 //! The payloads of cases, stored.
 
 ghost use Rattle.std.specs.Prelude.{◌≡◌, ◌≤◌, ◌+◌, false, length};
-ghost use Rattle.canon_context.specs.Core.{types_of};
+ghost use Rattle.canon_context.specs.Core.{component_types};
 ghost use Rattle.canon_lower_parts.specs.CasePuts.{PayloadTrees, part_gives, payload_type, unless_unit};
 ghost use Rattle.canon_lower_parts.specs.Cases.{payload_members};
 ghost use Rattle.canon_lower_parts.specs.Stores.{TypedMembersStore};
@@ -21,11 +21,11 @@ pub(crate) fn store_payload<T: Lower, D, G: Guest>(
     ty: Option<InterfaceType>,
     at: u64,
 ) -> Result<(), Fault>
-    requires known { KnowsPayload (types_of cx.old.core.now) ty }
+    requires known { KnowsPayload (component_types cx.old.core.now) ty }
     requires fits { IsPayloadOf T.is_unit T.fits cx.old.core.now.component.types ty }
-    requires room { at + size false (payload_type (types_of cx.old.core.now) ty) ≤ length cx.old.core.now.memory }
-    ensures stores { TypedMembersStore G.seen G.moves cx.old.options cx.old.core.now cx.new.core.now (payload_members (unless_unit T.is_unit (payload_type (types_of cx.old.core.now) ty))) 0 at (PayloadTrees T.is_unit (T.walks value.old))
-        (part_gives T.is_unit (T.gives cx.old.core.now.component.types (payload_type (types_of cx.old.core.now) ty) value.old)) result }
+    requires room { at + size false (payload_type (component_types cx.old.core.now) ty) ≤ length cx.old.core.now.memory }
+    ensures stores { TypedMembersStore G.seen G.moves cx.old.options cx.old.core.now cx.new.core.now (payload_members (unless_unit T.is_unit (payload_type (component_types cx.old.core.now) ty))) 0 at (PayloadTrees T.is_unit (T.walks value.old))
+        (part_gives T.is_unit (T.gives cx.old.core.now.component.types (payload_type (component_types cx.old.core.now) ty) value.old)) result }
     ensures same_reference { cx.new.core.ghost_name ≡ cx.old.core.ghost_name }
     ensures same_options { cx.new.options ≡ cx.old.options }
 {
@@ -43,11 +43,11 @@ pub(crate) fn store_shared_payload<T: LowerShared, D, G: Guest>(
     ty: Option<InterfaceType>,
     at: u64,
 ) -> Result<(), Fault>
-    requires known { KnowsPayload (types_of cx.old.core.now) ty }
+    requires known { KnowsPayload (component_types cx.old.core.now) ty }
     requires fits { IsPayloadOf T.is_unit T.fits cx.old.core.now.component.types ty }
-    requires room { at + size false (payload_type (types_of cx.old.core.now) ty) ≤ length cx.old.core.now.memory }
-    ensures stores { TypedMembersStore G.seen G.moves cx.old.options cx.old.core.now cx.new.core.now (payload_members (unless_unit T.is_unit (payload_type (types_of cx.old.core.now) ty))) 0 at (PayloadTrees T.is_unit (T.walks value.now))
-        (part_gives T.is_unit (T.gives cx.old.core.now.component.types (payload_type (types_of cx.old.core.now) ty) value.now)) result }
+    requires room { at + size false (payload_type (component_types cx.old.core.now) ty) ≤ length cx.old.core.now.memory }
+    ensures stores { TypedMembersStore G.seen G.moves cx.old.options cx.old.core.now cx.new.core.now (payload_members (unless_unit T.is_unit (payload_type (component_types cx.old.core.now) ty))) 0 at (PayloadTrees T.is_unit (T.walks value.now))
+        (part_gives T.is_unit (T.gives cx.old.core.now.component.types (payload_type (component_types cx.old.core.now) ty) value.now)) result }
     ensures same_reference { cx.new.core.ghost_name ≡ cx.old.core.ghost_name }
     ensures same_options { cx.new.options ≡ cx.old.options }
 {

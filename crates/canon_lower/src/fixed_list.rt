@@ -1,7 +1,7 @@
 //! Lists of fixed length: their items stand in a row.
 
 ghost use Rattle.std.specs.Prelude.{◌≡◌, ◌≤◌, flat_map, length};
-ghost use Rattle.canon_context.specs.Core.{types_of};
+ghost use Rattle.canon_context.specs.Core.{component_types};
 ghost use Rattle.canon_lower_parts.specs.Given.{fixed_given};
 ghost use Rattle.canon_lower_parts.specs.Gives.{item_shape};
 ghost use Rattle.canon_lower_parts.specs.Words.{TypedMembersLower};
@@ -26,11 +26,11 @@ fn lower_items<T: Lower, D, G: Guest>(
     ty: &InterfaceType,
     dst: &mut [ValRaw],
 ) -> Result<(), Fault>
-    requires known { Knows (types_of cx.old.core.now) ty.now }
+    requires known { Knows (component_types cx.old.core.now) ty.now }
     requires fits { T.fits cx.old.core.now.component.types ty.now }
-    requires room { members_flat (copies (length items.old) (shape_of (types_of cx.old.core.now) ty.now)) ≤ length dst.old }
-    ensures lowers { TypedMembersLower G.seen G.moves cx.old.options cx.old.core.now cx.new.core.now (copies (length items.old) (shape_of (types_of cx.old.core.now) ty.now)) dst.new 0
-        (EachMeans T.walks items.old) (flat_map (T.gives cx.old.core.now.component.types (shape_of (types_of cx.old.core.now) ty.now)) items.old) result }
+    requires room { members_flat (copies (length items.old) (shape_of (component_types cx.old.core.now) ty.now)) ≤ length dst.old }
+    ensures lowers { TypedMembersLower G.seen G.moves cx.old.options cx.old.core.now cx.new.core.now (copies (length items.old) (shape_of (component_types cx.old.core.now) ty.now)) dst.new 0
+        (EachMeans T.walks items.old) (flat_map (T.gives cx.old.core.now.component.types (shape_of (component_types cx.old.core.now) ty.now)) items.old) result }
     ensures count { length dst.new ≡ length dst.old }
     ensures same_reference { cx.new.core.ghost_name ≡ cx.old.core.ghost_name }
     ensures same_options { cx.new.options ≡ cx.old.options }
@@ -53,11 +53,11 @@ fn lower_shared_items<T: LowerShared, D, G: Guest>(
     ty: &InterfaceType,
     dst: &mut [ValRaw],
 ) -> Result<(), Fault>
-    requires known { Knows (types_of cx.old.core.now) ty.now }
+    requires known { Knows (component_types cx.old.core.now) ty.now }
     requires fits { T.fits cx.old.core.now.component.types ty.now }
-    requires room { members_flat (copies (length items.now) (shape_of (types_of cx.old.core.now) ty.now)) ≤ length dst.old }
-    ensures lowers { TypedMembersLower G.seen G.moves cx.old.options cx.old.core.now cx.new.core.now (copies (length items.now) (shape_of (types_of cx.old.core.now) ty.now)) dst.new 0
-        (EachMeans T.walks items.now) (flat_map (T.gives cx.old.core.now.component.types (shape_of (types_of cx.old.core.now) ty.now)) items.now) result }
+    requires room { members_flat (copies (length items.now) (shape_of (component_types cx.old.core.now) ty.now)) ≤ length dst.old }
+    ensures lowers { TypedMembersLower G.seen G.moves cx.old.options cx.old.core.now cx.new.core.now (copies (length items.now) (shape_of (component_types cx.old.core.now) ty.now)) dst.new 0
+        (EachMeans T.walks items.now) (flat_map (T.gives cx.old.core.now.component.types (shape_of (component_types cx.old.core.now) ty.now)) items.now) result }
     ensures count { length dst.new ≡ length dst.old }
     ensures same_reference { cx.new.core.ghost_name ≡ cx.old.core.ghost_name }
     ensures same_options { cx.new.options ≡ cx.old.options }

@@ -1,7 +1,7 @@
 //! Resources of the host.
 
 ghost use Rattle.std.specs.Prelude.{◌≡◌, ◌≤◌, ◌+◌, false, is_ok, length};
-ghost use Rattle.canon_context.specs.Core.{types_of};
+ghost use Rattle.canon_context.specs.Core.{component_types};
 ghost use Rattle.canon_lower_parts.specs.Given.{held_given};
 ghost use Rattle.canon_lower_parts.specs.Handles.{HeldAfter, held_gives};
 ghost use Rattle.canon_lower_parts.specs.Stores.{TypedStores};
@@ -32,12 +32,12 @@ impl<T: HostResourceType<R>, R: Copy> Lower for HostResource<T, R> {
         ty: InterfaceType,
         dst: &mut [ValRaw],
     ) -> Result<(), Fault>
-        requires known { Knows (types_of cx.old.core.now) ty }
+        requires known { Knows (component_types cx.old.core.now) ty }
         requires fits { IsHandleOf T.checked cx.old.core.now.component.types ty }
-        requires words { length dst.old ≡ flat (shape_of (types_of cx.old.core.now) ty) }
-        ensures lowers { TypedLowers G.seen G.moves cx.old.options cx.old.core.now cx.new.core.now (shape_of (types_of cx.old.core.now) ty) dst.new 0 IsHandle
-            (held_gives (T.type_of self.old.ty) self.old.state self.old.rep cx.old.core.now.component.types (shape_of (types_of cx.old.core.now) ty)) result }
-        ensures held { HeldAfter (T.type_of self.old.ty) self.old.state self.old.rep cx.old.core.now.component.types (shape_of (types_of cx.old.core.now) ty) (is_ok result)
+        requires words { length dst.old ≡ flat (shape_of (component_types cx.old.core.now) ty) }
+        ensures lowers { TypedLowers G.seen G.moves cx.old.options cx.old.core.now cx.new.core.now (shape_of (component_types cx.old.core.now) ty) dst.new 0 IsHandle
+            (held_gives (T.type_of self.old.ty) self.old.state self.old.rep cx.old.core.now.component.types (shape_of (component_types cx.old.core.now) ty)) result }
+        ensures held { HeldAfter (T.type_of self.old.ty) self.old.state self.old.rep cx.old.core.now.component.types (shape_of (component_types cx.old.core.now) ty) (is_ok result)
             cx.old.core.now.ledger cx.new.core.now.ledger self.new.state }
         ensures rest { self.new ≡ record self.old { state = self.new.state } }
         ensures count { length dst.new ≡ length dst.old }
@@ -54,12 +54,12 @@ impl<T: HostResourceType<R>, R: Copy> Lower for HostResource<T, R> {
         ty: InterfaceType,
         offset: u64,
     ) -> Result<(), Fault>
-        requires known { Knows (types_of cx.old.core.now) ty }
+        requires known { Knows (component_types cx.old.core.now) ty }
         requires fits { IsHandleOf T.checked cx.old.core.now.component.types ty }
-        requires room { offset + size false (shape_of (types_of cx.old.core.now) ty) ≤ length cx.old.core.now.memory }
-        ensures stores { TypedStores G.seen G.moves cx.old.options cx.old.core.now cx.new.core.now (shape_of (types_of cx.old.core.now) ty) offset IsHandle
-            (held_gives (T.type_of self.old.ty) self.old.state self.old.rep cx.old.core.now.component.types (shape_of (types_of cx.old.core.now) ty)) result }
-        ensures held { HeldAfter (T.type_of self.old.ty) self.old.state self.old.rep cx.old.core.now.component.types (shape_of (types_of cx.old.core.now) ty) (is_ok result)
+        requires room { offset + size false (shape_of (component_types cx.old.core.now) ty) ≤ length cx.old.core.now.memory }
+        ensures stores { TypedStores G.seen G.moves cx.old.options cx.old.core.now cx.new.core.now (shape_of (component_types cx.old.core.now) ty) offset IsHandle
+            (held_gives (T.type_of self.old.ty) self.old.state self.old.rep cx.old.core.now.component.types (shape_of (component_types cx.old.core.now) ty)) result }
+        ensures held { HeldAfter (T.type_of self.old.ty) self.old.state self.old.rep cx.old.core.now.component.types (shape_of (component_types cx.old.core.now) ty) (is_ok result)
             cx.old.core.now.ledger cx.new.core.now.ledger self.new.state }
         ensures rest { self.new ≡ record self.old { state = self.new.state } }
         ensures same_reference { cx.new.core.ghost_name ≡ cx.old.core.ghost_name }
@@ -83,12 +83,12 @@ impl<T: HostType> Lower for Resource<T> {
         ty: InterfaceType,
         dst: &mut [ValRaw],
     ) -> Result<(), Fault>
-        requires known { Knows (types_of cx.old.core.now) ty }
+        requires known { Knows (component_types cx.old.core.now) ty }
         requires fits { IsHandleOf (as_host T.ID) cx.old.core.now.component.types ty }
-        requires words { length dst.old ≡ flat (shape_of (types_of cx.old.core.now) ty) }
-        ensures lowers { TypedLowers G.seen G.moves cx.old.options cx.old.core.now cx.new.core.now (shape_of (types_of cx.old.core.now) ty) dst.new 0 IsHandle
-            (held_gives (Host T.ID) self.old.state self.old.rep cx.old.core.now.component.types (shape_of (types_of cx.old.core.now) ty)) result }
-        ensures held { HeldAfter (Host T.ID) self.old.state self.old.rep cx.old.core.now.component.types (shape_of (types_of cx.old.core.now) ty) (is_ok result)
+        requires words { length dst.old ≡ flat (shape_of (component_types cx.old.core.now) ty) }
+        ensures lowers { TypedLowers G.seen G.moves cx.old.options cx.old.core.now cx.new.core.now (shape_of (component_types cx.old.core.now) ty) dst.new 0 IsHandle
+            (held_gives (Host T.ID) self.old.state self.old.rep cx.old.core.now.component.types (shape_of (component_types cx.old.core.now) ty)) result }
+        ensures held { HeldAfter (Host T.ID) self.old.state self.old.rep cx.old.core.now.component.types (shape_of (component_types cx.old.core.now) ty) (is_ok result)
             cx.old.core.now.ledger cx.new.core.now.ledger self.new.state }
         ensures rest { self.new ≡ record self.old { state = self.new.state } }
         ensures count { length dst.new ≡ length dst.old }
@@ -105,12 +105,12 @@ impl<T: HostType> Lower for Resource<T> {
         ty: InterfaceType,
         offset: u64,
     ) -> Result<(), Fault>
-        requires known { Knows (types_of cx.old.core.now) ty }
+        requires known { Knows (component_types cx.old.core.now) ty }
         requires fits { IsHandleOf (as_host T.ID) cx.old.core.now.component.types ty }
-        requires room { offset + size false (shape_of (types_of cx.old.core.now) ty) ≤ length cx.old.core.now.memory }
-        ensures stores { TypedStores G.seen G.moves cx.old.options cx.old.core.now cx.new.core.now (shape_of (types_of cx.old.core.now) ty) offset IsHandle
-            (held_gives (Host T.ID) self.old.state self.old.rep cx.old.core.now.component.types (shape_of (types_of cx.old.core.now) ty)) result }
-        ensures held { HeldAfter (Host T.ID) self.old.state self.old.rep cx.old.core.now.component.types (shape_of (types_of cx.old.core.now) ty) (is_ok result)
+        requires room { offset + size false (shape_of (component_types cx.old.core.now) ty) ≤ length cx.old.core.now.memory }
+        ensures stores { TypedStores G.seen G.moves cx.old.options cx.old.core.now cx.new.core.now (shape_of (component_types cx.old.core.now) ty) offset IsHandle
+            (held_gives (Host T.ID) self.old.state self.old.rep cx.old.core.now.component.types (shape_of (component_types cx.old.core.now) ty)) result }
+        ensures held { HeldAfter (Host T.ID) self.old.state self.old.rep cx.old.core.now.component.types (shape_of (component_types cx.old.core.now) ty) (is_ok result)
             cx.old.core.now.ledger cx.new.core.now.ledger self.new.state }
         ensures rest { self.new ≡ record self.old { state = self.new.state } }
         ensures same_reference { cx.new.core.ghost_name ≡ cx.old.core.ghost_name }
@@ -134,12 +134,12 @@ impl Lower for ResourceDynamic {
         ty: InterfaceType,
         dst: &mut [ValRaw],
     ) -> Result<(), Fault>
-        requires known { Knows (types_of cx.old.core.now) ty }
+        requires known { Knows (component_types cx.old.core.now) ty }
         requires fits { IsHandleOf as_host_dynamic cx.old.core.now.component.types ty }
-        requires words { length dst.old ≡ flat (shape_of (types_of cx.old.core.now) ty) }
-        ensures lowers { TypedLowers G.seen G.moves cx.old.options cx.old.core.now cx.new.core.now (shape_of (types_of cx.old.core.now) ty) dst.new 0 IsHandle
-            (held_gives (HostDynamic self.old.ty) self.old.state self.old.rep cx.old.core.now.component.types (shape_of (types_of cx.old.core.now) ty)) result }
-        ensures held { HeldAfter (HostDynamic self.old.ty) self.old.state self.old.rep cx.old.core.now.component.types (shape_of (types_of cx.old.core.now) ty) (is_ok result)
+        requires words { length dst.old ≡ flat (shape_of (component_types cx.old.core.now) ty) }
+        ensures lowers { TypedLowers G.seen G.moves cx.old.options cx.old.core.now cx.new.core.now (shape_of (component_types cx.old.core.now) ty) dst.new 0 IsHandle
+            (held_gives (HostDynamic self.old.ty) self.old.state self.old.rep cx.old.core.now.component.types (shape_of (component_types cx.old.core.now) ty)) result }
+        ensures held { HeldAfter (HostDynamic self.old.ty) self.old.state self.old.rep cx.old.core.now.component.types (shape_of (component_types cx.old.core.now) ty) (is_ok result)
             cx.old.core.now.ledger cx.new.core.now.ledger self.new.state }
         ensures rest { self.new ≡ record self.old { state = self.new.state } }
         ensures count { length dst.new ≡ length dst.old }
@@ -156,12 +156,12 @@ impl Lower for ResourceDynamic {
         ty: InterfaceType,
         offset: u64,
     ) -> Result<(), Fault>
-        requires known { Knows (types_of cx.old.core.now) ty }
+        requires known { Knows (component_types cx.old.core.now) ty }
         requires fits { IsHandleOf as_host_dynamic cx.old.core.now.component.types ty }
-        requires room { offset + size false (shape_of (types_of cx.old.core.now) ty) ≤ length cx.old.core.now.memory }
-        ensures stores { TypedStores G.seen G.moves cx.old.options cx.old.core.now cx.new.core.now (shape_of (types_of cx.old.core.now) ty) offset IsHandle
-            (held_gives (HostDynamic self.old.ty) self.old.state self.old.rep cx.old.core.now.component.types (shape_of (types_of cx.old.core.now) ty)) result }
-        ensures held { HeldAfter (HostDynamic self.old.ty) self.old.state self.old.rep cx.old.core.now.component.types (shape_of (types_of cx.old.core.now) ty) (is_ok result)
+        requires room { offset + size false (shape_of (component_types cx.old.core.now) ty) ≤ length cx.old.core.now.memory }
+        ensures stores { TypedStores G.seen G.moves cx.old.options cx.old.core.now cx.new.core.now (shape_of (component_types cx.old.core.now) ty) offset IsHandle
+            (held_gives (HostDynamic self.old.ty) self.old.state self.old.rep cx.old.core.now.component.types (shape_of (component_types cx.old.core.now) ty)) result }
+        ensures held { HeldAfter (HostDynamic self.old.ty) self.old.state self.old.rep cx.old.core.now.component.types (shape_of (component_types cx.old.core.now) ty) (is_ok result)
             cx.old.core.now.ledger cx.new.core.now.ledger self.new.state }
         ensures rest { self.new ≡ record self.old { state = self.new.state } }
         ensures same_reference { cx.new.core.ghost_name ≡ cx.old.core.ghost_name }

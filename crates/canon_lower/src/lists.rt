@@ -1,7 +1,7 @@
 //! Lists: their items stand in a row in a block of their own.
 
 ghost use Rattle.std.specs.Prelude.{◌≡◌, flat_map, length};
-ghost use Rattle.canon_context.specs.Core.{types_of};
+ghost use Rattle.canon_context.specs.Core.{component_types};
 ghost use Rattle.canon_lower_parts.specs.Given.{list_given};
 ghost use Rattle.canon_lower_parts.specs.Gives.{item_shape};
 ghost use Rattle.canon_lower_parts.specs.Places.{TypedPlaces};
@@ -22,10 +22,10 @@ fn place_list<T: Lower, D, G: Guest>(
     ty: &InterfaceType,
     items: &mut [T],
 ) -> Result<Placed, Fault>
-    requires known { Knows (types_of cx.old.core.now) ty.now }
+    requires known { Knows (component_types cx.old.core.now) ty.now }
     requires fits { IsListOf T.fits cx.old.core.now.component.types ty.now }
-    ensures places { TypedPlaces G.seen G.moves cx.old.options cx.old.core.now cx.new.core.now (shape_of (types_of cx.old.core.now) ty.now) (ListMeans T.walks items.old)
-        (flat_map (T.gives cx.old.core.now.component.types (item_shape (shape_of (types_of cx.old.core.now) ty.now))) items.old) result }
+    ensures places { TypedPlaces G.seen G.moves cx.old.options cx.old.core.now cx.new.core.now (shape_of (component_types cx.old.core.now) ty.now) (ListMeans T.walks items.old)
+        (flat_map (T.gives cx.old.core.now.component.types (item_shape (shape_of (component_types cx.old.core.now) ty.now))) items.old) result }
     ensures same_reference { cx.new.core.ghost_name ≡ cx.old.core.ghost_name }
     ensures same_options { cx.new.options ≡ cx.old.options }
 {
@@ -48,10 +48,10 @@ fn place_shared_list<T: LowerShared, D, G: Guest>(
     ty: &InterfaceType,
     items: &[T],
 ) -> Result<Placed, Fault>
-    requires known { Knows (types_of cx.old.core.now) ty.now }
+    requires known { Knows (component_types cx.old.core.now) ty.now }
     requires fits { IsListOf T.fits cx.old.core.now.component.types ty.now }
-    ensures places { TypedPlaces G.seen G.moves cx.old.options cx.old.core.now cx.new.core.now (shape_of (types_of cx.old.core.now) ty.now) (ListMeans T.walks items.now)
-        (flat_map (T.gives cx.old.core.now.component.types (item_shape (shape_of (types_of cx.old.core.now) ty.now))) items.now) result }
+    ensures places { TypedPlaces G.seen G.moves cx.old.options cx.old.core.now cx.new.core.now (shape_of (component_types cx.old.core.now) ty.now) (ListMeans T.walks items.now)
+        (flat_map (T.gives cx.old.core.now.component.types (item_shape (shape_of (component_types cx.old.core.now) ty.now))) items.now) result }
     ensures same_reference { cx.new.core.ghost_name ≡ cx.old.core.ghost_name }
     ensures same_options { cx.new.options ≡ cx.old.options }
 {

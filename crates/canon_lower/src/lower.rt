@@ -1,7 +1,7 @@
 //! The traits of Rust types whose values are lowered.
 
 ghost use Rattle.std.specs.Prelude.{◌≡◌, ◌≤◌, ◌+◌, ◌*◌, List, false, flat_map, length};
-ghost use Rattle.canon_context.specs.Core.{types_of};
+ghost use Rattle.canon_context.specs.Core.{component_types};
 ghost use Rattle.canon_leaves.specs.Parts.{Part};
 ghost use Rattle.canon_lower_parts.specs.Given.{IsGiven};
 ghost use Rattle.canon_lower_parts.specs.Stores.{TypedMembersStore, TypedStores};
@@ -37,11 +37,11 @@ pub trait Lower: ComponentType {
         ty: InterfaceType,
         dst: &mut [ValRaw],
     ) -> Result<(), Fault>
-        requires known { Knows (types_of cx.old.core.now) ty }
+        requires known { Knows (component_types cx.old.core.now) ty }
         requires fits { Self.fits cx.old.core.now.component.types ty }
-        requires words { length dst.old ≡ flat (shape_of (types_of cx.old.core.now) ty) }
-        ensures lowers { TypedLowers G.seen G.moves cx.old.options cx.old.core.now cx.new.core.now (shape_of (types_of cx.old.core.now) ty) dst.new 0 (Self.walks self.old)
-            (gives cx.old.core.now.component.types (shape_of (types_of cx.old.core.now) ty) self.old) result }
+        requires words { length dst.old ≡ flat (shape_of (component_types cx.old.core.now) ty) }
+        ensures lowers { TypedLowers G.seen G.moves cx.old.options cx.old.core.now cx.new.core.now (shape_of (component_types cx.old.core.now) ty) dst.new 0 (Self.walks self.old)
+            (gives cx.old.core.now.component.types (shape_of (component_types cx.old.core.now) ty) self.old) result }
         ensures count { length dst.new ≡ length dst.old }
         ensures same_reference { cx.new.core.ghost_name ≡ cx.old.core.ghost_name }
         ensures same_options { cx.new.options ≡ cx.old.options };
@@ -53,11 +53,11 @@ pub trait Lower: ComponentType {
         ty: InterfaceType,
         offset: u64,
     ) -> Result<(), Fault>
-        requires known { Knows (types_of cx.old.core.now) ty }
+        requires known { Knows (component_types cx.old.core.now) ty }
         requires fits { Self.fits cx.old.core.now.component.types ty }
-        requires room { offset + size false (shape_of (types_of cx.old.core.now) ty) ≤ length cx.old.core.now.memory }
-        ensures stores { TypedStores G.seen G.moves cx.old.options cx.old.core.now cx.new.core.now (shape_of (types_of cx.old.core.now) ty) offset (Self.walks self.old)
-            (gives cx.old.core.now.component.types (shape_of (types_of cx.old.core.now) ty) self.old) result }
+        requires room { offset + size false (shape_of (component_types cx.old.core.now) ty) ≤ length cx.old.core.now.memory }
+        ensures stores { TypedStores G.seen G.moves cx.old.options cx.old.core.now cx.new.core.now (shape_of (component_types cx.old.core.now) ty) offset (Self.walks self.old)
+            (gives cx.old.core.now.component.types (shape_of (component_types cx.old.core.now) ty) self.old) result }
         ensures same_reference { cx.new.core.ghost_name ≡ cx.old.core.ghost_name }
         ensures same_options { cx.new.options ≡ cx.old.options };
 
@@ -71,11 +71,11 @@ pub trait Lower: ComponentType {
     ) -> Result<(), Fault>
     where
         Self: Sized,
-        requires known { Knows (types_of cx.old.core.now) ty }
+        requires known { Knows (component_types cx.old.core.now) ty }
         requires fits { Self.fits cx.old.core.now.component.types ty }
-        requires room { offset + length items.old * size false (shape_of (types_of cx.old.core.now) ty) ≤ length cx.old.core.now.memory }
-        ensures stores { TypedMembersStore G.seen G.moves cx.old.options cx.old.core.now cx.new.core.now (copies (length items.old) (shape_of (types_of cx.old.core.now) ty)) 0 offset (EachMeans Self.walks items.old)
-            (flat_map (gives cx.old.core.now.component.types (shape_of (types_of cx.old.core.now) ty)) items.old) result }
+        requires room { offset + length items.old * size false (shape_of (component_types cx.old.core.now) ty) ≤ length cx.old.core.now.memory }
+        ensures stores { TypedMembersStore G.seen G.moves cx.old.options cx.old.core.now cx.new.core.now (copies (length items.old) (shape_of (component_types cx.old.core.now) ty)) 0 offset (EachMeans Self.walks items.old)
+            (flat_map (gives cx.old.core.now.component.types (shape_of (component_types cx.old.core.now) ty)) items.old) result }
         ensures same_reference { cx.new.core.ghost_name ≡ cx.old.core.ghost_name }
         ensures same_options { cx.new.options ≡ cx.old.options }
     {
@@ -110,11 +110,11 @@ pub trait LowerShared: ComponentType {
         ty: InterfaceType,
         dst: &mut [ValRaw],
     ) -> Result<(), Fault>
-        requires known { Knows (types_of cx.old.core.now) ty }
+        requires known { Knows (component_types cx.old.core.now) ty }
         requires fits { Self.fits cx.old.core.now.component.types ty }
-        requires words { length dst.old ≡ flat (shape_of (types_of cx.old.core.now) ty) }
-        ensures lowers { TypedLowers G.seen G.moves cx.old.options cx.old.core.now cx.new.core.now (shape_of (types_of cx.old.core.now) ty) dst.new 0 (Self.walks self.now)
-            (gives cx.old.core.now.component.types (shape_of (types_of cx.old.core.now) ty) self.now) result }
+        requires words { length dst.old ≡ flat (shape_of (component_types cx.old.core.now) ty) }
+        ensures lowers { TypedLowers G.seen G.moves cx.old.options cx.old.core.now cx.new.core.now (shape_of (component_types cx.old.core.now) ty) dst.new 0 (Self.walks self.now)
+            (gives cx.old.core.now.component.types (shape_of (component_types cx.old.core.now) ty) self.now) result }
         ensures count { length dst.new ≡ length dst.old }
         ensures same_reference { cx.new.core.ghost_name ≡ cx.old.core.ghost_name }
         ensures same_options { cx.new.options ≡ cx.old.options };
@@ -126,11 +126,11 @@ pub trait LowerShared: ComponentType {
         ty: InterfaceType,
         offset: u64,
     ) -> Result<(), Fault>
-        requires known { Knows (types_of cx.old.core.now) ty }
+        requires known { Knows (component_types cx.old.core.now) ty }
         requires fits { Self.fits cx.old.core.now.component.types ty }
-        requires room { offset + size false (shape_of (types_of cx.old.core.now) ty) ≤ length cx.old.core.now.memory }
-        ensures stores { TypedStores G.seen G.moves cx.old.options cx.old.core.now cx.new.core.now (shape_of (types_of cx.old.core.now) ty) offset (Self.walks self.now)
-            (gives cx.old.core.now.component.types (shape_of (types_of cx.old.core.now) ty) self.now) result }
+        requires room { offset + size false (shape_of (component_types cx.old.core.now) ty) ≤ length cx.old.core.now.memory }
+        ensures stores { TypedStores G.seen G.moves cx.old.options cx.old.core.now cx.new.core.now (shape_of (component_types cx.old.core.now) ty) offset (Self.walks self.now)
+            (gives cx.old.core.now.component.types (shape_of (component_types cx.old.core.now) ty) self.now) result }
         ensures same_reference { cx.new.core.ghost_name ≡ cx.old.core.ghost_name }
         ensures same_options { cx.new.options ≡ cx.old.options };
 
@@ -144,11 +144,11 @@ pub trait LowerShared: ComponentType {
     ) -> Result<(), Fault>
     where
         Self: Sized,
-        requires known { Knows (types_of cx.old.core.now) ty }
+        requires known { Knows (component_types cx.old.core.now) ty }
         requires fits { Self.fits cx.old.core.now.component.types ty }
-        requires room { offset + length items.now * size false (shape_of (types_of cx.old.core.now) ty) ≤ length cx.old.core.now.memory }
-        ensures stores { TypedMembersStore G.seen G.moves cx.old.options cx.old.core.now cx.new.core.now (copies (length items.now) (shape_of (types_of cx.old.core.now) ty)) 0 offset (EachMeans Self.walks items.now)
-            (flat_map (gives cx.old.core.now.component.types (shape_of (types_of cx.old.core.now) ty)) items.now) result }
+        requires room { offset + length items.now * size false (shape_of (component_types cx.old.core.now) ty) ≤ length cx.old.core.now.memory }
+        ensures stores { TypedMembersStore G.seen G.moves cx.old.options cx.old.core.now cx.new.core.now (copies (length items.now) (shape_of (component_types cx.old.core.now) ty)) 0 offset (EachMeans Self.walks items.now)
+            (flat_map (gives cx.old.core.now.component.types (shape_of (component_types cx.old.core.now) ty)) items.now) result }
         ensures same_reference { cx.new.core.ghost_name ≡ cx.old.core.ghost_name }
         ensures same_options { cx.new.options ≡ cx.old.options }
     {

@@ -1,7 +1,7 @@
 //! Maps: their pairs stand in a row in a block of their own, each with its key and then its value.
 
 ghost use Rattle.std.specs.Prelude.{◌≡◌, ◌≤◌, ◌+◌, ◌*◌, false, flat_map, length};
-ghost use Rattle.canon_context.specs.Core.{types_of};
+ghost use Rattle.canon_context.specs.Core.{component_types};
 ghost use Rattle.canon_lower_parts.specs.Given.{map_given};
 ghost use Rattle.canon_lower_parts.specs.Gives.{map_gives, pair_gives};
 ghost use Rattle.canon_lower_parts.specs.Pairs.{IsPairType, pair_in};
@@ -33,9 +33,9 @@ fn store_pair<K: LowerShared, V: LowerShared, D, G: Guest>(
     at: u64,
 ) -> Result<(), Fault>
     requires pair { IsPairType K.fits V.fits cx.old.core.now.component.types pair.now }
-    requires room { at + size false (pair_in (types_of cx.old.core.now) pair.now) ≤ length cx.old.core.now.memory }
-    ensures stores { TypedStores G.seen G.moves cx.old.options cx.old.core.now cx.new.core.now (pair_in (types_of cx.old.core.now) pair.now) at (PairMeans K.walks V.walks (key.now, value.now))
-        (pair_gives K.gives V.gives cx.old.core.now.component.types (pair_in (types_of cx.old.core.now) pair.now) (key.now, value.now)) result }
+    requires room { at + size false (pair_in (component_types cx.old.core.now) pair.now) ≤ length cx.old.core.now.memory }
+    ensures stores { TypedStores G.seen G.moves cx.old.options cx.old.core.now cx.new.core.now (pair_in (component_types cx.old.core.now) pair.now) at (PairMeans K.walks V.walks (key.now, value.now))
+        (pair_gives K.gives V.gives cx.old.core.now.component.types (pair_in (component_types cx.old.core.now) pair.now) (key.now, value.now)) result }
     ensures same_reference { cx.new.core.ghost_name ≡ cx.old.core.ghost_name }
     ensures same_options { cx.new.options ≡ cx.old.options }
 {
@@ -55,9 +55,9 @@ fn store_pairs<K: LowerShared + Eq + Hash, V: LowerShared, D, G: Guest>(
     offset: u64,
 ) -> Result<(), Fault>
     requires pair { IsPairType K.fits V.fits cx.old.core.now.component.types pair.now }
-    requires room { offset + length map.now.entries * size false (pair_in (types_of cx.old.core.now) pair.now) ≤ length cx.old.core.now.memory }
-    ensures stores { TypedMembersStore G.seen G.moves cx.old.options cx.old.core.now cx.new.core.now (copies (length map.now.entries) (pair_in (types_of cx.old.core.now) pair.now)) 0 offset (EachMeans (PairMeans K.walks V.walks) map.now.entries)
-        (flat_map (pair_gives K.gives V.gives cx.old.core.now.component.types (pair_in (types_of cx.old.core.now) pair.now)) map.now.entries) result }
+    requires room { offset + length map.now.entries * size false (pair_in (component_types cx.old.core.now) pair.now) ≤ length cx.old.core.now.memory }
+    ensures stores { TypedMembersStore G.seen G.moves cx.old.options cx.old.core.now cx.new.core.now (copies (length map.now.entries) (pair_in (component_types cx.old.core.now) pair.now)) 0 offset (EachMeans (PairMeans K.walks V.walks) map.now.entries)
+        (flat_map (pair_gives K.gives V.gives cx.old.core.now.component.types (pair_in (component_types cx.old.core.now) pair.now)) map.now.entries) result }
     ensures same_reference { cx.new.core.ghost_name ≡ cx.old.core.ghost_name }
     ensures same_options { cx.new.options ≡ cx.old.options }
 {
@@ -80,10 +80,10 @@ fn place_map<K: LowerShared + Eq + Hash, V: LowerShared, D, G: Guest>(
     ty: &InterfaceType,
     map: &HashMap<K, V>,
 ) -> Result<Placed, Fault>
-    requires known { Knows (types_of cx.old.core.now) ty.now }
+    requires known { Knows (component_types cx.old.core.now) ty.now }
     requires fits { IsMapOf K.fits V.fits cx.old.core.now.component.types ty.now }
-    ensures places { TypedPlaces G.seen G.moves cx.old.options cx.old.core.now cx.new.core.now (shape_of (types_of cx.old.core.now) ty.now) (MapWalks K.walks V.walks map.now)
-        (map_gives K.gives V.gives cx.old.core.now.component.types (shape_of (types_of cx.old.core.now) ty.now) map.now) result }
+    ensures places { TypedPlaces G.seen G.moves cx.old.options cx.old.core.now cx.new.core.now (shape_of (component_types cx.old.core.now) ty.now) (MapWalks K.walks V.walks map.now)
+        (map_gives K.gives V.gives cx.old.core.now.component.types (shape_of (component_types cx.old.core.now) ty.now) map.now) result }
     ensures same_reference { cx.new.core.ghost_name ≡ cx.old.core.ghost_name }
     ensures same_options { cx.new.options ≡ cx.old.options }
 {
@@ -106,11 +106,11 @@ fn lower_map<K: LowerShared + Eq + Hash, V: LowerShared, D, G: Guest>(
     ty: InterfaceType,
     dst: &mut [ValRaw],
 ) -> Result<(), Fault>
-    requires known { Knows (types_of cx.old.core.now) ty }
+    requires known { Knows (component_types cx.old.core.now) ty }
     requires fits { IsMapOf K.fits V.fits cx.old.core.now.component.types ty }
-    requires words { length dst.old ≡ flat (shape_of (types_of cx.old.core.now) ty) }
-    ensures lowers { TypedLowers G.seen G.moves cx.old.options cx.old.core.now cx.new.core.now (shape_of (types_of cx.old.core.now) ty) dst.new 0 (MapWalks K.walks V.walks map.now)
-        (map_gives K.gives V.gives cx.old.core.now.component.types (shape_of (types_of cx.old.core.now) ty) map.now) result }
+    requires words { length dst.old ≡ flat (shape_of (component_types cx.old.core.now) ty) }
+    ensures lowers { TypedLowers G.seen G.moves cx.old.options cx.old.core.now cx.new.core.now (shape_of (component_types cx.old.core.now) ty) dst.new 0 (MapWalks K.walks V.walks map.now)
+        (map_gives K.gives V.gives cx.old.core.now.component.types (shape_of (component_types cx.old.core.now) ty) map.now) result }
     ensures count { length dst.new ≡ length dst.old }
     ensures same_reference { cx.new.core.ghost_name ≡ cx.old.core.ghost_name }
     ensures same_options { cx.new.options ≡ cx.old.options }
@@ -131,11 +131,11 @@ fn store_map<K: LowerShared + Eq + Hash, V: LowerShared, D, G: Guest>(
     ty: InterfaceType,
     offset: u64,
 ) -> Result<(), Fault>
-    requires known { Knows (types_of cx.old.core.now) ty }
+    requires known { Knows (component_types cx.old.core.now) ty }
     requires fits { IsMapOf K.fits V.fits cx.old.core.now.component.types ty }
-    requires room { offset + size false (shape_of (types_of cx.old.core.now) ty) ≤ length cx.old.core.now.memory }
-    ensures stores { TypedStores G.seen G.moves cx.old.options cx.old.core.now cx.new.core.now (shape_of (types_of cx.old.core.now) ty) offset (MapWalks K.walks V.walks map.now)
-        (map_gives K.gives V.gives cx.old.core.now.component.types (shape_of (types_of cx.old.core.now) ty) map.now) result }
+    requires room { offset + size false (shape_of (component_types cx.old.core.now) ty) ≤ length cx.old.core.now.memory }
+    ensures stores { TypedStores G.seen G.moves cx.old.options cx.old.core.now cx.new.core.now (shape_of (component_types cx.old.core.now) ty) offset (MapWalks K.walks V.walks map.now)
+        (map_gives K.gives V.gives cx.old.core.now.component.types (shape_of (component_types cx.old.core.now) ty) map.now) result }
     ensures same_reference { cx.new.core.ghost_name ≡ cx.old.core.ghost_name }
     ensures same_options { cx.new.options ≡ cx.old.options }
 {

@@ -1,7 +1,7 @@
 //! The members of a tuple, one after another.
 
 ghost use Rattle.std.specs.Prelude.{◌≡◌, ◌≤◌, ◌<◌, ◌+◌, ◌∷◌, List, [], ⊤, false, length, refl};
-ghost use Rattle.canon_context.specs.Core.{types_of};
+ghost use Rattle.canon_context.specs.Core.{component_types};
 ghost use Rattle.canon_leaves.specs.Parts.{Part};
 ghost use Rattle.canon_lower_parts.specs.Gives.{row_gives};
 ghost use Rattle.canon_lower_parts.specs.Stores.{TypedMembersStore, TypedStores};
@@ -32,15 +32,15 @@ fn lower_member<A: Lower, D, G: Guest>(
     dst: &mut [ValRaw],
     at: &mut usize,
 ) -> Result<(), Fault>
-    requires known { Knows (types_of cx.old.core.now) ty.now }
-    requires member { k.old < length (types_in (types_of cx.old.core.now) ty.now) }
-    requires fits { A.fits cx.old.core.now.component.types (member_type (types_of cx.old.core.now) ty.now k.old) }
-    requires room { at.old + flat (shape_of (types_of cx.old.core.now) (member_type (types_of cx.old.core.now) ty.now k.old)) ≤ length dst.old }
-    ensures lowers { TypedLowers G.seen G.moves cx.old.options cx.old.core.now cx.new.core.now (shape_of (types_of cx.old.core.now) (member_type (types_of cx.old.core.now) ty.now k.old)) dst.new at.old (A.walks value.old)
-        (A.gives cx.old.core.now.component.types (shape_of (types_of cx.old.core.now) (member_type (types_of cx.old.core.now) ty.now k.old)) value.old) result }
+    requires known { Knows (component_types cx.old.core.now) ty.now }
+    requires member { k.old < length (types_in (component_types cx.old.core.now) ty.now) }
+    requires fits { A.fits cx.old.core.now.component.types (member_type (component_types cx.old.core.now) ty.now k.old) }
+    requires room { at.old + flat (shape_of (component_types cx.old.core.now) (member_type (component_types cx.old.core.now) ty.now k.old)) ≤ length dst.old }
+    ensures lowers { TypedLowers G.seen G.moves cx.old.options cx.old.core.now cx.new.core.now (shape_of (component_types cx.old.core.now) (member_type (component_types cx.old.core.now) ty.now k.old)) dst.new at.old (A.walks value.old)
+        (A.gives cx.old.core.now.component.types (shape_of (component_types cx.old.core.now) (member_type (component_types cx.old.core.now) ty.now k.old)) value.old) result }
     ensures stays { Stays at.old dst.old dst.new }
     ensures next { k.new ≡ k.old + 1 }
-    ensures end { at.new ≡ at.old + flat (shape_of (types_of cx.old.core.now) (member_type (types_of cx.old.core.now) ty.now k.old)) }
+    ensures end { at.new ≡ at.old + flat (shape_of (component_types cx.old.core.now) (member_type (component_types cx.old.core.now) ty.now k.old)) }
     ensures same_reference { cx.new.core.ghost_name ≡ cx.old.core.ghost_name }
     ensures same_options { cx.new.options ≡ cx.old.options }
 {
@@ -58,15 +58,15 @@ fn store_member<A: Lower, D, G: Guest>(
     at: u64,
     end: &mut u64,
 ) -> Result<(), Fault>
-    requires known { Knows (types_of cx.old.core.now) ty.now }
-    requires member { k.old < length (types_in (types_of cx.old.core.now) ty.now) }
-    requires fits { A.fits cx.old.core.now.component.types (member_type (types_of cx.old.core.now) ty.now k.old) }
-    requires room { at + ends false end.old (shape_of (types_of cx.old.core.now) (member_type (types_of cx.old.core.now) ty.now k.old)) ≤ length cx.old.core.now.memory }
-    ensures stores { TypedStores G.seen G.moves cx.old.options cx.old.core.now cx.new.core.now (shape_of (types_of cx.old.core.now) (member_type (types_of cx.old.core.now) ty.now k.old))
-        (at + begins false end.old (shape_of (types_of cx.old.core.now) (member_type (types_of cx.old.core.now) ty.now k.old))) (A.walks value.old)
-        (A.gives cx.old.core.now.component.types (shape_of (types_of cx.old.core.now) (member_type (types_of cx.old.core.now) ty.now k.old)) value.old) result }
+    requires known { Knows (component_types cx.old.core.now) ty.now }
+    requires member { k.old < length (types_in (component_types cx.old.core.now) ty.now) }
+    requires fits { A.fits cx.old.core.now.component.types (member_type (component_types cx.old.core.now) ty.now k.old) }
+    requires room { at + ends false end.old (shape_of (component_types cx.old.core.now) (member_type (component_types cx.old.core.now) ty.now k.old)) ≤ length cx.old.core.now.memory }
+    ensures stores { TypedStores G.seen G.moves cx.old.options cx.old.core.now cx.new.core.now (shape_of (component_types cx.old.core.now) (member_type (component_types cx.old.core.now) ty.now k.old))
+        (at + begins false end.old (shape_of (component_types cx.old.core.now) (member_type (component_types cx.old.core.now) ty.now k.old))) (A.walks value.old)
+        (A.gives cx.old.core.now.component.types (shape_of (component_types cx.old.core.now) (member_type (component_types cx.old.core.now) ty.now k.old)) value.old) result }
     ensures next { k.new ≡ k.old + 1 }
-    ensures end { end.new ≡ ends false end.old (shape_of (types_of cx.old.core.now) (member_type (types_of cx.old.core.now) ty.now k.old)) }
+    ensures end { end.new ≡ ends false end.old (shape_of (component_types cx.old.core.now) (member_type (component_types cx.old.core.now) ty.now k.old)) }
     ensures same_reference { cx.new.core.ghost_name ≡ cx.old.core.ghost_name }
     ensures same_options { cx.new.options ≡ cx.old.options }
 {
@@ -98,11 +98,11 @@ pub(crate) trait LowerMembers {
         dst: &mut [ValRaw],
         at: usize,
     ) -> Result<(), Fault>
-        requires known { Knows (types_of cx.old.core.now) ty.now }
-        requires fits { AreOf all cx.old.core.now.component.types (types_from (types_of cx.old.core.now) ty.now k) }
-        requires room { at + members_flat (members_after (types_of cx.old.core.now) ty.now k) ≤ length dst.old }
-        ensures lowers { TypedMembersLower G.seen G.moves cx.old.options cx.old.core.now cx.new.core.now (members_after (types_of cx.old.core.now) ty.now k) dst.new at (have self.old)
-            (row_gives (members_after (types_of cx.old.core.now) ty.now k) (give cx.old.core.now.component.types self.old)) result }
+        requires known { Knows (component_types cx.old.core.now) ty.now }
+        requires fits { AreOf all cx.old.core.now.component.types (types_from (component_types cx.old.core.now) ty.now k) }
+        requires room { at + members_flat (members_after (component_types cx.old.core.now) ty.now k) ≤ length dst.old }
+        ensures lowers { TypedMembersLower G.seen G.moves cx.old.options cx.old.core.now cx.new.core.now (members_after (component_types cx.old.core.now) ty.now k) dst.new at (have self.old)
+            (row_gives (members_after (component_types cx.old.core.now) ty.now k) (give cx.old.core.now.component.types self.old)) result }
         ensures stays { Stays at dst.old dst.new }
         ensures lent { same self.old self.new }
         ensures same_reference { cx.new.core.ghost_name ≡ cx.old.core.ghost_name }
@@ -117,11 +117,11 @@ pub(crate) trait LowerMembers {
         at: u64,
         end: u64,
     ) -> Result<(), Fault>
-        requires known { Knows (types_of cx.old.core.now) ty.now }
-        requires fits { AreOf all cx.old.core.now.component.types (types_from (types_of cx.old.core.now) ty.now k) }
-        requires room { at + members_end false end (members_after (types_of cx.old.core.now) ty.now k) ≤ length cx.old.core.now.memory }
-        ensures stores { TypedMembersStore G.seen G.moves cx.old.options cx.old.core.now cx.new.core.now (members_after (types_of cx.old.core.now) ty.now k) end at (have self.old)
-            (row_gives (members_after (types_of cx.old.core.now) ty.now k) (give cx.old.core.now.component.types self.old)) result }
+        requires known { Knows (component_types cx.old.core.now) ty.now }
+        requires fits { AreOf all cx.old.core.now.component.types (types_from (component_types cx.old.core.now) ty.now k) }
+        requires room { at + members_end false end (members_after (component_types cx.old.core.now) ty.now k) ≤ length cx.old.core.now.memory }
+        ensures stores { TypedMembersStore G.seen G.moves cx.old.options cx.old.core.now cx.new.core.now (members_after (component_types cx.old.core.now) ty.now k) end at (have self.old)
+            (row_gives (members_after (component_types cx.old.core.now) ty.now k) (give cx.old.core.now.component.types self.old)) result }
         ensures lent { same self.old self.new }
         ensures same_reference { cx.new.core.ghost_name ≡ cx.old.core.ghost_name }
         ensures same_options { cx.new.options ≡ cx.old.options };

@@ -1,7 +1,7 @@
 //! Words of parts, and of cases.
 
 ghost use Rattle.std.specs.Prelude.{◌≡◌, ◌≤◌, ◌+◌, IfOk, length};
-ghost use Rattle.canon_context.specs.Core.{types_of};
+ghost use Rattle.canon_context.specs.Core.{component_types};
 ghost use Rattle.canon_lower_parts.specs.Cases.{HasCase, payload_members};
 ghost use Rattle.canon_lower_parts.specs.Gives.{payload_gives};
 ghost use Rattle.canon_typed.specs.Meaning.{CaseMeans};
@@ -26,13 +26,13 @@ pub(crate) fn lower_at<T: Lower, D, G: Guest>(
     dst: &mut [ValRaw],
     at: &mut usize,
 ) -> Result<(), Fault>
-    requires known { Knows (types_of cx.old.core.now) ty }
+    requires known { Knows (component_types cx.old.core.now) ty }
     requires fits { T.fits cx.old.core.now.component.types ty }
-    requires room { at.old + flat (shape_of (types_of cx.old.core.now) ty) ≤ length dst.old }
-    ensures lowers { TypedLowers G.seen G.moves cx.old.options cx.old.core.now cx.new.core.now (shape_of (types_of cx.old.core.now) ty) dst.new at.old (T.walks value.old)
-        (T.gives cx.old.core.now.component.types (shape_of (types_of cx.old.core.now) ty) value.old) result }
+    requires room { at.old + flat (shape_of (component_types cx.old.core.now) ty) ≤ length dst.old }
+    ensures lowers { TypedLowers G.seen G.moves cx.old.options cx.old.core.now cx.new.core.now (shape_of (component_types cx.old.core.now) ty) dst.new at.old (T.walks value.old)
+        (T.gives cx.old.core.now.component.types (shape_of (component_types cx.old.core.now) ty) value.old) result }
     ensures stays { Stays at.old dst.old dst.new }
-    ensures end { at.new ≡ at.old + flat (shape_of (types_of cx.old.core.now) ty) }
+    ensures end { at.new ≡ at.old + flat (shape_of (component_types cx.old.core.now) ty) }
     ensures same_reference { cx.new.core.ghost_name ≡ cx.old.core.ghost_name }
     ensures same_options { cx.new.options ≡ cx.old.options }
 {
@@ -49,12 +49,12 @@ pub(crate) fn lower_case<T: Lower, D, G: Guest>(
     dst: &mut [ValRaw],
     case: u32,
 ) -> Result<(), Fault>
-    requires known { Knows (types_of cx.old.core.now) ty }
+    requires known { Knows (component_types cx.old.core.now) ty }
     requires fits { T.fits cx.old.core.now.component.types ty }
-    requires room { 1 + flat (shape_of (types_of cx.old.core.now) ty) ≤ length dst.old }
-    ensures lowers { TypedLowers G.seen G.moves cx.old.options cx.old.core.now cx.new.core.now (shape_of (types_of cx.old.core.now) ty) dst.new 1 (T.walks value.old)
-        (T.gives cx.old.core.now.component.types (shape_of (types_of cx.old.core.now) ty) value.old) result }
-    ensures words { IfOk result (λ u. IsCaseWords case (1 + flat (shape_of (types_of cx.old.core.now) ty)) dst.new) }
+    requires room { 1 + flat (shape_of (component_types cx.old.core.now) ty) ≤ length dst.old }
+    ensures lowers { TypedLowers G.seen G.moves cx.old.options cx.old.core.now cx.new.core.now (shape_of (component_types cx.old.core.now) ty) dst.new 1 (T.walks value.old)
+        (T.gives cx.old.core.now.component.types (shape_of (component_types cx.old.core.now) ty) value.old) result }
+    ensures words { IfOk result (λ u. IsCaseWords case (1 + flat (shape_of (component_types cx.old.core.now) ty)) dst.new) }
     ensures count { length dst.new ≡ length dst.old }
     ensures same_reference { cx.new.core.ghost_name ≡ cx.old.core.ghost_name }
     ensures same_options { cx.new.options ≡ cx.old.options }
@@ -78,10 +78,10 @@ pub(crate) fn lower_payload<T: Lower, D, G: Guest>(
     dst: &mut [ValRaw],
     case: u32,
 ) -> Result<(), Fault>
-    requires known { KnowsPayload (types_of cx.old.core.now) ty }
+    requires known { KnowsPayload (component_types cx.old.core.now) ty }
     requires fits { IsPayloadOf T.is_unit T.fits cx.old.core.now.component.types ty }
-    requires room { 1 + members_flat (payload_members (payload_in (all_shapes (types_of cx.old.core.now)) ty)) ≤ length dst.old }
-    ensures lowers { (s : Shape) → HasCase s case (payload_in (all_shapes (types_of cx.old.core.now)) ty) → length dst.old ≡ flat s
+    requires room { 1 + members_flat (payload_members (payload_in (all_shapes (component_types cx.old.core.now)) ty)) ≤ length dst.old }
+    ensures lowers { (s : Shape) → HasCase s case (payload_in (all_shapes (component_types cx.old.core.now)) ty) → length dst.old ≡ flat s
         → TypedLowers G.seen G.moves cx.old.options cx.old.core.now cx.new.core.now s dst.new 0 (CaseMeans T.is_unit T.walks case value.old)
         (payload_gives T.is_unit T.gives case cx.old.core.now.component.types s value.old) result }
     ensures count { length dst.new ≡ length dst.old }
@@ -106,10 +106,10 @@ pub(crate) fn lower_shared_payload<T: LowerShared, D, G: Guest>(
     dst: &mut [ValRaw],
     case: u32,
 ) -> Result<(), Fault>
-    requires known { KnowsPayload (types_of cx.old.core.now) ty }
+    requires known { KnowsPayload (component_types cx.old.core.now) ty }
     requires fits { IsPayloadOf T.is_unit T.fits cx.old.core.now.component.types ty }
-    requires room { 1 + members_flat (payload_members (payload_in (all_shapes (types_of cx.old.core.now)) ty)) ≤ length dst.old }
-    ensures lowers { (s : Shape) → HasCase s case (payload_in (all_shapes (types_of cx.old.core.now)) ty) → length dst.old ≡ flat s
+    requires room { 1 + members_flat (payload_members (payload_in (all_shapes (component_types cx.old.core.now)) ty)) ≤ length dst.old }
+    ensures lowers { (s : Shape) → HasCase s case (payload_in (all_shapes (component_types cx.old.core.now)) ty) → length dst.old ≡ flat s
         → TypedLowers G.seen G.moves cx.old.options cx.old.core.now cx.new.core.now s dst.new 0 (CaseMeans T.is_unit T.walks case value.now)
         (payload_gives T.is_unit T.gives case cx.old.core.now.component.types s value.now) result }
     ensures count { length dst.new ≡ length dst.old }

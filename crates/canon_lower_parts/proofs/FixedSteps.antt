@@ -2,7 +2,7 @@
 use Rattle.std.proofs.Common.{◌≡◌, ◌≤◌, ◌+◌, ◌*◌, ◌∙◌, List, Result, Some, ap, arith, false, length, refl, subst, sym, ℕ}
 use Rattle.std.specs.Prelude.{flat_map}
 use Rattle.canon_context.proofs.Moves.{GuestLaws}
-use Rattle.canon_context.specs.Core.{Parts, encoding_by, moment_of, types_of}
+use Rattle.canon_context.specs.Core.{Parts, encoding_by, moment_of, component_types}
 use Rattle.canon_context.specs.declared.fault.Fault.{Fault}
 use Rattle.canon_leaves.specs.Parts.{Part}
 use Rattle.canon_lowering.proofs.AimedAt as aimed
@@ -44,12 +44,12 @@ fixed_found count Fits i t2 type j element n e is fits defined =
     })
 
 module _ {D G : Type 0} (L : GuestLaws G) (options : ℕ) {A : Type 0} (Walks : A → Tree → Type 0) (gives : Instance → Shape → A → List (List Part)) (Fits : Instance → InterfaceType → Type 0) (a : Parts D G) (type element : InterfaceType) (xs : List A) (n : ℕ)
-    (of : IsElementOf (λ s. fixed n s) Fits a.component.types type element) (is : length xs ≡ n) (at : ℕ) (room : at + size false (shape_of (types_of a) type) ≤ length a.memory) where
+    (of : IsElementOf (λ s. fixed n s) Fits a.component.types type element) (is : length xs ≡ n) (at : ℕ) (room : at + size false (shape_of (component_types a) type) ≤ length a.memory) where
   abbrev s : Shape
-  s = shape_of (types_of a) element
+  s = shape_of (component_types a) element
 
   abbrev z : Shape
-  z = shape_of (types_of a) type
+  z = shape_of (component_types a) type
 
   pub fixed_room : at + length xs * size false s ≤ length a.memory
   unfolding size

@@ -2,7 +2,7 @@
 use Rattle.std.proofs.Common.{◌≡◌, ◌≤◌, ◌+◌, ◌*◌, ◌∙◌, Err, List, Ok, Result, Some, ap, arith, false, length, refl, subst, sym, true, ℕ}
 use Rattle.std.specs.Prelude.{flat_map}
 use Rattle.canon_context.proofs.Moves.{GuestLaws}
-use Rattle.canon_context.specs.Core.{Parts, types_of}
+use Rattle.canon_context.specs.Core.{Parts, component_types}
 use Rattle.canon_context.specs.Quiet.{has_block}
 use Rattle.canon_context.specs.declared.fault.Fault.{Fault}
 use Rattle.canon_leaves.specs.Parts.{Part}
@@ -74,10 +74,10 @@ module _ {D G : Type 0} (L : GuestLaws G) (options : ℕ) {A : Type 0} (Walks : 
 module _ {D G : Type 0} (L : GuestLaws G) (options : ℕ) {A : Type 0} (Walks : A → Tree → Type 0) (gives : Instance → Shape → A → List (List Part)) (Fits : Instance → InterfaceType → Type 0) (a b : Parts D G) (type element : InterfaceType) (xs : List A) (n : ℕ)
     (of : IsElementOf (λ s. list of_items s) Fits a.component.types type element) (is : n ≡ length xs) where
   abbrev s : Shape
-  s = shape_of (types_of a) element
+  s = shape_of (component_types a) element
 
   abbrev z : Shape
-  z = shape_of (types_of a) type
+  z = shape_of (component_types a) type
 
   abbrev all_gives : List (List Part)
   all_gives = flat_map (gives a.component.types (item_shape z)) xs
@@ -89,26 +89,26 @@ module _ {D G : Type 0} (L : GuestLaws G) (options : ℕ) {A : Type 0} (Walks : 
     instance : b.component.types ≡ a.component.types
     instance = handles_instance a b (same_handles a b g.asked.same)
 
-    pub items_known : Knows (types_of b) element
+    pub items_known : Knows (component_types b) element
     items_known = subst (λ (i : Instance). Knows i.types element) (sym instance) of.known
 
     pub items_fits : Fits b.component.types element
     items_fits = subst (λ (i : Instance). Fits i element) (sym instance) of.fits
 
-    pub items_room : p + length xs * size false (shape_of (types_of b) element) ≤ length b.memory
+    pub items_room : p + length xs * size false (shape_of (component_types b) element) ≤ length b.memory
     items_room =
-        let same : length xs * size false (shape_of (types_of b) element) ≡ n * size false s = ap (λ (i : Instance). length xs * size false (shape_of i.types element)) instance ∙ ap (λ (k : ℕ). k * size false s) (sym is) in
+        let same : length xs * size false (shape_of (component_types b) element) ≡ n * size false s = ap (λ (i : Instance). length xs * size false (shape_of i.types element)) instance ∙ ap (λ (k : ℕ). k * size false s) (sym is) in
         omega (arith, same, g.asked.does.inside)
 
     abbrev pub Items : Result (Unit {0}) Fault → Type 0
-    Items r = TypedMembersStore L.seen L.moves options2 b c (copies (length xs) (shape_of (types_of b) element)) 0 p (EachMeans Walks xs) (flat_map (gives b.component.types (shape_of (types_of b) element)) xs) r
+    Items r = TypedMembersStore L.seen L.moves options2 b c (copies (length xs) (shape_of (component_types b) element)) 0 p (EachMeans Walks xs) (flat_map (gives b.component.types (shape_of (component_types b) element)) xs) r
 
     stood : (r : Result (Unit {0}) Fault) → Items r → TypedMembersStore L.seen L.moves options b c (copies (length xs) s) 0 p (EachMeans Walks xs) all_gives r
     stood r h =
         let part : s ≡ item_shape z = sym (ap item_shape of.shape) in
         subst (λ (u : Shape). TypedMembersStore L.seen L.moves options b c (copies (length xs) s) 0 p (EachMeans Walks xs) (flat_map (gives a.component.types u) xs) r) part
         (subst (λ (i : Instance). TypedMembersStore L.seen L.moves options b c (copies (length xs) (shape_of i.types element)) 0 p (EachMeans Walks xs) (flat_map (gives i (shape_of i.types element)) xs) r) instance
-        (subst (λ (o : ℕ). TypedMembersStore L.seen L.moves o b c (copies (length xs) (shape_of (types_of b) element)) 0 p (EachMeans Walks xs) (flat_map (gives b.component.types (shape_of (types_of b) element)) xs) r) eo h))
+        (subst (λ (o : ℕ). TypedMembersStore L.seen L.moves o b c (copies (length xs) (shape_of (component_types b) element)) 0 p (EachMeans Walks xs) (flat_map (gives b.component.types (shape_of (component_types b) element)) xs) r) eo h))
 
     pub items_filled : Items (Ok tt) → TypedPlaces L.seen L.moves options a c z (ListMeans Walks xs) all_gives (Ok (record { pointer = p; length = n }))
     items_filled h = list_filled L options Walks (gives a.component.types (item_shape z)) a b z s of_items of.shape xs n is c p g (stood (Ok tt) h)

@@ -2,7 +2,7 @@
 use Rattle.std.proofs.Common.{◌≡◌, ◌≤◌, ◌<◌, ◌+◌, ◌*◌, ◌∙◌, Err, List, Ok, Result, Some, ap, arith, false, length, subst, suc, suc-mul, sym, zero, ℕ}
 use Rattle.std.specs.Prelude.{flat_map}
 use Rattle.canon_context.proofs.Moves.{GuestLaws}
-use Rattle.canon_context.specs.Core.{Parts, types_of}
+use Rattle.canon_context.specs.Core.{Parts, component_types}
 use Rattle.canon_context.specs.declared.fault.Fault.{Fault}
 use Rattle.canon_leaves.specs.Parts.{Part}
 use Rattle.canon_lowering.specs.Copies.{copies}
@@ -53,12 +53,12 @@ pair_found Key Value i t2 type j m e is fits defined pair =
 
 module _ {D G A : Type 0} (seen : G → Seen) (moves : GuestIn G → List Event → GuestIn G → Type 0) (options : ℕ) (Walks : A → Tree → Type 0) (gives : Instance → Shape → A → List (List Part)) where
   pub pair_stood : (i : Instance) (now now2 : Parts D G) (options2 : ℕ) (p : PairType) (at place : ℕ) (x : A) (r : Result (Unit {0}) Fault) → options2 ≡ options → now.component.types ≡ i → at ≡ place
-      → TypedStores seen moves options2 now now2 (pair_in (types_of now) p) at (Walks x) (gives now.component.types (pair_in (types_of now) p) x) r
+      → TypedStores seen moves options2 now now2 (pair_in (component_types now) p) at (Walks x) (gives now.component.types (pair_in (component_types now) p) x) r
       → TypedStores seen moves options now now2 (pair_in i.types p) place (Walks x) (gives i (pair_in i.types p) x) r
   pair_stood i now now2 options2 p at place x r eo ei is h =
       subst (λ (n : ℕ). TypedStores seen moves options now now2 (pair_in i.types p) n (Walks x) (gives i (pair_in i.types p) x) r) is
       (subst (λ (z : Instance). TypedStores seen moves options now now2 (pair_in z.types p) at (Walks x) (gives z (pair_in z.types p) x) r) ei
-      (subst (λ (n : ℕ). TypedStores seen moves n now now2 (pair_in (types_of now) p) at (Walks x) (gives now.component.types (pair_in (types_of now) p) x) r) eo h))
+      (subst (λ (n : ℕ). TypedStores seen moves n now now2 (pair_in (component_types now) p) at (Walks x) (gives now.component.types (pair_in (component_types now) p) x) r) eo h))
 
 -- room for one more of so many
 pub one_inside : (k n bytes : ℕ) → k < n → k * bytes + bytes ≤ n * bytes
@@ -73,12 +73,12 @@ map_is Key Value i (ty.Map j) (key, value, d, f, f2) = (shape_of i.types key, sh
 map_is Key Value i _ h = absurd h
 
 module _ {D G : Type 0} (L : GuestLaws G) (options : ℕ) {K V : Type 0} (Walks : K × V → Tree → Type 0) (gives : Instance → Shape → K × V → List (List Part)) (Key Value : Instance → InterfaceType → Type 0) (a b : Parts D G) (type : InterfaceType) (pair : PairType)
-    (xs : List (K × V)) (n : ℕ) (shape : shape_of (types_of a) type ≡ map_of (shape_of (types_of a) pair.key) (shape_of (types_of a) pair.value)) (is : n ≡ length xs) where
+    (xs : List (K × V)) (n : ℕ) (shape : shape_of (component_types a) type ≡ map_of (shape_of (component_types a) pair.key) (shape_of (component_types a) pair.value)) (is : n ≡ length xs) where
   abbrev s : Shape
-  s = pair_in (types_of a) pair
+  s = pair_in (component_types a) pair
 
   abbrev z : Shape
-  z = shape_of (types_of a) type
+  z = shape_of (component_types a) type
 
   abbrev all_gives : List (List Part)
   all_gives = flat_map (gives a.component.types (item_shape z)) xs
@@ -93,20 +93,20 @@ module _ {D G : Type 0} (L : GuestLaws G) (options : ℕ) {K V : Type 0} (Walks 
     pub pairs_fit : IsPairType Key Value a.component.types pair → IsPairType Key Value b.component.types pair
     pairs_fit h = subst (λ (i : Instance). IsPairType Key Value i pair) (sym instance) h
 
-    pub pairs_room : p + length xs * size false (pair_in (types_of b) pair) ≤ length b.memory
+    pub pairs_room : p + length xs * size false (pair_in (component_types b) pair) ≤ length b.memory
     pairs_room =
-        let same : length xs * size false (pair_in (types_of b) pair) ≡ n * size false s = ap (λ (i : Instance). length xs * size false (pair_in i.types pair)) instance ∙ ap (λ (k : ℕ). k * size false s) (sym is) in
+        let same : length xs * size false (pair_in (component_types b) pair) ≡ n * size false s = ap (λ (i : Instance). length xs * size false (pair_in i.types pair)) instance ∙ ap (λ (k : ℕ). k * size false s) (sym is) in
         omega (arith, same, g.asked.does.inside)
 
     abbrev pub Pairs : Result (Unit {0}) Fault → Type 0
-    Pairs r = TypedMembersStore L.seen L.moves options2 b c (copies (length xs) (pair_in (types_of b) pair)) 0 p (EachMeans Walks xs) (flat_map (gives b.component.types (pair_in (types_of b) pair)) xs) r
+    Pairs r = TypedMembersStore L.seen L.moves options2 b c (copies (length xs) (pair_in (component_types b) pair)) 0 p (EachMeans Walks xs) (flat_map (gives b.component.types (pair_in (component_types b) pair)) xs) r
 
     stood : (r : Result (Unit {0}) Fault) → Pairs r → TypedMembersStore L.seen L.moves options b c (copies (length xs) s) 0 p (EachMeans Walks xs) all_gives r
     stood r h =
         let part : s ≡ item_shape z = sym (ap item_shape shape) in
         subst (λ (u : Shape). TypedMembersStore L.seen L.moves options b c (copies (length xs) s) 0 p (EachMeans Walks xs) (flat_map (gives a.component.types u) xs) r) part
         (subst (λ (i : Instance). TypedMembersStore L.seen L.moves options b c (copies (length xs) (pair_in i.types pair)) 0 p (EachMeans Walks xs) (flat_map (gives i (pair_in i.types pair)) xs) r) instance
-        (subst (λ (o : ℕ). TypedMembersStore L.seen L.moves o b c (copies (length xs) (pair_in (types_of b) pair)) 0 p (EachMeans Walks xs) (flat_map (gives b.component.types (pair_in (types_of b) pair)) xs) r) eo h))
+        (subst (λ (o : ℕ). TypedMembersStore L.seen L.moves o b c (copies (length xs) (pair_in (component_types b) pair)) 0 p (EachMeans Walks xs) (flat_map (gives b.component.types (pair_in (component_types b) pair)) xs) r) eo h))
 
     pub pairs_filled : Pairs (Ok tt) → TypedPlaces L.seen L.moves options a c z (ListMeans Walks xs) all_gives (Ok (record { pointer = p; length = n }))
     pairs_filled h = list_filled L options Walks (gives a.component.types (item_shape z)) a b z s of_pairs shape xs n is c p g (stood (Ok tt) h)

@@ -6,7 +6,7 @@ use Rattle.std.specs.Int.{◌∣◌}
 use Rattle.std.specs.Prelude.{flat_map}
 use Rattle.canon_context.proofs.Moves.{GuestLaws}
 use Rattle.canon_context.specs.Asks.{SameButHandles}
-use Rattle.canon_context.specs.Core.{Parts, types_of}
+use Rattle.canon_context.specs.Core.{Parts, component_types}
 use Rattle.canon_context.specs.declared.fault.Fault.{Fault}
 use Rattle.canon_leaves.specs.Parts.{Part}
 use Rattle.canon_lowering.proofs.Copying.{begins-same, ends-same}
@@ -91,9 +91,9 @@ module _ {D G : Type 0} (L : GuestLaws G) (options : ℕ) {A : Type 0} (Walks : 
 
 module _ {D G A : Type 0} (seen : G → Seen) (moves : GuestIn G → List Event → GuestIn G → Type 0) (options : ℕ) (Walks : A → Tree → Type 0) (gives : Instance → Shape → A → List (List Part)) where
   pub item_stood : (i : Instance) (now now2 : Parts D G) (options2 : ℕ) (type : InterfaceType) (at k bytes : ℕ) (x : A) (r : Result (Unit {0}) Fault) → options2 ≡ options → now.component.types ≡ i → bytes ≡ size false (shape_of i.types type)
-      → TypedStores seen moves options2 now now2 (shape_of (types_of now) type) (at + k * bytes) (Walks x) (gives now.component.types (shape_of (types_of now) type) x) r
+      → TypedStores seen moves options2 now now2 (shape_of (component_types now) type) (at + k * bytes) (Walks x) (gives now.component.types (shape_of (component_types now) type) x) r
       → TypedStores seen moves options now now2 (shape_of i.types type) (at + k * size false (shape_of i.types type)) (Walks x) (gives i (shape_of i.types type) x) r
   item_stood i now now2 options2 type at k bytes x r eo ei is h =
       subst (λ (n : ℕ). TypedStores seen moves options now now2 (shape_of i.types type) (at + k * n) (Walks x) (gives i (shape_of i.types type) x) r) is
       (subst (λ (z : Instance). TypedStores seen moves options now now2 (shape_of z.types type) (at + k * bytes) (Walks x) (gives z (shape_of z.types type) x) r) ei
-      (subst (λ (n : ℕ). TypedStores seen moves n now now2 (shape_of (types_of now) type) (at + k * bytes) (Walks x) (gives now.component.types (shape_of (types_of now) type) x) r) eo h))
+      (subst (λ (n : ℕ). TypedStores seen moves n now now2 (shape_of (component_types now) type) (at + k * bytes) (Walks x) (gives now.component.types (shape_of (component_types now) type) x) r) eo h))

@@ -13,7 +13,7 @@ use Rattle.canon_model.specs.Rep.{IsLeast, ScalarIs}
 use Rattle.canon_model.specs.Shape.{Scalar, Shape, scalar}
 use Rattle.canon_model.specs.Tree.{Tree}
 use Rattle.canon_value_parts.proofs.StoreSteps.{least_low, scalar_bytes}
-use Rattle.canon_lower_parts.specs.Scalars.{IsScalarWord}
+use Rattle.canon_lower_parts.specs.Scalars.{IsWordOfScalar}
 use Rattle.canon_lower_parts.specs.Stores.{IsPut, TypedStores}
 
 pub scalar_few : (s : Shape) (k : Scalar) → s ≡ scalar k → size false s ≤ 8
@@ -22,7 +22,7 @@ scalar_few s k e = subst (λ (z : Shape). size false z ≤ 8) (sym e) (scalar_by
 
 module _ {D G : Type 0} (L : GuestLaws G) (options : ℕ) where
   pub scalar_stores : (a b : Parts D G) (s : Shape) (k : Scalar) (at w bytes : ℕ) (Has : Tree → Type 0) → length a.memory ≤ 2 ^ 32 → s ≡ scalar k → at + size false s ≤ length a.memory → bytes ≡ size false s → IsPut a b at w bytes
-      → IsScalarWord k Has w → TypedStores L.seen L.moves options a b s at Has [] (Ok tt)
+      → IsWordOfScalar k Has w → TypedStores L.seen L.moves options a b s at Has [] (Ok tt)
   unfolding size
   scalar_stores a b s k at w bytes Has small shape room is put (t, has, word, least) =
       let (low, lowest) = least_low k w t word least in

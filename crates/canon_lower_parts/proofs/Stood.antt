@@ -1,6 +1,6 @@
 -- What was stored, said of the types and the options of the start.
 use Rattle.std.proofs.Common.{◌≡◌, List, Result, subst, ℕ}
-use Rattle.canon_context.specs.Core.{Parts, types_of}
+use Rattle.canon_context.specs.Core.{Parts, component_types}
 use Rattle.canon_context.specs.declared.fault.Fault.{Fault}
 use Rattle.canon_leaves.specs.Parts.{Part}
 use Rattle.canon_memory.specs.Guest.{GuestIn, Seen}
@@ -14,8 +14,8 @@ use Rattle.canon_lower_parts.specs.Stores.{TypedStores}
 
 module _ {D G A : Type 0} (seen : G → Seen) (moves : GuestIn G → List Event → GuestIn G → Type 0) (options : ℕ) (Walks : A → Tree → Type 0) (gives : Instance → Shape → A → List (List Part)) where
   pub value_stood : (i : Instance) (b c : Parts D G) (options2 : ℕ) (type : InterfaceType) (at : ℕ) (x : A) (r : Result (Unit {0}) Fault) → options2 ≡ options → b.component.types ≡ i
-      → TypedStores seen moves options2 b c (shape_of (types_of b) type) at (Walks x) (gives b.component.types (shape_of (types_of b) type) x) r
+      → TypedStores seen moves options2 b c (shape_of (component_types b) type) at (Walks x) (gives b.component.types (shape_of (component_types b) type) x) r
       → TypedStores seen moves options b c (shape_of i.types type) at (Walks x) (gives i (shape_of i.types type) x) r
   value_stood i b c options2 type at x r eo ei h =
       subst (λ (z : Instance). TypedStores seen moves options b c (shape_of z.types type) at (Walks x) (gives z (shape_of z.types type) x) r) ei
-      (subst (λ (n : ℕ). TypedStores seen moves n b c (shape_of (types_of b) type) at (Walks x) (gives b.component.types (shape_of (types_of b) type) x) r) eo h)
+      (subst (λ (n : ℕ). TypedStores seen moves n b c (shape_of (component_types b) type) at (Walks x) (gives b.component.types (shape_of (component_types b) type) x) r) eo h)

@@ -2,7 +2,7 @@
 use Rattle.std.proofs.Common.{◌≡◌, ◌≤◌, ◌+◌, Result, arith, length, ◌⊎◌, ◌∷◌, Err, List, Ok, String, [], ap, false, inl, inr, refl, string_bytes, subst, sym, ℕ}
 use Rattle.std.specs.declared.alloc.Global.{Global}
 use Rattle.canon_context.proofs.Moves.{GuestLaws}
-use Rattle.canon_context.specs.Core.{Parts, encoding_by, moment_of, types_of}
+use Rattle.canon_context.specs.Core.{Parts, encoding_by, moment_of, component_types}
 use Rattle.canon_context.specs.Lowers.{fault_ending}
 use Rattle.canon_context.specs.declared.fault.Fault.{Fault}
 use Rattle.canon_context.specs.declared.fault.Fault.TheVariants as fault
@@ -112,16 +112,16 @@ module _ {D G : Type 0} (L : GuestLaws G) (options : ℕ) (a b : Parts D G) (s :
 
 -- ---- in memory: a pointer and a length
 
-module _ {D G : Type 0} (L : GuestLaws G) (options : ℕ) (a b : Parts D G) (type : InterfaceType) (is : type ≡ ty.String) (at : ℕ) (room : at + size false (shape_of (types_of a) type) ≤ length a.memory) (Has : Tree → Type 0) (gs : List (List Part)) where
-  shape : shape_of (types_of a) type ≡ string
-  shape = ap (shape_of (types_of a)) is
+module _ {D G : Type 0} (L : GuestLaws G) (options : ℕ) (a b : Parts D G) (type : InterfaceType) (is : type ≡ ty.String) (at : ℕ) (room : at + size false (shape_of (component_types a) type) ≤ length a.memory) (Has : Tree → Type 0) (gs : List (List Part)) where
+  shape : shape_of (component_types a) type ≡ string
+  shape = ap (shape_of (component_types a)) is
 
   pub text_room : (r : Result Placed Fault) → TypedPlaces L.seen L.moves options a b string Has gs r → at + 8 ≤ length b.memory
   unfolding size
   text_room r h = omega (arith, room, ap (size false) shape, h.placed.attempt.lowering.goes.no_shorter)
 
-  pub text_stores : (c : Parts D G) (x : Placed) → TypedPlaces L.seen L.moves options a b string Has gs (Ok x) → IsPairPut b c at x.pointer x.length → TypedStores L.seen L.moves options a c (shape_of (types_of a) type) at Has gs (Ok tt)
+  pub text_stores : (c : Parts D G) (x : Placed) → TypedPlaces L.seen L.moves options a b string Has gs (Ok x) → IsPairPut b c at x.pointer x.length → TypedStores L.seen L.moves options a c (shape_of (component_types a) type) at Has gs (Ok tt)
   text_stores c x h w = subst (λ (s : Shape). TypedStores L.seen L.moves options a c s at Has gs (Ok tt)) (sym shape) (text_put L options a b c at Has gs x (text_room (Ok x) h) w h)
 
-  pub text_stops : (e : Fault) → TypedPlaces L.seen L.moves options a b string Has gs (Err e) → TypedStores L.seen L.moves options a b (shape_of (types_of a) type) at Has gs (Err e)
+  pub text_stops : (e : Fault) → TypedPlaces L.seen L.moves options a b string Has gs (Err e) → TypedStores L.seen L.moves options a b (shape_of (component_types a) type) at Has gs (Err e)
   text_stops e h = subst (λ (s : Shape). TypedStores L.seen L.moves options a b s at Has gs (Err e)) (sym shape) (placed_stops L options a b string at Has gs e refl h)

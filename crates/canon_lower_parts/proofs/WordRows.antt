@@ -2,7 +2,7 @@
 use Rattle.std.proofs.Common.{◌≡◌, ◌≤◌, ◌+◌, ◌*◌, ◌^◌, ◌∙◌, Err, List, Ok, Result, [], ◌∷◌, ap, arith, drop, false, length, refl, subst, sym, ℕ}
 use Rattle.std.specs.Prelude.{flat_map}
 use Rattle.canon_context.proofs.Moves.{GuestLaws}
-use Rattle.canon_context.specs.Core.{Parts, encoding_by, moment_of, types_of}
+use Rattle.canon_context.specs.Core.{Parts, encoding_by, moment_of, component_types}
 use Rattle.canon_context.specs.Quiet.{has_block, have_block}
 use Rattle.canon_context.specs.declared.fault.Fault.{Fault}
 use Rattle.canon_leaves.specs.Parts.{Part}
@@ -34,7 +34,7 @@ use Rattle.canon_value_parts.proofs.Walks.{copies_quiet}
 
 module _ {D G A : Type 0} (seen : G → Seen) (moves : GuestIn G → List Event → GuestIn G → Type 0) (options : ℕ) (start : Parts D G) (type : InterfaceType) (Walks : A → Tree → Type 0) (f : Instance → Shape → A → List (List Part)) (xs : List A) where
   abbrev item : Shape
-  item = shape_of (types_of start) type
+  item = shape_of (component_types start) type
 
   abbrev pub each_gives : List A → List (List Part)
   each_gives ys = flat_map (f start.component.types item) ys
@@ -49,7 +49,7 @@ module _ {D G A : Type 0} (seen : G → Seen) (moves : GuestIn G → List Event 
 
 module _ {D G A : Type 0} (L : GuestLaws G) (options : ℕ) (start : Parts D G) (type : InterfaceType) (Walks : A → Tree → Type 0) (f : Instance → Shape → A → List (List Part)) (xs : List A) where
   abbrev one : Shape
-  one = shape_of (types_of start) type
+  one = shape_of (component_types start) type
 
   abbrev gives : List A → List (List Part)
   gives ys = each_gives L.seen L.moves options start type Walks f xs ys
@@ -73,12 +73,12 @@ module _ {D G A : Type 0} (L : GuestLaws G) (options : ℕ) (start : Parts D G) 
     next = subst (λ (us : List A). Row now opts ws at us) is h
 
     abbrev Item : Parts D G → List ℕ → Result (Unit {0}) Fault → Type 0
-    Item c vs r = TypedLowers L.seen L.moves opts now c (shape_of (types_of now) type) vs at (Walks x) (f now.component.types (shape_of (types_of now) type) x) r
+    Item c vs r = TypedLowers L.seen L.moves opts now c (shape_of (component_types now) type) vs at (Walks x) (f now.component.types (shape_of (component_types now) type) x) r
 
-    pub row_room : at + flat (shape_of (types_of now) type) ≤ length ws
+    pub row_room : at + flat (shape_of (component_types now) type) ≤ length ws
     row_room = done_room L options start (copies (length xs) one) (EachMeans Walks xs) (gives xs) now opts ws at type (copies (length zs) one) (Walks x) (EachMeans Walks zs) (λ i u. f i u x) (gives zs) next
 
-    pub row_more : (c : Parts D G) (opts2 : ℕ) (vs : List ℕ) (at2 : ℕ) → ((t : Tree) → Walks x t → Fits one t) → Stays at ws vs → at2 ≡ at + flat (shape_of (types_of now) type) → opts2 ≡ opts → Item c vs (Ok tt) → Row c opts2 vs at2 zs
+    pub row_more : (c : Parts D G) (opts2 : ℕ) (vs : List ℕ) (at2 : ℕ) → ((t : Tree) → Walks x t → Fits one t) → Stays at ws vs → at2 ≡ at + flat (shape_of (component_types now) type) → opts2 ≡ opts → Item c vs (Ok tt) → Row c opts2 vs at2 zs
     row_more c opts2 vs at2 fits stays end eo low =
         done_more L options start (copies (length xs) one) (EachMeans Walks xs) (gives xs) now opts ws at type (copies (length zs) one) (Walks x) (EachMeans Walks zs) (λ i u. f i u x) (gives zs) next c opts2 vs at2 fits stays end eo low
 

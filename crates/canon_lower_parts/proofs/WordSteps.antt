@@ -16,7 +16,7 @@ use Rattle.canon_value_parts.proofs.Steps.{no_first, no_later}
 use Rattle.canon_lower_parts.proofs.TooLarge.{first_large, product_large}
 use Rattle.canon_lower_parts.specs.Blames.{HasLarge, HaveLarge}
 use Rattle.canon_lower_parts.specs.Lowers.{TypedAttempt}
-use Rattle.canon_lower_parts.specs.Scalars.{IsScalarWord}
+use Rattle.canon_lower_parts.specs.Scalars.{IsWordOfScalar}
 use Rattle.canon_lower_parts.specs.Words.{Stays, TypedLowers, TypedMembersLower}
 use Rattle.canon_lowering.proofs.Attempts.{FirstAnd, attempt_none}
 use Rattle.canon_lowering.proofs.AimedWords.{members_words_cons, members_words_stop, product_words, scalar_words, words_moved}
@@ -58,7 +58,7 @@ module _ {D G : Type 0} (L : GuestLaws G) (options : ℕ) where
 
   -- ---- a scalar
 
-  pub scalar_lowers : (a : Parts D G) (dst : List ℕ) (s : Shape) (k : Scalar) (Has : Tree → Type 0) (w : ℕ) → length a.memory ≤ 2 ^ 32 → s ≡ scalar k → length dst ≡ flat s → IsScalarWord k Has w
+  pub scalar_lowers : (a : Parts D G) (dst : List ℕ) (s : Shape) (k : Scalar) (Has : Tree → Type 0) (w : ℕ) → length a.memory ≤ 2 ^ 32 → s ≡ scalar k → length dst ≡ flat s → IsWordOfScalar k Has w
       → Low a a s (set dst 0 w) 0 Has [] (Ok tt)
   unfolding flat
   scalar_lowers a dst s k Has w small shape room (t, has, is, least) =

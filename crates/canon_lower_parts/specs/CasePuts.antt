@@ -1,6 +1,6 @@
 -- The payload of a case: none where its Rust type is the unit.
 use Rattle.std.specs.Prelude.{◌≡◌, ◌≤◌, ◌+◌, ◌^◌, Bool, List, None, Option, Some, [], false, length, suc, true, zero, ℕ}
-use Rattle.canon_context.specs.Core.{Parts, types_of}
+use Rattle.canon_context.specs.Core.{Parts, component_types}
 use Rattle.canon_model.specs.Layout.{payload_offset, tag_size}
 use Rattle.canon_model.specs.Shape.{Cases, Shape, VariantKind, case_count, no_members, of_places, option_of, product, result_of, variant}
 use Rattle.canon_model.specs.Tree.{Tree, Trees}
@@ -39,8 +39,8 @@ part_gives true gs = []
 part_gives false gs = gs
 
 -- a shape with cases
-abbrev pub HasCases : Shape → Type 0
-HasCases s = (k : VariantKind) × (s ≡ variant k (variant_cases s))
+abbrev pub IsVariantShape : Shape → Type 0
+IsVariantShape s = (k : VariantKind) × (s ≡ variant k (variant_cases s))
 
 -- the number of a case was written where the variant begins; its payload begins at `place`
 pub record IsCasePut {D G : Type 0} (before after : Parts D G) (cs : Cases) (at d place : ℕ) : Type 0 where
@@ -50,18 +50,18 @@ pub record IsCasePut {D G : Type 0} (before after : Parts D G) (cs : Cases) (at 
 
 -- the number of an option's case was written, and this is the type of its payload
 pub record IsOptionPut {D G : Type 0} (Fits : Instance → InterfaceType → Type 0) (before after : Parts D G) (type : InterfaceType) (at d : ℕ) (some : InterfaceType) (place : ℕ) : Type 0 where
-  pub shape : shape_of (types_of before) type ≡ option_of (shape_of (types_of before) some)
-  pub known : Knows (types_of before) some
+  pub shape : shape_of (component_types before) type ≡ option_of (shape_of (component_types before) some)
+  pub known : Knows (component_types before) some
   pub fits : Fits before.component.types some
-  pub put : IsCasePut before after (variant_cases (shape_of (types_of before) type)) at d place
+  pub put : IsCasePut before after (variant_cases (shape_of (component_types before) type)) at d place
 
 -- the number of a result's case was written, and this is its payload's type
 pub record IsResultPut {D G : Type 0} (unit : Bool) (Good : Instance → InterfaceType → Type 0) (unit2 : Bool) (Bad : Instance → InterfaceType → Type 0) (before after : Parts D G) (type : InterfaceType) (at d : ℕ) (payload : Option InterfaceType) (place : ℕ) : Type 0 where
   pub first : Option InterfaceType
   pub second : Option InterfaceType
-  pub shape : shape_of (types_of before) type ≡ result_of (payload_in (all_shapes (types_of before)) first) (payload_in (all_shapes (types_of before)) second)
+  pub shape : shape_of (component_types before) type ≡ result_of (payload_in (all_shapes (component_types before)) first) (payload_in (all_shapes (component_types before)) second)
   pub part : payload ≡ pick d first second
-  pub known : KnowsPayload (types_of before) payload
+  pub known : KnowsPayload (component_types before) payload
   pub fits : IsPayloadOf unit Good before.component.types first
   pub fits2 : IsPayloadOf unit2 Bad before.component.types second
-  pub put : IsCasePut before after (variant_cases (shape_of (types_of before) type)) at d place
+  pub put : IsCasePut before after (variant_cases (shape_of (component_types before) type)) at d place

@@ -50,8 +50,8 @@ held_gives kind state rep i s = []
 
 -- Where the handle of one is that was in no table and was to be lent: at the index that the host's table gave; or in no table still, where it
 -- was refused (`ok` is false) and nothing changed.
-abbrev pub IsPlaced : Bool → ℕ → LedgerState → LedgerState → ResourceState → Type 0
-IsPlaced ok rep before after new =
+abbrev pub IsPutInTable : Bool → ℕ → LedgerState → LedgerState → ResourceState → Type 0
+IsPutInTable ok rep before after new =
     ((x : GivenIndex) × ((given before (host_resource_lower_own before rep None None)).answer ≡ Ok x) × (new ≡ state.Index x) × (after ≢ before))
     ⊎ ((ok ≡ false) × (after ≡ before) × (new ≡ state.NotInTable))
 
@@ -59,7 +59,7 @@ IsPlaced ok rep before after new =
 -- own, one that was in no table is taken, also where the guest's table refused it. As borrow, it was put into the host's. Every other stays.
 abbrev pub StateAfter : Bool → Bool → Bool → ResourceState → ℕ → LedgerState → LedgerState → ResourceState → Type 0
 StateAfter true true ok state.NotInTable rep before after new = new ≡ state.Taken
-StateAfter true false ok state.NotInTable rep before after new = IsPlaced ok rep before after new
+StateAfter true false ok state.NotInTable rep before after new = IsPutInTable ok rep before after new
 StateAfter typed owned ok old rep before after new = new ≡ old
 
 abbrev pub HeldAfter : ResourceType → ResourceState → ℕ → Instance → Shape → Bool → LedgerState → LedgerState → ResourceState → Type 0

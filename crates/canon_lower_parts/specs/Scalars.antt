@@ -13,5 +13,5 @@ pub scalar_of : (type : InterfaceType) (k : Scalar) → ((i : Instance) → shap
 scalar_of type k same i t e = ap (shape_of i.types) e ∙ same i
 
 -- The word strictly represents a scalar that has one of these trees.
-abbrev pub IsScalarWord : Scalar → (Tree → Type 0) → ℕ → Type 0
-IsScalarWord k Has w = (t : Tree) × Has t × ScalarIs k (w % 2 ^ flat_bits k) t × IsLeastWord k w
+abbrev pub IsWordOfScalar : Scalar → (Tree → Type 0) → ℕ → Type 0
+IsWordOfScalar k Has w = (t : Tree) × Has t × ScalarIs k (w % 2 ^ flat_bits k) t × IsLeastWord k w

@@ -2,8 +2,8 @@
 
 ghost use Rattle.std.specs.Prelude.{◌≡◌, ◌≤◌, ◌<◌, ◌+◌, false, length};
 ghost use Rattle.canon_abi.specs.Abi.{HasInfo};
-ghost use Rattle.canon_context.specs.Core.{types_of};
-ghost use Rattle.canon_lower_parts.specs.CasePuts.{HasCases, IsCasePut, IsOptionPut, IsResultPut, pick};
+ghost use Rattle.canon_context.specs.Core.{component_types};
+ghost use Rattle.canon_lower_parts.specs.CasePuts.{IsVariantShape, IsCasePut, IsOptionPut, IsResultPut, pick};
 ghost use Rattle.canon_model.specs.Layout.{size};
 ghost use Rattle.canon_model.specs.Shape.{case_count};
 ghost use Rattle.canon_types.specs.Depth.{variant_cases};
@@ -25,11 +25,11 @@ pub(crate) fn put_case<D, G: Guest>(
     tag: u32,
     offset: u64,
 ) -> u64
-    requires cases { HasCases (shape_of (types_of cx.old.core.now) ty) }
-    requires info { HasInfo info (variant_cases (shape_of (types_of cx.old.core.now) ty)) }
-    requires tag { tag < case_count (variant_cases (shape_of (types_of cx.old.core.now) ty)) }
-    requires room { offset + size false (shape_of (types_of cx.old.core.now) ty) ≤ length cx.old.core.now.memory }
-    ensures put { IsCasePut cx.old.core.now cx.new.core.now (variant_cases (shape_of (types_of cx.old.core.now) ty)) offset tag result }
+    requires cases { IsVariantShape (shape_of (component_types cx.old.core.now) ty) }
+    requires info { HasInfo info (variant_cases (shape_of (component_types cx.old.core.now) ty)) }
+    requires tag { tag < case_count (variant_cases (shape_of (component_types cx.old.core.now) ty)) }
+    requires room { offset + size false (shape_of (component_types cx.old.core.now) ty) ≤ length cx.old.core.now.memory }
+    ensures put { IsCasePut cx.old.core.now cx.new.core.now (variant_cases (shape_of (component_types cx.old.core.now) ty)) offset tag result }
     ensures same_reference { cx.new.core.ghost_name ≡ cx.old.core.ghost_name }
     ensures same_options { cx.new.options ≡ cx.old.options }
 {
@@ -46,10 +46,10 @@ pub fn put_option<T: ComponentType, D, G: Guest>(
     tag: u32,
     offset: u64,
 ) -> (InterfaceType, u64)
-    requires known { Knows (types_of cx.old.core.now) ty }
+    requires known { Knows (component_types cx.old.core.now) ty }
     requires fits { IsOptionOf T.fits cx.old.core.now.component.types ty }
     requires tag { tag < 2 }
-    requires room { offset + size false (shape_of (types_of cx.old.core.now) ty) ≤ length cx.old.core.now.memory }
+    requires room { offset + size false (shape_of (component_types cx.old.core.now) ty) ≤ length cx.old.core.now.memory }
     ensures put { IsOptionPut T.fits cx.old.core.now cx.new.core.now ty offset tag result.0 result.1 }
     ensures same_reference { cx.new.core.ghost_name ≡ cx.old.core.ghost_name }
     ensures same_options { cx.new.options ≡ cx.old.options }
@@ -77,10 +77,10 @@ pub fn put_result<T: ComponentType, E: ComponentType, D, G: Guest>(
     tag: u32,
     offset: u64,
 ) -> (Option<InterfaceType>, u64)
-    requires known { Knows (types_of cx.old.core.now) ty }
+    requires known { Knows (component_types cx.old.core.now) ty }
     requires fits { IsResultOf T.is_unit T.fits E.is_unit E.fits cx.old.core.now.component.types ty }
     requires tag { tag < 2 }
-    requires room { offset + size false (shape_of (types_of cx.old.core.now) ty) ≤ length cx.old.core.now.memory }
+    requires room { offset + size false (shape_of (component_types cx.old.core.now) ty) ≤ length cx.old.core.now.memory }
     ensures put { IsResultPut T.is_unit T.fits E.is_unit E.fits cx.old.core.now cx.new.core.now ty offset tag result.0 result.1 }
     ensures same_reference { cx.new.core.ghost_name ≡ cx.old.core.ghost_name }
     ensures same_options { cx.new.options ≡ cx.old.options }

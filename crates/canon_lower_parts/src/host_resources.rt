@@ -1,7 +1,7 @@
 //! Resources of the host: an own one that is given away is taken, and one that is lent stands in the host's table.
 
 ghost use Rattle.std.specs.Prelude.{◌≡◌, ◌≤◌, ◌+◌, false, is_ok, length, refl, true, ℕ};
-ghost use Rattle.canon_context.specs.Core.{SameButLedger, types_of};
+ghost use Rattle.canon_context.specs.Core.{SameButLedger, component_types};
 ghost use Rattle.canon_leaves.specs.Parts as parts;
 ghost use Rattle.canon_leaves.specs.Parts.{LeafMoves};
 ghost use Rattle.canon_lower_parts.specs.Handles.{GivesNumber, HeldAfter, StateAfter, held_gives, held_parts};
@@ -164,7 +164,7 @@ impl HeldResource for ResourceDynamic {
 
 /// Whether the resource type of this number is this one.
 fn is_of_type<D, G>(core: &Core<D, G>, t: TypeResourceTableIndex, kind: &ResourceType) -> bool
-    requires { HasResource (types_of core.now) t }
+    requires { HasResource (component_types core.now) t }
     ensures { result ≡ parts.is_of_type (resource_type_at core.now.component.types t) kind.now }
 {
     core.component().types.resource_type(t) == *kind
@@ -177,7 +177,7 @@ fn give_own<R: HeldResource, D, G>(
     core: &mut Core<D, G>,
     t: TypeResourceTableIndex,
 ) -> Result<u32, ResourceFault>
-    requires known { HasResource (types_of core.old) t }
+    requires known { HasResource (component_types core.old) t }
     ensures moves { LeafMoves core.old.ledger core.new.ledger (held_parts true core.old.component.types t (R.kind resource.old) (R.state resource.old) (R.rep resource.old)) result }
     ensures held { StateAfter (parts.is_of_type (resource_type_at core.old.component.types t) (R.kind resource.old)) true (is_ok result) (R.state resource.old) (R.rep resource.old) core.old.ledger core.new.ledger (R.state resource.new) }
     ensures rest { resource.new ≡ R.with_state (R.state resource.new) resource.old }
@@ -207,7 +207,7 @@ fn lend<R: HeldResource, D, G>(
     core: &mut Core<D, G>,
     t: TypeResourceTableIndex,
 ) -> Result<u32, ResourceFault>
-    requires known { HasResource (types_of core.old) t }
+    requires known { HasResource (component_types core.old) t }
     ensures moves { LeafMoves core.old.ledger core.new.ledger (held_parts false core.old.component.types t (R.kind resource.old) (R.state resource.old) (R.rep resource.old)) result }
     ensures held { StateAfter (parts.is_of_type (resource_type_at core.old.component.types t) (R.kind resource.old)) false (is_ok result) (R.state resource.old) (R.rep resource.old) core.old.ledger core.new.ledger (R.state resource.new) }
     ensures rest { resource.new ≡ R.with_state (R.state resource.new) resource.old }
@@ -239,10 +239,10 @@ fn give_held<R: HeldResource, D, G: Guest>(
     cx: &mut LowerContext<'_, D, G>,
     ty: InterfaceType,
 ) -> Result<u32, Fault>
-    requires known { Knows (types_of cx.old.core.now) ty }
+    requires known { Knows (component_types cx.old.core.now) ty }
     requires fits { IsHandleType cx.old.core.now.component.types ty }
-    ensures gives { GivesNumber cx.old.core.now cx.new.core.now (held_gives (R.kind resource.old) (R.state resource.old) (R.rep resource.old) cx.old.core.now.component.types (shape_of (types_of cx.old.core.now) ty)) result }
-    ensures held { HeldAfter (R.kind resource.old) (R.state resource.old) (R.rep resource.old) cx.old.core.now.component.types (shape_of (types_of cx.old.core.now) ty) (is_ok result)
+    ensures gives { GivesNumber cx.old.core.now cx.new.core.now (held_gives (R.kind resource.old) (R.state resource.old) (R.rep resource.old) cx.old.core.now.component.types (shape_of (component_types cx.old.core.now) ty)) result }
+    ensures held { HeldAfter (R.kind resource.old) (R.state resource.old) (R.rep resource.old) cx.old.core.now.component.types (shape_of (component_types cx.old.core.now) ty) (is_ok result)
         cx.old.core.now.ledger cx.new.core.now.ledger (R.state resource.new) }
     ensures rest { resource.new ≡ R.with_state (R.state resource.new) resource.old }
     ensures same_reference { cx.new.core.ghost_name ≡ cx.old.core.ghost_name }
@@ -262,12 +262,12 @@ pub fn lower_held<R: HeldResource, D, G: Guest>(
     ty: InterfaceType,
     dst: &mut [ValRaw],
 ) -> Result<(), Fault>
-    requires known { Knows (types_of cx.old.core.now) ty }
+    requires known { Knows (component_types cx.old.core.now) ty }
     requires fits { IsHandleType cx.old.core.now.component.types ty }
-    requires words { length dst.old ≡ flat (shape_of (types_of cx.old.core.now) ty) }
-    ensures lowers { TypedLowers G.seen G.moves cx.old.options cx.old.core.now cx.new.core.now (shape_of (types_of cx.old.core.now) ty) dst.new 0 IsHandle
-        (held_gives (R.kind resource.old) (R.state resource.old) (R.rep resource.old) cx.old.core.now.component.types (shape_of (types_of cx.old.core.now) ty)) result }
-    ensures held { HeldAfter (R.kind resource.old) (R.state resource.old) (R.rep resource.old) cx.old.core.now.component.types (shape_of (types_of cx.old.core.now) ty) (is_ok result)
+    requires words { length dst.old ≡ flat (shape_of (component_types cx.old.core.now) ty) }
+    ensures lowers { TypedLowers G.seen G.moves cx.old.options cx.old.core.now cx.new.core.now (shape_of (component_types cx.old.core.now) ty) dst.new 0 IsHandle
+        (held_gives (R.kind resource.old) (R.state resource.old) (R.rep resource.old) cx.old.core.now.component.types (shape_of (component_types cx.old.core.now) ty)) result }
+    ensures held { HeldAfter (R.kind resource.old) (R.state resource.old) (R.rep resource.old) cx.old.core.now.component.types (shape_of (component_types cx.old.core.now) ty) (is_ok result)
         cx.old.core.now.ledger cx.new.core.now.ledger (R.state resource.new) }
     ensures rest { resource.new ≡ R.with_state (R.state resource.new) resource.old }
     ensures count { length dst.new ≡ length dst.old }
@@ -291,12 +291,12 @@ pub fn store_held<R: HeldResource, D, G: Guest>(
     ty: InterfaceType,
     offset: u64,
 ) -> Result<(), Fault>
-    requires known { Knows (types_of cx.old.core.now) ty }
+    requires known { Knows (component_types cx.old.core.now) ty }
     requires fits { IsHandleType cx.old.core.now.component.types ty }
-    requires room { offset + size false (shape_of (types_of cx.old.core.now) ty) ≤ length cx.old.core.now.memory }
-    ensures stores { TypedStores G.seen G.moves cx.old.options cx.old.core.now cx.new.core.now (shape_of (types_of cx.old.core.now) ty) offset IsHandle
-        (held_gives (R.kind resource.old) (R.state resource.old) (R.rep resource.old) cx.old.core.now.component.types (shape_of (types_of cx.old.core.now) ty)) result }
-    ensures held { HeldAfter (R.kind resource.old) (R.state resource.old) (R.rep resource.old) cx.old.core.now.component.types (shape_of (types_of cx.old.core.now) ty) (is_ok result)
+    requires room { offset + size false (shape_of (component_types cx.old.core.now) ty) ≤ length cx.old.core.now.memory }
+    ensures stores { TypedStores G.seen G.moves cx.old.options cx.old.core.now cx.new.core.now (shape_of (component_types cx.old.core.now) ty) offset IsHandle
+        (held_gives (R.kind resource.old) (R.state resource.old) (R.rep resource.old) cx.old.core.now.component.types (shape_of (component_types cx.old.core.now) ty)) result }
+    ensures held { HeldAfter (R.kind resource.old) (R.state resource.old) (R.rep resource.old) cx.old.core.now.component.types (shape_of (component_types cx.old.core.now) ty) (is_ok result)
         cx.old.core.now.ledger cx.new.core.now.ledger (R.state resource.new) }
     ensures rest { resource.new ≡ R.with_state (R.state resource.new) resource.old }
     ensures same_reference { cx.new.core.ghost_name ≡ cx.old.core.ghost_name }

@@ -1,7 +1,7 @@
 //! Resources, for which the guest is given handles.
 
 ghost use Rattle.std.specs.Prelude.{◌≡◌, ◌≤◌, ◌<◌, ◌+◌, ◌^◌, IfOk, false, length};
-ghost use Rattle.canon_context.specs.Core.{types_of};
+ghost use Rattle.canon_context.specs.Core.{component_types};
 ghost use Rattle.canon_context.specs.Faults.{faulted as as_fault};
 ghost use Rattle.canon_lower_parts.specs.Handles.{GivesNumber, handle_gives};
 ghost use Rattle.canon_lower_parts.specs.Stores.{TypedStores};
@@ -35,9 +35,9 @@ fn give_handle<D, G: Guest>(
     ty: InterfaceType,
     resource: ResourceAny,
 ) -> Result<u32, Fault>
-    requires known { Knows (types_of cx.old.core.now) ty }
+    requires known { Knows (component_types cx.old.core.now) ty }
     requires fits { IsHandleType cx.old.core.now.component.types ty }
-    ensures gives { GivesNumber cx.old.core.now cx.new.core.now (handle_gives cx.old.core.now.component.types (shape_of (types_of cx.old.core.now) ty) resource) result }
+    ensures gives { GivesNumber cx.old.core.now cx.new.core.now (handle_gives cx.old.core.now.component.types (shape_of (component_types cx.old.core.now) ty) resource) result }
     ensures same_reference { cx.new.core.ghost_name ≡ cx.old.core.ghost_name }
     ensures same_options { cx.new.options ≡ cx.old.options }
 {
@@ -55,11 +55,11 @@ pub fn lower_resource<D, G: Guest>(
     resource: ResourceAny,
     dst: &mut [ValRaw],
 ) -> Result<(), Fault>
-    requires known { Knows (types_of cx.old.core.now) ty }
+    requires known { Knows (component_types cx.old.core.now) ty }
     requires fits { IsHandleType cx.old.core.now.component.types ty }
-    requires words { length dst.old ≡ flat (shape_of (types_of cx.old.core.now) ty) }
-    ensures lowers { TypedLowers G.seen G.moves cx.old.options cx.old.core.now cx.new.core.now (shape_of (types_of cx.old.core.now) ty) dst.new 0 IsHandle
-        (handle_gives cx.old.core.now.component.types (shape_of (types_of cx.old.core.now) ty) resource) result }
+    requires words { length dst.old ≡ flat (shape_of (component_types cx.old.core.now) ty) }
+    ensures lowers { TypedLowers G.seen G.moves cx.old.options cx.old.core.now cx.new.core.now (shape_of (component_types cx.old.core.now) ty) dst.new 0 IsHandle
+        (handle_gives cx.old.core.now.component.types (shape_of (component_types cx.old.core.now) ty) resource) result }
     ensures count { length dst.new ≡ length dst.old }
     ensures same_reference { cx.new.core.ghost_name ≡ cx.old.core.ghost_name }
     ensures same_options { cx.new.options ≡ cx.old.options }
@@ -81,11 +81,11 @@ pub fn store_resource<D, G: Guest>(
     resource: ResourceAny,
     offset: u64,
 ) -> Result<(), Fault>
-    requires known { Knows (types_of cx.old.core.now) ty }
+    requires known { Knows (component_types cx.old.core.now) ty }
     requires fits { IsHandleType cx.old.core.now.component.types ty }
-    requires room { offset + size false (shape_of (types_of cx.old.core.now) ty) ≤ length cx.old.core.now.memory }
-    ensures stores { TypedStores G.seen G.moves cx.old.options cx.old.core.now cx.new.core.now (shape_of (types_of cx.old.core.now) ty) offset IsHandle
-        (handle_gives cx.old.core.now.component.types (shape_of (types_of cx.old.core.now) ty) resource) result }
+    requires room { offset + size false (shape_of (component_types cx.old.core.now) ty) ≤ length cx.old.core.now.memory }
+    ensures stores { TypedStores G.seen G.moves cx.old.options cx.old.core.now cx.new.core.now (shape_of (component_types cx.old.core.now) ty) offset IsHandle
+        (handle_gives cx.old.core.now.component.types (shape_of (component_types cx.old.core.now) ty) resource) result }
     ensures same_reference { cx.new.core.ghost_name ≡ cx.old.core.ghost_name }
     ensures same_options { cx.new.options ≡ cx.old.options }
 {

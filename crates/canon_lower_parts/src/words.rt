@@ -1,8 +1,8 @@
 //! Words of scalars, and of cases without a payload.
 
 ghost use Rattle.std.specs.Prelude.{◌≡◌, ◌≤◌, ◌+◌, Ok, [], false, length};
-ghost use Rattle.canon_context.specs.Core.{types_of};
-ghost use Rattle.canon_lower_parts.specs.Scalars.{IsScalarWord};
+ghost use Rattle.canon_context.specs.Core.{component_types};
+ghost use Rattle.canon_lower_parts.specs.Scalars.{IsWordOfScalar};
 ghost use Rattle.canon_lower_parts.specs.Stores.{TypedStores};
 ghost use Rattle.canon_lower_parts.specs.Words.{IsCaseWords, Stays, TypedLowers};
 ghost use Rattle.canon_model.specs.Flat.{AreZero};
@@ -24,7 +24,7 @@ pub trait WordScalar: ComponentType {
 
     /// The word, with no bit set above the scalar's own.
     fn word(&self) -> ValRaw
-        ensures { IsScalarWord kind (Self.walks self.now) result };
+        ensures { IsWordOfScalar kind (Self.walks self.now) result };
 
     ghost shape: { (i : Instance) (type : InterfaceType) → Self.fits i type → shape_of i.types type ≡ scalar kind };
 }
@@ -37,8 +37,8 @@ pub fn lower_scalar<S: WordScalar, D, G: Guest>(
     dst: &mut [ValRaw],
 )
     requires fits { S.fits cx.old.core.now.component.types ty }
-    requires words { length dst.old ≡ flat (shape_of (types_of cx.old.core.now) ty) }
-    ensures lowers { TypedLowers G.seen G.moves cx.old.options cx.old.core.now cx.new.core.now (shape_of (types_of cx.old.core.now) ty) dst.new 0 (S.walks value.now) [] (Ok tt) }
+    requires words { length dst.old ≡ flat (shape_of (component_types cx.old.core.now) ty) }
+    ensures lowers { TypedLowers G.seen G.moves cx.old.options cx.old.core.now cx.new.core.now (shape_of (component_types cx.old.core.now) ty) dst.new 0 (S.walks value.now) [] (Ok tt) }
     ensures count { length dst.new ≡ length dst.old }
     ensures same_reference { cx.new.core.ghost_name ≡ cx.old.core.ghost_name }
     ensures same_options { cx.new.options ≡ cx.old.options }
@@ -54,10 +54,10 @@ pub fn store_scalar<S: WordScalar, D, G: Guest>(
     ty: InterfaceType,
     offset: u64,
 )
-    requires known { Knows (types_of cx.old.core.now) ty }
+    requires known { Knows (component_types cx.old.core.now) ty }
     requires fits { S.fits cx.old.core.now.component.types ty }
-    requires room { offset + size false (shape_of (types_of cx.old.core.now) ty) ≤ length cx.old.core.now.memory }
-    ensures stores { TypedStores G.seen G.moves cx.old.options cx.old.core.now cx.new.core.now (shape_of (types_of cx.old.core.now) ty) offset (S.walks value.now) [] (Ok tt) }
+    requires room { offset + size false (shape_of (component_types cx.old.core.now) ty) ≤ length cx.old.core.now.memory }
+    ensures stores { TypedStores G.seen G.moves cx.old.options cx.old.core.now cx.new.core.now (shape_of (component_types cx.old.core.now) ty) offset (S.walks value.now) [] (Ok tt) }
     ensures same_reference { cx.new.core.ghost_name ≡ cx.old.core.ghost_name }
     ensures same_options { cx.new.options ≡ cx.old.options }
 {

@@ -3,8 +3,8 @@ use Rattle.std.proofs.Common.{Err, List, Ok, Option, Result, Some, [], ap, appen
 use Rattle.std.proofs.lemmas.List.{drop_all, drop_at, length-map, nil_from_length}
 use Rattle.std.specs.Prelude.{unwrap_or}
 use Rattle.canon_context.specs.declared.fault.Fault.TheVariants as fault
-use Rattle.canon_host.specs.Forms.{Form, over_types, over_values}
-use Rattle.canon_host.specs.HostSide.{Entry, Giving, HostSide, entry}
+use Rattle.canon_host.specs.Forms.{HostFuncForm, over_types, over_values}
+use Rattle.canon_host.specs.HostSide.{LoggedEntry, Giving, HostSide, entry}
 use Rattle.canon_host.specs.Imports.{logged}
 use Rattle.canon_imports.specs.Imports.{entries_of, line_entry}
 use Rattle.canon_imports.specs.declared.imports.Line.{Line}
@@ -25,33 +25,33 @@ use Rattle.canon_player.specs.Session.{Logs, entry_view, served_view}
 -- ---- one call
 
 -- the log is this one with some asks more
-abbrev Longer : List Entry → Option (List Entry) → Type 0
-Longer log log2 = (more : List Entry) × (log2 ≡ Some (log ++ more))
+abbrev Longer : List LoggedEntry → Option (List LoggedEntry) → Type 0
+Longer log log2 = (more : List LoggedEntry) × (log2 ≡ Some (log ++ more))
 
-same : (log : List Entry) (log1 log2 : Option (List Entry)) → log1 ≡ Some log → log2 ≡ log1 → Longer log log2
+same : (log : List LoggedEntry) (log1 log2 : Option (List LoggedEntry)) → log1 ≡ Some log → log2 ≡ log1 → Longer log log2
 same log log1 log2 is e = ([], e ∙ (is ∙ ap Some (sym (append-nil log))))
 
-one_more : (log : List Entry) (log1 log2 : Option (List Entry)) (x : Entry) → log1 ≡ Some log → log2 ≡ logged log1 x → Longer log log2
+one_more : (log : List LoggedEntry) (log1 log2 : Option (List LoggedEntry)) (x : LoggedEntry) → log1 ≡ Some log → log2 ≡ logged log1 x → Longer log log2
 one_more log log1 log2 x is e = (x ∷ [], e ∙ ap (λ o. logged o x) is)
 
 -- so is it after an ask that was served in a form
-told_more : {T : Type 0} (form : Form T) (index : ℕ) (params : (ask_form form).Params) (results : (ask_form form).Results) (log : List Entry) (log1 log2 : Option (List Entry)) → log1 ≡ Some log → log2 ≡ (ask_form form).logged_with log1 index params results → Longer log log2
+told_more : {T : Type 0} (form : HostFuncForm T) (index : ℕ) (params : (ask_form form).Params) (results : (ask_form form).Results) (log : List LoggedEntry) (log1 log2 : Option (List LoggedEntry)) → log1 ≡ Some log → log2 ≡ (ask_form form).logged_with log1 index params results → Longer log log2
 told_more over_values index params results log log1 log2 is e = one_more log log1 log2 (entry index params.items results) is e
 told_more (over_types types may) index params results log log1 log2 is e = same log log1 log2 is e
 
 module _ {T : Type 0} (gives : Giving T) (callee : Callee) (fuel : ℕ) where
-  one : (t : AskTurn) (before after : HostSide T) (log : List Entry) → before.log ≡ Some log → IsServed gives callee fuel t before after → Longer log after.log
+  one : (t : AskTurn) (before after : HostSide T) (log : List LoggedEntry) → before.log ≡ Some log → IsServed gives callee fuel t before after → Longer log after.log
   one t before after log is (inl h) = same log before.log after.log is (ap (λ (s : HostSide T). s.log) h.kept)
   one t before after log is (inr h) = told_more (gives.form t.index) t.index h.params h.results log before.log after.log is h.told
 
-  turns_logged : (turns : List AskTurn) (before after : HostSide T) (log : List Entry) → before.log ≡ Some log → AreServed gives callee fuel turns before after → Longer log after.log
+  turns_logged : (turns : List AskTurn) (before after : HostSide T) (log : List LoggedEntry) → before.log ≡ Some log → AreServed gives callee fuel turns before after → Longer log after.log
   turns_logged [] before after log is h = same log before.log after.log is (ap (λ (s : HostSide T). s.log) h)
   turns_logged (t ∷ turns) before after log is (mid, first, rest) =
       let (more, grown) = one t before mid log is first in
       let (others, all) = turns_logged turns mid after (log ++ more) grown rest in
       (more ++ others, all ∙ ap Some (append_assoc log more others))
 
-  stopped : (e : Error) (index : ℕ) (words memory memory2 : List ℕ) (answers : List Answer) (trap : Option Trap) (before after : HostSide T) (log : List Entry) → before.log ≡ Some log
+  stopped : (e : Error) (index : ℕ) (words memory memory2 : List ℕ) (answers : List Answer) (trap : Option Trap) (before after : HostSide T) (log : List LoggedEntry) → before.log ≡ Some log
       → AskStops gives callee fuel e index words memory memory2 answers trap before after → Longer log after.log
   stopped error.TurnsExhausted index words memory memory2 answers trap before after log is h = same log before.log after.log is (ap (λ (s : HostSide T). s.log) h.0)
   stopped (error.UnknownImport n) index words memory memory2 answers trap before after log is h = same log before.log after.log is (ap (λ (s : HostSide T). s.log) h.2)
@@ -65,19 +65,19 @@ module _ {T : Type 0} (gives : Giving T) (callee : Callee) (fuel : ℕ) where
       told_more (gives.form index) index h.params h.results log before.log after.log is h.told
   stopped e index words memory memory2 answers trap before after log is h = absurd h
 
-  stopped_asking : (e : Error) (memory2 : List ℕ) (late : List Answer) (trap : Option Trap) (before after : HostSide T) (log : List Entry) (tail : List Event) → before.log ≡ Some log
+  stopped_asking : (e : Error) (memory2 : List ℕ) (late : List Answer) (trap : Option Trap) (before after : HostSide T) (log : List LoggedEntry) (tail : List Event) → before.log ≡ Some log
       → BeginsInAsk (λ index words memory more. AskStops gives callee fuel e index words memory memory2 late trap before after) tail → Longer log after.log
   stopped_asking e memory2 late trap before after log (event.Ask index words memory ∷ more) is h = stopped e index words memory memory2 late trap before after log is h
   stopped_asking e memory2 late trap before after log tail is h = absurd h
 
 module _ {T R : Type 0} (args : Arguments) (its : ReturnedValues R) (gives : Giving T) (callee : Callee) (fuel : ℕ) where
-  stopped_later : (e : Error) (memory2 : List ℕ) (late : List Answer) (trap : Option Trap) (before after : HostSide T) (log : List Entry) (tail : List Event) → before.log ≡ Some log
+  stopped_later : (e : Error) (memory2 : List ℕ) (late : List Answer) (trap : Option Trap) (before after : HostSide T) (log : List LoggedEntry) (tail : List Event) → before.log ≡ Some log
       → StopsStartedOf its gives callee fuel e memory2 late trap before after tail → Longer log after.log
   stopped_later e memory2 late trap before after log tail is (inl (stops, kept)) = same log before.log after.log is (ap (λ (s : HostSide T). s.log) kept)
   stopped_later e memory2 late trap before after log tail is (inr h) = stopped_asking gives callee fuel e memory2 late trap before after log tail is h
 
   pub call_logged : (turns : List AskTurn) (memory2 : List ℕ) (late : List Answer) (trap : Option Trap) (before after : HostSide T) (given : List ℕ) (answer : Result R Error) (events tail : List Event)
-      (log : List Entry) → before.log ≡ Some log → HandlesPassOf args its gives callee fuel turns memory2 late trap before after given answer events tail → Longer log after.log
+      (log : List LoggedEntry) → before.log ≡ Some log → HandlesPassOf args its gives callee fuel turns memory2 late trap before after given answer events tail → Longer log after.log
   call_logged turns memory2 late trap before after given (Ok results) events tail log is (lowered, takes, (served, are, (each, kept))) =
       let (more, grown) = turns_logged gives callee fuel turns (record before { ledger = lowered }) served log is are in
       (more, ap (λ (s : HostSide T). s.log) kept ∙ grown)
@@ -99,11 +99,11 @@ served_logs lines lines2 served count (more, grown) many told =
     record {
       entries = more;
       grown = all;
-      told = told ∙ ap (λ (es : List Entry). map entry_view es) (ap (λ (es : List Entry). drop count es) all ∙ drop_at (entries_of lines) more count known);
+      told = told ∙ ap (λ (es : List LoggedEntry). map entry_view es) (ap (λ (es : List LoggedEntry). drop count es) all ∙ drop_at (entries_of lines) more count known);
     }
 
 -- where no line was added the record has none
 pub none_served : (lines : List Line) (served : List Served) (count : ℕ) → count ≡ length lines → map served_view served ≡ map entry_view (drop count (entries_of lines)) → served ≡ []
 none_served lines served count many told =
     let past : length (entries_of lines) ≤ count = omega (arith, length-map lines line_entry, many) in
-    nil_from_length served (sym (length-map served served_view) ∙ ap length (told ∙ ap (λ (es : List Entry). map entry_view es) (drop_all count (entries_of lines) past)))
+    nil_from_length served (sym (length-map served served_view) ∙ ap length (told ∙ ap (λ (es : List LoggedEntry). map entry_view es) (drop_all count (entries_of lines) past)))

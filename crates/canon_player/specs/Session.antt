@@ -22,7 +22,7 @@ use Rattle.canon_context.specs.declared.fault.Fault.TheVariants as fault
 use Rattle.canon_value_parts.specs.Resources.{all_resources}
 use Rattle.canon_val.specs.declared.val.Val.{Val}
 use Rattle.canon_val.specs.declared.val.Val.TheVariants as val
-use Rattle.canon_host.specs.HostSide.{Entry, HostSide}
+use Rattle.canon_host.specs.HostSide.{LoggedEntry, HostSide}
 use Rattle.canon_func.specs.Asks.{Limits, allowed}
 use Rattle.canon_func.specs.Call.{IsCallOf, dynamic, dynamic_results, entry_refusal, refusal}
 use Rattle.canon_func.specs.Drop.{IsCutOff, IsDropped, destructor_at, destructor_events, drop_refusal}
@@ -90,7 +90,7 @@ pub record State : Type 0 where
   pub trapped : Bool
   pub memory : List ℕ
   pub ledger : LedgerState
-  pub log : List Entry
+  pub log : List LoggedEntry
   pub refusals : ℕ
   pub allocator : Allocator
   pub marks : List Mark
@@ -178,15 +178,15 @@ AnswersOk a vs = IsEnd a × (outcome a ≡ Ok tt) × (answer_values a ≡ vs)
 -- ---- served asks
 
 -- an ask that was served, apart from how its values are kept: of the log, and of a record
-abbrev pub entry_view : Entry → ℕ × List Literal × List Literal
+abbrev pub entry_view : LoggedEntry → ℕ × List Literal × List Literal
 entry_view e = (e.index, literals_view e.params, literals_view e.results)
 
 abbrev pub served_view : Served → ℕ × List Literal × List Literal
 served_view s = (s.0, literals_view s.1.items, literals_view s.2.items)
 
 -- the log grew by some asks, and the record lists these, in order
-pub record Logs (before after : List Entry) (served : List Served) : Type 0 where
-  pub entries : List Entry
+pub record Logs (before after : List LoggedEntry) (served : List Served) : Type 0 where
+  pub entries : List LoggedEntry
   pub grown : after ≡ before ++ entries
   pub told : map served_view served ≡ map entry_view entries
 

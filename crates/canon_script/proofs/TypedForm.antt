@@ -6,7 +6,7 @@ use Rattle.canon_model.specs.Shape.{Name}
 use Rattle.canon_json.proofs.Found.{by_map}
 use Rattle.canon_val.specs.declared.val.Val.{Val}
 use Rattle.canon_literals.specs.Literals.{Literal, Literals, Payload, literals_view, bool, list, literal, literals_of, no_literals, no_payload, option, text, tuple, u32, u64, with_payload}
-use Rattle.canon_script.specs.Typed.{IsForm, IsRead, TypedValues, a_number, a_text, alone, both, each_literal, flag_from, flag_in, flag_payload, items_in, long_in, number_in, pair_in, pair_literal, signature_of, text_in, the_numbers, the_pairs, truth_in, tuple_in, two_in, typed_literals, typed_values}
+use Rattle.canon_script.specs.Typed.{IsForm, AreReadBack, TypedValues, a_number, a_text, alone, both, each_literal, flag_from, flag_in, flag_payload, items_in, long_in, number_in, pair_in, pair_literal, signature_of, text_in, the_numbers, the_pairs, truth_in, tuple_in, two_in, typed_literals, typed_values}
 
 -- a row of another length has no two members
 pub two_of_none : (vs : List Val) → length vs ≢ 2 → two_in (literals_of (literals_view vs)) ≡ None
@@ -125,7 +125,7 @@ flag_read (Some b) = refl
 abbrev by_pairs : List (Name × ℕ) × Option Bool → TypedValues
 by_pairs p = the_pairs p.0 p.1
 
-pub is_read : (v : TypedValues) → IsRead v
+pub is_read : (v : TypedValues) → AreReadBack v
 is_read (a_number n) = refl
 is_read (a_text s) = refl
 is_read (the_numbers ns) = ap (option_map the_numbers) (each_read number_in u32 (λ n. refl) ns)

@@ -122,5 +122,5 @@ pub record IsForm (signature : ℕ) (xs : List Literal) (v : TypedValues) : Type
   pub literals_are : typed_literals v ≡ xs
 
 -- the literals of values are read as these values
-abbrev pub IsRead : TypedValues → Type 0
-IsRead v = typed_values (signature_of v) (typed_literals v) ≡ Some v
+abbrev pub AreReadBack : TypedValues → Type 0
+AreReadBack v = typed_values (signature_of v) (typed_literals v) ≡ Some v

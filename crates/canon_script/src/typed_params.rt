@@ -15,7 +15,7 @@ use std::alloc::Global;
 /// parameters are read as these.
 pub fn typed_form()
     ensures form { (signature : ℕ) (xs : List Literal) (v : spec.TypedValues) → spec.typed_values signature xs ≡ Some v → spec.IsForm signature xs v }
-    ensures read { (v : spec.TypedValues) → spec.IsRead v }
+    ensures read { (v : spec.TypedValues) → spec.AreReadBack v }
 {}
 
 /// The parameters of a typed call with this signature, if values are exactly of its form.

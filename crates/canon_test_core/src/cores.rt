@@ -2,7 +2,7 @@
 
 ghost use Rattle.std.specs.Prelude.{◌≡◌, ◌≤◌, ◌+◌, ◌*◌, IfOk, IfSome, IsTrue, false, length};
 ghost use Rattle.canon_context.specs.Component.{HasOptions};
-ghost use Rattle.canon_context.specs.Core.{types_of};
+ghost use Rattle.canon_context.specs.Core.{component_types};
 ghost use Rattle.canon_model.specs.Layout.{flat, size};
 ghost use Rattle.canon_types.specs.Table.{Knows, shape_of};
 
@@ -90,7 +90,7 @@ pub fn memory_of(alloc: Global, bytes: &[u8]) -> Result<Memory, MemoryError> {
 /// Whether the core has options of the number 0, and one of its types is the Rust type's.
 fn has_type<T: ComponentType>(core: &TestCore, ty: &InterfaceType) -> bool
     ensures options { IsTrue result → HasOptions core.now.component 0 }
-    ensures known { IsTrue result → Knows (types_of core.now) ty.now }
+    ensures known { IsTrue result → Knows (component_types core.now) ty.now }
     ensures fits { IsTrue result → T.fits core.now.component.types ty.now }
 {
     let component = core.component();
@@ -101,9 +101,9 @@ fn has_type<T: ComponentType>(core: &TestCore, ty: &InterfaceType) -> bool
 /// Whether a type of the core is the Rust type's, and so many values in a row have room at an address, under the options of the number 0.
 pub fn has_room<T: ComponentType>(core: &TestCore, ty: &InterfaceType, at: u32, values: u32) -> bool
     ensures options { IsTrue result → HasOptions core.now.component 0 }
-    ensures known { IsTrue result → Knows (types_of core.now) ty.now }
+    ensures known { IsTrue result → Knows (component_types core.now) ty.now }
     ensures fits { IsTrue result → T.fits core.now.component.types ty.now }
-    ensures room { IsTrue result → at + values * size false (shape_of (types_of core.now) ty.now) ≤ length core.now.memory }
+    ensures room { IsTrue result → at + values * size false (shape_of (component_types core.now) ty.now) ≤ length core.now.memory }
 {
     if !has_type::<T>(core, ty) {
         return false;
@@ -115,9 +115,9 @@ pub fn has_room<T: ComponentType>(core: &TestCore, ty: &InterfaceType, at: u32, 
 /// How many words a type of the core has, where it is the Rust type's and has at most 16, and there are options of the number 0.
 pub fn word_count<T: ComponentType>(core: &TestCore, ty: &InterfaceType) -> Option<u8>
     ensures options { IfSome result (λ n. HasOptions core.now.component 0) }
-    ensures known { IfSome result (λ n. Knows (types_of core.now) ty.now) }
+    ensures known { IfSome result (λ n. Knows (component_types core.now) ty.now) }
     ensures fits { IfSome result (λ n. T.fits core.now.component.types ty.now) }
-    ensures count { IfSome result (λ n. n ≡ flat (shape_of (types_of core.now) ty.now)) }
+    ensures count { IfSome result (λ n. n ≡ flat (shape_of (component_types core.now) ty.now)) }
 {
     if !has_type::<T>(core, ty) {
         return None;
@@ -128,9 +128,9 @@ pub fn word_count<T: ComponentType>(core: &TestCore, ty: &InterfaceType) -> Opti
 /// Whether a type of the core is the Rust type's, and these are enough words for it, under the options of the number 0.
 pub fn has_words<T: ComponentType>(core: &TestCore, ty: &InterfaceType, words: &[ValRaw]) -> bool
     ensures options { IsTrue result → HasOptions core.now.component 0 }
-    ensures known { IsTrue result → Knows (types_of core.now) ty.now }
+    ensures known { IsTrue result → Knows (component_types core.now) ty.now }
     ensures fits { IsTrue result → T.fits core.now.component.types ty.now }
-    ensures words { IsTrue result → 0 + flat (shape_of (types_of core.now) ty.now) ≤ length words.now }
+    ensures words { IsTrue result → 0 + flat (shape_of (component_types core.now) ty.now) ≤ length words.now }
 {
     match word_count::<T>(core, ty) {
         Some(count) => count as usize <= words.len(),

@@ -8,7 +8,7 @@ ghost use Rattle.canon_lowering.specs.Attempt.{StoresMembers};
 ghost use Rattle.canon_types.specs.Table.{HasTuple, tuple_members};
 ghost use Rattle.canon_value_parts.specs.Args.{IsArea, IsNoArea, LowersResults};
 ghost use Rattle.canon_value_parts.specs.Resources.{Crosses, PartsLower, QuietBut, all_passes};
-ghost use Rattle.canon_context.specs.Core.{encoding_by, guest_of, moment_of, types_of};
+ghost use Rattle.canon_context.specs.Core.{encoding_by, guest_of, moment_of, component_types};
 ghost use Rattle.canon_value_parts.specs.Fails.{AreSmall, BlamesMembers};
 ghost use Rattle.canon_context.specs.Lowers.{ending_of};
 ghost use Rattle.canon_context.specs.Moves.{Moves};
@@ -32,10 +32,10 @@ pub fn results_area<T, G>(
     words: &[ValRaw],
     word: u32,
 ) -> Result<u64, Fault>
-    requires tuple { HasTuple (types_of core.now) ty }
+    requires tuple { HasTuple (component_types core.now) ty }
     requires room { word < length words.now }
-    ensures ok { IfOk result (IsArea core.now.memory (tuple_members (types_of core.now) ty) words.now word) }
-    ensures err { IfErr result (IsNoArea core.now.memory (tuple_members (types_of core.now) ty) words.now word) }
+    ensures ok { IfOk result (IsArea core.now.memory (tuple_members (component_types core.now) ty) words.now word) }
+    ensures err { IfErr result (IsNoArea core.now.memory (tuple_members (component_types core.now) ty) words.now word) }
 {
     let tuple = core.component().types.types().tuple(ty);
     let at = u64::from(words[word as usize].get_u32());
@@ -57,20 +57,20 @@ pub fn lower_results<T, G: Guest>(
     at: u64,
     dst: &mut [ValRaw],
 ) -> Result<(), Fault>
-    requires tuple { HasTuple (types_of cx.old.core.now) ty }
-    requires count { length results.now ≡ member_count (tuple_members (types_of cx.old.core.now) ty) }
-    requires near { members_flat (tuple_members (types_of cx.old.core.now) ty) ≤ max_results → length dst.old ≡ members_flat (tuple_members (types_of cx.old.core.now) ty) }
-    requires far { max_results < members_flat (tuple_members (types_of cx.old.core.now) ty) → at + size false (product of_places (tuple_members (types_of cx.old.core.now) ty)) ≤ length cx.old.core.now.memory }
-    ensures lowered { Crosses cx.old.core.now.component.types (have_handle (tuple_members (types_of cx.old.core.now) ty)) (all_passes (tuple_members (types_of cx.old.core.now) ty) results.now)
+    requires tuple { HasTuple (component_types cx.old.core.now) ty }
+    requires count { length results.now ≡ member_count (tuple_members (component_types cx.old.core.now) ty) }
+    requires near { members_flat (tuple_members (component_types cx.old.core.now) ty) ≤ max_results → length dst.old ≡ members_flat (tuple_members (component_types cx.old.core.now) ty) }
+    requires far { max_results < members_flat (tuple_members (component_types cx.old.core.now) ty) → at + size false (product of_places (tuple_members (component_types cx.old.core.now) ty)) ≤ length cx.old.core.now.memory }
+    ensures lowered { Crosses cx.old.core.now.component.types (have_handle (tuple_members (component_types cx.old.core.now) ty)) (all_passes (tuple_members (component_types cx.old.core.now) ty) results.now)
         (λ hs ending. LowersResults (moment_of G.seen cx.old.core.now) (moment_of G.seen cx.new.core.now) (encoding_by cx.old.core.now cx.old.options)
-        (tuple_members (types_of cx.old.core.now) ty) (HaveTrees (tuple_members (types_of cx.old.core.now) ty) results.now) at dst.new hs ending)
+        (tuple_members (component_types cx.old.core.now) ty) (HaveTrees (tuple_members (component_types cx.old.core.now) ty) results.now) at dst.new hs ending)
         cx.old.core.now.ledger cx.new.core.now.ledger result }
-    ensures cause { IfErr result (BlamesMembers (encoding_by cx.old.core.now cx.old.options) (tuple_members (types_of cx.old.core.now) ty) results.now) }
-    ensures small { OnOk result (AreSmall (encoding_by cx.old.core.now cx.old.options) (tuple_members (types_of cx.old.core.now) ty) results.now) }
-    ensures quiet { QuietBut (have_handle (tuple_members (types_of cx.old.core.now) ty)) (all_passes (tuple_members (types_of cx.old.core.now) ty) results.now) (have_block (tuple_members (types_of cx.old.core.now) ty))
+    ensures cause { IfErr result (BlamesMembers (encoding_by cx.old.core.now cx.old.options) (tuple_members (component_types cx.old.core.now) ty) results.now) }
+    ensures small { OnOk result (AreSmall (encoding_by cx.old.core.now cx.old.options) (tuple_members (component_types cx.old.core.now) ty) results.now) }
+    ensures quiet { QuietBut (have_handle (tuple_members (component_types cx.old.core.now) ty)) (all_passes (tuple_members (component_types cx.old.core.now) ty) results.now) (have_block (tuple_members (component_types cx.old.core.now) ty))
         (cx.new.core.now.guest ≡ cx.old.core.now.guest) result }
-    ensures quiet_near { members_flat (tuple_members (types_of cx.old.core.now) ty) ≤ max_results →
-        QuietBut (have_handle (tuple_members (types_of cx.old.core.now) ty)) (all_passes (tuple_members (types_of cx.old.core.now) ty) results.now) (have_block (tuple_members (types_of cx.old.core.now) ty))
+    ensures quiet_near { members_flat (tuple_members (component_types cx.old.core.now) ty) ≤ max_results →
+        QuietBut (have_handle (tuple_members (component_types cx.old.core.now) ty)) (all_passes (tuple_members (component_types cx.old.core.now) ty) results.now) (have_block (tuple_members (component_types cx.old.core.now) ty))
         (cx.new.core.now ≡ record cx.old.core.now { ledger = cx.new.core.now.ledger }) result }
     ensures moves { Moves G.seen G.moves (guest_of cx.old.core.now) (guest_of cx.new.core.now) (ending_of result) }
     ensures same_core { SameButHandles cx.old.core.now cx.new.core.now }
@@ -91,18 +91,18 @@ fn lower_results_by_size<T, G: Guest>(
     at: u64,
     dst: &mut [ValRaw],
 ) -> Result<(), Fault>
-    requires tuple { HasTuple (types_of cx.old.core.now) ty }
-    requires count { length results.now ≡ member_count (tuple_members (types_of cx.old.core.now) ty) }
-    requires near { members_flat (tuple_members (types_of cx.old.core.now) ty) ≤ max_results → length dst.old ≡ members_flat (tuple_members (types_of cx.old.core.now) ty) }
-    requires far { max_results < members_flat (tuple_members (types_of cx.old.core.now) ty) → at + size false (product of_places (tuple_members (types_of cx.old.core.now) ty)) ≤ length cx.old.core.now.memory }
-    ensures lowered { PartsLower cx.old.core.now cx.new.core.now (all_passes (tuple_members (types_of cx.old.core.now) ty) results.now)
+    requires tuple { HasTuple (component_types cx.old.core.now) ty }
+    requires count { length results.now ≡ member_count (tuple_members (component_types cx.old.core.now) ty) }
+    requires near { members_flat (tuple_members (component_types cx.old.core.now) ty) ≤ max_results → length dst.old ≡ members_flat (tuple_members (component_types cx.old.core.now) ty) }
+    requires far { max_results < members_flat (tuple_members (component_types cx.old.core.now) ty) → at + size false (product of_places (tuple_members (component_types cx.old.core.now) ty)) ≤ length cx.old.core.now.memory }
+    ensures lowered { PartsLower cx.old.core.now cx.new.core.now (all_passes (tuple_members (component_types cx.old.core.now) ty) results.now)
         (λ hs. LowersResults (moment_of G.seen cx.old.core.now) (moment_of G.seen cx.new.core.now) (encoding_by cx.old.core.now cx.old.options)
-        (tuple_members (types_of cx.old.core.now) ty) (HaveTrees (tuple_members (types_of cx.old.core.now) ty) results.now) at dst.new hs (ending_of result)) result }
-    ensures cause { IfErr result (BlamesMembers (encoding_by cx.old.core.now cx.old.options) (tuple_members (types_of cx.old.core.now) ty) results.now) }
-    ensures small { OnOk result (AreSmall (encoding_by cx.old.core.now cx.old.options) (tuple_members (types_of cx.old.core.now) ty) results.now) }
-    ensures quiet { Quiet (have_block (tuple_members (types_of cx.old.core.now) ty)) (cx.new.core.now.guest ≡ cx.old.core.now.guest) result }
-    ensures quiet_near { members_flat (tuple_members (types_of cx.old.core.now) ty) ≤ max_results →
-        Quiet (have_block (tuple_members (types_of cx.old.core.now) ty)) (cx.new.core.now ≡ record cx.old.core.now { ledger = cx.new.core.now.ledger }) result }
+        (tuple_members (component_types cx.old.core.now) ty) (HaveTrees (tuple_members (component_types cx.old.core.now) ty) results.now) at dst.new hs (ending_of result)) result }
+    ensures cause { IfErr result (BlamesMembers (encoding_by cx.old.core.now cx.old.options) (tuple_members (component_types cx.old.core.now) ty) results.now) }
+    ensures small { OnOk result (AreSmall (encoding_by cx.old.core.now cx.old.options) (tuple_members (component_types cx.old.core.now) ty) results.now) }
+    ensures quiet { Quiet (have_block (tuple_members (component_types cx.old.core.now) ty)) (cx.new.core.now.guest ≡ cx.old.core.now.guest) result }
+    ensures quiet_near { members_flat (tuple_members (component_types cx.old.core.now) ty) ≤ max_results →
+        Quiet (have_block (tuple_members (component_types cx.old.core.now) ty)) (cx.new.core.now ≡ record cx.old.core.now { ledger = cx.new.core.now.ledger }) result }
     ensures moves { Moves G.seen G.moves (guest_of cx.old.core.now) (guest_of cx.new.core.now) (ending_of result) }
     ensures same_core { SameButHandles cx.old.core.now cx.new.core.now }
     ensures same_reference { cx.new.core.ghost_name ≡ cx.old.core.ghost_name }
@@ -123,15 +123,15 @@ fn store_results<T, G: Guest>(
     ty: TypeTupleIndex,
     at: u64,
 ) -> Result<(), Fault>
-    requires tuple { HasTuple (types_of cx.old.core.now) ty }
-    requires count { length results.now ≡ member_count (tuple_members (types_of cx.old.core.now) ty) }
-    requires room { at + size false (product of_places (tuple_members (types_of cx.old.core.now) ty)) ≤ length cx.old.core.now.memory }
-    ensures stored { PartsLower cx.old.core.now cx.new.core.now (all_passes (tuple_members (types_of cx.old.core.now) ty) results.now)
+    requires tuple { HasTuple (component_types cx.old.core.now) ty }
+    requires count { length results.now ≡ member_count (tuple_members (component_types cx.old.core.now) ty) }
+    requires room { at + size false (product of_places (tuple_members (component_types cx.old.core.now) ty)) ≤ length cx.old.core.now.memory }
+    ensures stored { PartsLower cx.old.core.now cx.new.core.now (all_passes (tuple_members (component_types cx.old.core.now) ty) results.now)
         (λ hs. StoresMembers false (moment_of G.seen cx.old.core.now) (moment_of G.seen cx.new.core.now) (encoding_by cx.old.core.now cx.old.options)
-        (tuple_members (types_of cx.old.core.now) ty) 0 at (HaveTrees (tuple_members (types_of cx.old.core.now) ty) results.now) hs (ending_of result)) result }
-    ensures cause { IfErr result (BlamesMembers (encoding_by cx.old.core.now cx.old.options) (tuple_members (types_of cx.old.core.now) ty) results.now) }
-    ensures small { OnOk result (AreSmall (encoding_by cx.old.core.now cx.old.options) (tuple_members (types_of cx.old.core.now) ty) results.now) }
-    ensures quiet { Quiet (have_block (tuple_members (types_of cx.old.core.now) ty)) (cx.new.core.now.guest ≡ cx.old.core.now.guest) result }
+        (tuple_members (component_types cx.old.core.now) ty) 0 at (HaveTrees (tuple_members (component_types cx.old.core.now) ty) results.now) hs (ending_of result)) result }
+    ensures cause { IfErr result (BlamesMembers (encoding_by cx.old.core.now cx.old.options) (tuple_members (component_types cx.old.core.now) ty) results.now) }
+    ensures small { OnOk result (AreSmall (encoding_by cx.old.core.now cx.old.options) (tuple_members (component_types cx.old.core.now) ty) results.now) }
+    ensures quiet { Quiet (have_block (tuple_members (component_types cx.old.core.now) ty)) (cx.new.core.now.guest ≡ cx.old.core.now.guest) result }
     ensures moves { Moves G.seen G.moves (guest_of cx.old.core.now) (guest_of cx.new.core.now) (ending_of result) }
     ensures same_core { SameButHandles cx.old.core.now cx.new.core.now }
     ensures same_reference { cx.new.core.ghost_name ≡ cx.old.core.ghost_name }

@@ -6,7 +6,7 @@ ghost use Rattle.canon_model.specs.Layout.{align, members_end, size};
 ghost use Rattle.canon_model.specs.Shape.{member_count, string};
 ghost use Rattle.canon_types.specs.Table.{Knows, shape_of};
 ghost use Rattle.canon_plan.specs.Plan.{shape_of_handle, type_of_handle};
-ghost use Rattle.canon_context.specs.Core.{encoding_by, guest_of, moment_of, types_of};
+ghost use Rattle.canon_context.specs.Core.{encoding_by, guest_of, moment_of, component_types};
 ghost use Rattle.canon_plan.specs.Element.{IsKnown, list_shape};
 ghost use Rattle.canon_value_parts.specs.Elements.{element_in, list_value};
 ghost use Rattle.canon_value_parts.specs.Fails.{BlamesValue, IsSmall};
@@ -18,7 +18,7 @@ ghost use Rattle.canon_context.specs.Asks.{SameButHandles};
 ghost use Rattle.canon_value_parts.specs.Stores.{PartsStoreTo, PlacesTo, StoresTo};
 ghost use Rattle.canon_val.specs.declared.val.Val.TheVariants as val;
 ghost use Rattle.canon_val.specs.Value.{HasTree};
-ghost use Rattle.canon_value_parts.specs.View.{AreKnown, names_of, shapes_of, values_of};
+ghost use Rattle.canon_value_parts.specs.View.{HaveKnownTypes, names_of, shapes_of, values_of};
 ghost use Rattle.canon_value_parts.specs.Words.{IsWordOf};
 
 use crate::{Fault, LowerContext, Val};
@@ -42,16 +42,16 @@ pub fn linear_lower_to_memory<T, G: Guest>(
     ty: InterfaceType,
     offset: u64,
 ) -> Result<(), Fault>
-    requires known { Knows (types_of cx.old.core.now) ty }
-    requires aligned { offset % align false (shape_of (types_of cx.old.core.now) ty) ≡ 0 }
-    requires room { offset + size false (shape_of (types_of cx.old.core.now) ty) ≤ length cx.old.core.now.memory }
-    ensures stored { Crosses cx.old.core.now.component.types (has_handle (shape_of (types_of cx.old.core.now) ty)) (passes value.now (shape_of (types_of cx.old.core.now) ty))
+    requires known { Knows (component_types cx.old.core.now) ty }
+    requires aligned { offset % align false (shape_of (component_types cx.old.core.now) ty) ≡ 0 }
+    requires room { offset + size false (shape_of (component_types cx.old.core.now) ty) ≤ length cx.old.core.now.memory }
+    ensures stored { Crosses cx.old.core.now.component.types (has_handle (shape_of (component_types cx.old.core.now) ty)) (passes value.now (shape_of (component_types cx.old.core.now) ty))
         (λ hs ending. StoresValue false (moment_of G.seen cx.old.core.now) (moment_of G.seen cx.new.core.now) (encoding_by cx.old.core.now cx.old.options)
-        (shape_of (types_of cx.old.core.now) ty) offset (HasTree (shape_of (types_of cx.old.core.now) ty) value.now) hs ending)
+        (shape_of (component_types cx.old.core.now) ty) offset (HasTree (shape_of (component_types cx.old.core.now) ty) value.now) hs ending)
         cx.old.core.now.ledger cx.new.core.now.ledger result }
-    ensures cause { IfErr result (BlamesValue (encoding_by cx.old.core.now cx.old.options) (shape_of (types_of cx.old.core.now) ty) value.now) }
-    ensures small { OnOk result (IsSmall (encoding_by cx.old.core.now cx.old.options) (shape_of (types_of cx.old.core.now) ty) value.now) }
-    ensures quiet { QuietBut (has_handle (shape_of (types_of cx.old.core.now) ty)) (passes value.now (shape_of (types_of cx.old.core.now) ty)) (has_block (shape_of (types_of cx.old.core.now) ty))
+    ensures cause { IfErr result (BlamesValue (encoding_by cx.old.core.now cx.old.options) (shape_of (component_types cx.old.core.now) ty) value.now) }
+    ensures small { OnOk result (IsSmall (encoding_by cx.old.core.now cx.old.options) (shape_of (component_types cx.old.core.now) ty) value.now) }
+    ensures quiet { QuietBut (has_handle (shape_of (component_types cx.old.core.now) ty)) (passes value.now (shape_of (component_types cx.old.core.now) ty)) (has_block (shape_of (component_types cx.old.core.now) ty))
         (cx.new.core.now.guest ≡ cx.old.core.now.guest) result }
     ensures moves { Moves G.seen G.moves (guest_of cx.old.core.now) (guest_of cx.new.core.now) (ending_of result) }
     ensures same_core { SameButHandles cx.old.core.now cx.new.core.now }
@@ -74,10 +74,10 @@ pub(crate) fn store_value<T, G: Guest>(
     at: u64,
     place: u64,
 ) -> Result<u64, Fault>
-    requires known { Knows (types_of cx.old.core.now) ty }
+    requires known { Knows (component_types cx.old.core.now) ty }
     requires small { length cx.old.core.now.memory ≤ 2 ^ 32 }
-    requires room { at + size false (shape_of (types_of cx.old.core.now) ty) ≤ length cx.old.core.now.memory }
-    ensures stores { StoresTo G.seen G.moves cx.old.options cx.old.core.now cx.new.core.now (shape_of (types_of cx.old.core.now) ty) at value.now place result }
+    requires room { at + size false (shape_of (component_types cx.old.core.now) ty) ≤ length cx.old.core.now.memory }
+    ensures stores { StoresTo G.seen G.moves cx.old.options cx.old.core.now cx.new.core.now (shape_of (component_types cx.old.core.now) ty) at value.now place result }
     ensures same_reference { cx.new.core.ghost_name ≡ cx.old.core.ghost_name }
     ensures same_options { cx.new.options ≡ cx.old.options }
 {
@@ -110,11 +110,11 @@ pub(crate) fn store_parts<T, G: Guest>(
     place: u64,
     first: u64,
 ) -> Result<u64, Fault>
-    requires known { AreKnown (types_of cx.old.core.now) members.now }
-    requires count { length (values_of members.now) ≡ member_count (shapes_of (types_of cx.old.core.now) members.now) }
+    requires known { HaveKnownTypes (component_types cx.old.core.now) members.now }
+    requires count { length (values_of members.now) ≡ member_count (shapes_of (component_types cx.old.core.now) members.now) }
     requires small { length cx.old.core.now.memory ≤ 2 ^ 32 }
-    requires room { at + members_end false 0 (shapes_of (types_of cx.old.core.now) members.now) ≤ length cx.old.core.now.memory }
-    ensures stores { PartsStoreTo G.seen G.moves cx.old.options cx.old.core.now cx.new.core.now place (shapes_of (types_of cx.old.core.now) members.now) 0 at
+    requires room { at + members_end false 0 (shapes_of (component_types cx.old.core.now) members.now) ≤ length cx.old.core.now.memory }
+    ensures stores { PartsStoreTo G.seen G.moves cx.old.options cx.old.core.now cx.new.core.now place (shapes_of (component_types cx.old.core.now) members.now) 0 at
         (names_of members.now) (values_of members.now) first result }
     ensures same_reference { cx.new.core.ghost_name ≡ cx.old.core.ghost_name }
     ensures same_options { cx.new.options ≡ cx.old.options }
@@ -143,10 +143,10 @@ fn store_list<T, G: Guest>(
     at: u64,
     place: u64,
 ) -> Result<u64, Fault>
-    requires known { IsKnown (types_of cx.old.core.now) (element_in list.now) }
+    requires known { IsKnown (component_types cx.old.core.now) (element_in list.now) }
     requires small { length cx.old.core.now.memory ≤ 2 ^ 32 }
     requires room { at + 8 ≤ length cx.old.core.now.memory }
-    ensures stores { StoresTo G.seen G.moves cx.old.options cx.old.core.now cx.new.core.now (list_shape (types_of cx.old.core.now) (element_in list.now)) at (list_value list.now) place result }
+    ensures stores { StoresTo G.seen G.moves cx.old.options cx.old.core.now cx.new.core.now (list_shape (component_types cx.old.core.now) (element_in list.now)) at (list_value list.now) place result }
     ensures same_reference { cx.new.core.ghost_name ≡ cx.old.core.ghost_name }
     ensures same_options { cx.new.options ≡ cx.old.options }
 {
@@ -166,9 +166,9 @@ pub(crate) fn place_list<T, G: Guest>(
     list: &Elements<'_>,
     place: u64,
 ) -> Result<Placed, Fault>
-    requires known { IsKnown (types_of cx.old.core.now) (element_in list.now) }
+    requires known { IsKnown (component_types cx.old.core.now) (element_in list.now) }
     requires small { length cx.old.core.now.memory ≤ 2 ^ 32 }
-    ensures places { PlacesTo G.seen G.moves cx.old.options cx.old.core.now cx.new.core.now (list_shape (types_of cx.old.core.now) (element_in list.now)) (list_value list.now) place result }
+    ensures places { PlacesTo G.seen G.moves cx.old.options cx.old.core.now cx.new.core.now (list_shape (component_types cx.old.core.now) (element_in list.now)) (list_value list.now) place result }
     ensures same_reference { cx.new.core.ghost_name ≡ cx.old.core.ghost_name }
     ensures same_options { cx.new.options ≡ cx.old.options }
 {
@@ -201,7 +201,7 @@ fn store_handle<T, G: Guest>(
     at: u64,
     place: u64,
 ) -> Result<u64, Fault>
-    requires known { Knows (types_of cx.old.core.now) (type_of_handle handle) }
+    requires known { Knows (component_types cx.old.core.now) (type_of_handle handle) }
     requires small { length cx.old.core.now.memory ≤ 2 ^ 32 }
     requires room { at + 4 ≤ length cx.old.core.now.memory }
     ensures stores { StoresTo G.seen G.moves cx.old.options cx.old.core.now cx.new.core.now (shape_of_handle handle) at (val.Resource resource) place result }
@@ -247,11 +247,11 @@ fn store_word<T, G: Guest>(
     at: u64,
     place: u64,
 ) -> u64
-    requires known { Knows (types_of cx.old.core.now) ty }
+    requires known { Knows (component_types cx.old.core.now) ty }
     requires word { IsWordOf ty value.now word }
     requires small { length cx.old.core.now.memory ≤ 2 ^ 32 }
-    requires room { at + size false (shape_of (types_of cx.old.core.now) ty) ≤ length cx.old.core.now.memory }
-    ensures stores { StoresTo G.seen G.moves cx.old.options cx.old.core.now cx.new.core.now (shape_of (types_of cx.old.core.now) ty) at value.now place (Ok result) }
+    requires room { at + size false (shape_of (component_types cx.old.core.now) ty) ≤ length cx.old.core.now.memory }
+    ensures stores { StoresTo G.seen G.moves cx.old.options cx.old.core.now cx.new.core.now (shape_of (component_types cx.old.core.now) ty) at value.now place (Ok result) }
     ensures same_reference { cx.new.core.ghost_name ≡ cx.old.core.ghost_name }
     ensures same_options { cx.new.options ≡ cx.old.options }
 {

@@ -24,12 +24,12 @@ use Rattle.canon_types.specs.Depth.{variant_cases}
 use Rattle.canon_types.specs.Keeps.{cases_type}
 use Rattle.canon_types.specs.Table.{Knows, KnowsPayload, ResultType, Table, all_shapes, cases_in, parts, payload_in, shape_of}
 use Rattle.canon_types.specs.declared.types.InterfaceType.{InterfaceType}
-use Rattle.canon_value_parts.specs.CaseView.{IsPayload, Misses}
+use Rattle.canon_value_parts.specs.CaseView.{IsPayloadViewed, Misses}
 use Rattle.canon_value_parts.specs.Fails.{Blames, FailsAt, payload_expected, payload_not_expected, unknown_case}
 use Rattle.canon_context.specs.Lowers.{fault_ending}
 use Rattle.canon_value_parts.specs.Resources.{ledger_fault}
 use Rattle.canon_val.specs.Value.{IsCase, IsFirst, case_names, member_names, result_case, result_payload, unboxed}
-use Rattle.canon_value_parts.specs.View.{AreKnown, IsMember, names_of, shapes_of, values_of}
+use Rattle.canon_value_parts.specs.View.{HaveKnownTypes, IsMember, names_of, shapes_of, values_of}
 use Rattle.canon_value_parts.specs.Viewed.{IsCaseSeen}
 use Rattle.canon_context.specs.declared.fault.Fault.{Fault}
 use Rattle.canon_context.specs.declared.fault.Fault.TheVariants as fault
@@ -144,13 +144,13 @@ second_members t (Some s) type cs = first_members t type cs
 
 -- what the members of a payload are
 pub record IsSeen (t : Table) (type : Option InterfaceType) (p : Option (Box Val Global)) (ms : Parts) : Type 0 where
-  pub known : AreKnown t ms
+  pub known : HaveKnownTypes t ms
   pub shapes : shapes_of t ms ≡ payload_members t type
   pub values : values_of ms ≡ unboxed p
   pub names : names_of ms ≡ member_names (shapes_of t ms)
   pub count : length (values_of ms) ≡ member_count (shapes_of t ms)
 
-pub payload_seen : (t : Table) (type : Option InterfaceType) (p : Option (Box Val Global)) (ms : Parts) → KnowsPayload t type → IsPayload type p ms → IsSeen t type p ms
+pub payload_seen : (t : Table) (type : Option InterfaceType) (p : Option (Box Val Global)) (ms : Parts) → KnowsPayload t type → IsPayloadViewed type p ms → IsSeen t type p ms
 payload_seen t None None ms known e = subst (λ (x : Parts). IsSeen t None None x) (sym e) (record { known = tt; shapes = refl; values = refl; names = refl; count = refl })
 payload_seen t None (Some b) ms known e = absurd e
 payload_seen t (Some type) None ms known e = absurd e
@@ -245,7 +245,7 @@ module _ (t : Table) (s : Shape) (v : Val) (info : VariantInfo) (entries : List 
   )
 
   module _ (i : ℕ) (k : String Global) (type : Option InterfaceType) (at : slice_get entries i ≡ Some (k, type)) (e : position (λ k. bytes_eq xs (string_bytes k)) (keys_of entries) ≡ Some i) where
-    pub variant_seen : (ms : Parts) → All (Knows t) (parts (cases_type entries)) → IsPayload type p ms → IsCaseSeen t s v (record { info = info; tag = i; payload = ms })
+    pub variant_seen : (ms : Parts) → All (Knows t) (parts (cases_type entries)) → IsPayloadViewed type p ms → IsCaseSeen t s v (record { info = info; tag = i; payload = ms })
     variant_seen ms known is =
         let seen = payload_seen t type p ms (entry_known t entries i k type at known) is in
         record {
@@ -300,7 +300,7 @@ module _ (t : Table) (s : Shape) (v : Val) (info : VariantInfo) (ok error : Opti
   inside : i < case_count both_cases
   inside = omega (arith, chosen.few, two_cases (payload_in (all_shapes t) ok) (payload_in (all_shapes t) error))
 
-  pub result_seen : (ms : Parts) → IsPayload type p ms → IsCaseSeen t s v (record { info = info; tag = i; payload = ms })
+  pub result_seen : (ms : Parts) → IsPayloadViewed type p ms → IsCaseSeen t s v (record { info = info; tag = i; payload = ms })
   result_seen ms is =
       let seen = payload_seen t type p ms chosen.known is in
       record {

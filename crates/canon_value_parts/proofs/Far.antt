@@ -21,13 +21,13 @@ use Rattle.canon_types.specs.Table.{IsDefined, Table, TupleType, shape_of, tuple
 use Rattle.canon_types.specs.declared.types.InterfaceType.{InterfaceType}
 use Rattle.canon_types.specs.declared.types.InterfaceType.TheVariants as ty
 use Rattle.canon_value_parts.specs.Args.{AsksTuple, LowersParams, args_words}
-use Rattle.canon_context.specs.Core.{Parts, encoding_by, guest_of, moment_of, types_of}
+use Rattle.canon_context.specs.Core.{Parts, encoding_by, guest_of, moment_of, component_types}
 use Rattle.canon_context.specs.Lowers.{ending_of, fault_ending}
 use Rattle.canon_context.specs.Moves.{Moves}
 use Rattle.canon_context.specs.Asks.{AsksFor, SameButHandles}
 use Rattle.canon_value_parts.proofs.Passing.{handles_then, passes_from, same_handles}
 use Rattle.canon_value_parts.specs.Resources.{PartsLower, all_passes}
-use Rattle.canon_value_parts.specs.Stores.{FieldsCount, PartsStoreTo, Counts}
+use Rattle.canon_value_parts.specs.Stores.{FieldsCount, PartsStoreTo, PlacesCounted}
 use Rattle.canon_model.specs.Tree.{Trees}
 use Rattle.canon_val.specs.Value.{HaveTrees, no_names, all_places}
 use Rattle.canon_context.specs.declared.fault.Fault.{Fault}
@@ -58,21 +58,21 @@ no_trap : (a b : Moment) (answers : List Answer) (trap : Option Trap) (r : Resul
 no_trap a b answers trap (Ok n) h cause = cause
 no_trap a b answers trap (Err e) h cause = subst (λ end. CauseOf a b answers trap end) h cause
 
-module _ {T G : Type 0} (L : GuestLaws G) (options options2 : ℕ) (a b c : Parts T G) (j : ℕ) (vs : List Val) (p : ℕ) (far : max_params < members_flat (tuple_members (types_of a) j)) (count : length vs ≡ member_count (tuple_members (types_of a) j))
-    (g : AsksFor L.seen L.moves a b (args_call false (tuple_members (types_of a) j)) (Ok p)) (eo : options2 ≡ options) (r : Result ℕ Fault) (h : PartsStoreTo L.seen L.moves options2 b c 0 (tuple_members (types_of b) j) 0 p (no_names vs) vs 0 r) where
+module _ {T G : Type 0} (L : GuestLaws G) (options options2 : ℕ) (a b c : Parts T G) (j : ℕ) (vs : List Val) (p : ℕ) (far : max_params < members_flat (tuple_members (component_types a) j)) (count : length vs ≡ member_count (tuple_members (component_types a) j))
+    (g : AsksFor L.seen L.moves a b (args_call false (tuple_members (component_types a) j)) (Ok p)) (eo : options2 ≡ options) (r : Result ℕ Fault) (h : PartsStoreTo L.seen L.moves options2 b c 0 (tuple_members (component_types b) j) 0 p (no_names vs) vs 0 r) where
   abbrev ms : Members
-  ms = tuple_members (types_of a) j
+  ms = tuple_members (component_types a) j
 
   -- what the storing of the members left, said of the table of the start
   stood : PartsStoreTo L.seen L.moves options b c 0 ms 0 p (no_names vs) vs 0 r
   stood = subst (λ (x : Table). PartsStoreTo L.seen L.moves options b c 0 (tuple_members x j) 0 p (no_names vs) vs 0 r) (same_types a b g.same)
-      (subst (λ (n : ℕ). PartsStoreTo L.seen L.moves n b c 0 (tuple_members (types_of b) j) 0 p (no_names vs) vs 0 r) eo h)
+      (subst (λ (n : ℕ). PartsStoreTo L.seen L.moves n b c 0 (tuple_members (component_types b) j) 0 p (no_names vs) vs 0 r) eo h)
 
   storing : StoresMembers false (moment_of L.seen b) (moment_of L.seen c) (encoding_by a options) ms 0 p (Named ms (no_names vs) vs) stood.handles (ending_of r)
   storing = subst (λ (x : Encoding). StoresMembers false (moment_of L.seen b) (moment_of L.seen c) x ms 0 p (Named ms (no_names vs) vs) stood.handles (ending_of r)) (same_encoding a b options g.same) stood.storing
 
   from : (ts : Trees) → HaveTrees ms vs ts → Named ms (no_names vs) vs ts
-  from ts have = (tuple_names (types_of a) j vs count, have)
+  from ts have = (tuple_names (component_types a) j vs count, have)
 
   -- the block is given, and the members are stored there
   lowered : LowersParams (moment_of L.seen a) (moment_of L.seen c) (encoding_by a options) ms (HaveTrees ms vs) (p ∷ []) stood.handles (ending_of r)
@@ -95,8 +95,8 @@ module _ {T G : Type 0} (L : GuestLaws G) (options options2 : ℕ) (a b c : Part
   pub far_moves : Moves L.seen L.moves (guest_of a) (guest_of c) (ending_of r)
   far_moves = moves_then L (guest_of a) (guest_of b) (guest_of c) (ending_of r) _ _ g.does.answered.goes.events stood.storing.lowering.goes.events g.moved stood.moved
 
-  pub far_counted : Counts (encoding_by a options) (λ how k. MemberFails how ms vs k) 0 (all_places vs) r
-  far_counted = count_members (encoding_by a options) 0 ms (no_names vs) vs 0 r (tuple_names (types_of a) j vs count)
+  pub far_counted : PlacesCounted (encoding_by a options) (λ how k. MemberFails how ms vs k) 0 (all_places vs) r
+  far_counted = count_members (encoding_by a options) 0 ms (no_names vs) vs 0 r (tuple_names (component_types a) j vs count)
       (subst (λ (x : Encoding). FieldsCount x 0 ms (no_names vs) vs 0 r) (same_encoding a b options g.same) stood.counted)
 
 module _ (enc : Encoding) (ms : Members) (Have : Trees → Type 0) where

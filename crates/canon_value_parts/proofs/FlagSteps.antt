@@ -21,7 +21,7 @@ use Rattle.canon_types.specs.Keeps.{flags_type, names_of}
 use Rattle.canon_types.specs.Table.{IsDefined, Table, shape_of}
 use Rattle.canon_types.specs.declared.types.InterfaceType.TheVariants as ty
 use Rattle.canon_types.specs.declared.types.TypeFlags.{TypeFlags}
-use Rattle.canon_context.specs.Core.{Parts, encoding_by, guest_of, moment_of, types_of}
+use Rattle.canon_context.specs.Core.{Parts, encoding_by, guest_of, moment_of, component_types}
 use Rattle.canon_value_parts.specs.Flags.{AreSetInWords, SetsBit, SomeUnknown, flag_names}
 use Rattle.canon_value_parts.proofs.Passing.{flags_none, passes_none, passes_stopped}
 use Rattle.canon_value_parts.specs.Resources.{passes}
@@ -137,15 +137,15 @@ module _ {T G : Type 0} (L : GuestLaws G) (options : ℕ) (a : Parts T G) (names
 
 -- ---- one name after another, in the memory of a core
 
-module _ {T G : Type 0} (a b : Parts T G) (only : b ≡ record a { memory = b.memory }) (t : Table) (here : t ≡ types_of b) (i : ℕ) where
-  pub same_names : flag_names t i ≡ flag_names (types_of a) i
-  same_names = ap (λ (x : Table). flag_names x i) (here ∙ ap (λ (x : Parts T G). types_of x) only)
+module _ {T G : Type 0} (a b : Parts T G) (only : b ≡ record a { memory = b.memory }) (t : Table) (here : t ≡ component_types b) (i : ℕ) where
+  pub same_names : flag_names t i ≡ flag_names (component_types a) i
+  same_names = ap (λ (x : Table). flag_names x i) (here ∙ ap (λ (x : Parts T G). component_types x) only)
 
-  pub stored_next : (ys zs : List ℕ) (at bytes : ℕ) (set : List Name) (k : ℕ) (x : Name) → ys ≡ b.memory → at + bytes ≤ length a.memory → bytes ≡ flags_size (length (flag_names (types_of a) i)) → Differ (flag_names t i)
-      → AreStored a.memory b.memory at bytes (flag_names (types_of a) i) set → k < length (flag_names t i) → ((d : Name) → get_or (flag_names t i) k d ≡ x) → SetsBit 8 (at + k / 8) (k % 8) ys zs
-      → AreStored a.memory (written_over b.memory zs) at bytes (flag_names (types_of a) i) (set ++ x ∷ [])
+  pub stored_next : (ys zs : List ℕ) (at bytes : ℕ) (set : List Name) (k : ℕ) (x : Name) → ys ≡ b.memory → at + bytes ≤ length a.memory → bytes ≡ flags_size (length (flag_names (component_types a) i)) → Differ (flag_names t i)
+      → AreStored a.memory b.memory at bytes (flag_names (component_types a) i) set → k < length (flag_names t i) → ((d : Name) → get_or (flag_names t i) k d ≡ x) → SetsBit 8 (at + k / 8) (k % 8) ys zs
+      → AreStored a.memory (written_over b.memory zs) at bytes (flag_names (component_types a) i) (set ++ x ∷ [])
   stored_next ys zs at bytes set k x ey room many differ h l is s =
-      let names = flag_names (types_of a) i in
+      let names = flag_names (component_types a) i in
       let sets : SetsBit 8 (at + k / 8) (k % 8) b.memory zs = subst (λ (xs : List ℕ). SetsBit 8 (at + k / 8) (k % 8) xs zs) ey s in
       subst (λ (xs : List ℕ). AreStored a.memory xs at bytes names (set ++ x ∷ [])) (sym (written_whole b.memory zs sets.same_length))
       (stored_more a.memory b.memory zs at bytes names set k x room many (subst (λ (ns : List Name). Differ ns) same_names differ) h (subst (λ (ns : List Name). k < length ns) same_names l)

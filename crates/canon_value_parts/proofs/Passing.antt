@@ -2,7 +2,7 @@
 use Rattle.std.proofs.Common.{◌≡◌, ◌++◌, ◌∙◌, Err, List, None, Ok, Option, Result, String, Vec, [], ◌∷◌, ap, inl, inr, map, refl, rules, subst, subst₂, sym, ℕ, ◌⊎◌}
 use Rattle.std.proofs.lemmas.List.{map-append}
 use Rattle.canon_context.specs.Asks.{SameBut, SameButHandles}
-use Rattle.canon_context.specs.Core.{Parts, encoding_by, types_of}
+use Rattle.canon_context.specs.Core.{Parts, encoding_by, component_types}
 use Rattle.canon_context.specs.Lowers.{fault_ending}
 use Rattle.canon_context.specs.declared.fault.Fault.{Fault}
 use Rattle.canon_context.specs.declared.fault.Fault.TheVariants as fault
@@ -35,8 +35,8 @@ same_ledger {T} {G} a b e = ap (λ (x : Parts T G). x.ledger) e
 pub handles_instance : {T G : Type 0} → (a b : Parts T G) → SameButHandles a b → b.component.types ≡ a.component.types
 handles_instance {T} {G} a b e = ap (λ (x : Parts T G). x.component.types) e
 
-pub handles_types : {T G : Type 0} → (a b : Parts T G) → SameButHandles a b → types_of b ≡ types_of a
-handles_types {T} {G} a b e = ap (λ (x : Parts T G). types_of x) e
+pub handles_types : {T G : Type 0} → (a b : Parts T G) → SameButHandles a b → component_types b ≡ component_types a
+handles_types {T} {G} a b e = ap (λ (x : Parts T G). component_types x) e
 
 pub handles_encoding : {T G : Type 0} → (a b : Parts T G) (options : ℕ) → SameButHandles a b → encoding_by b options ≡ encoding_by a options
 handles_encoding {T} {G} a b options e = ap (λ (x : Parts T G). encoding_by x options) e

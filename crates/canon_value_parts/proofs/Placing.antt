@@ -13,7 +13,7 @@ use Rattle.canon_context.specs.Core.{Parts, encoding_by, guest_of, moment_of}
 use Rattle.canon_value_parts.specs.Fails.{AreSmall, Blames, Failure, FailsAt, IsSmall, MemberFails, overflow, too_long}
 use Rattle.canon_context.specs.Lowers.{fault_ending, ending_of}
 use Rattle.canon_context.specs.Asks.{AsksFor}
-use Rattle.canon_value_parts.specs.Stores.{PlacesTo, Counts, FieldsCount, PartsStoreTo}
+use Rattle.canon_value_parts.specs.Stores.{PlacesTo, PlacesCounted, FieldsCount, PartsStoreTo}
 use Rattle.canon_val.specs.Value.{HasTree, all_places, cap, no_names, places}
 use Rattle.canon_context.specs.declared.fault.Fault.{Fault}
 use Rattle.canon_context.specs.declared.fault.Fault.TheVariants as fault
@@ -68,8 +68,8 @@ module _ (whole : Shape) (v : Val) (n : ℕ) (ms : Members) (vs : List Val) (l :
   small : (enc : Encoding) → n < 2 ^ 32 → n * size false l.part < 2 ^ 32 → AreSmall enc ms vs → IsSmall enc shape v
   small enc few fit h = small_by enc (λ how k. MemberFails how ms vs k) (λ how k. FailsAt how shape v k) (λ m j f. l.inner (too_long enc m) j (λ g. g) f) (λ m j f. l.inner (overflow m) j (l.fits m few fit) f) h
 
-  counts : (enc : Encoding) (place : ℕ) (r : Result ℕ Fault) → n < 2 ^ 32 → n * size false l.part < 2 ^ 32 → Counts enc (λ how k. MemberFails how ms vs k) (cap (place + 1)) (all_places vs) r
-      → Counts enc (λ how k. FailsAt how shape v k) place (places v) r
+  counts : (enc : Encoding) (place : ℕ) (r : Result ℕ Fault) → n < 2 ^ 32 → n * size false l.part < 2 ^ 32 → PlacesCounted enc (λ how k. MemberFails how ms vs k) (cap (place + 1)) (all_places vs) r
+      → PlacesCounted enc (λ how k. FailsAt how shape v k) place (places v) r
   counts enc place (Ok to) few fit (e, h) = (omega (arith, e, l.counted), small enc few fit h)
   counts enc place (Err e) few fit b = blames_later enc (λ how k. MemberFails how ms vs k) (λ how k. FailsAt how shape v k) 1 place (cap (place + 1)) e refl l.fails b
 
@@ -108,7 +108,7 @@ module _ (whole : Shape) (v : Val) (n : ℕ) (ms : Members) (vs : List Val) (l :
         row_handed : LowersHandles a.component.types a.ledger c.ledger (passes v shape) h.handles r
         row_handed = passes_as a.component.types a.ledger c.ledger (all_passes ms vs) (passes v shape) h.handles r (ap (passes v) (sym l.shape) ∙ given) (passes_from a b c.ledger (all_passes ms vs) h.handles r g.same h.handed)
 
-        row_counted : Counts (encoding_by a options) (λ how k. FailsAt how shape v k) place (places v) r
+        row_counted : PlacesCounted (encoding_by a options) (λ how k. FailsAt how shape v k) place (places v) r
         row_counted =
             counts (encoding_by a options) place r (omega (arith, is, few)) (omega (arith, ap₂ (λ (j : ℕ) (s : Shape). j * size false s) is (ap element_shape l.shape), fit))
             (count_members (encoding_by a options) place ms (no_names vs) vs (cap (place + 1)) r l.named

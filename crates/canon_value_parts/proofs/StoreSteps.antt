@@ -10,7 +10,7 @@ use Rattle.canon_types.specs.Table.{Table, shape_of}
 use Rattle.canon_types.specs.declared.types.InterfaceType.{InterfaceType}
 use Rattle.canon_plan.specs.NoHandle.{IsScalarType}
 use Rattle.canon_value_parts.specs.Fails.{Blames, FailsAt, IsSmall, MemberFails}
-use Rattle.canon_value_parts.specs.Stores.{Counts, FieldsCount}
+use Rattle.canon_value_parts.specs.Stores.{PlacesCounted, FieldsCount}
 use Rattle.canon_val.specs.Value.{HasTree, HaveTrees, IsProduct, all_places, cap, member_names, places}
 use Rattle.canon_context.specs.declared.fault.Fault.{Fault}
 use Rattle.canon_val.specs.declared.val.Val.{Val}
@@ -87,7 +87,7 @@ fields_count enc place name named s ms names v vs from mid (Err e) en em first (
     inr (blames_later enc (λ how k. MemberFails how ms vs k) (λ how k. MemberFails how (member name s ms) (v ∷ vs) k) (places v) from mid e em (λ how j f. inr (j, refl, f)) b)
 
 pub product_counts : (enc : Encoding) (place : ℕ) (k : ProductKind) (ms : Members) (names : List Name) (vs : List Val) (v : Val) (r : Result ℕ Fault) → place < 2 ^ 64 → IsProduct k names vs v → length vs ≡ member_count ms
-    → FieldsCount enc place ms names vs (cap (place + 1)) r → Counts enc (λ how j. FailsAt how (product k ms) v j) place (places v) r
+    → FieldsCount enc place ms names vs (cap (place + 1)) r → PlacesCounted enc (λ how j. FailsAt how (product k ms) v j) place (places v) r
 product_counts enc place k ms names vs v (Ok to) small p count (same, e, fit) = (omega (arith, e, places_product k names vs v p), product_small enc k ms names vs v p fit)
 product_counts enc place k ms names vs v (Err e) small p count (inl (is, other)) =
     subst (λ x. Blames enc (λ how j. FailsAt how (product k ms) v j) place x) (sym is) (0, omega (arith, small), inl (refl, (names, vs, p, count, other)))
@@ -96,7 +96,7 @@ product_counts enc place k ms names vs v (Err e) small p count (inr b) =
 
 -- of values whose names are right
 pub count_members : (enc : Encoding) (place : ℕ) (ms : Members) (names : List Name) (vs : List Val) (from : ℕ) (r : Result ℕ Fault) → names ≡ member_names ms → FieldsCount enc place ms names vs from r
-    → Counts enc (λ how k. MemberFails how ms vs k) from (all_places vs) r
+    → PlacesCounted enc (λ how k. MemberFails how ms vs k) from (all_places vs) r
 count_members enc place ms names vs from (Ok to) same (_, e, small) = (e, small)
 count_members enc place ms names vs from (Err e) same (inl (is, other)) = absurd (other same)
 count_members enc place ms names vs from (Err e) same (inr b) = b

@@ -12,7 +12,7 @@ use Rattle.canon_plan.specs.NoHandle.{HaveNoHandle, HasNoHandle}
 use Rattle.canon_types.specs.Table.{Table, shape_of}
 use Rattle.canon_types.specs.declared.types.InterfaceType.TheVariants as ty
 use Rattle.canon_value_parts.specs.Elements.{by_turns}
-use Rattle.canon_value_parts.specs.View.{AreKnown, names_of, shapes_of, values_of}
+use Rattle.canon_value_parts.specs.View.{HaveKnownTypes, names_of, shapes_of, values_of}
 use Rattle.canon_plan.specs.Plan.{LiesAs}
 use Rattle.canon_value_parts.specs.declared.members.Members.{Members as View}
 use Rattle.canon_value_parts.specs.declared.members.Members.TheVariants as members
@@ -32,7 +32,7 @@ names_count (members.Single type value) = refl
 names_count (members.Pairs i values) = count_no_names (by_turns values.now)
 
 -- as many members as values
-pub values_count : (t : Table) (ms : View) → AreKnown t ms → length (values_of ms) ≡ member_count (shapes_of t ms)
+pub values_count : (t : Table) (ms : View) → HaveKnownTypes t ms → length (values_of ms) ≡ member_count (shapes_of t ms)
 values_count t (members.Fields i values) (known, count) = count_values values.now ∙ count
 values_count t (members.Places i values) (known, count) = count
 values_count t (members.Items type values) known = sym (copies_count (length values.now) (shape_of t type))

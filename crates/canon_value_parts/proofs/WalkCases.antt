@@ -23,9 +23,9 @@ use Rattle.canon_context.specs.Lowers.{ending_of}
 use Rattle.canon_context.specs.Moves.{Moves}
 use Rattle.canon_value_parts.specs.Resources.{all_passes, passes}
 use Rattle.canon_value_parts.proofs.Passing.{passes_as}
-use Rattle.canon_value_parts.specs.Stores.{Counts, PartsStoreTo, StoresTo}
+use Rattle.canon_value_parts.specs.Stores.{PlacesCounted, PartsStoreTo, StoresTo}
 use Rattle.canon_val.specs.Value.{CaseHas, HasTree, HaveTrees, IsCase, all_places, cap, member_names, places}
-use Rattle.canon_value_parts.specs.View.{AreKnown, names_of, shapes_of, values_of}
+use Rattle.canon_value_parts.specs.View.{HaveKnownTypes, names_of, shapes_of, values_of}
 use Rattle.canon_value_parts.specs.Viewed.{IsCaseSeen}
 use Rattle.canon_value_parts.specs.declared.case_view.Case.{Case}
 use Rattle.canon_context.specs.declared.fault.Fault.{Fault}
@@ -60,8 +60,8 @@ module _ (wide : Bool) (enc : Encoding) (k : VariantKind) (cs : Cases) (d : ℕ)
       )
 
 pub case_counted : (enc : Encoding) (k : VariantKind) (cs : Cases) (d : ℕ) (vs : List Val) (v : Val) (place : ℕ) (r : Result ℕ Fault) → IsCase k cs d vs v
-    → Counts enc (λ how j. MemberFails how (case_members cs d) vs j) (cap (place + 1)) (all_places vs) r
-    → Counts enc (λ how j. FailsAt how (variant k cs) v j) place (places v) r
+    → PlacesCounted enc (λ how j. MemberFails how (case_members cs d) vs j) (cap (place + 1)) (all_places vs) r
+    → PlacesCounted enc (λ how j. FailsAt how (variant k cs) v j) place (places v) r
 case_counted enc k cs d vs v place (Ok to) of (e, small) = (omega (arith, e, case_places k cs d vs v of), case_small enc k cs d vs v of small)
 case_counted enc k cs d vs v place (Err e) of b =
     blames_later enc (λ how j. MemberFails how (case_members cs d) vs j) (λ how j. FailsAt how (variant k cs) v j) 1 place (cap (place + 1)) e refl (λ how j f. inr (d, vs, j, of, refl, case_fails how cs d vs j f)) b
@@ -72,7 +72,7 @@ pub record CaseWants (t : Table) (s : Shape) (c : Case) (at : ℕ) : Type 0 wher
   pub few : tag_bytes c.info.size ≤ 8
   pub inside : at + tag_bytes c.info.size ≤ at + size false s
   pub room : at + c.info.payload_offset32 + members_end false 0 (shapes_of t c.payload) ≤ at + size false s
-  pub known : AreKnown t c.payload
+  pub known : HaveKnownTypes t c.payload
   pub count : length (values_of c.payload) ≡ member_count (shapes_of t c.payload)
   pub falls : 4 * deepest (shapes_of t c.payload) + 2 < 4 * depth s
 

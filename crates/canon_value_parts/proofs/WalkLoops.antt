@@ -7,7 +7,7 @@ use Rattle.canon_model.specs.Shape.{Members, Name, Shape, member, member_count, 
 use Rattle.canon_types.specs.Depth.{deepest, depth}
 use Rattle.canon_types.specs.Table.{Knows, Table, shape_of}
 use Rattle.canon_types.specs.declared.types.InterfaceType.{InterfaceType}
-use Rattle.canon_context.specs.Core.{Parts, types_of}
+use Rattle.canon_context.specs.Core.{Parts, component_types}
 use Rattle.canon_context.specs.Asks.{SameButHandles}
 use Rattle.canon_value_parts.specs.Stores.{PartsStoreTo, StoresTo}
 use Rattle.canon_value_parts.specs.View.{IsMember}
@@ -40,23 +40,23 @@ module _ {T G : Type 0} (seen : G → Seen) (moves : GuestIn G → List Event �
 
 -- the member of number i stands inside memory, and its storing may be called
 pub record Stands {T G : Type 0} (start now : Parts T G) (at o : ℕ) (type : InterfaceType) : Type 0 where
-  pub known : Knows (types_of now) type
-  pub room : at + begins false o (shape_of (types_of start) type) + size false (shape_of (types_of now) type) ≤ length now.memory
-  pub fits : ends false o (shape_of (types_of start) type) < 2 ^ 64
+  pub known : Knows (component_types now) type
+  pub room : at + begins false o (shape_of (component_types start) type) + size false (shape_of (component_types now) type) ≤ length now.memory
+  pub fits : ends false o (shape_of (component_types start) type) < 2 ^ 64
   pub small : length now.memory ≤ 2 ^ 32
 
 module _ {T G : Type 0} (L : GuestLaws G) (options place : ℕ) (ms : Members) (names : List Name) (vs : List Val) (start : Parts T G) (at from : ℕ)
     (now : Parts T G) (next o i : ℕ) (h : PartsAreStored L.seen L.moves options place ms names vs start at from now next o i) where
-  module _ (m : Member) (is : IsMember (types_of start) ms names vs i m) where
+  module _ (m : Member) (is : IsMember (component_types start) ms names vs i m) where
     abbrev s : Shape
-    s = shape_of (types_of start) m.ty
+    s = shape_of (component_types start) m.ty
 
     pub stands : Stands start now at o m.ty
     stands =
-        let same : types_of now ≡ types_of start = handles_types start now h.same in
+        let same : component_types now ≡ component_types start = handles_types start now h.same in
         let end : members_end false o (members_from i ms) ≡ members_end false o (member is.name s (members_from (i + 1) ms)) = ap (members_end false o) is.shapes in
         let first = member_room is.name s (members_from (i + 1) ms) o in
-        let bytes : size false (shape_of (types_of now) m.ty) ≡ size false s = ap (λ (x : Table). size false (shape_of x m.ty)) same in
+        let bytes : size false (shape_of (component_types now) m.ty) ≡ size false s = ap (λ (x : Table). size false (shape_of x m.ty)) same in
         record {
           known = subst (λ (x : Table). Knows x m.ty) (sym same) is.known;
           room = omega (arith, end, first, h.room, h.longer, bytes);
@@ -73,15 +73,15 @@ module _ {T G : Type 0} (L : GuestLaws G) (options place : ℕ) (ms : Members) (
         (subst (λ (xs : List Val). PartsStoreTo L.seen L.moves options now z place (member is.name s (members_from (i + 1) ms)) o at (is.named ∷ drop (i + 1) names) xs next r) (sym is.values) g))
 
     -- what its storing left, said of the table of the start
-    stood : (now2 : Parts T G) (options2 p : ℕ) (r : Result ℕ Fault) → options2 ≡ options → p ≡ begins false o s → StoresTo L.seen L.moves options2 now now2 (shape_of (types_of now) m.ty) (at + p) m.value.now next r
+    stood : (now2 : Parts T G) (options2 p : ℕ) (r : Result ℕ Fault) → options2 ≡ options → p ≡ begins false o s → StoresTo L.seen L.moves options2 now now2 (shape_of (component_types now) m.ty) (at + p) m.value.now next r
         → StoresTo L.seen L.moves options now now2 s (at + begins false o s) m.value.now next r
     stood now2 options2 p r eo ep g =
         subst (λ (b : ℕ). StoresTo L.seen L.moves options now now2 s (at + b) m.value.now next r) ep
         (subst (λ (x : Table). StoresTo L.seen L.moves options now now2 (shape_of x m.ty) (at + p) m.value.now next r) (handles_types start now h.same)
-        (subst (λ (n : ℕ). StoresTo L.seen L.moves n now now2 (shape_of (types_of now) m.ty) (at + p) m.value.now next r) eo g))
+        (subst (λ (n : ℕ). StoresTo L.seen L.moves n now now2 (shape_of (component_types now) m.ty) (at + p) m.value.now next r) eo g))
 
     pub go_on : (now2 : Parts T G) (options2 p next2 o2 : ℕ) → IsTrue m.is_named → options2 ≡ options → p ≡ begins false o s → o2 ≡ ends false o s → next2 < 2 ^ 64
-        → StoresTo L.seen L.moves options2 now now2 (shape_of (types_of now) m.ty) (at + p) m.value.now next (Ok next2) → PartsAreStored L.seen L.moves options place ms names vs start at from now2 next2 o2 (i + 1)
+        → StoresTo L.seen L.moves options2 now now2 (shape_of (component_types now) m.ty) (at + p) m.value.now next (Ok next2) → PartsAreStored L.seen L.moves options place ms names vs start at from now2 next2 o2 (i + 1)
     unfolding size
     go_on now2 options2 p next2 o2 named eo ep e2 few g =
         let one = stood now2 options2 p (Ok next2) eo ep g in
@@ -95,7 +95,7 @@ module _ {T G : Type 0} (L : GuestLaws G) (options place : ℕ) (ms : Members) (
           rest = λ z r more. h.rest z r (told z r (parts_cons L options now now2 z place is.name is.named s (members_from (i + 1) ms) o at (drop (i + 1) names) m.value.now (drop (i + 1) vs) next next2 r (is.same.0 named) one more));
         })
 
-    pub stop : (now2 : Parts T G) (options2 p : ℕ) (e : Fault) → IsTrue m.is_named → options2 ≡ options → p ≡ begins false o s → StoresTo L.seen L.moves options2 now now2 (shape_of (types_of now) m.ty) (at + p) m.value.now next (Err e)
+    pub stop : (now2 : Parts T G) (options2 p : ℕ) (e : Fault) → IsTrue m.is_named → options2 ≡ options → p ≡ begins false o s → StoresTo L.seen L.moves options2 now now2 (shape_of (component_types now) m.ty) (at + p) m.value.now next (Err e)
         → PartsStoreTo L.seen L.moves options start now2 place ms 0 at names vs from (Err e)
     stop now2 options2 p e named eo ep g = h.rest now2 (Err e) (told now2 (Err e)
         (parts_stop L options now now2 place is.name is.named s (members_from (i + 1) ms) o at (drop (i + 1) names) m.value.now (drop (i + 1) vs) next e (is.same.0 named) (stood now2 options2 p (Err e) eo ep g)))

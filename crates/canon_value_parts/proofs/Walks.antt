@@ -24,11 +24,11 @@ use Rattle.canon_types.specs.Depth.{deepest, depth}
 use Rattle.canon_types.specs.Table.{shape_of}
 use Rattle.canon_types.specs.declared.types.InterfaceType.{InterfaceType}
 use Rattle.canon_plan.specs.NoHandle.{HaveNoHandle, HasNoHandle}
-use Rattle.canon_context.specs.Core.{Parts, encoding_by, guest_of, moment_of, types_of}
+use Rattle.canon_context.specs.Core.{Parts, encoding_by, guest_of, moment_of, component_types}
 use Rattle.canon_value_parts.specs.Fails.{Blames, Failure, FailsAt, MemberFails, SomeFails}
 use Rattle.canon_context.specs.Lowers.{ending_of, fault_ending}
 use Rattle.canon_context.specs.Quiet.{has_block, have_block}
-use Rattle.canon_value_parts.specs.Stores.{Counts, FieldsCount, PartsStoreTo, PlacesTo, StoresTo}
+use Rattle.canon_value_parts.specs.Stores.{PlacesCounted, FieldsCount, PartsStoreTo, PlacesTo, StoresTo}
 use Rattle.canon_val.specs.Value.{EachHas, HasTree, HaveTrees, IsFixed, IsProduct, all_places, cap, member_names, no_names, places, HasTreeAs, HaveTreesAs}
 use Rattle.canon_value_parts.specs.Viewed.{HasMembers}
 use Rattle.canon_plan.specs.Plan.{LiesAs}
@@ -96,8 +96,8 @@ copies_names (suc n) s [] e = absurd (omega (arith, e))
 copies_names (suc n) s (v ∷ vs) e = ap (λ ns. [] ∷ ns) (copies_names n s vs (omega (arith, e)))
 
 pub fixed_counted : (enc : Encoding) (n : ℕ) (s : Shape) (names : List Name) (vs : List Val) (v : Val) (place : ℕ) (r : Result ℕ Fault) → length vs ≡ n → IsFixed vs v
-    → Counts enc (λ how k. MemberFails how (copies n s) vs k) (cap (place + 1)) (all_places vs) r
-    → Counts enc (λ how k. FailsAt how (fixed n s) v k) place (places v) r
+    → PlacesCounted enc (λ how k. MemberFails how (copies n s) vs k) (cap (place + 1)) (all_places vs) r
+    → PlacesCounted enc (λ how k. FailsAt how (fixed n s) v k) place (places v) r
 fixed_counted enc n s names vs v place (Ok to) count (xs, ev, same) (e, small) = (omega (arith, e, ap places ev ∙ places_fixed xs, ap all_places same), fixed_small enc n s vs v count (xs, ev, same) small)
 fixed_counted enc n s names vs v place (Err e) count (xs, ev, same) b =
     blames_later enc (λ how k. MemberFails how (copies n s) vs k) (λ how k. FailsAt how (fixed n s) v k) 1 place (cap (place + 1)) e refl (λ how j f. inr (vs, j, (xs, ev, same), count, refl, copies_fail how n s vs j f)) b
@@ -154,16 +154,16 @@ module _ {T G : Type 0} (L : GuestLaws G) (options : ℕ) where
     quiet = λ none. (refl, own_ends e is);
   }
 
-  pub scalar_stores : (a : Parts T G) (m : List ℕ) (type : InterfaceType) (at : ℕ) (v : Val) (w n place next : ℕ) → length a.memory ≤ 2 ^ 32 → at + n ≤ length a.memory → n ≡ size false (shape_of (types_of a) type)
-      → IsWordOf type v w → num (narrow m) at n ≡ w % 256 ^ n → Writes (block at n) a.memory m → next ≡ cap (place + 1) → passes v (shape_of (types_of a) type) ≡ []
-      → StoresTo L.seen L.moves options a (record a { memory = written_over a.memory m }) (shape_of (types_of a) type) at v place (Ok next)
+  pub scalar_stores : (a : Parts T G) (m : List ℕ) (type : InterfaceType) (at : ℕ) (v : Val) (w n place next : ℕ) → length a.memory ≤ 2 ^ 32 → at + n ≤ length a.memory → n ≡ size false (shape_of (component_types a) type)
+      → IsWordOf type v w → num (narrow m) at n ≡ w % 256 ^ n → Writes (block at n) a.memory m → next ≡ cap (place + 1) → passes v (shape_of (component_types a) type) ≡ []
+      → StoresTo L.seen L.moves options a (record a { memory = written_over a.memory m }) (shape_of (component_types a) type) at v place (Ok next)
   unfolding size
   scalar_stores a m type at v w n place next small room en (k, t, e, has, is, least) stored writes counted none =
-      let shape : shape_of (types_of a) type ≡ scalar k = scalar_shape (types_of a) type k e in
+      let shape : shape_of (component_types a) type ≡ scalar k = scalar_shape (component_types a) type k e in
       let bytes : n ≡ scalar_size k = en ∙ ap (size false) shape in
       let (is2, least2) = least_low k w t is least in
       let there : num (narrow m) at (scalar_size k) ≡ w % 256 ^ scalar_size k = subst (λ (j : ℕ). num (narrow m) at j ≡ w % 256 ^ j) bytes stored in
-      subst (λ (bytes : List ℕ). StoresTo L.seen L.moves options a (record a { memory = bytes }) (shape_of (types_of a) type) at v place (Ok next)) (sym (written_whole a.memory m writes.same_length))
+      subst (λ (bytes : List ℕ). StoresTo L.seen L.moves options a (record a { memory = bytes }) (shape_of (component_types a) type) at v place (Ok next)) (sym (written_whole a.memory m writes.same_length))
       (subst (λ (s : Shape). StoresTo L.seen L.moves options a (record a { memory = m }) s at v place (Ok next)) (sym shape) (record {
         handles = [];
         storing = scalar_stored false (L.seen a.guest) a.memory m (encoding_by a options) at (HasTree (scalar k) v) small k t (omega (arith, room, bytes)) (subst (λ (j : ℕ). Writes (block at j) a.memory m) bytes writes)

@@ -23,7 +23,7 @@ use Rattle.canon_value_parts.specs.Fails.{FailsAt}
 use Rattle.canon_context.specs.Lowers.{fault_ending}
 use Rattle.canon_value_parts.proofs.Passing.{passes_as}
 use Rattle.canon_value_parts.specs.Resources.{all_passes, passes}
-use Rattle.canon_value_parts.specs.Stores.{Counts, FieldsCount}
+use Rattle.canon_value_parts.specs.Stores.{PlacesCounted, FieldsCount}
 use Rattle.canon_val.specs.Value.{HasTree, IsCase, cap, member_names, places}
 use Rattle.canon_value_parts.specs.View.{names_of, shapes_of, values_of}
 use Rattle.canon_value_parts.specs.Viewed.{IsCaseSeen}
@@ -68,7 +68,7 @@ variant_flat k cs = refl
 
 case_words_counted : (enc : Encoding) (place : ℕ) (k : VariantKind) (cs : Cases) (d : ℕ) (names : List Name) (vs : List Val) (v : Val) (r : Result ℕ Fault) → IsCase k cs d vs v
     → names ≡ member_names (case_members cs d) → FieldsCount enc place (case_members cs d) names vs (cap (place + 1)) r
-    → Counts enc (λ how j. FailsAt how (variant k cs) v j) place (places v) r
+    → PlacesCounted enc (λ how j. FailsAt how (variant k cs) v j) place (places v) r
 case_words_counted enc place k cs d names vs v r of named h = case_counted enc k cs d vs v place r of (count_members enc place (case_members cs d) names vs (cap (place + 1)) r named h)
 
 module _ {T G : Type 0} (L : GuestLaws G) (options : ℕ) where

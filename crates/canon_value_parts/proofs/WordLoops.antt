@@ -8,7 +8,7 @@ use Rattle.canon_model.specs.Layout.{flat, members_flat}
 use Rattle.canon_model.specs.Shape.{Members, Name, Shape, member, member_count, no_members}
 use Rattle.canon_types.specs.Table.{Knows, Table, shape_of}
 use Rattle.canon_types.specs.declared.types.InterfaceType.{InterfaceType}
-use Rattle.canon_context.specs.Core.{Parts, types_of}
+use Rattle.canon_context.specs.Core.{Parts, component_types}
 use Rattle.canon_context.specs.Asks.{SameButHandles}
 use Rattle.canon_value_parts.specs.View.{IsMember}
 use Rattle.canon_plan.specs.Plan.{members_from}
@@ -33,15 +33,15 @@ module _ {T G : Type 0} (seen : G → Seen) (moves : GuestIn G → List Event �
 
 -- the member of number i has room, and its lowering may be called
 pub record HasRoom {T G : Type 0} (now : Parts T G) (dst : List ℕ) (next : Spot) (type : InterfaceType) : Type 0 where
-  pub known : Knows (types_of now) type
-  pub room : next.word + flat (shape_of (types_of now) type) ≤ length dst
+  pub known : Knows (component_types now) type
+  pub room : next.word + flat (shape_of (component_types now) type) ≤ length dst
   pub small : length now.memory ≤ 2 ^ 32
 
 module _ {T G : Type 0} (L : GuestLaws G) (options place : ℕ) (ms : Members) (names : List Name) (vs : List Val) (start : Parts T G) (first : List ℕ) (from : Spot)
     (now : Parts T G) (dst : List ℕ) (next : Spot) (i : ℕ) (h : PartsAreLowered L.seen L.moves options place ms names vs start first from now dst next i) where
-  module _ (m : Member) (is : IsMember (types_of start) ms names vs i m) where
+  module _ (m : Member) (is : IsMember (component_types start) ms names vs i m) where
     abbrev s : Shape
-    s = shape_of (types_of start) m.ty
+    s = shape_of (component_types start) m.ty
 
     words : members_flat (members_from i ms) ≡ flat s + members_flat (members_from (i + 1) ms)
     unfolding flat
@@ -49,8 +49,8 @@ module _ {T G : Type 0} (L : GuestLaws G) (options place : ℕ) (ms : Members) (
 
     pub has_room : HasRoom now dst next m.ty
     has_room =
-        let same : types_of now ≡ types_of start = handles_types start now h.same in
-        let count : flat (shape_of (types_of now) m.ty) ≡ flat s = ap (λ (x : Table). flat (shape_of x m.ty)) same in
+        let same : component_types now ≡ component_types start = handles_types start now h.same in
+        let count : flat (shape_of (component_types now) m.ty) ≡ flat s = ap (λ (x : Table). flat (shape_of x m.ty)) same in
         record {
           known = subst (λ (x : Table). Knows x m.ty) (sym same) is.known;
           room = omega (arith, words, h.room, count);
@@ -66,13 +66,13 @@ module _ {T G : Type 0} (L : GuestLaws G) (options place : ℕ) (ms : Members) (
         (subst (λ (xs : List Val). PartsLowerTo L.seen L.moves options now z dst zs next r place (member is.name s (members_from (i + 1) ms)) (is.named ∷ drop (i + 1) names) xs) (sym is.values) g))
 
     -- what its lowering left, said of the table of the start
-    stood : (now2 : Parts T G) (dst2 : List ℕ) (options2 : ℕ) (r : Result Spot Fault) → options2 ≡ options → LowersTo L.seen L.moves options2 now now2 dst dst2 next r (shape_of (types_of now) m.ty) m.value.now
+    stood : (now2 : Parts T G) (dst2 : List ℕ) (options2 : ℕ) (r : Result Spot Fault) → options2 ≡ options → LowersTo L.seen L.moves options2 now now2 dst dst2 next r (shape_of (component_types now) m.ty) m.value.now
         → LowersTo L.seen L.moves options now now2 dst dst2 next r s m.value.now
     stood now2 dst2 options2 r eo g =
         subst (λ (x : Table). LowersTo L.seen L.moves options now now2 dst dst2 next r (shape_of x m.ty) m.value.now) (handles_types start now h.same)
-        (subst (λ (n : ℕ). LowersTo L.seen L.moves n now now2 dst dst2 next r (shape_of (types_of now) m.ty) m.value.now) eo g)
+        (subst (λ (n : ℕ). LowersTo L.seen L.moves n now now2 dst dst2 next r (shape_of (component_types now) m.ty) m.value.now) eo g)
 
-    pub go_on : (now2 : Parts T G) (dst2 : List ℕ) (options2 : ℕ) (next2 : Spot) → IsTrue m.is_named → options2 ≡ options → LowersTo L.seen L.moves options2 now now2 dst dst2 next (Ok next2) (shape_of (types_of now) m.ty) m.value.now
+    pub go_on : (now2 : Parts T G) (dst2 : List ℕ) (options2 : ℕ) (next2 : Spot) → IsTrue m.is_named → options2 ≡ options → LowersTo L.seen L.moves options2 now now2 dst dst2 next (Ok next2) (shape_of (component_types now) m.ty) m.value.now
         → PartsAreLowered L.seen L.moves options place ms names vs start first from now2 dst2 next2 (i + 1)
     go_on now2 dst2 options2 next2 named eo g =
         let one = stood now2 dst2 options2 (Ok next2) eo g in
@@ -85,7 +85,7 @@ module _ {T G : Type 0} (L : GuestLaws G) (options place : ℕ) (ms : Members) (
               (parts_cons L options now now2 z dst dst2 zs place is.name is.named s (members_from (i + 1) ms) (drop (i + 1) names) m.value.now (drop (i + 1) vs) next next2 r (is.same.0 named) one more));
         }
 
-    pub stop : (now2 : Parts T G) (dst2 : List ℕ) (options2 : ℕ) (e : Fault) → IsTrue m.is_named → options2 ≡ options → LowersTo L.seen L.moves options2 now now2 dst dst2 next (Err e) (shape_of (types_of now) m.ty) m.value.now
+    pub stop : (now2 : Parts T G) (dst2 : List ℕ) (options2 : ℕ) (e : Fault) → IsTrue m.is_named → options2 ≡ options → LowersTo L.seen L.moves options2 now now2 dst dst2 next (Err e) (shape_of (component_types now) m.ty) m.value.now
         → PartsLowerTo L.seen L.moves options start now2 first dst2 from (Err e) place ms names vs
     stop now2 dst2 options2 e named eo g = h.rest now2 dst2 (Err e) (told now2 dst2 (Err e)
         (parts_stop L options now now2 dst dst2 place is.name is.named s (members_from (i + 1) ms) (drop (i + 1) names) m.value.now (drop (i + 1) vs) next e (is.same.0 named) (stood now2 dst2 options2 (Err e) eo g)))

@@ -28,7 +28,7 @@ use Rattle.canon_model.specs.Layout.{flat, members_flat}
 use Rattle.canon_model.specs.Text.{Encoding}
 use Rattle.canon_types.specs.Table.{shape_of}
 use Rattle.canon_types.specs.declared.types.InterfaceType.{InterfaceType}
-use Rattle.canon_context.specs.Core.{Parts, encoding_by, guest_of, moment_of, types_of}
+use Rattle.canon_context.specs.Core.{Parts, encoding_by, guest_of, moment_of, component_types}
 use Rattle.canon_value_parts.specs.Fails.{Blames, FailsAt, MemberFails}
 use Rattle.canon_context.specs.Lowers.{ending_of, fault_ending}
 use Rattle.canon_context.specs.Quiet.{has_block, have_block}
@@ -115,12 +115,12 @@ module _ {T G : Type 0} (L : GuestLaws G) (options : ℕ) where
     quiet = λ none. (refl, own_ends e is);
   }
 
-  pub scalar_lowers : (a : Parts T G) (dst : List ℕ) (from to : Spot) (type : InterfaceType) (v : Val) (w : ℕ) → length a.memory ≤ 2 ^ 32 → from.word + flat (shape_of (types_of a) type) ≤ length dst → IsWordOf type v w
-      → to.word ≡ from.word + 1 → to.place ≡ cap (from.place + 1) → passes v (shape_of (types_of a) type) ≡ []
-      → LowersTo L.seen L.moves options a a dst (set dst from.word w) from (Ok to) (shape_of (types_of a) type) v
+  pub scalar_lowers : (a : Parts T G) (dst : List ℕ) (from to : Spot) (type : InterfaceType) (v : Val) (w : ℕ) → length a.memory ≤ 2 ^ 32 → from.word + flat (shape_of (component_types a) type) ≤ length dst → IsWordOf type v w
+      → to.word ≡ from.word + 1 → to.place ≡ cap (from.place + 1) → passes v (shape_of (component_types a) type) ≡ []
+      → LowersTo L.seen L.moves options a a dst (set dst from.word w) from (Ok to) (shape_of (component_types a) type) v
   unfolding flat
   scalar_lowers a dst from to type v w small room (k, t, e, has, is, least) ew ep none =
-      let shape : shape_of (types_of a) type ≡ scalar k = scalar_shape (types_of a) type k e in
+      let shape : shape_of (component_types a) type ≡ scalar k = scalar_shape (component_types a) type k e in
       let here : slice_index (set dst from.word w) from.word ≡ w = get_or-set_same dst from.word w 0 (omega (arith, room, ap flat shape)) in
       subst (λ (s : Shape). LowersTo L.seen L.moves options a a dst (set dst from.word w) from (Ok to) s v) (sym shape) (record {
         handles = [];

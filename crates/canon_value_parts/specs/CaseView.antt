@@ -10,10 +10,10 @@ use Rattle.canon_value_parts.specs.declared.members.Members.TheVariants as membe
 use Rattle.canon_val.specs.declared.val.Val.{Val}
 
 -- a payload of the case's type, where it has one, as members
-abbrev pub IsPayload : Option InterfaceType → Option (Box Val Global) → Members → Type 0
-IsPayload None None ms = ms ≡ members.Empty
-IsPayload (Some type) (Some b) ms = (v : Bor Val) × (ms ≡ members.Single type v) × (v.now ≡ b.value)
-IsPayload _ _ ms = ⊥
+abbrev pub IsPayloadViewed : Option InterfaceType → Option (Box Val Global) → Members → Type 0
+IsPayloadViewed None None ms = ms ≡ members.Empty
+IsPayloadViewed (Some type) (Some b) ms = (v : Bor Val) × (ms ≡ members.Single type v) × (v.now ≡ b.value)
+IsPayloadViewed _ _ ms = ⊥
 
 -- the case has a payload and the value, which has this place, has none; or the other way round
 abbrev pub Misses : Option InterfaceType → Option (Box Val Global) → ℕ → Fault → Type 0

@@ -20,9 +20,9 @@ use Rattle.canon_model.specs.Text.{Encoding}
 use Rattle.canon_context.specs.Asks.{SameButHandles}
 
 -- n places were counted from `from` on and nothing there is too large, or the fault is reported at its place
-abbrev pub Counts : Encoding → (Failure → ℕ → Type 0) → ℕ → ℕ → Result ℕ Fault → Type 0
-Counts enc F from n (Ok next) = (next ≡ cap (from + n)) × NoneTooLarge enc F
-Counts enc F from n (Err e) = Blames enc F from e
+abbrev pub PlacesCounted : Encoding → (Failure → ℕ → Type 0) → ℕ → ℕ → Result ℕ Fault → Type 0
+PlacesCounted enc F from n (Ok next) = (next ≡ cap (from + n)) × NoneTooLarge enc F
+PlacesCounted enc F from n (Err e) = Blames enc F from e
 
 -- the same of the fields of a record that has this place, with their names
 abbrev pub FieldsCount : Encoding → ℕ → Members → List Name → List Val → ℕ → Result ℕ Fault → Type 0
@@ -44,7 +44,7 @@ module _ {T G : Type 0} (seen : G → Seen) (moves : GuestIn G → List Event �
     pub handles : List ℕ
     pub storing : StoresValue false (moment_of seen before) (moment_of seen after) (encoding_by before options) s at (HasTree s v) handles (ending_of result)
     pub handed : LowersHandles before.component.types before.ledger after.ledger (passes v s) handles result
-    pub counted : Counts (encoding_by before options) (λ how k. FailsAt how s v k) from (places v) result
+    pub counted : PlacesCounted (encoding_by before options) (λ how k. FailsAt how s v k) from (places v) result
     pub moved : Moves seen moves (guest_of before) (guest_of after) (ending_of result)
     pub same : SameButHandles before after
     pub quiet : Quiet (has_block s) (after.guest ≡ before.guest) result
@@ -65,6 +65,6 @@ module _ {T G : Type 0} (seen : G → Seen) (moves : GuestIn G → List Event �
     pub lowered : LowersValue false (moment_of seen before) (moment_of seen after) (encoding_by before options) s (placed_words result) 0 (HasTree s v) handles (ending_of result)
     pub handed : LowersHandles before.component.types before.ledger after.ledger (passes v s) handles result
     pub narrow : IfOk result (λ b. (b.pointer < 2 ^ 32) × (b.length < 2 ^ 32))
-    pub counted : Counts (encoding_by before options) (λ how k. FailsAt how s v k) from (places v) (placed_next result)
+    pub counted : PlacesCounted (encoding_by before options) (λ how k. FailsAt how s v k) from (places v) (placed_next result)
     pub moved : Moves seen moves (guest_of before) (guest_of after) (ending_of result)
     pub same : SameButHandles before after

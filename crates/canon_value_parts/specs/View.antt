@@ -41,13 +41,13 @@ names_of (members.Single type value) = [] ∷ []
 names_of (members.Pairs i values) = no_names (by_turns values.now)
 
 -- the table knows their types, as many as there are values
-abbrev pub AreKnown : Table → Members → Type 0
-AreKnown t (members.Fields i values) = Knows t (ty.Record i) × (length values.now ≡ member_count (product_members (shape_of t (ty.Record i))))
-AreKnown t (members.Places i values) = HasTuple t i × (length values.now ≡ member_count (tuple_members t i))
-AreKnown t (members.Items type values) = Knows t type
-AreKnown t members.Empty = Unit {0}
-AreKnown t (members.Single type value) = Knows t type
-AreKnown t (members.Pairs i values) = Knows t (ty.Map i) × IsMap (shape_of t (ty.Map i)) × (length values.now < 2 ^ 32)
+abbrev pub HaveKnownTypes : Table → Members → Type 0
+HaveKnownTypes t (members.Fields i values) = Knows t (ty.Record i) × (length values.now ≡ member_count (product_members (shape_of t (ty.Record i))))
+HaveKnownTypes t (members.Places i values) = HasTuple t i × (length values.now ≡ member_count (tuple_members t i))
+HaveKnownTypes t (members.Items type values) = Knows t type
+HaveKnownTypes t members.Empty = Unit {0}
+HaveKnownTypes t (members.Single type value) = Knows t type
+HaveKnownTypes t (members.Pairs i values) = Knows t (ty.Map i) × IsMap (shape_of t (ty.Map i)) × (length values.now < 2 ^ 32)
 
 -- of pairs there are fewer than 2^32
 abbrev pub AreFew : Members → Type 0

@@ -14,7 +14,7 @@ use Rattle.canon_value_parts.specs.Flags.{IsFlagsType}
 use Rattle.canon_context.specs.Lowers.{fault_ending}
 use Rattle.canon_value_parts.specs.Resources.{ledger_fault}
 use Rattle.canon_val.specs.Value.{IsCase, IsFixed, IsProduct, member_names, no_names}
-use Rattle.canon_value_parts.specs.View.{AreKnown, names_of, shapes_of, values_of}
+use Rattle.canon_value_parts.specs.View.{HaveKnownTypes, names_of, shapes_of, values_of}
 use Rattle.canon_value_parts.specs.Words.{IsWordOf}
 use Rattle.canon_value_parts.specs.declared.case_view.Case.{Case}
 use Rattle.canon_context.specs.declared.fault.Fault.{Fault}
@@ -38,7 +38,7 @@ pub record IsCaseSeen (t : Table) (s : Shape) (v : Val) (c : Case) : Type 0 wher
   pub shape : s ≡ variant kind cases
   pub info : HasInfo c.info cases
   pub inside : c.tag < case_count cases
-  pub known : AreKnown t c.payload
+  pub known : HaveKnownTypes t c.payload
   pub shapes : shapes_of t c.payload ≡ case_members cases c.tag
   pub is : IsCase kind cases c.tag (values_of c.payload) v
   pub names : names_of c.payload ≡ member_names (shapes_of t c.payload)
@@ -48,7 +48,7 @@ abbrev pub Views : Table → InterfaceType → Val → View → Type 0
 Views t type v (view.Scalar word) = IsWordOf type v word
 Views t type v (view.Text s) = (shape_of t type ≡ string) × (v ≡ val.String s.now)
 Views t type v (view.List xs) = IsKnown t (element_in xs) × (shape_of t type ≡ list_shape t (element_in xs)) × (v ≡ list_value xs)
-Views t type v (view.Members ms) = AreKnown t ms × LiesAs (shape_of t type) (shapes_of t ms) × HasMembers (shape_of t type) (names_of ms) (values_of ms) v × (length (values_of ms) ≡ member_count (shapes_of t ms))
+Views t type v (view.Members ms) = HaveKnownTypes t ms × LiesAs (shape_of t type) (shapes_of t ms) × HasMembers (shape_of t type) (names_of ms) (values_of ms) v × (length (values_of ms) ≡ member_count (shapes_of t ms))
 Views t type v (view.Case c) = IsCaseSeen t (shape_of t type) v c
 Views t type v (view.Handle h x) = (type ≡ type_of_handle h) × (v ≡ val.Resource x)
 Views t type v (view.Flags names) = IsFlagsType type × (v ≡ val.Flags names.now)

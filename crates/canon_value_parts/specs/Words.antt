@@ -18,7 +18,7 @@ use Rattle.canon_context.specs.Moves.{Moves}
 use Rattle.canon_context.specs.Quiet.{Quiet, has_block, have_block}
 use Rattle.canon_context.specs.Asks.{SameButHandles}
 use Rattle.canon_value_parts.specs.Resources.{LowersHandles, all_passes, passes}
-use Rattle.canon_value_parts.specs.Stores.{Counts, FieldsCount}
+use Rattle.canon_value_parts.specs.Stores.{PlacesCounted, FieldsCount}
 use Rattle.canon_val.specs.Value.{HasScalar, HasTree, HaveTrees, cap, member_names, places}
 use Rattle.canon_context.specs.declared.fault.Fault.{Fault}
 use Rattle.canon_value_parts.specs.declared.spot.Spot.{Spot}
@@ -67,7 +67,7 @@ module _ {T G : Type 0} (seen : G → Seen) (moves : GuestIn G → List Event �
     pub handed : LowersHandles before.component.types before.ledger after.ledger (passes v s) handles result
     pub stays : WordsStay from.word dst dst2
     pub passed : WordsPassed from (flat s) result
-    pub counted : Counts (encoding_by before options) (λ how k. FailsAt how s v k) from.place (places v) (place_after result)
+    pub counted : PlacesCounted (encoding_by before options) (λ how k. FailsAt how s v k) from.place (places v) (place_after result)
     pub moved : Moves seen moves (guest_of before) (guest_of after) (ending_of result)
     pub same : SameButHandles before after
     pub quiet : Quiet (has_block s) (after ≡ record before { ledger = after.ledger }) result

@@ -8,7 +8,7 @@ ghost use Rattle.canon_model.specs.Layout.{size};
 ghost use Rattle.canon_model.specs.Shape.{string};
 ghost use Rattle.canon_types.specs.Depth.{element_shape};
 ghost use Rattle.canon_types.specs.Table.{HasTuple, tuple_members};
-ghost use Rattle.canon_context.specs.Core.{encoding_by, types_of};
+ghost use Rattle.canon_context.specs.Core.{encoding_by, component_types};
 ghost use Rattle.canon_plan.specs.Element.{IsKnown, list_shape};
 ghost use Rattle.canon_context.specs.Asks.{AsksFor};
 ghost use Rattle.canon_value_parts.specs.Stores.{PlacesTo};
@@ -56,10 +56,10 @@ pub fn ask_items<T, G: Guest>(
     length: u64,
     bytes: u64,
 ) -> Result<u64, Fault>
-    requires known { IsKnown (types_of cx.old.core.now) element.now }
-    requires whole { bytes ≡ length * size false (element_shape (list_shape (types_of cx.old.core.now) element.now)) }
+    requires known { IsKnown (component_types cx.old.core.now) element.now }
+    requires whole { bytes ≡ length * size false (element_shape (list_shape (component_types cx.old.core.now) element.now)) }
     requires sized { bytes < 2 ^ 32 }
-    ensures asked { AsksFor G.seen G.moves cx.old.core.now cx.new.core.now (items_call false (element_shape (list_shape (types_of cx.old.core.now) element.now)) length) result }
+    ensures asked { AsksFor G.seen G.moves cx.old.core.now cx.new.core.now (items_call false (element_shape (list_shape (component_types cx.old.core.now) element.now)) length) result }
     ensures same_reference { cx.new.core.ghost_name ≡ cx.old.core.ghost_name }
     ensures same_options { cx.new.options ≡ cx.old.options }
 {
@@ -74,8 +74,8 @@ pub fn ask_tuple<T, G: Guest>(
     cx: &mut LowerContext<'_, T, G>,
     ty: TypeTupleIndex,
 ) -> Result<u64, Fault>
-    requires tuple { HasTuple (types_of cx.old.core.now) ty }
-    ensures asked { AsksFor G.seen G.moves cx.old.core.now cx.new.core.now (args_call false (tuple_members (types_of cx.old.core.now) ty)) result }
+    requires tuple { HasTuple (component_types cx.old.core.now) ty }
+    ensures asked { AsksFor G.seen G.moves cx.old.core.now cx.new.core.now (args_call false (tuple_members (component_types cx.old.core.now) ty)) result }
     ensures same_reference { cx.new.core.ghost_name ≡ cx.old.core.ghost_name }
     ensures same_options { cx.new.options ≡ cx.old.options }
 {

@@ -2,7 +2,7 @@
 
 ghost use Rattle.std.specs.Prelude.{IfErr, IfOk};
 ghost use Rattle.canon_types.specs.Table.{Knows};
-ghost use Rattle.canon_value_parts.specs.CaseView.{IsPayload, Misses};
+ghost use Rattle.canon_value_parts.specs.CaseView.{IsPayloadViewed, Misses};
 ghost use Rattle.canon_value_parts.specs.Viewed.{Viewed};
 
 use crate::members::Members;
@@ -131,7 +131,7 @@ fn payload_of<'a>(
     payload: &'a Option<Box<Val>>,
     place: u64,
 ) -> Result<Members<'a>, Fault>
-    ensures ok { IfOk result (IsPayload ty payload.now) }
+    ensures ok { IfOk result (IsPayloadViewed ty payload.now) }
     ensures err { IfErr result (Misses ty payload.now place) }
 {
     match payload {

@@ -17,7 +17,7 @@ ghost use Rattle.canon_model.specs.Memory.{low};
 ghost use Rattle.canon_value_parts.specs.Resources.{LiftsHandles, resources};
 ghost use Rattle.canon_model.specs.Shape.{Name};
 ghost use Rattle.canon_types.specs.Table.{Knows, shape_of};
-ghost use Rattle.canon_context.specs.Core.{types_of};
+ghost use Rattle.canon_context.specs.Core.{component_types};
 ghost use Rattle.canon_value_parts.specs.Flags.{AreFlags, AreSetInWords, AreUnpaid, HasPlace, HasRoom, IsFlagsType, SetsBit, SomeUnknown, digit_of, flag_names, marked_number, width_of};
 ghost use Rattle.canon_value_parts.specs.Stores.{StoresTo};
 ghost use Rattle.canon_val.specs.Value.{Occurs};
@@ -53,11 +53,11 @@ pub fn store_names<T, G: Guest>(
     at: u64,
     place: u64,
 ) -> Result<u64, Fault>
-    requires known { Knows (types_of cx.old.core.now) ty.now }
+    requires known { Knows (component_types cx.old.core.now) ty.now }
     requires kind { IsFlagsType ty.now }
     requires small { length cx.old.core.now.memory ≤ 2 ^ 32 }
-    requires room { at + size false (shape_of (types_of cx.old.core.now) ty.now) ≤ length cx.old.core.now.memory }
-    ensures stores { StoresTo G.seen G.moves cx.old.options cx.old.core.now cx.new.core.now (shape_of (types_of cx.old.core.now) ty.now) at (val.Flags set.now) place result }
+    requires room { at + size false (shape_of (component_types cx.old.core.now) ty.now) ≤ length cx.old.core.now.memory }
+    ensures stores { StoresTo G.seen G.moves cx.old.options cx.old.core.now cx.new.core.now (shape_of (component_types cx.old.core.now) ty.now) at (val.Flags set.now) place result }
     ensures same_reference { cx.new.core.ghost_name ≡ cx.old.core.ghost_name }
     ensures same_options { cx.new.options ≡ cx.old.options }
 {
@@ -75,11 +75,11 @@ pub fn lower_names<T, G: Guest>(
     dst: &mut [ValRaw],
     from: Spot,
 ) -> Result<Spot, Fault>
-    requires known { Knows (types_of cx.old.core.now) ty.now }
+    requires known { Knows (component_types cx.old.core.now) ty.now }
     requires kind { IsFlagsType ty.now }
     requires small { length cx.old.core.now.memory ≤ 2 ^ 32 }
-    requires room { from.word + flat (shape_of (types_of cx.old.core.now) ty.now) ≤ length dst.old }
-    ensures lowers { LowersTo G.seen G.moves cx.old.options cx.old.core.now cx.new.core.now dst.old dst.new from result (shape_of (types_of cx.old.core.now) ty.now) (val.Flags set.now) }
+    requires room { from.word + flat (shape_of (component_types cx.old.core.now) ty.now) ≤ length dst.old }
+    ensures lowers { LowersTo G.seen G.moves cx.old.options cx.old.core.now cx.new.core.now dst.old dst.new from result (shape_of (component_types cx.old.core.now) ty.now) (val.Flags set.now) }
     ensures same_reference { cx.new.core.ghost_name ≡ cx.old.core.ghost_name }
     ensures same_options { cx.new.options ≡ cx.old.options }
 {
@@ -97,10 +97,10 @@ fn store_flags<T, G: Guest>(
     at: u64,
     place: u64,
 ) -> Result<u64, Fault>
-    requires known { Knows (types_of cx.old.core.now) (InterfaceType.Flags i) }
+    requires known { Knows (component_types cx.old.core.now) (InterfaceType.Flags i) }
     requires small { length cx.old.core.now.memory ≤ 2 ^ 32 }
-    requires room { at + size false (shape_of (types_of cx.old.core.now) (InterfaceType.Flags i)) ≤ length cx.old.core.now.memory }
-    ensures stores { StoresTo G.seen G.moves cx.old.options cx.old.core.now cx.new.core.now (shape_of (types_of cx.old.core.now) (InterfaceType.Flags i)) at (val.Flags set.now) place result }
+    requires room { at + size false (shape_of (component_types cx.old.core.now) (InterfaceType.Flags i)) ≤ length cx.old.core.now.memory }
+    ensures stores { StoresTo G.seen G.moves cx.old.options cx.old.core.now cx.new.core.now (shape_of (component_types cx.old.core.now) (InterfaceType.Flags i)) at (val.Flags set.now) place result }
     ensures same_reference { cx.new.core.ghost_name ≡ cx.old.core.ghost_name }
     ensures same_options { cx.new.options ≡ cx.old.options }
 {
@@ -123,10 +123,10 @@ fn lower_flags<T, G: Guest>(
     dst: &mut [ValRaw],
     from: Spot,
 ) -> Result<Spot, Fault>
-    requires known { Knows (types_of cx.old.core.now) (InterfaceType.Flags i) }
+    requires known { Knows (component_types cx.old.core.now) (InterfaceType.Flags i) }
     requires small { length cx.old.core.now.memory ≤ 2 ^ 32 }
-    requires room { from.word + flat (shape_of (types_of cx.old.core.now) (InterfaceType.Flags i)) ≤ length dst.old }
-    ensures lowers { LowersTo G.seen G.moves cx.old.options cx.old.core.now cx.new.core.now dst.old dst.new from result (shape_of (types_of cx.old.core.now) (InterfaceType.Flags i)) (val.Flags set.now) }
+    requires room { from.word + flat (shape_of (component_types cx.old.core.now) (InterfaceType.Flags i)) ≤ length dst.old }
+    ensures lowers { LowersTo G.seen G.moves cx.old.options cx.old.core.now cx.new.core.now dst.old dst.new from result (shape_of (component_types cx.old.core.now) (InterfaceType.Flags i)) (val.Flags set.now) }
     ensures same_reference { cx.new.core.ghost_name ≡ cx.old.core.ghost_name }
     ensures same_options { cx.new.options ≡ cx.old.options }
 {

@@ -1,7 +1,7 @@
 //! Handles of resources, as values pass them to a guest.
 
 ghost use Rattle.std.specs.Prelude.{◌≡◌};
-ghost use Rattle.canon_context.specs.Core.{types_of};
+ghost use Rattle.canon_context.specs.Core.{component_types};
 ghost use Rattle.canon_context.specs.Lifter.{IsOneOrigin};
 ghost use Rattle.canon_leaves.specs.Parts.{LeafLifts, passed};
 ghost use Rattle.canon_plan.specs.Plan.{type_of_handle};
@@ -25,7 +25,7 @@ pub fn give_handle<T, G: Guest>(
     handle: HandleType,
     resource: ResourceAny,
 ) -> Result<u32, Fault>
-    requires known { Knows (types_of cx.old.core.now) (type_of_handle handle) }
+    requires known { Knows (component_types cx.old.core.now) (type_of_handle handle) }
     ensures gives { GivesHandle cx.old.core.now cx.new.core.now (passed handle.owned handle.resource resource) result }
     ensures same_reference { cx.new.core.ghost_name ≡ cx.old.core.ghost_name }
     ensures same_options { cx.new.options ≡ cx.old.options }

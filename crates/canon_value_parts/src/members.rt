@@ -8,7 +8,7 @@ ghost use Rattle.canon_types.specs.Table.{HasTuple, Knows, Table, shape_of, tupl
 ghost use Rattle.canon_plan.specs.Element.{IsKnown, list_shape, row_of};
 ghost use Rattle.canon_value_parts.specs.Elements.{by_turns, element_in, list_length, values_listed};
 ghost use Rattle.canon_val.specs.Value.{names_in, no_names, values_in};
-ghost use Rattle.canon_value_parts.specs.View.{AreFew, AreKnown, IsMember, names_of, shapes_of, values_of};
+ghost use Rattle.canon_value_parts.specs.View.{AreFew, HaveKnownTypes, IsMember, names_of, shapes_of, values_of};
 
 use crate::elements::Elements;
 use canon_types::{ComponentTypes, InterfaceType, TypeMapIndex, TypeRecordIndex, TypeTupleIndex};
@@ -53,7 +53,7 @@ pub fn count_of(members: &Members<'_>) -> usize
 
 /// The one of this number.
 pub fn member_of<'a>(types: &ComponentTypes, members: &Members<'a>, k: usize) -> Member<'a>
-    requires known { AreKnown types.now members.now }
+    requires known { HaveKnownTypes types.now members.now }
     requires inside { k < length (values_of members.now) }
     ensures { IsMember types.now (shapes_of types.now members.now) (names_of members.now) (values_of members.now) k result }
 {
@@ -175,7 +175,7 @@ fn pair_of<'a>(
 /// The elements of a list, as members.
 pub fn members_in<'a>(list: &Elements<'a>) -> Members<'a>
     requires few { list_length list.now < 2 ^ 32 }
-    ensures known { (t : Table) → IsKnown t (element_in list.now) → AreKnown t result }
+    ensures known { (t : Table) → IsKnown t (element_in list.now) → HaveKnownTypes t result }
     ensures shapes { (t : Table) → shapes_of t result ≡ row_of (list_shape t (element_in list.now)) (list_length list.now) }
     ensures names { names_of result ≡ no_names (values_listed list.now) }
     ensures values { values_of result ≡ values_listed list.now }

@@ -13,7 +13,7 @@ ghost use Rattle.canon_model.specs.Leaves.{leaf};
 ghost use Rattle.canon_types.specs.Table.{HasResource};
 ghost use Rattle.canon_leaves.specs.Parts as parts;
 ghost use Rattle.canon_leaves.specs.Parts.{LeafLifts, LeafMoves, lower_parts, passed};
-ghost use Rattle.canon_context.specs.Core.{IsKnown, SameButLedger, table_by, types_of};
+ghost use Rattle.canon_context.specs.Core.{HasKnownType, SameButLedger, table_by, component_types};
 
 use super::Core;
 use canon_handles::{CurrentScope, Scope, TypedResource, TypedResourceIndex};
@@ -36,7 +36,7 @@ impl<T, G> Core<T, G> {
     /// is one. The core ends with the ledger that they leave.
     pub fn tables(&mut self) -> HostResourceTables<'_>
         ensures same_ledger { ledger_in result ≡ self.old.ledger }
-        ensures same_types { known_in result ≡ Some (types_of self.old) }
+        ensures same_types { known_in result ≡ Some (component_types self.old) }
         ensures top { scope_number (scope_in result) ≡ top_scope self.old.ledger.handles }
         ensures scope_open { IsOpen (scope_in result) (ledger_in result) }
         ensures* writes_back { sem 𝓛 (follows (the_row T.row G.row) ledger_type.the_row self.entry.ghost_name (reference_in result) (λ l. record self.old { ledger = l })) }
@@ -57,8 +57,8 @@ impl<T, G> Core<T, G> {
     // A resource type of the component has its instance's table here.
     #[tactic(auto, using(crate::proofs::Handles::placed))]
     fn place(&self, ty: TypeResourceTableIndex)
-        requires { HasResource (types_of self.now) ty }
-        ensures { HasType (Some (types_of self.now)) ty self.now.ledger }
+        requires { HasResource (component_types self.now) ty }
+        ensures { HasType (Some (component_types self.now)) ty self.now.ledger }
     {
         let _table = self.component.types.types().resource_table(ty); // its instance is below 256
         let _instances = self.ledger.instances(); // the ledger has 257 tables
@@ -70,7 +70,7 @@ impl<T, G> Core<T, G> {
         resource: ResourceAny,
         ty: TypeResourceTableIndex,
     ) -> Result<u32, ResourceFault>
-        requires known { HasResource (types_of self.old) ty }
+        requires known { HasResource (component_types self.old) ty }
         ensures moves { LeafMoves self.old.ledger self.new.ledger (lower_parts self.old.component.types (passed true ty resource)) result }
         ensures places { SamePlaces self.old.ledger self.new.ledger }
         ensures same { SameButLedger self.old self.new }
@@ -85,7 +85,7 @@ impl<T, G> Core<T, G> {
         resource: ResourceAny,
         ty: TypeResourceTableIndex,
     ) -> Result<u32, ResourceFault>
-        requires known { HasResource (types_of self.old) ty }
+        requires known { HasResource (component_types self.old) ty }
         ensures moves { LeafMoves self.old.ledger self.new.ledger (lower_parts self.old.component.types (passed false ty resource)) result }
         ensures places { SamePlaces self.old.ledger self.new.ledger }
         ensures same { SameButLedger self.old self.new }
@@ -100,7 +100,7 @@ impl<T, G> Core<T, G> {
         index: u32,
         ty: TypeResourceTableIndex,
     ) -> Result<ResourceAny, ResourceFault>
-        requires known { HasResource (types_of self.old) ty }
+        requires known { HasResource (component_types self.old) ty }
         ensures lifts { LeafLifts self.old.component.types self.old.ledger self.new.ledger (leaf true ty index) result }
         ensures places { SamePlaces self.old.ledger self.new.ledger }
         ensures same { SameButLedger self.old self.new }
@@ -115,7 +115,7 @@ impl<T, G> Core<T, G> {
         index: u32,
         ty: TypeResourceTableIndex,
     ) -> Result<ResourceAny, ResourceFault>
-        requires known { HasResource (types_of self.old) ty }
+        requires known { HasResource (component_types self.old) ty }
         ensures lifts { LeafLifts self.old.component.types self.old.ledger self.new.ledger (leaf false ty index) result }
         ensures places { SamePlaces self.old.ledger self.new.ledger }
         ensures same { SameButLedger self.old self.new }
@@ -177,7 +177,7 @@ impl<T, G> Core<T, G> {
 
     // The number of the table that an index is one of.
     fn table_by(&self, index: &TypedResourceIndex) -> u32
-        requires { IsKnown (types_of self.now) index.now }
+        requires { HasKnownType (component_types self.now) index.now }
         ensures number { result ≡ table_by self.now index.now }
         ensures within { result < length self.now.ledger.handles.tables }
     {
@@ -192,7 +192,7 @@ impl<T, G> Core<T, G> {
 
     /// The representation of a handle (CanonicalABI.md, "canon resource.rep").
     pub fn resource_rep(&mut self, i: TypedResourceIndex) -> Result<u32, ResourceFault>
-        requires known { IsKnown (types_of self.old) i }
+        requires known { HasKnownType (component_types self.old) i }
         ensures answer { result ≡ ledger.resource_rep self.old.ledger (table_by self.old i) i }
         ensures same { self.new ≡ self.old }
     {
@@ -203,7 +203,7 @@ impl<T, G> Core<T, G> {
     /// Removes a handle, but for its destructor (CanonicalABI.md, "canon resource.drop"). Answers the representation of an own handle,
     /// and nothing for a borrow handle.
     pub fn resource_drop(&mut self, i: TypedResourceIndex) -> Result<Option<u32>, ResourceFault>
-        requires known { IsKnown (types_of self.old) i }
+        requires known { HasKnownType (component_types self.old) i }
         ensures step { DidSurely (ledger.resource_drop self.old.ledger (table_by self.old i) i) result self.new.ledger }
         ensures places { SamePlaces self.old.ledger self.new.ledger }
         ensures same { SameButLedger self.old self.new }
@@ -257,7 +257,7 @@ impl<T, G> Core<T, G> {
         ty: TypeResourceTableIndex,
         rep: u32,
     ) -> Result<u32, ResourceFault>
-        requires known { HasResource (types_of self.old) ty }
+        requires known { HasResource (component_types self.old) ty }
         ensures step { Did (ledger.resource_new self.old.ledger (parts.table_for self.old.component.types ty) (Component ty rep)) result self.old.ledger self.new.ledger }
         ensures places { SamePlaces self.old.ledger self.new.ledger }
         ensures same { SameButLedger self.old self.new }
@@ -277,7 +277,7 @@ impl<T, G> Core<T, G> {
         ty: TypeResourceTableIndex,
         rep: u32,
     ) -> Result<u32, ResourceFault>
-        requires known { HasResource (types_of self.old) ty }
+        requires known { HasResource (component_types self.old) ty }
         ensures step { Did (ledger.resource_lower_borrow (top_scope self.old.ledger.handles) self.old.ledger (parts.table_for self.old.component.types ty) (Component ty rep)) result self.old.ledger self.new.ledger }
         ensures places { SamePlaces self.old.ledger self.new.ledger }
         ensures same { SameButLedger self.old self.new }
@@ -297,7 +297,7 @@ impl<T, G> Core<T, G> {
         ty: TypeResourceTableIndex,
         index: u32,
     ) -> Result<u32, ResourceFault>
-        requires known { HasResource (types_of self.old) ty }
+        requires known { HasResource (component_types self.old) ty }
         ensures step { DidSurely (ledger.resource_lift_own self.old.ledger (parts.table_for self.old.component.types ty) (ComponentIndex ty index)) result self.new.ledger }
         ensures places { SamePlaces self.old.ledger self.new.ledger }
         ensures same { SameButLedger self.old self.new }
@@ -317,7 +317,7 @@ impl<T, G> Core<T, G> {
         ty: TypeResourceTableIndex,
         index: u32,
     ) -> Result<u32, ResourceFault>
-        requires known { HasResource (types_of self.old) ty }
+        requires known { HasResource (component_types self.old) ty }
         ensures step { Did (ledger.resource_lift_borrow (top_scope self.old.ledger.handles) self.old.ledger (parts.table_for self.old.component.types ty) (ComponentIndex ty index)) result self.old.ledger self.new.ledger }
         ensures places { SamePlaces self.old.ledger self.new.ledger }
         ensures same { SameButLedger self.old self.new }

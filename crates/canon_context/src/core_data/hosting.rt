@@ -2,7 +2,7 @@
 
 ghost use Rattle.std.specs.Prelude.{◌≡◌, ◌≤◌, ◌^◌, IfSome, length, slice_get};
 ghost use Rattle.canon_types.specs.Table.{HasFunc};
-ghost use Rattle.canon_context.specs.Core.{types_of};
+ghost use Rattle.canon_context.specs.Core.{component_types};
 ghost use Rattle.canon_context.specs.Host.{Gave, HostSteps, Keeps, StaticGave, StaticKeeps, lenders_in};
 
 use super::Core;
@@ -31,8 +31,8 @@ impl<T, G> Core<T, G> {
         F: Fn(&mut HostView<'_, '_, T>, &TypeFunc, &[X], &mut [X]) -> Result<(), HostStop>,
     >(&mut self, f: &F, ty: TypeFuncIndex, params: &[X], results: &mut [X]) -> Result<(), HostStop>
         requires keeps { Keeps F.Fn f.now }
-        requires func { HasFunc (types_of self.old) ty }
-        ensures gave { IfSome (slice_get (types_of self.old).funcs ty) (λ t. Gave F.Fn f.now self.old self.new t params.now results.old result results.new) }
+        requires func { HasFunc (component_types self.old) ty }
+        ensures gave { IfSome (slice_get (component_types self.old).funcs ty) (λ t. Gave F.Fn f.now self.old self.new t params.now results.old result results.new) }
         ensures steps { HostSteps self.old.ledger self.new.ledger }
         ensures scopes { lenders_in self.new.ledger ≡ lenders_in self.old.ledger }
         ensures slots { length results.new ≡ length results.old }

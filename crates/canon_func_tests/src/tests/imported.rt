@@ -3,7 +3,7 @@
 ghost use Rattle.std.specs.Prelude.{◌≡◌, ◌≤◌, IfSome, None, slice_get};
 ghost use Rattle.canon_types.specs.Table.{HasFunc};
 ghost use Rattle.canon_context.specs.Component.{HasOptions};
-ghost use Rattle.canon_context.specs.Core.{types_of};
+ghost use Rattle.canon_context.specs.Core.{component_types};
 ghost use Rattle.canon_context.specs.Host.{StaticKeeps};
 ghost use Rattle.canon_host.specs.Asked.{HasRoomFor};
 ghost use Rattle.canon_host.specs.Forms.{MayGive, rust_types};
@@ -36,7 +36,7 @@ impl<
     ghost use Rattle.std.specs.Prelude.{◌≡◌, ◌≤◌, IfSome, None, slice_get};
     ghost use Rattle.canon_types.specs.Table.{HasFunc};
     ghost use Rattle.canon_context.specs.Component.{HasOptions};
-    ghost use Rattle.canon_context.specs.Core.{types_of};
+    ghost use Rattle.canon_context.specs.Core.{component_types};
     ghost use Rattle.canon_context.specs.Host.{StaticKeeps};
     ghost use Rattle.canon_host.specs.Asked.{HasRoomFor};
     ghost use Rattle.canon_host.specs.Forms.{MayGive, rust_types};
@@ -64,17 +64,17 @@ impl<
         storage: &mut [ValRaw],
     ) -> Result<(), HostError>
         requires ready { StaticKeeps F.Fn self.old.func }
-        requires func { HasFunc (types_of cx.core.now) cx.ty }
+        requires func { HasFunc (component_types cx.core.now) cx.ty }
         requires options { HasOptions cx.core.now.component cx.options }
-        requires room { HasRoomFor (types_of cx.core.now) cx.ty storage.old }
+        requires room { HasRoomFor (component_types cx.core.now) cx.ty storage.old }
         ensures still_ready { StaticKeeps F.Fn self.new.func }
         ensures plan { self.new.func ≡ self.old.func }
         ensures refusals { self.old.refusals ≤ self.new.refusals }
-        ensures serves { IfSome (slice_get (types_of cx.entry.core.now).funcs cx.entry.ty)
+        ensures serves { IfSome (slice_get (component_types cx.entry.core.now).funcs cx.entry.ty)
             (λ t. ServesImport (gives_types (rust_types P.fits R.fits P.reading P.is_told P.lifts P.cost R.means R.walks R.gives)
             (MayGive F.Fn self.old.func)) None _n G.seen G.moves (record { ty = cx.entry.ty; func = t; options = cx.entry.options }) None
             self.old.refusals self.new.refusals cx.entry.core.now storage.old result cx.exit.0.now storage.new) }
-        ensures served { IfSome (slice_get (types_of cx.entry.core.now).funcs cx.entry.ty)
+        ensures served { IfSome (slice_get (component_types cx.entry.core.now).funcs cx.entry.ty)
             (λ t. ServedByTyped F.Fn self.old.func (rust_types P.fits R.fits P.reading P.is_told P.lifts P.cost R.means R.walks R.gives) G.seen
             G.moves (record { ty = cx.entry.ty; func = t; options = cx.entry.options }) cx.entry.core.now storage.old result cx.exit.0.now
             storage.new) }

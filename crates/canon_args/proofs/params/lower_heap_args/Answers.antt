@@ -1,7 +1,7 @@
 use Rattle.std.proofs.Common.{[], Err, List, Ok, ap, false, length, subst, sym, ℕ, ◌+◌, ◌∙◌, ◌∷◌, ◌≡◌, ◌≤◌}
 use Rattle.canon_context.proofs.Cores.{same_types}
 use Rattle.canon_context.proofs.Moves.{GuestLaws}
-use Rattle.canon_context.specs.Core.{types_of}
+use Rattle.canon_context.specs.Core.{component_types}
 use Rattle.canon_model.specs.Layout.{size}
 use Rattle.canon_model.specs.Shape.{Shape, of_places, product}
 use Rattle.canon_types.specs.Table.{Table, shape_of, tuple_members}
@@ -19,15 +19,15 @@ returns-in-Err-clause-lowers g c =
     let L : GuestLaws _ = record { seen = g.G.Guest.seen; moves = g.G.Guest.moves; stays = g.met.G.Guest.stays; goes_on = g.met.G.Guest.goes_on } in
     let a = c.args in
     let core = a.cx.now.core.now in
-    let ms = tuple_members (types_of core) a.ty in
+    let ms = tuple_members (component_types core) a.ty in
     heap_ungiven L a.cx.now.options core ms (g.P.ComponentType.walks a.params.now) (g.P.Lower.gives core.component.types (product of_places ms) a.params.now) c.requires.far c.ask_tuple.new.cx.core.now a.dst.now c.in-Err.fault c.in-Err.ensures.asked
 
 -- the shape of the tuple, where the block was given
-shape : (g : Over) (c : After-tuple-tuple g) → shape_of (types_of c.ask_tuple.new.cx.core.now) (ty.Tuple c.args.ty) ≡ product of_places (tuple_members (types_of c.args.cx.now.core.now) c.args.ty)
+shape : (g : Over) (c : After-tuple-tuple g) → shape_of (component_types c.ask_tuple.new.cx.core.now) (ty.Tuple c.args.ty) ≡ product of_places (tuple_members (component_types c.args.cx.now.core.now) c.args.ty)
 shape g c =
     let core = c.args.cx.now.core.now in
     let asked = c.ask_tuple.new.cx.core.now in
-    let t = types_of asked in
+    let t = component_types asked in
     ap (λ (t : Table). shape_of t (ty.Tuple c.args.ty)) (sym c.types.ensures)
     ∙ tuple_shape_of_now t c.types.result.now c.args.ty c.tuple-tuple.result.now.types.items c.types.ensures c.tuple-tuple.ensures.entry c.tuple-tuple.ensures.types
     ∙ ap (λ (t : Table). product of_places (tuple_members t c.args.ty)) (same_types core asked c.in-Ok.ensures.asked.same)
@@ -44,7 +44,7 @@ returns-in-Ok-linear_lower_to_memory-clause-lowers g c =
     let core = a.cx.now.core.now in
     let asked = c.ask_tuple.new.cx.core.now in
     let after = c.linear_lower_to_memory.new.cx.core.now in
-    let ms = tuple_members (types_of core) a.ty in
+    let ms = tuple_members (component_types core) a.ty in
     let v = a.params.now in
     let gave = c.in-Ok.ensures.asked in
     let is = shape g (goal.at.returns-in-Ok-linear_lower_to_memory-clause-lowers g c).After-tuple-tuple in
@@ -63,7 +63,7 @@ returns-in-Err-linear_lower_to_memory-clause-lowers g c =
     let core = a.cx.now.core.now in
     let asked = c.ask_tuple.new.cx.core.now in
     let after = c.linear_lower_to_memory.new.cx.core.now in
-    let ms = tuple_members (types_of core) a.ty in
+    let ms = tuple_members (component_types core) a.ty in
     let v = a.params.now in
     let e = c.in-Err-linear_lower_to_memory.fault in
     let gave = c.in-Ok.ensures.asked in

@@ -1,6 +1,6 @@
 use Rattle.std.proofs.Common.{ap, subst, sym, ◌∙◌, ◌≡◌}
 use Rattle.canon_context.proofs.Moves.{GuestLaws}
-use Rattle.canon_context.specs.Core.{types_of}
+use Rattle.canon_context.specs.Core.{component_types}
 use Rattle.canon_lower_parts.specs.Words.{TypedLowers}
 use Rattle.canon_model.specs.Layout.{flat}
 use Rattle.canon_model.specs.Shape.{Shape, of_places, product}
@@ -12,10 +12,10 @@ use Rattle.canon_args.proofs.params.lower_stack_args.Given.{Over}
 use Rattle.canon_args.proofs.params.lower_stack_args.Goals.{After-tuple-tuple}
 use Rattle.canon_args.proofs.params.lower_stack_args.Goals as goal
 
-shape : (g : Over) (c : After-tuple-tuple g) → shape_of (types_of c.args.cx.now.core.now) (ty.Tuple c.args.ty) ≡ product of_places (tuple_members (types_of c.args.cx.now.core.now) c.args.ty)
+shape : (g : Over) (c : After-tuple-tuple g) → shape_of (component_types c.args.cx.now.core.now) (ty.Tuple c.args.ty) ≡ product of_places (tuple_members (component_types c.args.cx.now.core.now) c.args.ty)
 shape g c =
     ap (λ (t : Table). shape_of t (ty.Tuple c.args.ty)) (sym c.types.ensures)
-    ∙ tuple_shape_of_now (types_of c.args.cx.now.core.now) c.types.result.now c.args.ty c.tuple-tuple.result.now.types.items c.types.ensures c.tuple-tuple.ensures.entry c.tuple-tuple.ensures.types
+    ∙ tuple_shape_of_now (component_types c.args.cx.now.core.now) c.types.result.now c.args.ty c.tuple-tuple.result.now.types.items c.types.ensures c.tuple-tuple.ensures.entry c.tuple-tuple.ensures.types
 
 pub linear_lower_to_flat-requires-clause-words : goal.linear_lower_to_flat-requires-clause-words
 unfolding flat
@@ -27,7 +27,7 @@ returns-clause-lowers g c =
     let a = c.args in
     let core = a.cx.now.core.now in
     let after = c.linear_lower_to_flat.new.cx.core.now in
-    let ms = tuple_members (types_of core) a.ty in
+    let ms = tuple_members (component_types core) a.ty in
     let v = a.params.now in
     let is = shape g (goal.at.returns-clause-lowers g c).After-tuple-tuple in
     stack_lowered L a.cx.now.options core after ms (g.P.ComponentType.walks v) (g.P.Lower.gives core.component.types (product of_places ms) v)

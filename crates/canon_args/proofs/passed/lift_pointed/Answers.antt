@@ -1,7 +1,7 @@
 use Rattle.std.proofs.Common.{ap, arith, false, length, subst, sym, ℕ, ◌%◌, ◌∙◌, ◌≡◌}
 use Rattle.std.proofs.lemmas.List.{get_or_default}
 use Rattle.std.specs.Prelude.{slice_index}
-use Rattle.canon_context.specs.Core.{types_of}
+use Rattle.canon_context.specs.Core.{component_types}
 use Rattle.canon_reading.specs.Reading.{setting_in}
 use Rattle.canon_model.specs.Layout.{align, size}
 use Rattle.canon_model.specs.Memory.{low}
@@ -16,17 +16,17 @@ use Rattle.canon_args.proofs.passed.lift_pointed.Goals.{After-tuple}
 use Rattle.canon_args.proofs.passed.lift_pointed.Goals as goal
 
 -- the shape of the tuple
-shape : (g : Over) (c : After-tuple g) → shape_of c.types.result.now (ty.Tuple c.args.ty) ≡ product of_places (tuple_members (types_of c.args.cx.now.core.now) c.args.ty)
-shape g c = tuple_shape_of_now (types_of c.args.cx.now.core.now) c.types.result.now c.args.ty c.tuple.result.now.types.items c.types.ensures c.tuple.ensures.entry c.tuple.ensures.types
+shape : (g : Over) (c : After-tuple g) → shape_of c.types.result.now (ty.Tuple c.args.ty) ≡ product of_places (tuple_members (component_types c.args.cx.now.core.now) c.args.ty)
+shape g c = tuple_shape_of_now (component_types c.args.cx.now.core.now) c.types.result.now c.args.ty c.tuple.result.now.types.items c.types.ensures c.tuple.ensures.entry c.tuple.ensures.types
 
-now : (g : Over) (c : After-tuple g) → shape_of (types_of c.args.cx.now.core.now) (ty.Tuple c.args.ty) ≡ product of_places (tuple_members (types_of c.args.cx.now.core.now) c.args.ty)
+now : (g : Over) (c : After-tuple g) → shape_of (component_types c.args.cx.now.core.now) (ty.Tuple c.args.ty) ≡ product of_places (tuple_members (component_types c.args.cx.now.core.now) c.args.ty)
 now g c = ap (λ (x : Table). shape_of x (ty.Tuple c.args.ty)) (sym c.types.ensures) ∙ shape g c
 
 pub returns-then-at-from-ne0-clause-lifts : goal.returns-then-at-from-ne0-clause-lifts
 unfolding align
 returns-then-at-from-ne0-clause-lifts g c =
     let core = c.args.cx.now.core.now in
-    let ms = tuple_members (types_of core) c.args.ty in
+    let ms = tuple_members (component_types core) c.args.ty in
     let is = shape g (goal.at.returns-then-at-from-ne0-clause-lifts g c).After-tuple in
     let found : c.index-src-0.result ≡ slice_index c.args.src.now 0 = c.index-src-0.is ∙ get_or_default c.args.src.now 0 _ 0 (omega (arith, c.requires.word)) in
     let there : c.from-at.result ≡ low (slice_index c.args.src.now 0) = c.from-at.ensures ∙ (c.get_u32.ensures ∙ ap low found) in
@@ -38,7 +38,7 @@ pub returns-then-at-from-clause-lifts : goal.returns-then-at-from-clause-lifts
 unfolding align
 returns-then-at-from-clause-lifts g c =
     let core = c.args.cx.now.core.now in
-    let ms = tuple_members (types_of core) c.args.ty in
+    let ms = tuple_members (component_types core) c.args.ty in
     let is = shape g (goal.at.returns-then-at-from-clause-lifts g c).After-tuple in
     let found : c.index-src-0.result ≡ slice_index c.args.src.now 0 = c.index-src-0.is ∙ get_or_default c.args.src.now 0 _ 0 (omega (arith, c.requires.word)) in
     let there : c.from-at.result ≡ low (slice_index c.args.src.now 0) = c.from-at.ensures ∙ (c.get_u32.ensures ∙ ap low found) in

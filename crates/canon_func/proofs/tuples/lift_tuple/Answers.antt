@@ -1,6 +1,6 @@
 use Rattle.std.proofs.Common.{rules, subst, ℕ, ◌≡◌}
 use Rattle.canon_args.specs.Returned.{passed_reading}
-use Rattle.canon_context.specs.Core.{Parts, types_of}
+use Rattle.canon_context.specs.Core.{Parts, component_types}
 use Rattle.canon_reading.specs.Reading.{setting_in}
 use Rattle.canon_ledger.specs.Ledger.{LedgerState}
 use Rattle.canon_model.specs.Flat.{max_results}
@@ -13,7 +13,7 @@ pub returns-clause-lifts : goal.returns-clause-lifts
 returns-clause-lifts g c =
     let cx = c.new-cx.result in
     let e = c.args.export.now in
-    let LiftsFrom : Parts g.row.T.Denot g.row.G.Denot → ℕ → ℕ → LedgerState → Type 0 = λ from options fuel to. let s = product of_places (tuple_members (types_of from) c.args.tuple) in
+    let LiftsFrom : Parts g.row.T.Denot g.row.G.Denot → ℕ → ℕ → LedgerState → Type 0 = λ from options fuel to. let s = product of_places (tuple_members (component_types from) c.args.tuple) in
     LiftsTuple (passed_reading max_results s g.R.Lift.reading) (setting_in from options) c.args.words.now s from.ledger fuel c.lift_results.result to in
     let ends : c.lift_results.new.cx.core.now.ledger ≡ _ = search rules in
     subst (λ l. LiftsFrom c.args.core.now e.options c.args.core.now.fuel l) ends

@@ -1,5 +1,5 @@
 use Rattle.std.proofs.Common.{rules, ◌≡◌, ◌+◌, ◌*◌, ◌∙◌, Err, Ok, ap, arith, refl, subst, sym}
-use Rattle.canon_context.specs.Core.{Parts, types_of}
+use Rattle.canon_context.specs.Core.{Parts, component_types}
 use Rattle.canon_model.specs.Layout.{flat}
 use Rattle.canon_types.specs.Table.{shape_of}
 use Rattle.canon_reading.specs.Reading.{setting_in}
@@ -15,7 +15,7 @@ returns-in-Err-push-clause-lifts g c =
     let core = cx.core.now in
     let i = c.loop-k.invariant in
     let w = setting_in core cx.options in
-    let s = shape_of (types_of core) c.args.ty in
+    let s = shape_of (component_types core) c.args.ty in
     let words : c.flat_words-step.result ≡ flat s = c.flat_words-step.ensures ∙ ap (λ t. flat (shape_of t c.args.ty)) c.types.ensures in
     let mid = c.loop-k.cx.core.now.ledger in
     let after = c.lift_words.new.cx in
@@ -32,7 +32,7 @@ returns-in-Err-clause-lifts g c =
     let core = cx.core.now in
     let i = c.loop-k.invariant in
     let w = setting_in core cx.options in
-    let s = shape_of (types_of core) c.args.ty in
+    let s = shape_of (component_types core) c.args.ty in
     let words : c.flat_words-step.result ≡ flat s = c.flat_words-step.ensures ∙ ap (λ t. flat (shape_of t c.args.ty)) c.types.ensures in
     let mid = c.loop-k.cx.core.now.ledger in
     let after = c.lift_words.new.cx in
@@ -48,7 +48,7 @@ loop-k-preserved g c =
     let core = cx.core.now in
     let i = c.loop-k.invariant in
     let w = setting_in core cx.options in
-    let s = shape_of (types_of core) c.args.ty in
+    let s = shape_of (component_types core) c.args.ty in
     let words : c.flat_words-step.result ≡ flat s = c.flat_words-step.ensures ∙ ap (λ t. flat (shape_of t c.args.ty)) c.types.ensures in
     let mid = c.loop-k.cx.core.now.ledger in
     let after = c.lift_words.new.cx in

@@ -1,5 +1,5 @@
 use Rattle.std.proofs.Common.{◌≡◌, ◌≤◌, ◌+◌, ◌%◌, arith, false, length, subst, sym}
-use Rattle.canon_context.specs.Core.{Parts, types_of}
+use Rattle.canon_context.specs.Core.{Parts, component_types}
 use Rattle.canon_model.specs.Layout.{align, size}
 use Rattle.canon_types.specs.Table.{shape_of}
 use Rattle.canon_lift_parts.proofs.PairLifting.{key_aligned, key_inside, key_refused, value_aligned, value_inside, value_refused}
@@ -9,33 +9,33 @@ pub linear_lift_from_memory-requires-clause-aligned : goal.linear_lift_from_memo
 linear_lift_from_memory-requires-clause-aligned g c =
     let core = c.args.cx.now.core.now in
     let pair = c.args.pair.now in
-    key_aligned (types_of core) pair.key pair.value core.memory c.args.at c.requires.aligned c.requires.inside
+    key_aligned (component_types core) pair.key pair.value core.memory c.args.at c.requires.aligned c.requires.inside
 
 pub linear_lift_from_memory-requires-clause-inside : goal.linear_lift_from_memory-requires-clause-inside
 linear_lift_from_memory-requires-clause-inside g c =
     let core = c.args.cx.now.core.now in
     let pair = c.args.pair.now in
-    key_inside (types_of core) pair.key pair.value core.memory c.args.at c.requires.aligned c.requires.inside
+    key_inside (component_types core) pair.key pair.value core.memory c.args.at c.requires.aligned c.requires.inside
 
 pub overflow_add-at : goal.overflow_add-at
 overflow_add-at g c =
     let core = c.args.cx.now.core.now in
     let pair = c.args.pair.now in
-    record { fits = omega (arith, c.memory-memory.ensures.small, value_inside (types_of core) pair.key pair.value core.memory c.args.at c.requires.aligned c.requires.inside pair.offset c.requires.offset) }
+    record { fits = omega (arith, c.memory-memory.ensures.small, value_inside (component_types core) pair.key pair.value core.memory c.args.at c.requires.aligned c.requires.inside pair.offset c.requires.offset) }
 
 pub linear_lift_from_memory-requires-in-Ok-clause-aligned : goal.linear_lift_from_memory-requires-in-Ok-clause-aligned
 linear_lift_from_memory-requires-in-Ok-clause-aligned g c =
     let core = c.args.cx.now.core.now in
     let pair = c.args.pair.now in
-    subst (λ (z : Parts g.row.U.Denot g.row.G.Denot). (c.args.at + pair.offset) % align false (shape_of (types_of z) pair.value) ≡ 0) (sym c.in-Ok.ensures.same_core)
-    (value_aligned (types_of core) pair.key pair.value core.memory c.args.at c.requires.aligned c.requires.inside pair.offset c.requires.offset)
+    subst (λ (z : Parts g.row.U.Denot g.row.G.Denot). (c.args.at + pair.offset) % align false (shape_of (component_types z) pair.value) ≡ 0) (sym c.in-Ok.ensures.same_core)
+    (value_aligned (component_types core) pair.key pair.value core.memory c.args.at c.requires.aligned c.requires.inside pair.offset c.requires.offset)
 
 pub linear_lift_from_memory-requires-in-Ok-clause-inside : goal.linear_lift_from_memory-requires-in-Ok-clause-inside
 linear_lift_from_memory-requires-in-Ok-clause-inside g c =
     let core = c.args.cx.now.core.now in
     let pair = c.args.pair.now in
-    subst (λ (z : Parts g.row.U.Denot g.row.G.Denot). c.args.at + pair.offset + size false (shape_of (types_of z) pair.value) ≤ length z.memory) (sym c.in-Ok.ensures.same_core)
-    (value_inside (types_of core) pair.key pair.value core.memory c.args.at c.requires.aligned c.requires.inside pair.offset c.requires.offset)
+    subst (λ (z : Parts g.row.U.Denot g.row.G.Denot). c.args.at + pair.offset + size false (shape_of (component_types z) pair.value) ≤ length z.memory) (sym c.in-Ok.ensures.same_core)
+    (value_inside (component_types core) pair.key pair.value core.memory c.args.at c.requires.aligned c.requires.inside pair.offset c.requires.offset)
 
 pub returns-in-Err-clause-lifts : goal.returns-in-Err-clause-lifts
 returns-in-Err-clause-lifts g c =

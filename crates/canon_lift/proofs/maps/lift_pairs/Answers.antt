@@ -1,5 +1,5 @@
 use Rattle.std.proofs.Common.{rules, ◌≡◌, ◌+◌, ◌*◌, ◌%◌, ◌++◌, ◌∙◌, ◌∷◌, Err, Ok, [], ap, arith, false, length, length-append, refl, subst, sym}
-use Rattle.canon_context.specs.Core.{Parts, types_of}
+use Rattle.canon_context.specs.Core.{Parts, component_types}
 use Rattle.canon_context.specs.declared.fault.Fault.TheVariants as fault
 use Rattle.canon_model.specs.Layout.{align}
 use Rattle.canon_model.specs.Shape.{tuple}
@@ -17,8 +17,8 @@ pub lift_pair-requires-clause-aligned : goal.lift_pair-requires-clause-aligned
 lift_pair-requires-clause-aligned g c =
     let core = c.args.cx.now.core.now in
     let pair = c.args.pair.now in
-    let s = tuple (shape_of (types_of core) pair.key ∷ shape_of (types_of core) pair.value ∷ []) in
-    subst (λ (z : Parts g.row.U.Denot g.row.G.Denot). (c.args.at + c.loop-k.k * c.args.step) % align false (tuple (shape_of (types_of z) pair.key ∷ shape_of (types_of z) pair.value ∷ [])) ≡ 0) (sym c.loop-k.invariant.same_core)
+    let s = tuple (shape_of (component_types core) pair.key ∷ shape_of (component_types core) pair.value ∷ []) in
+    subst (λ (z : Parts g.row.U.Denot g.row.G.Denot). (c.args.at + c.loop-k.k * c.args.step) % align false (tuple (shape_of (component_types z) pair.key ∷ shape_of (component_types z) pair.value ∷ [])) ≡ 0) (sym c.loop-k.invariant.same_core)
     (subst (λ n. (c.args.at + c.loop-k.k * n) % align false s ≡ 0) (sym c.requires.step) (element_aligned s c.args.at c.loop-k.k c.requires.aligned))
 
 pub returns-in-Err-clause-lifts : goal.returns-in-Err-clause-lifts
@@ -30,7 +30,7 @@ returns-in-Err-clause-lifts g c =
     let pair = c.args.pair.now in
     let i = c.loop-k.invariant in
     let w = setting_in core cx.options in
-    let s = tuple (shape_of (types_of core) pair.key ∷ shape_of (types_of core) pair.value ∷ []) in
+    let s = tuple (shape_of (component_types core) pair.key ∷ shape_of (component_types core) pair.value ∷ []) in
     let p = stored c.args.at in
     let mid = c.loop-k.cx.core.now.ledger in
     let after = c.lift_pair.new.cx in
@@ -49,7 +49,7 @@ returns-in-Err-put-clause-lifts g c =
     let pair = c.args.pair.now in
     let i = c.loop-k.invariant in
     let w = setting_in core cx.options in
-    let s = tuple (shape_of (types_of core) pair.key ∷ shape_of (types_of core) pair.value ∷ []) in
+    let s = tuple (shape_of (component_types core) pair.key ∷ shape_of (component_types core) pair.value ∷ []) in
     let p = stored c.args.at in
     let mid = c.loop-k.cx.core.now.ledger in
     let after = c.lift_pair.new.cx in
@@ -68,7 +68,7 @@ loop-k-preserved g c =
     let pair = c.args.pair.now in
     let i = c.loop-k.invariant in
     let w = setting_in core cx.options in
-    let s = tuple (shape_of (types_of core) pair.key ∷ shape_of (types_of core) pair.value ∷ []) in
+    let s = tuple (shape_of (component_types core) pair.key ∷ shape_of (component_types core) pair.value ∷ []) in
     let p = stored c.args.at in
     let mid = c.loop-k.cx.core.now.ledger in
     let after = c.lift_pair.new.cx in

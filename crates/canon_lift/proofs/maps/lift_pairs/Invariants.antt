@@ -1,5 +1,5 @@
 use Rattle.std.proofs.Common.{◌≡◌, ◌+◌, ◌∷◌, List, [], length}
-use Rattle.canon_context.specs.Core.{types_of}
+use Rattle.canon_context.specs.Core.{component_types}
 use Rattle.canon_model.specs.Shape.{tuple}
 use Rattle.canon_types.specs.Table.{shape_of}
 use Rattle.canon_typed.specs.Maps.{IsFilledWith}
@@ -13,7 +13,7 @@ abbrev pub invariant-loop-k : goal.invariant-loop-k
 invariant-loop-k g l =
     let core = l.fn.cx.core.now in
     let w = setting_in core l.fn.cx.options in
-    let s = tuple (shape_of (types_of core) l.pair.key ∷ shape_of (types_of core) l.pair.value ∷ []) in
+    let s = tuple (shape_of (component_types core) l.pair.key ∷ shape_of (component_types core) l.pair.value ∷ []) in
     let R = pair_reading g.K.Lift.reading g.V.Lift.reading in
     record {
       read : (pairs : List (g.row.K.Denot × g.row.V.Denot)) × (length pairs ≡ l.k) × EachReads R w s (stored l.at) core.ledger pairs l.cx.core.now.ledger × IsFilledWith g.K.PartialEq.eq pairs l.map;

@@ -1,7 +1,7 @@
 use Rattle.std.proofs.Common.{rules, ◌≡◌, ◌+◌, ◌*◌, ap₂, length, subst, sym, ℕ}
 use Rattle.canon_lowering.specs.Storing.{narrow}
 use Rattle.canon_model.specs.Memory.{num}
-use Rattle.canon_lift_parts.specs.Integers.{AreHeld}
+use Rattle.canon_lift_parts.specs.Integers.{AreSpelled}
 use Rattle.canon_lift_parts.proofs.IntegerRows.{held_more}
 use Rattle.canon_lift_parts.proofs.integers.numbers.Goals as goal
 
@@ -16,5 +16,5 @@ loop-k-preserved g c =
     let here : p + c.loop-k.k * c.width-width.result ≡ p + length xs * b = ap₂ (λ (n k : ℕ). p + n * k) (sym i.count) c.width-width.ensures.width in
     record {
       count = search rules;
-      held = subst (λ ys. AreHeld Held b m p ys) (sym c.in-Ok.ensures.items) (held_more Held b m p xs c.load.result i.held (subst (λ a. Held c.load.result (num m a b)) here c.load.ensures));
+      held = subst (λ ys. AreSpelled Held b m p ys) (sym c.in-Ok.ensures.items) (held_more Held b m p xs c.load.result i.held (subst (λ a. Held c.load.result (num m a b)) here c.load.ensures));
     }

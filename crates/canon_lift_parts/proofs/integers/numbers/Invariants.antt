@@ -1,10 +1,10 @@
 use Rattle.std.proofs.Common.{◌≡◌, length}
-use Rattle.canon_lift_parts.specs.Integers.{AreHeld}
+use Rattle.canon_lift_parts.specs.Integers.{AreSpelled}
 use Rattle.canon_lowering.specs.Storing.{narrow}
 use Rattle.canon_lift_parts.proofs.integers.numbers.Given as goal
 
 abbrev pub invariant-loop-k : goal.invariant-loop-k
 invariant-loop-k g l = record {
   count : length l.items.items ≡ l.k;
-  held : AreHeld g.T.Integer.held g.T.Integer.bytes (narrow l.memory) l.pointer l.items.items;
+  held : AreSpelled g.T.Integer.held g.T.Integer.bytes (narrow l.memory) l.pointer l.items.items;
 }

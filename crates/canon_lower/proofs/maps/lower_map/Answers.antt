@@ -1,6 +1,6 @@
 use Rattle.std.proofs.Common.{arith}
 use Rattle.canon_context.proofs.Moves.{GuestLaws}
-use Rattle.canon_context.specs.Core.{types_of}
+use Rattle.canon_context.specs.Core.{component_types}
 use Rattle.canon_lowering.proofs.Pairing.{pair_shape}
 use Rattle.canon_model.specs.Shape.{of_pairs}
 use Rattle.canon_types.specs.Table.{shape_of}
@@ -15,14 +15,14 @@ pub put_words-requires-clause-room : goal.put_words-requires-clause-room
 put_words-requires-clause-room g c =
     let core = c.args.cx.now.core.now in
     let (k, v, shape) = map_is g.K.ComponentType.fits g.V.ComponentType.fits core.component.types c.args.ty c.requires.fits in
-    omega (arith, c.requires.words, list_words (shape_of (types_of core) c.args.ty) (pair_shape k v) of_pairs shape)
+    omega (arith, c.requires.words, list_words (shape_of (component_types core) c.args.ty) (pair_shape k v) of_pairs shape)
 
 pub returns-in-Ok-clause-lowers : goal.returns-in-Ok-clause-lowers
 returns-in-Ok-clause-lowers g c =
     let L : GuestLaws _ = record { seen = g.G.Guest.seen; moves = g.G.Guest.moves; stays = g.met.G.Guest.stays; goes_on = g.met.G.Guest.goes_on } in
     let a = c.args in
     let core = a.cx.now.core.now in
-    let z = shape_of (types_of core) a.ty in
+    let z = shape_of (component_types core) a.ty in
     let (k, v, shape) = map_is g.K.ComponentType.fits g.V.ComponentType.fits core.component.types a.ty c.requires.fits in
     let Has = MapWalks g.K.ComponentType.walks g.V.ComponentType.walks a.map.now in
     let gives = map_gives g.K.LowerShared.gives g.V.LowerShared.gives core.component.types z a.map.now in
@@ -34,7 +34,7 @@ returns-in-Err-clause-lowers g c =
     let L : GuestLaws _ = record { seen = g.G.Guest.seen; moves = g.G.Guest.moves; stays = g.met.G.Guest.stays; goes_on = g.met.G.Guest.goes_on } in
     let a = c.args in
     let core = a.cx.now.core.now in
-    let z = shape_of (types_of core) a.ty in
+    let z = shape_of (component_types core) a.ty in
     let (k, v, shape) = map_is g.K.ComponentType.fits g.V.ComponentType.fits core.component.types a.ty c.requires.fits in
     let Has = MapWalks g.K.ComponentType.walks g.V.ComponentType.walks a.map.now in
     let gives = map_gives g.K.LowerShared.gives g.V.LowerShared.gives core.component.types z a.map.now in

@@ -1,6 +1,6 @@
 use Rattle.std.proofs.Common.{◌≡◌, subst}
 use Rattle.canon_context.proofs.Moves.{GuestLaws}
-use Rattle.canon_context.specs.Core.{types_of}
+use Rattle.canon_context.specs.Core.{component_types}
 use Rattle.canon_model.specs.Shape.{map_of}
 use Rattle.canon_types.specs.Instance.{Instance}
 use Rattle.canon_types.specs.Table.{shape_of}
@@ -21,7 +21,7 @@ returns-in-Err-clause-places g c =
     let W = PairMeans g.K.ComponentType.walks g.V.ComponentType.walks in
     let gives = pair_gives g.K.LowerShared.gives g.V.LowerShared.gives in
     let xs = a.map.now.entries in
-    let s = pair_in (types_of core) pair in
+    let s = pair_in (component_types core) pair in
     pairs_ungiven L a.cx.now.options W gives g.K.ComponentType.fits g.V.ComponentType.fits core c.ask_items.new.cx.core.now a.ty.now pair xs c.len-length.result found.0 c.len-length.ensures.len c.in-Err.fault (c.in-Err.ensures.asked s found.1.layout)
 
 pub store_pairs-requires-clause-pair : goal.store_pairs-requires-clause-pair
@@ -35,7 +35,7 @@ store_pairs-requires-clause-pair g c =
     let W = PairMeans g.K.ComponentType.walks g.V.ComponentType.walks in
     let gives = pair_gives g.K.LowerShared.gives g.V.LowerShared.gives in
     let xs = a.map.now.entries in
-    let s = pair_in (types_of core) pair in
+    let s = pair_in (component_types core) pair in
     pairs_fit L a.cx.now.options W gives g.K.ComponentType.fits g.V.ComponentType.fits core c.ask_items.new.cx.core.now a.ty.now pair xs
     c.len-length.result found.0 c.len-length.ensures.len core c.in-Ok.pointer c.ask_items.new.cx.options c.in-Ok.ensures.same_options
     (c.in-Ok.ensures.asked s found.1.layout) found.1
@@ -51,7 +51,7 @@ store_pairs-requires-clause-room g c =
     let W = PairMeans g.K.ComponentType.walks g.V.ComponentType.walks in
     let gives = pair_gives g.K.LowerShared.gives g.V.LowerShared.gives in
     let xs = a.map.now.entries in
-    let s = pair_in (types_of core) pair in
+    let s = pair_in (component_types core) pair in
     pairs_room L a.cx.now.options W gives g.K.ComponentType.fits g.V.ComponentType.fits core c.ask_items.new.cx.core.now a.ty.now pair xs
     c.len-length.result found.0 c.len-length.ensures.len core c.in-Ok.pointer c.ask_items.new.cx.options c.in-Ok.ensures.same_options
     (c.in-Ok.ensures.asked s found.1.layout)
@@ -67,7 +67,7 @@ returns-in-Ok-store_pairs-clause-places g c =
     let W = PairMeans g.K.ComponentType.walks g.V.ComponentType.walks in
     let gives = pair_gives g.K.LowerShared.gives g.V.LowerShared.gives in
     let xs = a.map.now.entries in
-    let s = pair_in (types_of core) pair in
+    let s = pair_in (component_types core) pair in
     pairs_filled L a.cx.now.options W gives g.K.ComponentType.fits g.V.ComponentType.fits core c.ask_items.new.cx.core.now a.ty.now pair xs
     c.len-length.result found.0 c.len-length.ensures.len c.store_pairs.new.cx.core.now c.in-Ok.pointer c.ask_items.new.cx.options
     c.in-Ok.ensures.same_options (c.in-Ok.ensures.asked s found.1.layout) c.in-Ok-store_pairs.ensures.stores
@@ -83,7 +83,7 @@ returns-in-Err-store_pairs-clause-places g c =
     let W = PairMeans g.K.ComponentType.walks g.V.ComponentType.walks in
     let gives = pair_gives g.K.LowerShared.gives g.V.LowerShared.gives in
     let xs = a.map.now.entries in
-    let s = pair_in (types_of core) pair in
+    let s = pair_in (component_types core) pair in
     pairs_stopped L a.cx.now.options W gives g.K.ComponentType.fits g.V.ComponentType.fits core c.ask_items.new.cx.core.now a.ty.now pair xs
     c.len-length.result found.0 c.len-length.ensures.len c.store_pairs.new.cx.core.now c.in-Ok.pointer c.ask_items.new.cx.options
     c.in-Ok.ensures.same_options (c.in-Ok.ensures.asked s found.1.layout) c.in-Err-store_pairs.fault c.in-Err-store_pairs.ensures.stores

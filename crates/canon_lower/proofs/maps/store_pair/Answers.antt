@@ -1,6 +1,6 @@
 use Rattle.std.proofs.Common.{ap, arith, false, subst, ◌∙◌, ◌+◌, ◌≡◌, ℕ}
 use Rattle.canon_context.proofs.Moves.{GuestLaws}
-use Rattle.canon_context.specs.Core.{types_of}
+use Rattle.canon_context.specs.Core.{component_types}
 use Rattle.canon_model.specs.Layout.{begins, ends, size}
 use Rattle.canon_types.specs.Instance.{Instance}
 use Rattle.canon_types.specs.Table.{shape_of}
@@ -12,7 +12,7 @@ use Rattle.canon_lower.proofs.maps.store_pair.Goals as goal
 
 pub linear_lower_to_memory-requires-clause-room : goal.linear_lower_to_memory-requires-clause-room
 linear_lower_to_memory-requires-clause-room g c =
-    let t = types_of c.args.cx.now.core.now in
+    let t = component_types c.args.cx.now.core.now in
     omega (arith, c.requires.room, first_inside (shape_of t c.args.pair.now.key) (shape_of t c.args.pair.now.value))
 
 pub linear_lower_to_memory-requires-2-clause-room : goal.linear_lower_to_memory-requires-2-clause-room
@@ -20,9 +20,9 @@ linear_lower_to_memory-requires-2-clause-room g c =
     let a = c.args in
     let core = a.cx.now.core.now in
     let b = c.linear_lower_to_memory.new.cx.core.now in
-    let t = types_of core in
+    let t = component_types core in
     let first = c.in-Ok.ensures.stores in
-    let same : size false (shape_of (types_of b) a.pair.now.value) ≡ size false (shape_of t a.pair.now.value) = ap (λ (i : Instance). size false (shape_of i.types a.pair.now.value)) (handles_instance core b first.same) in
+    let same : size false (shape_of (component_types b) a.pair.now.value) ≡ size false (shape_of t a.pair.now.value) = ap (λ (i : Instance). size false (shape_of i.types a.pair.now.value)) (handles_instance core b first.same) in
     omega (arith, c.requires.room, c.from.ensures, c.requires.pair.second, same, second_inside (shape_of t a.pair.now.key) (shape_of t a.pair.now.value), first.attempt.lowering.goes.no_shorter)
 
 pub returns-in-Err-clause-stores : goal.returns-in-Err-clause-stores

@@ -1,7 +1,7 @@
 use Rattle.std.proofs.Common.{◌≡◌, ◌∙◌, ◌+◌, ◌++◌, ◌*◌, ◌∷◌, Err, Ok, [], add-mul, ap, arith, drop, false, length, one-mul, refl, subst, sym, ℕ}
 use Rattle.std.proofs.lemmas.List.{length-append}
 use Rattle.canon_context.proofs.Moves.{GuestLaws}
-use Rattle.canon_context.specs.Core.{types_of}
+use Rattle.canon_context.specs.Core.{component_types}
 use Rattle.canon_model.specs.Layout.{size}
 use Rattle.canon_types.specs.Instance.{Instance}
 use Rattle.canon_typed.specs.Meaning.{PairMeans}
@@ -18,7 +18,7 @@ loop-key-init g c =
     let L : GuestLaws _ = record { seen = g.G.Guest.seen; moves = g.G.Guest.moves; stays = g.met.G.Guest.stays; goes_on = g.met.G.Guest.goes_on } in
     let a = c.args in
     let core = a.cx.now.core.now in
-    let s = pair_in (types_of core) a.pair.now in
+    let s = pair_in (component_types core) a.pair.now in
     let W = PairMeans g.K.ComponentType.walks g.V.ComponentType.walks in
     let gives = pair_gives g.K.LowerShared.gives g.V.LowerShared.gives in
     let xs = a.map.now.entries in
@@ -42,8 +42,8 @@ store_pair-requires-clause-room g c =
     let inv = c.loop-key.invariant in
     let k = length c.loop-key.yielded in
     let xs = a.map.now.entries in
-    let bytes = size false (pair_in (types_of core) a.pair.now) in
-    let same : size false (pair_in (types_of now) a.pair.now) ≡ bytes = ap (λ (i : Instance). size false (pair_in i.types a.pair.now)) (handles_instance core now inv.stored.same) in
+    let bytes = size false (pair_in (component_types core) a.pair.now) in
+    let same : size false (pair_in (component_types now) a.pair.now) ≡ bytes = ap (λ (i : Instance). size false (pair_in i.types a.pair.now)) (handles_instance core now inv.stored.same) in
     let below = left_below xs c.next.new.self k (c.in-Some.key.now, c.in-Some.value.now) (sym inv.left ∙ c.in-Some.ensures.steps) in
     omega (arith, inv.place, same, one_inside k (length xs) bytes below, c.requires.room, inv.stored.longer)
 
@@ -52,7 +52,7 @@ loop-key-preserved g c =
     let L : GuestLaws _ = record { seen = g.G.Guest.seen; moves = g.G.Guest.moves; stays = g.met.G.Guest.stays; goes_on = g.met.G.Guest.goes_on } in
     let a = c.args in
     let core = a.cx.now.core.now in
-    let s = pair_in (types_of core) a.pair.now in
+    let s = pair_in (component_types core) a.pair.now in
     let W = PairMeans g.K.ComponentType.walks g.V.ComponentType.walks in
     let gives = pair_gives g.K.LowerShared.gives g.V.LowerShared.gives in
     let xs = a.map.now.entries in
@@ -79,7 +79,7 @@ returns-in-Err-clause-stores g c =
     let L : GuestLaws _ = record { seen = g.G.Guest.seen; moves = g.G.Guest.moves; stays = g.met.G.Guest.stays; goes_on = g.met.G.Guest.goes_on } in
     let a = c.args in
     let core = a.cx.now.core.now in
-    let s = pair_in (types_of core) a.pair.now in
+    let s = pair_in (component_types core) a.pair.now in
     let W = PairMeans g.K.ComponentType.walks g.V.ComponentType.walks in
     let gives = pair_gives g.K.LowerShared.gives g.V.LowerShared.gives in
     let xs = a.map.now.entries in
@@ -98,7 +98,7 @@ returns-clause-stores g c =
     let L : GuestLaws _ = record { seen = g.G.Guest.seen; moves = g.G.Guest.moves; stays = g.met.G.Guest.stays; goes_on = g.met.G.Guest.goes_on } in
     let a = c.args in
     let core = a.cx.now.core.now in
-    let s = pair_in (types_of core) a.pair.now in
+    let s = pair_in (component_types core) a.pair.now in
     let W = PairMeans g.K.ComponentType.walks g.V.ComponentType.walks in
     let gives = pair_gives g.K.LowerShared.gives g.V.LowerShared.gives in
     let xs = a.map.now.entries in

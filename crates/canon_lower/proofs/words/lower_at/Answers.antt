@@ -1,6 +1,6 @@
 use Rattle.std.proofs.Common.{◌≡◌, ◌+◌, ◌-◌, ◌∙◌, ap, arith}
 use Rattle.canon_context.proofs.Moves.{GuestLaws}
-use Rattle.canon_context.specs.Core.{types_of}
+use Rattle.canon_context.specs.Core.{component_types}
 use Rattle.canon_lower_parts.proofs.WordSteps.{at_lowers}
 use Rattle.canon_model.specs.Layout.{flat}
 use Rattle.canon_types.specs.Table.{Table, shape_of}
@@ -12,7 +12,7 @@ returns-clause-lowers g c =
     let L : GuestLaws _ = record { seen = g.G.Guest.seen; moves = g.G.Guest.moves; stays = g.met.G.Guest.stays; goes_on = g.met.G.Guest.goes_on } in
     let a = c.args in
     let core = a.cx.now.core.now in
-    let s = shape_of (types_of core) a.ty in
+    let s = shape_of (component_types core) a.ty in
     let low = c.linear_lower_to_flat in
     let words : c.flat_words.result ≡ flat s = c.flat_words.ensures ∙ ap (λ (x : Table). flat (shape_of x a.ty)) c.types.ensures in
     at_lowers L a.cx.now.options core low.new.cx.core.now s a.dst.now low.new.dst a.at.now (a.at.now + c.flat_words.result - a.at.now) (g.T.ComponentType.walks a.value.now)

@@ -1,5 +1,5 @@
 use Rattle.std.proofs.Common.{subst, sym}
-use Rattle.canon_context.specs.Core.{types_of}
+use Rattle.canon_context.specs.Core.{component_types}
 use Rattle.canon_types.specs.Depth.{variant_cases}
 use Rattle.canon_types.specs.Table.{shape_of}
 use Rattle.canon_types.specs.declared.types.InterfaceType.{InterfaceType}
@@ -16,5 +16,5 @@ returns-clause-put g c =
       shape = at.shape;
       known = at.known;
       fits = at.fits;
-      put = subst (λ (x : InterfaceType). IsCasePut core c.put_case-inner.new.cx.core.now (variant_cases (shape_of (types_of core) x)) c.args.offset c.args.tag c.put_case-inner.result) (sym c.in-Option.is) c.put_case-inner.ensures.put;
+      put = subst (λ (x : InterfaceType). IsCasePut core c.put_case-inner.new.cx.core.now (variant_cases (shape_of (component_types core) x)) c.args.offset c.args.tag c.put_case-inner.result) (sym c.in-Option.is) c.put_case-inner.ensures.put;
     }

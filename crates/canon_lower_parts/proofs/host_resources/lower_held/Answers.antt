@@ -1,6 +1,6 @@
 use Rattle.std.proofs.Common.{arith}
 use Rattle.canon_context.proofs.Moves.{GuestLaws}
-use Rattle.canon_context.specs.Core.{types_of}
+use Rattle.canon_context.specs.Core.{component_types}
 use Rattle.canon_lower_parts.proofs.HandleSteps.{handle_lowers, handle_refused, handle_shape, handle_words}
 use Rattle.canon_lower_parts.specs.Handles.{held_gives}
 use Rattle.canon_types.specs.Table.{shape_of}
@@ -15,10 +15,10 @@ returns-in-Ok-clause-lowers g c =
     let a = c.args in
     let core = a.cx.now.core.now in
     let (owned, r, shape) = handle_shape core.component.types a.ty c.requires.fits in
-    handle_lowers L a.cx.now.options core c.give_held.new.cx.core.now owned r (shape_of (types_of core) a.ty) shape c.memory-memory.ensures.small
+    handle_lowers L a.cx.now.options core c.give_held.new.cx.core.now owned r (shape_of (component_types core) a.ty) shape c.memory-memory.ensures.small
     a.dst.now
     (held_gives (g.R.HeldResource.kind a.resource.now) (g.R.HeldResource.state a.resource.now) (g.R.HeldResource.rep a.resource.now)
-    core.component.types (shape_of (types_of core) a.ty))
+    core.component.types (shape_of (component_types core) a.ty))
     c.in-Ok.number c.u32.result c.requires.words c.u32.ensures c.in-Ok.ensures.gives
 
 pub returns-in-Err-clause-lowers : goal.returns-in-Err-clause-lowers
@@ -27,8 +27,8 @@ returns-in-Err-clause-lowers g c =
     let a = c.args in
     let core = a.cx.now.core.now in
     let (owned, r, shape) = handle_shape core.component.types a.ty c.requires.fits in
-    handle_refused L a.cx.now.options core c.give_held.new.cx.core.now owned r (shape_of (types_of core) a.ty) shape c.memory-memory.ensures.small
+    handle_refused L a.cx.now.options core c.give_held.new.cx.core.now owned r (shape_of (component_types core) a.ty) shape c.memory-memory.ensures.small
     a.dst.now
     (held_gives (g.R.HeldResource.kind a.resource.now) (g.R.HeldResource.state a.resource.now) (g.R.HeldResource.rep a.resource.now)
-    core.component.types (shape_of (types_of core) a.ty))
+    core.component.types (shape_of (component_types core) a.ty))
     c.in-Err.fault c.in-Err.ensures.gives

@@ -1,6 +1,6 @@
 use Rattle.std.proofs.Common.{Ok, subst, ℕ}
 use Rattle.canon_context.proofs.Moves.{GuestLaws}
-use Rattle.canon_context.specs.Core.{types_of}
+use Rattle.canon_context.specs.Core.{component_types}
 use Rattle.canon_lower_parts.proofs.HandleSteps.{handle_shape, handle_stores, handle_unstored, number_room}
 use Rattle.canon_lower_parts.specs.Handles.{held_gives}
 use Rattle.canon_lower_parts.specs.Stores.{IsPut}
@@ -13,10 +13,10 @@ put-requires-clause-room g c =
     let a = c.args in
     let core = a.cx.now.core.now in
     let (owned, r, shape) = handle_shape core.component.types a.ty c.requires.fits in
-    number_room L a.cx.now.options core c.give_held.new.cx.core.now owned r (shape_of (types_of core) a.ty) shape c.memory-memory.ensures.small
+    number_room L a.cx.now.options core c.give_held.new.cx.core.now owned r (shape_of (component_types core) a.ty) shape c.memory-memory.ensures.small
     a.offset
     (held_gives (g.R.HeldResource.kind a.resource.now) (g.R.HeldResource.state a.resource.now) (g.R.HeldResource.rep a.resource.now)
-    core.component.types (shape_of (types_of core) a.ty))
+    core.component.types (shape_of (component_types core) a.ty))
     (Ok c.in-Ok.number) c.requires.room c.in-Ok.ensures.gives
 
 pub returns-in-Ok-clause-stores : goal.returns-in-Ok-clause-stores
@@ -25,10 +25,10 @@ returns-in-Ok-clause-stores g c =
     let a = c.args in
     let core = a.cx.now.core.now in
     let (owned, r, shape) = handle_shape core.component.types a.ty c.requires.fits in
-    handle_stores L a.cx.now.options core c.give_held.new.cx.core.now owned r (shape_of (types_of core) a.ty) shape c.memory-memory.ensures.small
+    handle_stores L a.cx.now.options core c.give_held.new.cx.core.now owned r (shape_of (component_types core) a.ty) shape c.memory-memory.ensures.small
     c.put.new.cx.core.now a.offset
     (held_gives (g.R.HeldResource.kind a.resource.now) (g.R.HeldResource.state a.resource.now) (g.R.HeldResource.rep a.resource.now)
-    core.component.types (shape_of (types_of core) a.ty))
+    core.component.types (shape_of (component_types core) a.ty))
     c.in-Ok.number c.requires.room c.in-Ok.ensures.gives (subst (λ (n : ℕ). IsPut c.give_held.new.cx.core.now c.put.new.cx.core.now a.offset n 4) c.from.ensures c.put.ensures.put)
 
 pub returns-in-Err-clause-stores : goal.returns-in-Err-clause-stores
@@ -37,8 +37,8 @@ returns-in-Err-clause-stores g c =
     let a = c.args in
     let core = a.cx.now.core.now in
     let (owned, r, shape) = handle_shape core.component.types a.ty c.requires.fits in
-    handle_unstored L a.cx.now.options core c.give_held.new.cx.core.now owned r (shape_of (types_of core) a.ty) shape c.memory-memory.ensures.small
+    handle_unstored L a.cx.now.options core c.give_held.new.cx.core.now owned r (shape_of (component_types core) a.ty) shape c.memory-memory.ensures.small
     a.offset
     (held_gives (g.R.HeldResource.kind a.resource.now) (g.R.HeldResource.state a.resource.now) (g.R.HeldResource.rep a.resource.now)
-    core.component.types (shape_of (types_of core) a.ty))
+    core.component.types (shape_of (component_types core) a.ty))
     c.in-Err.fault c.in-Err.ensures.gives

@@ -2,14 +2,14 @@ use Rattle.std.proofs.Common.{◌≡◌, ◌∙◌, arith, sym}
 use Rattle.canon_model.specs.Shape.{of_places, product}
 use Rattle.canon_types.specs.Table.{shape_of, tuple_members}
 use Rattle.canon_types.specs.declared.types.InterfaceType.TheVariants as ty
-use Rattle.canon_context.specs.Core.{types_of}
+use Rattle.canon_context.specs.Core.{component_types}
 use Rattle.canon_value_parts.proofs.Far.{far_many, far_words, near_few, near_words, tuple_shape_of_now}
 use Rattle.canon_value.proofs.args.lower_args_by_size.Given.{Over}
 use Rattle.canon_value.proofs.args.lower_args_by_size.Goals.{After-tuple}
 use Rattle.canon_value.proofs.args.lower_args_by_size.Goals as goal
 
-shape : (g : Over) (c : After-tuple g) → shape_of c.types.result.now (ty.Tuple c.args.ty) ≡ product of_places (tuple_members (types_of c.args.cx.now.core.now) c.args.ty)
-shape g c = tuple_shape_of_now (types_of c.args.cx.now.core.now) c.types.result.now c.args.ty c.tuple.result.now.types.items c.types.ensures c.tuple.ensures.entry c.tuple.ensures.types
+shape : (g : Over) (c : After-tuple g) → shape_of c.types.result.now (ty.Tuple c.args.ty) ≡ product of_places (tuple_members (component_types c.args.cx.now.core.now) c.args.ty)
+shape g c = tuple_shape_of_now (component_types c.args.cx.now.core.now) c.types.result.now c.args.ty c.tuple.result.now.types.items c.types.ensures c.tuple.ensures.entry c.tuple.ensures.types
 
 pub lower_args_near-requires-clause-near : goal.lower_args_near-requires-clause-near
 lower_args_near-requires-clause-near g c =

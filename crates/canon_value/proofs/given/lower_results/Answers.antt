@@ -1,6 +1,6 @@
 use Rattle.std.proofs.Common.{refl}
 use Rattle.canon_context.proofs.Moves.{GuestLaws}
-use Rattle.canon_context.specs.Core.{encoding_by, guest_of, moment_of, types_of}
+use Rattle.canon_context.specs.Core.{encoding_by, guest_of, moment_of, component_types}
 use Rattle.canon_context.specs.Quiet.{have_block, have_handle}
 use Rattle.canon_types.specs.Table.{tuple_members}
 use Rattle.canon_value_parts.proofs.Crossing.{crossed, quiet_but, told_blames, told_moves}
@@ -19,7 +19,7 @@ returns-in-Err-clause-lowered g c =
     let a = c.args in
     let core = a.cx.now.core.now in
     let by = c.lower_results_by_size in
-    let ms = tuple_members (types_of core) a.ty in
+    let ms = tuple_members (component_types core) a.ty in
     let h = c.in-Err.ensures.lowered in
     crossed core.component.types (have_handle ms) (all_passes ms a.results.now) (no_row_passes ms a.results.now) core.ledger by.new.cx.core.now.ledger c.in-Err.fault h.passed
     (λ hs ending. LowersResults (moment_of g.G.Guest.seen core) (moment_of g.G.Guest.seen by.new.cx.core.now) (encoding_by core a.cx.now.options) ms (HaveTrees ms a.results.now) a.at by.new.dst hs ending)
@@ -29,7 +29,7 @@ pub returns-in-Err-clause-cause : goal.returns-in-Err-clause-cause
 returns-in-Err-clause-cause g c =
     let a = c.args in
     let core = a.cx.now.core.now in
-    told_blames (encoding_by core a.cx.now.options) (λ how k. MemberFails how (tuple_members (types_of core) a.ty) a.results.now k) 0 c.in-Err.fault c.told.result c.told.ensures c.in-Err.ensures.cause
+    told_blames (encoding_by core a.cx.now.options) (λ how k. MemberFails how (tuple_members (component_types core) a.ty) a.results.now k) 0 c.in-Err.fault c.told.result c.told.ensures c.in-Err.ensures.cause
 
 pub returns-in-Err-clause-moves : goal.returns-in-Err-clause-moves
 returns-in-Err-clause-moves g c =
@@ -46,7 +46,7 @@ pub returns-in-Err-clause-quiet : goal.returns-in-Err-clause-quiet
 returns-in-Err-clause-quiet g c =
     let a = c.args in
     let core = a.cx.now.core.now in
-    let ms = tuple_members (types_of core) a.ty in
+    let ms = tuple_members (component_types core) a.ty in
     let h = c.in-Err.ensures in
     quiet_but core.component.types (have_handle ms) (all_passes ms a.results.now) (no_row_passes ms a.results.now) core.ledger c.lower_results_by_size.new.cx.core.now.ledger c.in-Err.fault h.lowered.passed (have_block ms) _
     c.told.result c.told.ensures h.quiet
@@ -55,7 +55,7 @@ pub returns-in-Err-clause-quiet_near : goal.returns-in-Err-clause-quiet_near
 returns-in-Err-clause-quiet_near g c =
     let a = c.args in
     let core = a.cx.now.core.now in
-    let ms = tuple_members (types_of core) a.ty in
+    let ms = tuple_members (component_types core) a.ty in
     let h = c.in-Err.ensures in
     λ near. quiet_but core.component.types (have_handle ms) (all_passes ms a.results.now) (no_row_passes ms a.results.now) core.ledger c.lower_results_by_size.new.cx.core.now.ledger c.in-Err.fault h.lowered.passed (have_block ms) _
     c.told.result c.told.ensures (h.quiet_near near)

@@ -1,7 +1,7 @@
 use Rattle.std.proofs.Common.{ap, arith, false, inl, inr, length, refl, subst, ◌%◌, ◌∙◌, ◌≡◌, ℕ}
 use Rattle.std.proofs.lemmas.List.{get_or_default}
 use Rattle.std.specs.Prelude.{slice_index}
-use Rattle.canon_context.specs.Core.{types_of}
+use Rattle.canon_context.specs.Core.{component_types}
 use Rattle.canon_context.specs.declared.component.Component.{Component}
 use Rattle.canon_model.specs.Layout.{members_align, size}
 use Rattle.canon_model.specs.Memory.{low}
@@ -14,14 +14,14 @@ use Rattle.canon_value.proofs.given.results_area.Given.{Over}
 use Rattle.canon_value.proofs.given.results_area.Goals.{After-from}
 use Rattle.canon_value.proofs.given.results_area.Goals as goal
 
-shape : (g : Over) (c : After-from g) → shape_of c.types.result.now (ty.Tuple c.args.ty) ≡ product of_places (tuple_members (types_of c.args.core.now) c.args.ty)
-shape g c = tuple_shape_of_now (types_of c.args.core.now) c.types.result.now c.args.ty c.tuple-tuple.result.now.types.items (c.types.ensures ∙ ap (λ (x : Component). x.types.types) c.component.ensures.component) c.tuple-tuple.ensures.entry c.tuple-tuple.ensures.types
+shape : (g : Over) (c : After-from g) → shape_of c.types.result.now (ty.Tuple c.args.ty) ≡ product of_places (tuple_members (component_types c.args.core.now) c.args.ty)
+shape g c = tuple_shape_of_now (component_types c.args.core.now) c.types.result.now c.args.ty c.tuple-tuple.result.now.types.items (c.types.ensures ∙ ap (λ (x : Component). x.types.types) c.component.ensures.component) c.tuple-tuple.ensures.entry c.tuple-tuple.ensures.types
 
 -- what the word says, and the tuple's numbers
 record IsRead (g : Over) (c : After-from g) : Type 0 where
   is : c.from-at.result ≡ low (slice_index c.args.words.now c.args.word)
-  by_align : c.from.result ≡ members_align false (tuple_members (types_of c.args.core.now) c.args.ty)
-  by_size : c.tuple-tuple.result.now.abi.size32 ≡ size false (product of_places (tuple_members (types_of c.args.core.now) c.args.ty))
+  by_align : c.from.result ≡ members_align false (tuple_members (component_types c.args.core.now) c.args.ty)
+  by_size : c.tuple-tuple.result.now.abi.size32 ≡ size false (product of_places (tuple_members (component_types c.args.core.now) c.args.ty))
 
 read : (g : Over) (c : After-from g) → IsRead g c
 read g c =
@@ -35,13 +35,13 @@ read g c =
 pub returns-then-at-from-ne0-clause-err : goal.returns-then-at-from-ne0-clause-err
 returns-then-at-from-ne0-clause-err g c =
     let h = read g (goal.at.returns-then-at-from-ne0-clause-err g c).After-from in
-    inl (refl, subst (λ (p : ℕ). ¬ (p % members_align false (tuple_members (types_of c.args.core.now) c.args.ty) ≡ 0)) h.is (subst (λ (n : ℕ). ¬ (c.from-at.result % n ≡ 0)) h.by_align c.if-at-from-ne0.true))
+    inl (refl, subst (λ (p : ℕ). ¬ (p % members_align false (tuple_members (component_types c.args.core.now) c.args.ty) ≡ 0)) h.is (subst (λ (n : ℕ). ¬ (c.from-at.result % n ≡ 0)) h.by_align c.if-at-from-ne0.true))
 
 pub returns-then-at-from-clause-err : goal.returns-then-at-from-clause-err
 returns-then-at-from-clause-err g c =
     let h = read g (goal.at.returns-then-at-from-clause-err g c).After-from in
     let bytes = c.args.core.now.memory in
-    let aligned = subst (λ (p : ℕ). p % members_align false (tuple_members (types_of c.args.core.now) c.args.ty) ≡ 0) h.is (subst (λ (n : ℕ). c.from-at.result % n ≡ 0) h.by_align c.if-at-from-ne0.false) in
+    let aligned = subst (λ (p : ℕ). p % members_align false (tuple_members (component_types c.args.core.now) c.args.ty) ≡ 0) h.is (subst (λ (n : ℕ). c.from-at.result % n ≡ 0) h.by_align c.if-at-from-ne0.false) in
     let count : length c.memory.result.now ≡ length bytes = ap length c.memory.ensures.memory in
     inr (refl, aligned, omega (arith, c.if-at-from.true, h.is, h.by_size, c.from-2.ensures, c.len.ensures.count, count))
 

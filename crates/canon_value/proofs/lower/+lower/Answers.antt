@@ -9,7 +9,7 @@ use Rattle.canon_value_parts.proofs.HandleLifting.{handle_shape}
 use Rattle.canon_value_parts.proofs.HandleSteps.{handle_flat}
 use Rattle.canon_val.specs.declared.val.Val.{Val}
 use Rattle.canon_val.specs.declared.val.Val.TheVariants as val
-use Rattle.canon_context.specs.Core.{types_of, encoding_by}
+use Rattle.canon_context.specs.Core.{component_types, encoding_by}
 use Rattle.canon_value_parts.specs.Elements.{element_in}
 use Rattle.canon_value_parts.specs.View.{IsMember, names_of, shapes_of, values_of}
 use Rattle.canon_value_parts.specs.Words.{LowersTo, PartsLowerTo}
@@ -34,7 +34,7 @@ use Rattle.canon_value.proofs.lower.+lower.Goals as goal
 
 -- the member by the table of the start
 here : (g : Over) (t0 : ℕ) (c : lower_parts-After-member_of-member g t0)
-    → IsMember (types_of c.args.cx.now.core.now) (shapes_of (types_of c.args.cx.now.core.now) c.args.members.now) (names_of c.args.members.now) (values_of c.args.members.now) c.loop-k.k c.member_of-member.result
+    → IsMember (component_types c.args.cx.now.core.now) (shapes_of (component_types c.args.cx.now.core.now) c.args.members.now) (names_of c.args.members.now) (values_of c.args.members.now) c.loop-k.k c.member_of-member.result
 here g t0 c =
     let ms = c.args.members.now in
     subst (λ (x : Table). IsMember x (shapes_of x ms) (names_of ms) (values_of ms) c.loop-k.k c.member_of-member.result)
@@ -53,9 +53,9 @@ lower_parts-lower_value-requires g t0 c =
     let L : GuestLaws _ = record { seen = g.G.Guest.seen; moves = g.G.Guest.moves; stays = g.met.G.Guest.stays; goes_on = g.met.G.Guest.goes_on } in
     let is = here g t0 (goal.at.lower_parts-lower_value-requires g t0 c).After-member_of-member in
     let fit = has_room L _ _ _ _ _ _ _ _ _ _ _ _ c.loop-k.invariant.lowered m is in
-    let shallow = member_shallow (shapes_of (types_of core) c.args.members.now) c.loop-k.k is.name (shape_of (types_of core) m.ty) _ is.shapes in
-    let same : depth (shape_of (types_of c.loop-k.cx.core.now) m.ty) ≡ depth (shape_of (types_of core) m.ty) = ap (λ (x : Table). depth (shape_of x m.ty)) (handles_types core c.loop-k.cx.core.now c.loop-k.invariant.lowered.same) in
-    let falls : 4 * depth (shape_of (types_of c.loop-k.cx.core.now) m.ty) < 4 * deepest (shapes_of (types_of core) c.args.members.now) + 1 = omega (arith, shallow, same) in
+    let shallow = member_shallow (shapes_of (component_types core) c.args.members.now) c.loop-k.k is.name (shape_of (component_types core) m.ty) _ is.shapes in
+    let same : depth (shape_of (component_types c.loop-k.cx.core.now) m.ty) ≡ depth (shape_of (component_types core) m.ty) = ap (λ (x : Table). depth (shape_of x m.ty)) (handles_types core c.loop-k.cx.core.now c.loop-k.invariant.lowered.same) in
+    let falls : 4 * depth (shape_of (component_types c.loop-k.cx.core.now) m.ty) < 4 * deepest (shapes_of (component_types core) c.args.members.now) + 1 = omega (arith, shallow, same) in
     λ κs sub. (search (rules, the_lemmas, falls), (sub.0, (sub.1, (fit.known, (fit.small, fit.room)))))
 
 pub lower_parts-returns-in-Err-clause-lowers : goal.lower_parts-returns-in-Err-clause-lowers
@@ -94,13 +94,13 @@ lower_value-lower_text-requires-clause-room g t0 c =
 pub lower_value-lower_handle-requires-clause-known : goal.lower_value-lower_handle-requires-clause-known
 lower_value-lower_handle-requires-clause-known g t0 c =
     let seen = rw c.in-Ok-Handle.field-0-is at (rw c.types.ensures at c.in-Ok-Handle.ensures) in
-    subst (λ (y : InterfaceType). Knows (types_of c.args.cx.now.core.now) y) seen.0 c.requires.known
+    subst (λ (y : InterfaceType). Knows (component_types c.args.cx.now.core.now) y) seen.0 c.requires.known
 
 pub lower_value-lower_handle-requires-clause-room : goal.lower_value-lower_handle-requires-clause-room
 lower_value-lower_handle-requires-clause-room g t0 c =
     let seen = rw c.in-Ok-Handle.field-0-is at (rw c.types.ensures at c.in-Ok-Handle.ensures) in
     let h = c.in-Ok-Handle.handle in
-    omega (arith, c.requires.room, ap flat (handle_shape (types_of c.args.cx.now.core.now) c.args.ty h seen.0), handle_flat h.owned h.resource)
+    omega (arith, c.requires.room, ap flat (handle_shape (component_types c.args.cx.now.core.now) c.args.ty h seen.0), handle_flat h.owned h.resource)
 
 pub lower_value-returns-in-Ok-Handle-clause-lowers : goal.lower_value-returns-in-Ok-Handle-clause-lowers
 lower_value-returns-in-Ok-Handle-clause-lowers g t0 c =
@@ -110,17 +110,17 @@ lower_value-returns-in-Ok-Handle-clause-lowers g t0 c =
     let low = c.lower_handle in
     let L : GuestLaws _ = record { seen = g.G.Guest.seen; moves = g.G.Guest.moves; stays = g.met.G.Guest.stays; goes_on = g.met.G.Guest.goes_on } in
     let seen = rw c.in-Ok-Handle.field-0-is at (rw c.types.ensures at c.in-Ok-Handle.ensures) in
-    subst (λ (v : Val). LowersTo L.seen L.moves a.cx.now.options core low.new.cx.core.now a.dst.now low.new.dst a.from low.result (shape_of (types_of core) a.ty) v) (sym seen.1)
-    (subst (λ (s : Shape). LowersTo L.seen L.moves a.cx.now.options core low.new.cx.core.now a.dst.now low.new.dst a.from low.result s (val.Resource c.in-Ok-Handle.resource)) (sym (handle_shape (types_of core) a.ty h seen.0)) low.ensures.lowers)
+    subst (λ (v : Val). LowersTo L.seen L.moves a.cx.now.options core low.new.cx.core.now a.dst.now low.new.dst a.from low.result (shape_of (component_types core) a.ty) v) (sym seen.1)
+    (subst (λ (s : Shape). LowersTo L.seen L.moves a.cx.now.options core low.new.cx.core.now a.dst.now low.new.dst a.from low.result s (val.Resource c.in-Ok-Handle.resource)) (sym (handle_shape (component_types core) a.ty h seen.0)) low.ensures.lowers)
 
 pub lower_value-lower_list-requires-clause-room : goal.lower_value-lower_list-requires-clause-room
 lower_value-lower_list-requires-clause-room g t0 c =
     let (known, shape, is) = rw c.in-Ok-List.field-0-is at (rw c.types.ensures at c.in-Ok-List.ensures) in
-    omega (arith, c.requires.room, ap flat shape, (row (types_of c.args.cx.now.core.now) (element_in c.in-Ok-List.list) known 0).words)
+    omega (arith, c.requires.room, ap flat shape, (row (component_types c.args.cx.now.core.now) (element_in c.in-Ok-List.list) known 0).words)
 
 pub lower_value-lower_parts-requires : goal.lower_value-lower_parts-requires
 lower_value-lower_parts-requires g t0 c =
-    let t = types_of c.args.cx.now.core.now in
+    let t = component_types c.args.cx.now.core.now in
     let (known, lies, has, count) = rw c.in-Ok-Members.field-0-is at (rw c.types.ensures at c.in-Ok-Members.ensures) in
     let ms = shapes_of t c.in-Ok-Members.members in
     let s = shape_of t c.args.ty in
@@ -134,7 +134,7 @@ pub lower_value-returns-in-Ok-Members-clause-lowers : goal.lower_value-returns-i
 lower_value-returns-in-Ok-Members-clause-lowers g t0 c =
     let a = c.args in
     let core = a.cx.now.core.now in
-    let t = types_of core in
+    let t = component_types core in
     let L : GuestLaws _ = record { seen = g.G.Guest.seen; moves = g.G.Guest.moves; stays = g.met.G.Guest.stays; goes_on = g.met.G.Guest.goes_on } in
     let seen = rw c.in-Ok-Members.field-0-is at (rw c.types.ensures at c.in-Ok-Members.ensures) in
     let (known, lies, has, count) = seen in
@@ -145,7 +145,7 @@ lower_value-returns-in-Ok-Members-clause-lowers g t0 c =
 
 pub lower_value-lower_case-requires : goal.lower_value-lower_case-requires
 lower_value-lower_case-requires g t0 c =
-    let t = types_of c.args.cx.now.core.now in
+    let t = component_types c.args.cx.now.core.now in
     let seen = rw c.in-Ok-Case.field-0-is at (rw c.types.ensures at c.in-Ok-Case.ensures) in
     let wants = case_wants t (shape_of t c.args.ty) c.args.value.now c.in-Ok-Case.case 0 seen in
     let falls : 4 * deepest (shapes_of t c.in-Ok-Case.case.payload) + 2 < 4 * depth (shape_of t c.args.ty) = wants.falls in
@@ -157,7 +157,7 @@ lower_value-returns-in-Err-clause-lowers g t0 c =
     let core = a.cx.now.core.now in
     let L : GuestLaws _ = record { seen = g.G.Guest.seen; moves = g.G.Guest.moves; stays = g.met.G.Guest.stays; goes_on = g.met.G.Guest.goes_on } in
     let (is, blames) = rw c.types.ensures at c.in-Err.ensures in
-    value_refused L a.cx.now.options core a.dst.now a.from (shape_of (types_of core) a.ty) a.value.now c.in-Err.fault c.requires.small is (blames (encoding_by core a.cx.now.options))
+    value_refused L a.cx.now.options core a.dst.now a.from (shape_of (component_types core) a.ty) a.value.now c.in-Err.fault c.requires.small is (blames (encoding_by core a.cx.now.options))
 
 -- ---- a case
 
@@ -168,7 +168,7 @@ lower_case-word_after-end-requires g t0 c = record {
 }
 
 pub lower_case-bounds-dst-from : goal.lower_case-bounds-dst-from
-lower_case-bounds-dst-from g t0 c = omega (arith, c.requires.room, case_room (types_of c.args.cx.now.core.now) (shape_of (types_of c.args.cx.now.core.now) c.args.ty.now) c.args.value.now c.args.case.now c.requires.seen)
+lower_case-bounds-dst-from g t0 c = omega (arith, c.requires.room, case_room (component_types c.args.cx.now.core.now) (shape_of (component_types c.args.cx.now.core.now) c.args.ty.now) c.args.value.now c.args.case.now c.requires.seen)
 
 pub lower_case-behind_tag-requires : goal.lower_case-behind_tag-requires
 lower_case-behind_tag-requires g t0 c =
@@ -177,13 +177,13 @@ lower_case-behind_tag-requires g t0 c =
       c.word_after-end.ensures,
       c.word_after-end.type_inv,
       ap (λ (x : Table). flat (shape_of x c.args.ty.now)) c.types.ensures,
-      case_room (types_of c.args.cx.now.core.now)
-          (shape_of (types_of c.args.cx.now.core.now) c.args.ty.now) c.args.value.now c.args.case.now c.requires.seen,
+      case_room (component_types c.args.cx.now.core.now)
+          (shape_of (component_types c.args.cx.now.core.now) c.args.ty.now) c.args.value.now c.args.case.now c.requires.seen,
     )
 
 pub lower_case-lower_parts-requires : goal.lower_case-lower_parts-requires
 lower_case-lower_parts-requires g t0 c =
-    let t = types_of c.args.cx.now.core.now in
+    let t = component_types c.args.cx.now.core.now in
     let s = shape_of t c.args.ty.now in
     let wants = case_wants t s c.args.value.now c.args.case.now 0 c.requires.seen in
     let room = case_room t s c.args.value.now c.args.case.now c.requires.seen in
@@ -204,7 +204,7 @@ lower_case-lower_parts-requires g t0 c =
 
 pub lower_case-clear_to-requires : goal.lower_case-clear_to-requires
 lower_case-clear_to-requires g t0 c =
-    let t = types_of c.args.cx.now.core.now in
+    let t = component_types c.args.cx.now.core.now in
     let h = c.in-Ok.ensures.lowers in
     let words = ap (λ (x : Table). flat (shape_of x c.args.ty.now)) c.types.ensures in
     record {
@@ -216,7 +216,7 @@ pub lower_case-returns-in-Ok-clause-lowers : goal.lower_case-returns-in-Ok-claus
 lower_case-returns-in-Ok-clause-lowers g t0 c =
     let a = c.args in
     let core = a.cx.now.core.now in
-    let t = types_of core in
+    let t = component_types core in
     let s = shape_of t a.ty.now in
     let L : GuestLaws _ = record { seen = g.G.Guest.seen; moves = g.G.Guest.moves; stays = g.met.G.Guest.stays; goes_on = g.met.G.Guest.goes_on } in
     let end : c.word_after-end.result ≡ a.from.word + flat s = c.word_after-end.ensures ∙ ap (λ (x : Table). a.from.word + flat (shape_of x a.ty.now)) c.types.ensures in
@@ -228,7 +228,7 @@ pub lower_case-returns-in-Err-clause-lowers : goal.lower_case-returns-in-Err-cla
 lower_case-returns-in-Err-clause-lowers g t0 c =
     let a = c.args in
     let core = a.cx.now.core.now in
-    let t = types_of core in
+    let t = component_types core in
     let L : GuestLaws _ = record { seen = g.G.Guest.seen; moves = g.G.Guest.moves; stays = g.met.G.Guest.stays; goes_on = g.met.G.Guest.goes_on } in
     case_stopped L a.cx.now.options t core c.lower_parts.new.cx.core.now a.dst.now (set a.dst.now a.from.word c.u32.result) c.lower_parts.new.dst a.from c.behind_tag.result (shape_of t a.ty.now) a.case.now a.value.now c.requires.seen
     (ap (set a.dst.now a.from.word) c.u32.ensures) c.behind_tag.ensures (case_passes t a.ty.now a.value.now a.case.now c.requires.seen) c.in-Err.fault c.in-Err.ensures.lowers

@@ -1,6 +1,6 @@
 use Rattle.std.proofs.Common.{false, refl}
 use Rattle.canon_context.proofs.Moves.{GuestLaws}
-use Rattle.canon_context.specs.Core.{encoding_by, guest_of, moment_of, types_of}
+use Rattle.canon_context.specs.Core.{encoding_by, guest_of, moment_of, component_types}
 use Rattle.canon_context.specs.Quiet.{has_block, has_handle}
 use Rattle.canon_lowering.specs.Attempt.{LowersValue}
 use Rattle.canon_types.specs.Table.{shape_of}
@@ -19,7 +19,7 @@ returns-in-Err-clause-lowered g c =
     let a = c.args in
     let core = a.cx.now.core.now in
     let now = c.lower_value.new.cx.core.now in
-    let s = shape_of (types_of core) a.ty in
+    let s = shape_of (component_types core) a.ty in
     let h = c.in-Err.ensures.lowers in
     crossed core.component.types (has_handle s) (passes a.value.now s) (no_passes s a.value.now) core.ledger now.ledger c.in-Err.fault h.handed
     (λ hs ending. LowersValue false (moment_of g.G.Guest.seen core) (moment_of g.G.Guest.seen now) (encoding_by core a.cx.now.options) s c.lower_value.new.dst 0 (HasTree s a.value.now) hs ending)
@@ -29,14 +29,14 @@ pub returns-in-Err-clause-cause : goal.returns-in-Err-clause-cause
 returns-in-Err-clause-cause g c =
     let a = c.args in
     let core = a.cx.now.core.now in
-    told_blames (encoding_by core a.cx.now.options) (λ how k. FailsAt how (shape_of (types_of core) a.ty) a.value.now k) 0 c.in-Err.fault c.told.result c.told.ensures c.in-Err.ensures.lowers.counted
+    told_blames (encoding_by core a.cx.now.options) (λ how k. FailsAt how (shape_of (component_types core) a.ty) a.value.now k) 0 c.in-Err.fault c.told.result c.told.ensures c.in-Err.ensures.lowers.counted
 
 pub returns-in-Err-clause-quiet : goal.returns-in-Err-clause-quiet
 returns-in-Err-clause-quiet g c =
     let a = c.args in
     let core = a.cx.now.core.now in
     let now = c.lower_value.new.cx.core.now in
-    let s = shape_of (types_of core) a.ty in
+    let s = shape_of (component_types core) a.ty in
     let h = c.in-Err.ensures.lowers in
     quiet_but core.component.types (has_handle s) (passes a.value.now s) (no_passes s a.value.now) core.ledger now.ledger c.in-Err.fault h.handed (has_block s) _ c.told.result c.told.ensures h.quiet
 

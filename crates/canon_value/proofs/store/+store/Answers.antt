@@ -12,7 +12,7 @@ use Rattle.canon_value_parts.proofs.HandleLifting.{handle_shape}
 use Rattle.canon_value_parts.proofs.HandleSteps.{handle_size}
 use Rattle.canon_val.specs.declared.val.Val.{Val}
 use Rattle.canon_val.specs.declared.val.Val.TheVariants as val
-use Rattle.canon_context.specs.Core.{Parts, types_of, encoding_by}
+use Rattle.canon_context.specs.Core.{Parts, component_types, encoding_by}
 use Rattle.canon_context.specs.Asks.{AsksFor}
 use Rattle.canon_value_parts.specs.Stores.{PartsStoreTo, StoresTo}
 use Rattle.canon_lowering.specs.Attempt.{items_call}
@@ -40,15 +40,15 @@ use Rattle.canon_value.proofs.store.+store.Goals as goal
 
 -- the member by the table of the start
 here : (g : Over) (t0 : ℕ) (c : store_parts-After-member_of-member g t0)
-    → IsMember (types_of c.args.cx.now.core.now) (shapes_of (types_of c.args.cx.now.core.now) c.args.members.now) (names_of c.args.members.now) (values_of c.args.members.now) c.loop-k.k c.member_of-member.result
+    → IsMember (component_types c.args.cx.now.core.now) (shapes_of (component_types c.args.cx.now.core.now) c.args.members.now) (names_of c.args.members.now) (values_of c.args.members.now) c.loop-k.k c.member_of-member.result
 here g t0 c =
     let ms = c.args.members.now in
     subst (λ (x : Table). IsMember x (shapes_of x ms) (names_of ms) (values_of ms) c.loop-k.k c.member_of-member.result)
     (c.types-types.ensures ∙ handles_types c.args.cx.now.core.now c.loop-k.cx.core.now c.loop-k.invariant.stored.same) c.member_of-member.ensures
 
 -- where it begins, and where it ends
-begins_at : (g : Over) (t0 : ℕ) (c : store_parts-After-next_field32_size-start g t0) → c.next_field32_size-start.result ≡ begins false c.loop-k.end (shape_of (types_of c.args.cx.now.core.now) c.member_of-member.result.ty)
-begins_at g t0 c = c.next_field32_size-start.ensures.start ∙ begins_here (types_of c.args.cx.now.core.now) c.types-types.result.now c.member_of-member.result.ty c.canonical_abi.result.now c.loop-k.end
+begins_at : (g : Over) (t0 : ℕ) (c : store_parts-After-next_field32_size-start g t0) → c.next_field32_size-start.result ≡ begins false c.loop-k.end (shape_of (component_types c.args.cx.now.core.now) c.member_of-member.result.ty)
+begins_at g t0 c = c.next_field32_size-start.ensures.start ∙ begins_here (component_types c.args.cx.now.core.now) c.types-types.result.now c.member_of-member.result.ty c.canonical_abi.result.now c.loop-k.end
     (c.types-types.ensures ∙ handles_types c.args.cx.now.core.now c.loop-k.cx.core.now c.loop-k.invariant.stored.same) c.canonical_abi.ensures
 
 pub store_parts-returns-then-not-member-clause-stores : goal.store_parts-returns-then-not-member-clause-stores
@@ -66,7 +66,7 @@ store_parts-next_field32_size-start-requires g t0 c =
       fits = omega (
         arith,
         fit.fits,
-        ends_here (types_of core) c.types-types.result.now c.member_of-member.result.ty c.canonical_abi.result.now c.loop-k.end
+        ends_here (component_types core) c.types-types.result.now c.member_of-member.result.ty c.canonical_abi.result.now c.loop-k.end
             (c.types-types.ensures ∙ handles_types core c.loop-k.cx.core.now c.loop-k.invariant.stored.same) c.canonical_abi.ensures,
       );
     }
@@ -88,9 +88,9 @@ store_parts-store_value-requires g t0 c =
     let is = here g t0 at.After-member_of-member in
     let fit = stands L _ _ _ _ _ _ _ _ _ _ _ _ c.loop-k.invariant.stored m is in
     let start = begins_at g t0 at.After-next_field32_size-start in
-    let shallow = member_shallow (shapes_of (types_of core) c.args.members.now) c.loop-k.k is.name (shape_of (types_of core) m.ty) _ is.shapes in
-    let same : depth (shape_of (types_of c.loop-k.cx.core.now) m.ty) ≡ depth (shape_of (types_of core) m.ty) = ap (λ (x : Table). depth (shape_of x m.ty)) (handles_types core c.loop-k.cx.core.now c.loop-k.invariant.stored.same) in
-    let falls : 4 * depth (shape_of (types_of c.loop-k.cx.core.now) m.ty) < 4 * deepest (shapes_of (types_of core) c.args.members.now) + 1 = omega (arith, shallow, same) in
+    let shallow = member_shallow (shapes_of (component_types core) c.args.members.now) c.loop-k.k is.name (shape_of (component_types core) m.ty) _ is.shapes in
+    let same : depth (shape_of (component_types c.loop-k.cx.core.now) m.ty) ≡ depth (shape_of (component_types core) m.ty) = ap (λ (x : Table). depth (shape_of x m.ty)) (handles_types core c.loop-k.cx.core.now c.loop-k.invariant.stored.same) in
+    let falls : 4 * depth (shape_of (component_types c.loop-k.cx.core.now) m.ty) < 4 * deepest (shapes_of (component_types core) c.args.members.now) + 1 = omega (arith, shallow, same) in
     λ κs sub. (search (rules, the_lemmas, falls), (sub.0, (sub.1, (fit.known, (fit.small, omega (arith, start, fit.room))))))
 
 pub store_parts-returns-in-Err-clause-stores : goal.store_parts-returns-in-Err-clause-stores
@@ -107,7 +107,7 @@ store_parts-loop-k-preserved g t0 c =
     let L : GuestLaws _ = record { seen = g.G.Guest.seen; moves = g.G.Guest.moves; stays = g.met.G.Guest.stays; goes_on = g.met.G.Guest.goes_on } in
     let at = goal.at.store_parts-loop-k-preserved g t0 c in
     let over =
-    c.next_field32_size-start.ensures.end ∙ ends_here (types_of core) c.types-types.result.now m.ty c.canonical_abi.result.now c.loop-k.end
+    c.next_field32_size-start.ensures.end ∙ ends_here (component_types core) c.types-types.result.now m.ty c.canonical_abi.result.now c.loop-k.end
     (c.types-types.ensures ∙ handles_types core c.loop-k.cx.core.now c.loop-k.invariant.stored.same) c.canonical_abi.ensures in
     record {
       stored = go_on L _ _ _ _ _ _ _ _ _ _ _ _ c.loop-k.invariant.stored m (here g t0 at.After-member_of-member)
@@ -127,15 +127,15 @@ store_parts-returns-clause-stores g t0 c =
 -- ---- a list
 
 -- what was asked for, said of the list
-asked_for : {T G : Type 0} → (L : GuestLaws G) (a b : Parts T G) (e e2 : Element) (n : ℕ) (r : Result ℕ Fault) → e2 ≡ e → AsksFor L.seen L.moves a b (items_call false (element_shape (list_shape (types_of a) e2)) n) r
-    → AsksFor L.seen L.moves a b (items_call false (element_shape (list_shape (types_of a) e)) n) r
-asked_for L a b e e2 n r ee h = subst (λ (x : Element). AsksFor L.seen L.moves a b (items_call false (element_shape (list_shape (types_of a) x)) n) r) ee h
+asked_for : {T G : Type 0} → (L : GuestLaws G) (a b : Parts T G) (e e2 : Element) (n : ℕ) (r : Result ℕ Fault) → e2 ≡ e → AsksFor L.seen L.moves a b (items_call false (element_shape (list_shape (component_types a) e2)) n) r
+    → AsksFor L.seen L.moves a b (items_call false (element_shape (list_shape (component_types a) e)) n) r
+asked_for L a b e e2 n r ee h = subst (λ (x : Element). AsksFor L.seen L.moves a b (items_call false (element_shape (list_shape (component_types a) x)) n) r) ee h
 
 pub place_list-returns-in_default-clause-places : goal.place_list-returns-in_default-clause-places
 place_list-returns-in_default-clause-places g t0 c =
     let a = c.args in
     let core = a.cx.now.core.now in
-    let t = types_of core in
+    let t = component_types core in
     let e = element_in a.list.now in
     let n = c.element_count-length.result in
     let L : GuestLaws _ = record { seen = g.G.Guest.seen; moves = g.G.Guest.moves; stays = g.met.G.Guest.stays; goes_on = g.met.G.Guest.goes_on } in
@@ -149,19 +149,19 @@ place_list-returns-in-Err-clause-places g t0 c =
     let core = a.cx.now.core.now in
     let L : GuestLaws _ = record { seen = g.G.Guest.seen; moves = g.G.Guest.moves; stays = g.met.G.Guest.stays; goes_on = g.met.G.Guest.goes_on } in
     let asked = asked_for L core c.ask_items.new.cx.core.now (element_in a.list.now) c.element_of-element.result c.element_count-length.result (Err c.in-Err.fault) c.element_of-element.ensures c.in-Err.ensures.asked in
-    list_refused _ _ _ _ _ (listed (types_of core) a.list.now c.requires.known) (listed_passes (types_of core) a.list.now c.requires.known)
+    list_refused _ _ _ _ _ (listed (component_types core) a.list.now c.requires.known) (listed_passes (component_types core) a.list.now c.requires.known)
     L a.cx.now.options core c.ask_items.new.cx.core.now a.place c.element_count-length.result c.in-Err.fault c.element_count-length.ensures asked
 
 pub place_list-store_parts-requires : goal.place_list-store_parts-requires
 place_list-store_parts-requires g t0 c =
     let a = c.args in
     let core = a.cx.now.core.now in
-    let t = types_of core in
+    let t = component_types core in
     let e = element_in a.list.now in
     let n = list_length a.list.now in
     let asked = c.ask_items.new.cx.core.now in
     let given = c.in-Ok.ensures.asked in
-    let now = types_of asked in
+    let now = component_types asked in
     let eT : now ≡ t = same_types core asked given.same in
     let known : IsKnown now e = subst (λ (x : Table). IsKnown x e) (sym eT) c.requires.known in
     let r = row now e known n in
@@ -178,11 +178,11 @@ pub place_list-returns-in-Ok-store_parts-clause-places : goal.place_list-returns
 place_list-returns-in-Ok-store_parts-clause-places g t0 c =
     let a = c.args in
     let core = a.cx.now.core.now in
-    let t = types_of core in
+    let t = component_types core in
     let e = element_in a.list.now in
     let k = c.element_count-length.result in
     let asked = c.ask_items.new.cx.core.now in
-    let now = types_of asked in
+    let now = component_types asked in
     let given = c.in-Ok.ensures in
     let L : GuestLaws _ = record { seen = g.G.Guest.seen; moves = g.G.Guest.moves; stays = g.met.G.Guest.stays; goes_on = g.met.G.Guest.goes_on } in
     let ask = asked_for L core asked e c.element_of-element.result k (Ok c.in-Ok.pointer) c.element_of-element.ensures given.asked in
@@ -198,11 +198,11 @@ pub place_list-returns-in-Err-store_parts-clause-places : goal.place_list-return
 place_list-returns-in-Err-store_parts-clause-places g t0 c =
     let a = c.args in
     let core = a.cx.now.core.now in
-    let t = types_of core in
+    let t = component_types core in
     let e = element_in a.list.now in
     let k = c.element_count-length.result in
     let asked = c.ask_items.new.cx.core.now in
-    let now = types_of asked in
+    let now = component_types asked in
     let given = c.in-Ok.ensures in
     let L : GuestLaws _ = record { seen = g.G.Guest.seen; moves = g.G.Guest.moves; stays = g.met.G.Guest.stays; goes_on = g.met.G.Guest.goes_on } in
     let ask = asked_for L core asked e c.element_of-element.result k (Ok c.in-Ok.pointer) c.element_of-element.ensures given.asked in
@@ -221,7 +221,7 @@ store_list-returns-in-Ok-clause-stores g t0 c =
     let placed = c.place_list.new.cx.core.now in
     let b = c.in-Ok.block in
     let there = c.in-Ok.ensures.places in
-    let l = listed (types_of core) a.list.now c.requires.known in
+    let l = listed (component_types core) a.list.now c.requires.known in
     let L : GuestLaws _ = record { seen = g.G.Guest.seen; moves = g.G.Guest.moves; stays = g.met.G.Guest.stays; goes_on = g.met.G.Guest.goes_on } in
     let pair : IsPair placed.memory c.put_pair.new.memory a.at b.pointer b.length = subst (λ (xs : List ℕ). IsPair xs c.put_pair.new.memory a.at b.pointer b.length) c.as_slice_mut.ensures.value c.put_pair.ensures in
     list_told L a.cx.now.options core placed c.put_pair.new.memory a.at _ a.place b (omega (arith, c.requires.room, there.lowered.lowering.goes.no_shorter)) there.lowered.lowering.small
@@ -230,7 +230,7 @@ store_list-returns-in-Ok-clause-stores g t0 c =
 pub store_list-returns-in-Err-clause-stores : goal.store_list-returns-in-Err-clause-stores
 store_list-returns-in-Err-clause-stores g t0 c =
     let a = c.args in
-    let t = types_of a.cx.now.core.now in
+    let t = component_types a.cx.now.core.now in
     let L : GuestLaws _ = record { seen = g.G.Guest.seen; moves = g.G.Guest.moves; stays = g.met.G.Guest.stays; goes_on = g.met.G.Guest.goes_on } in
     placed_stop L a.cx.now.options a.cx.now.core.now c.place_list.new.cx.core.now (list_shape t (element_in a.list.now)) a.at (list_value a.list.now) a.place c.in-Err.fault (row t (element_in a.list.now) c.requires.known 0).block
     c.in-Err.ensures.places
@@ -246,13 +246,13 @@ store_value-store_text-requires-clause-room g t0 c =
 pub store_value-store_handle-requires-clause-known : goal.store_value-store_handle-requires-clause-known
 store_value-store_handle-requires-clause-known g t0 c =
     let seen = rw c.in-Ok-Handle.field-0-is at (rw c.types.ensures at c.in-Ok-Handle.ensures) in
-    subst (λ (y : InterfaceType). Knows (types_of c.args.cx.now.core.now) y) seen.0 c.requires.known
+    subst (λ (y : InterfaceType). Knows (component_types c.args.cx.now.core.now) y) seen.0 c.requires.known
 
 pub store_value-store_handle-requires-clause-room : goal.store_value-store_handle-requires-clause-room
 store_value-store_handle-requires-clause-room g t0 c =
     let seen = rw c.in-Ok-Handle.field-0-is at (rw c.types.ensures at c.in-Ok-Handle.ensures) in
     let h = c.in-Ok-Handle.handle in
-    omega (arith, c.requires.room, ap (size false) (handle_shape (types_of c.args.cx.now.core.now) c.args.ty h seen.0), handle_size h.owned h.resource)
+    omega (arith, c.requires.room, ap (size false) (handle_shape (component_types c.args.cx.now.core.now) c.args.ty h seen.0), handle_size h.owned h.resource)
 
 pub store_value-returns-in-Ok-Handle-clause-stores : goal.store_value-returns-in-Ok-Handle-clause-stores
 store_value-returns-in-Ok-Handle-clause-stores g t0 c =
@@ -262,12 +262,12 @@ store_value-returns-in-Ok-Handle-clause-stores g t0 c =
     let now = c.store_handle.new.cx.core.now in
     let L : GuestLaws _ = record { seen = g.G.Guest.seen; moves = g.G.Guest.moves; stays = g.met.G.Guest.stays; goes_on = g.met.G.Guest.goes_on } in
     let seen = rw c.in-Ok-Handle.field-0-is at (rw c.types.ensures at c.in-Ok-Handle.ensures) in
-    subst (λ (v : Val). StoresTo L.seen L.moves a.cx.now.options core now (shape_of (types_of core) a.ty) a.at v a.place c.store_handle.result) (sym seen.1)
-    (subst (λ (s : Shape). StoresTo L.seen L.moves a.cx.now.options core now s a.at (val.Resource c.in-Ok-Handle.resource) a.place c.store_handle.result) (sym (handle_shape (types_of core) a.ty h seen.0)) c.store_handle.ensures.stores)
+    subst (λ (v : Val). StoresTo L.seen L.moves a.cx.now.options core now (shape_of (component_types core) a.ty) a.at v a.place c.store_handle.result) (sym seen.1)
+    (subst (λ (s : Shape). StoresTo L.seen L.moves a.cx.now.options core now s a.at (val.Resource c.in-Ok-Handle.resource) a.place c.store_handle.result) (sym (handle_shape (component_types core) a.ty h seen.0)) c.store_handle.ensures.stores)
 
 pub store_value-store_list-requires : goal.store_value-store_list-requires
 store_value-store_list-requires g t0 c =
-    let t = types_of c.args.cx.now.core.now in
+    let t = component_types c.args.cx.now.core.now in
     let (known, shape, is) = rw c.in-Ok-List.field-0-is at (rw c.types.ensures at c.in-Ok-List.ensures) in
     let e = element_in c.in-Ok-List.list in
     let r = row t e known 0 in
@@ -276,7 +276,7 @@ store_value-store_list-requires g t0 c =
 
 pub store_value-store_parts-requires : goal.store_value-store_parts-requires
 store_value-store_parts-requires g t0 c =
-    let t = types_of c.args.cx.now.core.now in
+    let t = component_types c.args.cx.now.core.now in
     let (known, lies, has, count) = rw c.in-Ok-Members.field-0-is at (rw c.types.ensures at c.in-Ok-Members.ensures) in
     let ms = shapes_of t c.in-Ok-Members.members in
     let falls : 4 * deepest ms + 1 < 4 * depth (shape_of t c.args.ty) = lies_depth (shape_of t c.args.ty) ms lies in
@@ -289,7 +289,7 @@ pub store_value-returns-in-Ok-Members-clause-stores : goal.store_value-returns-i
 store_value-returns-in-Ok-Members-clause-stores g t0 c =
     let a = c.args in
     let core = a.cx.now.core.now in
-    let t = types_of core in
+    let t = component_types core in
     let L : GuestLaws _ = record { seen = g.G.Guest.seen; moves = g.G.Guest.moves; stays = g.met.G.Guest.stays; goes_on = g.met.G.Guest.goes_on } in
     let seen = rw c.in-Ok-Members.field-0-is at (rw c.types.ensures at c.in-Ok-Members.ensures) in
     let (known, lies, has, count) = seen in
@@ -301,23 +301,23 @@ store_value-returns-in-Ok-Members-clause-stores g t0 c =
 pub store_value-overflow_add-inner : goal.store_value-overflow_add-inner
 store_value-overflow_add-inner g t0 c =
     let wants =
-    case_wants (types_of c.args.cx.now.core.now) (shape_of (types_of c.args.cx.now.core.now) c.args.ty) c.args.value.now c.in-Ok-Case.case c.args.at
+    case_wants (component_types c.args.cx.now.core.now) (shape_of (component_types c.args.cx.now.core.now) c.args.ty) c.args.value.now c.in-Ok-Case.case c.args.at
     (rw c.in-Ok-Case.field-0-is at (rw c.types.ensures at c.in-Ok-Case.ensures)) in
     omega (arith, wants.room, c.requires.room, c.requires.small, c.from.ensures)
 
 pub store_value-put_low_bytes-requires : goal.store_value-put_low_bytes-requires
 store_value-put_low_bytes-requires g t0 c =
     let wants =
-    case_wants (types_of c.args.cx.now.core.now) (shape_of (types_of c.args.cx.now.core.now) c.args.ty) c.args.value.now c.in-Ok-Case.case c.args.at
+    case_wants (component_types c.args.cx.now.core.now) (shape_of (component_types c.args.cx.now.core.now) c.args.ty) c.args.value.now c.in-Ok-Case.case c.args.at
     (rw c.in-Ok-Case.field-0-is at (rw c.types.ensures at c.in-Ok-Case.ensures)) in
     record { few = omega (arith, wants.few, c.byte_size-size.ensures); room = omega (arith, c.requires.room, wants.inside, c.byte_size-size.ensures, ap length c.as_slice_mut.ensures.value) }
 
 pub store_value-store_parts-requires-in-Ok-Case : goal.store_value-store_parts-requires-in-Ok-Case
 store_value-store_parts-requires-in-Ok-Case g t0 c =
     let core = c.args.cx.now.core.now in
-    let wants = case_wants (types_of core) (shape_of (types_of core) c.args.ty) c.args.value.now c.in-Ok-Case.case c.args.at (rw c.in-Ok-Case.field-0-is at (rw c.types.ensures at c.in-Ok-Case.ensures)) in
+    let wants = case_wants (component_types core) (shape_of (component_types core) c.args.ty) c.args.value.now c.in-Ok-Case.case c.args.at (rw c.in-Ok-Case.field-0-is at (rw c.types.ensures at c.in-Ok-Case.ensures)) in
     let long = written_length core.memory c.as_slice_mut.result.now c.put_low_bytes.new.memory _ c.as_slice_mut.ensures.value c.put_low_bytes.ensures.writes in
-    let falls : 4 * deepest (shapes_of (types_of core) c.in-Ok-Case.case.payload) + 1 < 4 * depth (shape_of (types_of core) c.args.ty) = omega (arith, wants.falls) in
+    let falls : 4 * deepest (shapes_of (component_types core) c.in-Ok-Case.case.payload) + 1 < 4 * depth (shape_of (component_types core) c.args.ty) = omega (arith, wants.falls) in
     λ κs sub. (search (rules, the_lemmas, falls), (sub.0, (sub.1, (wants.known, (wants.count, (omega (arith, long, c.requires.small), omega (arith, long, c.requires.room, wants.room, c.from.ensures)))))))
 
 pub store_value-returns-in-Ok-Case-clause-stores : goal.store_value-returns-in-Ok-Case-clause-stores
@@ -328,9 +328,9 @@ store_value-returns-in-Ok-Case-clause-stores g t0 c =
     let L : GuestLaws _ = record { seen = g.G.Guest.seen; moves = g.G.Guest.moves; stays = g.met.G.Guest.stays; goes_on = g.met.G.Guest.goes_on } in
     let put : num (narrow c.put_low_bytes.new.memory) a.at c.byte_size-size.result ≡ x.tag % 256 ^ c.byte_size-size.result = c.put_low_bytes.ensures.stored ∙ ap (λ (n : ℕ). n % 256 ^ c.byte_size-size.result) c.from-in-Ok-Case.ensures in
     let seen = rw c.in-Ok-Case.field-0-is at (rw c.types.ensures at c.in-Ok-Case.ensures) in
-    case_stored L a.cx.now.options (types_of core) core c.store_parts-in-Ok-Case.new.cx.core.now c.put_low_bytes.new.memory c.as_slice_mut.result.now (shape_of (types_of core) a.ty) a.at
+    case_stored L a.cx.now.options (component_types core) core c.store_parts-in-Ok-Case.new.cx.core.now c.put_low_bytes.new.memory c.as_slice_mut.result.now (shape_of (component_types core) a.ty) a.at
     c.byte_size-size.result (a.at + c.from.result) x a.value.now a.place
-    c.saturating_add-in-Ok-Case.result c.store_parts-in-Ok-Case.result c.requires.small c.requires.room seen (case_passes (types_of core) a.ty a.value.now x seen)
+    c.saturating_add-in-Ok-Case.result c.store_parts-in-Ok-Case.result c.requires.small c.requires.room seen (case_passes (component_types core) a.ty a.value.now x seen)
     c.byte_size-size.ensures (ap (λ (o : ℕ). a.at + o) c.from.ensures)
     c.as_slice_mut.ensures.value c.put_low_bytes.ensures.writes put c.saturating_add-in-Ok-Case.ensures c.store_parts-in-Ok-Case.ensures.stores
 
@@ -340,4 +340,4 @@ store_value-returns-in-Err-clause-stores g t0 c =
     let core = a.cx.now.core.now in
     let L : GuestLaws _ = record { seen = g.G.Guest.seen; moves = g.G.Guest.moves; stays = g.met.G.Guest.stays; goes_on = g.met.G.Guest.goes_on } in
     let (is, blames) = rw c.types.ensures at c.in-Err.ensures in
-    value_refused L a.cx.now.options core (shape_of (types_of core) a.ty) a.at a.value.now a.place c.in-Err.fault c.requires.small is (blames (encoding_by core a.cx.now.options))
+    value_refused L a.cx.now.options core (shape_of (component_types core) a.ty) a.at a.value.now a.place c.in-Err.fault c.requires.small is (blames (encoding_by core a.cx.now.options))

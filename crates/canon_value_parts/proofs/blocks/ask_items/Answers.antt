@@ -4,7 +4,7 @@ use Rattle.canon_memory.specs.Realloc.{call}
 use Rattle.canon_model.specs.Layout.{align}
 use Rattle.canon_model.specs.Requests.{Call}
 use Rattle.canon_types.specs.Depth.{element_shape}
-use Rattle.canon_context.specs.Core.{types_of}
+use Rattle.canon_context.specs.Core.{component_types}
 use Rattle.canon_plan.specs.Element.{list_shape}
 use Rattle.canon_context.specs.Asks.{AsksFor}
 use Rattle.canon_value_parts.proofs.Listing.{element_align}
@@ -13,7 +13,7 @@ use Rattle.canon_value_parts.proofs.blocks.ask_items.Goals as goal
 pub returns-clause-asked : goal.returns-clause-asked
 returns-clause-asked g c =
     let a = c.args in
-    let t = types_of a.cx.now.core.now in
+    let t = component_types a.cx.now.core.now in
     let e = a.element.now in
     let s = element_shape (list_shape t e) in
     let align_is = element_align t c.types.result.now e e c.element_abi.result.now c.types.ensures refl c.element_abi.ensures in

@@ -5,7 +5,7 @@ use Rattle.canon_model.specs.Requests.{Call}
 use Rattle.canon_model.specs.Shape.{of_places, product}
 use Rattle.canon_types.specs.Table.{shape_of, tuple_members}
 use Rattle.canon_types.specs.declared.types.InterfaceType.TheVariants as ty
-use Rattle.canon_context.specs.Core.{types_of}
+use Rattle.canon_context.specs.Core.{component_types}
 use Rattle.canon_context.specs.Asks.{AsksFor}
 use Rattle.canon_value_parts.proofs.Far.{tuple_call, tuple_shape_of_now}
 use Rattle.canon_value_parts.proofs.blocks.ask_tuple.Goals as goal
@@ -13,7 +13,7 @@ use Rattle.canon_value_parts.proofs.blocks.ask_tuple.Goals as goal
 pub returns-clause-asked : goal.returns-clause-asked
 returns-clause-asked g c =
     let a = c.args in
-    let t = types_of a.cx.now.core.now in
+    let t = component_types a.cx.now.core.now in
     let ms = tuple_members t a.ty in
     let shape : shape_of c.types.result.now (ty.Tuple a.ty) ≡ product of_places ms = tuple_shape_of_now t c.types.result.now a.ty c.tuple.result.now.types.items c.types.ensures c.tuple.ensures.entry c.tuple.ensures.types in
     let same : call 0 0 c.tuple.result.now.abi.align32 c.from.result ≡ args_call false ms =

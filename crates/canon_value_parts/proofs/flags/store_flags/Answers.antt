@@ -5,7 +5,7 @@ use Rattle.canon_model.specs.Shape.{Name, flags}
 use Rattle.canon_types.specs.Keeps.{names_of}
 use Rattle.canon_types.specs.Table.{Table, shape_of}
 use Rattle.canon_types.specs.declared.types.InterfaceType.TheVariants as ty
-use Rattle.canon_context.specs.Core.{Parts, types_of}
+use Rattle.canon_context.specs.Core.{Parts, component_types}
 use Rattle.canon_value_parts.specs.Flags.{flag_names}
 use Rattle.canon_value_parts.specs.Stores.{StoresTo}
 use Rattle.canon_val.specs.Value.{Occurs}
@@ -20,15 +20,15 @@ use Rattle.canon_value_parts.proofs.flags.store_flags.Given.{Over}
 use Rattle.canon_value_parts.proofs.flags.store_flags.Goals.{After-flags}
 use Rattle.canon_value_parts.proofs.flags.store_flags.Goals as goal
 
-bytes_many : (g : Over) (c : After-flags g) → c.flags.result.now.abi.size32 ≡ flags_size (length (flag_names (types_of c.args.cx.now.core.now) c.args.i))
-bytes_many g c = flags_bytes (types_of c.args.cx.now.core.now) c.types.result.now c.args.i c.flags.result.now c.types.ensures c.flags.ensures.entry c.flags.ensures.abi
+bytes_many : (g : Over) (c : After-flags g) → c.flags.result.now.abi.size32 ≡ flags_size (length (flag_names (component_types c.args.cx.now.core.now) c.args.i))
+bytes_many g c = flags_bytes (component_types c.args.cx.now.core.now) c.types.result.now c.args.i c.flags.result.now c.types.ensures c.flags.ensures.entry c.flags.ensures.abi
 
 bytes_room : (g : Over) (c : After-flags g) → c.args.at + c.flags.result.now.abi.size32 ≤ length c.args.cx.now.core.now.memory
 bytes_room g c =
-    let bytes : c.flags.result.now.abi.size32 ≡ size false (shape_of (types_of c.args.cx.now.core.now) (ty.Flags c.args.i)) = c.flags.ensures.abi.size ∙ ap (λ (t : Table). size false (shape_of t (ty.Flags c.args.i))) c.types.ensures in
+    let bytes : c.flags.result.now.abi.size32 ≡ size false (shape_of (component_types c.args.cx.now.core.now) (ty.Flags c.args.i)) = c.flags.ensures.abi.size ∙ ap (λ (t : Table). size false (shape_of t (ty.Flags c.args.i))) c.types.ensures in
     omega (arith, c.requires.room, bytes)
 
-its_shape : (g : Over) (c : After-flags g) → shape_of (types_of c.args.cx.now.core.now) (ty.Flags c.args.i) ≡ flags (flag_names (types_of c.args.cx.now.core.now) c.args.i)
+its_shape : (g : Over) (c : After-flags g) → shape_of (component_types c.args.cx.now.core.now) (ty.Flags c.args.i) ≡ flags (flag_names (component_types c.args.cx.now.core.now) c.args.i)
 its_shape g c = subst (λ (t : Table). shape_of t (ty.Flags c.args.i) ≡ flags (flag_names t c.args.i)) c.types.ensures (flags_are c.types.result.now c.args.i c.flags.result.now c.flags.ensures.entry)
 
 pub loop-name-init : goal.loop-name-init
@@ -49,11 +49,11 @@ returns-in_default-clause-stores g c =
     let core = a.cx.now.core.now in
     let L : GuestLaws _ = record { seen = g.G.Guest.seen; moves = g.G.Guest.moves; stays = g.met.G.Guest.stays; goes_on = g.met.G.Guest.goes_on } in
     let inv = c.loop-name.invariant in
-    let names = flag_names (types_of core) a.i in
+    let names = flag_names (component_types core) a.i in
     let same = same_names core c.loop-name.cx.core.now inv.same c.types-in-loop-name.result.now c.types-in-loop-name.ensures a.i in
     let other : Occurs (string_bytes c.name-item.result) names → ⊥ = subst (λ (ns : List Name). Occurs (string_bytes c.name-item.result) ns → ⊥) same (search (rules, c.in_default.ensures.none)) in
     let unknown = next_unknown a.set.now.items c.deref-name-items.result.now c.deref-name-items.ensures.value c.loop-name.name-index c.name-item.result (omega arith) c.name-item.is names other in
-    subst (λ (x : Parts _ _). StoresTo L.seen L.moves a.cx.now.options core x (shape_of (types_of core) (ty.Flags a.i)) a.at (val.Flags a.set.now) a.place (Err (fault.UnknownFlag a.place))) (sym inv.same)
+    subst (λ (x : Parts _ _). StoresTo L.seen L.moves a.cx.now.options core x (shape_of (component_types core) (ty.Flags a.i)) a.at (val.Flags a.set.now) a.place (Err (fault.UnknownFlag a.place))) (sym inv.same)
     (flags_not_stored L a.cx.now.options core names a.set.now c.requires.small a.place c.loop-name.cx.core.now.memory _ (its_shape g at) a.at c.flags.result.now.abi.size32 (bytes_many g at)
     (bytes_room g at) _ inv.stored unknown (omega arith))
 
@@ -63,7 +63,7 @@ mark_byte-requires g c =
     let core = c.args.cx.now.core.now in
     let inv = c.loop-name.invariant in
     let same = same_names core c.loop-name.cx.core.now inv.same c.types-in-loop-name.result.now c.types-in-loop-name.ensures c.args.i in
-    let inside : c.in-Some.k < length (flag_names (types_of core) c.args.i) = omega (arith, c.in-Some.ensures.some.0, ap length same) in
+    let inside : c.in-Some.k < length (flag_names (component_types core) c.args.i) = omega (arith, c.in-Some.ensures.some.0, ap length same) in
     record { room = omega (arith, byte_inside _ _ inside, bytes_many g at, bytes_room g at, inv.stored.writes.same_length, ap length c.as_slice_mut-in-loop-name.ensures.value) }
 
 pub loop-name-preserved : goal.loop-name-preserved
@@ -75,7 +75,7 @@ loop-name-preserved g c =
     let inv = c.loop-name.invariant in
     let ys = c.deref-name-items.result.now in
     let i = c.loop-name.name-index in
-    let names = flag_names (types_of core) a.i in
+    let names = flag_names (component_types core) a.i in
     let bytes = c.flags.result.now.abi.size32 in
     let (inside, here) = c.in-Some.ensures.some in
     let next = next_name a.set.now.items ys c.deref-name-items.ensures.value i c.name-item.result (omega arith) c.name-item.is in
@@ -97,10 +97,10 @@ returns-clause-stores g c =
     let core = a.cx.now.core.now in
     let L : GuestLaws _ = record { seen = g.G.Guest.seen; moves = g.G.Guest.moves; stays = g.met.G.Guest.stays; goes_on = g.met.G.Guest.goes_on } in
     let inv = c.loop-name.invariant in
-    let names = flag_names (types_of core) a.i in
+    let names = flag_names (component_types core) a.i in
     let bytes = c.flags.result.now.abi.size32 in
     let m = c.loop-name.cx.core.now.memory in
     let all = last_name a.set.now.items c.deref-name-items.result.now c.loop-name.name-index c.deref-name-items.ensures.value (omega arith) (omega arith) in
-    subst (λ (x : Parts _ _). StoresTo L.seen L.moves a.cx.now.options core x (shape_of (types_of core) (ty.Flags a.i)) a.at (val.Flags a.set.now) a.place (Ok c.saturating_add.result)) (sym inv.same)
+    subst (λ (x : Parts _ _). StoresTo L.seen L.moves a.cx.now.options core x (shape_of (component_types core) (ty.Flags a.i)) a.at (val.Flags a.set.now) a.place (Ok c.saturating_add.result)) (sym inv.same)
     (flags_store L a.cx.now.options core names a.set.now c.requires.small a.place m _ (its_shape g at) a.at bytes (bytes_many g at) (bytes_room g at) c.saturating_add.result
     (subst (λ (xs : List Name). AreStored core.memory m a.at bytes names xs) all inv.stored) c.saturating_add.ensures)

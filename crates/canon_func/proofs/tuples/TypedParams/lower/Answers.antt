@@ -1,7 +1,7 @@
 use Rattle.std.proofs.Common.{Err, Ok, ap, arith, length, subst, ◌∙◌, ◌≡◌}
 use Rattle.canon_args.specs.Params.{TypedParams}
 use Rattle.canon_context.proofs.Moves.{GuestLaws}
-use Rattle.canon_context.specs.Core.{types_of}
+use Rattle.canon_context.specs.Core.{component_types}
 use Rattle.canon_model.specs.Flat.{max_params}
 use Rattle.canon_model.specs.Shape.{Members, of_places, product}
 use Rattle.canon_types.specs.Table.{Table, tuple_members}
@@ -20,8 +20,8 @@ returns-in-Ok-clause-lowered g c =
     let v = c.args.self.now.0 in
     let f = c.func.result.now in
     let callee = export_callee before.component e in
-    let same : c.types-types.result.now ≡ types_of before = c.types-types.ensures ∙ ap (λ k. k.types.types) c.component.ensures.component in
-    let are = params_are (types_of before) c.types-types.result.now e.ty f same c.func.ensures.found in
+    let same : c.types-types.result.now ≡ component_types before = c.types-types.ensures ∙ ap (λ k. k.types.types) c.component.ensures.component in
+    let are = params_are (component_types before) c.types-types.result.now e.ty f same c.func.ensures.found in
     let all = written c.in_ok-words.words.items c.lower_into.new.words c.in_ok-words.words.len (omega (arith, c.deref_mut.ensures.len, c.lower_into.ensures.count)) in
     let counted : words_within max_params (tuple_members c.types-types.result.now f.params) ≡ words_within max_params callee.params =
     ap (λ (t : Table). words_within max_params (tuple_members t f.params)) same ∙ ap (words_within max_params) are in
@@ -38,7 +38,7 @@ returns-in-Err-clause-lowered g c =
     let v = c.args.self.now.0 in
     let f = c.func.result.now in
     let callee = export_callee before.component e in
-    let same : c.types-types.result.now ≡ types_of before = c.types-types.ensures ∙ ap (λ k. k.types.types) c.component.ensures.component in
-    let are = params_are (types_of before) c.types-types.result.now e.ty f same c.func.ensures.found in
+    let same : c.types-types.result.now ≡ component_types before = c.types-types.ensures ∙ ap (λ k. k.types.types) c.component.ensures.component in
+    let are = params_are (component_types before) c.types-types.result.now e.ty f same c.func.ensures.found in
     tuple_refused L e.options before after callee.params (g.P.ComponentType.walks v) (g.P.Lower.gives before.component.types (product of_places callee.params) v) c.in-Err.fault c.lower_into.new.words (g.met.P.Lower.walkable v)
     (subst (λ (ms : Members). TypedParams L.seen L.moves e.options before after ms c.lower_into.new.words (g.P.ComponentType.walks v) (g.P.Lower.gives before.component.types (product of_places ms) v) (Err c.in-Err.fault)) are c.in-Err.ensures.lowers)

@@ -1,5 +1,5 @@
 use Rattle.std.proofs.Common.{arith, refl}
-use Rattle.canon_context.specs.Core.{types_of}
+use Rattle.canon_context.specs.Core.{component_types}
 use Rattle.canon_types.specs.Table.{shape_of}
 use Rattle.canon_reading.specs.Reading.{setting_in}
 use Rattle.canon_reading.specs.Spots.{flat_in}
@@ -11,7 +11,7 @@ returns-in-Ok-clause-lifts g c =
     let cx = c.args.cx.now in
     let core = cx.core.now in
     let w = setting_in core cx.options in
-    let s = shape_of (types_of core) c.args.ty in
+    let s = shape_of (component_types core) c.args.ty in
     let after = c.lift_words.new.cx in
     let (read, spent) = c.in-Ok.ensures.lifts in
     out_of_memory_after _ w (flat_in c.args.src.now c.args.at) s core.ledger after.core.now.ledger cx.fuel after.fuel refl

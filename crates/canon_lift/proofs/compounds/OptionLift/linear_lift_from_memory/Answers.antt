@@ -1,5 +1,5 @@
 use Rattle.std.proofs.Common.{◌≡◌, ◌+◌, ◌%◌, ap, arith, false, subst, sym}
-use Rattle.canon_context.specs.Core.{types_of}
+use Rattle.canon_context.specs.Core.{component_types}
 use Rattle.canon_model.specs.Layout.{align, size}
 use Rattle.canon_types.specs.Table.{shape_of}
 use Rattle.canon_lift_parts.proofs.CaseLifting.{payload_aligned, payload_inside, place_small, tag_room}
@@ -9,7 +9,7 @@ use Rattle.canon_lift.proofs.compounds.OptionLift.linear_lift_from_memory.Goals 
 pub overflow_add-place : goal.overflow_add-place
 overflow_add-place g c =
     let core = c.args.cx.now.core.now in
-    let t = types_of core in
+    let t = component_types core in
     let o = c.option-option in
     let h = option_cases t c.types.result.now c.in-Option.i c.args.ty o.result.now.ty o.result.now.info core.memory c.args.at c.types.ensures c.in-Option.is o.ensures.entry o.ensures.info c.requires.aligned c.requires.inside in
     record { fits = omega (arith, c.memory-memory.ensures.small, place_small (shape_of t c.args.ty) o.result.now.info core.memory c.args.at h c.from.result c.from.ensures) }
@@ -17,7 +17,7 @@ overflow_add-place g c =
 pub load_tag-requires : goal.load_tag-requires
 load_tag-requires g c =
     let core = c.args.cx.now.core.now in
-    let t = types_of core in
+    let t = component_types core in
     let o = c.option-option in
     let h = option_cases t c.types.result.now c.in-Option.i c.args.ty o.result.now.ty o.result.now.info core.memory c.args.at c.types.ensures c.in-Option.is o.ensures.entry o.ensures.info c.requires.aligned c.requires.inside in
     tag_room (shape_of t c.args.ty) o.result.now.info core.memory c.args.at h c.memory.result.now c.memory.ensures
@@ -26,12 +26,12 @@ pub linear_lift_from_memory-requires-clause-known : goal.linear_lift_from_memory
 linear_lift_from_memory-requires-clause-known g c =
     let o = c.option-option in
     let core = c.args.cx.now.core.now in
-    option_known (types_of core) c.types.result.now c.in-Option.i c.args.ty o.result.now.ty o.result.now.info core.memory c.args.at c.types.ensures c.in-Option.is o.ensures.entry
+    option_known (component_types core) c.types.result.now c.in-Option.i c.args.ty o.result.now.ty o.result.now.info core.memory c.args.at c.types.ensures c.in-Option.is o.ensures.entry
 
 pub linear_lift_from_memory-requires-clause-aligned : goal.linear_lift_from_memory-requires-clause-aligned
 linear_lift_from_memory-requires-clause-aligned g c =
     let core = c.args.cx.now.core.now in
-    let t = types_of core in
+    let t = component_types core in
     let o = c.option-option in
     let h = option_cases t c.types.result.now c.in-Option.i c.args.ty o.result.now.ty o.result.now.info core.memory c.args.at c.types.ensures c.in-Option.is o.ensures.entry o.ensures.info c.requires.aligned c.requires.inside in
     let payload = option_payload t c.types.result.now c.in-Option.i c.args.ty o.result.now.ty o.result.now.info core.memory c.args.at c.types.ensures c.in-Option.is o.ensures.entry in
@@ -41,7 +41,7 @@ linear_lift_from_memory-requires-clause-aligned g c =
 pub linear_lift_from_memory-requires-clause-inside : goal.linear_lift_from_memory-requires-clause-inside
 linear_lift_from_memory-requires-clause-inside g c =
     let core = c.args.cx.now.core.now in
-    let t = types_of core in
+    let t = component_types core in
     let o = c.option-option in
     let h = option_cases t c.types.result.now c.in-Option.i c.args.ty o.result.now.ty o.result.now.info core.memory c.args.at c.types.ensures c.in-Option.is o.ensures.entry o.ensures.info c.requires.aligned c.requires.inside in
     let payload = option_payload t c.types.result.now c.in-Option.i c.args.ty o.result.now.ty o.result.now.info core.memory c.args.at c.types.ensures c.in-Option.is o.ensures.entry in

@@ -1,5 +1,5 @@
 use Rattle.std.proofs.Common.{◌≡◌, ◌+◌, ◌%◌, ap, arith, false, subst, sym}
-use Rattle.canon_context.specs.Core.{types_of}
+use Rattle.canon_context.specs.Core.{component_types}
 use Rattle.canon_model.specs.Layout.{align, size}
 use Rattle.canon_types.specs.Table.{shape_of}
 use Rattle.canon_lift_parts.proofs.CaseLifting.{payload_aligned, payload_inside, place_small, tag_room}
@@ -9,7 +9,7 @@ use Rattle.canon_lift.proofs.compounds.ResultLift.linear_lift_from_memory.Goals 
 pub overflow_add-place : goal.overflow_add-place
 overflow_add-place g c =
     let core = c.args.cx.now.core.now in
-    let t = types_of core in
+    let t = component_types core in
     let r = c.result-result.result.now in
     let h = result_cases t c.types.result.now c.in-Result.i c.args.ty r.ok r.err c.types.ensures c.in-Result.is c.result-result.ensures.entry r.info core.memory c.args.at c.result-result.ensures.info c.requires.aligned c.requires.inside in
     record { fits = omega (arith, c.memory-memory.ensures.small, place_small (shape_of t c.args.ty) r.info core.memory c.args.at h c.from.result c.from.ensures) }
@@ -17,7 +17,7 @@ overflow_add-place g c =
 pub load_tag-requires : goal.load_tag-requires
 load_tag-requires g c =
     let core = c.args.cx.now.core.now in
-    let t = types_of core in
+    let t = component_types core in
     let r = c.result-result.result.now in
     let h = result_cases t c.types.result.now c.in-Result.i c.args.ty r.ok r.err c.types.ensures c.in-Result.is c.result-result.ensures.entry r.info core.memory c.args.at c.result-result.ensures.info c.requires.aligned c.requires.inside in
     tag_room (shape_of t c.args.ty) r.info core.memory c.args.at h c.memory.result.now c.memory.ensures
@@ -25,12 +25,12 @@ load_tag-requires g c =
 pub lift_payload-requires-clause-known : goal.lift_payload-requires-clause-known
 lift_payload-requires-clause-known g c =
     let r = c.result-result.result.now in
-    ok_known (types_of c.args.cx.now.core.now) c.types.result.now c.in-Result.i c.args.ty r.ok r.err c.types.ensures c.in-Result.is c.result-result.ensures.entry
+    ok_known (component_types c.args.cx.now.core.now) c.types.result.now c.in-Result.i c.args.ty r.ok r.err c.types.ensures c.in-Result.is c.result-result.ensures.entry
 
 pub lift_payload-requires-clause-aligned : goal.lift_payload-requires-clause-aligned
 lift_payload-requires-clause-aligned g c =
     let core = c.args.cx.now.core.now in
-    let t = types_of core in
+    let t = component_types core in
     let r = c.result-result.result.now in
     let h = result_cases t c.types.result.now c.in-Result.i c.args.ty r.ok r.err c.types.ensures c.in-Result.is c.result-result.ensures.entry r.info core.memory c.args.at c.result-result.ensures.info c.requires.aligned c.requires.inside in
     let payload = ok_payload t c.types.result.now c.in-Result.i c.args.ty r.ok r.err c.types.ensures c.in-Result.is c.result-result.ensures.entry in
@@ -40,7 +40,7 @@ lift_payload-requires-clause-aligned g c =
 pub lift_payload-requires-clause-inside : goal.lift_payload-requires-clause-inside
 lift_payload-requires-clause-inside g c =
     let core = c.args.cx.now.core.now in
-    let t = types_of core in
+    let t = component_types core in
     let r = c.result-result.result.now in
     let h = result_cases t c.types.result.now c.in-Result.i c.args.ty r.ok r.err c.types.ensures c.in-Result.is c.result-result.ensures.entry r.info core.memory c.args.at c.result-result.ensures.info c.requires.aligned c.requires.inside in
     let payload = ok_payload t c.types.result.now c.in-Result.i c.args.ty r.ok r.err c.types.ensures c.in-Result.is c.result-result.ensures.entry in
@@ -50,12 +50,12 @@ lift_payload-requires-clause-inside g c =
 pub lift_payload-requires-in-1-clause-known : goal.lift_payload-requires-in-1-clause-known
 lift_payload-requires-in-1-clause-known g c =
     let r = c.result-result.result.now in
-    error_known (types_of c.args.cx.now.core.now) c.types.result.now c.in-Result.i c.args.ty r.ok r.err c.types.ensures c.in-Result.is c.result-result.ensures.entry
+    error_known (component_types c.args.cx.now.core.now) c.types.result.now c.in-Result.i c.args.ty r.ok r.err c.types.ensures c.in-Result.is c.result-result.ensures.entry
 
 pub lift_payload-requires-in-1-clause-aligned : goal.lift_payload-requires-in-1-clause-aligned
 lift_payload-requires-in-1-clause-aligned g c =
     let core = c.args.cx.now.core.now in
-    let t = types_of core in
+    let t = component_types core in
     let r = c.result-result.result.now in
     let h = result_cases t c.types.result.now c.in-Result.i c.args.ty r.ok r.err c.types.ensures c.in-Result.is c.result-result.ensures.entry r.info core.memory c.args.at c.result-result.ensures.info c.requires.aligned c.requires.inside in
     let payload = error_payload t c.types.result.now c.in-Result.i c.args.ty r.ok r.err c.types.ensures c.in-Result.is c.result-result.ensures.entry in
@@ -65,7 +65,7 @@ lift_payload-requires-in-1-clause-aligned g c =
 pub lift_payload-requires-in-1-clause-inside : goal.lift_payload-requires-in-1-clause-inside
 lift_payload-requires-in-1-clause-inside g c =
     let core = c.args.cx.now.core.now in
-    let t = types_of core in
+    let t = component_types core in
     let r = c.result-result.result.now in
     let h = result_cases t c.types.result.now c.in-Result.i c.args.ty r.ok r.err c.types.ensures c.in-Result.is c.result-result.ensures.entry r.info core.memory c.args.at c.result-result.ensures.info c.requires.aligned c.requires.inside in
     let payload = error_payload t c.types.result.now c.in-Result.i c.args.ty r.ok r.err c.types.ensures c.in-Result.is c.result-result.ensures.entry in

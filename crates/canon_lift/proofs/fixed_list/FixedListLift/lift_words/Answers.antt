@@ -1,4 +1,4 @@
-use Rattle.canon_context.specs.Core.{types_of}
+use Rattle.canon_context.specs.Core.{component_types}
 use Rattle.canon_types.specs.Table.{shape_of}
 use Rattle.canon_reading.specs.Reading.{setting_in}
 use Rattle.canon_reading.specs.Spots.{flat_in}
@@ -11,7 +11,7 @@ use Rattle.canon_lift.proofs.fixed_list.FixedListLift.lift_words.Goals as goal
 pub lift_row-requires-clause-words : goal.lift_row-requires-clause-words
 lift_row-requires-clause-words g c =
     let core = c.args.cx.now.core.now in
-    let t = types_of core in
+    let t = component_types core in
     let list = c.fixed_length_list.result.now in
     let there = fixed_there g.T.ComponentType.fits core.component.types c.types.result.now c.in-FixedLengthList.i g.row.N list.size c.args.ty list.element c.types.ensures c.in-FixedLengthList.is c.fixed_length_list.ensures.entry c.requires.fits in
     fixed_words (shape_of t c.args.ty) (shape_of t list.element) g.row.N c.args.at (length c.args.src.now) there.shape c.requires.words
@@ -20,7 +20,7 @@ pub returns-in-Err-clause-lifts : goal.returns-in-Err-clause-lifts
 returns-in-Err-clause-lifts g c =
     let cx = c.args.cx.now in
     let core = cx.core.now in
-    let t = types_of core in
+    let t = component_types core in
     let list = c.fixed_length_list.result.now in
     let there = fixed_there g.T.ComponentType.fits core.component.types c.types.result.now c.in-FixedLengthList.i g.row.N list.size c.args.ty list.element c.types.ensures c.in-FixedLengthList.is c.fixed_length_list.ensures.entry c.requires.fits in
     let s = shape_of t c.args.ty in

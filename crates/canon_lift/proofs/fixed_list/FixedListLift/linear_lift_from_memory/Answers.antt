@@ -1,4 +1,4 @@
-use Rattle.canon_context.specs.Core.{types_of}
+use Rattle.canon_context.specs.Core.{component_types}
 use Rattle.canon_types.specs.Table.{shape_of}
 use Rattle.canon_reading.specs.Reading.{setting_in}
 use Rattle.canon_reading.specs.Spots.{stored}
@@ -10,7 +10,7 @@ pub linear_lift_list_from_memory-requires : goal.linear_lift_list_from_memory-re
 linear_lift_list_from_memory-requires g c =
     let cx = c.args.cx.now in
     let core = cx.core.now in
-    let t = types_of core in
+    let t = component_types core in
     let list = c.fixed_length_list.result.now in
     let there = fixed_there g.T.ComponentType.fits core.component.types c.types.result.now c.in-FixedLengthList.i g.row.N list.size c.args.ty list.element c.types.ensures c.in-FixedLengthList.is c.fixed_length_list.ensures.entry c.requires.fits in
     let s = shape_of t c.args.ty in
@@ -24,7 +24,7 @@ pub returns-in-Err-clause-lifts : goal.returns-in-Err-clause-lifts
 returns-in-Err-clause-lifts g c =
     let cx = c.args.cx.now in
     let core = cx.core.now in
-    let t = types_of core in
+    let t = component_types core in
     let w = setting_in core cx.options in
     let list = c.fixed_length_list.result.now in
     let there = fixed_there g.T.ComponentType.fits core.component.types c.types.result.now c.in-FixedLengthList.i g.row.N list.size c.args.ty list.element c.types.ensures c.in-FixedLengthList.is c.fixed_length_list.ensures.entry c.requires.fits in

@@ -1,5 +1,5 @@
 use Rattle.std.proofs.Common.{◌≤◌, ◌+◌, ◌∙◌, ap, false, length}
-use Rattle.canon_context.specs.Core.{types_of}
+use Rattle.canon_context.specs.Core.{component_types}
 use Rattle.canon_lowering.specs.Storing.{narrow}
 use Rattle.canon_model.specs.Layout.{size}
 use Rattle.canon_model.specs.Memory.{num}
@@ -20,7 +20,7 @@ pub returns-clause-lifts : goal.returns-clause-lifts
 returns-clause-lifts g c =
     let cx = c.args.cx.now in
     let core = cx.core.now in
-    let room : c.args.at + size false (shape_of (types_of core) c.args.ty) ≤ length core.memory = c.requires.inside in
+    let room : c.args.at + size false (shape_of (component_types core) c.args.ty) ≤ length core.memory = c.requires.inside in
     held_lifts (IsMadeBy g.T.HostResourceType.checked) (setting_in core cx.options) (stored c.args.at) c.args.ty c.load_u32-index.result core.ledger c.lift_held.new.cx.core.now.ledger cx.fuel c.lift_held.new.cx.fuel
     (is_handle g.T.HostResourceType.checked core.component.types c.args.ty c.requires.fits) (c.load_u32-index.ensures ∙ ap (λ xs. num (narrow xs) c.args.at 4) c.memory.ensures) room c.lift_held.ensures.same_fuel c.lift_held.result
     c.lift_held.ensures.lifts

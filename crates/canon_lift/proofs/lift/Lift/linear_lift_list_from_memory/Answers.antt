@@ -1,5 +1,5 @@
 use Rattle.std.proofs.Common.{rules, ◌≡◌, ◌+◌, ◌*◌, ◌%◌, ◌∙◌, Err, Ok, ap, arith, false, refl, subst, sym}
-use Rattle.canon_context.specs.Core.{Parts, types_of}
+use Rattle.canon_context.specs.Core.{Parts, component_types}
 use Rattle.canon_model.specs.Layout.{align, size}
 use Rattle.canon_types.specs.Table.{shape_of}
 use Rattle.canon_reading.specs.Reading.{setting_in}
@@ -14,9 +14,9 @@ linear_lift_from_memory-requires-clause-aligned g c =
     let core = c.args.cx.now.core.now in
     let list = c.args.list.now in
     let now = c.loop-k.cx.core.now in
-    let s = shape_of (types_of core) list.element in
-    let bytes : c.from-size.result ≡ size false s = looked_up_size (types_of core) c.types.result.now list.element c.canonical_abi.result.now c.types.ensures c.canonical_abi.ensures _ c.from-size.ensures in
-    subst (λ n. (list.pointer + c.loop-k.k * n) % align false (shape_of (types_of now) list.element) ≡ 0) (sym bytes)
+    let s = shape_of (component_types core) list.element in
+    let bytes : c.from-size.result ≡ size false s = looked_up_size (component_types core) c.types.result.now list.element c.canonical_abi.result.now c.types.ensures c.canonical_abi.ensures _ c.from-size.ensures in
+    subst (λ n. (list.pointer + c.loop-k.k * n) % align false (shape_of (component_types now) list.element) ≡ 0) (sym bytes)
     (subst (λ z. (list.pointer + c.loop-k.k * size false s) % align false z ≡ 0) (sym (same_shape core now c.loop-k.invariant.same_core list.element))
     (element_aligned s list.pointer c.loop-k.k c.requires.items.good.0))
 
@@ -28,8 +28,8 @@ returns-in-Err-push-clause-lifts g c =
     let list = c.args.list.now in
     let i = c.loop-k.invariant in
     let w = setting_in core cx.options in
-    let s = shape_of (types_of core) list.element in
-    let bytes : c.from-size.result ≡ size false s = looked_up_size (types_of core) c.types.result.now list.element c.canonical_abi.result.now c.types.ensures c.canonical_abi.ensures _ c.from-size.ensures in
+    let s = shape_of (component_types core) list.element in
+    let bytes : c.from-size.result ≡ size false s = looked_up_size (component_types core) c.types.result.now list.element c.canonical_abi.result.now c.types.ensures c.canonical_abi.ensures _ c.from-size.ensures in
     let mid = c.loop-k.cx.core.now.ledger in
     let after = c.linear_lift_from_memory.new.cx in
     let p = stored list.pointer in
@@ -46,8 +46,8 @@ returns-in-Err-clause-lifts g c =
     let list = c.args.list.now in
     let i = c.loop-k.invariant in
     let w = setting_in core cx.options in
-    let s = shape_of (types_of core) list.element in
-    let bytes : c.from-size.result ≡ size false s = looked_up_size (types_of core) c.types.result.now list.element c.canonical_abi.result.now c.types.ensures c.canonical_abi.ensures _ c.from-size.ensures in
+    let s = shape_of (component_types core) list.element in
+    let bytes : c.from-size.result ≡ size false s = looked_up_size (component_types core) c.types.result.now list.element c.canonical_abi.result.now c.types.ensures c.canonical_abi.ensures _ c.from-size.ensures in
     let after = c.linear_lift_from_memory.new.cx in
     item_refused R w s g.met.Self.Lift.taken list.count c.loop-k.k (stored list.pointer) core.ledger c.loop-k.cx.core.now.ledger after.core.now.ledger c.loop-k.items.items cx.fuel c.loop-k.cx.fuel after.fuel c.in-Err.fault
     (search rules) i.count i.read i.spent
@@ -62,8 +62,8 @@ loop-k-preserved g c =
     let list = c.args.list.now in
     let i = c.loop-k.invariant in
     let w = setting_in core cx.options in
-    let s = shape_of (types_of core) list.element in
-    let bytes : c.from-size.result ≡ size false s = looked_up_size (types_of core) c.types.result.now list.element c.canonical_abi.result.now c.types.ensures c.canonical_abi.ensures _ c.from-size.ensures in
+    let s = shape_of (component_types core) list.element in
+    let bytes : c.from-size.result ≡ size false s = looked_up_size (component_types core) c.types.result.now list.element c.canonical_abi.result.now c.types.ensures c.canonical_abi.ensures _ c.from-size.ensures in
     let mid = c.loop-k.cx.core.now.ledger in
     let after = c.linear_lift_from_memory.new.cx in
     let p = stored list.pointer in

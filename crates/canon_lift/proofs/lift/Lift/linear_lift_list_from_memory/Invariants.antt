@@ -1,5 +1,5 @@
 use Rattle.std.proofs.Common.{◌≡◌, ◌+◌, length}
-use Rattle.canon_context.specs.Core.{types_of}
+use Rattle.canon_context.specs.Core.{component_types}
 use Rattle.canon_types.specs.Table.{shape_of}
 use Rattle.canon_reading.specs.Reading.{setting_in}
 use Rattle.canon_reading.specs.Readings.{EachReads, each_reach}
@@ -10,7 +10,7 @@ abbrev pub invariant-loop-k : goal.invariant-loop-k
 invariant-loop-k g l =
     let core = l.fn.cx.core.now in
     let w = setting_in core l.fn.cx.options in
-    let s = shape_of (types_of core) l.list.element in
+    let s = shape_of (component_types core) l.list.element in
     record {
       count : length l.items.items ≡ l.k;
       read : EachReads g.Self.Lift.reading w s (stored l.list.pointer) core.ledger l.items.items l.cx.core.now.ledger;

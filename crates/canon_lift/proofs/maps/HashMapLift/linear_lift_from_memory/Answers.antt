@@ -1,5 +1,5 @@
 use Rattle.std.proofs.Common.{◌≤◌, ◌+◌, ◌∙◌, ◌∷◌, [], ap, arith, false, length, subst, sym}
-use Rattle.canon_context.specs.Core.{types_of}
+use Rattle.canon_context.specs.Core.{component_types}
 use Rattle.canon_context.specs.declared.fault.At.TheVariants as place
 use Rattle.canon_lowering.specs.Storing.{narrow}
 use Rattle.canon_model.specs.Layout.{size}
@@ -19,7 +19,7 @@ pub load_u32-requires : goal.load_u32-requires
 load_u32-requires g c =
     let cx = c.args.cx.now in
     let core = cx.core.now in
-    let t = types_of core in
+    let t = component_types core in
     let m = c.map-map.result.now in
     let key = shape_of t m.key in
     let value = shape_of t m.value in
@@ -30,7 +30,7 @@ pub load_u32-requires-2 : goal.load_u32-requires-2
 load_u32-requires-2 g c =
     let cx = c.args.cx.now in
     let core = cx.core.now in
-    let t = types_of core in
+    let t = component_types core in
     let m = c.map-map.result.now in
     let key = shape_of t m.key in
     let value = shape_of t m.value in
@@ -41,29 +41,29 @@ pub lift_pairs-requires-clause-key : goal.lift_pairs-requires-clause-key
 lift_pairs-requires-clause-key g c =
     let cx = c.args.cx.now in
     let core = cx.core.now in
-    let t = types_of core in
+    let t = component_types core in
     let m = c.map-map.result.now in
     let key = shape_of t m.key in
     let value = shape_of t m.value in
     let there = map_there g.K.ComponentType.fits g.V.ComponentType.fits core.component.types c.types.result.now c.in-Map.i c.args.ty m.key m.value c.types.ensures c.in-Map.is c.map-map.ensures.entry c.requires.fits in
-    subst (λ z. Knows (types_of z.core.now) m.key) (sym c.in-Ok.ensures.same) there.key_known
+    subst (λ z. Knows (component_types z.core.now) m.key) (sym c.in-Ok.ensures.same) there.key_known
 
 pub lift_pairs-requires-clause-value : goal.lift_pairs-requires-clause-value
 lift_pairs-requires-clause-value g c =
     let cx = c.args.cx.now in
     let core = cx.core.now in
-    let t = types_of core in
+    let t = component_types core in
     let m = c.map-map.result.now in
     let key = shape_of t m.key in
     let value = shape_of t m.value in
     let there = map_there g.K.ComponentType.fits g.V.ComponentType.fits core.component.types c.types.result.now c.in-Map.i c.args.ty m.key m.value c.types.ensures c.in-Map.is c.map-map.ensures.entry c.requires.fits in
-    subst (λ z. Knows (types_of z.core.now) m.value) (sym c.in-Ok.ensures.same) there.value_known
+    subst (λ z. Knows (component_types z.core.now) m.value) (sym c.in-Ok.ensures.same) there.value_known
 
 pub returns-in-Err-clause-lifts : goal.returns-in-Err-clause-lifts
 returns-in-Err-clause-lifts g c =
     let cx = c.args.cx.now in
     let core = cx.core.now in
-    let t = types_of core in
+    let t = component_types core in
     let m = c.map-map.result.now in
     let key = shape_of t m.key in
     let value = shape_of t m.value in
@@ -85,7 +85,7 @@ pub returns-in-Ok-clause-lifts : goal.returns-in-Ok-clause-lifts
 returns-in-Ok-clause-lifts g c =
     let cx = c.args.cx.now in
     let core = cx.core.now in
-    let t = types_of core in
+    let t = component_types core in
     let m = c.map-map.result.now in
     let key = shape_of t m.key in
     let value = shape_of t m.value in
@@ -103,5 +103,5 @@ returns-in-Ok-clause-lifts g c =
     let (good, spent) = c.in-Ok.ensures.tested e layout in
     let room : c.args.at + size false s ≤ length core.memory = c.requires.inside in
     let h = subst (λ z. Lifts (pairs_reading g.K.PartialEq.eq c.from-count.result g.K.Lift.reading g.V.Lift.reading) (setting_in z.core.now z.options) (stored c.from-pointer.result)
-    (tuple (shape_of (types_of z.core.now) m.key ∷ shape_of (types_of z.core.now) m.value ∷ [])) z.core.now.ledger mid.fuel c.lift_pairs.result after.core.now.ledger after.fuel) c.in-Ok.ensures.same c.lift_pairs.ensures.lifts in
+    (tuple (shape_of (component_types z.core.now) m.key ∷ shape_of (component_types z.core.now) m.value ∷ [])) z.core.now.ledger mid.fuel c.lift_pairs.result after.core.now.ledger after.fuel) c.in-Ok.ensures.same c.lift_pairs.ensures.lifts in
     map_lifts g.K.PartialEq.eq bytes g.K.Lift.reading g.V.Lift.reading w (stored c.args.at) s core.ledger after.core.now.ledger cx.fuel mid.fuel after.fuel c.lift_pairs.result e c.from-pointer.result c.from-count.result element p n room good spent h

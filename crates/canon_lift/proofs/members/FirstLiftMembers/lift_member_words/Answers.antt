@@ -1,5 +1,5 @@
 use Rattle.std.proofs.Common.{◌≡◌, ◌≤◌, ◌<◌, ◌+◌, ◌^◌, ◌∙◌, Err, Ok, [], ap, arith, drop, length, rules, subst, sym}
-use Rattle.canon_context.specs.Core.{Parts, types_of}
+use Rattle.canon_context.specs.Core.{Parts, component_types}
 use Rattle.canon_model.specs.Layout.{flat, members_flat}
 use Rattle.canon_model.specs.Shape.{of_places, product}
 use Rattle.canon_types.specs.Table as table
@@ -18,7 +18,7 @@ pub flat_words-requires-clause-few : goal.flat_words-requires-clause-few
 flat_words-requires-clause-few g c =
     let cx = c.args.cx.now in
     let core = cx.core.now in
-    let t = types_of core in
+    let t = component_types core in
     let types = table.types_of t c.args.i in
     let type = c.index.result.now in
     let split = next_of_tuple t c.types.result.now c.args.i c.args.k c.tuple.result.now.types.items type g.A.ComponentType.fits g.R.LiftMembers.all core.component.types c.types.ensures c.tuple.ensures.types c.index.ensures c.requires.fits in
@@ -34,7 +34,7 @@ pub overflow_add-next : goal.overflow_add-next
 overflow_add-next g c =
     let cx = c.args.cx.now in
     let core = cx.core.now in
-    let t = types_of core in
+    let t = component_types core in
     let types = table.types_of t c.args.i in
     let type = c.index.result.now in
     let split = next_of_tuple t c.types.result.now c.args.i c.args.k c.tuple.result.now.types.items type g.A.ComponentType.fits g.R.LiftMembers.all core.component.types c.types.ensures c.tuple.ensures.types c.index.ensures c.requires.fits in
@@ -50,7 +50,7 @@ pub lift_words-requires-clause-words : goal.lift_words-requires-clause-words
 lift_words-requires-clause-words g c =
     let cx = c.args.cx.now in
     let core = cx.core.now in
-    let t = types_of core in
+    let t = component_types core in
     let types = table.types_of t c.args.i in
     let type = c.index.result.now in
     let split = next_of_tuple t c.types.result.now c.args.i c.args.k c.tuple.result.now.types.items type g.A.ComponentType.fits g.R.LiftMembers.all core.component.types c.types.ensures c.tuple.ensures.types c.index.ensures c.requires.fits in
@@ -64,7 +64,7 @@ pub lift_member_words-requires-clause-words : goal.lift_member_words-requires-cl
 lift_member_words-requires-clause-words g c =
     let cx = c.args.cx.now in
     let core = cx.core.now in
-    let t = types_of core in
+    let t = component_types core in
     let types = table.types_of t c.args.i in
     let type = c.index.result.now in
     let split = next_of_tuple t c.types.result.now c.args.i c.args.k c.tuple.result.now.types.items type g.A.ComponentType.fits g.R.LiftMembers.all core.component.types c.types.ensures c.tuple.ensures.types c.index.ensures c.requires.fits in
@@ -74,13 +74,13 @@ lift_member_words-requires-clause-words g c =
     let room = member_words (members_of t (drop c.args.k types)) [] s more c.args.at (length c.args.src.now) are c.requires.words in
     let words : c.flat_words.result ≡ flat s = c.flat_words.ensures ∙ ap (λ x. flat (shape_of x type)) c.types-2.ensures in
     let there : c.args.at + c.flat_words.result + members_flat more ≤ length c.args.src.now = omega (arith, room, words) in
-    subst (λ (z : Parts g.row.U.Denot g.row.G.Denot). c.args.at + c.flat_words.result + members_flat (members_of (types_of z) (drop (c.args.k + 1) (table.types_of (types_of z) c.args.i))) ≤ length c.args.src.now) (sym c.in-Ok.ensures.same_core) there
+    subst (λ (z : Parts g.row.U.Denot g.row.G.Denot). c.args.at + c.flat_words.result + members_flat (members_of (component_types z) (drop (c.args.k + 1) (table.types_of (component_types z) c.args.i))) ≤ length c.args.src.now) (sym c.in-Ok.ensures.same_core) there
 
 pub returns-in-Err-clause-lifts : goal.returns-in-Err-clause-lifts
 returns-in-Err-clause-lifts g c =
     let cx = c.args.cx.now in
     let core = cx.core.now in
-    let t = types_of core in
+    let t = component_types core in
     let types = table.types_of t c.args.i in
     let type = c.index.result.now in
     let split = next_of_tuple t c.types.result.now c.args.i c.args.k c.tuple.result.now.types.items type g.A.ComponentType.fits g.R.LiftMembers.all core.component.types c.types.ensures c.tuple.ensures.types c.index.ensures c.requires.fits in
@@ -102,7 +102,7 @@ pub returns-in-Err-lift_member_words-clause-lifts : goal.returns-in-Err-lift_mem
 returns-in-Err-lift_member_words-clause-lifts g c =
     let cx = c.args.cx.now in
     let core = cx.core.now in
-    let t = types_of core in
+    let t = component_types core in
     let types = table.types_of t c.args.i in
     let type = c.index.result.now in
     let split = next_of_tuple t c.types.result.now c.args.i c.args.k c.tuple.result.now.types.items type g.A.ComponentType.fits g.R.LiftMembers.all core.component.types c.types.ensures c.tuple.ensures.types c.index.ensures c.requires.fits in
@@ -134,7 +134,7 @@ pub returns-in-Ok-lift_member_words-clause-lifts : goal.returns-in-Ok-lift_membe
 returns-in-Ok-lift_member_words-clause-lifts g c =
     let cx = c.args.cx.now in
     let core = cx.core.now in
-    let t = types_of core in
+    let t = component_types core in
     let types = table.types_of t c.args.i in
     let type = c.index.result.now in
     let split = next_of_tuple t c.types.result.now c.args.i c.args.k c.tuple.result.now.types.items type g.A.ComponentType.fits g.R.LiftMembers.all core.component.types c.types.ensures c.tuple.ensures.types c.index.ensures c.requires.fits in

@@ -1,5 +1,5 @@
 use Rattle.std.proofs.Common.{◌≡◌, ◌≤◌, ◌+◌, ◌%◌, Err, Ok, [], arith, drop, false, length, subst, sym}
-use Rattle.canon_context.specs.Core.{Parts, types_of}
+use Rattle.canon_context.specs.Core.{Parts, component_types}
 use Rattle.canon_model.specs.Layout.{members_align, members_end}
 use Rattle.canon_model.specs.Shape.{of_places, product}
 use Rattle.canon_types.specs.Table as table
@@ -17,7 +17,7 @@ pub next_field32_size-start-requires : goal.next_field32_size-start-requires
 next_field32_size-start-requires g c =
     let cx = c.args.cx.now in
     let core = cx.core.now in
-    let t = types_of core in
+    let t = component_types core in
     let types = table.types_of t c.args.i in
     let type = c.index.result.now in
     let split = next_of_tuple t c.types.result.now c.args.i c.args.k c.tuple.result.now.types.items type g.A.ComponentType.fits g.R.LiftMembers.all core.component.types c.types.ensures c.tuple.ensures.types c.index.ensures c.requires.fits in
@@ -27,7 +27,7 @@ pub overflow_add-at : goal.overflow_add-at
 overflow_add-at g c =
     let cx = c.args.cx.now in
     let core = cx.core.now in
-    let t = types_of core in
+    let t = component_types core in
     let types = table.types_of t c.args.i in
     let type = c.index.result.now in
     let split = next_of_tuple t c.types.result.now c.args.i c.args.k c.tuple.result.now.types.items type g.A.ComponentType.fits g.R.LiftMembers.all core.component.types c.types.ensures c.tuple.ensures.types c.index.ensures c.requires.fits in
@@ -46,7 +46,7 @@ pub linear_lift_from_memory-requires-clause-aligned : goal.linear_lift_from_memo
 linear_lift_from_memory-requires-clause-aligned g c =
     let cx = c.args.cx.now in
     let core = cx.core.now in
-    let t = types_of core in
+    let t = component_types core in
     let types = table.types_of t c.args.i in
     let type = c.index.result.now in
     let split = next_of_tuple t c.types.result.now c.args.i c.args.k c.tuple.result.now.types.items type g.A.ComponentType.fits g.R.LiftMembers.all core.component.types c.types.ensures c.tuple.ensures.types c.index.ensures c.requires.fits in
@@ -57,7 +57,7 @@ pub linear_lift_from_memory-requires-clause-inside : goal.linear_lift_from_memor
 linear_lift_from_memory-requires-clause-inside g c =
     let cx = c.args.cx.now in
     let core = cx.core.now in
-    let t = types_of core in
+    let t = component_types core in
     let types = table.types_of t c.args.i in
     let type = c.index.result.now in
     let split = next_of_tuple t c.types.result.now c.args.i c.args.k c.tuple.result.now.types.items type g.A.ComponentType.fits g.R.LiftMembers.all core.component.types c.types.ensures c.tuple.ensures.types c.index.ensures c.requires.fits in
@@ -68,32 +68,32 @@ pub lift_members-requires-clause-aligned : goal.lift_members-requires-clause-ali
 lift_members-requires-clause-aligned g c =
     let cx = c.args.cx.now in
     let core = cx.core.now in
-    let t = types_of core in
+    let t = component_types core in
     let types = table.types_of t c.args.i in
     let type = c.index.result.now in
     let split = next_of_tuple t c.types.result.now c.args.i c.args.k c.tuple.result.now.types.items type g.A.ComponentType.fits g.R.LiftMembers.all core.component.types c.types.ensures c.tuple.ensures.types c.index.ensures c.requires.fits in
     let now = c.linear_lift_from_memory.new.cx.core.now in
-    subst (λ (z : Parts g.row.U.Denot g.row.G.Denot). c.args.at % members_align false (members_of (types_of z) (drop (c.args.k + 1) (table.types_of (types_of z) c.args.i))) ≡ 0) (sym c.in-Ok.ensures.same_core)
+    subst (λ (z : Parts g.row.U.Denot g.row.G.Denot). c.args.at % members_align false (members_of (component_types z) (drop (c.args.k + 1) (table.types_of (component_types z) c.args.i))) ≡ 0) (sym c.in-Ok.ensures.same_core)
     (rest_aligned t (drop c.args.k types) (drop (c.args.k + 1) types) type split c.args.at c.args.end core.memory c.requires.inside c.requires.aligned)
 
 pub lift_members-requires-clause-inside : goal.lift_members-requires-clause-inside
 lift_members-requires-clause-inside g c =
     let cx = c.args.cx.now in
     let core = cx.core.now in
-    let t = types_of core in
+    let t = component_types core in
     let types = table.types_of t c.args.i in
     let type = c.index.result.now in
     let split = next_of_tuple t c.types.result.now c.args.i c.args.k c.tuple.result.now.types.items type g.A.ComponentType.fits g.R.LiftMembers.all core.component.types c.types.ensures c.tuple.ensures.types c.index.ensures c.requires.fits in
     let n = c.next_field32_size-start in
     let there = next_end t (drop c.args.k types) (drop (c.args.k + 1) types) type split c.args.at c.args.end core.memory c.requires.inside c.requires.aligned c.types-2.result.now c.canonical_abi.result.now c.types-2.ensures c.canonical_abi.ensures n.new.offset n.ensures.end in
-    subst (λ (z : Parts g.row.U.Denot g.row.G.Denot). c.args.at + members_end false n.new.offset (members_of (types_of z) (drop (c.args.k + 1) (table.types_of (types_of z) c.args.i))) ≤ length z.memory) (sym c.in-Ok.ensures.same_core)
+    subst (λ (z : Parts g.row.U.Denot g.row.G.Denot). c.args.at + members_end false n.new.offset (members_of (component_types z) (drop (c.args.k + 1) (table.types_of (component_types z) c.args.i))) ≤ length z.memory) (sym c.in-Ok.ensures.same_core)
     (subst (λ e. c.args.at + members_end false e (members_of t (drop (c.args.k + 1) types)) ≤ length core.memory) (sym there) (rest_inside t (drop c.args.k types) (drop (c.args.k + 1) types) type split c.args.at c.args.end core.memory c.requires.inside c.requires.aligned))
 
 pub returns-in-Err-clause-lifts : goal.returns-in-Err-clause-lifts
 returns-in-Err-clause-lifts g c =
     let cx = c.args.cx.now in
     let core = cx.core.now in
-    let t = types_of core in
+    let t = component_types core in
     let types = table.types_of t c.args.i in
     let type = c.index.result.now in
     let split = next_of_tuple t c.types.result.now c.args.i c.args.k c.tuple.result.now.types.items type g.A.ComponentType.fits g.R.LiftMembers.all core.component.types c.types.ensures c.tuple.ensures.types c.index.ensures c.requires.fits in
@@ -116,7 +116,7 @@ pub returns-in-Err-lift_members-clause-lifts : goal.returns-in-Err-lift_members-
 returns-in-Err-lift_members-clause-lifts g c =
     let cx = c.args.cx.now in
     let core = cx.core.now in
-    let t = types_of core in
+    let t = component_types core in
     let types = table.types_of t c.args.i in
     let type = c.index.result.now in
     let split = next_of_tuple t c.types.result.now c.args.i c.args.k c.tuple.result.now.types.items type g.A.ComponentType.fits g.R.LiftMembers.all core.component.types c.types.ensures c.tuple.ensures.types c.index.ensures c.requires.fits in
@@ -146,7 +146,7 @@ pub returns-in-Ok-lift_members-clause-lifts : goal.returns-in-Ok-lift_members-cl
 returns-in-Ok-lift_members-clause-lifts g c =
     let cx = c.args.cx.now in
     let core = cx.core.now in
-    let t = types_of core in
+    let t = component_types core in
     let types = table.types_of t c.args.i in
     let type = c.index.result.now in
     let split = next_of_tuple t c.types.result.now c.args.i c.args.k c.tuple.result.now.types.items type g.A.ComponentType.fits g.R.LiftMembers.all core.component.types c.types.ensures c.tuple.ensures.types c.index.ensures c.requires.fits in

@@ -2,7 +2,7 @@ use Rattle.std.proofs.Common.{◌%◌, ◌^◌, length, refl, subst, ℕ}
 use Rattle.canon_lift.specs.Scalars.{StandsForNone}
 use Rattle.canon_model.specs.Flat.{flat_bits}
 use Rattle.canon_model.specs.Rep.{ScalarIs}
-use Rattle.canon_context.specs.Core.{types_of}
+use Rattle.canon_context.specs.Core.{component_types}
 use Rattle.canon_types.specs.Table.{shape_of}
 use Rattle.canon_lift.proofs.ScalarBytes.{word_lifts, word_refused, word_room}
 use Rattle.canon_lift.proofs.scalars.AnyLift.lift_words.Goals as goal
@@ -10,7 +10,7 @@ use Rattle.canon_lift.proofs.scalars.AnyLift.lift_words.Goals as goal
 pub word_of-requires : goal.word_of-requires
 word_of-requires g c =
     let core = c.args._cx.now.core.now in
-    word_room (shape_of (types_of core) c.args._ty) g.S.LoadedScalar.kind c.args.at (length c.args.src.now)
+    word_room (shape_of (component_types core) c.args._ty) g.S.LoadedScalar.kind c.args.at (length c.args.src.now)
     (g.met.S.LoadedScalar.shape core.component.types c.args._ty c.requires.fits) c.requires.words
 
 pub returns-in-Some-clause-lifts : goal.returns-in-Some-clause-lifts

@@ -1,5 +1,5 @@
 use Rattle.std.proofs.Common.{refl}
-use Rattle.canon_context.specs.Core.{types_of}
+use Rattle.canon_context.specs.Core.{component_types}
 use Rattle.canon_types.specs.Table.{shape_of}
 use Rattle.canon_lift.proofs.ScalarBytes.{scalar_lifts, scalar_refused, scalar_room}
 use Rattle.canon_lift.proofs.scalars.AnyLift.linear_lift_from_memory.Goals as goal
@@ -8,7 +8,7 @@ pub load-requires : goal.load-requires
 load-requires g c =
     let core = c.args.cx.now.core.now in
     record {
-      inside = scalar_room c.memory.result.now core.memory (shape_of (types_of core) c.args._ty) g.S.LoadedScalar.kind c.args.at
+      inside = scalar_room c.memory.result.now core.memory (shape_of (component_types core) c.args._ty) g.S.LoadedScalar.kind c.args.at
           (g.met.S.LoadedScalar.shape core.component.types c.args._ty c.requires.fits) c.requires.inside c.memory.ensures;
     }
 

@@ -8,4 +8,5 @@ lift_members-requires-clause-aligned g c = tuple_aligned
 
 pub lift_members-requires-clause-inside : goal.lift_members-requires-clause-inside
 lift_members-requires-clause-inside g c = tuple_inside
-    (g.A.ComponentType.fits ∷ g.B.ComponentType.fits ∷ g.C.ComponentType.fits ∷ g.D.ComponentType.fits ∷ g.E.ComponentType.fits ∷ g.F.ComponentType.fits ∷ []) c.args.cx.now.core.now.component.types c.in-Tuple.i c.args.ty c.in-Tuple.is c.requires.fits c.args.at c.args.cx.now.core.now.memory c.requires.inside
+    (g.A.ComponentType.fits ∷ g.B.ComponentType.fits ∷ g.C.ComponentType.fits ∷ g.D.ComponentType.fits ∷ g.E.ComponentType.fits ∷ g.F.ComponentType.fits ∷ [])
+    c.args.cx.now.core.now.component.types c.in-Tuple.i c.args.ty c.in-Tuple.is c.requires.fits c.args.at c.args.cx.now.core.now.memory c.requires.inside

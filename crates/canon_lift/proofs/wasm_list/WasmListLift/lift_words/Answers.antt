@@ -1,5 +1,5 @@
 use Rattle.std.proofs.Common.{◌∙◌, ap, arith, length, refl}
-use Rattle.canon_context.specs.Core.{types_of}
+use Rattle.canon_context.specs.Core.{component_types}
 use Rattle.canon_model.specs.Reach.{word}
 use Rattle.canon_model.specs.Shape.{of_items}
 use Rattle.canon_types.specs.Table.{shape_of}
@@ -13,14 +13,14 @@ use Rattle.canon_lift.proofs.wasm_list.WasmListLift.lift_words.Goals as goal
 
 pub word_u32-requires : goal.word_u32-requires
 word_u32-requires g c =
-    let t = types_of c.args.cx.now.core.now in
+    let t = component_types c.args.cx.now.core.now in
     let element = c.list.result.now.element in
     let shape = list_shape t c.types.result.now c.in-List.i c.args.ty element c.types.ensures c.in-List.is c.list.ensures.entry in
     omega (arith, list_words (shape_of t c.args.ty) (shape_of t element) of_items c.args.at (length c.args.src.now) shape c.requires.words)
 
 pub word_u32-requires-2 : goal.word_u32-requires-2
 word_u32-requires-2 g c =
-    let t = types_of c.args.cx.now.core.now in
+    let t = component_types c.args.cx.now.core.now in
     let element = c.list.result.now.element in
     let shape = list_shape t c.types.result.now c.in-List.i c.args.ty element c.types.ensures c.in-List.is c.list.ensures.entry in
     omega (arith, list_words (shape_of t c.args.ty) (shape_of t element) of_items c.args.at (length c.args.src.now) shape c.requires.words)
@@ -29,7 +29,7 @@ pub returns-clause-lifts : goal.returns-clause-lifts
 returns-clause-lifts g c =
     let cx = c.args.cx.now in
     let core = cx.core.now in
-    let t = types_of core in
+    let t = component_types core in
     let element = c.list.result.now.element in
     list_lifts (cap g.T.ComponentType.host_bytes) (setting_in core cx.options) (shape_of t element) (flat_in c.args.src.now c.args.at) (shape_of t c.args.ty) c.from-pointer.result c.from-count.result
     (list_element t c.types.result.now c.in-List.i c.args.ty element c.types.ensures c.in-List.is c.list.ensures.entry) (c.from-pointer.ensures ∙ c.word_u32.ensures) (c.from-count.ensures ∙ c.word_u32-2.ensures)

@@ -1,5 +1,5 @@
 use Rattle.std.proofs.Common.{◌+◌, ◌∙◌, ap, arith, refl}
-use Rattle.canon_context.specs.Core.{types_of}
+use Rattle.canon_context.specs.Core.{component_types}
 use Rattle.canon_context.specs.declared.fault.At.TheVariants as place
 use Rattle.canon_lowering.specs.Storing.{narrow}
 use Rattle.canon_model.specs.Memory.{num}
@@ -14,14 +14,14 @@ use Rattle.canon_lift.proofs.wasm_list.WasmListLift.linear_lift_from_memory.Goal
 pub load_u32-requires : goal.load_u32-requires
 load_u32-requires g c =
     let core = c.args.cx.now.core.now in
-    let t = types_of core in
+    let t = component_types core in
     let shape = list_shape t c.types.result.now c.in-List.i c.args.ty c.list.result.now.element c.types.ensures c.in-List.is c.list.ensures.entry in
     omega (arith, list_room c.memory.result.now core.memory (shape_of t c.args.ty) (shape_of t c.list.result.now.element) c.args.at shape c.requires.inside c.memory.ensures)
 
 pub load_u32-requires-2 : goal.load_u32-requires-2
 load_u32-requires-2 g c =
     let core = c.args.cx.now.core.now in
-    let t = types_of core in
+    let t = component_types core in
     let shape = list_shape t c.types.result.now c.in-List.i c.args.ty c.list.result.now.element c.types.ensures c.in-List.is c.list.ensures.entry in
     omega (arith, list_room c.memory-2.result.now core.memory (shape_of t c.args.ty) (shape_of t c.list.result.now.element) c.args.at shape c.requires.inside c.memory-2.ensures)
 
@@ -29,7 +29,7 @@ pub returns-clause-lifts : goal.returns-clause-lifts
 returns-clause-lifts g c =
     let cx = c.args.cx.now in
     let core = cx.core.now in
-    let t = types_of core in
+    let t = component_types core in
     let element = c.list.result.now.element in
     let p = c.from-pointer.ensures ∙ c.load_u32.ensures ∙ ap (λ xs. num (narrow xs) c.args.at 4) c.memory.ensures in
     let n = c.from-count.ensures ∙ c.load_u32-2.ensures ∙ ap (λ xs. num (narrow xs) (c.args.at + 4) 4) c.memory-2.ensures in

@@ -1,6 +1,6 @@
 use Rattle.std.proofs.Common.{Ok, arith, subst, sym}
 use Rattle.canon_context.proofs.Moves.{GuestLaws}
-use Rattle.canon_context.specs.Core.{types_of}
+use Rattle.canon_context.specs.Core.{component_types}
 use Rattle.canon_lower_parts.proofs.WordCases.{case_shape_is, has_bare, has_lowers}
 use Rattle.canon_lower_parts.proofs.WordTypes.{bare_room, option_known, option_none, option_shape, option_some, some_room}
 use Rattle.canon_lower_parts.specs.Gives.{option_gives}
@@ -12,17 +12,17 @@ use Rattle.canon_lower.proofs.compounds.OptionLower.linear_lower_to_flat.Goals a
 
 pub lower_bare-requires : goal.lower_bare-requires
 lower_bare-requires g c =
-    let t = types_of c.args.cx.now.core.now in
+    let t = component_types c.args.cx.now.core.now in
     let some = c.option.result.now.ty in
     let shape = option_shape t c.types.result.now c.in-Option.i some c.args.ty c.types.ensures c.in-Option.is c.option.ensures.entry in
     omega (arith, c.requires.words, bare_room (shape_of t c.args.ty) 0 (option_none (shape_of t c.args.ty) (shape_of t some) shape))
 
 pub lower_case-requires-clause-known : goal.lower_case-requires-clause-known
-lower_case-requires-clause-known g c = option_known (types_of c.args.cx.now.core.now) c.types.result.now c.in-Option.i c.option.result.now.ty c.types.ensures c.option.ensures.entry
+lower_case-requires-clause-known g c = option_known (component_types c.args.cx.now.core.now) c.types.result.now c.in-Option.i c.option.result.now.ty c.types.ensures c.option.ensures.entry
 
 pub lower_case-requires-clause-room : goal.lower_case-requires-clause-room
 lower_case-requires-clause-room g c =
-    let t = types_of c.args.cx.now.core.now in
+    let t = component_types c.args.cx.now.core.now in
     let some = c.option.result.now.ty in
     let shape = option_shape t c.types.result.now c.in-Option.i some c.args.ty c.types.ensures c.in-Option.is c.option.ensures.entry in
     omega (arith, c.requires.words, some_room (shape_of t c.args.ty) 1 (shape_of t some) (option_some (shape_of t c.args.ty) (shape_of t some) shape))
@@ -32,7 +32,7 @@ returns-in-None-clause-lowers g c =
     let L : GuestLaws _ = record { seen = g.G.Guest.seen; moves = g.G.Guest.moves; stays = g.met.G.Guest.stays; goes_on = g.met.G.Guest.goes_on } in
     let a = c.args in
     let core = a.cx.now.core.now in
-    let t = types_of core in
+    let t = component_types core in
     let s = shape_of t a.ty in
     let some = c.option.result.now.ty in
     let shape = option_shape t c.types.result.now c.in-Option.i some a.ty c.types.ensures c.in-Option.is c.option.ensures.entry in
@@ -44,7 +44,7 @@ returns-in-Some-clause-lowers g c =
     let L : GuestLaws _ = record { seen = g.G.Guest.seen; moves = g.G.Guest.moves; stays = g.met.G.Guest.stays; goes_on = g.met.G.Guest.goes_on } in
     let a = c.args in
     let core = a.cx.now.core.now in
-    let t = types_of core in
+    let t = component_types core in
     let s = shape_of t a.ty in
     let some = c.option.result.now.ty in
     let shape = option_shape t c.types.result.now c.in-Option.i some a.ty c.types.ensures c.in-Option.is c.option.ensures.entry in

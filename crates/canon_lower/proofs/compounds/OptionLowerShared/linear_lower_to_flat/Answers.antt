@@ -1,5 +1,5 @@
 use Rattle.std.proofs.Common.{Option, subst}
-use Rattle.canon_context.specs.Core.{types_of}
+use Rattle.canon_context.specs.Core.{component_types}
 use Rattle.canon_types.specs.Table.{shape_of}
 use Rattle.canon_typed.specs.Meaning.{OptionMeans}
 use Rattle.canon_lower_parts.proofs.Seen.{option_seen}
@@ -11,7 +11,7 @@ pub returns-clause-lowers : goal.returns-clause-lowers
 returns-clause-lowers g c =
     let a = c.args in
     let core = a.cx.now.core.now in
-    let s = shape_of (types_of core) a.ty in
+    let s = shape_of (component_types core) a.ty in
     let low = c.linear_lower_to_flat in
     let W = g.T.ComponentType.walks in
     let f = g.T.LowerShared.gives in

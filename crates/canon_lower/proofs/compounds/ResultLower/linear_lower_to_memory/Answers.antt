@@ -1,6 +1,6 @@
 use Rattle.std.proofs.Common.{Result, refl, subst, sym}
 use Rattle.canon_context.proofs.Moves.{GuestLaws}
-use Rattle.canon_context.specs.Core.{types_of}
+use Rattle.canon_context.specs.Core.{component_types}
 use Rattle.canon_types.specs.Table.{shape_of}
 use Rattle.canon_typed.specs.Meaning.{ResultMeans}
 use Rattle.canon_lower_parts.proofs.ResultSteps.{error_room, error_stores, ok_room, ok_stores}
@@ -23,7 +23,7 @@ returns-in-Ok-clause-stores g c =
     let L : GuestLaws _ = record { seen = g.G.Guest.seen; moves = g.G.Guest.moves; stays = g.met.G.Guest.stays; goes_on = g.met.G.Guest.goes_on } in
     let a = c.args in
     let core = a.cx.now.core.now in
-    let z = shape_of (types_of core) a.ty in
+    let z = shape_of (component_types core) a.ty in
     let p = c.put_result-part in
     let s = c.store_payload in
     let gives = result_gives g.T.ComponentType.is_unit g.T.Lower.gives g.E.ComponentType.is_unit g.E.Lower.gives core.component.types z in
@@ -36,7 +36,7 @@ returns-in-Err-clause-stores g c =
     let L : GuestLaws _ = record { seen = g.G.Guest.seen; moves = g.G.Guest.moves; stays = g.met.G.Guest.stays; goes_on = g.met.G.Guest.goes_on } in
     let a = c.args in
     let core = a.cx.now.core.now in
-    let z = shape_of (types_of core) a.ty in
+    let z = shape_of (component_types core) a.ty in
     let p = c.put_result-part-in-Err in
     let s = c.store_payload-in-Err in
     let gives = result_gives g.T.ComponentType.is_unit g.T.Lower.gives g.E.ComponentType.is_unit g.E.Lower.gives core.component.types z in

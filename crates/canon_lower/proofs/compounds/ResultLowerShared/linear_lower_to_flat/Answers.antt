@@ -1,5 +1,5 @@
 use Rattle.std.proofs.Common.{arith, subst, sym}
-use Rattle.canon_context.specs.Core.{types_of}
+use Rattle.canon_context.specs.Core.{component_types}
 use Rattle.canon_lower_parts.proofs.WordTypes.{case_room, result_err, result_knows, result_ok, result_shape}
 use Rattle.canon_lower_parts.specs.Gives.{result_gives}
 use Rattle.canon_lower_parts.specs.Words.{TypedLowers}
@@ -9,7 +9,7 @@ use Rattle.canon_lower.proofs.compounds.ResultLowerShared.linear_lower_to_flat.G
 
 pub lower_shared_payload-requires-clause-room : goal.lower_shared_payload-requires-clause-room
 lower_shared_payload-requires-clause-room g c =
-    let t = types_of c.args.cx.now.core.now in
+    let t = component_types c.args.cx.now.core.now in
     let ok = payload_in (all_shapes t) c.result-result.result.now.ok in
     let err = payload_in (all_shapes t) c.result-result.result.now.err in
     let s = shape_of t c.args.ty in
@@ -18,11 +18,11 @@ lower_shared_payload-requires-clause-room g c =
 
 pub lower_shared_payload-requires-in-Err-clause-known : goal.lower_shared_payload-requires-in-Err-clause-known
 lower_shared_payload-requires-in-Err-clause-known g c =
-    (result_knows (types_of c.args.cx.now.core.now) c.types.result.now c.in-Result.i c.result-result.result.now.ok c.result-result.result.now.err c.types.ensures c.result-result.ensures.entry).1
+    (result_knows (component_types c.args.cx.now.core.now) c.types.result.now c.in-Result.i c.result-result.result.now.ok c.result-result.result.now.err c.types.ensures c.result-result.ensures.entry).1
 
 pub lower_shared_payload-requires-in-Err-clause-room : goal.lower_shared_payload-requires-in-Err-clause-room
 lower_shared_payload-requires-in-Err-clause-room g c =
-    let t = types_of c.args.cx.now.core.now in
+    let t = component_types c.args.cx.now.core.now in
     let ok = payload_in (all_shapes t) c.result-result.result.now.ok in
     let err = payload_in (all_shapes t) c.result-result.result.now.err in
     let s = shape_of t c.args.ty in
@@ -33,7 +33,7 @@ pub returns-in-Ok-clause-lowers : goal.returns-in-Ok-clause-lowers
 returns-in-Ok-clause-lowers g c =
     let a = c.args in
     let core = a.cx.now.core.now in
-    let t = types_of core in
+    let t = component_types core in
     let s = shape_of t a.ty in
     let ok = payload_in (all_shapes t) c.result-result.result.now.ok in
     let err = payload_in (all_shapes t) c.result-result.result.now.err in
@@ -48,7 +48,7 @@ pub returns-in-Err-clause-lowers : goal.returns-in-Err-clause-lowers
 returns-in-Err-clause-lowers g c =
     let a = c.args in
     let core = a.cx.now.core.now in
-    let t = types_of core in
+    let t = component_types core in
     let s = shape_of t a.ty in
     let ok = payload_in (all_shapes t) c.result-result.result.now.ok in
     let err = payload_in (all_shapes t) c.result-result.result.now.err in

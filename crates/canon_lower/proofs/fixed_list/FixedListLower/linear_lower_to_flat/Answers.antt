@@ -1,7 +1,7 @@
 use Rattle.std.proofs.Common.{◌∙◌, ap, length, subst, sym}
 use Rattle.std.specs.Prelude.{flat_map}
 use Rattle.canon_context.proofs.Moves.{GuestLaws}
-use Rattle.canon_context.specs.Core.{types_of}
+use Rattle.canon_context.specs.Core.{component_types}
 use Rattle.canon_lower_parts.proofs.WordRows.{fixed_lowers, fixed_room}
 use Rattle.canon_lower_parts.specs.Gives.{item_shape}
 use Rattle.canon_lower_parts.specs.Lists.{IsElementOf}
@@ -15,7 +15,7 @@ use Rattle.canon_lower.proofs.fixed_list.FixedListLower.linear_lower_to_flat.Goa
 
 pub lower_items-requires-clause-room : goal.lower_items-requires-clause-room
 lower_items-requires-clause-room g c =
-    let t = types_of c.args.cx.now.core.now in
+    let t = component_types c.args.cx.now.core.now in
     let of = subst (λ (i : Instance). IsElementOf (λ s. fixed g.row.N s) g.T.ComponentType.fits i c.args.ty c.fixed_element-element.result) c.instance_type.ensures c.fixed_element-element.ensures in
     fixed_room (shape_of t c.args.ty) (shape_of t c.fixed_element-element.result) _ (length c.items_mut.result.now) c.args.dst.now of.shape (ap length c.items_mut.ensures.items ∙ c.args.self.now.count) c.requires.words
 

@@ -1,7 +1,7 @@
 use Rattle.std.proofs.Common.{List, length, subst, sym, ◌*◌, ◌+◌, ◌≤◌, false}
 use Rattle.std.specs.Prelude.{flat_map}
 use Rattle.canon_context.proofs.Moves.{GuestLaws}
-use Rattle.canon_context.specs.Core.{types_of}
+use Rattle.canon_context.specs.Core.{component_types}
 use Rattle.canon_lowering.specs.Copies.{copies}
 use Rattle.canon_model.specs.Layout.{size}
 use Rattle.canon_model.specs.Shape.{fixed}
@@ -21,7 +21,7 @@ linear_store_list_to_memory-requires-clause-room g c =
     let xs = a.self.now.items.items in
     let element = c.fixed_element-element.result in
     let of = subst (λ (i : Instance). IsElementOf (λ s. fixed g.row.N s) g.T.ComponentType.fits i a.ty element) c.instance_type.ensures c.fixed_element-element.ensures in
-    subst (λ (ys : List g.row.T.Denot). a.offset + length ys * size false (shape_of (types_of core) element) ≤ length core.memory) (sym c.items_mut.ensures.items)
+    subst (λ (ys : List g.row.T.Denot). a.offset + length ys * size false (shape_of (component_types core) element) ≤ length core.memory) (sym c.items_mut.ensures.items)
     (fixed_room L a.cx.now.options g.T.ComponentType.walks g.T.Lower.gives g.T.ComponentType.fits core a.ty element xs g.row.N of a.self.now.count a.offset c.requires.room)
 
 pub returns-clause-stores : goal.returns-clause-stores
@@ -31,7 +31,7 @@ returns-clause-stores g c =
     let core = a.cx.now.core.now in
     let xs = a.self.now.items.items in
     let element = c.fixed_element-element.result in
-    let s = shape_of (types_of core) element in
+    let s = shape_of (component_types core) element in
     let b = c.linear_store_list_to_memory.new.cx.core.now in
     let r = c.linear_store_list_to_memory.result in
     let of = subst (λ (i : Instance). IsElementOf (λ s. fixed g.row.N s) g.T.ComponentType.fits i a.ty element) c.instance_type.ensures c.fixed_element-element.ensures in

@@ -1,7 +1,7 @@
 use Rattle.std.proofs.Common.{Err, List, Ok, arith, subst}
 use Rattle.std.specs.Prelude.{flat_map}
 use Rattle.canon_context.proofs.Moves.{GuestLaws}
-use Rattle.canon_context.specs.Core.{types_of}
+use Rattle.canon_context.specs.Core.{component_types}
 use Rattle.canon_model.specs.Shape.{of_items}
 use Rattle.canon_types.specs.Table.{shape_of}
 use Rattle.canon_typed.specs.Meaning.{ListMeans}
@@ -15,14 +15,14 @@ pub put_words-requires-clause-room : goal.put_words-requires-clause-room
 put_words-requires-clause-room g c =
     let core = c.args.cx.now.core.now in
     let (s, shape) = list_shape g.T.ComponentType.fits core.component.types c.args.ty c.requires.fits in
-    omega (arith, c.requires.words, list_words (shape_of (types_of core) c.args.ty) s of_items shape)
+    omega (arith, c.requires.words, list_words (shape_of (component_types core) c.args.ty) s of_items shape)
 
 pub returns-in-Ok-clause-lowers : goal.returns-in-Ok-clause-lowers
 returns-in-Ok-clause-lowers g c =
     let L : GuestLaws _ = record { seen = g.G.Guest.seen; moves = g.G.Guest.moves; stays = g.met.G.Guest.stays; goes_on = g.met.G.Guest.goes_on } in
     let a = c.args in
     let core = a.cx.now.core.now in
-    let z = shape_of (types_of core) a.ty in
+    let z = shape_of (component_types core) a.ty in
     let W = g.T.ComponentType.walks in
     let (s, shape) = list_shape g.T.ComponentType.fits core.component.types a.ty c.requires.fits in
     let there = subst (λ (xs : List g.row.T.Denot). TypedPlaces L.seen L.moves a.cx.now.options core c.place_list.new.cx.core.now z (ListMeans W xs) (flat_map (g.T.Lower.gives core.component.types (item_shape z)) xs) (Ok c.in-Ok.block))
@@ -35,7 +35,7 @@ returns-in-Err-clause-lowers g c =
     let L : GuestLaws _ = record { seen = g.G.Guest.seen; moves = g.G.Guest.moves; stays = g.met.G.Guest.stays; goes_on = g.met.G.Guest.goes_on } in
     let a = c.args in
     let core = a.cx.now.core.now in
-    let z = shape_of (types_of core) a.ty in
+    let z = shape_of (component_types core) a.ty in
     let W = g.T.ComponentType.walks in
     let (s, shape) = list_shape g.T.ComponentType.fits core.component.types a.ty c.requires.fits in
     let there = subst (λ (xs : List g.row.T.Denot). TypedPlaces L.seen L.moves a.cx.now.options core c.place_list.new.cx.core.now z (ListMeans W xs) (flat_map (g.T.Lower.gives core.component.types (item_shape z)) xs) (Err c.in-Err.fault))

@@ -1,7 +1,7 @@
 use Rattle.std.proofs.Common.{◌≡◌, ◌∙◌, ◌+◌, Err, Ok, arith, false, get_or, length, refl}
 use Rattle.std.proofs.lemmas.List.{drop-set-lt}
 use Rattle.canon_context.proofs.Moves.{GuestLaws}
-use Rattle.canon_context.specs.Core.{types_of}
+use Rattle.canon_context.specs.Core.{component_types}
 use Rattle.canon_model.specs.Layout.{size}
 use Rattle.canon_types.specs.Table.{shape_of}
 use Rattle.canon_lower_parts.proofs.Items.{here_at, next_same}
@@ -15,7 +15,7 @@ returns-in-Err-clause-stores g c =
     let L : GuestLaws _ = record { seen = g.G.Guest.seen; moves = g.G.Guest.moves; stays = g.met.G.Guest.stays; goes_on = g.met.G.Guest.goes_on } in
     let a = c.args in
     let core = a.cx.now.core.now in
-    let t = types_of core in
+    let t = component_types core in
     let now = c.loop-k.cx.core.now in
     let i = c.loop-k.invariant in
     let x = get_or c.loop-k.items c.loop-k.k c.index-items-k.result in
@@ -30,7 +30,7 @@ loop-k-preserved g c =
     let L : GuestLaws _ = record { seen = g.G.Guest.seen; moves = g.G.Guest.moves; stays = g.met.G.Guest.stays; goes_on = g.met.G.Guest.goes_on } in
     let a = c.args in
     let core = a.cx.now.core.now in
-    let t = types_of core in
+    let t = component_types core in
     let now = c.loop-k.cx.core.now in
     let i = c.loop-k.invariant in
     let x = get_or c.loop-k.items c.loop-k.k c.index-items-k.result in
@@ -50,6 +50,6 @@ returns-clause-stores g c =
     let L : GuestLaws _ = record { seen = g.G.Guest.seen; moves = g.G.Guest.moves; stays = g.met.G.Guest.stays; goes_on = g.met.G.Guest.goes_on } in
     let a = c.args in
     let core = a.cx.now.core.now in
-    let t = types_of core in
+    let t = component_types core in
     let all : c.loop-k.k ≡ length a.items.now = omega (arith, c.loop-k-test.false, c.loop-k.auto.k-end) in
     row_end L a.cx.now.options g.Self.ComponentType.walks (g.Self.Lower.gives core.component.types (shape_of t a.ty)) (shape_of t a.ty) a.offset a.items.now core c.loop-k.cx.core.now c.loop-k.k all c.loop-k.invariant.stored
