@@ -19,7 +19,7 @@ use canon_value::Core;
 use std::alloc::Global;
 
 /// The types of a function, and the function's. The first tuple has six `u16`, the first resources are of the host's type 7.
-fn component_types(
+fn types_of(
     alloc: Global,
     params: &[InterfaceType],
     results: &[InterfaceType],
@@ -50,7 +50,7 @@ fn core_with(
     ensures options { IfSome result (λ r. length r.0.component.options.items ≡ 1) }
 {
     let memory = memory_of(alloc, bytes).ok()?;
-    let (types, ty) = component_types(alloc, params, results, false)?;
+    let (types, ty) = types_of(alloc, params, results, false)?;
     let core = core_of(alloc, StringEncoding::Utf8, types, memory).ok()?;
     Some((core, ty))
 }
