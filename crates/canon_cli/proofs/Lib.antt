@@ -1,4 +1,3 @@
 pub mod Inputs
-pub mod Listed
 pub mod Numbers
 pub mod Pieces

@@ -12,9 +12,9 @@ use Rattle.canon_player.specs.Session.{Session}
 use Rattle.canon_script.specs.Script.{Play, script_of}
 use Rattle.canon_transcript.specs.Text.{transcript_text}
 use Rattle.canon_transcript.specs.declared.transcript.Record.{Record}
-use Rattle.canon_cli.specs.Conversions.{Job, conversions_of}
+use Rattle.canon_conversions.specs.Conversions.{Job, conversions_of}
 use Rattle.canon_cli.specs.Gen.{gen_of}
-use Rattle.canon_cli.specs.Lines.{Lines}
+use Rattle.canon_conversions.specs.Lines.{Lines}
 use Rattle.canon_cli.specs.declared.command.Command.{Command}
 use Rattle.canon_cli.specs.declared.command.Command.TheVariants as command
 use Rattle.canon_cli.specs.declared.status.Status.{Status}

@@ -1,5 +1,5 @@
 -- What reads and writes do to the bytes that are known, and why they fail.
-use Rattle.std.specs.Prelude.{ℕ, ◌+◌, ◌-◌, ◌^◌, ◌≤◌, min, List, length, take, Option, Result, Ok, Err, ◌≡◌}
+use Rattle.std.specs.Prelude.{ℕ, ◌+◌, ◌-◌, ◌^◌, ◌≤◌, ◌<◌, min, List, length, take, Option, Result, Ok, Err, ◌≡◌}
 use Rattle.std.specs.Io.KnownBytes.{Appends, Consumes}
 use Rattle.canon_memory.specs.Counts.{Rose}
 
@@ -8,9 +8,9 @@ abbrev pub CountsFaults : {T E : Type 0} → ℕ → ℕ → Result T E → Type
 CountsFaults before now (Ok x) = now ≡ before
 CountsFaults before now (Err e) = (before ≤ now) × Rose before now
 
--- a prefix of the piece was taken
+-- a prefix of the piece was taken, and not all of it
 abbrev pub AppendsPrefix : Option (List ℕ) → Option (List ℕ) → List ℕ → Type 0
-AppendsPrefix old new piece = (n : ℕ) × (n ≤ length piece) × Appends old new (take n piece)
+AppendsPrefix old new piece = (n : ℕ) × (n < length piece) × Appends old new (take n piece)
 
 -- at most so many bytes were taken
 abbrev pub TakesAtMost : ℕ → Option (List ℕ) → Option (List ℕ) → Type 0

@@ -1,5 +1,12 @@
-//! Tests of the commands of the program `canon` over sources and sinks that fail, and of what canon_gen makes.
+//! Tests of what no program shows: commands over sources and sinks that fail, what canon_gen makes, lines of a transcript and lists of
+//! actions by themselves, and images of types with handles.
 #![tactic(auto)]
 
 #[cfg(test)]
-mod tests;
+mod actions;
+#[cfg(test)]
+mod images;
+#[cfg(test)]
+mod runs;
+#[cfg(test)]
+mod transcripts;

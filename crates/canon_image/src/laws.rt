@@ -1,7 +1,7 @@
 //! Laws of images, as contracts of functions that do nothing.
 
 ghost use Rattle.canon_model.specs.Laws.{ImagesDetermine};
-ghost use Rattle.canon_image.specs.Laws.{ImagesComeBack, StopsOnce};
+ghost use Rattle.canon_image_parts.specs.Laws.{ImagesComeBack, StopsOnce};
 
 /// No image begins another, and two trees are the same exactly if their images are.
 pub fn images_determine()

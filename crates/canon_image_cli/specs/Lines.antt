@@ -6,10 +6,10 @@ use Rattle.hex.specs.Hex.{encode_lower}
 use Rattle.canon_model.specs.Shape.{Shape}
 use Rattle.canon_types.specs.Table.{shape_of}
 use Rattle.canon_val.specs.declared.val.Val.{Val}
-use Rattle.canon_image.specs.Read.{IsRead}
-use Rattle.canon_image.specs.Written.{IsImaged}
-use Rattle.canon_image.specs.declared.error.ImageError.{ImageError}
-use Rattle.canon_image.specs.declared.error.ImageError.TheVariants as error
+use Rattle.canon_image_parts.specs.Read.{IsRead}
+use Rattle.canon_image_parts.specs.Written.{IsImaged}
+use Rattle.canon_image_parts.specs.declared.error.ImageError.{ImageError}
+use Rattle.canon_image_parts.specs.declared.error.ImageError.TheVariants as error
 use Rattle.canon_literals.specs.Literals.{literal_view}
 use Rattle.canon_transcript.specs.Text.{fault_text, value_text}
 use Rattle.canon_image_cli.specs.Task.{Question, Told, a_value, some_bytes}

@@ -2,9 +2,6 @@
 //! ended. It has no words.
 #![tactic(auto)]
 
-#[cfg(test)]
-mod tests;
-
 use canon_cli::{Status, StdSink, StdSource};
 use canon_image_cli::image_run;
 use std::alloc::Global;

@@ -1,5 +1,5 @@
 -- The pointers and lengths of texts and lists, and what they point to.
-use Rattle.std.proofs.Common.{◌≡◌, ◌≤◌, ◌<◌, ◌+◌, ◌*◌, ◌%◌, ◌==◌, ◌∙◌, Bool, Err, IfErr, IfOk, List, None, Ok, Result, String, ap, ap₂, arith, false, if◌then◌else◌, inl, inr, le-leb, length, refl, subst, sym, true, ℕ}
+use Rattle.std.proofs.Common.{◌≡◌, ◌≤◌, ◌<◌, ◌+◌, ◌*◌, ◌%◌, ◌==◌, ◌∙◌, Bool, Err, IfErr, IfOk, List, None, Ok, Result, String, [], ◌∷◌, ap, ap₂, arith, false, if◌then◌else◌, inl, inr, le-leb, length, refl, subst, sym, true, ℕ}
 use Rattle.std.proofs.lemmas.Bool.{cond-true}
 use Rattle.std.specs.declared.alloc.Global.{Global}
 use Rattle.canon_context.proofs.Told.{blamed_by}
@@ -8,12 +8,12 @@ use Rattle.canon_context.specs.declared.fault.At.{At as Place}
 use Rattle.canon_context.specs.declared.fault.Fault.{Fault}
 use Rattle.canon_context.specs.declared.fault.Fault.TheVariants as fault
 use Rattle.canon_ledger.specs.Ledger.{LedgerState}
-use Rattle.canon_model.specs.Layout.{align, size}
+use Rattle.canon_model.specs.Layout.{align, flat, size}
 use Rattle.canon_model.specs.Memory.{Inside, Memory}
 use Rattle.canon_model.specs.Reach as reach
 use Rattle.canon_model.specs.Reach.{Kind, TextFault, is_inside, misaligned, out_of_bounds, text_reach}
 use Rattle.canon_model.specs.Rep.{IsText}
-use Rattle.canon_model.specs.Shape.{Shape, list_of, map_of, string}
+use Rattle.canon_model.specs.Shape.{Shape, list_of, map_of, of_pairs, string, tuple}
 use Rattle.canon_model.specs.Text.{Encoding}
 use Rattle.canon_model.specs.Tree as tree
 use Rattle.canon_model.specs.Tree.{Tree}
@@ -25,11 +25,14 @@ use Rattle.canon_types.specs.Table.{Knows, shape_of}
 use Rattle.canon_types.specs.declared.types.InterfaceType.{InterfaceType}
 use Rattle.canon_reading.specs.MapsOfTrees.{map_reading, pair_reading}
 use Rattle.canon_reading.specs.OfTrees.{text_price}
-use Rattle.canon_lift.specs.Ranges.{ListRefused, ListTested, list_range_reach, wasm_list_reading}
+use Rattle.canon_lift.specs.Ranges.{IsNamedSo, ListRefused, ListTested, list_range_reach, wasm_list_reading}
 use Rattle.canon_reading.specs.Reading.{Lifts, NamedBy, Reading, Refused, Setting, stop_of}
 use Rattle.canon_reading.specs.Readings.{IsGoodList, ListPointerFault, each_reach, list_reading, read_as, text_charge, text_reading}
 use Rattle.canon_reading.specs.Spots.{Faulty, HasRoom, Represents, Spot, at_of, flat_in, length_in, pointer_in, stored}
 use Rattle.canon_lift.specs.declared.wasm_list.WasmList.{WasmList}
+use Rattle.canon_lift_parts.proofs.WordRooms.{list_words}
+use Rattle.canon_typed.specs.Types.{IsMapOf}
+use Rattle.canon_types.specs.declared.types.InterfaceType.TheVariants as ty
 use Rattle.canon_lift_parts.proofs.Refusals.{named_by, refused_before, refused_by, stops_nowhere}
 
 -- ---- their bytes
@@ -40,17 +43,34 @@ list_room bytes memory s u at is inside same =
     let room : at + 8 ≤ length memory = subst (λ (z : Shape). at + size false z ≤ length memory) is inside in
     omega (arith, room, ap length same)
 
-pub map_room : (bytes memory : List ℕ) (s u v : Shape) (at : ℕ) → s ≡ map_of u v → at + size false s ≤ length memory → bytes ≡ memory → at + 8 ≤ length bytes
-unfolding size
-map_room bytes memory s u v at is inside same =
-    let room : at + 8 ≤ length memory = subst (λ (z : Shape). at + size false z ≤ length memory) is inside in
-    omega (arith, room, ap length same)
+map_is : (Key Value : Instance → InterfaceType → Type 0) (i : Instance) (type : InterfaceType) → IsMapOf Key Value i type → (u v : Shape) × (shape_of i.types type ≡ map_of u v)
+map_is Key Value i (ty.Map x) (key, value, d, fits, fits2) = (shape_of i.types key, shape_of i.types value, d.shape)
+map_is Key Value i _ h = absurd h
+
+module _ (Key Value : Instance → InterfaceType → Type 0) (i : Instance) (type : InterfaceType) where
+  pub map_room : (bytes memory : List ℕ) (at : ℕ) → IsMapOf Key Value i type → at + size false (shape_of i.types type) ≤ length memory → bytes ≡ memory → at + 8 ≤ length bytes
+  unfolding size
+  map_room bytes memory at f inside same =
+      let (u, v, is) = map_is Key Value i type f in
+      let room : at + size false (map_of u v) ≤ length memory = subst (λ (z : Shape). at + size false z ≤ length memory) is inside in
+      omega (arith, room, ap length same)
+
+  pub map_words : (at n : ℕ) → IsMapOf Key Value i type → at + flat (shape_of i.types type) ≤ n → at + 2 ≤ n
+  map_words at n f words =
+      let (u, v, is) = map_is Key Value i type f in
+      list_words (shape_of i.types type) (tuple (u ∷ v ∷ [])) of_pairs at n is words
 
 pub text_room : (bytes memory : List ℕ) (s : Shape) (at : ℕ) → s ≡ string → at + size false s ≤ length memory → bytes ≡ memory → at + 8 ≤ length bytes
 unfolding size
 text_room bytes memory s at is inside same =
     let room : at + 8 ≤ length memory = subst (λ (z : Shape). at + size false z ≤ length memory) is inside in
     omega (arith, room, ap length same)
+
+-- ---- the faults of a place that names the spot
+
+pub named_so : (at : Spot) (x : Place) → IsNamedSo at x → (F : Kind → reach.At → Type 0) (k : Kind) → F k (at_of at) → NamedBy at F k x
+named_so (stored a) x is F k f = subst (λ y. F k y) (sym is) f
+named_so (flat_in ws i) x is F k f = (reach.word i, is, f)
 
 -- ---- a list
 

@@ -2,12 +2,13 @@
 use Rattle.std.specs.Prelude.{◌≡◌, ◌*◌, ◌+◌, ◌%◌, ◌<◌, Err, Ok, Result, false, if◌then◌else◌, [], ℕ}
 use Rattle.canon_context.specs.Component.{HasOptions}
 use Rattle.canon_context.specs.Core.{Parts}
-use Rattle.canon_context.specs.Told.{IsPlace}
+use Rattle.canon_context.specs.Told.{IsPlace, place_of}
 use Rattle.canon_context.specs.declared.fault.At.{At as Place}
 use Rattle.canon_context.specs.declared.fault.Fault.{Fault}
 use Rattle.canon_context.specs.declared.fault.Fault.TheVariants as fault
 use Rattle.canon_model.specs.Layout.{align, size}
-use Rattle.canon_model.specs.Memory.{Inside}
+use Rattle.canon_model.specs.Memory.{Inside, Memory}
+use Rattle.canon_model.specs.Reach as reach
 use Rattle.canon_model.specs.Reach.{IsGood, PointerFault, is_inside}
 use Rattle.canon_model.specs.Shape.{Shape}
 use Rattle.canon_model.specs.Text.{text_align, text_bytes}
@@ -17,9 +18,21 @@ use Rattle.canon_types.specs.Table.{Knows, shape_of}
 use Rattle.canon_types.specs.declared.types.InterfaceType.{InterfaceType}
 use Rattle.canon_reading.specs.Reading.{Reading, Setting, setting_in}
 use Rattle.canon_reading.specs.Readings.{IsGoodList, ListPointerFault, text_charge}
-use Rattle.canon_reading.specs.Spots.{Spot, at_of, length_in, pointer_in}
+use Rattle.canon_reading.specs.Spots.{Spot, at_of, flat_in, length_in, pointer_in, stored}
 use Rattle.canon_lift.specs.declared.wasm_list.WasmList.{WasmList}
 use Rattle.canon_lift.specs.declared.wasm_str.WasmStr.{WasmStr}
+
+-- ---- where a pointer and a length stand
+
+-- how a place names a spot
+abbrev pub IsNamedSo : Spot → Place → Type 0
+IsNamedSo (stored a) x = place_of x ≡ reach.address a
+IsNamedSo (flat_in ws i) x = IsPlace x (reach.word i)
+
+pub record StandAt (m : Memory) (at : Spot) (p n : ℕ) (place : Place) : Type 0 where
+  pub pointer : p ≡ pointer_in m at
+  pub count : n ≡ length_in m at
+  pub place_is : IsNamedSo at place
 
 -- ---- lists
 

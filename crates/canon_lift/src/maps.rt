@@ -1,29 +1,30 @@
 //! Maps.
 
 ghost use Rattle.std.specs.Prelude.{◌≡◌, ◌≤◌, ◌<◌, ◌+◌, ◌*◌, ◌%◌, ◌^◌, ◌&&◌, ◌++◌, ◌∷◌, [], List, OnOk, false, length};
-ghost use Rattle.canon_abi.specs.Abi.{HasLayout};
 ghost use Rattle.canon_context.specs.Core.{component_types};
 ghost use Rattle.canon_reading.specs.Scopes.{map_kept};
 ghost use Rattle.canon_model.specs.Layout.{align, begins, ends, size};
-ghost use Rattle.canon_model.specs.Shape.{Shape, tuple};
+ghost use Rattle.canon_model.specs.Shape.{tuple};
 ghost use Rattle.canon_types.specs.Table.{Knows, shape_of};
 ghost use Rattle.canon_typed.specs.Charges.{cap};
 ghost use Rattle.canon_typed.specs.Maps.{IsFilledWith};
 ghost use Rattle.canon_reading.specs.Apart.{map_apart};
 ghost use Rattle.canon_reading.specs.MapsOfTrees.{map_faulted, map_priced, map_reading, map_taken, map_told, pair_reading, pairs_reading};
 ghost use Rattle.canon_reading.specs.OfTrees.{left_true, right_true};
-ghost use Rattle.canon_lift.specs.Ranges.{RangeTested};
+ghost use Rattle.canon_lift.specs.Ranges.{StandAt};
 ghost use Rattle.canon_reading.specs.Reading.{Lifts, setting_in};
-ghost use Rattle.canon_reading.specs.Spots.{stored};
+ghost use Rattle.canon_reading.specs.Spots.{HasRoom, Spot, stored};
+ghost use Rattle.canon_typed.specs.Types.{IsMapOf};
+ghost use Rattle.canon_lowering.specs.Storing.{narrow};
 
 use crate::Lift;
+use crate::wasm_list::test_range;
 use canon_bytes::load_u32;
 use canon_context::{At, Fault, LiftContext};
 use canon_indices::OutOfMemory;
 use canon_lift_parts::{word_at, word_u32};
 use canon_memory::ValRaw;
-use canon_typed::ComponentType;
-use canon_types::{CanonicalAbiInfo, InterfaceType};
+use canon_types::InterfaceType;
 use std::alloc::Global;
 use std::collections::HashMap;
 use std::hash::Hash;
@@ -118,32 +119,39 @@ fn lift_pairs<K: Lift + Eq + Hash, V: Lift, U, G>(
     Ok(map)
 }
 
-/// Tests the range of so many pairs at a pointer that stands at `at`, and charges them: they end inside memory, the fuel is enough,
-/// and the pointer is aligned.
-fn test_pairs<K: ComponentType, V: ComponentType, U, G>(
+/// Lifts the map of so many pairs at a pointer that stands at `at`.
+fn lift_map<K: Lift + Eq + Hash, V: Lift, U, G>(
+    alloc: Global,
     cx: &mut LiftContext<'_, U, G>,
-    abi: &CanonicalAbiInfo,
+    ty: InterfaceType,
     pointer: u64,
     count: u64,
     at: At,
-) -> Result<(), Fault>
+) -> Result<HashMap<K, V>, Fault>
+    requires fits { IsMapOf K.fits V.fits cx.old.core.now.component.types ty }
     requires narrow { pointer < 2 ^ 32 }
     requires narrow_count { count < 2 ^ 32 }
-    requires aligned { 0 < abi.now.align32 }
-    ensures tested { (s : Shape) → HasLayout abi.now s → RangeTested (setting_in cx.old.core.now cx.old.options) s (cap (K.host_bytes + V.host_bytes)) pointer count at cx.old.fuel result cx.new.fuel }
-    ensures same { cx.new ≡ record cx.old { fuel = cx.new.fuel } }
+    ensures lifts { (spot : Spot) → StandAt (narrow cx.old.core.now.memory) spot pointer count at → HasRoom (narrow cx.old.core.now.memory) spot (shape_of (component_types cx.old.core.now) ty)
+        → Lifts (map_reading K.eq (cap (K.host_bytes + V.host_bytes)) K.reading V.reading) (setting_in cx.old.core.now cx.old.options) spot (shape_of (component_types cx.old.core.now) ty)
+        cx.old.core.now.ledger cx.old.fuel result cx.new.core.now.ledger cx.new.fuel }
+    ensures same_core { cx.new.core.now ≡ record cx.old.core.now { ledger = cx.new.core.now.ledger } }
+    ensures same_reference { cx.new.core.ghost_name ≡ cx.old.core.ghost_name }
+    ensures same_options { cx.new.options ≡ cx.old.options }
 {
-    if pointer + count * u64::from(abi.size32) > cx.memory().len() as u64 {
-        return Err(Fault::PointerOutOfBounds(at));
+    let InterfaceType::Map(i) = ty else {
+        unreachable!()
+    };
+    let map = cx.types().map(i);
+    let pair = Pair {
+        key: map.key,
+        value: map.value,
+        offset: u64::from(map.value_offset32),
+    };
+    let abi = map.entry_abi;
+    match test_range::<(K, V), U, G>(cx, &abi, pointer, count, at) {
+        Ok(()) => lift_pairs(alloc, cx, &pair, u64::from(abi.size32), pointer, count),
+        Err(fault) => Err(fault),
     }
-    match cx.consume_fuel_array(count, <(K, V) as ComponentType>::host_size()) {
-        Ok(()) => {}
-        Err(fault) => return Err(fault),
-    }
-    if pointer % u64::from(abi.align32) != 0 {
-        return Err(Fault::PointerMisaligned(at));
-    }
-    Ok(())
 }
 
 impl<K: Lift + Eq + Hash, V: Lift> Lift for HashMap<K, V> {
@@ -161,22 +169,9 @@ impl<K: Lift + Eq + Hash, V: Lift> Lift for HashMap<K, V> {
         ty: InterfaceType,
         at: u64,
     ) -> Result<HashMap<K, V>, Fault> {
-        let InterfaceType::Map(i) = ty else {
-            unreachable!()
-        };
-        let map = cx.types().map(i);
-        let pair = Pair {
-            key: map.key,
-            value: map.value,
-            offset: u64::from(map.value_offset32),
-        };
-        let abi = map.entry_abi;
         let pointer = u64::from(load_u32(cx.memory(), at));
         let count = u64::from(load_u32(cx.memory(), at + 4));
-        match test_pairs::<K, V, U, G>(cx, &abi, pointer, count, At::Address(at)) {
-            Ok(()) => lift_pairs(alloc, cx, &pair, u64::from(abi.size32), pointer, count),
-            Err(fault) => Err(fault),
-        }
+        lift_map(alloc, cx, ty, pointer, count, At::Address(at))
     }
 
     fn lift_words<U, G>(
@@ -186,22 +181,9 @@ impl<K: Lift + Eq + Hash, V: Lift> Lift for HashMap<K, V> {
         src: &[ValRaw],
         at: usize,
     ) -> Result<HashMap<K, V>, Fault> {
-        let InterfaceType::Map(i) = ty else {
-            unreachable!()
-        };
-        let map = cx.types().map(i);
-        let pair = Pair {
-            key: map.key,
-            value: map.value,
-            offset: u64::from(map.value_offset32),
-        };
-        let abi = map.entry_abi;
         let pointer = u64::from(word_u32(src, at));
         let count = u64::from(word_u32(src, at + 1));
-        match test_pairs::<K, V, U, G>(cx, &abi, pointer, count, word_at(at)) {
-            Ok(()) => lift_pairs(alloc, cx, &pair, u64::from(abi.size32), pointer, count),
-            Err(fault) => Err(fault),
-        }
+        lift_map(alloc, cx, ty, pointer, count, word_at(at))
     }
 
     ghost taken = { map_taken K.eq (cap (K.host_bytes + V.host_bytes)) K.reading V.reading K.taken V.taken };

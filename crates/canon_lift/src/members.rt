@@ -2,15 +2,15 @@
 
 ghost use Rattle.std.specs.Prelude.{◌≡◌, ◌≤◌, ◌+◌, ◌%◌, ◌∷◌, [], List, drop, false, length};
 ghost use Rattle.canon_context.specs.Core.{component_types};
-ghost use Rattle.canon_model.specs.Layout.{members_align, members_end, members_flat};
+ghost use Rattle.canon_model.specs.Layout.{align, flat, members_align, members_end, members_flat, size};
 ghost use Rattle.canon_model.specs.Shape.{of_places, product};
 ghost use Rattle.canon_types.specs.Instance.{Instance};
 ghost use Rattle.canon_types.specs.Table as table;
-ghost use Rattle.canon_types.specs.Table.{HasTuple, members_of};
+ghost use Rattle.canon_types.specs.Table.{HasTuple, members_of, shape_of};
 ghost use Rattle.canon_types.specs.declared.types.InterfaceType.{InterfaceType};
-ghost use Rattle.canon_typed.specs.Types.{AreOf};
+ghost use Rattle.canon_typed.specs.Types.{AreOf, IsTupleOf};
 ghost use Rattle.canon_reading.specs.Reading.{Lifts, setting_in};
-ghost use Rattle.canon_reading.specs.Readings.{RestReading, first_reading, none_reading};
+ghost use Rattle.canon_reading.specs.Readings.{RestReading, first_reading, none_reading, product_reading};
 ghost use Rattle.canon_reading.specs.Rests.{rest_reading};
 ghost use Rattle.canon_reading.specs.Spots.{flat_from, flat_in, stored, stored_from};
 
@@ -18,7 +18,7 @@ use crate::Lift;
 use canon_context::{Fault, LiftContext};
 use canon_memory::ValRaw;
 use canon_plan::flat_words;
-use canon_types::TypeTupleIndex;
+use canon_types::{InterfaceType, TypeTupleIndex};
 use std::alloc::Global;
 
 /// A member, and those behind it.
@@ -152,5 +152,66 @@ impl<A: Lift, R: LiftMembers> LiftMembers for First<A, R> {
             },
             Err(fault) => Err(fault),
         }
+    }
+}
+
+/// A tuple, which its members make.
+pub(crate) trait OfMembers: Drop {
+    type Members: LiftMembers;
+
+    // its members
+    ghost members: { Self → Self.Members };
+
+    fn of_members(parts: Self::Members) -> Self
+    where
+        Self: Sized,
+        ensures { members result ≡ parts };
+}
+
+/// Lifts a tuple from an address.
+pub(crate) fn lift_tuple<P: OfMembers, U, G>(
+    alloc: Global,
+    cx: &mut LiftContext<'_, U, G>,
+    ty: InterfaceType,
+    at: u64,
+) -> Result<P, Fault>
+    requires fits { IsTupleOf P.Members.all cx.old.core.now.component.types ty }
+    requires aligned { at % align false (shape_of (component_types cx.old.core.now) ty) ≡ 0 }
+    requires inside { at + size false (shape_of (component_types cx.old.core.now) ty) ≤ length cx.old.core.now.memory }
+    ensures lifts { Lifts (product_reading P.members P.Members.rest) (setting_in cx.old.core.now cx.old.options) (stored at) (shape_of (component_types cx.old.core.now) ty) cx.old.core.now.ledger cx.old.fuel result cx.new.core.now.ledger cx.new.fuel }
+    ensures same_core { cx.new.core.now ≡ record cx.old.core.now { ledger = cx.new.core.now.ledger } }
+    ensures same_reference { cx.new.core.ghost_name ≡ cx.old.core.ghost_name }
+    ensures same_options { cx.new.options ≡ cx.old.options }
+{
+    let InterfaceType::Tuple(i) = ty else {
+        unreachable!()
+    };
+    match P::Members::lift_members(alloc, cx, i, 0, at, 0) {
+        Ok(members) => Ok(P::of_members(members)),
+        Err(fault) => Err(fault),
+    }
+}
+
+/// The same from the words from an index on.
+pub(crate) fn lift_tuple_words<P: OfMembers, U, G>(
+    alloc: Global,
+    cx: &mut LiftContext<'_, U, G>,
+    ty: InterfaceType,
+    src: &[ValRaw],
+    at: usize,
+) -> Result<P, Fault>
+    requires fits { IsTupleOf P.Members.all cx.old.core.now.component.types ty }
+    requires words { at + flat (shape_of (component_types cx.old.core.now) ty) ≤ length src.now }
+    ensures lifts { Lifts (product_reading P.members P.Members.rest) (setting_in cx.old.core.now cx.old.options) (flat_in src.now at) (shape_of (component_types cx.old.core.now) ty) cx.old.core.now.ledger cx.old.fuel result cx.new.core.now.ledger cx.new.fuel }
+    ensures same_core { cx.new.core.now ≡ record cx.old.core.now { ledger = cx.new.core.now.ledger } }
+    ensures same_reference { cx.new.core.ghost_name ≡ cx.old.core.ghost_name }
+    ensures same_options { cx.new.options ≡ cx.old.options }
+{
+    let InterfaceType::Tuple(i) = ty else {
+        unreachable!()
+    };
+    match P::Members::lift_member_words(alloc, cx, i, 0, src, at) {
+        Ok(members) => Ok(P::of_members(members)),
+        Err(fault) => Err(fault),
     }
 }

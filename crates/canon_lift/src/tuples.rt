@@ -10,11 +10,21 @@ ghost use Rattle.canon_reading.specs.Scopes.{end_kept, more_kept, tuple_kept};
 ghost use Rattle.canon_reading.specs.Taken.{end_taken, more_taken, product_taken};
 
 use crate::Lift;
-use crate::members::{First, LiftMembers};
+use crate::members::{First, OfMembers, lift_tuple, lift_tuple_words};
 use canon_context::{Fault, LiftContext};
 use canon_memory::ValRaw;
 use canon_types::InterfaceType;
 use std::alloc::Global;
+
+impl OfMembers for () {
+    type Members = ();
+
+    ghost members = { λ p. no_more };
+
+    fn of_members(_parts: ()) -> () {
+        ()
+    }
+}
 
 impl Lift for () {
     ghost reading = { product_reading (λ p. no_more) none_reading };
@@ -31,13 +41,7 @@ impl Lift for () {
         ty: InterfaceType,
         at: u64,
     ) -> Result<(), Fault> {
-        let InterfaceType::Tuple(i) = ty else {
-            unreachable!()
-        };
-        match <() as LiftMembers>::lift_members(alloc, cx, i, 0, at, 0) {
-            Ok(()) => Ok(()),
-            Err(fault) => Err(fault),
-        }
+        lift_tuple(alloc, cx, ty, at)
     }
 
     fn lift_words<U, G>(
@@ -47,13 +51,7 @@ impl Lift for () {
         src: &[ValRaw],
         at: usize,
     ) -> Result<(), Fault> {
-        let InterfaceType::Tuple(i) = ty else {
-            unreachable!()
-        };
-        match <() as LiftMembers>::lift_member_words(alloc, cx, i, 0, src, at) {
-            Ok(()) => Ok(()),
-            Err(fault) => Err(fault),
-        }
+        lift_tuple_words(alloc, cx, ty, src, at)
     }
 
     ghost taken = { product_taken (λ p. no_more) none_reading end_taken };
@@ -65,6 +63,17 @@ impl Lift for () {
     ghost priced = { tuple_priced (λ p. no_more) end_priced };
 
     ghost told = { λ h. tuple_told (λ p. no_more) end_told };
+}
+
+impl<A: Lift> OfMembers for (A,) {
+    type Members = First<A, ()>;
+
+    ghost members = { λ p. (first_and p.0 no_more) };
+
+    fn of_members(parts: First<A, ()>) -> (A,) {
+        let First { first: a, rest: () } = parts;
+        (a,)
+    }
 }
 
 impl<A: Lift> Lift for (A,) {
@@ -82,13 +91,7 @@ impl<A: Lift> Lift for (A,) {
         ty: InterfaceType,
         at: u64,
     ) -> Result<(A,), Fault> {
-        let InterfaceType::Tuple(i) = ty else {
-            unreachable!()
-        };
-        match <First<A, ()> as LiftMembers>::lift_members(alloc, cx, i, 0, at, 0) {
-            Ok(First { first: a, rest: () }) => Ok((a,)),
-            Err(fault) => Err(fault),
-        }
+        lift_tuple(alloc, cx, ty, at)
     }
 
     fn lift_words<U, G>(
@@ -98,13 +101,7 @@ impl<A: Lift> Lift for (A,) {
         src: &[ValRaw],
         at: usize,
     ) -> Result<(A,), Fault> {
-        let InterfaceType::Tuple(i) = ty else {
-            unreachable!()
-        };
-        match <First<A, ()> as LiftMembers>::lift_member_words(alloc, cx, i, 0, src, at) {
-            Ok(First { first: a, rest: () }) => Ok((a,)),
-            Err(fault) => Err(fault),
-        }
+        lift_tuple_words(alloc, cx, ty, src, at)
     }
 
     ghost taken = { product_taken (λ p. (first_and p.0 no_more)) (first_reading first_in rest_in A.reading none_reading) (more_taken first_in rest_in
@@ -117,6 +114,20 @@ impl<A: Lift> Lift for (A,) {
     ghost priced = { tuple_priced (λ p. (first_and p.0 no_more)) (more_priced A.priced end_priced) };
 
     ghost told = { λ h. tuple_told (λ p. (first_and p.0 no_more)) (more_told (A.told h) end_told) };
+}
+
+impl<A: Lift, B: Lift> OfMembers for (A, B) {
+    type Members = First<A, First<B, ()>>;
+
+    ghost members = { λ p. (first_and p.0 (first_and p.1 no_more)) };
+
+    fn of_members(parts: First<A, First<B, ()>>) -> (A, B) {
+        let First {
+            first: a,
+            rest: First { first: b, rest: () },
+        } = parts;
+        (a, b)
+    }
 }
 
 impl<A: Lift, B: Lift> Lift for (A, B) {
@@ -135,18 +146,7 @@ impl<A: Lift, B: Lift> Lift for (A, B) {
         ty: InterfaceType,
         at: u64,
     ) -> Result<(A, B), Fault> {
-        let InterfaceType::Tuple(i) = ty else {
-            unreachable!()
-        };
-        match <First<A, First<B, ()>> as LiftMembers>::lift_members(alloc, cx, i, 0, at, 0) {
-            Ok(
-                First {
-                    first: a,
-                    rest: First { first: b, rest: () },
-                },
-            ) => Ok((a, b)),
-            Err(fault) => Err(fault),
-        }
+        lift_tuple(alloc, cx, ty, at)
     }
 
     fn lift_words<U, G>(
@@ -156,18 +156,7 @@ impl<A: Lift, B: Lift> Lift for (A, B) {
         src: &[ValRaw],
         at: usize,
     ) -> Result<(A, B), Fault> {
-        let InterfaceType::Tuple(i) = ty else {
-            unreachable!()
-        };
-        match <First<A, First<B, ()>> as LiftMembers>::lift_member_words(alloc, cx, i, 0, src, at) {
-            Ok(
-                First {
-                    first: a,
-                    rest: First { first: b, rest: () },
-                },
-            ) => Ok((a, b)),
-            Err(fault) => Err(fault),
-        }
+        lift_tuple_words(alloc, cx, ty, src, at)
     }
 
     ghost taken = { product_taken (λ p. (first_and p.0 (first_and p.1 no_more))) (first_reading first_in rest_in A.reading (first_reading first_in
@@ -182,6 +171,23 @@ impl<A: Lift, B: Lift> Lift for (A, B) {
 
     ghost told = { λ h. tuple_told (λ p. (first_and p.0 (first_and p.1 no_more))) (more_told (A.told (left_true A.is_told B.is_told h)) (more_told
         (B.told (right_true A.is_told B.is_told h)) end_told)) };
+}
+
+impl<A: Lift, B: Lift, C: Lift> OfMembers for (A, B, C) {
+    type Members = First<A, First<B, First<C, ()>>>;
+
+    ghost members = { λ p. (first_and p.0 (first_and p.1 (first_and p.2 no_more))) };
+
+    fn of_members(parts: First<A, First<B, First<C, ()>>>) -> (A, B, C) {
+        let First {
+            first: a,
+            rest: First {
+                first: b,
+                rest: First { first: c, rest: () },
+            },
+        } = parts;
+        (a, b, c)
+    }
 }
 
 impl<A: Lift, B: Lift, C: Lift> Lift for (A, B, C) {
@@ -200,23 +206,7 @@ impl<A: Lift, B: Lift, C: Lift> Lift for (A, B, C) {
         ty: InterfaceType,
         at: u64,
     ) -> Result<(A, B, C), Fault> {
-        let InterfaceType::Tuple(i) = ty else {
-            unreachable!()
-        };
-        match <First<A, First<B, First<C, ()>>> as LiftMembers>::lift_members(
-            alloc, cx, i, 0, at, 0,
-        ) {
-            Ok(
-                First {
-                    first: a,
-                    rest: First {
-                        first: b,
-                        rest: First { first: c, rest: () },
-                    },
-                },
-            ) => Ok((a, b, c)),
-            Err(fault) => Err(fault),
-        }
+        lift_tuple(alloc, cx, ty, at)
     }
 
     fn lift_words<U, G>(
@@ -226,23 +216,7 @@ impl<A: Lift, B: Lift, C: Lift> Lift for (A, B, C) {
         src: &[ValRaw],
         at: usize,
     ) -> Result<(A, B, C), Fault> {
-        let InterfaceType::Tuple(i) = ty else {
-            unreachable!()
-        };
-        match <First<A, First<B, First<C, ()>>> as LiftMembers>::lift_member_words(
-            alloc, cx, i, 0, src, at,
-        ) {
-            Ok(
-                First {
-                    first: a,
-                    rest: First {
-                        first: b,
-                        rest: First { first: c, rest: () },
-                    },
-                },
-            ) => Ok((a, b, c)),
-            Err(fault) => Err(fault),
-        }
+        lift_tuple_words(alloc, cx, ty, src, at)
     }
 
     ghost taken = { product_taken (λ p. (first_and p.0 (first_and p.1 (first_and p.2 no_more)))) (first_reading first_in rest_in A.reading
@@ -265,6 +239,26 @@ impl<A: Lift, B: Lift, C: Lift> Lift for (A, B, C) {
         C.is_told h))) (more_told (C.told (right_true (A.is_told && B.is_told) C.is_told h)) end_told))) };
 }
 
+impl<A: Lift, B: Lift, C: Lift, D: Lift> OfMembers for (A, B, C, D) {
+    type Members = First<A, First<B, First<C, First<D, ()>>>>;
+
+    ghost members = { λ p. (first_and p.0 (first_and p.1 (first_and p.2 (first_and p.3 no_more)))) };
+
+    fn of_members(parts: First<A, First<B, First<C, First<D, ()>>>>) -> (A, B, C, D) {
+        let First {
+            first: a,
+            rest: First {
+                first: b,
+                rest: First {
+                    first: c,
+                    rest: First { first: d, rest: () },
+                },
+            },
+        } = parts;
+        (a, b, c, d)
+    }
+}
+
 impl<A: Lift, B: Lift, C: Lift, D: Lift> Lift for (A, B, C, D) {
     ghost reading = { product_reading (λ p. (first_and p.0 (first_and p.1 (first_and p.2 (first_and p.3 no_more))))) (first_reading first_in rest_in
         A.reading (first_reading first_in rest_in B.reading (first_reading first_in rest_in C.reading (first_reading first_in rest_in D.reading
@@ -282,26 +276,7 @@ impl<A: Lift, B: Lift, C: Lift, D: Lift> Lift for (A, B, C, D) {
         ty: InterfaceType,
         at: u64,
     ) -> Result<(A, B, C, D), Fault> {
-        let InterfaceType::Tuple(i) = ty else {
-            unreachable!()
-        };
-        match <First<A, First<B, First<C, First<D, ()>>>> as LiftMembers>::lift_members(
-            alloc, cx, i, 0, at, 0,
-        ) {
-            Ok(
-                First {
-                    first: a,
-                    rest: First {
-                        first: b,
-                        rest: First {
-                            first: c,
-                            rest: First { first: d, rest: () },
-                        },
-                    },
-                },
-            ) => Ok((a, b, c, d)),
-            Err(fault) => Err(fault),
-        }
+        lift_tuple(alloc, cx, ty, at)
     }
 
     fn lift_words<U, G>(
@@ -311,26 +286,7 @@ impl<A: Lift, B: Lift, C: Lift, D: Lift> Lift for (A, B, C, D) {
         src: &[ValRaw],
         at: usize,
     ) -> Result<(A, B, C, D), Fault> {
-        let InterfaceType::Tuple(i) = ty else {
-            unreachable!()
-        };
-        match <First<A, First<B, First<C, First<D, ()>>>> as LiftMembers>::lift_member_words(
-            alloc, cx, i, 0, src, at,
-        ) {
-            Ok(
-                First {
-                    first: a,
-                    rest: First {
-                        first: b,
-                        rest: First {
-                            first: c,
-                            rest: First { first: d, rest: () },
-                        },
-                    },
-                },
-            ) => Ok((a, b, c, d)),
-            Err(fault) => Err(fault),
-        }
+        lift_tuple_words(alloc, cx, ty, src, at)
     }
 
     ghost taken = { product_taken (λ p. (first_and p.0 (first_and p.1 (first_and p.2 (first_and p.3 no_more))))) (first_reading first_in rest_in
@@ -356,6 +312,29 @@ impl<A: Lift, B: Lift, C: Lift, D: Lift> Lift for (A, B, C, D) {
         C.is_told) D.is_told h))) (more_told (D.told (right_true ((A.is_told && B.is_told) && C.is_told) D.is_told h)) end_told)))) };
 }
 
+impl<A: Lift, B: Lift, C: Lift, D: Lift, E: Lift> OfMembers for (A, B, C, D, E) {
+    type Members = First<A, First<B, First<C, First<D, First<E, ()>>>>>;
+
+    ghost members = { λ p. (first_and p.0 (first_and p.1 (first_and p.2 (first_and p.3 (first_and p.4 no_more))))) };
+
+    fn of_members(parts: First<A, First<B, First<C, First<D, First<E, ()>>>>>) -> (A, B, C, D, E) {
+        let First {
+            first: a,
+            rest: First {
+                first: b,
+                rest: First {
+                    first: c,
+                    rest: First {
+                        first: d,
+                        rest: First { first: e, rest: () },
+                    },
+                },
+            },
+        } = parts;
+        (a, b, c, d, e)
+    }
+}
+
 impl<A: Lift, B: Lift, C: Lift, D: Lift, E: Lift> Lift for (A, B, C, D, E) {
     ghost reading = { product_reading (λ p. (first_and p.0 (first_and p.1 (first_and p.2 (first_and p.3 (first_and p.4 no_more)))))) (first_reading
         first_in rest_in A.reading (first_reading first_in rest_in B.reading (first_reading first_in rest_in C.reading (first_reading first_in rest_in
@@ -373,29 +352,7 @@ impl<A: Lift, B: Lift, C: Lift, D: Lift, E: Lift> Lift for (A, B, C, D, E) {
         ty: InterfaceType,
         at: u64,
     ) -> Result<(A, B, C, D, E), Fault> {
-        let InterfaceType::Tuple(i) = ty else {
-            unreachable!()
-        };
-        match <First<A, First<B, First<C, First<D, First<E, ()>>>>> as LiftMembers>::lift_members(
-            alloc, cx, i, 0, at, 0,
-        ) {
-            Ok(
-                First {
-                    first: a,
-                    rest: First {
-                        first: b,
-                        rest: First {
-                            first: c,
-                            rest: First {
-                                first: d,
-                                rest: First { first: e, rest: () },
-                            },
-                        },
-                    },
-                },
-            ) => Ok((a, b, c, d, e)),
-            Err(fault) => Err(fault),
-        }
+        lift_tuple(alloc, cx, ty, at)
     }
 
     fn lift_words<U, G>(
@@ -405,31 +362,7 @@ impl<A: Lift, B: Lift, C: Lift, D: Lift, E: Lift> Lift for (A, B, C, D, E) {
         src: &[ValRaw],
         at: usize,
     ) -> Result<(A, B, C, D, E), Fault> {
-        let InterfaceType::Tuple(i) = ty else {
-            unreachable!()
-        };
-        match <First<
-            A,
-            First<B, First<C, First<D, First<E, ()>>>>,
-        > as LiftMembers>::lift_member_words(alloc, cx, i, 0, src, at)
-        {
-            Ok(
-                First {
-                    first: a,
-                    rest: First {
-                        first: b,
-                        rest: First {
-                            first: c,
-                            rest: First {
-                                first: d,
-                                rest: First { first: e, rest: () },
-                            },
-                        },
-                    },
-                },
-            ) => Ok((a, b, c, d, e)),
-            Err(fault) => Err(fault),
-        }
+        lift_tuple_words(alloc, cx, ty, src, at)
     }
 
     ghost taken = { product_taken (λ p. (first_and p.0 (first_and p.1 (first_and p.2 (first_and p.3 (first_and p.4 no_more)))))) (first_reading
@@ -460,6 +393,34 @@ impl<A: Lift, B: Lift, C: Lift, D: Lift, E: Lift> Lift for (A, B, C, D, E) {
         E.is_told h))) (more_told (E.told (right_true (((A.is_told && B.is_told) && C.is_told) && D.is_told) E.is_told h)) end_told))))) };
 }
 
+impl<A: Lift, B: Lift, C: Lift, D: Lift, E: Lift, F: Lift> OfMembers for (A, B, C, D, E, F) {
+    type Members = First<A, First<B, First<C, First<D, First<E, First<F, ()>>>>>>;
+
+    ghost members = { λ p. (first_and p.0 (first_and p.1 (first_and p.2 (first_and p.3 (first_and p.4 (first_and p.5 no_more)))))) };
+
+    fn of_members(
+        parts: First<A, First<B, First<C, First<D, First<E, First<F, ()>>>>>>,
+    ) -> (A, B, C, D, E, F) {
+        let First {
+            first: a,
+            rest: First {
+                first: b,
+                rest: First {
+                    first: c,
+                    rest: First {
+                        first: d,
+                        rest: First {
+                            first: e,
+                            rest: First { first: f, rest: () },
+                        },
+                    },
+                },
+            },
+        } = parts;
+        (a, b, c, d, e, f)
+    }
+}
+
 impl<A: Lift, B: Lift, C: Lift, D: Lift, E: Lift, F: Lift> Lift for (A, B, C, D, E, F) {
     ghost reading = { product_reading (λ p. (first_and p.0 (first_and p.1 (first_and p.2 (first_and p.3 (first_and p.4 (first_and p.5 no_more)))))))
         (first_reading first_in rest_in A.reading (first_reading first_in rest_in B.reading (first_reading first_in rest_in C.reading (first_reading
@@ -477,34 +438,7 @@ impl<A: Lift, B: Lift, C: Lift, D: Lift, E: Lift, F: Lift> Lift for (A, B, C, D,
         ty: InterfaceType,
         at: u64,
     ) -> Result<(A, B, C, D, E, F), Fault> {
-        let InterfaceType::Tuple(i) = ty else {
-            unreachable!()
-        };
-        match <First<
-            A,
-            First<B, First<C, First<D, First<E, First<F, ()>>>>>,
-        > as LiftMembers>::lift_members(alloc, cx, i, 0, at, 0)
-        {
-            Ok(
-                First {
-                    first: a,
-                    rest: First {
-                        first: b,
-                        rest: First {
-                            first: c,
-                            rest: First {
-                                first: d,
-                                rest: First {
-                                    first: e,
-                                    rest: First { first: f, rest: () },
-                                },
-                            },
-                        },
-                    },
-                },
-            ) => Ok((a, b, c, d, e, f)),
-            Err(fault) => Err(fault),
-        }
+        lift_tuple(alloc, cx, ty, at)
     }
 
     fn lift_words<U, G>(
@@ -514,34 +448,7 @@ impl<A: Lift, B: Lift, C: Lift, D: Lift, E: Lift, F: Lift> Lift for (A, B, C, D,
         src: &[ValRaw],
         at: usize,
     ) -> Result<(A, B, C, D, E, F), Fault> {
-        let InterfaceType::Tuple(i) = ty else {
-            unreachable!()
-        };
-        match <First<
-            A,
-            First<B, First<C, First<D, First<E, First<F, ()>>>>>,
-        > as LiftMembers>::lift_member_words(alloc, cx, i, 0, src, at)
-        {
-            Ok(
-                First {
-                    first: a,
-                    rest: First {
-                        first: b,
-                        rest: First {
-                            first: c,
-                            rest: First {
-                                first: d,
-                                rest: First {
-                                    first: e,
-                                    rest: First { first: f, rest: () },
-                                },
-                            },
-                        },
-                    },
-                },
-            ) => Ok((a, b, c, d, e, f)),
-            Err(fault) => Err(fault),
-        }
+        lift_tuple_words(alloc, cx, ty, src, at)
     }
 
     ghost taken = { product_taken (λ p. (first_and p.0 (first_and p.1 (first_and p.2 (first_and p.3 (first_and p.4 (first_and p.5 no_more)))))))

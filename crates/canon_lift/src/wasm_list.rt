@@ -10,7 +10,9 @@ ghost use Rattle.canon_typed.specs.Charges.{cap, free, list_cost};
 ghost use Rattle.canon_typed.specs.Types.{IsListOf};
 ghost use Rattle.canon_lift.specs.RangesOfTrees.{wasm_list_apart, wasm_list_faulted, wasm_list_priced};
 ghost use Rattle.canon_reading.specs.OfTrees.{untrue};
-ghost use Rattle.canon_lift.specs.Ranges.{IsListFrom, IsListOfCore, ListTested, wasm_list_reading};
+ghost use Rattle.canon_lift.specs.Ranges.{IsListFrom, IsListOfCore, ListTested, RangeTested, wasm_list_reading};
+ghost use Rattle.canon_abi.specs.Abi.{HasLayout};
+ghost use Rattle.canon_model.specs.Shape.{Shape};
 ghost use Rattle.canon_reading.specs.Reading.{Lifts, setting_in};
 ghost use Rattle.canon_reading.specs.Readings.{item_spot};
 ghost use Rattle.canon_reading.specs.Spots.{stored};
@@ -40,8 +42,35 @@ pub struct WasmList<T> {
     pub(crate) marker: PhantomData<T>,
 }
 
-/// The list of so many items of a type at a pointer that stands at `at`: it is tested that they end inside memory, then they are
-/// charged, and then the alignment is tested.
+/// Tests the range of so many items at a pointer that stands at `at`, and charges them: they end inside memory, the fuel is enough,
+/// and the pointer is aligned.
+pub(crate) fn test_range<T: ComponentType, U, G>(
+    cx: &mut LiftContext<'_, U, G>,
+    abi: &CanonicalAbiInfo,
+    pointer: u64,
+    count: u64,
+    at: At,
+) -> Result<(), Fault>
+    requires narrow { pointer < 2 ^ 32 }
+    requires narrow_count { count < 2 ^ 32 }
+    requires aligned { 0 < abi.now.align32 }
+    ensures tested { (s : Shape) → HasLayout abi.now s → RangeTested (setting_in cx.old.core.now cx.old.options) s (cap T.host_bytes) pointer count at cx.old.fuel result cx.new.fuel }
+    ensures same { cx.new ≡ record cx.old { fuel = cx.new.fuel } }
+{
+    if pointer + count * u64::from(abi.size32) > cx.memory().len() as u64 {
+        return Err(Fault::PointerOutOfBounds(at));
+    }
+    match cx.consume_fuel_array(count, T::host_size()) {
+        Ok(()) => {}
+        Err(fault) => return Err(fault),
+    }
+    if pointer % u64::from(abi.align32) != 0 {
+        return Err(Fault::PointerMisaligned(at));
+    }
+    Ok(())
+}
+
+/// The list of so many items of a type at a pointer that stands at `at`, whose range is tested and charged.
 pub(crate) fn list_from<T: ComponentType, U, G>(
     cx: &mut LiftContext<'_, U, G>,
     element: InterfaceType,
@@ -56,17 +85,10 @@ pub(crate) fn list_from<T: ComponentType, U, G>(
     ensures same { cx.new ≡ record cx.old { fuel = cx.new.fuel } }
 {
     let abi = *cx.types().canonical_abi(&element);
-    if pointer + count * u64::from(abi.size32) > cx.memory().len() as u64 {
-        return Err(Fault::PointerOutOfBounds(at));
+    match test_range::<T, U, G>(cx, &abi, pointer, count, at) {
+        Ok(()) => Ok(WasmList::row(cx, element, pointer, count)),
+        Err(fault) => Err(fault),
     }
-    match cx.consume_fuel_array(count, T::host_size()) {
-        Ok(()) => {}
-        Err(fault) => return Err(fault),
-    }
-    if pointer % u64::from(abi.align32) != 0 {
-        return Err(Fault::PointerMisaligned(at));
-    }
-    Ok(WasmList::row(cx, element, pointer, count))
 }
 
 impl<T> WasmList<T> {

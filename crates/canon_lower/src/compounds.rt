@@ -1,15 +1,24 @@
 //! Options and results.
 
+ghost use Rattle.std.specs.Prelude.{◌≡◌, ◌≤◌, ◌+◌, false, length};
+ghost use Rattle.canon_context.specs.Core.{component_types};
 ghost use Rattle.canon_lower_parts.specs.Given.{option_given, result_given};
 ghost use Rattle.canon_lower_parts.specs.Gives.{option_gives, result_gives};
+ghost use Rattle.canon_lower_parts.specs.Stores.{TypedStores};
 ghost use Rattle.canon_lower_parts.specs.Walkable.{option_walkable, result_walkable};
+ghost use Rattle.canon_lower_parts.specs.Words.{TypedLowers};
+ghost use Rattle.canon_model.specs.Layout.{flat, size};
+ghost use Rattle.canon_types.specs.Table.{Knows, shape_of};
+ghost use Rattle.canon_typed.specs.Meaning.{ResultMeans};
+ghost use Rattle.canon_typed.specs.Types.{IsResultOf};
 
-use crate::cases::{store_payload, store_shared_payload};
-use crate::words::{lower_case, lower_payload, lower_shared_payload};
+use crate::cases::store_payload;
+use crate::words::{lower_case, lower_payload};
 use crate::{Lower, LowerShared};
 use canon_context::{Fault, LowerContext};
 use canon_lower_parts::{lower_bare, put_option, put_result};
 use canon_memory::{Guest, ValRaw};
+use canon_typed::ComponentType;
 use canon_types::InterfaceType;
 
 impl<T: Lower> Lower for Option<T> {
@@ -84,6 +93,60 @@ impl<T: LowerShared> LowerShared for Option<T> {
     ghost given = { option_given T.fits T.walks T.gives T.given };
 }
 
+/// Lowers a result into its words. `T` and `E` say which of its payloads is the unit, which stands for none.
+fn lower_result<A: Lower, B: Lower, T: ComponentType, E: ComponentType, D, G: Guest>(
+    outcome: &mut Result<A, B>,
+    cx: &mut LowerContext<'_, D, G>,
+    ty: InterfaceType,
+    dst: &mut [ValRaw],
+) -> Result<(), Fault>
+    requires known { Knows (component_types cx.old.core.now) ty }
+    requires fits { IsResultOf T.is_unit A.fits E.is_unit B.fits cx.old.core.now.component.types ty }
+    requires words { length dst.old ≡ flat (shape_of (component_types cx.old.core.now) ty) }
+    ensures lowers { TypedLowers G.seen G.moves cx.old.options cx.old.core.now cx.new.core.now (shape_of (component_types cx.old.core.now) ty) dst.new 0 (ResultMeans T.is_unit A.walks E.is_unit B.walks outcome.old)
+        (result_gives T.is_unit A.gives E.is_unit B.gives cx.old.core.now.component.types (shape_of (component_types cx.old.core.now) ty) outcome.old) result }
+    ensures count { length dst.new ≡ length dst.old }
+    ensures same_reference { cx.new.core.ghost_name ≡ cx.old.core.ghost_name }
+    ensures same_options { cx.new.options ≡ cx.old.options }
+{
+    let InterfaceType::Result(i) = ty else {
+        unreachable!()
+    };
+    let result = cx.types().result(i);
+    let (ok, err) = (result.ok, result.err);
+    match outcome {
+        Ok(value) => lower_payload::<A, T, D, G>(value, cx, ok, dst, 0),
+        Err(value) => lower_payload::<B, E, D, G>(value, cx, err, dst, 1),
+    }
+}
+
+/// Stores a result at an address. `T` and `E` say which of its payloads is the unit, which stands for none.
+fn store_result<A: Lower, B: Lower, T: ComponentType, E: ComponentType, D, G: Guest>(
+    outcome: &mut Result<A, B>,
+    cx: &mut LowerContext<'_, D, G>,
+    ty: InterfaceType,
+    offset: u64,
+) -> Result<(), Fault>
+    requires known { Knows (component_types cx.old.core.now) ty }
+    requires fits { IsResultOf T.is_unit A.fits E.is_unit B.fits cx.old.core.now.component.types ty }
+    requires room { offset + size false (shape_of (component_types cx.old.core.now) ty) ≤ length cx.old.core.now.memory }
+    ensures stores { TypedStores G.seen G.moves cx.old.options cx.old.core.now cx.new.core.now (shape_of (component_types cx.old.core.now) ty) offset (ResultMeans T.is_unit A.walks E.is_unit B.walks outcome.old)
+        (result_gives T.is_unit A.gives E.is_unit B.gives cx.old.core.now.component.types (shape_of (component_types cx.old.core.now) ty) outcome.old) result }
+    ensures same_reference { cx.new.core.ghost_name ≡ cx.old.core.ghost_name }
+    ensures same_options { cx.new.options ≡ cx.old.options }
+{
+    match outcome {
+        Ok(value) => {
+            let (part, inner) = put_result::<A, B, T, E, D, G>(cx, ty, 0, offset);
+            store_payload::<A, T, D, G>(value, cx, part, inner)
+        }
+        Err(value) => {
+            let (part, inner) = put_result::<A, B, T, E, D, G>(cx, ty, 1, offset);
+            store_payload::<B, E, D, G>(value, cx, part, inner)
+        }
+    }
+}
+
 impl<T: Lower, E: Lower> Lower for Result<T, E> {
     ghost gives = { result_gives T.is_unit T.gives E.is_unit E.gives };
 
@@ -93,15 +156,7 @@ impl<T: Lower, E: Lower> Lower for Result<T, E> {
         ty: InterfaceType,
         dst: &mut [ValRaw],
     ) -> Result<(), Fault> {
-        let InterfaceType::Result(i) = ty else {
-            unreachable!()
-        };
-        let result = cx.types().result(i);
-        let (ok, err) = (result.ok, result.err);
-        match self {
-            Ok(value) => lower_payload(value, cx, ok, dst, 0),
-            Err(value) => lower_payload(value, cx, err, dst, 1),
-        }
+        lower_result::<T, E, T, E, D, G>(self, cx, ty, dst)
     }
 
     fn linear_lower_to_memory<D, G: Guest>(
@@ -110,16 +165,7 @@ impl<T: Lower, E: Lower> Lower for Result<T, E> {
         ty: InterfaceType,
         offset: u64,
     ) -> Result<(), Fault> {
-        match self {
-            Ok(value) => {
-                let (part, inner) = put_result::<T, E, D, G>(cx, ty, 0, offset);
-                store_payload(value, cx, part, inner)
-            }
-            Err(value) => {
-                let (part, inner) = put_result::<T, E, D, G>(cx, ty, 1, offset);
-                store_payload(value, cx, part, inner)
-            }
-        }
+        store_result::<T, E, T, E, D, G>(self, cx, ty, offset)
     }
 
     ghost walkable = { result_walkable T.is_unit T.walks E.is_unit E.walks T.walkable E.walkable };
@@ -136,15 +182,7 @@ impl<T: LowerShared, E: LowerShared> LowerShared for Result<T, E> {
         ty: InterfaceType,
         dst: &mut [ValRaw],
     ) -> Result<(), Fault> {
-        let InterfaceType::Result(i) = ty else {
-            unreachable!()
-        };
-        let result = cx.types().result(i);
-        let (ok, err) = (result.ok, result.err);
-        match self {
-            Ok(value) => lower_shared_payload(value, cx, ok, dst, 0),
-            Err(value) => lower_shared_payload(value, cx, err, dst, 1),
-        }
+        lower_result::<&T, &E, T, E, D, G>(&mut self.as_ref(), cx, ty, dst)
     }
 
     fn linear_lower_to_memory<D, G: Guest>(
@@ -153,16 +191,7 @@ impl<T: LowerShared, E: LowerShared> LowerShared for Result<T, E> {
         ty: InterfaceType,
         offset: u64,
     ) -> Result<(), Fault> {
-        match self {
-            Ok(value) => {
-                let (part, inner) = put_result::<T, E, D, G>(cx, ty, 0, offset);
-                store_shared_payload(value, cx, part, inner)
-            }
-            Err(value) => {
-                let (part, inner) = put_result::<T, E, D, G>(cx, ty, 1, offset);
-                store_shared_payload(value, cx, part, inner)
-            }
-        }
+        store_result::<&T, &E, T, E, D, G>(&mut self.as_ref(), cx, ty, offset)
     }
 
     ghost walkable = { result_walkable T.is_unit T.walks E.is_unit E.walks T.walkable E.walkable };

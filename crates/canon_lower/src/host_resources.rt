@@ -25,7 +25,6 @@ use canon_types::InterfaceType;
 impl<T: HostResourceType<R>, R: Copy> Lower for HostResource<T, R> {
     ghost gives = { λ i s v. held_gives (T.type_of v.ty) v.state v.rep i s };
 
-    #[tactic(auto, using(canon_lower_parts::proofs::HeldSteps::held_type))]
     fn linear_lower_to_flat<D, G: Guest>(
         &mut self,
         cx: &mut LowerContext<'_, D, G>,
@@ -47,7 +46,6 @@ impl<T: HostResourceType<R>, R: Copy> Lower for HostResource<T, R> {
         lower_held(self, cx, ty, dst)
     }
 
-    #[tactic(auto, using(canon_lower_parts::proofs::HeldSteps::held_type))]
     fn linear_lower_to_memory<D, G: Guest>(
         &mut self,
         cx: &mut LowerContext<'_, D, G>,
@@ -76,7 +74,6 @@ impl<T: HostResourceType<R>, R: Copy> Lower for HostResource<T, R> {
 impl<T: HostType> Lower for Resource<T> {
     ghost gives = { λ i s v. held_gives (Host T.ID) v.state v.rep i s };
 
-    #[tactic(auto, using(canon_lower_parts::proofs::HeldSteps::held_type))]
     fn linear_lower_to_flat<D, G: Guest>(
         &mut self,
         cx: &mut LowerContext<'_, D, G>,
@@ -98,7 +95,6 @@ impl<T: HostType> Lower for Resource<T> {
         lower_held(self, cx, ty, dst)
     }
 
-    #[tactic(auto, using(canon_lower_parts::proofs::HeldSteps::held_type))]
     fn linear_lower_to_memory<D, G: Guest>(
         &mut self,
         cx: &mut LowerContext<'_, D, G>,
@@ -127,7 +123,6 @@ impl<T: HostType> Lower for Resource<T> {
 impl Lower for ResourceDynamic {
     ghost gives = { λ i s v. held_gives (HostDynamic v.ty) v.state v.rep i s };
 
-    #[tactic(auto, using(canon_lower_parts::proofs::HeldSteps::held_type))]
     fn linear_lower_to_flat<D, G: Guest>(
         &mut self,
         cx: &mut LowerContext<'_, D, G>,
@@ -149,7 +144,6 @@ impl Lower for ResourceDynamic {
         lower_held(self, cx, ty, dst)
     }
 
-    #[tactic(auto, using(canon_lower_parts::proofs::HeldSteps::held_type))]
     fn linear_lower_to_memory<D, G: Guest>(
         &mut self,
         cx: &mut LowerContext<'_, D, G>,

@@ -77,13 +77,8 @@ impl<T: Lower> Lower for Vec<T> {
         ty: InterfaceType,
         dst: &mut [ValRaw],
     ) -> Result<(), Fault> {
-        match place_list(cx, &ty, self.as_mut_slice()) {
-            Ok(block) => {
-                put_words(dst, block);
-                Ok(())
-            }
-            Err(fault) => Err(fault),
-        }
+        let placed = place_list(cx, &ty, self.as_mut_slice());
+        put_words(dst, placed)
     }
 
     fn linear_lower_to_memory<D, G: Guest>(
@@ -92,13 +87,8 @@ impl<T: Lower> Lower for Vec<T> {
         ty: InterfaceType,
         offset: u64,
     ) -> Result<(), Fault> {
-        match place_list(cx, &ty, self.as_mut_slice()) {
-            Ok(block) => {
-                put_placed(cx, offset, block);
-                Ok(())
-            }
-            Err(fault) => Err(fault),
-        }
+        let placed = place_list(cx, &ty, self.as_mut_slice());
+        put_placed(cx, offset, placed)
     }
 
     ghost walkable = { λ v. list_walkable T.walks T.walkable v.items };
@@ -115,13 +105,8 @@ impl<T: LowerShared> LowerShared for Vec<T> {
         ty: InterfaceType,
         dst: &mut [ValRaw],
     ) -> Result<(), Fault> {
-        match place_shared_list(cx, &ty, self.as_slice()) {
-            Ok(block) => {
-                put_words(dst, block);
-                Ok(())
-            }
-            Err(fault) => Err(fault),
-        }
+        let placed = place_shared_list(cx, &ty, self.as_slice());
+        put_words(dst, placed)
     }
 
     fn linear_lower_to_memory<D, G: Guest>(
@@ -130,13 +115,8 @@ impl<T: LowerShared> LowerShared for Vec<T> {
         ty: InterfaceType,
         offset: u64,
     ) -> Result<(), Fault> {
-        match place_shared_list(cx, &ty, self.as_slice()) {
-            Ok(block) => {
-                put_placed(cx, offset, block);
-                Ok(())
-            }
-            Err(fault) => Err(fault),
-        }
+        let placed = place_shared_list(cx, &ty, self.as_slice());
+        put_placed(cx, offset, placed)
     }
 
     ghost walkable = { λ v. list_walkable T.walks T.walkable v.items };

@@ -115,13 +115,8 @@ fn lower_map<K: LowerShared + Eq + Hash, V: LowerShared, D, G: Guest>(
     ensures same_reference { cx.new.core.ghost_name ≡ cx.old.core.ghost_name }
     ensures same_options { cx.new.options ≡ cx.old.options }
 {
-    match place_map(cx, &ty, map) {
-        Ok(block) => {
-            put_words(dst, block);
-            Ok(())
-        }
-        Err(fault) => Err(fault),
-    }
+    let placed = place_map(cx, &ty, map);
+    put_words(dst, placed)
 }
 
 /// Stores a map's pointer and length at an address.
@@ -139,13 +134,8 @@ fn store_map<K: LowerShared + Eq + Hash, V: LowerShared, D, G: Guest>(
     ensures same_reference { cx.new.core.ghost_name ≡ cx.old.core.ghost_name }
     ensures same_options { cx.new.options ≡ cx.old.options }
 {
-    match place_map(cx, &ty, map) {
-        Ok(block) => {
-            put_placed(cx, offset, block);
-            Ok(())
-        }
-        Err(fault) => Err(fault),
-    }
+    let placed = place_map(cx, &ty, map);
+    put_placed(cx, offset, placed)
 }
 
 impl<K: LowerShared + Eq + Hash, V: LowerShared> Lower for HashMap<K, V> {

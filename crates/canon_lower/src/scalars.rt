@@ -23,8 +23,7 @@ impl Lower for i8 {
         ty: InterfaceType,
         dst: &mut [ValRaw],
     ) -> Result<(), Fault> {
-        lower_scalar(self, cx, ty, dst);
-        Ok(())
+        lower_scalar(*self, cx, ty, dst)
     }
 
     fn linear_lower_to_memory<D, G: Guest>(
@@ -33,8 +32,7 @@ impl Lower for i8 {
         ty: InterfaceType,
         offset: u64,
     ) -> Result<(), Fault> {
-        store_scalar(self, cx, ty, offset);
-        Ok(())
+        store_scalar(*self, cx, ty, offset)
     }
 
     ghost walkable = { λ n. (number n, refl) };
@@ -51,8 +49,7 @@ impl LowerShared for i8 {
         ty: InterfaceType,
         dst: &mut [ValRaw],
     ) -> Result<(), Fault> {
-        lower_scalar(self, cx, ty, dst);
-        Ok(())
+        lower_scalar(*self, cx, ty, dst)
     }
 
     fn linear_lower_to_memory<D, G: Guest>(
@@ -61,8 +58,7 @@ impl LowerShared for i8 {
         ty: InterfaceType,
         offset: u64,
     ) -> Result<(), Fault> {
-        store_scalar(self, cx, ty, offset);
-        Ok(())
+        store_scalar(*self, cx, ty, offset)
     }
 
     ghost walkable = { λ n. (number n, refl) };
@@ -79,8 +75,7 @@ impl Lower for u8 {
         ty: InterfaceType,
         dst: &mut [ValRaw],
     ) -> Result<(), Fault> {
-        lower_scalar(self, cx, ty, dst);
-        Ok(())
+        lower_scalar(*self, cx, ty, dst)
     }
 
     fn linear_lower_to_memory<D, G: Guest>(
@@ -89,8 +84,7 @@ impl Lower for u8 {
         ty: InterfaceType,
         offset: u64,
     ) -> Result<(), Fault> {
-        store_scalar(self, cx, ty, offset);
-        Ok(())
+        store_scalar(*self, cx, ty, offset)
     }
 
     ghost walkable = { λ n. (number (pos n), refl) };
@@ -107,8 +101,7 @@ impl LowerShared for u8 {
         ty: InterfaceType,
         dst: &mut [ValRaw],
     ) -> Result<(), Fault> {
-        lower_scalar(self, cx, ty, dst);
-        Ok(())
+        lower_scalar(*self, cx, ty, dst)
     }
 
     fn linear_lower_to_memory<D, G: Guest>(
@@ -117,8 +110,7 @@ impl LowerShared for u8 {
         ty: InterfaceType,
         offset: u64,
     ) -> Result<(), Fault> {
-        store_scalar(self, cx, ty, offset);
-        Ok(())
+        store_scalar(*self, cx, ty, offset)
     }
 
     ghost walkable = { λ n. (number (pos n), refl) };
@@ -135,8 +127,7 @@ impl Lower for i16 {
         ty: InterfaceType,
         dst: &mut [ValRaw],
     ) -> Result<(), Fault> {
-        lower_scalar(self, cx, ty, dst);
-        Ok(())
+        lower_scalar(*self, cx, ty, dst)
     }
 
     fn linear_lower_to_memory<D, G: Guest>(
@@ -145,8 +136,7 @@ impl Lower for i16 {
         ty: InterfaceType,
         offset: u64,
     ) -> Result<(), Fault> {
-        store_scalar(self, cx, ty, offset);
-        Ok(())
+        store_scalar(*self, cx, ty, offset)
     }
 
     ghost walkable = { λ n. (number n, refl) };
@@ -163,8 +153,7 @@ impl LowerShared for i16 {
         ty: InterfaceType,
         dst: &mut [ValRaw],
     ) -> Result<(), Fault> {
-        lower_scalar(self, cx, ty, dst);
-        Ok(())
+        lower_scalar(*self, cx, ty, dst)
     }
 
     fn linear_lower_to_memory<D, G: Guest>(
@@ -173,8 +162,7 @@ impl LowerShared for i16 {
         ty: InterfaceType,
         offset: u64,
     ) -> Result<(), Fault> {
-        store_scalar(self, cx, ty, offset);
-        Ok(())
+        store_scalar(*self, cx, ty, offset)
     }
 
     ghost walkable = { λ n. (number n, refl) };
@@ -191,8 +179,7 @@ impl Lower for u16 {
         ty: InterfaceType,
         dst: &mut [ValRaw],
     ) -> Result<(), Fault> {
-        lower_scalar(self, cx, ty, dst);
-        Ok(())
+        lower_scalar(*self, cx, ty, dst)
     }
 
     fn linear_lower_to_memory<D, G: Guest>(
@@ -201,8 +188,7 @@ impl Lower for u16 {
         ty: InterfaceType,
         offset: u64,
     ) -> Result<(), Fault> {
-        store_scalar(self, cx, ty, offset);
-        Ok(())
+        store_scalar(*self, cx, ty, offset)
     }
 
     ghost walkable = { λ n. (number (pos n), refl) };
@@ -219,8 +205,7 @@ impl LowerShared for u16 {
         ty: InterfaceType,
         dst: &mut [ValRaw],
     ) -> Result<(), Fault> {
-        lower_scalar(self, cx, ty, dst);
-        Ok(())
+        lower_scalar(*self, cx, ty, dst)
     }
 
     fn linear_lower_to_memory<D, G: Guest>(
@@ -229,8 +214,7 @@ impl LowerShared for u16 {
         ty: InterfaceType,
         offset: u64,
     ) -> Result<(), Fault> {
-        store_scalar(self, cx, ty, offset);
-        Ok(())
+        store_scalar(*self, cx, ty, offset)
     }
 
     ghost walkable = { λ n. (number (pos n), refl) };
@@ -247,8 +231,7 @@ impl Lower for i32 {
         ty: InterfaceType,
         dst: &mut [ValRaw],
     ) -> Result<(), Fault> {
-        lower_scalar(self, cx, ty, dst);
-        Ok(())
+        lower_scalar(*self, cx, ty, dst)
     }
 
     fn linear_lower_to_memory<D, G: Guest>(
@@ -257,8 +240,7 @@ impl Lower for i32 {
         ty: InterfaceType,
         offset: u64,
     ) -> Result<(), Fault> {
-        store_scalar(self, cx, ty, offset);
-        Ok(())
+        store_scalar(*self, cx, ty, offset)
     }
 
     ghost walkable = { λ n. (number n, refl) };
@@ -275,8 +257,7 @@ impl LowerShared for i32 {
         ty: InterfaceType,
         dst: &mut [ValRaw],
     ) -> Result<(), Fault> {
-        lower_scalar(self, cx, ty, dst);
-        Ok(())
+        lower_scalar(*self, cx, ty, dst)
     }
 
     fn linear_lower_to_memory<D, G: Guest>(
@@ -285,8 +266,7 @@ impl LowerShared for i32 {
         ty: InterfaceType,
         offset: u64,
     ) -> Result<(), Fault> {
-        store_scalar(self, cx, ty, offset);
-        Ok(())
+        store_scalar(*self, cx, ty, offset)
     }
 
     ghost walkable = { λ n. (number n, refl) };
@@ -303,8 +283,7 @@ impl Lower for u32 {
         ty: InterfaceType,
         dst: &mut [ValRaw],
     ) -> Result<(), Fault> {
-        lower_scalar(self, cx, ty, dst);
-        Ok(())
+        lower_scalar(*self, cx, ty, dst)
     }
 
     fn linear_lower_to_memory<D, G: Guest>(
@@ -313,8 +292,7 @@ impl Lower for u32 {
         ty: InterfaceType,
         offset: u64,
     ) -> Result<(), Fault> {
-        store_scalar(self, cx, ty, offset);
-        Ok(())
+        store_scalar(*self, cx, ty, offset)
     }
 
     ghost walkable = { λ n. (number (pos n), refl) };
@@ -331,8 +309,7 @@ impl LowerShared for u32 {
         ty: InterfaceType,
         dst: &mut [ValRaw],
     ) -> Result<(), Fault> {
-        lower_scalar(self, cx, ty, dst);
-        Ok(())
+        lower_scalar(*self, cx, ty, dst)
     }
 
     fn linear_lower_to_memory<D, G: Guest>(
@@ -341,8 +318,7 @@ impl LowerShared for u32 {
         ty: InterfaceType,
         offset: u64,
     ) -> Result<(), Fault> {
-        store_scalar(self, cx, ty, offset);
-        Ok(())
+        store_scalar(*self, cx, ty, offset)
     }
 
     ghost walkable = { λ n. (number (pos n), refl) };
@@ -359,8 +335,7 @@ impl Lower for i64 {
         ty: InterfaceType,
         dst: &mut [ValRaw],
     ) -> Result<(), Fault> {
-        lower_scalar(self, cx, ty, dst);
-        Ok(())
+        lower_scalar(*self, cx, ty, dst)
     }
 
     fn linear_lower_to_memory<D, G: Guest>(
@@ -369,8 +344,7 @@ impl Lower for i64 {
         ty: InterfaceType,
         offset: u64,
     ) -> Result<(), Fault> {
-        store_scalar(self, cx, ty, offset);
-        Ok(())
+        store_scalar(*self, cx, ty, offset)
     }
 
     ghost walkable = { λ n. (number n, refl) };
@@ -387,8 +361,7 @@ impl LowerShared for i64 {
         ty: InterfaceType,
         dst: &mut [ValRaw],
     ) -> Result<(), Fault> {
-        lower_scalar(self, cx, ty, dst);
-        Ok(())
+        lower_scalar(*self, cx, ty, dst)
     }
 
     fn linear_lower_to_memory<D, G: Guest>(
@@ -397,8 +370,7 @@ impl LowerShared for i64 {
         ty: InterfaceType,
         offset: u64,
     ) -> Result<(), Fault> {
-        store_scalar(self, cx, ty, offset);
-        Ok(())
+        store_scalar(*self, cx, ty, offset)
     }
 
     ghost walkable = { λ n. (number n, refl) };
@@ -415,8 +387,7 @@ impl Lower for u64 {
         ty: InterfaceType,
         dst: &mut [ValRaw],
     ) -> Result<(), Fault> {
-        lower_scalar(self, cx, ty, dst);
-        Ok(())
+        lower_scalar(*self, cx, ty, dst)
     }
 
     fn linear_lower_to_memory<D, G: Guest>(
@@ -425,8 +396,7 @@ impl Lower for u64 {
         ty: InterfaceType,
         offset: u64,
     ) -> Result<(), Fault> {
-        store_scalar(self, cx, ty, offset);
-        Ok(())
+        store_scalar(*self, cx, ty, offset)
     }
 
     ghost walkable = { λ n. (number (pos n), refl) };
@@ -443,8 +413,7 @@ impl LowerShared for u64 {
         ty: InterfaceType,
         dst: &mut [ValRaw],
     ) -> Result<(), Fault> {
-        lower_scalar(self, cx, ty, dst);
-        Ok(())
+        lower_scalar(*self, cx, ty, dst)
     }
 
     fn linear_lower_to_memory<D, G: Guest>(
@@ -453,8 +422,7 @@ impl LowerShared for u64 {
         ty: InterfaceType,
         offset: u64,
     ) -> Result<(), Fault> {
-        store_scalar(self, cx, ty, offset);
-        Ok(())
+        store_scalar(*self, cx, ty, offset)
     }
 
     ghost walkable = { λ n. (number (pos n), refl) };
@@ -471,8 +439,7 @@ impl Lower for Float32Bits {
         ty: InterfaceType,
         dst: &mut [ValRaw],
     ) -> Result<(), Fault> {
-        lower_scalar(self, cx, ty, dst);
-        Ok(())
+        lower_scalar(*self, cx, ty, dst)
     }
 
     fn linear_lower_to_memory<D, G: Guest>(
@@ -481,8 +448,7 @@ impl Lower for Float32Bits {
         ty: InterfaceType,
         offset: u64,
     ) -> Result<(), Fault> {
-        store_scalar(self, cx, ty, offset);
-        Ok(())
+        store_scalar(*self, cx, ty, offset)
     }
 
     ghost walkable = { λ n. (number (pos n.0), refl) };
@@ -499,8 +465,7 @@ impl LowerShared for Float32Bits {
         ty: InterfaceType,
         dst: &mut [ValRaw],
     ) -> Result<(), Fault> {
-        lower_scalar(self, cx, ty, dst);
-        Ok(())
+        lower_scalar(*self, cx, ty, dst)
     }
 
     fn linear_lower_to_memory<D, G: Guest>(
@@ -509,8 +474,7 @@ impl LowerShared for Float32Bits {
         ty: InterfaceType,
         offset: u64,
     ) -> Result<(), Fault> {
-        store_scalar(self, cx, ty, offset);
-        Ok(())
+        store_scalar(*self, cx, ty, offset)
     }
 
     ghost walkable = { λ n. (number (pos n.0), refl) };
@@ -527,8 +491,7 @@ impl Lower for Float64Bits {
         ty: InterfaceType,
         dst: &mut [ValRaw],
     ) -> Result<(), Fault> {
-        lower_scalar(self, cx, ty, dst);
-        Ok(())
+        lower_scalar(*self, cx, ty, dst)
     }
 
     fn linear_lower_to_memory<D, G: Guest>(
@@ -537,8 +500,7 @@ impl Lower for Float64Bits {
         ty: InterfaceType,
         offset: u64,
     ) -> Result<(), Fault> {
-        store_scalar(self, cx, ty, offset);
-        Ok(())
+        store_scalar(*self, cx, ty, offset)
     }
 
     ghost walkable = { λ n. (number (pos n.0), refl) };
@@ -555,8 +517,7 @@ impl LowerShared for Float64Bits {
         ty: InterfaceType,
         dst: &mut [ValRaw],
     ) -> Result<(), Fault> {
-        lower_scalar(self, cx, ty, dst);
-        Ok(())
+        lower_scalar(*self, cx, ty, dst)
     }
 
     fn linear_lower_to_memory<D, G: Guest>(
@@ -565,8 +526,7 @@ impl LowerShared for Float64Bits {
         ty: InterfaceType,
         offset: u64,
     ) -> Result<(), Fault> {
-        store_scalar(self, cx, ty, offset);
-        Ok(())
+        store_scalar(*self, cx, ty, offset)
     }
 
     ghost walkable = { λ n. (number (pos n.0), refl) };
@@ -583,8 +543,7 @@ impl Lower for bool {
         ty: InterfaceType,
         dst: &mut [ValRaw],
     ) -> Result<(), Fault> {
-        lower_scalar(self, cx, ty, dst);
-        Ok(())
+        lower_scalar(*self, cx, ty, dst)
     }
 
     fn linear_lower_to_memory<D, G: Guest>(
@@ -593,8 +552,7 @@ impl Lower for bool {
         ty: InterfaceType,
         offset: u64,
     ) -> Result<(), Fault> {
-        store_scalar(self, cx, ty, offset);
-        Ok(())
+        store_scalar(*self, cx, ty, offset)
     }
 
     ghost walkable = { λ b. (truth b, refl) };
@@ -611,8 +569,7 @@ impl LowerShared for bool {
         ty: InterfaceType,
         dst: &mut [ValRaw],
     ) -> Result<(), Fault> {
-        lower_scalar(self, cx, ty, dst);
-        Ok(())
+        lower_scalar(*self, cx, ty, dst)
     }
 
     fn linear_lower_to_memory<D, G: Guest>(
@@ -621,8 +578,7 @@ impl LowerShared for bool {
         ty: InterfaceType,
         offset: u64,
     ) -> Result<(), Fault> {
-        store_scalar(self, cx, ty, offset);
-        Ok(())
+        store_scalar(*self, cx, ty, offset)
     }
 
     ghost walkable = { λ b. (truth b, refl) };
@@ -639,8 +595,7 @@ impl Lower for char {
         ty: InterfaceType,
         dst: &mut [ValRaw],
     ) -> Result<(), Fault> {
-        lower_scalar(self, cx, ty, dst);
-        Ok(())
+        lower_scalar(*self, cx, ty, dst)
     }
 
     fn linear_lower_to_memory<D, G: Guest>(
@@ -649,8 +604,7 @@ impl Lower for char {
         ty: InterfaceType,
         offset: u64,
     ) -> Result<(), Fault> {
-        store_scalar(self, cx, ty, offset);
-        Ok(())
+        store_scalar(*self, cx, ty, offset)
     }
 
     ghost walkable = { λ c. (code_point c, refl) };
@@ -667,8 +621,7 @@ impl LowerShared for char {
         ty: InterfaceType,
         dst: &mut [ValRaw],
     ) -> Result<(), Fault> {
-        lower_scalar(self, cx, ty, dst);
-        Ok(())
+        lower_scalar(*self, cx, ty, dst)
     }
 
     fn linear_lower_to_memory<D, G: Guest>(
@@ -677,8 +630,7 @@ impl LowerShared for char {
         ty: InterfaceType,
         offset: u64,
     ) -> Result<(), Fault> {
-        store_scalar(self, cx, ty, offset);
-        Ok(())
+        store_scalar(*self, cx, ty, offset)
     }
 
     ghost walkable = { λ c. (code_point c, refl) };

@@ -11,11 +11,12 @@ ghost use Rattle.canon_model.specs.Layout.{flat, members_flat};
 ghost use Rattle.canon_model.specs.Shape.{Shape};
 ghost use Rattle.canon_types.specs.Table.{Knows, KnowsPayload, all_shapes, payload_in, shape_of};
 
-use crate::{Lower, LowerShared};
+use crate::Lower;
 use canon_context::{Fault, LowerContext};
 use canon_lower_parts::{clear_from, lower_bare};
 use canon_memory::{Guest, ValRaw};
 use canon_plan::flat_words;
+use canon_typed::ComponentType;
 use canon_types::InterfaceType;
 
 /// Lowers a value into its words from `at` on, and moves `at` behind them.
@@ -70,8 +71,8 @@ pub(crate) fn lower_case<T: Lower, D, G: Guest>(
     }
 }
 
-/// Lowers a case whose payload is of a Rust type: the unit stands for none.
-pub(crate) fn lower_payload<T: Lower, D, G: Guest>(
+/// Lowers a case whose payload is of a Rust type. Where `U` is the unit, it stands for none.
+pub(crate) fn lower_payload<T: Lower, U: ComponentType, D, G: Guest>(
     value: &mut T,
     cx: &mut LowerContext<'_, D, G>,
     ty: Option<InterfaceType>,
@@ -79,11 +80,11 @@ pub(crate) fn lower_payload<T: Lower, D, G: Guest>(
     case: u32,
 ) -> Result<(), Fault>
     requires known { KnowsPayload (component_types cx.old.core.now) ty }
-    requires fits { IsPayloadOf T.is_unit T.fits cx.old.core.now.component.types ty }
+    requires fits { IsPayloadOf U.is_unit T.fits cx.old.core.now.component.types ty }
     requires room { 1 + members_flat (payload_members (payload_in (all_shapes (component_types cx.old.core.now)) ty)) ≤ length dst.old }
     ensures lowers { (s : Shape) → HasCase s case (payload_in (all_shapes (component_types cx.old.core.now)) ty) → length dst.old ≡ flat s
-        → TypedLowers G.seen G.moves cx.old.options cx.old.core.now cx.new.core.now s dst.new 0 (CaseMeans T.is_unit T.walks case value.old)
-        (payload_gives T.is_unit T.gives case cx.old.core.now.component.types s value.old) result }
+        → TypedLowers G.seen G.moves cx.old.options cx.old.core.now cx.new.core.now s dst.new 0 (CaseMeans U.is_unit T.walks case value.old)
+        (payload_gives U.is_unit T.gives case cx.old.core.now.component.types s value.old) result }
     ensures count { length dst.new ≡ length dst.old }
     ensures same_reference { cx.new.core.ghost_name ≡ cx.old.core.ghost_name }
     ensures same_options { cx.new.options ≡ cx.old.options }
@@ -95,33 +96,5 @@ pub(crate) fn lower_payload<T: Lower, D, G: Guest>(
             Ok(())
         }
         Some(ty) => lower_case(value, cx, ty, dst, case),
-    }
-}
-
-/// The same from a shared reference.
-pub(crate) fn lower_shared_payload<T: LowerShared, D, G: Guest>(
-    value: &T,
-    cx: &mut LowerContext<'_, D, G>,
-    ty: Option<InterfaceType>,
-    dst: &mut [ValRaw],
-    case: u32,
-) -> Result<(), Fault>
-    requires known { KnowsPayload (component_types cx.old.core.now) ty }
-    requires fits { IsPayloadOf T.is_unit T.fits cx.old.core.now.component.types ty }
-    requires room { 1 + members_flat (payload_members (payload_in (all_shapes (component_types cx.old.core.now)) ty)) ≤ length dst.old }
-    ensures lowers { (s : Shape) → HasCase s case (payload_in (all_shapes (component_types cx.old.core.now)) ty) → length dst.old ≡ flat s
-        → TypedLowers G.seen G.moves cx.old.options cx.old.core.now cx.new.core.now s dst.new 0 (CaseMeans T.is_unit T.walks case value.now)
-        (payload_gives T.is_unit T.gives case cx.old.core.now.component.types s value.now) result }
-    ensures count { length dst.new ≡ length dst.old }
-    ensures same_reference { cx.new.core.ghost_name ≡ cx.old.core.ghost_name }
-    ensures same_options { cx.new.options ≡ cx.old.options }
-{
-    let _memory = cx.core.memory(); // memory has at most 2^32 bytes
-    match ty {
-        None => {
-            lower_bare(dst, case);
-            Ok(())
-        }
-        Some(ty) => lower_case(&mut &*value, cx, ty, dst, case),
     }
 }

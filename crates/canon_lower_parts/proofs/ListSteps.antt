@@ -24,7 +24,7 @@ use Rattle.canon_value_parts.proofs.Passing.{handles_instance, same_handles}
 use Rattle.canon_lower_parts.specs.Blames.{IsTooLarge}
 use Rattle.canon_lower_parts.specs.Gives.{item_shape}
 use Rattle.canon_lower_parts.specs.Lists.{IsElementOf}
-use Rattle.canon_lower_parts.specs.Places.{IsGivenBlock, IsNoBlock, IsPairPut, TypedPlaces}
+use Rattle.canon_lower_parts.specs.Places.{IsGivenBlock, IsNoBlock, IsPairPut, IsPlacedPut, TypedPlaces, without}
 use Rattle.canon_lower_parts.specs.Stores.{TypedMembersStore, TypedStores}
 use Rattle.canon_lower_parts.specs.declared.blocks.Placed.{Placed}
 
@@ -133,8 +133,12 @@ module _ {D G : Type 0} (L : GuestLaws G) (options : ℕ) (a b : Parts D G) (z s
   pub pair_room : (r : Result Placed Fault) → TypedPlaces L.seen L.moves options a b z Has gs r → at + 8 ≤ length b.memory
   pair_room r h = omega (arith, room, list_bytes z s k shape, h.placed.attempt.lowering.goes.no_shorter)
 
-  pub list_stores : (c : Parts D G) (x : Placed) → TypedPlaces L.seen L.moves options a b z Has gs (Ok x) → IsPairPut b c at x.pointer x.length → TypedStores L.seen L.moves options a c z at Has gs (Ok tt)
+  list_stores : (c : Parts D G) (x : Placed) → TypedPlaces L.seen L.moves options a b z Has gs (Ok x) → IsPairPut b c at x.pointer x.length → TypedStores L.seen L.moves options a c z at Has gs (Ok tt)
   list_stores c x h w = list_put L options a b c at Has gs x (pair_room (Ok x) h) w z s k shape h
 
-  pub list_stops : (e : Fault) → TypedPlaces L.seen L.moves options a b z Has gs (Err e) → TypedStores L.seen L.moves options a b z at Has gs (Err e)
+  list_stops : (e : Fault) → TypedPlaces L.seen L.moves options a b z Has gs (Err e) → TypedStores L.seen L.moves options a b z at Has gs (Err e)
   list_stops e h = placed_stops L options a b z at Has gs e (list_blocks z s k shape) h
+
+  pub list_done : (c : Parts D G) (r : Result Placed Fault) (q : Result (Unit {0}) Fault) → q ≡ without r → IsPlacedPut b c at r → TypedPlaces L.seen L.moves options a b z Has gs r → TypedStores L.seen L.moves options a c z at Has gs q
+  list_done c (Ok x) q e w h = subst (λ (y : Result (Unit {0}) Fault). TypedStores L.seen L.moves options a c z at Has gs y) (sym e) (list_stores c x h w)
+  list_done c (Err f) q e w h = subst (λ (y : Result (Unit {0}) Fault). TypedStores L.seen L.moves options a c z at Has gs y) (sym e) (subst (λ (x : Parts D G). TypedStores L.seen L.moves options a x z at Has gs (Err f)) (sym w) (list_stops f h))

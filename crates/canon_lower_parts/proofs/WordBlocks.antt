@@ -1,12 +1,12 @@
 -- Texts and lists in blocks of their own, in two words.
-use Rattle.std.proofs.Common.{◌≡◌, ◌∙◌, ◌∷◌, Err, List, Ok, [], ap, false, refl, subst, sym, true, ℕ}
+use Rattle.std.proofs.Common.{◌≡◌, ◌∙◌, ◌∷◌, Err, List, Ok, Result, [], ap, false, length, refl, subst, sym, true, ℕ}
 use Rattle.canon_context.proofs.Moves.{GuestLaws}
 use Rattle.canon_context.specs.Core.{Parts, encoding_by, moment_of}
 use Rattle.canon_context.specs.Quiet.{has_block}
 use Rattle.canon_context.specs.declared.fault.Fault.{Fault}
 use Rattle.canon_leaves.specs.Parts.{Part}
 use Rattle.canon_lower_parts.proofs.Attempts.{ends_early, not_false}
-use Rattle.canon_lower_parts.specs.Places.{TypedPlaces}
+use Rattle.canon_lower_parts.specs.Places.{TypedPlaces, placed_words, without}
 use Rattle.canon_lower_parts.specs.Words.{TypedLowers}
 use Rattle.canon_lower_parts.specs.declared.blocks.Placed.{Placed}
 use Rattle.canon_lowering.proofs.AimedWords.{words_moved}
@@ -32,7 +32,7 @@ rows_fit z s k e Has t has = subst (λ (x : Shape). Fits x t) (sym e) tt
 
 module _ {D G : Type 0} (L : GuestLaws G) (options : ℕ) (a b : Parts D G) (s : Shape) (Has : Tree → Type 0) (gs : List (List Part)) (block : has_block s ≡ true) where
   -- the two words stand there
-  pub placed_lowers : (x : Placed) (ws : List ℕ) → flat s ≡ 2 → ((t : Tree) → Has t → Fits s t) → SameWords (x.pointer ∷ x.length ∷ []) 0 ws 0 2 → TypedPlaces L.seen L.moves options a b s Has gs (Ok x)
+  placed_lowers : (x : Placed) (ws : List ℕ) → flat s ≡ 2 → ((t : Tree) → Has t → Fits s t) → SameWords (x.pointer ∷ x.length ∷ []) 0 ws 0 2 → TypedPlaces L.seen L.moves options a b s Has gs (Ok x)
       → TypedLowers L.seen L.moves options a b s ws 0 Has gs (Ok tt)
   placed_lowers x ws two fits there h = record {
     handles = h.placed.handles;
@@ -49,7 +49,7 @@ module _ {D G : Type 0} (L : GuestLaws G) (options : ℕ) (a b : Parts D G) (s :
   }
 
   -- or it isn't placed
-  pub placed_refused : (e : Fault) (ws : List ℕ) → TypedPlaces L.seen L.moves options a b s Has gs (Err e) → TypedLowers L.seen L.moves options a b s ws 0 Has gs (Err e)
+  placed_refused : (e : Fault) (ws : List ℕ) → TypedPlaces L.seen L.moves options a b s Has gs (Err e) → TypedLowers L.seen L.moves options a b s ws 0 Has gs (Err e)
   placed_refused e ws h = record {
     handles = h.placed.handles;
     ending = h.placed.ending;
@@ -62,3 +62,8 @@ module _ {D G : Type 0} (L : GuestLaws G) (options : ℕ) (a b : Parts D G) (s :
     cause = h.placed.cause;
     small = tt;
   }
+
+  pub placed_done : (r : Result Placed Fault) (q : Result (Unit {0}) Fault) (ws : List ℕ) → flat s ≡ 2 → ((t : Tree) → Has t → Fits s t) → q ≡ without r → SameWords (placed_words r) 0 ws 0 (length (placed_words r))
+      → TypedPlaces L.seen L.moves options a b s Has gs r → TypedLowers L.seen L.moves options a b s ws 0 Has gs q
+  placed_done (Ok x) q ws two fits e there h = subst (λ (z : Result (Unit {0}) Fault). TypedLowers L.seen L.moves options a b s ws 0 Has gs z) (sym e) (placed_lowers x ws two fits there h)
+  placed_done (Err f) q ws two fits e there h = subst (λ (z : Result (Unit {0}) Fault). TypedLowers L.seen L.moves options a b s ws 0 Has gs z) (sym e) (placed_refused f ws h)

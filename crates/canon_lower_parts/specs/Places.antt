@@ -52,3 +52,8 @@ module _ {D G : Type 0} (seen : G → Seen) (moves : GuestIn G → List Event �
 pub record IsPairPut {D G : Type 0} (before after : Parts D G) (at p n : ℕ) : Type 0 where
   pub pair : IsPair before.memory after.memory at p n
   pub same : after ≡ record before { memory = after.memory }
+
+-- the pointer and the length of what was placed were written at an address; where nothing was placed, nothing changed
+abbrev pub IsPlacedPut : {D G : Type 0} → Parts D G → Parts D G → ℕ → Result Placed Fault → Type 0
+IsPlacedPut before after at (Ok x) = IsPairPut before after at x.pointer x.length
+IsPlacedPut before after at (Err e) = after ≡ before

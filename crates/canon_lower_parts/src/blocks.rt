@@ -1,8 +1,8 @@
 //! Blocks of texts and lists, which the guest is asked for.
 
-ghost use Rattle.std.specs.Prelude.{◌≡◌, ◌≤◌, ◌<◌, ◌+◌, ◌^◌, ◌∷◌, [], length};
+ghost use Rattle.std.specs.Prelude.{◌≡◌, ◌≤◌, ◌<◌, ◌+◌, ◌^◌, IfOk, length};
 ghost use Rattle.canon_abi.specs.Abi.{HasLayout};
-ghost use Rattle.canon_lower_parts.specs.Places.{BlockAsked, IsPairPut};
+ghost use Rattle.canon_lower_parts.specs.Places.{BlockAsked, IsPlacedPut, placed_words, without};
 ghost use Rattle.canon_model.specs.Flat.{SameWords};
 ghost use Rattle.canon_model.specs.Shape.{Shape};
 
@@ -18,28 +18,44 @@ pub struct Placed {
     pub length: u64,
 }
 
-/// Writes the pointer and the length of a block at an address.
-pub fn put_placed<D, G: Guest>(cx: &mut LowerContext<'_, D, G>, at: u64, block: Placed)
-    requires narrow { block.pointer < 2 ^ 32 }
-    requires narrow_length { block.length < 2 ^ 32 }
+/// Writes the pointer and the length of a block at an address, where there is one.
+pub fn put_placed<D, G: Guest>(
+    cx: &mut LowerContext<'_, D, G>,
+    at: u64,
+    placed: Result<Placed, Fault>,
+) -> Result<(), Fault>
+    requires narrow { IfOk placed (λ b. (b.pointer < 2 ^ 32) × (b.length < 2 ^ 32)) }
     requires room { at + 8 ≤ length cx.old.core.now.memory }
-    ensures put { IsPairPut cx.old.core.now cx.new.core.now at block.pointer block.length }
+    ensures put { IsPlacedPut cx.old.core.now cx.new.core.now at placed }
+    ensures done { result ≡ without placed }
     ensures same_reference { cx.new.core.ghost_name ≡ cx.old.core.ghost_name }
     ensures same_options { cx.new.options ≡ cx.old.options }
 {
-    put_pair(cx.as_slice_mut(), at, block.pointer, block.length);
+    match placed {
+        Ok(block) => {
+            put_pair(cx.as_slice_mut(), at, block.pointer, block.length);
+            Ok(())
+        }
+        Err(fault) => Err(fault),
+    }
 }
 
-/// Writes the pointer and the length of a block as words.
-pub fn put_words(dst: &mut [ValRaw], block: Placed)
-    requires narrow { block.pointer < 2 ^ 32 }
-    requires narrow_length { block.length < 2 ^ 32 }
+/// Writes the pointer and the length of a block as words, where there is one.
+pub fn put_words(dst: &mut [ValRaw], placed: Result<Placed, Fault>) -> Result<(), Fault>
+    requires narrow { IfOk placed (λ b. (b.pointer < 2 ^ 32) × (b.length < 2 ^ 32)) }
     requires room { 2 ≤ length dst.old }
-    ensures there { SameWords (block.pointer ∷ block.length ∷ []) 0 dst.new 0 2 }
+    ensures there { SameWords (placed_words placed) 0 dst.new 0 (length (placed_words placed)) }
+    ensures done { result ≡ without placed }
     ensures count { length dst.new ≡ length dst.old }
 {
-    dst[0] = ValRaw::u32(block.pointer as u32);
-    dst[1] = ValRaw::u32(block.length as u32);
+    match placed {
+        Ok(block) => {
+            dst[0] = ValRaw::u32(block.pointer as u32);
+            dst[1] = ValRaw::u32(block.length as u32);
+            Ok(())
+        }
+        Err(fault) => Err(fault),
+    }
 }
 
 /// Asks for the block of so many values in a row, each of which lies so (CanonicalABI.md, "store_list_into_range"), and answers

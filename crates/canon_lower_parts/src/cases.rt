@@ -70,18 +70,26 @@ fn payload_at(of: &TypeResult, tag: u32) -> Option<InterfaceType>
     if tag == 0 { of.ok } else { of.err }
 }
 
-/// Writes the number of a result's case, and answers the type of its payload, and where that begins.
-pub fn put_result<T: ComponentType, E: ComponentType, D, G: Guest>(
+/// Writes the number of a result's case, and answers the type of its payload, and where that begins. The payloads are of the types
+/// `A` and `B`; `T` and `E` say which of them is the unit, which stands for none.
+pub fn put_result<
+    A: ComponentType,
+    B: ComponentType,
+    T: ComponentType,
+    E: ComponentType,
+    D,
+    G: Guest,
+>(
     cx: &mut LowerContext<'_, D, G>,
     ty: InterfaceType,
     tag: u32,
     offset: u64,
 ) -> (Option<InterfaceType>, u64)
     requires known { Knows (component_types cx.old.core.now) ty }
-    requires fits { IsResultOf T.is_unit T.fits E.is_unit E.fits cx.old.core.now.component.types ty }
+    requires fits { IsResultOf T.is_unit A.fits E.is_unit B.fits cx.old.core.now.component.types ty }
     requires tag { tag < 2 }
     requires room { offset + size false (shape_of (component_types cx.old.core.now) ty) ≤ length cx.old.core.now.memory }
-    ensures put { IsResultPut T.is_unit T.fits E.is_unit E.fits cx.old.core.now cx.new.core.now ty offset tag result.0 result.1 }
+    ensures put { IsResultPut T.is_unit A.fits E.is_unit B.fits cx.old.core.now cx.new.core.now ty offset tag result.0 result.1 }
     ensures same_reference { cx.new.core.ghost_name ≡ cx.old.core.ghost_name }
     ensures same_options { cx.new.options ≡ cx.old.options }
 {

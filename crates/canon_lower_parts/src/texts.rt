@@ -48,13 +48,8 @@ pub fn lower_text<D, G: Guest>(
     ensures same_options { cx.new.options ≡ cx.old.options }
 {
     let _ = ty;
-    match place_text(cx, text) {
-        Ok(block) => {
-            put_words(dst, block);
-            Ok(())
-        }
-        Err(fault) => Err(fault),
-    }
+    let placed = place_text(cx, text);
+    put_words(dst, placed)
 }
 
 /// Stores a text's pointer and length at an address.
@@ -71,11 +66,6 @@ pub fn store_text<D, G: Guest>(
     ensures same_options { cx.new.options ≡ cx.old.options }
 {
     let _ = ty;
-    match place_text(cx, text) {
-        Ok(block) => {
-            put_placed(cx, offset, block);
-            Ok(())
-        }
-        Err(fault) => Err(fault),
-    }
+    let placed = place_text(cx, text);
+    put_placed(cx, offset, placed)
 }

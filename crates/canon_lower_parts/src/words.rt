@@ -1,6 +1,6 @@
 //! Words of scalars, and of cases without a payload.
 
-ghost use Rattle.std.specs.Prelude.{◌≡◌, ◌≤◌, ◌+◌, Ok, [], false, length};
+ghost use Rattle.std.specs.Prelude.{◌≡◌, ◌≤◌, ◌+◌, [], false, length};
 ghost use Rattle.canon_context.specs.Core.{component_types};
 ghost use Rattle.canon_lower_parts.specs.Scalars.{IsWordOfScalar};
 ghost use Rattle.canon_lower_parts.specs.Stores.{TypedStores};
@@ -13,13 +13,13 @@ ghost use Rattle.canon_types.specs.Table.{Knows, shape_of};
 ghost use Rattle.canon_types.specs.declared.types.InterfaceType.{InterfaceType};
 
 use crate::put::put;
-use canon_context::LowerContext;
+use canon_context::{Fault, LowerContext};
 use canon_memory::{Guest, ValRaw};
 use canon_typed::ComponentType;
 use canon_types::InterfaceType;
 
 /// A scalar, which one word represents.
-pub trait WordScalar: ComponentType {
+pub trait WordScalar: ComponentType + Copy {
     ghost kind: { Scalar };
 
     /// The word, with no bit set above the scalar's own.
@@ -31,39 +31,41 @@ pub trait WordScalar: ComponentType {
 
 /// Lowers a scalar into its word.
 pub fn lower_scalar<S: WordScalar, D, G: Guest>(
-    value: &S,
+    value: S,
     cx: &mut LowerContext<'_, D, G>,
     ty: InterfaceType,
     dst: &mut [ValRaw],
-)
+) -> Result<(), Fault>
     requires fits { S.fits cx.old.core.now.component.types ty }
     requires words { length dst.old ≡ flat (shape_of (component_types cx.old.core.now) ty) }
-    ensures lowers { TypedLowers G.seen G.moves cx.old.options cx.old.core.now cx.new.core.now (shape_of (component_types cx.old.core.now) ty) dst.new 0 (S.walks value.now) [] (Ok tt) }
+    ensures lowers { TypedLowers G.seen G.moves cx.old.options cx.old.core.now cx.new.core.now (shape_of (component_types cx.old.core.now) ty) dst.new 0 (S.walks value) [] result }
     ensures count { length dst.new ≡ length dst.old }
     ensures same_reference { cx.new.core.ghost_name ≡ cx.old.core.ghost_name }
     ensures same_options { cx.new.options ≡ cx.old.options }
 {
     let _memory = cx.core.memory(); // memory has at most 2^32 bytes
     dst[0] = value.word();
+    Ok(())
 }
 
 /// Stores a scalar: its word, cut to the scalar's bytes.
 pub fn store_scalar<S: WordScalar, D, G: Guest>(
-    value: &S,
+    value: S,
     cx: &mut LowerContext<'_, D, G>,
     ty: InterfaceType,
     offset: u64,
-)
+) -> Result<(), Fault>
     requires known { Knows (component_types cx.old.core.now) ty }
     requires fits { S.fits cx.old.core.now.component.types ty }
     requires room { offset + size false (shape_of (component_types cx.old.core.now) ty) ≤ length cx.old.core.now.memory }
-    ensures stores { TypedStores G.seen G.moves cx.old.options cx.old.core.now cx.new.core.now (shape_of (component_types cx.old.core.now) ty) offset (S.walks value.now) [] (Ok tt) }
+    ensures stores { TypedStores G.seen G.moves cx.old.options cx.old.core.now cx.new.core.now (shape_of (component_types cx.old.core.now) ty) offset (S.walks value) [] result }
     ensures same_reference { cx.new.core.ghost_name ≡ cx.old.core.ghost_name }
     ensures same_options { cx.new.options ≡ cx.old.options }
 {
     let _memory = cx.core.memory(); // memory has at most 2^32 bytes
     let size = cx.types().canonical_abi(&ty).size32;
     put(cx, offset, value.word().get_u64(), size);
+    Ok(())
 }
 
 /// Writes zeros from a word on.

@@ -9,4 +9,3 @@ pub mod Adding
 pub mod Made
 pub mod Measured
 pub mod Funcs
-pub mod FuncTests

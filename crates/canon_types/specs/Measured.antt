@@ -20,7 +20,7 @@ measure_refusal t types empty =
     or_else (parts_refusal t types empty) (first_error ((nat_lt 100 (1 + deepest (members_of t types)), error.TooDeep) ∷ []))
 
 -- known types that a tuple may have, and the tuple's numbers
-pub record IsMeasuredTuple (t : Table) (types : List InterfaceType) (abi : CanonicalAbiInfo) : Type 0 where
+pub record MakeTuple (t : Table) (types : List InterfaceType) (abi : CanonicalAbiInfo) : Type 0 where
   pub known : All (Knows t) types
   pub shallow : deepest (members_of t types) < 100
   pub layout : HasLayout abi (product of_places (members_of t types))

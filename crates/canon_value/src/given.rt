@@ -16,13 +16,12 @@ ghost use Rattle.canon_context.specs.Quiet.{Quiet, have_block, have_handle};
 ghost use Rattle.canon_context.specs.Asks.{SameButHandles};
 ghost use Rattle.canon_val.specs.Value.{HaveTrees};
 
-use crate::lower::lower_results_near;
-use crate::store::store_parts;
 use crate::{At, Core, Fault, LowerContext, Val};
 use canon_abi::MAX_FLAT_RESULTS;
 use canon_memory::{Guest, ValRaw};
 use canon_types::TypeTupleIndex;
 use canon_value_parts::{Members, told};
+use canon_walks::{lower_results_near, store_parts};
 
 /// The address that a word gives for the results of a function, where they are stored as a tuple. It is tested first that it is a
 /// multiple of the tuple's alignment (`PointerMisaligned`), then that the tuple ends inside memory (`PointerOutOfBounds`).
@@ -49,7 +48,7 @@ pub fn results_area<T, G>(
 }
 
 /// Lowers the results of a function that a guest asked for (CanonicalABI.md, "lower_flat_values"): into words in a row, up to
-/// MAX_FLAT_RESULTS, else as a tuple at the address `at`, where there is room. At an error `dst` and what stands there may have changed.
+/// MAX_FLAT_RESULTS, else as a tuple at the address `at`, where there is room, and `dst` stays. At an error what is written to may have changed.
 pub fn lower_results<T, G: Guest>(
     cx: &mut LowerContext<'_, T, G>,
     results: &[Val],
@@ -72,6 +71,7 @@ pub fn lower_results<T, G: Guest>(
     ensures quiet_near { members_flat (tuple_members (component_types cx.old.core.now) ty) ≤ max_results →
         QuietBut (have_handle (tuple_members (component_types cx.old.core.now) ty)) (all_passes (tuple_members (component_types cx.old.core.now) ty) results.now) (have_block (tuple_members (component_types cx.old.core.now) ty))
         (cx.new.core.now ≡ record cx.old.core.now { ledger = cx.new.core.now.ledger }) result }
+    ensures kept { max_results < members_flat (tuple_members (component_types cx.old.core.now) ty) → dst.new ≡ dst.old }
     ensures moves { Moves G.seen G.moves (guest_of cx.old.core.now) (guest_of cx.new.core.now) (ending_of result) }
     ensures same_core { SameButHandles cx.old.core.now cx.new.core.now }
     ensures same_reference { cx.new.core.ghost_name ≡ cx.old.core.ghost_name }
@@ -103,6 +103,7 @@ fn lower_results_by_size<T, G: Guest>(
     ensures quiet { Quiet (have_block (tuple_members (component_types cx.old.core.now) ty)) (cx.new.core.now.guest ≡ cx.old.core.now.guest) result }
     ensures quiet_near { members_flat (tuple_members (component_types cx.old.core.now) ty) ≤ max_results →
         Quiet (have_block (tuple_members (component_types cx.old.core.now) ty)) (cx.new.core.now ≡ record cx.old.core.now { ledger = cx.new.core.now.ledger }) result }
+    ensures kept { max_results < members_flat (tuple_members (component_types cx.old.core.now) ty) → dst.new ≡ dst.old }
     ensures moves { Moves G.seen G.moves (guest_of cx.old.core.now) (guest_of cx.new.core.now) (ending_of result) }
     ensures same_core { SameButHandles cx.old.core.now cx.new.core.now }
     ensures same_reference { cx.new.core.ghost_name ≡ cx.old.core.ghost_name }

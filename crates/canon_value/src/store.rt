@@ -1,36 +1,23 @@
 //! Stores values in a guest's memory.
 
-ghost use Rattle.std.specs.Prelude.{◌≡◌, ◌≤◌, ◌<◌, ◌+◌, ◌*◌, ◌%◌, ◌^◌, false, IfErr, Ok, OnOk, length};
+ghost use Rattle.std.specs.Prelude.{◌≡◌, ◌≤◌, ◌+◌, ◌%◌, false, IfErr, Ok, OnOk, length};
 ghost use Rattle.canon_lowering.specs.Attempt.{StoresValue};
-ghost use Rattle.canon_model.specs.Layout.{align, members_end, size};
-ghost use Rattle.canon_model.specs.Shape.{member_count, string};
+ghost use Rattle.canon_model.specs.Layout.{align, size};
 ghost use Rattle.canon_types.specs.Table.{Knows, shape_of};
-ghost use Rattle.canon_plan.specs.Plan.{shape_of_handle, type_of_handle};
 ghost use Rattle.canon_context.specs.Core.{encoding_by, guest_of, moment_of, component_types};
-ghost use Rattle.canon_plan.specs.Element.{IsKnown, list_shape};
-ghost use Rattle.canon_value_parts.specs.Elements.{element_in, list_value};
 ghost use Rattle.canon_value_parts.specs.Fails.{BlamesValue, IsSmall};
 ghost use Rattle.canon_context.specs.Lowers.{ending_of};
 ghost use Rattle.canon_context.specs.Moves.{Moves};
 ghost use Rattle.canon_context.specs.Quiet.{has_block, has_handle};
 ghost use Rattle.canon_value_parts.specs.Resources.{Crosses, QuietBut, passes};
 ghost use Rattle.canon_context.specs.Asks.{SameButHandles};
-ghost use Rattle.canon_value_parts.specs.Stores.{PartsStoreTo, PlacesTo, StoresTo};
-ghost use Rattle.canon_val.specs.declared.val.Val.TheVariants as val;
 ghost use Rattle.canon_val.specs.Value.{HasTree};
-ghost use Rattle.canon_value_parts.specs.View.{HaveKnownTypes, names_of, shapes_of, values_of};
-ghost use Rattle.canon_value_parts.specs.Words.{IsWordOf};
 
 use crate::{Fault, LowerContext, Val};
-use canon_bytes::{block_size, put_low_bytes, put_pair};
 use canon_memory::Guest;
-use canon_plan::{HandleType, element_abi};
-use canon_resources::ResourceAny;
 use canon_types::InterfaceType;
-use canon_value_parts::{
-    Elements, Members, Placed, View, ask_items, count_of, element_count, element_of, give_handle,
-    member_of, members_in, place_text, store_names, told, view_of,
-};
+use canon_value_parts::told;
+use canon_walks::store_value;
 
 /// Stores the value at an address of the guest's memory (CanonicalABI.md, "store"). Answers `TypeMismatch`,
 /// `LengthMismatch`, `FieldName`, `UnknownCase`, `UnknownFlag`, `PayloadExpected` or `PayloadNotExpected` where the value
@@ -63,200 +50,4 @@ pub fn linear_lower_to_memory<T, G: Guest>(
         Ok(_) => Ok(()),
         Err(fault) => Err(told(fault)),
     }
-}
-
-/// Stores a value that has this place among the values, and answers the next one's place.
-#[cycle(store)]
-pub(crate) fn store_value<T, G: Guest>(
-    cx: &mut LowerContext<'_, T, G>,
-    value: &Val,
-    ty: InterfaceType,
-    at: u64,
-    place: u64,
-) -> Result<u64, Fault>
-    requires known { Knows (component_types cx.old.core.now) ty }
-    requires small { length cx.old.core.now.memory ≤ 2 ^ 32 }
-    requires room { at + size false (shape_of (component_types cx.old.core.now) ty) ≤ length cx.old.core.now.memory }
-    ensures stores { StoresTo G.seen G.moves cx.old.options cx.old.core.now cx.new.core.now (shape_of (component_types cx.old.core.now) ty) at value.now place result }
-    ensures same_reference { cx.new.core.ghost_name ≡ cx.old.core.ghost_name }
-    ensures same_options { cx.new.options ≡ cx.old.options }
-{
-    match view_of(cx.types(), &ty, value, place) {
-        Ok(View::Scalar(word)) => Ok(store_word(cx, word, value, ty, at, place)),
-        Ok(View::Text(text)) => store_text(cx, text, at, place),
-        Ok(View::Handle(handle, resource)) => store_handle(cx, handle, resource, at, place),
-        Ok(View::List(list)) => store_list(cx, &list, at, place),
-        Ok(View::Members(members)) => {
-            store_parts(cx, &members, at, place, place.saturating_add(1))
-        }
-        Ok(View::Case(case)) => {
-            let size = case.info.size.byte_size();
-            let inner = at + u64::from(case.info.payload_offset32);
-            put_low_bytes(cx.core.as_slice_mut(), at, u64::from(case.tag), size);
-            store_parts(cx, &case.payload, inner, place, place.saturating_add(1))
-        }
-        Ok(View::Flags(names)) => store_names(cx, names, &ty, at, place),
-        Err(fault) => Err(fault),
-    }
-}
-
-/// Stores the members of a value that has this place, from an address on; the first has the place `first`. The name of each
-/// is tested just before it.
-#[cycle(store)]
-pub(crate) fn store_parts<T, G: Guest>(
-    cx: &mut LowerContext<'_, T, G>,
-    members: &Members<'_>,
-    at: u64,
-    place: u64,
-    first: u64,
-) -> Result<u64, Fault>
-    requires known { HaveKnownTypes (component_types cx.old.core.now) members.now }
-    requires count { length (values_of members.now) ≡ member_count (shapes_of (component_types cx.old.core.now) members.now) }
-    requires small { length cx.old.core.now.memory ≤ 2 ^ 32 }
-    requires room { at + members_end false 0 (shapes_of (component_types cx.old.core.now) members.now) ≤ length cx.old.core.now.memory }
-    ensures stores { PartsStoreTo G.seen G.moves cx.old.options cx.old.core.now cx.new.core.now place (shapes_of (component_types cx.old.core.now) members.now) 0 at
-        (names_of members.now) (values_of members.now) first result }
-    ensures same_reference { cx.new.core.ghost_name ≡ cx.old.core.ghost_name }
-    ensures same_options { cx.new.options ≡ cx.old.options }
-{
-    let mut next = first;
-    let mut end = 0;
-    for k in 0..count_of(members) {
-        let types = cx.types();
-        let member = member_of(types, members, k);
-        if !member.is_named {
-            return Err(Fault::FieldName(place));
-        }
-        let start = types.canonical_abi(&member.ty).next_field32_size(&mut end);
-        match store_value(cx, member.value, member.ty, at + start, next) {
-            Ok(after) => next = after,
-            Err(fault) => return Err(fault),
-        }
-    }
-    Ok(next)
-}
-
-#[cycle(store)]
-fn store_list<T, G: Guest>(
-    cx: &mut LowerContext<'_, T, G>,
-    list: &Elements<'_>,
-    at: u64,
-    place: u64,
-) -> Result<u64, Fault>
-    requires known { IsKnown (component_types cx.old.core.now) (element_in list.now) }
-    requires small { length cx.old.core.now.memory ≤ 2 ^ 32 }
-    requires room { at + 8 ≤ length cx.old.core.now.memory }
-    ensures stores { StoresTo G.seen G.moves cx.old.options cx.old.core.now cx.new.core.now (list_shape (component_types cx.old.core.now) (element_in list.now)) at (list_value list.now) place result }
-    ensures same_reference { cx.new.core.ghost_name ≡ cx.old.core.ghost_name }
-    ensures same_options { cx.new.options ≡ cx.old.options }
-{
-    match place_list(cx, list, place) {
-        Ok(block) => {
-            put_pair(cx.core.as_slice_mut(), at, block.pointer, block.length);
-            Ok(block.next)
-        }
-        Err(fault) => Err(fault),
-    }
-}
-
-/// Asks for the block of a list that has this place, and stores its elements there (CanonicalABI.md, "store_list").
-#[cycle(store)]
-pub(crate) fn place_list<T, G: Guest>(
-    cx: &mut LowerContext<'_, T, G>,
-    list: &Elements<'_>,
-    place: u64,
-) -> Result<Placed, Fault>
-    requires known { IsKnown (component_types cx.old.core.now) (element_in list.now) }
-    requires small { length cx.old.core.now.memory ≤ 2 ^ 32 }
-    ensures places { PlacesTo G.seen G.moves cx.old.options cx.old.core.now cx.new.core.now (list_shape (component_types cx.old.core.now) (element_in list.now)) (list_value list.now) place result }
-    ensures same_reference { cx.new.core.ghost_name ≡ cx.old.core.ghost_name }
-    ensures same_options { cx.new.options ≡ cx.old.options }
-{
-    let length = element_count(list);
-    let element = element_of(list);
-    let size = element_abi(cx.types(), &element).size32;
-    let Some(bytes) = block_size(length, size) else {
-        return Err(Fault::SizeOverflow(length));
-    };
-    let pointer = match ask_items(cx, &element, length, bytes) {
-        Ok(pointer) => pointer,
-        Err(fault) => return Err(fault),
-    };
-    let members = members_in(list);
-    match store_parts(cx, &members, pointer, place, place.saturating_add(1)) {
-        Ok(next) => Ok(Placed {
-            pointer,
-            length,
-            next,
-        }),
-        Err(fault) => Err(fault),
-    }
-}
-
-/// Stores the handle that the guest is given for a resource.
-fn store_handle<T, G: Guest>(
-    cx: &mut LowerContext<'_, T, G>,
-    handle: HandleType,
-    resource: ResourceAny,
-    at: u64,
-    place: u64,
-) -> Result<u64, Fault>
-    requires known { Knows (component_types cx.old.core.now) (type_of_handle handle) }
-    requires small { length cx.old.core.now.memory ≤ 2 ^ 32 }
-    requires room { at + 4 ≤ length cx.old.core.now.memory }
-    ensures stores { StoresTo G.seen G.moves cx.old.options cx.old.core.now cx.new.core.now (shape_of_handle handle) at (val.Resource resource) place result }
-    ensures same_reference { cx.new.core.ghost_name ≡ cx.old.core.ghost_name }
-    ensures same_options { cx.new.options ≡ cx.old.options }
-{
-    match give_handle(cx, handle, resource) {
-        Ok(number) => {
-            put_low_bytes(cx.core.as_slice_mut(), at, u64::from(number), 4);
-            Ok(place.saturating_add(1))
-        }
-        Err(fault) => Err(fault),
-    }
-}
-
-fn store_text<T, G: Guest>(
-    cx: &mut LowerContext<'_, T, G>,
-    text: &String,
-    at: u64,
-    place: u64,
-) -> Result<u64, Fault>
-    requires small { length cx.old.core.now.memory ≤ 2 ^ 32 }
-    requires room { at + 8 ≤ length cx.old.core.now.memory }
-    ensures stores { StoresTo G.seen G.moves cx.old.options cx.old.core.now cx.new.core.now string at (val.String text.now) place result }
-    ensures same_reference { cx.new.core.ghost_name ≡ cx.old.core.ghost_name }
-    ensures same_options { cx.new.options ≡ cx.old.options }
-{
-    match place_text(cx, text, place) {
-        Ok(block) => {
-            put_pair(cx.core.as_slice_mut(), at, block.pointer, block.length);
-            Ok(block.next)
-        }
-        Err(fault) => Err(fault),
-    }
-}
-
-/// Stores the word of a scalar, cut to the scalar's bytes.
-fn store_word<T, G: Guest>(
-    cx: &mut LowerContext<'_, T, G>,
-    word: u64,
-    value: &Val,
-    ty: InterfaceType,
-    at: u64,
-    place: u64,
-) -> u64
-    requires known { Knows (component_types cx.old.core.now) ty }
-    requires word { IsWordOf ty value.now word }
-    requires small { length cx.old.core.now.memory ≤ 2 ^ 32 }
-    requires room { at + size false (shape_of (component_types cx.old.core.now) ty) ≤ length cx.old.core.now.memory }
-    ensures stores { StoresTo G.seen G.moves cx.old.options cx.old.core.now cx.new.core.now (shape_of (component_types cx.old.core.now) ty) at value.now place (Ok result) }
-    ensures same_reference { cx.new.core.ghost_name ≡ cx.old.core.ghost_name }
-    ensures same_options { cx.new.options ≡ cx.old.options }
-{
-    let _ = value;
-    let size = cx.types().canonical_abi(&ty).size32;
-    put_low_bytes(cx.core.as_slice_mut(), at, word, size);
-    place.saturating_add(1)
 }

@@ -9,7 +9,7 @@ ghost use Rattle.canon_model.specs.Shape.{VariantKind, fixed, of_option, of_plac
 ghost use Rattle.canon_types.specs.Depth.{deepest, has_borrow, member_borrows};
 ghost use Rattle.canon_types.specs.Keeps.{IsEntry, KeepsLayout, cases_type, definition_of, entry_of, fields_type, names_of};
 ghost use Rattle.canon_types.specs.Laid.{AreLaid, ArePayloadsLaid, IsPayloadLaid, unnamed_cases};
-ghost use Rattle.canon_types.specs.Measured.{IsMeasured, IsMeasuredTuple, measure_refusal};
+ghost use Rattle.canon_types.specs.Measured.{IsMeasured, MakeTuple, measure_refusal};
 ghost use Rattle.canon_types.specs.Refusal.{Adds, AddsFunc, AddsResource, func_parts_refusal, func_refusal, is_full_for, refusal, is_unit_type, resource_refusal, with_definition, with_func_of};
 ghost use Rattle.canon_types.specs.Table.{EnumType, FixedListType, FlagsType, Knows, KnowsPayload, ListType, MapType, OptionType, ResultType, TupleType, all_shapes, defined_shape, is_tuple, knows, members_of, shape_of};
 
@@ -491,8 +491,8 @@ impl ComponentTypes {
     ) -> Result<(CanonicalAbiInfo, CanonicalAbiInfo), TypeError>
         ensures fits { OnOk result (func_refusal self.now params.now results.now ≡ None) }
         ensures room { OnOk result (is_full_for 3 self.now ≡ false) }
-        ensures params { IfOk result (λ abis. IsMeasuredTuple self.now params.now abis.0) }
-        ensures results { IfOk result (λ abis. IsMeasuredTuple self.now results.now abis.1) }
+        ensures params { IfOk result (λ abis. MakeTuple self.now params.now abis.0) }
+        ensures results { IfOk result (λ abis. MakeTuple self.now results.now abis.1) }
         ensures borrows { OnOk result (member_borrows (members_of self.now results.now) ≡ false) }
         ensures cause { IfErr result (λ e. e ≢ TypeError.OutOfMemory → func_refusal self.now params.now results.now ≡ Some e) }
     {
@@ -543,7 +543,7 @@ impl ComponentTypes {
 
     /// The entry of a tuple of these types and numbers, which may have no members.
     fn tuple_entry(&self, types: Vec<InterfaceType>, abi: CanonicalAbiInfo) -> TupleEntry
-        requires { IsMeasuredTuple self.now types.items abi }
+        requires { MakeTuple self.now types.items abi }
         ensures definition { definition_of (entry_of result).item ≡ TupleType types.items }
         ensures entry { IsEntry self.now (defined_shape (all_shapes self.now) (definition_of (entry_of result).item)) (entry_of result) }
         ensures borrows { result.has_borrow ≡ member_borrows (members_of self.now types.items) }

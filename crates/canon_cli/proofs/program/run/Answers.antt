@@ -1,6 +1,6 @@
 use Rattle.std.proofs.Common.{sym, ◌∙◌}
 use Rattle.canon_cli.proofs.Inputs.{answers_input, completes_told, status_is}
-use Rattle.canon_cli.proofs.Listed.{some_is}
+use Rattle.canon_conversions.proofs.Listed.{some_is}
 use Rattle.canon_cli.specs.Program.{command_of, task_of}
 use Rattle.canon_cli.proofs.program.run.Goals as goal
 

@@ -1,4 +1,4 @@
-use Rattle.canon_image.proofs.Returning.{images_come_back}
+use Rattle.canon_image_parts.proofs.Returning.{images_come_back}
 use Rattle.canon_image.proofs.laws.images_come_back.Goals as goal
 
 pub returns : goal.returns

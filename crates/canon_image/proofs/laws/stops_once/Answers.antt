@@ -1,4 +1,4 @@
-use Rattle.canon_image.proofs.Stopping.{stops_once}
+use Rattle.canon_image_parts.proofs.Stopping.{stops_once}
 use Rattle.canon_image.proofs.laws.stops_once.Goals as goal
 
 pub returns : goal.returns

@@ -1,5 +1,5 @@
 use Rattle.canon_types.specs.Table.{shape_of}
-use Rattle.canon_image.proofs.Exact.{same_image}
+use Rattle.canon_image_parts.proofs.Exact.{same_image}
 use Rattle.canon_image.proofs.write.image.Goals as goal
 
 pub returns-clause-only : goal.returns-clause-only

@@ -7,9 +7,12 @@ use Rattle.canon_types.specs.Table.{shape_of}
 use Rattle.canon_typed.specs.Maps.{MapWalks}
 use Rattle.canon_lower_parts.proofs.ListSteps.{list_blocks}
 use Rattle.canon_lower_parts.proofs.MapSteps.{map_is}
-use Rattle.canon_lower_parts.proofs.WordBlocks.{list_words, placed_lowers, placed_refused, rows_fit}
+use Rattle.canon_lower_parts.proofs.WordBlocks.{list_words, placed_done, rows_fit}
 use Rattle.canon_lower_parts.specs.Gives.{map_gives}
 use Rattle.canon_lower.proofs.maps.lower_map.Goals as goal
+
+pub put_words-requires-clause-narrow : goal.put_words-requires-clause-narrow
+put_words-requires-clause-narrow g c = c.place_map-placed.ensures.places.narrow
 
 pub put_words-requires-clause-room : goal.put_words-requires-clause-room
 put_words-requires-clause-room g c =
@@ -17,8 +20,8 @@ put_words-requires-clause-room g c =
     let (k, v, shape) = map_is g.K.ComponentType.fits g.V.ComponentType.fits core.component.types c.args.ty c.requires.fits in
     omega (arith, c.requires.words, list_words (shape_of (component_types core) c.args.ty) (pair_shape k v) of_pairs shape)
 
-pub returns-in-Ok-clause-lowers : goal.returns-in-Ok-clause-lowers
-returns-in-Ok-clause-lowers g c =
+pub returns-clause-lowers : goal.returns-clause-lowers
+returns-clause-lowers g c =
     let L : GuestLaws _ = record { seen = g.G.Guest.seen; moves = g.G.Guest.moves; stays = g.met.G.Guest.stays; goes_on = g.met.G.Guest.goes_on } in
     let a = c.args in
     let core = a.cx.now.core.now in
@@ -26,16 +29,6 @@ returns-in-Ok-clause-lowers g c =
     let (k, v, shape) = map_is g.K.ComponentType.fits g.V.ComponentType.fits core.component.types a.ty c.requires.fits in
     let Has = MapWalks g.K.ComponentType.walks g.V.ComponentType.walks a.map.now in
     let gives = map_gives g.K.LowerShared.gives g.V.LowerShared.gives core.component.types z a.map.now in
-    placed_lowers L a.cx.now.options core c.place_map.new.cx.core.now z Has gives (list_blocks z (pair_shape k v) of_pairs shape) c.in-Ok.block c.put_words.new.dst (list_words z (pair_shape k v) of_pairs shape)
-    (rows_fit z (pair_shape k v) of_pairs shape Has) c.put_words.ensures.there c.in-Ok.ensures.places
-
-pub returns-in-Err-clause-lowers : goal.returns-in-Err-clause-lowers
-returns-in-Err-clause-lowers g c =
-    let L : GuestLaws _ = record { seen = g.G.Guest.seen; moves = g.G.Guest.moves; stays = g.met.G.Guest.stays; goes_on = g.met.G.Guest.goes_on } in
-    let a = c.args in
-    let core = a.cx.now.core.now in
-    let z = shape_of (component_types core) a.ty in
-    let (k, v, shape) = map_is g.K.ComponentType.fits g.V.ComponentType.fits core.component.types a.ty c.requires.fits in
-    let Has = MapWalks g.K.ComponentType.walks g.V.ComponentType.walks a.map.now in
-    let gives = map_gives g.K.LowerShared.gives g.V.LowerShared.gives core.component.types z a.map.now in
-    placed_refused L a.cx.now.options core c.place_map.new.cx.core.now z Has gives (list_blocks z (pair_shape k v) of_pairs shape) c.in-Err.fault a.dst.now c.in-Err.ensures.places
+    let p = c.place_map-placed in
+    placed_done L a.cx.now.options core p.new.cx.core.now z Has gives (list_blocks z (pair_shape k v) of_pairs shape) p.result c.put_words.result c.put_words.new.dst (list_words z (pair_shape k v) of_pairs shape)
+    (rows_fit z (pair_shape k v) of_pairs shape Has) c.put_words.ensures.done c.put_words.ensures.there p.ensures.places

@@ -21,8 +21,8 @@ returns-in-None-clause-lowers g c =
     let a = c.args in
     let core = a.cx.now.core.now in
     let C = g.T.ComponentType in
-    let unit = no_payload C.is_unit C.fits core.component.types (subst (λ (p : Option InterfaceType). IsPayloadOf C.is_unit C.fits core.component.types p) c.in-None.is c.requires.fits) in
-    λ s h room. bare_case L a.cx.now.options core core s a.case C.is_unit C.walks g.T.Lower.gives core.component.types a.value.now c.lower_bare.new.dst unit c.ranges.case.fits c.memory-memory.ensures.small
+    let unit = no_payload g.U.ComponentType.is_unit C.fits core.component.types (subst (λ (p : Option InterfaceType). IsPayloadOf g.U.ComponentType.is_unit C.fits core.component.types p) c.in-None.is c.requires.fits) in
+    λ s h room. bare_case L a.cx.now.options core core s a.case g.U.ComponentType.is_unit C.walks g.T.Lower.gives core.component.types a.value.now c.lower_bare.new.dst unit c.ranges.case.fits c.memory-memory.ensures.small
     (omega (arith, c.lower_bare.ensures.count, room)) (subst (λ (p : Option InterfaceType). HasCase s a.case (payload_in (all_shapes (component_types core)) p)) c.in-None.is h) c.lower_bare.ensures.words
 
 pub returns-in-Some-clause-lowers : goal.returns-in-Some-clause-lowers
@@ -32,6 +32,6 @@ returns-in-Some-clause-lowers g c =
     let core = a.cx.now.core.now in
     let C = g.T.ComponentType in
     let low = c.lower_case in
-    let (unit, fits) = some_payload C.is_unit C.fits core.component.types c.in-Some.ty (subst (λ (p : Option InterfaceType). IsPayloadOf C.is_unit C.fits core.component.types p) c.in-Some.is c.requires.fits) in
-    λ s h room. payload_case L a.cx.now.options core low.new.cx.core.now s a.case C.is_unit C.walks g.T.Lower.gives core.component.types a.value.now (shape_of (component_types core) c.in-Some.ty) low.new.dst low.result unit c.ranges.case.fits
+    let (unit, fits) = some_payload g.U.ComponentType.is_unit C.fits core.component.types c.in-Some.ty (subst (λ (p : Option InterfaceType). IsPayloadOf g.U.ComponentType.is_unit C.fits core.component.types p) c.in-Some.is c.requires.fits) in
+    λ s h room. payload_case L a.cx.now.options core low.new.cx.core.now s a.case g.U.ComponentType.is_unit C.walks g.T.Lower.gives core.component.types a.value.now (shape_of (component_types core) c.in-Some.ty) low.new.dst low.result unit c.ranges.case.fits
     (omega (arith, low.ensures.count, room)) (subst (λ (p : Option InterfaceType). HasCase s a.case (payload_in (all_shapes (component_types core)) p)) c.in-Some.is h) low.ensures.lowers low.ensures.words

@@ -12,5 +12,5 @@ pub returns-clause-lowers : goal.returns-clause-lowers
 returns-clause-lowers g c =
     let L : GuestLaws _ = record { seen = g.G.Guest.seen; moves = g.G.Guest.moves; stays = g.met.G.Guest.stays; goes_on = g.met.G.Guest.goes_on } in
     let i = c.args.cx.now.core.now.component.types in
-    scalar_lowers L c.args.cx.now.options c.args.cx.now.core.now c.args.dst.now (shape_of i.types c.args.ty) g.S.WordScalar.kind (g.S.ComponentType.walks c.args.value.now) c.word.result c.memory-memory.ensures.small
+    scalar_lowers L c.args.cx.now.options c.args.cx.now.core.now c.args.dst.now (shape_of i.types c.args.ty) g.S.WordScalar.kind (g.S.ComponentType.walks c.args.value) c.word.result c.memory-memory.ensures.small
     (g.met.S.WordScalar.shape i c.args.ty c.requires.fits) c.requires.words c.word.ensures

@@ -45,3 +45,9 @@ returns-else-is_some-clause-quiet_near g c =
     let far =
     more_than_one _ _ c.flat_count.result c.from.result (shape g (goal.at.returns-else-is_some-clause-quiet_near g c).After-tuple) c.from.ensures (c.flat_count.ensures.words _ c.tuple.ensures.abi) (sym c.is_some.ensures ∙ c.if-is_some.false) in
     λ near. absurd (omega (arith, near, far))
+
+pub returns-then-is_some-clause-kept : goal.returns-then-is_some-clause-kept
+returns-then-is_some-clause-kept g c =
+    let near =
+    one_or_none _ _ c.flat_count.result c.from.result (shape g (goal.at.returns-then-is_some-clause-kept g c).After-tuple) c.from.ensures (c.flat_count.ensures.words _ c.tuple.ensures.abi) (sym c.is_some.ensures ∙ c.if-is_some.true) in
+    λ far. absurd (omega (arith, near, far))

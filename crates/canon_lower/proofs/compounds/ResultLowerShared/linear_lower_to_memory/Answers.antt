@@ -1,45 +1,23 @@
-use Rattle.std.proofs.Common.{Result, refl, subst, sym}
-use Rattle.canon_context.proofs.Moves.{GuestLaws}
+use Rattle.std.proofs.Common.{Result, subst}
 use Rattle.canon_context.specs.Core.{component_types}
 use Rattle.canon_types.specs.Table.{shape_of}
 use Rattle.canon_typed.specs.Meaning.{ResultMeans}
-use Rattle.canon_lower_parts.proofs.ResultSteps.{error_room, error_stores, ok_room, ok_stores}
+use Rattle.canon_lower_parts.proofs.Seen.{result_seen}
 use Rattle.canon_lower_parts.specs.Gives.{result_gives}
 use Rattle.canon_lower_parts.specs.Stores.{TypedStores}
 use Rattle.canon_lower.proofs.compounds.ResultLowerShared.linear_lower_to_memory.Goals as goal
 
-pub store_shared_payload-requires-clause-room : goal.store_shared_payload-requires-clause-room
-store_shared_payload-requires-clause-room g c =
-    let p = c.put_result-part in
-    ok_room g.T.ComponentType.is_unit g.T.ComponentType.fits g.E.ComponentType.is_unit g.E.ComponentType.fits c.args.cx.now.core.now p.new.cx.core.now c.args.ty c.args.offset 0 p.result.0 p.result.1 p.ensures.put refl c.requires.room
-
-pub store_shared_payload-requires-in-Err-clause-room : goal.store_shared_payload-requires-in-Err-clause-room
-store_shared_payload-requires-in-Err-clause-room g c =
-    let p = c.put_result-part-in-Err in
-    error_room g.T.ComponentType.is_unit g.T.ComponentType.fits g.E.ComponentType.is_unit g.E.ComponentType.fits c.args.cx.now.core.now p.new.cx.core.now c.args.ty c.args.offset 1 p.result.0 p.result.1 p.ensures.put refl c.requires.room
-
-pub returns-in-Ok-clause-stores : goal.returns-in-Ok-clause-stores
-returns-in-Ok-clause-stores g c =
-    let L : GuestLaws _ = record { seen = g.G.Guest.seen; moves = g.G.Guest.moves; stays = g.met.G.Guest.stays; goes_on = g.met.G.Guest.goes_on } in
+pub returns-clause-stores : goal.returns-clause-stores
+returns-clause-stores g c =
     let a = c.args in
     let core = a.cx.now.core.now in
-    let z = shape_of (component_types core) a.ty in
-    let p = c.put_result-part in
-    let s = c.store_shared_payload in
-    let gives = result_gives g.T.ComponentType.is_unit g.T.LowerShared.gives g.E.ComponentType.is_unit g.E.LowerShared.gives core.component.types z in
-    subst (λ (v : Result g.row.T.Denot g.row.E.Denot). TypedStores L.seen L.moves a.cx.now.options core s.new.cx.core.now z a.offset (ResultMeans g.T.ComponentType.is_unit g.T.ComponentType.walks g.E.ComponentType.is_unit g.E.ComponentType.walks v) (gives v) s.result) (sym c.in-Ok.is)
-    (ok_stores g.T.ComponentType.is_unit g.T.ComponentType.fits g.E.ComponentType.is_unit g.E.ComponentType.fits core p.new.cx.core.now a.ty a.offset 0 p.result.0 p.result.1 p.ensures.put L a.cx.now.options c.requires.room
-    g.T.ComponentType.walks g.T.LowerShared.gives g.T.ComponentType.is_unit _ s.new.cx.core.now p.new.cx.options s.result p.ensures.same_options s.ensures.stores refl refl)
-
-pub returns-in-Err-clause-stores : goal.returns-in-Err-clause-stores
-returns-in-Err-clause-stores g c =
-    let L : GuestLaws _ = record { seen = g.G.Guest.seen; moves = g.G.Guest.moves; stays = g.met.G.Guest.stays; goes_on = g.met.G.Guest.goes_on } in
-    let a = c.args in
-    let core = a.cx.now.core.now in
-    let z = shape_of (component_types core) a.ty in
-    let p = c.put_result-part-in-Err in
-    let s = c.store_shared_payload-in-Err in
-    let gives = result_gives g.T.ComponentType.is_unit g.T.LowerShared.gives g.E.ComponentType.is_unit g.E.LowerShared.gives core.component.types z in
-    subst (λ (v : Result g.row.T.Denot g.row.E.Denot). TypedStores L.seen L.moves a.cx.now.options core s.new.cx.core.now z a.offset (ResultMeans g.T.ComponentType.is_unit g.T.ComponentType.walks g.E.ComponentType.is_unit g.E.ComponentType.walks v) (gives v) s.result) (sym c.in-Err.is)
-    (error_stores g.T.ComponentType.is_unit g.T.ComponentType.fits g.E.ComponentType.is_unit g.E.ComponentType.fits core p.new.cx.core.now a.ty a.offset 1 p.result.0 p.result.1 p.ensures.put L a.cx.now.options c.requires.room
-    g.E.ComponentType.walks g.E.LowerShared.gives g.E.ComponentType.is_unit _ s.new.cx.core.now p.new.cx.options s.result p.ensures.same_options s.ensures.stores refl refl)
+    let s = shape_of (component_types core) a.ty in
+    let low = c.store_result in
+    let T = g.T.ComponentType in
+    let E = g.E.ComponentType in
+    let f = g.T.LowerShared.gives in
+    let h = g.E.LowerShared.gives in
+    subst (λ (v : Result g.row.T.Denot g.row.E.Denot). TypedStores g.G.Guest.seen g.G.Guest.moves a.cx.now.options core low.new.cx.core.now s a.offset (ResultMeans T.is_unit T.walks E.is_unit E.walks v)
+    (result_gives T.is_unit f E.is_unit h core.component.types s v) low.result) c.as_ref.ensures.value
+    (result_seen T.is_unit T.walks f E.is_unit E.walks h core.component.types s (λ Has gs. TypedStores g.G.Guest.seen g.G.Guest.moves a.cx.now.options core low.new.cx.core.now s a.offset Has gs low.result) c.as_ref.result
+    low.ensures.stores)

@@ -1,5 +1,0 @@
-//! Tests of the numbers of the canonical ABI.
-#![tactic(auto)]
-
-#[cfg(test)]
-mod tests;

@@ -1,5 +1,0 @@
-//! Tests of images, by their bytes.
-#![tactic(auto)]
-
-#[cfg(test)]
-mod tests;

@@ -1,5 +1,0 @@
-//! Tests of types by name.
-#![tactic(auto)]
-
-#[cfg(test)]
-mod tests;

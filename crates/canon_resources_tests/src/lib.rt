@@ -1,5 +1,0 @@
-//! Tests of the host's resources as values.
-#![tactic(auto)]
-
-#[cfg(test)]
-mod tests;

@@ -1,0 +1,234 @@
+use Rattle.std.proofs.Common.{◌≡◌, ◌<◌, ◌+◌, ◌*◌, ◌∙◌, ap, arith, length, rules, set, subst, sym, ℕ}
+use Rattle.std.proofs.lemmas.List.{length-set}
+use Rattle.canon_model.specs.Layout.{flat}
+use Rattle.canon_types.specs.Depth.{deepest, depth}
+use Rattle.canon_types.specs.Table.{Knows, Table, shape_of}
+use Rattle.canon_model.specs.Shape.{Shape}
+use Rattle.canon_types.specs.declared.types.InterfaceType.{InterfaceType}
+use Rattle.canon_value_parts.proofs.HandleLifting.{handle_shape}
+use Rattle.canon_value_parts.proofs.HandleSteps.{handle_flat}
+use Rattle.canon_val.specs.declared.val.Val.{Val}
+use Rattle.canon_val.specs.declared.val.Val.TheVariants as val
+use Rattle.canon_context.specs.Core.{component_types, encoding_by}
+use Rattle.canon_value_parts.specs.Elements.{element_in}
+use Rattle.canon_value_parts.specs.View.{IsMember, names_of, shapes_of, values_of}
+use Rattle.canon_value_parts.specs.Words.{LowersTo, PartsLowerTo}
+use Rattle.canon_value_parts.specs.declared.spot.Spot.{Spot}
+use Rattle.canon_val.specs.declared.val.Val.{the_lemmas}
+use Rattle.canon_context.proofs.Moves.{GuestLaws}
+use Rattle.canon_value_parts.proofs.Steps.{blocks_none}
+use Rattle.canon_value_parts.proofs.Passing.{handles_types}
+use Rattle.canon_value_parts.proofs.PassesOf.{case_passes, members_passes}
+use Rattle.canon_value_parts.proofs.Listing.{row}
+use Rattle.canon_value_parts.proofs.Viewing.{lies_depth, lies_words, names_count}
+use Rattle.canon_value_parts.proofs.WalkCases.{case_wants}
+use Rattle.canon_value_parts.proofs.WalkLoops.{member_shallow}
+use Rattle.canon_value_parts.proofs.WordCases.{case_lowered, case_room, case_stopped}
+use Rattle.canon_value_parts.proofs.WordLoops.{end, go_on, has_room, misnamed, stop}
+use Rattle.canon_value_parts.proofs.WordSteps.{members_lower, value_refused}
+use Rattle.canon_walks.proofs.lower.+lower.Given.{Over}
+use Rattle.canon_walks.proofs.lower.+lower.Goals.{lower_parts-After-member_of-member}
+use Rattle.canon_walks.proofs.lower.+lower.Goals as goal
+
+-- ---- members
+
+-- the member by the table of the start
+here : (g : Over) (t0 : ℕ) (c : lower_parts-After-member_of-member g t0)
+    → IsMember (component_types c.args.cx.now.core.now) (shapes_of (component_types c.args.cx.now.core.now) c.args.members.now) (names_of c.args.members.now) (values_of c.args.members.now) c.loop-k.k c.member_of-member.result
+here g t0 c =
+    let ms = c.args.members.now in
+    subst (λ (x : Table). IsMember x (shapes_of x ms) (names_of ms) (values_of ms) c.loop-k.k c.member_of-member.result)
+    (c.types.ensures ∙ handles_types c.args.cx.now.core.now c.loop-k.cx.core.now c.loop-k.invariant.lowered.same) c.member_of-member.ensures
+
+pub lower_parts-returns-then-not-member-clause-lowers : goal.lower_parts-returns-then-not-member-clause-lowers
+lower_parts-returns-then-not-member-clause-lowers g t0 c =
+    let L : GuestLaws _ = record { seen = g.G.Guest.seen; moves = g.G.Guest.moves; stays = g.met.G.Guest.stays; goes_on = g.met.G.Guest.goes_on } in
+    let is = here g t0 (goal.at.lower_parts-returns-then-not-member-clause-lowers g t0 c).After-member_of-member in
+    misnamed L _ _ _ _ _ _ _ _ _ _ _ _ c.loop-k.invariant.lowered c.member_of-member.result is (λ h. blocks_none _ h c.if-not-member.true)
+
+pub lower_parts-lower_value-requires : goal.lower_parts-lower_value-requires
+lower_parts-lower_value-requires g t0 c =
+    let core = c.args.cx.now.core.now in
+    let m = c.member_of-member.result in
+    let L : GuestLaws _ = record { seen = g.G.Guest.seen; moves = g.G.Guest.moves; stays = g.met.G.Guest.stays; goes_on = g.met.G.Guest.goes_on } in
+    let is = here g t0 (goal.at.lower_parts-lower_value-requires g t0 c).After-member_of-member in
+    let fit = has_room L _ _ _ _ _ _ _ _ _ _ _ _ c.loop-k.invariant.lowered m is in
+    let shallow = member_shallow (shapes_of (component_types core) c.args.members.now) c.loop-k.k is.name (shape_of (component_types core) m.ty) _ is.shapes in
+    let same : depth (shape_of (component_types c.loop-k.cx.core.now) m.ty) ≡ depth (shape_of (component_types core) m.ty) = ap (λ (x : Table). depth (shape_of x m.ty)) (handles_types core c.loop-k.cx.core.now c.loop-k.invariant.lowered.same) in
+    let falls : 4 * depth (shape_of (component_types c.loop-k.cx.core.now) m.ty) < 4 * deepest (shapes_of (component_types core) c.args.members.now) + 1 = omega (arith, shallow, same) in
+    λ κs sub. (search (rules, the_lemmas, falls), (sub.0, (sub.1, (fit.known, (fit.small, fit.room)))))
+
+pub lower_parts-returns-in-Err-clause-lowers : goal.lower_parts-returns-in-Err-clause-lowers
+lower_parts-returns-in-Err-clause-lowers g t0 c =
+    let L : GuestLaws _ = record { seen = g.G.Guest.seen; moves = g.G.Guest.moves; stays = g.met.G.Guest.stays; goes_on = g.met.G.Guest.goes_on } in
+    let is = here g t0 (goal.at.lower_parts-returns-in-Err-clause-lowers g t0 c).After-member_of-member in
+    stop L _ _ _ _ _ _ _ _ _ _ _ _ c.loop-k.invariant.lowered c.member_of-member.result is c.lower_value.new.cx.core.now c.lower_value.new.dst c.loop-k.cx.options c.in-Err.fault
+    c.if-not-member.false c.loop-k.invariant.options c.in-Err.ensures.lowers
+
+pub lower_parts-loop-k-preserved : goal.lower_parts-loop-k-preserved
+lower_parts-loop-k-preserved g t0 c =
+    let L : GuestLaws _ = record { seen = g.G.Guest.seen; moves = g.G.Guest.moves; stays = g.met.G.Guest.stays; goes_on = g.met.G.Guest.goes_on } in
+    let is = here g t0 (goal.at.lower_parts-loop-k-preserved g t0 c).After-member_of-member in
+    record {
+      lowered = go_on L _ _ _ _ _ _ _ _ _ _ _ _ c.loop-k.invariant.lowered c.member_of-member.result is c.lower_value.new.cx.core.now c.lower_value.new.dst c.loop-k.cx.options c.in-Ok.after
+          c.if-not-member.false c.loop-k.invariant.options c.in-Ok.ensures.lowers;
+      options = c.in-Ok.ensures.same_options ∙ c.loop-k.invariant.options;
+      reference = c.in-Ok.ensures.same_reference ∙ c.loop-k.invariant.reference;
+    }
+
+pub lower_parts-returns-clause-lowers : goal.lower_parts-returns-clause-lowers
+lower_parts-returns-clause-lowers g t0 c =
+    let ms = c.args.members.now in
+    let L : GuestLaws _ = record { seen = g.G.Guest.seen; moves = g.G.Guest.moves; stays = g.met.G.Guest.stays; goes_on = g.met.G.Guest.goes_on } in
+    let all : c.loop-k.k ≡ length (values_of ms) = omega (arith, c.loop-k-test.false, c.loop-k.auto.k-end, c.count_of-k-end.ensures) in
+    end L _ _ _ _ _ _ _ _ _ _ _ _ c.loop-k.invariant.lowered (all ∙ c.requires.count) (all ∙ sym (names_count ms)) all
+
+-- ---- a value
+
+pub lower_value-lower_text-requires-clause-room : goal.lower_value-lower_text-requires-clause-room
+unfolding flat
+lower_value-lower_text-requires-clause-room g t0 c =
+    let seen = rw c.in-Ok-Text.field-0-is at (rw c.types.ensures at c.in-Ok-Text.ensures) in
+    omega (arith, c.requires.room, ap flat seen.0)
+
+pub lower_value-lower_handle-requires-clause-known : goal.lower_value-lower_handle-requires-clause-known
+lower_value-lower_handle-requires-clause-known g t0 c =
+    let seen = rw c.in-Ok-Handle.field-0-is at (rw c.types.ensures at c.in-Ok-Handle.ensures) in
+    subst (λ (y : InterfaceType). Knows (component_types c.args.cx.now.core.now) y) seen.0 c.requires.known
+
+pub lower_value-lower_handle-requires-clause-room : goal.lower_value-lower_handle-requires-clause-room
+lower_value-lower_handle-requires-clause-room g t0 c =
+    let seen = rw c.in-Ok-Handle.field-0-is at (rw c.types.ensures at c.in-Ok-Handle.ensures) in
+    let h = c.in-Ok-Handle.handle in
+    omega (arith, c.requires.room, ap flat (handle_shape (component_types c.args.cx.now.core.now) c.args.ty h seen.0), handle_flat h.owned h.resource)
+
+pub lower_value-returns-in-Ok-Handle-clause-lowers : goal.lower_value-returns-in-Ok-Handle-clause-lowers
+lower_value-returns-in-Ok-Handle-clause-lowers g t0 c =
+    let a = c.args in
+    let core = a.cx.now.core.now in
+    let h = c.in-Ok-Handle.handle in
+    let low = c.lower_handle in
+    let L : GuestLaws _ = record { seen = g.G.Guest.seen; moves = g.G.Guest.moves; stays = g.met.G.Guest.stays; goes_on = g.met.G.Guest.goes_on } in
+    let seen = rw c.in-Ok-Handle.field-0-is at (rw c.types.ensures at c.in-Ok-Handle.ensures) in
+    subst (λ (v : Val). LowersTo L.seen L.moves a.cx.now.options core low.new.cx.core.now a.dst.now low.new.dst a.from low.result (shape_of (component_types core) a.ty) v) (sym seen.1)
+    (subst (λ (s : Shape). LowersTo L.seen L.moves a.cx.now.options core low.new.cx.core.now a.dst.now low.new.dst a.from low.result s (val.Resource c.in-Ok-Handle.resource)) (sym (handle_shape (component_types core) a.ty h seen.0)) low.ensures.lowers)
+
+pub lower_value-lower_list-requires-clause-room : goal.lower_value-lower_list-requires-clause-room
+lower_value-lower_list-requires-clause-room g t0 c =
+    let (known, shape, is) = rw c.in-Ok-List.field-0-is at (rw c.types.ensures at c.in-Ok-List.ensures) in
+    omega (arith, c.requires.room, ap flat shape, (row (component_types c.args.cx.now.core.now) (element_in c.in-Ok-List.list) known 0).words)
+
+pub lower_value-lower_parts-requires : goal.lower_value-lower_parts-requires
+lower_value-lower_parts-requires g t0 c =
+    let t = component_types c.args.cx.now.core.now in
+    let (known, lies, has, count) = rw c.in-Ok-Members.field-0-is at (rw c.types.ensures at c.in-Ok-Members.ensures) in
+    let ms = shapes_of t c.in-Ok-Members.members in
+    let s = shape_of t c.args.ty in
+    let falls : 4 * deepest ms + 1 < 4 * depth s = lies_depth s ms lies in
+    λ κs sub. (
+      search (rules, the_lemmas, falls),
+      (sub.0, (sub.1, (known, (count, (c.requires.small, omega (arith, c.requires.room, lies_words s ms lies, ap (λ (x : Spot). x.word) c.inside.ensures)))))),
+    )
+
+pub lower_value-returns-in-Ok-Members-clause-lowers : goal.lower_value-returns-in-Ok-Members-clause-lowers
+lower_value-returns-in-Ok-Members-clause-lowers g t0 c =
+    let a = c.args in
+    let core = a.cx.now.core.now in
+    let t = component_types core in
+    let L : GuestLaws _ = record { seen = g.G.Guest.seen; moves = g.G.Guest.moves; stays = g.met.G.Guest.stays; goes_on = g.met.G.Guest.goes_on } in
+    let seen = rw c.in-Ok-Members.field-0-is at (rw c.types.ensures at c.in-Ok-Members.ensures) in
+    let (known, lies, has, count) = seen in
+    let ms = c.in-Ok-Members.members in
+    let r = c.lower_parts in
+    members_lower L a.cx.now.options core r.new.cx.core.now a.dst.now r.new.dst a.from (shape_of t a.ty) (shapes_of t ms) (names_of ms) (values_of ms) a.value.now r.result (omega arith) lies has count (members_passes t a.ty a.value.now ms seen)
+    (subst (λ (x : Spot). PartsLowerTo L.seen L.moves a.cx.now.options core r.new.cx.core.now a.dst.now r.new.dst x r.result a.from.place (shapes_of t ms) (names_of ms) (values_of ms)) c.inside.ensures r.ensures.lowers)
+
+pub lower_value-lower_case-requires : goal.lower_value-lower_case-requires
+lower_value-lower_case-requires g t0 c =
+    let t = component_types c.args.cx.now.core.now in
+    let seen = rw c.in-Ok-Case.field-0-is at (rw c.types.ensures at c.in-Ok-Case.ensures) in
+    let wants = case_wants t (shape_of t c.args.ty) c.args.value.now c.in-Ok-Case.case 0 seen in
+    let falls : 4 * deepest (shapes_of t c.in-Ok-Case.case.payload) + 2 < 4 * depth (shape_of t c.args.ty) = wants.falls in
+    λ κs sub. (search (rules, the_lemmas, falls), (sub.0, (sub.1, (c.requires.known, (seen, (c.requires.small, c.requires.room))))))
+
+pub lower_value-returns-in-Err-clause-lowers : goal.lower_value-returns-in-Err-clause-lowers
+lower_value-returns-in-Err-clause-lowers g t0 c =
+    let a = c.args in
+    let core = a.cx.now.core.now in
+    let L : GuestLaws _ = record { seen = g.G.Guest.seen; moves = g.G.Guest.moves; stays = g.met.G.Guest.stays; goes_on = g.met.G.Guest.goes_on } in
+    let (is, blames) = rw c.types.ensures at c.in-Err.ensures in
+    value_refused L a.cx.now.options core a.dst.now a.from (shape_of (component_types core) a.ty) a.value.now c.in-Err.fault c.requires.small is (blames (encoding_by core a.cx.now.options))
+
+-- ---- a case
+
+pub lower_case-word_after-end-requires : goal.lower_case-word_after-end-requires
+lower_case-word_after-end-requires g t0 c = record {
+  known = subst (λ (x : Table). Knows x c.args.ty.now) (sym c.types.ensures) c.requires.known;
+  room = omega (arith, c.requires.room, ap (λ (x : Table). flat (shape_of x c.args.ty.now)) c.types.ensures);
+}
+
+pub lower_case-bounds-dst-from : goal.lower_case-bounds-dst-from
+lower_case-bounds-dst-from g t0 c = omega (arith, c.requires.room, case_room (component_types c.args.cx.now.core.now) (shape_of (component_types c.args.cx.now.core.now) c.args.ty.now) c.args.value.now c.args.case.now c.requires.seen)
+
+pub lower_case-behind_tag-requires : goal.lower_case-behind_tag-requires
+lower_case-behind_tag-requires g t0 c =
+    omega (
+      arith,
+      c.word_after-end.ensures,
+      c.word_after-end.type_inv,
+      ap (λ (x : Table). flat (shape_of x c.args.ty.now)) c.types.ensures,
+      case_room (component_types c.args.cx.now.core.now)
+          (shape_of (component_types c.args.cx.now.core.now) c.args.ty.now) c.args.value.now c.args.case.now c.requires.seen,
+    )
+
+pub lower_case-lower_parts-requires : goal.lower_case-lower_parts-requires
+lower_case-lower_parts-requires g t0 c =
+    let t = component_types c.args.cx.now.core.now in
+    let s = shape_of t c.args.ty.now in
+    let wants = case_wants t s c.args.value.now c.args.case.now 0 c.requires.seen in
+    let room = case_room t s c.args.value.now c.args.case.now c.requires.seen in
+    let falls : 4 * deepest (shapes_of t c.args.case.now.payload) + 1 < 4 * deepest (shapes_of t c.args.case.now.payload) + 2 = omega arith in
+    λ κs sub. (
+      search (rules, the_lemmas, falls),
+      (
+        sub.0,
+        (
+          sub.1,
+          (
+            wants.known,
+            (wants.count, (c.requires.small, omega (arith, c.requires.room, room, ap (λ (x : Spot). x.word) c.behind_tag.ensures, length-set c.args.dst.now c.args.from.word c.u32.result))),
+          ),
+        ),
+      ),
+    )
+
+pub lower_case-clear_to-requires : goal.lower_case-clear_to-requires
+lower_case-clear_to-requires g t0 c =
+    let t = component_types c.args.cx.now.core.now in
+    let h = c.in-Ok.ensures.lowers in
+    let words = ap (λ (x : Table). flat (shape_of x c.args.ty.now)) c.types.ensures in
+    record {
+      later = omega (arith, h.passed, ap (λ (x : Spot). x.word) c.behind_tag.ensures, c.word_after-end.ensures, words, case_room t (shape_of t c.args.ty.now) c.args.value.now c.args.case.now c.requires.seen);
+      room = omega (arith, h.stays.same_length, length-set c.args.dst.now c.args.from.word c.u32.result, c.requires.room, c.word_after-end.ensures, words);
+    }
+
+pub lower_case-returns-in-Ok-clause-lowers : goal.lower_case-returns-in-Ok-clause-lowers
+lower_case-returns-in-Ok-clause-lowers g t0 c =
+    let a = c.args in
+    let core = a.cx.now.core.now in
+    let t = component_types core in
+    let s = shape_of t a.ty.now in
+    let L : GuestLaws _ = record { seen = g.G.Guest.seen; moves = g.G.Guest.moves; stays = g.met.G.Guest.stays; goes_on = g.met.G.Guest.goes_on } in
+    let end : c.word_after-end.result ≡ a.from.word + flat s = c.word_after-end.ensures ∙ ap (λ (x : Table). a.from.word + flat (shape_of x a.ty.now)) c.types.ensures in
+    case_lowered L a.cx.now.options t core c.lower_parts.new.cx.core.now a.dst.now (set a.dst.now a.from.word c.u32.result) c.lower_parts.new.dst a.from c.behind_tag.result s a.case.now a.value.now c.requires.seen
+    (ap (set a.dst.now a.from.word) c.u32.ensures) c.behind_tag.ensures (case_passes t a.ty.now a.value.now a.case.now c.requires.seen)
+    c.clear_to.new.dst c.in-Ok.past c.clear_to.result c.word_after-end.result c.requires.room end c.clear_to.ensures.clears c.clear_to.ensures.spot c.in-Ok.ensures.lowers
+
+pub lower_case-returns-in-Err-clause-lowers : goal.lower_case-returns-in-Err-clause-lowers
+lower_case-returns-in-Err-clause-lowers g t0 c =
+    let a = c.args in
+    let core = a.cx.now.core.now in
+    let t = component_types core in
+    let L : GuestLaws _ = record { seen = g.G.Guest.seen; moves = g.G.Guest.moves; stays = g.met.G.Guest.stays; goes_on = g.met.G.Guest.goes_on } in
+    case_stopped L a.cx.now.options t core c.lower_parts.new.cx.core.now a.dst.now (set a.dst.now a.from.word c.u32.result) c.lower_parts.new.dst a.from c.behind_tag.result (shape_of t a.ty.now) a.case.now a.value.now c.requires.seen
+    (ap (set a.dst.now a.from.word) c.u32.ensures) c.behind_tag.ensures (case_passes t a.ty.now a.value.now a.case.now c.requires.seen) c.in-Err.fault c.in-Err.ensures.lowers

@@ -1,0 +1,45 @@
+use Rattle.std.proofs.Common.{Err, Ok, refl}
+use Rattle.canon_types.specs.Table.{tuple_members}
+use Rattle.canon_context.specs.Core.{component_types, encoding_by}
+use Rattle.canon_val.specs.Value.{no_names}
+use Rattle.canon_context.proofs.Moves.{GuestLaws}
+use Rattle.canon_value_parts.proofs.Lookups.{tuple_names}
+use Rattle.canon_value_parts.proofs.StoreSteps.{count_members}
+use Rattle.canon_value_parts.proofs.WordSteps.{near_lowered}
+use Rattle.canon_walks.proofs.lower.lower_args_near.Goals as goal
+
+pub returns-in-Ok-clause-lowered : goal.returns-in-Ok-clause-lowered
+returns-in-Ok-clause-lowered g c =
+    let a = c.args in
+    let L : GuestLaws _ = record { seen = g.G.Guest.seen; moves = g.G.Guest.moves; stays = g.met.G.Guest.stays; goes_on = g.met.G.Guest.goes_on } in
+    let low = c.in-Ok.ensures.lowers in
+    record {
+      handles = low.handles;
+      lowered = near_lowered L a.cx.now.options a.cx.now.core.now c.lower_parts.new.cx.core.now a.dst.now c.lower_parts.new.dst _ a.args.now _
+          (tuple_names (component_types a.cx.now.core.now) a.ty a.args.now c.requires.count) _ refl low c.requires.near c.requires.words;
+      passed = low.handed;
+    }
+
+pub returns-in-Err-clause-lowered : goal.returns-in-Err-clause-lowered
+returns-in-Err-clause-lowered g c =
+    let a = c.args in
+    let L : GuestLaws _ = record { seen = g.G.Guest.seen; moves = g.G.Guest.moves; stays = g.met.G.Guest.stays; goes_on = g.met.G.Guest.goes_on } in
+    let low = c.in-Err.ensures.lowers in
+    record {
+      handles = low.handles;
+      lowered = near_lowered L a.cx.now.options a.cx.now.core.now c.lower_parts.new.cx.core.now a.dst.now c.lower_parts.new.dst _ a.args.now (Err c.in-Err.fault)
+          (tuple_names (component_types a.cx.now.core.now) a.ty a.args.now c.requires.count) _ refl low c.requires.near c.requires.words;
+      passed = low.handed;
+    }
+
+pub returns-in-Err-clause-cause : goal.returns-in-Err-clause-cause
+returns-in-Err-clause-cause g c =
+    let a = c.args in
+    let t = component_types a.cx.now.core.now in
+    count_members (encoding_by a.cx.now.core.now a.cx.now.options) 0 (tuple_members t a.ty) (no_names a.args.now) a.args.now 0 (Err c.in-Err.fault) (tuple_names t a.ty a.args.now c.requires.count) c.in-Err.ensures.lowers.counted
+
+pub returns-in-Ok-clause-small : goal.returns-in-Ok-clause-small
+returns-in-Ok-clause-small g c =
+    let a = c.args in
+    let t = component_types a.cx.now.core.now in
+    (count_members (encoding_by a.cx.now.core.now a.cx.now.options) 0 (tuple_members t a.ty) (no_names a.args.now) a.args.now 0 (Ok _) (tuple_names t a.ty a.args.now c.requires.count) c.in-Ok.ensures.lowers.counted).1

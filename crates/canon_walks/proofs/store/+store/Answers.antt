@@ -1,0 +1,343 @@
+use Rattle.canon_plan.proofs.Lookups.{begins_here, ends_here}
+use Rattle.canon_value_parts.proofs.Steps.{blocks_none}
+use Rattle.std.proofs.Common.{Err, List, Ok, Result, ap, ap₂, arith, false, length, refl, rules, subst, sym, ℕ, ◌%◌, ◌*◌, ◌+◌, ◌-◌, ◌<◌, ◌^◌, ◌∙◌, ◌≡◌, ◌≤◌, ◌⊎◌}
+use Rattle.canon_lowering.specs.Storing.{IsPair, narrow}
+use Rattle.canon_model.specs.Memory.{num}
+use Rattle.canon_model.specs.Layout.{begins, members_end, size}
+use Rattle.canon_model.specs.Shape.{Shape}
+use Rattle.canon_types.specs.Depth.{deepest, depth, element_shape}
+use Rattle.canon_types.specs.Table.{Knows, Table, shape_of}
+use Rattle.canon_types.specs.declared.types.InterfaceType.{InterfaceType}
+use Rattle.canon_value_parts.proofs.HandleLifting.{handle_shape}
+use Rattle.canon_value_parts.proofs.HandleSteps.{handle_size}
+use Rattle.canon_val.specs.declared.val.Val.{Val}
+use Rattle.canon_val.specs.declared.val.Val.TheVariants as val
+use Rattle.canon_context.specs.Core.{Parts, component_types, encoding_by}
+use Rattle.canon_context.specs.Asks.{AsksFor}
+use Rattle.canon_value_parts.specs.Stores.{PartsStoreTo, StoresTo}
+use Rattle.canon_lowering.specs.Attempt.{items_call}
+use Rattle.canon_plan.specs.Element.{IsKnown, list_shape, row_of}
+use Rattle.canon_value_parts.specs.Elements.{element_in, list_length, list_value}
+use Rattle.canon_plan.specs.declared.element.Element.{Element}
+use Rattle.canon_context.specs.declared.fault.Fault.{Fault}
+use Rattle.canon_value_parts.specs.View.{IsMember, names_of, shapes_of, values_of}
+use Rattle.canon_val.specs.declared.val.Val.{the_lemmas}
+use Rattle.canon_context.proofs.Cores.{same_types}
+use Rattle.canon_value_parts.proofs.Passing.{handles_types}
+use Rattle.canon_value_parts.proofs.PassesOf.{case_passes, listed_passes, members_passes}
+use Rattle.canon_value_parts.proofs.Viewing.{lies_depth, lies_room, names_count, values_count}
+use Rattle.canon_value_parts.proofs.WalkCases.{case_stored, case_wants, written_length}
+use Rattle.canon_value_parts.proofs.WalkLoops.{end, go_on, member_shallow, misnamed, parts_stood, stands, stop}
+use Rattle.canon_context.proofs.Moves.{GuestLaws}
+use Rattle.canon_value_parts.proofs.Walks.{list_told, members_store, placed_stop, value_refused}
+use Rattle.canon_value_parts.proofs.Listing.{element_size, listed, row}
+use Rattle.canon_value_parts.proofs.Placing.{list_broken, list_placed, list_refused, list_too_large}
+use Rattle.canon_walks.proofs.store.+store.Given.{Over}
+use Rattle.canon_walks.proofs.store.+store.Goals.{store_parts-After-member_of-member, store_parts-After-next_field32_size-start}
+use Rattle.canon_walks.proofs.store.+store.Goals as goal
+
+-- ---- members
+
+-- the member by the table of the start
+here : (g : Over) (t0 : ℕ) (c : store_parts-After-member_of-member g t0)
+    → IsMember (component_types c.args.cx.now.core.now) (shapes_of (component_types c.args.cx.now.core.now) c.args.members.now) (names_of c.args.members.now) (values_of c.args.members.now) c.loop-k.k c.member_of-member.result
+here g t0 c =
+    let ms = c.args.members.now in
+    subst (λ (x : Table). IsMember x (shapes_of x ms) (names_of ms) (values_of ms) c.loop-k.k c.member_of-member.result)
+    (c.types-types.ensures ∙ handles_types c.args.cx.now.core.now c.loop-k.cx.core.now c.loop-k.invariant.stored.same) c.member_of-member.ensures
+
+-- where it begins, and where it ends
+begins_at : (g : Over) (t0 : ℕ) (c : store_parts-After-next_field32_size-start g t0) → c.next_field32_size-start.result ≡ begins false c.loop-k.end (shape_of (component_types c.args.cx.now.core.now) c.member_of-member.result.ty)
+begins_at g t0 c = c.next_field32_size-start.ensures.start ∙ begins_here (component_types c.args.cx.now.core.now) c.types-types.result.now c.member_of-member.result.ty c.canonical_abi.result.now c.loop-k.end
+    (c.types-types.ensures ∙ handles_types c.args.cx.now.core.now c.loop-k.cx.core.now c.loop-k.invariant.stored.same) c.canonical_abi.ensures
+
+pub store_parts-returns-then-not-member-clause-stores : goal.store_parts-returns-then-not-member-clause-stores
+store_parts-returns-then-not-member-clause-stores g t0 c =
+    let L : GuestLaws _ = record { seen = g.G.Guest.seen; moves = g.G.Guest.moves; stays = g.met.G.Guest.stays; goes_on = g.met.G.Guest.goes_on } in
+    let is = here g t0 (goal.at.store_parts-returns-then-not-member-clause-stores g t0 c).After-member_of-member in
+    misnamed L _ _ _ _ _ _ _ _ _ _ _ _ c.loop-k.invariant.stored c.member_of-member.result is (λ h. blocks_none _ h c.if-not-member.true)
+
+pub store_parts-next_field32_size-start-requires : goal.store_parts-next_field32_size-start-requires
+store_parts-next_field32_size-start-requires g t0 c =
+    let core = c.args.cx.now.core.now in
+    let L : GuestLaws _ = record { seen = g.G.Guest.seen; moves = g.G.Guest.moves; stays = g.met.G.Guest.stays; goes_on = g.met.G.Guest.goes_on } in
+    let fit = stands L _ _ _ _ _ _ _ _ _ _ _ _ c.loop-k.invariant.stored c.member_of-member.result (here g t0 (goal.at.store_parts-next_field32_size-start-requires g t0 c).After-member_of-member) in
+    record {
+      fits = omega (
+        arith,
+        fit.fits,
+        ends_here (component_types core) c.types-types.result.now c.member_of-member.result.ty c.canonical_abi.result.now c.loop-k.end
+            (c.types-types.ensures ∙ handles_types core c.loop-k.cx.core.now c.loop-k.invariant.stored.same) c.canonical_abi.ensures,
+      );
+    }
+
+pub store_parts-overflow_add-at : goal.store_parts-overflow_add-at
+store_parts-overflow_add-at g t0 c =
+    let L : GuestLaws _ = record { seen = g.G.Guest.seen; moves = g.G.Guest.moves; stays = g.met.G.Guest.stays; goes_on = g.met.G.Guest.goes_on } in
+    let at = goal.at.store_parts-overflow_add-at g t0 c in
+    let fit = stands L _ _ _ _ _ _ _ _ _ _ _ _ c.loop-k.invariant.stored c.member_of-member.result (here g t0 at.After-member_of-member) in
+    let start = begins_at g t0 at.After-next_field32_size-start in
+    omega (arith, start, fit.room, fit.small)
+
+pub store_parts-store_value-requires : goal.store_parts-store_value-requires
+store_parts-store_value-requires g t0 c =
+    let core = c.args.cx.now.core.now in
+    let m = c.member_of-member.result in
+    let L : GuestLaws _ = record { seen = g.G.Guest.seen; moves = g.G.Guest.moves; stays = g.met.G.Guest.stays; goes_on = g.met.G.Guest.goes_on } in
+    let at = goal.at.store_parts-store_value-requires g t0 c in
+    let is = here g t0 at.After-member_of-member in
+    let fit = stands L _ _ _ _ _ _ _ _ _ _ _ _ c.loop-k.invariant.stored m is in
+    let start = begins_at g t0 at.After-next_field32_size-start in
+    let shallow = member_shallow (shapes_of (component_types core) c.args.members.now) c.loop-k.k is.name (shape_of (component_types core) m.ty) _ is.shapes in
+    let same : depth (shape_of (component_types c.loop-k.cx.core.now) m.ty) ≡ depth (shape_of (component_types core) m.ty) = ap (λ (x : Table). depth (shape_of x m.ty)) (handles_types core c.loop-k.cx.core.now c.loop-k.invariant.stored.same) in
+    let falls : 4 * depth (shape_of (component_types c.loop-k.cx.core.now) m.ty) < 4 * deepest (shapes_of (component_types core) c.args.members.now) + 1 = omega (arith, shallow, same) in
+    λ κs sub. (search (rules, the_lemmas, falls), (sub.0, (sub.1, (fit.known, (fit.small, omega (arith, start, fit.room))))))
+
+pub store_parts-returns-in-Err-clause-stores : goal.store_parts-returns-in-Err-clause-stores
+store_parts-returns-in-Err-clause-stores g t0 c =
+    let L : GuestLaws _ = record { seen = g.G.Guest.seen; moves = g.G.Guest.moves; stays = g.met.G.Guest.stays; goes_on = g.met.G.Guest.goes_on } in
+    let at = goal.at.store_parts-returns-in-Err-clause-stores g t0 c in
+    stop L _ _ _ _ _ _ _ _ _ _ _ _ c.loop-k.invariant.stored c.member_of-member.result (here g t0 at.After-member_of-member)
+    c.store_value.new.cx.core.now c.loop-k.cx.options c.next_field32_size-start.result c.in-Err.fault c.if-not-member.false c.loop-k.invariant.options (begins_at g t0 at.After-next_field32_size-start) c.in-Err.ensures.stores
+
+pub store_parts-loop-k-preserved : goal.store_parts-loop-k-preserved
+store_parts-loop-k-preserved g t0 c =
+    let core = c.args.cx.now.core.now in
+    let m = c.member_of-member.result in
+    let L : GuestLaws _ = record { seen = g.G.Guest.seen; moves = g.G.Guest.moves; stays = g.met.G.Guest.stays; goes_on = g.met.G.Guest.goes_on } in
+    let at = goal.at.store_parts-loop-k-preserved g t0 c in
+    let over =
+    c.next_field32_size-start.ensures.end ∙ ends_here (component_types core) c.types-types.result.now m.ty c.canonical_abi.result.now c.loop-k.end
+    (c.types-types.ensures ∙ handles_types core c.loop-k.cx.core.now c.loop-k.invariant.stored.same) c.canonical_abi.ensures in
+    record {
+      stored = go_on L _ _ _ _ _ _ _ _ _ _ _ _ c.loop-k.invariant.stored m (here g t0 at.After-member_of-member)
+          c.store_value.new.cx.core.now c.loop-k.cx.options c.next_field32_size-start.result c.in-Ok.after c.next_field32_size-start.new.offset c.if-not-member.false c.loop-k.invariant.options
+          (begins_at g t0 at.After-next_field32_size-start) over (omega (arith, c.in-Ok.ensures.stores.counted.0)) c.in-Ok.ensures.stores;
+      options = c.in-Ok.ensures.same_options ∙ c.loop-k.invariant.options;
+      reference = c.in-Ok.ensures.same_reference ∙ c.loop-k.invariant.reference;
+    }
+
+pub store_parts-returns-clause-stores : goal.store_parts-returns-clause-stores
+store_parts-returns-clause-stores g t0 c =
+    let ms = c.args.members.now in
+    let L : GuestLaws _ = record { seen = g.G.Guest.seen; moves = g.G.Guest.moves; stays = g.met.G.Guest.stays; goes_on = g.met.G.Guest.goes_on } in
+    let all : c.loop-k.k ≡ length (values_of ms) = omega (arith, c.loop-k-test.false, c.loop-k.auto.k-end, c.count_of-k-end.ensures) in
+    end L _ _ _ _ _ _ _ _ _ _ _ _ c.loop-k.invariant.stored (all ∙ c.requires.count) (all ∙ sym (names_count ms)) all
+
+-- ---- a list
+
+-- what was asked for, said of the list
+asked_for : {T G : Type 0} → (L : GuestLaws G) (a b : Parts T G) (e e2 : Element) (n : ℕ) (r : Result ℕ Fault) → e2 ≡ e → AsksFor L.seen L.moves a b (items_call false (element_shape (list_shape (component_types a) e2)) n) r
+    → AsksFor L.seen L.moves a b (items_call false (element_shape (list_shape (component_types a) e)) n) r
+asked_for L a b e e2 n r ee h = subst (λ (x : Element). AsksFor L.seen L.moves a b (items_call false (element_shape (list_shape (component_types a) x)) n) r) ee h
+
+pub place_list-returns-in_default-clause-places : goal.place_list-returns-in_default-clause-places
+place_list-returns-in_default-clause-places g t0 c =
+    let a = c.args in
+    let core = a.cx.now.core.now in
+    let t = component_types core in
+    let e = element_in a.list.now in
+    let n = c.element_count-length.result in
+    let L : GuestLaws _ = record { seen = g.G.Guest.seen; moves = g.G.Guest.moves; stays = g.met.G.Guest.stays; goes_on = g.met.G.Guest.goes_on } in
+    let bytes = element_size t c.types.result.now e c.element_of-element.result c.element_abi.result.now c.types.ensures c.element_of-element.ensures c.element_abi.ensures in
+    let many : (2 ^ 32 ≤ n) ⊎ (2 ^ 32 ≤ n * size false (element_shape (list_shape t e))) = subst (λ (k : ℕ). (2 ^ 32 ≤ n) ⊎ (2 ^ 32 ≤ n * k)) bytes (c.in_default.ensures.none refl) in
+    list_too_large _ _ _ _ _ (listed t a.list.now c.requires.known) (listed_passes t a.list.now c.requires.known) L a.cx.now.options core a.place n c.requires.small c.element_count-length.ensures many
+
+pub place_list-returns-in-Err-clause-places : goal.place_list-returns-in-Err-clause-places
+place_list-returns-in-Err-clause-places g t0 c =
+    let a = c.args in
+    let core = a.cx.now.core.now in
+    let L : GuestLaws _ = record { seen = g.G.Guest.seen; moves = g.G.Guest.moves; stays = g.met.G.Guest.stays; goes_on = g.met.G.Guest.goes_on } in
+    let asked = asked_for L core c.ask_items.new.cx.core.now (element_in a.list.now) c.element_of-element.result c.element_count-length.result (Err c.in-Err.fault) c.element_of-element.ensures c.in-Err.ensures.asked in
+    list_refused _ _ _ _ _ (listed (component_types core) a.list.now c.requires.known) (listed_passes (component_types core) a.list.now c.requires.known)
+    L a.cx.now.options core c.ask_items.new.cx.core.now a.place c.element_count-length.result c.in-Err.fault c.element_count-length.ensures asked
+
+pub place_list-store_parts-requires : goal.place_list-store_parts-requires
+place_list-store_parts-requires g t0 c =
+    let a = c.args in
+    let core = a.cx.now.core.now in
+    let t = component_types core in
+    let e = element_in a.list.now in
+    let n = list_length a.list.now in
+    let asked = c.ask_items.new.cx.core.now in
+    let given = c.in-Ok.ensures.asked in
+    let now = component_types asked in
+    let eT : now ≡ t = same_types core asked given.same in
+    let known : IsKnown now e = subst (λ (x : Table). IsKnown x e) (sym eT) c.requires.known in
+    let r = row now e known n in
+    let ms = c.members_in-members.result in
+    let shapes : shapes_of now ms ≡ row_of (list_shape now e) n = c.members_in-members.ensures.shapes now in
+    let are_known = c.members_in-members.ensures.known now known in
+    let falls : 4 * deepest (shapes_of now ms) + 1 < 4 * depth (list_shape t e) - 2 = omega (arith, r.shallow, ap deepest shapes, ap (λ (x : Table). depth (list_shape x e)) eT) in
+    let bytes : c.element_count-length.result * size false (element_shape (list_shape t c.element_of-element.result)) ≡ n * size false (element_shape (list_shape now e)) =
+    ap₂ (λ (j : ℕ) (s : Shape). j * size false s) c.element_count-length.ensures (ap₂ (λ (x : Table) (y : Element). element_shape (list_shape x y)) (sym eT) c.element_of-element.ensures) in
+    let room = r.room c.in-Ok.pointer asked.memory (omega (arith, given.does.inside, bytes)) in
+    λ κs sub. (search (rules, the_lemmas, falls), (sub.0, (sub.1, (are_known, (values_count now ms are_known, (given.small, omega (arith, room, ap (members_end false 0) shapes)))))))
+
+pub place_list-returns-in-Ok-store_parts-clause-places : goal.place_list-returns-in-Ok-store_parts-clause-places
+place_list-returns-in-Ok-store_parts-clause-places g t0 c =
+    let a = c.args in
+    let core = a.cx.now.core.now in
+    let t = component_types core in
+    let e = element_in a.list.now in
+    let k = c.element_count-length.result in
+    let asked = c.ask_items.new.cx.core.now in
+    let now = component_types asked in
+    let given = c.in-Ok.ensures in
+    let L : GuestLaws _ = record { seen = g.G.Guest.seen; moves = g.G.Guest.moves; stays = g.met.G.Guest.stays; goes_on = g.met.G.Guest.goes_on } in
+    let ask = asked_for L core asked e c.element_of-element.result k (Ok c.in-Ok.pointer) c.element_of-element.ensures given.asked in
+    let ms = c.members_in-members in
+    let shapes = ms.ensures.shapes now ∙ ap (λ (x : Table). row_of (list_shape x e) (list_length a.list.now)) (same_types core asked given.asked.same) in
+    let bytes = element_size t c.types.result.now e c.element_of-element.result c.element_abi.result.now c.types.ensures c.element_of-element.ensures c.element_abi.ensures in
+    list_placed _ _ _ _ _ (listed t a.list.now c.requires.known) (listed_passes t a.list.now c.requires.known) L a.cx.now.options core asked c.store_parts.new.cx.core.now a.place k c.in-Ok.pointer c.element_count-length.ensures c.in-Some.ensures.some.1
+    (omega (arith, c.in-Some.ensures.some.0, c.in-Some.ensures.some.2, ap (λ (x : ℕ). k * x) bytes)) ask c.in-Ok-store_parts.next
+    (parts_stood L asked c.store_parts.new.cx.core.now a.cx.now.options c.ask_items.new.cx.options a.place c.in-Ok.pointer _ _ _ _ _ _ _ _ (Ok c.in-Ok-store_parts.next)
+    given.same_options shapes ms.ensures.names ms.ensures.values c.saturating_add.ensures c.in-Ok-store_parts.ensures.stores)
+
+pub place_list-returns-in-Err-store_parts-clause-places : goal.place_list-returns-in-Err-store_parts-clause-places
+place_list-returns-in-Err-store_parts-clause-places g t0 c =
+    let a = c.args in
+    let core = a.cx.now.core.now in
+    let t = component_types core in
+    let e = element_in a.list.now in
+    let k = c.element_count-length.result in
+    let asked = c.ask_items.new.cx.core.now in
+    let now = component_types asked in
+    let given = c.in-Ok.ensures in
+    let L : GuestLaws _ = record { seen = g.G.Guest.seen; moves = g.G.Guest.moves; stays = g.met.G.Guest.stays; goes_on = g.met.G.Guest.goes_on } in
+    let ask = asked_for L core asked e c.element_of-element.result k (Ok c.in-Ok.pointer) c.element_of-element.ensures given.asked in
+    let ms = c.members_in-members in
+    let shapes = ms.ensures.shapes now ∙ ap (λ (x : Table). row_of (list_shape x e) (list_length a.list.now)) (same_types core asked given.asked.same) in
+    let bytes = element_size t c.types.result.now e c.element_of-element.result c.element_abi.result.now c.types.ensures c.element_of-element.ensures c.element_abi.ensures in
+    list_broken _ _ _ _ _ (listed t a.list.now c.requires.known) (listed_passes t a.list.now c.requires.known) L a.cx.now.options core asked c.store_parts.new.cx.core.now a.place k c.in-Ok.pointer c.element_count-length.ensures c.in-Some.ensures.some.1
+    (omega (arith, c.in-Some.ensures.some.0, c.in-Some.ensures.some.2, ap (λ (x : ℕ). k * x) bytes)) ask c.in-Err-store_parts.fault
+    (parts_stood L asked c.store_parts.new.cx.core.now a.cx.now.options c.ask_items.new.cx.options a.place c.in-Ok.pointer _ _ _ _ _ _ _ _ (Err c.in-Err-store_parts.fault)
+    given.same_options shapes ms.ensures.names ms.ensures.values c.saturating_add.ensures c.in-Err-store_parts.ensures.stores)
+
+pub store_list-returns-in-Ok-clause-stores : goal.store_list-returns-in-Ok-clause-stores
+store_list-returns-in-Ok-clause-stores g t0 c =
+    let a = c.args in
+    let core = a.cx.now.core.now in
+    let placed = c.place_list.new.cx.core.now in
+    let b = c.in-Ok.block in
+    let there = c.in-Ok.ensures.places in
+    let l = listed (component_types core) a.list.now c.requires.known in
+    let L : GuestLaws _ = record { seen = g.G.Guest.seen; moves = g.G.Guest.moves; stays = g.met.G.Guest.stays; goes_on = g.met.G.Guest.goes_on } in
+    let pair : IsPair placed.memory c.put_pair.new.memory a.at b.pointer b.length = subst (λ (xs : List ℕ). IsPair xs c.put_pair.new.memory a.at b.pointer b.length) c.as_slice_mut.ensures.value c.put_pair.ensures in
+    list_told L a.cx.now.options core placed c.put_pair.new.memory a.at _ a.place b (omega (arith, c.requires.room, there.lowered.lowering.goes.no_shorter)) there.lowered.lowering.small
+    there.narrow.0 there.narrow.1 pair _ l.part l.kind l.shape there
+
+pub store_list-returns-in-Err-clause-stores : goal.store_list-returns-in-Err-clause-stores
+store_list-returns-in-Err-clause-stores g t0 c =
+    let a = c.args in
+    let t = component_types a.cx.now.core.now in
+    let L : GuestLaws _ = record { seen = g.G.Guest.seen; moves = g.G.Guest.moves; stays = g.met.G.Guest.stays; goes_on = g.met.G.Guest.goes_on } in
+    placed_stop L a.cx.now.options a.cx.now.core.now c.place_list.new.cx.core.now (list_shape t (element_in a.list.now)) a.at (list_value a.list.now) a.place c.in-Err.fault (row t (element_in a.list.now) c.requires.known 0).block
+    c.in-Err.ensures.places
+
+-- ---- a value
+
+pub store_value-store_text-requires-clause-room : goal.store_value-store_text-requires-clause-room
+unfolding size
+store_value-store_text-requires-clause-room g t0 c =
+    let seen = rw c.in-Ok-Text.field-0-is at (rw c.types.ensures at c.in-Ok-Text.ensures) in
+    omega (arith, c.requires.room, ap (size false) seen.0)
+
+pub store_value-store_handle-requires-clause-known : goal.store_value-store_handle-requires-clause-known
+store_value-store_handle-requires-clause-known g t0 c =
+    let seen = rw c.in-Ok-Handle.field-0-is at (rw c.types.ensures at c.in-Ok-Handle.ensures) in
+    subst (λ (y : InterfaceType). Knows (component_types c.args.cx.now.core.now) y) seen.0 c.requires.known
+
+pub store_value-store_handle-requires-clause-room : goal.store_value-store_handle-requires-clause-room
+store_value-store_handle-requires-clause-room g t0 c =
+    let seen = rw c.in-Ok-Handle.field-0-is at (rw c.types.ensures at c.in-Ok-Handle.ensures) in
+    let h = c.in-Ok-Handle.handle in
+    omega (arith, c.requires.room, ap (size false) (handle_shape (component_types c.args.cx.now.core.now) c.args.ty h seen.0), handle_size h.owned h.resource)
+
+pub store_value-returns-in-Ok-Handle-clause-stores : goal.store_value-returns-in-Ok-Handle-clause-stores
+store_value-returns-in-Ok-Handle-clause-stores g t0 c =
+    let a = c.args in
+    let core = a.cx.now.core.now in
+    let h = c.in-Ok-Handle.handle in
+    let now = c.store_handle.new.cx.core.now in
+    let L : GuestLaws _ = record { seen = g.G.Guest.seen; moves = g.G.Guest.moves; stays = g.met.G.Guest.stays; goes_on = g.met.G.Guest.goes_on } in
+    let seen = rw c.in-Ok-Handle.field-0-is at (rw c.types.ensures at c.in-Ok-Handle.ensures) in
+    subst (λ (v : Val). StoresTo L.seen L.moves a.cx.now.options core now (shape_of (component_types core) a.ty) a.at v a.place c.store_handle.result) (sym seen.1)
+    (subst (λ (s : Shape). StoresTo L.seen L.moves a.cx.now.options core now s a.at (val.Resource c.in-Ok-Handle.resource) a.place c.store_handle.result) (sym (handle_shape (component_types core) a.ty h seen.0)) c.store_handle.ensures.stores)
+
+pub store_value-store_list-requires : goal.store_value-store_list-requires
+store_value-store_list-requires g t0 c =
+    let t = component_types c.args.cx.now.core.now in
+    let (known, shape, is) = rw c.in-Ok-List.field-0-is at (rw c.types.ensures at c.in-Ok-List.ensures) in
+    let e = element_in c.in-Ok-List.list in
+    let r = row t e known 0 in
+    let falls : 4 * depth (list_shape t e) - 1 < 4 * depth (shape_of t c.args.ty) = omega (arith, r.shallow, ap depth shape) in
+    λ κs sub. (search (rules, the_lemmas, falls), (sub.0, (sub.1, (known, (c.requires.small, omega (arith, c.requires.room, r.place, ap (size false) shape))))))
+
+pub store_value-store_parts-requires : goal.store_value-store_parts-requires
+store_value-store_parts-requires g t0 c =
+    let t = component_types c.args.cx.now.core.now in
+    let (known, lies, has, count) = rw c.in-Ok-Members.field-0-is at (rw c.types.ensures at c.in-Ok-Members.ensures) in
+    let ms = shapes_of t c.in-Ok-Members.members in
+    let falls : 4 * deepest ms + 1 < 4 * depth (shape_of t c.args.ty) = lies_depth (shape_of t c.args.ty) ms lies in
+    λ κs sub. (
+      search (rules, the_lemmas, falls),
+      (sub.0, (sub.1, (known, (count, (c.requires.small, omega (arith, c.requires.room, lies_room (shape_of t c.args.ty) ms lies)))))),
+    )
+
+pub store_value-returns-in-Ok-Members-clause-stores : goal.store_value-returns-in-Ok-Members-clause-stores
+store_value-returns-in-Ok-Members-clause-stores g t0 c =
+    let a = c.args in
+    let core = a.cx.now.core.now in
+    let t = component_types core in
+    let L : GuestLaws _ = record { seen = g.G.Guest.seen; moves = g.G.Guest.moves; stays = g.met.G.Guest.stays; goes_on = g.met.G.Guest.goes_on } in
+    let seen = rw c.in-Ok-Members.field-0-is at (rw c.types.ensures at c.in-Ok-Members.ensures) in
+    let (known, lies, has, count) = seen in
+    let ms = c.in-Ok-Members.members in
+    members_store L a.cx.now.options core c.store_parts.new.cx.core.now a.place (shape_of t a.ty) (shapes_of t ms) a.at (names_of ms) (values_of ms) a.value.now c.store_parts.result c.requires.room (omega arith) lies has count
+    (members_passes t a.ty a.value.now ms seen) (subst (λ (n : ℕ). PartsStoreTo L.seen L.moves a.cx.now.options core c.store_parts.new.cx.core.now a.place (shapes_of t ms) 0 a.at (names_of ms) (values_of ms) n c.store_parts.result)
+    c.saturating_add.ensures c.store_parts.ensures.stores)
+
+pub store_value-overflow_add-inner : goal.store_value-overflow_add-inner
+store_value-overflow_add-inner g t0 c =
+    let wants =
+    case_wants (component_types c.args.cx.now.core.now) (shape_of (component_types c.args.cx.now.core.now) c.args.ty) c.args.value.now c.in-Ok-Case.case c.args.at
+    (rw c.in-Ok-Case.field-0-is at (rw c.types.ensures at c.in-Ok-Case.ensures)) in
+    omega (arith, wants.room, c.requires.room, c.requires.small, c.from.ensures)
+
+pub store_value-put_low_bytes-requires : goal.store_value-put_low_bytes-requires
+store_value-put_low_bytes-requires g t0 c =
+    let wants =
+    case_wants (component_types c.args.cx.now.core.now) (shape_of (component_types c.args.cx.now.core.now) c.args.ty) c.args.value.now c.in-Ok-Case.case c.args.at
+    (rw c.in-Ok-Case.field-0-is at (rw c.types.ensures at c.in-Ok-Case.ensures)) in
+    record { few = omega (arith, wants.few, c.byte_size-size.ensures); room = omega (arith, c.requires.room, wants.inside, c.byte_size-size.ensures, ap length c.as_slice_mut.ensures.value) }
+
+pub store_value-store_parts-requires-in-Ok-Case : goal.store_value-store_parts-requires-in-Ok-Case
+store_value-store_parts-requires-in-Ok-Case g t0 c =
+    let core = c.args.cx.now.core.now in
+    let wants = case_wants (component_types core) (shape_of (component_types core) c.args.ty) c.args.value.now c.in-Ok-Case.case c.args.at (rw c.in-Ok-Case.field-0-is at (rw c.types.ensures at c.in-Ok-Case.ensures)) in
+    let long = written_length core.memory c.as_slice_mut.result.now c.put_low_bytes.new.memory _ c.as_slice_mut.ensures.value c.put_low_bytes.ensures.writes in
+    let falls : 4 * deepest (shapes_of (component_types core) c.in-Ok-Case.case.payload) + 1 < 4 * depth (shape_of (component_types core) c.args.ty) = omega (arith, wants.falls) in
+    λ κs sub. (search (rules, the_lemmas, falls), (sub.0, (sub.1, (wants.known, (wants.count, (omega (arith, long, c.requires.small), omega (arith, long, c.requires.room, wants.room, c.from.ensures)))))))
+
+pub store_value-returns-in-Ok-Case-clause-stores : goal.store_value-returns-in-Ok-Case-clause-stores
+store_value-returns-in-Ok-Case-clause-stores g t0 c =
+    let a = c.args in
+    let core = a.cx.now.core.now in
+    let x = c.in-Ok-Case.case in
+    let L : GuestLaws _ = record { seen = g.G.Guest.seen; moves = g.G.Guest.moves; stays = g.met.G.Guest.stays; goes_on = g.met.G.Guest.goes_on } in
+    let put : num (narrow c.put_low_bytes.new.memory) a.at c.byte_size-size.result ≡ x.tag % 256 ^ c.byte_size-size.result = c.put_low_bytes.ensures.stored ∙ ap (λ (n : ℕ). n % 256 ^ c.byte_size-size.result) c.from-in-Ok-Case.ensures in
+    let seen = rw c.in-Ok-Case.field-0-is at (rw c.types.ensures at c.in-Ok-Case.ensures) in
+    case_stored L a.cx.now.options (component_types core) core c.store_parts-in-Ok-Case.new.cx.core.now c.put_low_bytes.new.memory c.as_slice_mut.result.now (shape_of (component_types core) a.ty) a.at
+    c.byte_size-size.result (a.at + c.from.result) x a.value.now a.place
+    c.saturating_add-in-Ok-Case.result c.store_parts-in-Ok-Case.result c.requires.small c.requires.room seen (case_passes (component_types core) a.ty a.value.now x seen)
+    c.byte_size-size.ensures (ap (λ (o : ℕ). a.at + o) c.from.ensures)
+    c.as_slice_mut.ensures.value c.put_low_bytes.ensures.writes put c.saturating_add-in-Ok-Case.ensures c.store_parts-in-Ok-Case.ensures.stores
+
+pub store_value-returns-in-Err-clause-stores : goal.store_value-returns-in-Err-clause-stores
+store_value-returns-in-Err-clause-stores g t0 c =
+    let a = c.args in
+    let core = a.cx.now.core.now in
+    let L : GuestLaws _ = record { seen = g.G.Guest.seen; moves = g.G.Guest.moves; stays = g.met.G.Guest.stays; goes_on = g.met.G.Guest.goes_on } in
+    let (is, blames) = rw c.types.ensures at c.in-Err.ensures in
+    value_refused L a.cx.now.options core (shape_of (component_types core) a.ty) a.at a.value.now a.place c.in-Err.fault c.requires.small is (blames (encoding_by core a.cx.now.options))

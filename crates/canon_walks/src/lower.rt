@@ -1,0 +1,312 @@
+//! Values, lowered into words.
+
+ghost use Rattle.std.specs.Prelude.{◌≡◌, ◌≤◌, ◌<◌, ◌+◌, ◌^◌, ◌∷◌, [], IfErr, Ok, OnOk, false, length};
+ghost use Rattle.canon_lowering.specs.Attempt.{LowersArgs, LowersMembers};
+ghost use Rattle.canon_model.specs.Flat.{SameWords, max_params};
+ghost use Rattle.canon_model.specs.Layout.{flat, members_flat};
+ghost use Rattle.canon_model.specs.Shape.{member_count, string};
+ghost use Rattle.canon_types.specs.Table.{HasTuple, Knows, shape_of, tuple_members};
+ghost use Rattle.canon_plan.specs.Plan.{shape_of_handle, type_of_handle};
+ghost use Rattle.canon_value_parts.specs.Resources.{PartsLower, all_passes};
+ghost use Rattle.canon_context.specs.Core.{encoding_by, guest_of, moment_of, component_types};
+ghost use Rattle.canon_plan.specs.Element.{IsKnown, list_shape};
+ghost use Rattle.canon_value_parts.specs.Elements.{element_in, list_value};
+ghost use Rattle.canon_value_parts.specs.Fails.{AreSmall, BlamesMembers};
+ghost use Rattle.canon_context.specs.Lowers.{ending_of};
+ghost use Rattle.canon_context.specs.Moves.{Moves};
+ghost use Rattle.canon_context.specs.Quiet.{Quiet, have_block};
+ghost use Rattle.canon_context.specs.Asks.{SameButHandles};
+ghost use Rattle.canon_val.specs.declared.val.Val.TheVariants as val;
+ghost use Rattle.canon_val.specs.Value.{HaveTrees};
+ghost use Rattle.canon_value_parts.specs.View.{HaveKnownTypes, names_of, shapes_of, values_of};
+ghost use Rattle.canon_value_parts.specs.Viewed.{IsCaseSeen};
+ghost use Rattle.canon_value_parts.specs.Words.{Clears, IsWordOf, LowersTo, PartsLowerTo, WordsStay, behind_tag, inside};
+
+use crate::store::place_list;
+use canon_context::{Fault, LowerContext};
+use canon_memory::{Guest, ValRaw};
+use canon_plan::{HandleType, flat_words};
+use canon_resources::ResourceAny;
+use canon_types::{ComponentTypes, InterfaceType, TypeTupleIndex};
+use canon_val::Val;
+use canon_value_parts::{
+    Case, Elements, Members, Placed, Spot, View, count_of, give_handle, lower_names, member_of,
+    place_text, view_of,
+};
+
+/// Lowers a function's parameters into words in a row (CanonicalABI.md, "lower_flat_values"), up to MAX_FLAT_PARAMS words.
+/// At an error `dst` and the blocks may have changed.
+pub fn lower_args_near<T, G: Guest>(
+    cx: &mut LowerContext<'_, T, G>,
+    args: &[Val],
+    ty: TypeTupleIndex,
+    dst: &mut [ValRaw],
+) -> Result<(), Fault>
+    requires tuple { HasTuple (component_types cx.old.core.now) ty }
+    requires count { length args.now ≡ member_count (tuple_members (component_types cx.old.core.now) ty) }
+    requires near { members_flat (tuple_members (component_types cx.old.core.now) ty) ≤ max_params }
+    requires words { length dst.old ≡ members_flat (tuple_members (component_types cx.old.core.now) ty) }
+    ensures lowered { PartsLower cx.old.core.now cx.new.core.now (all_passes (tuple_members (component_types cx.old.core.now) ty) args.now)
+        (λ hs. LowersArgs false (moment_of G.seen cx.old.core.now) (moment_of G.seen cx.new.core.now) (encoding_by cx.old.core.now cx.old.options)
+        (tuple_members (component_types cx.old.core.now) ty) (HaveTrees (tuple_members (component_types cx.old.core.now) ty) args.now) dst.new hs (ending_of result)) result }
+    ensures cause { IfErr result (BlamesMembers (encoding_by cx.old.core.now cx.old.options) (tuple_members (component_types cx.old.core.now) ty) args.now) }
+    ensures small { OnOk result (AreSmall (encoding_by cx.old.core.now cx.old.options) (tuple_members (component_types cx.old.core.now) ty) args.now) }
+    ensures quiet { Quiet (have_block (tuple_members (component_types cx.old.core.now) ty)) (cx.new.core.now ≡ record cx.old.core.now { ledger = cx.new.core.now.ledger }) result }
+    ensures moves { Moves G.seen G.moves (guest_of cx.old.core.now) (guest_of cx.new.core.now) (ending_of result) }
+    ensures same_core { SameButHandles cx.old.core.now cx.new.core.now }
+    ensures same_reference { cx.new.core.ghost_name ≡ cx.old.core.ghost_name }
+    ensures same_options { cx.new.options ≡ cx.old.options }
+{
+    let _memory = cx.core.memory(); // memory has at most 2^32 bytes
+    let members = Members::Places(ty, args);
+    match lower_parts(cx, &members, dst, 0, Spot { word: 0, place: 0 }) {
+        Ok(_) => Ok(()),
+        Err(fault) => Err(fault),
+    }
+}
+
+/// Lowers a function's results into words in a row (CanonicalABI.md, "lower_flat_values"). At an error `dst` and the blocks may have
+/// changed.
+pub fn lower_results_near<T, G: Guest>(
+    cx: &mut LowerContext<'_, T, G>,
+    results: &[Val],
+    ty: TypeTupleIndex,
+    dst: &mut [ValRaw],
+) -> Result<(), Fault>
+    requires tuple { HasTuple (component_types cx.old.core.now) ty }
+    requires count { length results.now ≡ member_count (tuple_members (component_types cx.old.core.now) ty) }
+    requires words { length dst.old ≡ members_flat (tuple_members (component_types cx.old.core.now) ty) }
+    ensures lowered { PartsLower cx.old.core.now cx.new.core.now (all_passes (tuple_members (component_types cx.old.core.now) ty) results.now)
+        (λ hs. LowersMembers false (moment_of G.seen cx.old.core.now) (moment_of G.seen cx.new.core.now) (encoding_by cx.old.core.now cx.old.options)
+        (tuple_members (component_types cx.old.core.now) ty) dst.new 0 (HaveTrees (tuple_members (component_types cx.old.core.now) ty) results.now) hs (ending_of result)) result }
+    ensures cause { IfErr result (BlamesMembers (encoding_by cx.old.core.now cx.old.options) (tuple_members (component_types cx.old.core.now) ty) results.now) }
+    ensures small { OnOk result (AreSmall (encoding_by cx.old.core.now cx.old.options) (tuple_members (component_types cx.old.core.now) ty) results.now) }
+    ensures quiet { Quiet (have_block (tuple_members (component_types cx.old.core.now) ty)) (cx.new.core.now ≡ record cx.old.core.now { ledger = cx.new.core.now.ledger }) result }
+    ensures moves { Moves G.seen G.moves (guest_of cx.old.core.now) (guest_of cx.new.core.now) (ending_of result) }
+    ensures same_core { SameButHandles cx.old.core.now cx.new.core.now }
+    ensures same_reference { cx.new.core.ghost_name ≡ cx.old.core.ghost_name }
+    ensures same_options { cx.new.options ≡ cx.old.options }
+{
+    let _memory = cx.core.memory(); // memory has at most 2^32 bytes
+    let members = Members::Places(ty, results);
+    match lower_parts(cx, &members, dst, 0, Spot { word: 0, place: 0 }) {
+        Ok(_) => Ok(()),
+        Err(fault) => Err(fault),
+    }
+}
+
+/// Lowers a value into words from a spot on, and answers where the next one stands.
+#[cycle(lower)]
+pub fn lower_value<T, G: Guest>(
+    cx: &mut LowerContext<'_, T, G>,
+    value: &Val,
+    ty: InterfaceType,
+    dst: &mut [ValRaw],
+    from: Spot,
+) -> Result<Spot, Fault>
+    requires known { Knows (component_types cx.old.core.now) ty }
+    requires small { length cx.old.core.now.memory ≤ 2 ^ 32 }
+    requires room { from.word + flat (shape_of (component_types cx.old.core.now) ty) ≤ length dst.old }
+    ensures lowers { LowersTo G.seen G.moves cx.old.options cx.old.core.now cx.new.core.now dst.old dst.new from result (shape_of (component_types cx.old.core.now) ty) value.now }
+    ensures same_reference { cx.new.core.ghost_name ≡ cx.old.core.ghost_name }
+    ensures same_options { cx.new.options ≡ cx.old.options }
+{
+    match view_of(cx.types(), &ty, value, from.place) {
+        Ok(View::Scalar(word)) => Ok(lower_word(cx, word, value, ty, dst, from)),
+        Ok(View::Text(text)) => lower_text(cx, text, dst, from),
+        Ok(View::Handle(handle, resource)) => lower_handle(cx, handle, resource, dst, from),
+        Ok(View::List(list)) => lower_list(cx, &list, dst, from),
+        Ok(View::Members(members)) => lower_parts(cx, &members, dst, from.place, from.inside()),
+        Ok(View::Case(case)) => lower_case(cx, &case, value, &ty, dst, from),
+        Ok(View::Flags(names)) => lower_names(cx, names, &ty, dst, from),
+        Err(fault) => Err(fault),
+    }
+}
+
+/// Lowers the members of a value that has this place, from a spot on. The name of each is tested just before it.
+#[cycle(lower)]
+fn lower_parts<T, G: Guest>(
+    cx: &mut LowerContext<'_, T, G>,
+    members: &Members<'_>,
+    dst: &mut [ValRaw],
+    place: u64,
+    first: Spot,
+) -> Result<Spot, Fault>
+    requires known { HaveKnownTypes (component_types cx.old.core.now) members.now }
+    requires count { length (values_of members.now) ≡ member_count (shapes_of (component_types cx.old.core.now) members.now) }
+    requires small { length cx.old.core.now.memory ≤ 2 ^ 32 }
+    requires room { first.word + members_flat (shapes_of (component_types cx.old.core.now) members.now) ≤ length dst.old }
+    ensures lowers { PartsLowerTo G.seen G.moves cx.old.options cx.old.core.now cx.new.core.now dst.old dst.new first result place
+        (shapes_of (component_types cx.old.core.now) members.now) (names_of members.now) (values_of members.now) }
+    ensures same_reference { cx.new.core.ghost_name ≡ cx.old.core.ghost_name }
+    ensures same_options { cx.new.options ≡ cx.old.options }
+{
+    let mut next = first;
+    for k in 0..count_of(members) {
+        let member = member_of(cx.types(), members, k);
+        if !member.is_named {
+            return Err(Fault::FieldName(place));
+        }
+        match lower_value(cx, member.value, member.ty, dst, next) {
+            Ok(after) => next = after,
+            Err(fault) => return Err(fault),
+        }
+    }
+    Ok(next)
+}
+
+/// Lowers a case: its number, the words of its payload, and zeros up to the words of the type.
+#[cycle(lower)]
+fn lower_case<T, G: Guest>(
+    cx: &mut LowerContext<'_, T, G>,
+    case: &Case<'_>,
+    value: &Val,
+    ty: &InterfaceType,
+    dst: &mut [ValRaw],
+    from: Spot,
+) -> Result<Spot, Fault>
+    requires known { Knows (component_types cx.old.core.now) ty.now }
+    requires seen { IsCaseSeen (component_types cx.old.core.now) (shape_of (component_types cx.old.core.now) ty.now) value.now case.now }
+    requires small { length cx.old.core.now.memory ≤ 2 ^ 32 }
+    requires room { from.word + flat (shape_of (component_types cx.old.core.now) ty.now) ≤ length dst.old }
+    ensures lowers { LowersTo G.seen G.moves cx.old.options cx.old.core.now cx.new.core.now dst.old dst.new from result (shape_of (component_types cx.old.core.now) ty.now) value.now }
+    ensures same_reference { cx.new.core.ghost_name ≡ cx.old.core.ghost_name }
+    ensures same_options { cx.new.options ≡ cx.old.options }
+{
+    let _ = value;
+    let end = word_after(cx.types(), ty, from, dst.len());
+    dst[from.word] = ValRaw::u32(case.tag);
+    match lower_parts(cx, &case.payload, dst, from.place, from.behind_tag()) {
+        Ok(past) => Ok(clear_to(dst, past, end)),
+        Err(fault) => Err(fault),
+    }
+}
+
+/// The word after those of a value of the type, which stands at a spot of so many words.
+fn word_after(types: &ComponentTypes, ty: &InterfaceType, from: Spot, count: usize) -> usize
+    requires known { Knows types.now ty.now }
+    requires room { from.word + flat (shape_of types.now ty.now) ≤ count }
+    ensures { result ≡ from.word + flat (shape_of types.now ty.now) }
+{
+    from.word + flat_words(types, ty) as usize
+}
+
+/// Writes zeros from a spot on, up to a word.
+fn clear_to(dst: &mut [ValRaw], from: Spot, end: usize) -> Spot
+    requires later { from.word ≤ end }
+    requires room { end ≤ length dst.old }
+    ensures clears { Clears from.word end dst.old dst.new }
+    ensures spot { result ≡ record { word = end; place = from.place } }
+{
+    for k in from.word..end {
+        dst[k] = ValRaw::u32(0);
+    }
+    Spot {
+        word: end,
+        place: from.place,
+    }
+}
+
+fn lower_word<T, G: Guest>(
+    cx: &mut LowerContext<'_, T, G>,
+    word: u64,
+    value: &Val,
+    ty: InterfaceType,
+    dst: &mut [ValRaw],
+    from: Spot,
+) -> Spot
+    requires word { IsWordOf ty value.now word }
+    requires small { length cx.old.core.now.memory ≤ 2 ^ 32 }
+    requires room { from.word + flat (shape_of (component_types cx.old.core.now) ty) ≤ length dst.old }
+    ensures lowers { LowersTo G.seen G.moves cx.old.options cx.old.core.now cx.new.core.now dst.old dst.new from (Ok result) (shape_of (component_types cx.old.core.now) ty) value.now }
+    ensures same_reference { cx.new.core.ghost_name ≡ cx.old.core.ghost_name }
+    ensures same_options { cx.new.options ≡ cx.old.options }
+{
+    let _ = value;
+    dst[from.word] = ValRaw::u64(word);
+    Spot {
+        word: from.word + 1,
+        place: from.place.saturating_add(1),
+    }
+}
+
+/// Lowers the handle that the guest is given for a resource.
+fn lower_handle<T, G: Guest>(
+    cx: &mut LowerContext<'_, T, G>,
+    handle: HandleType,
+    resource: ResourceAny,
+    dst: &mut [ValRaw],
+    from: Spot,
+) -> Result<Spot, Fault>
+    requires known { Knows (component_types cx.old.core.now) (type_of_handle handle) }
+    requires small { length cx.old.core.now.memory ≤ 2 ^ 32 }
+    requires room { from.word + 1 ≤ length dst.old }
+    ensures lowers { LowersTo G.seen G.moves cx.old.options cx.old.core.now cx.new.core.now dst.old dst.new from result (shape_of_handle handle) (val.Resource resource) }
+    ensures same_reference { cx.new.core.ghost_name ≡ cx.old.core.ghost_name }
+    ensures same_options { cx.new.options ≡ cx.old.options }
+{
+    match give_handle(cx, handle, resource) {
+        Ok(number) => {
+            dst[from.word] = ValRaw::u32(number);
+            Ok(Spot {
+                word: from.word + 1,
+                place: from.place.saturating_add(1),
+            })
+        }
+        Err(fault) => Err(fault),
+    }
+}
+
+fn lower_text<T, G: Guest>(
+    cx: &mut LowerContext<'_, T, G>,
+    text: &String,
+    dst: &mut [ValRaw],
+    from: Spot,
+) -> Result<Spot, Fault>
+    requires small { length cx.old.core.now.memory ≤ 2 ^ 32 }
+    requires room { from.word + 2 ≤ length dst.old }
+    ensures lowers { LowersTo G.seen G.moves cx.old.options cx.old.core.now cx.new.core.now dst.old dst.new from result string (val.String text.now) }
+    ensures same_reference { cx.new.core.ghost_name ≡ cx.old.core.ghost_name }
+    ensures same_options { cx.new.options ≡ cx.old.options }
+{
+    match place_text(cx, text, from.place) {
+        Ok(block) => Ok(put_words(dst, from, block)),
+        Err(fault) => Err(fault),
+    }
+}
+
+fn lower_list<T, G: Guest>(
+    cx: &mut LowerContext<'_, T, G>,
+    list: &Elements<'_>,
+    dst: &mut [ValRaw],
+    from: Spot,
+) -> Result<Spot, Fault>
+    requires known { IsKnown (component_types cx.old.core.now) (element_in list.now) }
+    requires small { length cx.old.core.now.memory ≤ 2 ^ 32 }
+    requires room { from.word + 2 ≤ length dst.old }
+    ensures lowers { LowersTo G.seen G.moves cx.old.options cx.old.core.now cx.new.core.now dst.old dst.new from result (list_shape (component_types cx.old.core.now) (element_in list.now)) (list_value list.now) }
+    ensures same_reference { cx.new.core.ghost_name ≡ cx.old.core.ghost_name }
+    ensures same_options { cx.new.options ≡ cx.old.options }
+{
+    match place_list(cx, list, from.place) {
+        Ok(block) => Ok(put_words(dst, from, block)),
+        Err(fault) => Err(fault),
+    }
+}
+
+/// Writes the pointer and the length of a block from a spot on.
+fn put_words(dst: &mut [ValRaw], from: Spot, block: Placed) -> Spot
+    requires narrow { block.pointer < 2 ^ 32 }
+    requires narrow_length { block.length < 2 ^ 32 }
+    requires room { from.word + 2 ≤ length dst.old }
+    ensures stays { WordsStay from.word dst.old dst.new }
+    ensures there { SameWords (block.pointer ∷ block.length ∷ []) 0 dst.new from.word 2 }
+    ensures spot { result ≡ record { word = from.word + 2; place = block.next } }
+{
+    dst[from.word] = ValRaw::u32(block.pointer as u32);
+    dst[from.word + 1] = ValRaw::u32(block.length as u32);
+    Spot {
+        word: from.word + 2,
+        place: block.next,
+    }
+}
