@@ -4,3 +4,4 @@ pub mod Pairs
 pub mod MapLifting
 pub mod TextViews
 pub mod IntegerRows
+pub mod Cases

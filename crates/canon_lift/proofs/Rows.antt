@@ -1,5 +1,6 @@
 -- Values of one type in a row, lifted one after another.
-use Rattle.std.proofs.Common.{◌≡◌, ◌<◌, ◌+◌, ◌-◌, ◌*◌, ◌++◌, ◌∙◌, List, None, [], ◌∷◌, ap, append_assoc, arith, false, length, refl, Result, subst, suc, suc-mul, sym, zero, ℕ}
+use Rattle.std.proofs.Common.{◌≡◌, ◌<◌, ◌+◌, ◌-◌, ◌*◌, ◌++◌, ◌∙◌, ◌≤◌, List, None, [], ◌∷◌, ap, append_assoc, arith, false, length, mul-le-mul_right, refl, Result, subst, suc, suc-mul, sym, zero, ℕ}
+use Rattle.std.proofs.Math.Nat.{add-mul, one-mul}
 use Rattle.canon_context.specs.Core.{Parts, component_types}
 use Rattle.canon_context.specs.declared.fault.At.{At as Place}
 use Rattle.canon_context.specs.declared.fault.Fault.{Fault}
@@ -112,6 +113,14 @@ pub fixed_refused : {A B : Type 0} (n : ℕ) (R : Reading A) (f : B → List A) 
 fixed_refused n R f w at s u before after fuel left e is r =
     let h = subst (λ (z : Shape). Refused (vec_reading n R) w at z before fuel e after left) is r in
     record { cause = h.cause; memory = h.memory; stops = h.stops; falls = h.falls }
+
+-- item k of so many ends where they end, or before
+pub row_room : (p k count step size n : ℕ) → k < count → step ≡ size → p + count * size ≤ n → p + k * step + size ≤ n
+row_room p k count step size n few is room =
+    let all : (k + 1) * size ≤ count * size = mul-le-mul_right size (omega (arith, few)) in
+    let one : (k + 1) * size ≡ k * size + size = add-mul k 1 size ∙ ap (λ j. k * size + j) (one-mul size) in
+    let here : k * step ≡ k * size = ap (λ j. k * j) is in
+    omega (arith, all, one, here, room)
 
 -- ---- items of a list in memory
 

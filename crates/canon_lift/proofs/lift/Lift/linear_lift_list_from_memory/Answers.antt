@@ -1,11 +1,11 @@
-use Rattle.std.proofs.Common.{rules, ◌≡◌, ◌+◌, ◌*◌, ◌%◌, ◌∙◌, Err, Ok, ap, arith, false, refl, subst, sym}
+use Rattle.std.proofs.Common.{rules, ◌≡◌, ◌≤◌, ◌<◌, ◌+◌, ◌*◌, ◌%◌, ◌∙◌, Err, Ok, ap, arith, false, length, refl, subst, sym}
 use Rattle.canon_context.specs.Core.{Parts, component_types}
 use Rattle.canon_model.specs.Layout.{align, size}
-use Rattle.canon_types.specs.Table.{shape_of}
+use Rattle.canon_types.specs.Table.{Knows, shape_of}
 use Rattle.canon_reading.specs.Reading.{setting_in}
-use Rattle.canon_reading.specs.Readings.{EachReads, item_spot}
+use Rattle.canon_reading.specs.Readings.{EachReads, each_reach, item_spot}
 use Rattle.canon_reading.specs.Spots.{stored}
-use Rattle.canon_lift.proofs.Rows.{each_more, item_lifts, item_lost, item_refused, reach_more}
+use Rattle.canon_lift.proofs.Rows.{each_more, item_lifts, item_lost, item_refused, reach_more, row_room}
 use Rattle.canon_lift_parts.proofs.Settings.{element_aligned, looked_up_size, same_shape}
 use Rattle.canon_lift.proofs.lift.Lift.linear_lift_list_from_memory.Goals as goal
 
@@ -78,3 +78,62 @@ loop-k-preserved g c =
       same_reference = c.in-Ok.ensures.same_reference ∙ i.same_reference;
       same_options = c.in-Ok.ensures.same_options ∙ i.same_options;
     }
+
+pub linear_lift_from_memory-requires-clause-known : goal.linear_lift_from_memory-requires-clause-known
+linear_lift_from_memory-requires-clause-known g c = subst (λ (z : Parts g.row.U.Denot g.row.G.Denot). Knows (component_types z) c.args.list.now.element) (sym c.loop-k.invariant.same_core) c.requires.items.known
+
+pub linear_lift_from_memory-requires-clause-fits : goal.linear_lift_from_memory-requires-clause-fits
+linear_lift_from_memory-requires-clause-fits g c = subst (λ (z : Parts g.row.U.Denot g.row.G.Denot). g.Self.ComponentType.fits z.component.types c.args.list.now.element) (sym c.loop-k.invariant.same_core) c.requires.items.fits
+
+pub linear_lift_from_memory-requires-clause-inside : goal.linear_lift_from_memory-requires-clause-inside
+linear_lift_from_memory-requires-clause-inside g c =
+    let core = c.args.cx.now.core.now in
+    let list = c.args.list.now in
+    let s = shape_of (component_types core) list.element in
+    let few : c.loop-k.k < list.count = omega arith in
+    let step = c.from-size.result in
+    let bytes : step ≡ size false s = looked_up_size (component_types core) c.types.result.now list.element c.canonical_abi.result.now c.types.ensures c.canonical_abi.ensures _ c.from-size.ensures in
+    let room : list.pointer + list.count * size false s ≤ length core.memory = c.requires.items.good.1 in
+    subst (λ (z : Parts g.row.U.Denot g.row.G.Denot). list.pointer + c.loop-k.k * step + size false (shape_of (component_types z) list.element) ≤ length z.memory) (sym c.loop-k.invariant.same_core)
+    (row_room list.pointer c.loop-k.k list.count step (size false s) (length core.memory) few bytes room)
+
+pub returns-clause-lifts : goal.returns-clause-lifts
+returns-clause-lifts g c =
+    let cx = c.args.cx.now in
+    let core = cx.core.now in
+    let list = c.args.list.now in
+    let i = c.loop-k.invariant in
+    let s = shape_of (component_types core) list.element in
+    let all : c.loop-k.k ≡ list.count = omega arith in
+    ((i.count ∙ all, i.read), i.spent ∙ ap (λ n. c.loop-k.cx.fuel + each_reach g.Self.Lift.reading (setting_in core cx.options) s (stored list.pointer) n) all)
+
+pub returns-in-Err-push-clause-same_core : goal.returns-in-Err-push-clause-same_core
+returns-in-Err-push-clause-same_core g c =
+    let after = c.linear_lift_from_memory.new.cx in
+    c.in-Ok.ensures.same_core ∙ ap (λ (z : Parts g.row.U.Denot g.row.G.Denot). record z { ledger = after.core.now.ledger }) c.loop-k.invariant.same_core
+
+pub returns-in-Err-push-clause-same_reference : goal.returns-in-Err-push-clause-same_reference
+returns-in-Err-push-clause-same_reference g c = c.in-Ok.ensures.same_reference ∙ c.loop-k.invariant.same_reference
+
+pub returns-in-Err-push-clause-same_options : goal.returns-in-Err-push-clause-same_options
+returns-in-Err-push-clause-same_options g c = c.in-Ok.ensures.same_options ∙ c.loop-k.invariant.same_options
+
+pub returns-in-Err-clause-same_core : goal.returns-in-Err-clause-same_core
+returns-in-Err-clause-same_core g c =
+    let after = c.linear_lift_from_memory.new.cx in
+    c.in-Err.ensures.same_core ∙ ap (λ (z : Parts g.row.U.Denot g.row.G.Denot). record z { ledger = after.core.now.ledger }) c.loop-k.invariant.same_core
+
+pub returns-in-Err-clause-same_reference : goal.returns-in-Err-clause-same_reference
+returns-in-Err-clause-same_reference g c = c.in-Err.ensures.same_reference ∙ c.loop-k.invariant.same_reference
+
+pub returns-in-Err-clause-same_options : goal.returns-in-Err-clause-same_options
+returns-in-Err-clause-same_options g c = c.in-Err.ensures.same_options ∙ c.loop-k.invariant.same_options
+
+pub returns-clause-same_core : goal.returns-clause-same_core
+returns-clause-same_core g c = c.loop-k.invariant.same_core
+
+pub returns-clause-same_reference : goal.returns-clause-same_reference
+returns-clause-same_reference g c = c.loop-k.invariant.same_reference
+
+pub returns-clause-same_options : goal.returns-clause-same_options
+returns-clause-same_options g c = c.loop-k.invariant.same_options

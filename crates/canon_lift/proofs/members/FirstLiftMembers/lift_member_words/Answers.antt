@@ -1,9 +1,10 @@
-use Rattle.std.proofs.Common.{◌≡◌, ◌≤◌, ◌<◌, ◌+◌, ◌^◌, ◌∙◌, Err, Ok, [], ap, arith, drop, length, rules, subst, sym}
+use Rattle.std.proofs.Common.{◌≡◌, ◌≤◌, ◌<◌, ◌+◌, ◌^◌, ◌∙◌, Err, Ok, [], ap, arith, drop, length, rules, subst, sym, ◌∷◌}
 use Rattle.canon_context.specs.Core.{Parts, component_types}
 use Rattle.canon_model.specs.Layout.{flat, members_flat}
 use Rattle.canon_model.specs.Shape.{of_places, product}
 use Rattle.canon_types.specs.Table as table
-use Rattle.canon_types.specs.Table.{members_of, shape_of}
+use Rattle.canon_types.specs.Table.{HasTuple, members_of, shape_of}
+use Rattle.canon_typed.specs.Types.{AreOf}
 use Rattle.canon_lift.specs.Firsts.{first_and}
 use Rattle.canon_reading.specs.Reading.{Lifts, Refused, setting_in}
 use Rattle.canon_reading.specs.Readings.{first_reading}
@@ -164,3 +165,52 @@ returns-in-Ok-lift_member_words-clause-lifts g c =
     (members_read (λ (m : First g.row.A.Denot g.row.R.Denot). m.first) (λ (m : First g.row.A.Denot g.row.R.Denot). m.rest) R S w from [] s more
     (product of_places ms) core.ledger cx.fuel (first_and c.in-Ok.first rest) mid.core.now.ledger after.core.now.ledger mid.fuel after.fuel read
     spent members cost)
+
+pub lift_words-requires-clause-fits : goal.lift_words-requires-clause-fits
+lift_words-requires-clause-fits g c =
+    let core = c.args.cx.now.core.now in
+    let t = component_types core in
+    (subst (λ types. AreOf (g.A.ComponentType.fits ∷ g.R.LiftMembers.all) core.component.types types) (next_of_tuple t c.types.result.now c.args.i c.args.k c.tuple.result.now.types.items c.index.result.now g.A.ComponentType.fits g.R.LiftMembers.all core.component.types
+    c.types.ensures c.tuple.ensures.types c.index.ensures c.requires.fits) c.requires.fits).0
+
+pub lift_member_words-requires-clause-tuple : goal.lift_member_words-requires-clause-tuple
+lift_member_words-requires-clause-tuple g c = subst (λ (z : Parts g.row.U.Denot g.row.G.Denot). HasTuple (component_types z) c.args.i) (sym c.in-Ok.ensures.same_core) c.requires.tuple
+
+pub lift_member_words-requires-clause-fits : goal.lift_member_words-requires-clause-fits
+lift_member_words-requires-clause-fits g c =
+    let core = c.args.cx.now.core.now in
+    let t = component_types core in
+    subst (λ (z : Parts g.row.U.Denot g.row.G.Denot). AreOf g.R.LiftMembers.all z.component.types (drop (c.args.k + 1) (table.types_of (component_types z) c.args.i))) (sym c.in-Ok.ensures.same_core)
+    (subst (λ types. AreOf (g.A.ComponentType.fits ∷ g.R.LiftMembers.all) core.component.types types) (next_of_tuple t c.types.result.now c.args.i c.args.k c.tuple.result.now.types.items c.index.result.now g.A.ComponentType.fits g.R.LiftMembers.all core.component.types
+    c.types.ensures c.tuple.ensures.types c.index.ensures c.requires.fits) c.requires.fits).1
+
+pub returns-in-Err-clause-same_core : goal.returns-in-Err-clause-same_core
+returns-in-Err-clause-same_core g c = c.in-Err.ensures.same_core
+
+pub returns-in-Err-clause-same_reference : goal.returns-in-Err-clause-same_reference
+returns-in-Err-clause-same_reference g c = c.in-Err.ensures.same_reference
+
+pub returns-in-Err-clause-same_options : goal.returns-in-Err-clause-same_options
+returns-in-Err-clause-same_options g c = c.in-Err.ensures.same_options
+
+pub returns-in-Err-lift_member_words-clause-same_core : goal.returns-in-Err-lift_member_words-clause-same_core
+returns-in-Err-lift_member_words-clause-same_core g c =
+    let after = c.lift_member_words.new.cx in
+    c.in-Err-lift_member_words.ensures.same_core ∙ ap (λ (z : Parts g.row.U.Denot g.row.G.Denot). record z { ledger = after.core.now.ledger }) c.in-Ok.ensures.same_core
+
+pub returns-in-Err-lift_member_words-clause-same_reference : goal.returns-in-Err-lift_member_words-clause-same_reference
+returns-in-Err-lift_member_words-clause-same_reference g c = c.in-Err-lift_member_words.ensures.same_reference ∙ c.in-Ok.ensures.same_reference
+
+pub returns-in-Err-lift_member_words-clause-same_options : goal.returns-in-Err-lift_member_words-clause-same_options
+returns-in-Err-lift_member_words-clause-same_options g c = c.in-Err-lift_member_words.ensures.same_options ∙ c.in-Ok.ensures.same_options
+
+pub returns-in-Ok-lift_member_words-clause-same_core : goal.returns-in-Ok-lift_member_words-clause-same_core
+returns-in-Ok-lift_member_words-clause-same_core g c =
+    let after = c.lift_member_words.new.cx in
+    c.in-Ok-lift_member_words.ensures.same_core ∙ ap (λ (z : Parts g.row.U.Denot g.row.G.Denot). record z { ledger = after.core.now.ledger }) c.in-Ok.ensures.same_core
+
+pub returns-in-Ok-lift_member_words-clause-same_reference : goal.returns-in-Ok-lift_member_words-clause-same_reference
+returns-in-Ok-lift_member_words-clause-same_reference g c = c.in-Ok-lift_member_words.ensures.same_reference ∙ c.in-Ok.ensures.same_reference
+
+pub returns-in-Ok-lift_member_words-clause-same_options : goal.returns-in-Ok-lift_member_words-clause-same_options
+returns-in-Ok-lift_member_words-clause-same_options g c = c.in-Ok-lift_member_words.ensures.same_options ∙ c.in-Ok.ensures.same_options
