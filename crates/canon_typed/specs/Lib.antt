@@ -3,6 +3,7 @@ pub mod Lending
 pub mod Maps
 pub mod Meaning
 pub mod Numbers
+pub mod Scalars
 pub mod Trees
 pub mod Typed
 pub mod Types

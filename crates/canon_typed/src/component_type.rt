@@ -2,12 +2,14 @@
 
 ghost use Rattle.std.specs.Prelude.{◌≡◌, Bool, OnErr, OnOk, ℕ};
 ghost use Rattle.canon_abi.specs.Abi.{TellsLayout};
+ghost use Rattle.canon_model.specs.Shape.{Scalar};
 ghost use Rattle.canon_model.specs.Tree.{Tree};
 ghost use Rattle.canon_types.specs.Instance.{Instance};
 ghost use Rattle.canon_types.specs.Table.{Knows, shape_of};
 ghost use Rattle.canon_types.specs.declared.types.InterfaceType.{InterfaceType};
 ghost use Rattle.canon_typed.specs.Charges.{cap};
 ghost use Rattle.canon_typed.specs.Numbers.{TellsFlat, TellsInfo};
+ghost use Rattle.canon_typed.specs.Scalars.{IsScalarType};
 ghost use Rattle.canon_typed.specs.Typed.{IsTyped};
 
 use crate::TypecheckFailed;
@@ -87,3 +89,12 @@ pub trait ComponentVariant: ComponentType {
 
 /// A Rust type that stands for the parameters or the results of a function: a tuple.
 pub trait ComponentNamedList: ComponentType {}
+
+/// A Rust type that stands for a scalar.
+pub trait ScalarType: ComponentType {
+    // the scalar
+    ghost kind: { Scalar };
+
+    // each value has one tree, which is lifted to it and to no other, for nothing
+    ghost is_scalar: { IsScalarType kind Self.fits Self.is_unit Self.means Self.walks Self.is_told Self.lifts Self.cost };
+}

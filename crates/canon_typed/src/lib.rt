@@ -16,6 +16,6 @@ pub use canon_named::{
     TypecheckFailed, desc, format_flags, typecheck_enum, typecheck_flags, typecheck_record,
     typecheck_variant,
 };
-pub use component_type::{ComponentNamedList, ComponentType, ComponentVariant};
+pub use component_type::{ComponentNamedList, ComponentType, ComponentVariant, ScalarType};
 pub use fixed_list::FixedList;
 pub use scalars::{Float32Bits, Float64Bits};

@@ -1,12 +1,15 @@
 //! Integers, floats by their bits, `bool` and `char` as component types.
 
-ghost use Rattle.std.specs.Prelude.{◌≡◌, false, pos, true};
+ghost use Rattle.std.proofs.Common.{ap};
+ghost use Rattle.std.specs.Prelude.{◌≡◌, false, pos, refl, true};
+ghost use Rattle.canon_model.specs.Shape as shape;
 ghost use Rattle.canon_model.specs.Tree.{code_point, number, truth};
 ghost use Rattle.canon_types.specs.declared.types.InterfaceType.TheVariants as ty;
 ghost use Rattle.canon_typed.specs.Charges.{free};
+ghost use Rattle.canon_typed.specs.Scalars.{code_points_apart, naturals_apart, numbers_apart, scalar_type, truths_apart};
 ghost use Rattle.canon_typed.specs.Typed.{scalar_typed};
 
-use crate::{ComponentType, TypecheckFailed};
+use crate::{ComponentType, ScalarType, TypecheckFailed};
 use canon_types::{CanonicalAbiInfo, InstanceType, InterfaceType};
 
 /// An f32 by its bits, of which a NaN keeps each.
@@ -62,6 +65,12 @@ impl ComponentType for i8 {
     ghost walked = { λ v t h. h };
 }
 
+impl ScalarType for i8 {
+    ghost kind = { shape.s8 };
+
+    ghost is_scalar = { scalar_type ty.S8 shape.s8 number numbers_apart (λ i. refl) };
+}
+
 impl ComponentType for u8 {
     const MAY_REQUIRE_REALLOC: bool = false;
 
@@ -105,6 +114,12 @@ impl ComponentType for u8 {
     ghost typed = { scalar_typed ty.U8 (λ n t. t ≡ number (pos n)) (λ i n u e. (n, e)) };
 
     ghost walked = { λ v t h. h };
+}
+
+impl ScalarType for u8 {
+    ghost kind = { shape.u8 };
+
+    ghost is_scalar = { scalar_type ty.U8 shape.u8 _ naturals_apart (λ i. refl) };
 }
 
 impl ComponentType for i16 {
@@ -152,6 +167,12 @@ impl ComponentType for i16 {
     ghost walked = { λ v t h. h };
 }
 
+impl ScalarType for i16 {
+    ghost kind = { shape.s16 };
+
+    ghost is_scalar = { scalar_type ty.S16 shape.s16 number numbers_apart (λ i. refl) };
+}
+
 impl ComponentType for u16 {
     const MAY_REQUIRE_REALLOC: bool = false;
 
@@ -195,6 +216,12 @@ impl ComponentType for u16 {
     ghost typed = { scalar_typed ty.U16 (λ n t. t ≡ number (pos n)) (λ i n u e. (n, e)) };
 
     ghost walked = { λ v t h. h };
+}
+
+impl ScalarType for u16 {
+    ghost kind = { shape.u16 };
+
+    ghost is_scalar = { scalar_type ty.U16 shape.u16 _ naturals_apart (λ i. refl) };
 }
 
 impl ComponentType for i32 {
@@ -242,6 +269,12 @@ impl ComponentType for i32 {
     ghost walked = { λ v t h. h };
 }
 
+impl ScalarType for i32 {
+    ghost kind = { shape.s32 };
+
+    ghost is_scalar = { scalar_type ty.S32 shape.s32 number numbers_apart (λ i. refl) };
+}
+
 impl ComponentType for u32 {
     const MAY_REQUIRE_REALLOC: bool = false;
 
@@ -285,6 +318,12 @@ impl ComponentType for u32 {
     ghost typed = { scalar_typed ty.U32 (λ n t. t ≡ number (pos n)) (λ i n u e. (n, e)) };
 
     ghost walked = { λ v t h. h };
+}
+
+impl ScalarType for u32 {
+    ghost kind = { shape.u32 };
+
+    ghost is_scalar = { scalar_type ty.U32 shape.u32 _ naturals_apart (λ i. refl) };
 }
 
 impl ComponentType for i64 {
@@ -332,6 +371,12 @@ impl ComponentType for i64 {
     ghost walked = { λ v t h. h };
 }
 
+impl ScalarType for i64 {
+    ghost kind = { shape.s64 };
+
+    ghost is_scalar = { scalar_type ty.S64 shape.s64 number numbers_apart (λ i. refl) };
+}
+
 impl ComponentType for u64 {
     const MAY_REQUIRE_REALLOC: bool = false;
 
@@ -375,6 +420,12 @@ impl ComponentType for u64 {
     ghost typed = { scalar_typed ty.U64 (λ n t. t ≡ number (pos n)) (λ i n u e. (n, e)) };
 
     ghost walked = { λ v t h. h };
+}
+
+impl ScalarType for u64 {
+    ghost kind = { shape.u64 };
+
+    ghost is_scalar = { scalar_type ty.U64 shape.u64 _ naturals_apart (λ i. refl) };
 }
 
 impl ComponentType for bool {
@@ -422,6 +473,12 @@ impl ComponentType for bool {
     ghost walked = { λ v t h. h };
 }
 
+impl ScalarType for bool {
+    ghost kind = { shape.bool };
+
+    ghost is_scalar = { scalar_type ty.Bool shape.bool truth truths_apart (λ i. refl) };
+}
+
 impl ComponentType for char {
     const MAY_REQUIRE_REALLOC: bool = false;
 
@@ -465,6 +522,12 @@ impl ComponentType for char {
     ghost typed = { scalar_typed ty.Char (λ n t. t ≡ code_point n) (λ i n u e. (n, e)) };
 
     ghost walked = { λ v t h. h };
+}
+
+impl ScalarType for char {
+    ghost kind = { shape.char };
+
+    ghost is_scalar = { scalar_type ty.Char shape.char code_point code_points_apart (λ i. refl) };
 }
 
 impl ComponentType for Float32Bits {
@@ -512,6 +575,12 @@ impl ComponentType for Float32Bits {
     ghost walked = { λ v t h. h };
 }
 
+impl ScalarType for Float32Bits {
+    ghost kind = { shape.f32 };
+
+    ghost is_scalar = { scalar_type ty.Float32 shape.f32 (λ n. number (pos n.0)) (λ v w e. ap (λ n. record { 0 = n }) (naturals_apart v.0 w.0 e)) (λ i. refl) };
+}
+
 impl ComponentType for Float64Bits {
     const MAY_REQUIRE_REALLOC: bool = false;
 
@@ -555,4 +624,10 @@ impl ComponentType for Float64Bits {
     ghost typed = { scalar_typed ty.Float64 (λ n t. t ≡ number (pos n.0)) (λ i n u e. (n.0, e)) };
 
     ghost walked = { λ v t h. h };
+}
+
+impl ScalarType for Float64Bits {
+    ghost kind = { shape.f64 };
+
+    ghost is_scalar = { scalar_type ty.Float64 shape.f64 (λ n. number (pos n.0)) (λ v w e. ap (λ n. record { 0 = n }) (naturals_apart v.0 w.0 e)) (λ i. refl) };
 }
