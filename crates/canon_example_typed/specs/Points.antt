@@ -1,16 +1,15 @@
 -- The laws of a point: those of a tuple, over the laws of its coordinates.
 use Rattle.std.specs.Prelude.{[], ◌∷◌, ◌≡◌, pos, refl, ℕ}
-use Rattle.std.proofs.Common.{ap}
 use Rattle.canon_lower_parts.specs.Given.{IsGiven, first_given, none_given, scalar_given, tuple_given}
 use Rattle.canon_lower_parts.specs.Gives.{no_handles, product_gives}
 use Rattle.canon_model.specs.Shape as shape
 use Rattle.canon_model.specs.Tree.{Tree, number}
 use Rattle.canon_types.specs.Instance.{Instance}
-use Rattle.canon_types.specs.Table.{shape_of}
 use Rattle.canon_types.specs.declared.types.InterfaceType.{InterfaceType}
 use Rattle.canon_types.specs.declared.types.InterfaceType.TheVariants as ty
 use Rattle.canon_typed.specs.Charges.{free, product_cost}
 use Rattle.canon_typed.specs.Meaning.{FirstAnd, NoTrees, ProductMeans}
+use Rattle.canon_typed.specs.Scalars.{scalar_of}
 use Rattle.canon_typed.specs.Typed.{IsTyped, first_typed, none_typed, scalar_typed, tuple_typed}
 use Rattle.canon_typed.specs.Types.{IsTupleOf}
 use Rattle.canon_reading.specs.Apart.{IsApart, end_apart, more_apart, product_apart, tree_apart}
@@ -78,10 +77,10 @@ number_faulted : IsFaulted IsNumberType number_reading
 number_faulted = tree_faulted {Lifts = IsNumber}
 
 number_given : IsGiven IsNumberType IsNumber no_handles
-number_given = scalar_given ty.U32 shape.u32 _ (λ i. refl)
+number_given = scalar_given shape.u32 _ (scalar_of ty.U32 shape.u32 (λ i. refl))
 
 number_told : IsOfTrees IsNumberType number_reading IsNumber
-number_told = scalar_told shape.u32 (λ i t e. ap (λ x. shape_of i.types x) e)
+number_told = scalar_told shape.u32 (scalar_of ty.U32 shape.u32 (λ i. refl))
 
 abbrev pub IsPointType : Instance → InterfaceType → Type 0
 IsPointType = IsTupleOf (IsNumberType ∷ IsNumberType ∷ [])

@@ -1,14 +1,11 @@
 //! Scalars: integers, floats by their bits, `bool` and `char`.
 
 ghost use Rattle.std.specs.Prelude.{refl};
-ghost use Rattle.canon_lift.specs.Scalars.{of_type};
-ghost use Rattle.canon_model.specs.Shape as shape;
 ghost use Rattle.canon_reading.specs.Apart.{tree_apart};
 ghost use Rattle.canon_reading.specs.OfTrees.{scalar_priced, scalar_told, tree_faulted};
 ghost use Rattle.canon_reading.specs.Readings.{scalar_reading};
 ghost use Rattle.canon_reading.specs.Scopes.{plain_kept};
 ghost use Rattle.canon_reading.specs.Taken.{scalar_taken};
-ghost use Rattle.canon_types.specs.declared.types.InterfaceType.TheVariants as ty;
 
 use crate::Lift;
 use crate::words::LoadedScalar;
@@ -60,14 +57,12 @@ impl<S: LoadedScalar> Lift for S {
 
     ghost faulted = { tree_faulted };
 
-    ghost priced = { scalar_priced S.cost S.uncharged };
+    ghost priced = { scalar_priced S.cost S.is_scalar.uncharged };
 
-    ghost told = { λ h. scalar_told S.kind S.shape };
+    ghost told = { λ h. scalar_told S.kind S.is_scalar.shape };
 }
 
 impl LoadedScalar for i8 {
-    ghost kind = { shape.s8 };
-
     fn load(memory: &[u8], at: u64) -> Option<i8> {
         Some(load_u8(memory, at).cast_signed())
     }
@@ -75,17 +70,9 @@ impl LoadedScalar for i8 {
     fn of_word(word: &ValRaw) -> Option<i8> {
         Some(((word.get_u32() % 256) as u8).cast_signed())
     }
-
-    ghost shape = { of_type ty.S8 shape.s8 (λ i. refl) };
-
-    ghost no_unit = { refl };
-
-    ghost uncharged = { refl };
 }
 
 impl LoadedScalar for u8 {
-    ghost kind = { shape.u8 };
-
     fn load(memory: &[u8], at: u64) -> Option<u8> {
         Some(load_u8(memory, at))
     }
@@ -93,17 +80,9 @@ impl LoadedScalar for u8 {
     fn of_word(word: &ValRaw) -> Option<u8> {
         Some((word.get_u32() % 256) as u8)
     }
-
-    ghost shape = { of_type ty.U8 shape.u8 (λ i. refl) };
-
-    ghost no_unit = { refl };
-
-    ghost uncharged = { refl };
 }
 
 impl LoadedScalar for i16 {
-    ghost kind = { shape.s16 };
-
     fn load(memory: &[u8], at: u64) -> Option<i16> {
         Some(load_u16(memory, at).cast_signed())
     }
@@ -111,17 +90,9 @@ impl LoadedScalar for i16 {
     fn of_word(word: &ValRaw) -> Option<i16> {
         Some(((word.get_u32() % 65536) as u16).cast_signed())
     }
-
-    ghost shape = { of_type ty.S16 shape.s16 (λ i. refl) };
-
-    ghost no_unit = { refl };
-
-    ghost uncharged = { refl };
 }
 
 impl LoadedScalar for u16 {
-    ghost kind = { shape.u16 };
-
     fn load(memory: &[u8], at: u64) -> Option<u16> {
         Some(load_u16(memory, at))
     }
@@ -129,17 +100,9 @@ impl LoadedScalar for u16 {
     fn of_word(word: &ValRaw) -> Option<u16> {
         Some((word.get_u32() % 65536) as u16)
     }
-
-    ghost shape = { of_type ty.U16 shape.u16 (λ i. refl) };
-
-    ghost no_unit = { refl };
-
-    ghost uncharged = { refl };
 }
 
 impl LoadedScalar for i32 {
-    ghost kind = { shape.s32 };
-
     fn load(memory: &[u8], at: u64) -> Option<i32> {
         Some(load_u32(memory, at).cast_signed())
     }
@@ -147,17 +110,9 @@ impl LoadedScalar for i32 {
     fn of_word(word: &ValRaw) -> Option<i32> {
         Some(word.get_i32())
     }
-
-    ghost shape = { of_type ty.S32 shape.s32 (λ i. refl) };
-
-    ghost no_unit = { refl };
-
-    ghost uncharged = { refl };
 }
 
 impl LoadedScalar for u32 {
-    ghost kind = { shape.u32 };
-
     fn load(memory: &[u8], at: u64) -> Option<u32> {
         Some(load_u32(memory, at))
     }
@@ -165,17 +120,9 @@ impl LoadedScalar for u32 {
     fn of_word(word: &ValRaw) -> Option<u32> {
         Some(word.get_u32())
     }
-
-    ghost shape = { of_type ty.U32 shape.u32 (λ i. refl) };
-
-    ghost no_unit = { refl };
-
-    ghost uncharged = { refl };
 }
 
 impl LoadedScalar for i64 {
-    ghost kind = { shape.s64 };
-
     fn load(memory: &[u8], at: u64) -> Option<i64> {
         Some(load_u64(memory, at).cast_signed())
     }
@@ -183,17 +130,9 @@ impl LoadedScalar for i64 {
     fn of_word(word: &ValRaw) -> Option<i64> {
         Some(word.get_u64().cast_signed())
     }
-
-    ghost shape = { of_type ty.S64 shape.s64 (λ i. refl) };
-
-    ghost no_unit = { refl };
-
-    ghost uncharged = { refl };
 }
 
 impl LoadedScalar for u64 {
-    ghost kind = { shape.u64 };
-
     fn load(memory: &[u8], at: u64) -> Option<u64> {
         Some(load_u64(memory, at))
     }
@@ -201,17 +140,9 @@ impl LoadedScalar for u64 {
     fn of_word(word: &ValRaw) -> Option<u64> {
         Some(word.get_u64())
     }
-
-    ghost shape = { of_type ty.U64 shape.u64 (λ i. refl) };
-
-    ghost no_unit = { refl };
-
-    ghost uncharged = { refl };
 }
 
 impl LoadedScalar for Float32Bits {
-    ghost kind = { shape.f32 };
-
     fn load(memory: &[u8], at: u64) -> Option<Float32Bits> {
         Some(Float32Bits(load_u32(memory, at)))
     }
@@ -219,17 +150,9 @@ impl LoadedScalar for Float32Bits {
     fn of_word(word: &ValRaw) -> Option<Float32Bits> {
         Some(Float32Bits(word.get_u32()))
     }
-
-    ghost shape = { of_type ty.Float32 shape.f32 (λ i. refl) };
-
-    ghost no_unit = { refl };
-
-    ghost uncharged = { refl };
 }
 
 impl LoadedScalar for Float64Bits {
-    ghost kind = { shape.f64 };
-
     fn load(memory: &[u8], at: u64) -> Option<Float64Bits> {
         Some(Float64Bits(load_u64(memory, at)))
     }
@@ -237,17 +160,9 @@ impl LoadedScalar for Float64Bits {
     fn of_word(word: &ValRaw) -> Option<Float64Bits> {
         Some(Float64Bits(word.get_u64()))
     }
-
-    ghost shape = { of_type ty.Float64 shape.f64 (λ i. refl) };
-
-    ghost no_unit = { refl };
-
-    ghost uncharged = { refl };
 }
 
 impl LoadedScalar for bool {
-    ghost kind = { shape.bool };
-
     fn load(memory: &[u8], at: u64) -> Option<bool> {
         Some(load_u8(memory, at) != 0)
     }
@@ -255,17 +170,9 @@ impl LoadedScalar for bool {
     fn of_word(word: &ValRaw) -> Option<bool> {
         Some(word.get_u32() != 0)
     }
-
-    ghost shape = { of_type ty.Bool shape.bool (λ i. refl) };
-
-    ghost no_unit = { refl };
-
-    ghost uncharged = { refl };
 }
 
 impl LoadedScalar for char {
-    ghost kind = { shape.char };
-
     fn load(memory: &[u8], at: u64) -> Option<char> {
         char::from_u32(load_u32(memory, at))
     }
@@ -273,10 +180,4 @@ impl LoadedScalar for char {
     fn of_word(word: &ValRaw) -> Option<char> {
         char::from_u32(word.get_u32())
     }
-
-    ghost shape = { of_type ty.Char shape.char (λ i. refl) };
-
-    ghost no_unit = { refl };
-
-    ghost uncharged = { refl };
 }

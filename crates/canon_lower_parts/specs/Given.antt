@@ -17,6 +17,7 @@ use Rattle.canon_types.specs.declared.types.InterfaceType.{InterfaceType}
 use Rattle.canon_types.specs.declared.types.InterfaceType.TheVariants as ty
 use Rattle.canon_typed.specs.Maps.{MapWalks}
 use Rattle.canon_typed.specs.Meaning.{CaseMeans, EachMeans, FirstAnd, IsHandle, ListMeans, NoTrees, OptionMeans, PairMeans, ProductMeans, ResultMeans, RowMeans}
+use Rattle.canon_typed.specs.Scalars.{IsOfScalar}
 use Rattle.canon_typed.specs.Types.{AreOf, IsFixedOf, IsHandleOf, IsHandleType, IsListOf, IsMapOf, IsOptionOf, IsPayloadOf, IsResultOf, IsTupleOf}
 
 -- It is given as a resource of any type is ("lower_own", "lower_borrow"), or as one that the host holds is, of a type and where it is now.
@@ -52,8 +53,8 @@ no_scalar_given : (i : Instance) (k : Scalar) (t : Tree) → AreGivenBy i (leave
 unfolding leaves
 no_scalar_given i k t = tt
 
-pub scalar_given : {A : Type 0} (type : InterfaceType) (k : Scalar) (Walks : A → Tree → Type 0) → ((i : Instance) → shape_of i.types type ≡ scalar k) → IsGiven (λ i t. t ≡ type) Walks no_handles
-scalar_given type k Walks is v i u t e h = subst (λ (s : Shape). AreGivenBy i (leaves s t) []) (sym (ap (λ x. shape_of i.types x) e ∙ is i)) (no_scalar_given i k t)
+pub scalar_given : {A : Type 0} {Fit : Instance → InterfaceType → Type 0} (k : Scalar) (Walks : A → Tree → Type 0) → IsOfScalar k Fit → IsGiven Fit Walks no_handles
+scalar_given k Walks is v i u t f h = subst (λ (s : Shape). AreGivenBy i (leaves s t) []) (sym (is i u f)) (no_scalar_given i k t)
 
 no_text_given : (i : Instance) (t : Tree) → AreGivenBy i (leaves string t) []
 unfolding leaves

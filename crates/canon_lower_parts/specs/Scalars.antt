@@ -1,16 +1,9 @@
--- The shapes of scalars' types.
-use Rattle.std.proofs.Common.{ap, ◌%◌, ◌^◌, ◌∙◌, ◌≡◌, ℕ}
+-- The words of scalars.
+use Rattle.std.proofs.Common.{◌%◌, ◌^◌, ℕ}
 use Rattle.canon_model.specs.Flat.{IsLeastWord, flat_bits}
 use Rattle.canon_model.specs.Rep.{ScalarIs}
 use Rattle.canon_model.specs.Tree.{Tree}
-use Rattle.canon_model.specs.Shape.{Scalar, scalar}
-use Rattle.canon_types.specs.Instance.{Instance}
-use Rattle.canon_types.specs.Table.{shape_of}
-use Rattle.canon_types.specs.declared.types.InterfaceType.{InterfaceType}
-
--- what is of this type is of this scalar
-pub scalar_of : (type : InterfaceType) (k : Scalar) → ((i : Instance) → shape_of i.types type ≡ scalar k) → (i : Instance) (t : InterfaceType) → t ≡ type → shape_of i.types t ≡ scalar k
-scalar_of type k same i t e = ap (shape_of i.types) e ∙ same i
+use Rattle.canon_model.specs.Shape.{Scalar}
 
 -- The word strictly represents a scalar that has one of these trees.
 abbrev pub IsWordOfScalar : Scalar → (Tree → Type 0) → ℕ → Type 0

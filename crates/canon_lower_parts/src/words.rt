@@ -7,26 +7,19 @@ ghost use Rattle.canon_lower_parts.specs.Stores.{TypedStores};
 ghost use Rattle.canon_lower_parts.specs.Words.{IsCaseWords, Stays, TypedLowers};
 ghost use Rattle.canon_model.specs.Flat.{AreZero};
 ghost use Rattle.canon_model.specs.Layout.{flat, size};
-ghost use Rattle.canon_model.specs.Shape.{Scalar, scalar};
-ghost use Rattle.canon_types.specs.Instance.{Instance};
 ghost use Rattle.canon_types.specs.Table.{Knows, shape_of};
-ghost use Rattle.canon_types.specs.declared.types.InterfaceType.{InterfaceType};
 
 use crate::put::put;
 use canon_context::{Fault, LowerContext};
 use canon_memory::{Guest, ValRaw};
-use canon_typed::ComponentType;
+use canon_typed::ScalarType;
 use canon_types::InterfaceType;
 
 /// A scalar, which one word represents.
-pub trait WordScalar: ComponentType + Copy {
-    ghost kind: { Scalar };
-
+pub trait WordScalar: ScalarType + Copy {
     /// The word, with no bit set above the scalar's own.
     fn word(&self) -> ValRaw
-        ensures { IsWordOfScalar kind (Self.walks self.now) result };
-
-    ghost shape: { (i : Instance) (type : InterfaceType) → Self.fits i type → shape_of i.types type ≡ scalar kind };
+        ensures { IsWordOfScalar Self.kind (Self.walks self.now) result };
 }
 
 /// Lowers a scalar into its word.

@@ -21,6 +21,7 @@ use Rattle.canon_types.specs.declared.types.InterfaceType.{InterfaceType}
 use Rattle.canon_types.specs.declared.types.InterfaceType.TheVariants as ty
 use Rattle.canon_typed.specs.Charges.{free, option_cost, result_cost}
 use Rattle.canon_typed.specs.Meaning.{CaseMeans, OptionMeans, ResultMeans}
+use Rattle.canon_typed.specs.Scalars.{IsOfScalar}
 use Rattle.canon_typed.specs.Types.{IsOptionOf, IsPayloadOf, IsResultOf}
 use Rattle.canon_reading.specs.Reading.{Reading, Setting}
 use Rattle.canon_reading.specs.Readings.{CasesFault, OptionReads, ResultReads, boxed_reading, cases_reach, nothing_reading, option_reading, payload_reading}
@@ -100,7 +101,7 @@ no_handle_in_text w (stored a) = tt
 no_handle_in_text w (flat_in ws i) = tt
 
 -- of types whose shape is the scalar's
-module _ {A : Type 0} {Fit : Instance → InterfaceType → Type 0} (k : Scalar) (shape : (i : Instance) (type : InterfaceType) → Fit i type → shape_of i.types type ≡ scalar k) {Lifts : A → Tree → Type 0} where
+module _ {A : Type 0} {Fit : Instance → InterfaceType → Type 0} (k : Scalar) (shape : IsOfScalar k Fit) {Lifts : A → Tree → Type 0} where
   pub scalar_told : IsOfTrees Fit (scalar_reading Lifts) Lifts
   scalar_told = record {
     reads = λ w at u before after v f h. tree_reads Lifts w at _ before after v h;
