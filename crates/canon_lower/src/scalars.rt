@@ -9,11 +9,19 @@ use canon_lower_parts::{WordScalar, lower_scalar, store_scalar};
 use canon_memory::{Guest, ValRaw};
 use canon_typed::{Float32Bits, Float64Bits};
 use canon_types::InterfaceType;
+use std::marker::PhantomData;
 
-/// A scalar, which is lowered as one word. `Lower` and `LowerShared` are implemented once for all of them.
-pub trait LoweredScalar: WordScalar {}
+/// Marks the type `S`, by `Scalar`. A trait that `S` itself had to have might be given to a reference, by the crate of the type behind it, and
+/// references are lowered by an implementation of their own.
+pub struct Of<S>(PhantomData<S>);
 
-impl<S: LoweredScalar> Lower for S {
+/// The marked type is a scalar, which is lowered as one word.
+pub trait Scalar {}
+
+impl<S: WordScalar> Lower for S
+where
+    Of<S>: Scalar,
+{
     ghost gives = { no_handles };
 
     fn linear_lower_to_flat<D, G: Guest>(
@@ -39,7 +47,10 @@ impl<S: LoweredScalar> Lower for S {
     ghost given = { scalar_given S.kind S.walks S.is_scalar.shape };
 }
 
-impl<S: LoweredScalar> LowerShared for S {
+impl<S: WordScalar> LowerShared for S
+where
+    Of<S>: Scalar,
+{
     ghost gives = { no_handles };
 
     fn linear_lower_to_flat<D, G: Guest>(
@@ -65,26 +76,26 @@ impl<S: LoweredScalar> LowerShared for S {
     ghost given = { scalar_given S.kind S.walks S.is_scalar.shape };
 }
 
-impl LoweredScalar for i8 {}
+impl Scalar for Of<i8> {}
 
-impl LoweredScalar for u8 {}
+impl Scalar for Of<u8> {}
 
-impl LoweredScalar for i16 {}
+impl Scalar for Of<i16> {}
 
-impl LoweredScalar for u16 {}
+impl Scalar for Of<u16> {}
 
-impl LoweredScalar for i32 {}
+impl Scalar for Of<i32> {}
 
-impl LoweredScalar for u32 {}
+impl Scalar for Of<u32> {}
 
-impl LoweredScalar for i64 {}
+impl Scalar for Of<i64> {}
 
-impl LoweredScalar for u64 {}
+impl Scalar for Of<u64> {}
 
-impl LoweredScalar for Float32Bits {}
+impl Scalar for Of<Float32Bits> {}
 
-impl LoweredScalar for Float64Bits {}
+impl Scalar for Of<Float64Bits> {}
 
-impl LoweredScalar for bool {}
+impl Scalar for Of<bool> {}
 
-impl LoweredScalar for char {}
+impl Scalar for Of<char> {}
