@@ -1,5 +1,5 @@
 -- Options and results, from their payloads.
-use Rattle.std.proofs.Common.{◌≡◌, ◌<◌, ◌+◌, ◌==◌, ◌||◌, Bool, Err, List, None, Ok, Option, Result, Some, [], arith, if◌then◌else◌, inl, inr, refl, subst, sym, true, ℕ}
+use Rattle.std.proofs.Common.{◌≡◌, ◌==◌, Bool, Err, List, None, Ok, Result, Some, arith, if◌then◌else◌, inl, inr, refl, subst, sym, ℕ}
 use Rattle.canon_context.specs.declared.fault.At.{At as Place}
 use Rattle.canon_context.specs.declared.fault.Fault.{Fault}
 use Rattle.canon_leaves.specs.Parts.{LeavesStop, Part}
@@ -10,7 +10,7 @@ use Rattle.canon_model.specs.Reach.{Kind}
 use Rattle.canon_model.specs.Shape.{Shape}
 use Rattle.canon_types.specs.Depth.{variant_cases}
 use Rattle.canon_reading.specs.Reading.{Lifts, NamedBy, Reading, Refused, Setting, stop_of}
-use Rattle.canon_reading.specs.Readings.{CasesFault, cases_reach, cases_reading, cases_steps, OptionReads, ResultReads, nothing_reading, option_reading, payload_reading, result_reading}
+use Rattle.canon_reading.specs.Readings.{CasesFault, cases_reach, cases_reading, OptionReads, ResultReads, nothing_reading, option_reading, payload_reading, result_reading}
 use Rattle.canon_reading.specs.Spots.{HasRoom, Spot, flat_in, payload_spot, stored, tag_in}
 use Rattle.canon_lift_parts.proofs.CaseLifting.{or_left, or_right}
 use Rattle.canon_lift_parts.proofs.Refusals.{named_by, refused_by}
