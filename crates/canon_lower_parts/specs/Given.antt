@@ -1,13 +1,13 @@
 -- How the handles of a value are given: what it does to the ledger are the ways of the handles of its tree, in order.
-use Rattle.std.proofs.Common.{◌++◌, ◌≡◌, ◌∷◌, ◌∙◌, Bool, Err, List, None, Ok, Option, Some, [], ap, false, inl, inr, refl, subst, sym, true, ℕ}
+use Rattle.std.proofs.Common.{◌++◌, ◌≡◌, ◌∷◌, Bool, Err, List, None, Ok, Option, Some, [], ap, false, inl, inr, refl, subst, sym, true, ℕ}
 use Rattle.std.specs.HashMap.{HashMap}
 use Rattle.std.specs.Prelude.{⊤, ◌⊎◌, flat_map}
 use Rattle.canon_leaves.specs.Parts.{Part, lower_parts, passed}
 use Rattle.canon_lower_parts.specs.Gives.{case_shape, item_shape, map_gives, no_handles, option_gives, pair_gives, payload_gives, product_gives, result_gives, row_gives}
 use Rattle.canon_lower_parts.specs.Handles.{handle_gives, held_gives, held_parts}
 use Rattle.canon_model.specs.Leaves.{Leaf, case_leaves, leaves, members_leaves}
-use Rattle.canon_model.specs.Shape.{Cases, Members, Scalar, Shape, bare, case_for, fixed, list_of, map_of, member, no_cases, no_members, of_places, of_result, option_of, payload, product, result_of, scalar, string, tuple, variant}
-use Rattle.canon_model.specs.Tree.{Tree, Trees, case, case_number, list_of_each, parts, payload_of, tree, trees_of}
+use Rattle.canon_model.specs.Shape.{Cases, Members, Scalar, Shape, case_for, fixed, list_of, map_of, member, no_cases, no_members, of_places, of_result, option_of, product, result_of, scalar, string, tuple, variant}
+use Rattle.canon_model.specs.Tree.{Tree, Trees, case, case_number, list_of_each, payload_of, trees_of}
 use Rattle.canon_resources.specs.Held.{Any}
 use Rattle.canon_resources.specs.declared.host.ResourceState.{ResourceState}
 use Rattle.canon_types.specs.Instance.{Instance}
