@@ -38,8 +38,8 @@ module _ (a b : Arena) (m n : List ℕ) (same : length n ≡ length m) where
       }
 
   faulted : (f : GuestFault) → Counts f a b → (events : List Event) → Goes (moment (seen_of a) m) (moment (seen_of b) n) [] events
-  faulted fault.Trap (e, le, rose) = quiet le (omega (arith, ap (λ (x : Arena). x.shortages) e)) (ap (λ (x : Arena). x.answers) e)
-  faulted fault.OutOfMemory (e, le, rose) = quiet (omega (arith, ap (λ (x : Arena). x.traps) e)) le (ap (λ (x : Arena). x.answers) e)
+  faulted fault.Trap (e, le) = quiet le (omega (arith, ap (λ (x : Arena). x.shortages) e)) (ap (λ (x : Arena). x.answers) e)
+  faulted fault.OutOfMemory (e, le) = quiet (omega (arith, ap (λ (x : Arena). x.traps) e)) le (ap (λ (x : Arena). x.answers) e)
 
   pub started : {T : Type 0} (r : Result T GuestFault) → Starts r a b → (events : List Event) → Goes (moment (seen_of a) m) (moment (seen_of b) n) [] events
   started (Ok step) e events = quiet (omega (arith, ap (λ (x : Arena). x.traps) e)) (omega (arith, ap (λ (x : Arena). x.shortages) e)) (ap (λ (x : Arena). x.answers) e) events
@@ -47,8 +47,8 @@ module _ (a b : Arena) (m n : List ℕ) (same : length n ≡ length m) where
 
   pub caused : {T : Type 0} (r : Result T GuestFault) → Starts r a b → HasCause (seen_of a) (seen_of b) r
   caused (Ok step) e = tt
-  caused (Err fault.Trap) (e, le, rose) = rose
-  caused (Err fault.OutOfMemory) (e, le, rose) = rose
+  caused (Err fault.Trap) (e, le) = omega (arith, ap (λ (x : Arena). x.traps) e)
+  caused (Err fault.OutOfMemory) (e, le) = omega (arith, ap (λ (x : Arena). x.shortages) e)
 
 -- and where it stays
 module _ (a b : Arena) (m n : List ℕ) (same : n ≡ m) where
@@ -67,5 +67,5 @@ module _ (a b : Arena) (m n : List ℕ) (same : n ≡ m) where
       tidy = λ _ i lt out. ap (λ (xs : List ℕ). slice_index xs i) same;
     },
   )
-  reallocates c (Err fault.Trap) counts law = record { goes = faulted a b m n (ap length same) fault.Trap counts _; rose = counts.2 }
-  reallocates c (Err fault.OutOfMemory) counts law = record { goes = faulted a b m n (ap length same) fault.OutOfMemory counts _; rose = counts.2 }
+  reallocates c (Err fault.Trap) counts law = record { goes = faulted a b m n (ap length same) fault.Trap counts _; rose = omega (arith, ap (λ (x : Arena). x.traps) counts.0) }
+  reallocates c (Err fault.OutOfMemory) counts law = record { goes = faulted a b m n (ap length same) fault.OutOfMemory counts _; rose = omega (arith, ap (λ (x : Arena). x.shortages) counts.0) }

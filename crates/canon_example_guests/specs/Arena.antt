@@ -1,14 +1,14 @@
 -- What the calls of an arena do to its counts.
 use Rattle.std.specs.Prelude.{ℕ, ◌+◌, ◌≤◌, ◌≡◌, Result, Ok, Err}
-use Rattle.canon_memory.specs.Counts.{Rose}
 use Rattle.canon_memory.specs.declared.error.GuestFault.{GuestFault}
 use Rattle.canon_memory.specs.declared.error.GuestFault.TheVariants as fault
+use Rattle.canon_scripted.specs.Scripted.{raised}
 use Rattle.canon_example_guests.specs.declared.arena.Arena.{Arena}
 
--- a fault raises its count, and nothing else changes
+-- a fault counts once, and nothing else changes
 abbrev pub Counts : GuestFault → Arena → Arena → Type 0
-Counts fault.Trap before after = (after ≡ record before { traps = after.traps }) × (before.traps ≤ after.traps) × Rose before.traps after.traps
-Counts fault.OutOfMemory before after = (after ≡ record before { shortages = after.shortages }) × (before.shortages ≤ after.shortages) × Rose before.shortages after.shortages
+Counts fault.Trap before after = (after ≡ record before { traps = raised before.traps }) × (before.traps ≤ after.traps)
+Counts fault.OutOfMemory before after = (after ≡ record before { shortages = raised before.shortages }) × (before.shortages ≤ after.shortages)
 
 -- an answer of `start` changes nothing
 abbrev pub Starts : {T : Type 0} → Result T GuestFault → Arena → Arena → Type 0

@@ -6,7 +6,6 @@ use Rattle.canon_model.specs.Flat.{max_results}
 use Rattle.canon_model.specs.Layout.{members_flat}
 use Rattle.canon_model.specs.Shape.{Members}
 use Rattle.canon_memory.specs.declared.event.Event.{Event}
-use Rattle.canon_memory.specs.Counts.{Rose}
 use Rattle.canon_memory.specs.Guest.{Goes, GuestIn, Moment, Seen}
 use Rattle.canon_ledger.specs.Ledger.{LedgerState}
 use Rattle.canon_ledger.specs.declared.fault.ResourceFault.TheVariants as resource
@@ -22,7 +21,7 @@ use Rattle.canon_context.specs.declared.host.HostStop.TheVariants as stop
 use Rattle.canon_leaves.specs.Parts.{Passed}
 use Rattle.canon_value_parts.specs.Args.{IsNoArea, LowersResults}
 use Rattle.canon_value_parts.specs.Resources.{EndsAs, UsesLedger, all_passes}
-use Rattle.canon_val.specs.Value.{HaveTrees}
+use Rattle.canon_val.specs.Value.{HaveTrees, cap}
 use Rattle.canon_val.specs.declared.val.Val.{Val}
 use Rattle.canon_host.specs.Serves.{stopped}
 use Rattle.canon_host.specs.declared.asked.Asked.{Asked}
@@ -140,7 +139,7 @@ asked_moves V seen moves g h index f m l es p q = m l es p q
 
 -- what an error of the host says of it
 abbrev pub CountsHost : ℕ → ℕ → HostError → Type 0
-CountsHost before after host.Refused = Rose before after
+CountsHost before after host.Refused = after ≡ cap (before + 1)
 CountsHost before after (host.Fault f) = after ≡ before
 
 pub fault_counted : {before after : ℕ} (index : ℕ) (f : Fault) → after ≡ before → RefusalCounted (asked_error index f) before after
@@ -150,11 +149,11 @@ fault_counted index (fault.Resource r) same = same
 fault_counted index f same = same
 
 pub host_counted : (before after index : ℕ) (e : HostError) → CountsHost before after e → RefusalCounted (host_error index e) before after
-host_counted before after index host.Refused rose = rose
+host_counted before after index host.Refused once = once
 host_counted before after index (host.Fault f) same = fault_counted index f same
 
 pub stopped_counted : (before after index : ℕ) (why : HostStop) → CountsHost before after (stopped why) → RefusalCounted (stopped_error index why) before after
-stopped_counted before after index stop.Refused rose = rose
+stopped_counted before after index stop.Refused once = once
 stopped_counted before after index stop.OutOfMemory same = same
 
 -- ---- results that ask for nothing

@@ -1,8 +1,7 @@
 -- How an ask for a function of the host is served (CanonicalABI.md, "canon lower").
-use Rattle.std.specs.Prelude.{Err, List, None, Ok, Option, Result, Some, [], if◌then◌else◌, nat_le, slice_get, length, ℕ, ◌≡◌, ◌≢◌, ◌⊎◌}
+use Rattle.std.specs.Prelude.{Err, List, None, Ok, Option, Result, Some, [], if◌then◌else◌, nat_le, slice_get, length, ℕ, ◌+◌, ◌≡◌, ◌≢◌, ◌⊎◌}
 use Rattle.canon_model.specs.Flat.{max_results}
 use Rattle.canon_model.specs.Layout.{members_flat}
-use Rattle.canon_memory.specs.Counts.{Rose}
 use Rattle.canon_ledger.specs.Handles.{top_scope}
 use Rattle.canon_ledger.specs.Ledger.{Done, LedgerState, enter, leave, validate_scope_exit}
 use Rattle.canon_ledger.specs.declared.fault.ResourceFault.{ResourceFault}
@@ -14,6 +13,7 @@ use Rattle.canon_context.specs.declared.fault.Fault.{Fault}
 use Rattle.canon_context.specs.declared.fault.Fault.TheVariants as fault
 use Rattle.canon_context.specs.declared.host.HostStop.{HostStop}
 use Rattle.canon_context.specs.declared.host.HostStop.TheVariants as stop
+use Rattle.canon_val.specs.Value.{cap}
 use Rattle.canon_host.specs.Asked.{asked_words, row_words}
 use Rattle.canon_host.specs.Forms.{InView}
 use Rattle.canon_host.specs.HostSide.{Answering, Giving, HostSide}
@@ -68,9 +68,9 @@ host_error index (host.Fault f) = asked_error index f
 abbrev pub IsUnrefused : Error → Type 0
 IsUnrefused e = (n : ℕ) → e ≢ error.HostRefused n
 
--- a refusal for no fault is counted, and nothing else
+-- a refusal for no fault counts once, and nothing else; the count stays at the last number of a `u64`
 abbrev pub RefusalCounted : Error → ℕ → ℕ → Type 0
-RefusalCounted (error.HostRefused n) before after = Rose before after
+RefusalCounted (error.HostRefused n) before after = after ≡ cap (before + 1)
 RefusalCounted _ before after = after ≡ before
 
 -- what a function reaches that is called in a store of this number, in a memory, over data and a ledger

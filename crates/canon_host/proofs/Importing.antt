@@ -1,5 +1,5 @@
 -- Imports whose functions are called by `entrypoint`.
-use Rattle.std.proofs.Common.{Err, List, None, Ok, Option, Result, Some, Vec, ap, arith, false, inl, inr, length, refl, subst₂, sym, ⊎_elim, ℕ, ◌++◌, ◌∙◌, ◌≡◌, ◌≢◌}
+use Rattle.std.proofs.Common.{Err, List, None, Ok, Option, Result, Some, Vec, ap, arith, false, inl, inr, length, refl, subst₂, sym, ⊎_elim, ℕ, ◌+◌, ◌++◌, ◌∙◌, ◌≡◌, ◌≢◌}
 use Rattle.std.proofs.lemmas.Option.{none-some, slice_get_cases}
 use Rattle.std.proofs.Math.Seq.{drop-append_seam, take-append_seam}
 use Rattle.std.specs.Prelude.{IfSome, drop, slice_get, take}
@@ -13,12 +13,12 @@ use Rattle.canon_context.specs.declared.host.HostStop.{HostStop}
 use Rattle.canon_context.specs.declared.host.HostView.{HostView}
 use Rattle.canon_ledger.specs.Ledger.{LedgerState}
 use Rattle.canon_ledger.specs.Reached.{ledger_in}
-use Rattle.canon_memory.specs.Counts.{Rose}
 use Rattle.canon_memory.specs.Guest.{GuestIn, Seen}
 use Rattle.canon_memory.specs.declared.event.Event.{Event}
 use Rattle.canon_model.specs.Shape.{member_count}
 use Rattle.canon_types.specs.Table.{HasFunc, param_members}
 use Rattle.canon_types.specs.declared.types.TypeFunc.{TypeFunc}
+use Rattle.canon_val.specs.Value.{cap}
 use Rattle.canon_val.specs.declared.val.Val.{Val}
 use Rattle.canon_host.specs.Forms.{IsOfOthers, IsOfThese, MayGive, RustTypes, TypedAnswering, in_view, over_values}
 use Rattle.canon_host.specs.HostSide.{LoggedEntry, Giving, outcome}
@@ -100,9 +100,9 @@ module _ {T G : Type 0} (gives : Giving T) (log log2 : Option (List LoggedEntry)
       (told, served, more ∙ ap (logged log) (entry_in_row gives log n seen moves (asked_by ty t options) before after words words2 values.items told count served row is), same)
   logs None values count done is more same = tt
 
-  pub refuses : (o : Option TypeFunc) → IfSome o (Done (Err error.Refused)) → log2 ≡ log → Rose r r2 → IfSome o (Answered (Err error.Refused))
-  refuses (Some t) done same rose = (same, rose, done)
-  refuses None done same rose = tt
+  pub refuses : (o : Option TypeFunc) → IfSome o (Done (Err error.Refused)) → log2 ≡ log → r2 ≡ cap (r + 1) → IfSome o (Answered (Err error.Refused))
+  refuses (Some t) done same once = (same, once, done)
+  refuses None done same once = tt
 
   pub faults : (o : Option TypeFunc) (e : Fault) → IfSome o (Done (Err (error.Fault e))) → log2 ≡ log → r2 ≡ r → IfSome o (Answered (Err (error.Fault e)))
   faults (Some t) e done same count = (same, count, done)
@@ -198,15 +198,15 @@ module _ {F T G P R : Type 0} (g : StaticClosure F (HostView T) P (Result R Host
       typed_serves (Some t) sync fits (told, served) same = (told, typed_import (asked_by ty t options) before after words words2 (Ok told) (sync, fits) served, refl, same)
       typed_serves None sync fits done same = tt
 
-      pub typed_refuses : (o : Option TypeFunc) → IfSome o IsSync → IfSome o Fits → IfSome o (DoneTyped (Err error.Refused)) → Rose r r2 → IfSome o (AnsweredTyped (Err error.Refused))
-      typed_refuses (Some t) sync fits done rose = (refl, rose, typed_import (asked_by ty t options) before after words words2 (Err error.Refused) (sync, fits) done)
-      typed_refuses None sync fits done rose = tt
+      pub typed_refuses : (o : Option TypeFunc) → IfSome o IsSync → IfSome o Fits → IfSome o (DoneTyped (Err error.Refused)) → r2 ≡ cap (r + 1) → IfSome o (AnsweredTyped (Err error.Refused))
+      typed_refuses (Some t) sync fits done once = (refl, once, typed_import (asked_by ty t options) before after words words2 (Err error.Refused) (sync, fits) done)
+      typed_refuses None sync fits done once = tt
 
       pub typed_faults : (o : Option TypeFunc) (e : Fault) → IfSome o IsSync → IfSome o Fits → IfSome o (DoneTyped (Err (error.Fault e))) → r2 ≡ r → IfSome o (AnsweredTyped (Err (error.Fault e)))
       typed_faults (Some t) e sync fits done same = (refl, same, typed_import (asked_by ty t options) before after words words2 (Err (error.Fault e)) (sync, fits) done)
       typed_faults None e sync fits done same = tt
 
       -- nothing was done since `typecheck` refused the type
-      pub typed_declines : (o : Option TypeFunc) → IfSome o AreOthers → after ≡ before → words2 ≡ words → Rose r r2 → IfSome o (AnsweredTyped (Err error.Refused))
-      typed_declines (Some t) other same words_same rose = (refl, rose, inl (inr (refl, refl, other), same, words_same))
-      typed_declines None other same words_same rose = tt
+      pub typed_declines : (o : Option TypeFunc) → IfSome o AreOthers → after ≡ before → words2 ≡ words → r2 ≡ cap (r + 1) → IfSome o (AnsweredTyped (Err error.Refused))
+      typed_declines (Some t) other same words_same once = (refl, once, inl (inr (refl, refl, other), same, words_same))
+      typed_declines None other same words_same once = tt

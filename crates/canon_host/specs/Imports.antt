@@ -1,5 +1,5 @@
 -- What the imports of a component do with one ask.
-use Rattle.std.specs.Prelude.{Err, IfSome, List, None, Ok, Option, Result, Vec, [], min, option_map, ℕ, ◌+◌, ◌++◌, ◌-◌, ◌^◌, ◌∷◌, ◌≡◌, ◌⊎◌}
+use Rattle.std.specs.Prelude.{Err, IfSome, List, None, Ok, Option, Result, Vec, [], option_map, ℕ, ◌+◌, ◌++◌, ◌∷◌, ◌≡◌, ◌⊎◌}
 use Rattle.std.specs.declared.alloc.Global.{Global}
 use Rattle.canon_context.specs.Core.{Parts}
 use Rattle.canon_ledger.specs.Reached.{ledger_in}
@@ -9,10 +9,10 @@ use Rattle.canon_context.specs.declared.fault.Fault.TheVariants as fault
 use Rattle.canon_context.specs.declared.host.HostStop.TheVariants as stop
 use Rattle.canon_context.specs.declared.host.HostStop.{HostStop}
 use Rattle.canon_context.specs.declared.host.HostView.{HostView}
-use Rattle.canon_memory.specs.Counts.{Rose}
 use Rattle.canon_memory.specs.Guest.{GuestIn, Seen}
 use Rattle.canon_memory.specs.declared.event.Event.{Event}
 use Rattle.canon_types.specs.declared.types.TypeFunc.{TypeFunc}
+use Rattle.canon_val.specs.Value.{cap}
 use Rattle.canon_val.specs.declared.val.Val.{Val}
 use Rattle.canon_host.specs.Forms.{HostFuncForm, IsOfOthers, IsOfThese, RustTypes, TypedAnswering, in_view, over_types, over_values}
 use Rattle.canon_host.specs.HostSide.{Answering, LoggedEntry, Giving, entry, gives_values, outcome}
@@ -61,18 +61,18 @@ RefusesAll = gives_values Refuses
 
 -- a refusal counts once; the count stays at the last number of a `u64`
 abbrev pub CountsOnce : Result (Unit {0}) HostError → ℕ → ℕ → Type 0
-CountsOnce (Err error.Refused) before after = after ≡ min (before + 1) (2 ^ 64 - 1)
+CountsOnce (Err error.Refused) before after = after ≡ cap (before + 1)
 CountsOnce (Err (error.Fault e)) before after = after ≡ before
 CountsOnce (Ok x) before after = after ≡ before
 
 -- ---- the ask
 
--- One ask, from one log and count of refusals to the next, served by steps of a form; `Logged` is the log after an ask that was served. The
--- count rises where the function refused, and stays else.
+-- One ask, from one log and count of refusals to the next, served by steps of a form; `Logged` is the log after an ask that was served. A
+-- refusal counts once, and nothing else counts.
 module _ {T G A P R S : Type 0} (how : Steps T G A P R S) (Logged : Values P R → Option (List LoggedEntry)) (asked : Asked) (log log2 : Option (List LoggedEntry)) (refusals refusals2 : ℕ) where
   abbrev pub ServesLogged : Parts T G → List ℕ → Result (Unit {0}) HostError → Parts T G → List ℕ → Type 0
   ServesLogged before words (Ok x) after words2 = (told : Values P R) × ServesBy how asked before words (Ok told) after words2 × (log2 ≡ Logged told) × (refusals2 ≡ refusals)
-  ServesLogged before words (Err error.Refused) after words2 = (log2 ≡ log) × Rose refusals refusals2 × ServesBy how asked before words (Err error.Refused) after words2
+  ServesLogged before words (Err error.Refused) after words2 = (log2 ≡ log) × (refusals2 ≡ cap (refusals + 1)) × ServesBy how asked before words (Err error.Refused) after words2
   ServesLogged before words (Err (error.Fault e)) after words2 = (log2 ≡ log) × (refusals2 ≡ refusals) × ServesBy how asked before words (Err (error.Fault e)) after words2
 
 -- of Rust types: memory for the scope is wanting, or the function is of other types, which is refused where no log is exposed

@@ -1,5 +1,5 @@
 -- Steps of writing an image, over plain lists.
-use Rattle.std.proofs.Common.{Err, IsTrue, List, Ok, Result, String, Vec, [], append-nil, append_assoc, ap, ap₂, arith, drop, false, inl, inr, length, refl, string_bytes, subst, suc, sym, zero, ℕ, ◌%◌, ◌+◌, ◌++◌, ◌<◌, ◌^◌, ◌∙◌, ◌∷◌, ◌≡◌, ◌⊎◌}
+use Rattle.std.proofs.Common.{Err, IsTrue, List, Ok, Result, String, Vec, [], append-nil, append_assoc, ap, ap₂, arith, drop, false, inl, inr, length, refl, string_bytes, subst, suc, sym, zero, ℕ, ◌%◌, ◌+◌, ◌++◌, ◌<◌, ◌^◌, ◌∙◌, ◌∷◌, ◌≡◌}
 use Rattle.std.proofs.Math.Nat.{mod-lt, one-le-pow}
 use Rattle.std.specs.Str.{encode_utf8_all}
 use Rattle.std.specs.declared.alloc.Global.{Global}
@@ -7,17 +7,17 @@ use Rattle.canon_lowering.specs.Copies.{case_members, case_tree, copies}
 use Rattle.canon_model.specs.Image.{CaseImage, EachImage, Image, IsField, MembersImage, le_bytes}
 use Rattle.canon_model.specs.Layout.{scalar_size, size, tag_size}
 use Rattle.canon_model.specs.Shape.{Cases, Members, Name, Shape, VariantKind, bare, borrow, case_count, fixed, flags, list, member, member_count, no_cases, no_members, of_items, own, payload, product, scalar, string, variant}
-use Rattle.canon_model.specs.Text.{Encoding, utf8}
+use Rattle.canon_model.specs.Text.{utf8}
 use Rattle.canon_model.specs.Tree.{Trees, items, no_trees, parts, text, tree, tree_count}
 use Rattle.canon_abi.specs.Sizes.{tag_bytes}
 use Rattle.canon_types.specs.Table.{Table, shape_of}
 use Rattle.canon_types.specs.declared.types.InterfaceType.{InterfaceType}
 use Rattle.canon_plan.specs.NoHandle.{HaveNoHandle, HasNoHandle}
-use Rattle.canon_value_parts.specs.Fails.{Blames, FailsAt, MemberFails}
+use Rattle.canon_value_parts.specs.Fails.{FailsAt, MemberFails}
 use Rattle.canon_val.specs.Value.{HaveTrees, IsCase, IsProduct, cap, member_names, no_names}
 use Rattle.canon_plan.specs.Plan.{LiesAs, members_from}
 use Rattle.canon_value_parts.specs.View.{IsMember, names_of, shapes_of, values_of}
-use Rattle.canon_value_parts.specs.Viewed.{HasMembers, IsCaseSeen}
+use Rattle.canon_value_parts.specs.Viewed.{BlamesItself, HasMembers, IsCaseSeen}
 use Rattle.canon_value_parts.specs.Words.{IsWordOf}
 use Rattle.canon_context.specs.declared.fault.Fault.{Fault}
 use Rattle.canon_context.specs.declared.fault.Fault.TheVariants as fault
@@ -30,7 +30,7 @@ use Rattle.canon_value_parts.proofs.Contents.{places_list, places_text, spelled}
 use Rattle.canon_plan.proofs.Lookups.{both, copies_count, drop_all, members_from-all}
 use Rattle.canon_plan.proofs.ScalarTypes.{scalar_shape}
 use Rattle.canon_value_parts.proofs.Scalars.{scalar_places}
-use Rattle.canon_value_parts.proofs.Steps.{blames_first, blames_later}
+use Rattle.canon_value_parts.proofs.Steps.{blames_first, blames_itself, blames_later}
 use Rattle.canon_value_parts.proofs.StoreSteps.{heads, least_low}
 use Rattle.canon_value_parts.proofs.WalkCases.{tag_fits}
 use Rattle.canon_value_parts.proofs.Walks.{copies_fail, copies_have, copies_names}
@@ -297,7 +297,29 @@ items_told a b c place n first s xs ys r ey en few eb ef h =
 pub parts_told : (a b : List ℕ) (place first : ℕ) (ms : Members) (names : List Name) (vs : List Val) (r : Result ℕ Fault) → first ≡ cap (place + 1) → PartsWriteTo a b place ms names vs first r → PartsWriteTo a b place ms names vs (cap (place + 1)) r
 parts_told a b place first ms names vs r ef h = subst (λ (f : ℕ). PartsWriteTo a b place ms names vs f r) ef h
 
--- a fault of a view, as it is reported
-pub refused : (a : List ℕ) (s : Shape) (v : Val) (place : ℕ) (e f : Fault) → ((enc : Encoding) → Blames enc (λ how k. FailsAt how s v k) place e) → IsTold f → (f ≡ e) ⊎ (f ≡ fault.OutOfMemory) → WritesTo a a s v place (Err f)
-refused a s v place e f h told (inl same) = record { written = tt; counted = subst (Blames utf8 (λ how k. FailsAt how s v k) place) (sym same) (h utf8); told = told }
-refused a s v place e f h told (inr same) = short a a s v place f same
+-- a fault of a view is reported
+told_itself : (s : Shape) (v : Val) (place : ℕ) (e : Fault) → BlamesItself s v place e → IsTold e
+told_itself s v place (fault.TypeMismatch k) h = tt
+told_itself s v place (fault.LengthMismatch k) h = tt
+told_itself s v place (fault.UnknownCase k) h = tt
+told_itself s v place (fault.PayloadExpected k) h = tt
+told_itself s v place (fault.PayloadNotExpected k) h = tt
+told_itself s v place (fault.FieldName k) h = absurd h
+told_itself s v place (fault.UnknownFlag k) h = absurd h
+told_itself s v place (fault.StringTooLong n) h = absurd h
+told_itself s v place (fault.SizeOverflow n) h = absurd h
+told_itself s v place (fault.ReallocMisaligned a) h = absurd h
+told_itself s v place (fault.ReallocOutOfBounds a) h = absurd h
+told_itself s v place fault.GuestTrap h = absurd h
+told_itself s v place (fault.PointerMisaligned at) h = absurd h
+told_itself s v place (fault.PointerOutOfBounds at) h = absurd h
+told_itself s v place (fault.InvalidUtf8 at) h = absurd h
+told_itself s v place (fault.InvalidUtf16 at) h = absurd h
+told_itself s v place (fault.InvalidChar at) h = absurd h
+told_itself s v place (fault.BadDiscriminant at n) h = absurd h
+told_itself s v place fault.HostcallFuelExhausted h = absurd h
+told_itself s v place fault.OutOfMemory h = absurd h
+told_itself s v place (fault.Resource e) h = absurd h
+
+pub refused : (a : List ℕ) (s : Shape) (v : Val) (place : ℕ) (e : Fault) → place < 2 ^ 64 → BlamesItself s v place e → WritesTo a a s v place (Err e)
+refused a s v place e few h = record { written = tt; counted = (blames_itself s v place few e h).1 utf8; told = told_itself s v place e h }

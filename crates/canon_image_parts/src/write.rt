@@ -1,6 +1,6 @@
 //! The image of a value, written field by field at the end of some bytes.
 
-ghost use Rattle.std.specs.Prelude.{ℕ, [], ◌+◌, ◌++◌, ◌<◌, ◌^◌, ◌≡◌, ◌≤◌, ◌⊎◌, IfErr, OnOk, length, map, slice_index, string_bytes};
+ghost use Rattle.std.specs.Prelude.{ℕ, [], ◌+◌, ◌++◌, ◌<◌, ◌^◌, ◌≡◌, ◌≤◌, IfErr, OnOk, length, map, slice_index, string_bytes};
 ghost use Rattle.canon_model.specs.Image.{le_bytes};
 ghost use Rattle.canon_model.specs.Layout.{flags_size};
 ghost use Rattle.canon_model.specs.Shape.{list, member_count, of_items, string};
@@ -14,7 +14,7 @@ ghost use Rattle.canon_value_parts.specs.View.{AreFew, HaveKnownTypes, names_of,
 ghost use Rattle.canon_value_parts.specs.Viewed.{IsCaseSeen};
 ghost use Rattle.canon_value_parts.specs.Words.{IsWordOf};
 ghost use Rattle.canon_val.specs.declared.val.Val.TheVariants as val;
-ghost use Rattle.canon_image_parts.specs.Written.{IsImaged, IsTold, MarksTo, PairsWriteTo, PartsWriteTo, WritesTo};
+ghost use Rattle.canon_image_parts.specs.Written.{IsImaged, MarksTo, PairsWriteTo, PartsWriteTo, WritesTo};
 
 use crate::ImageError;
 use canon_context::Fault;
@@ -70,7 +70,7 @@ fn write_value(
         Ok(View::Case(case)) => write_case(types, ty, value, &case, place, bytes),
         Ok(View::Handle(..)) => unreachable!(),
         Ok(View::Flags(names)) => write_names(types, ty, names, place, bytes),
-        Err(fault) => Err(told(fault)),
+        Err(fault) => Err(fault),
     }
 }
 
@@ -307,23 +307,6 @@ fn mark_names(
         mark_byte(memory, at, k);
     }
     Ok(place.saturating_add(1))
-}
-
-/// The fault of a value that isn't of its type. A view reports no other.
-fn told(fault: Fault) -> Fault
-    ensures told { IsTold result }
-    ensures same { (result ≡ fault) ⊎ (result ≡ Fault.OutOfMemory) }
-{
-    match fault {
-        Fault::TypeMismatch(_)
-        | Fault::FieldName(_)
-        | Fault::LengthMismatch(_)
-        | Fault::UnknownCase(_)
-        | Fault::UnknownFlag(_)
-        | Fault::PayloadExpected(_)
-        | Fault::PayloadNotExpected(_) => fault,
-        _ => Fault::OutOfMemory,
-    }
 }
 
 /// Adds the lowest bytes of a number, the lowest first.

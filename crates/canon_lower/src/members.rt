@@ -6,7 +6,8 @@ ghost use Rattle.canon_leaves.specs.Parts.{Part};
 ghost use Rattle.canon_lower_parts.specs.Gives.{row_gives};
 ghost use Rattle.canon_lower_parts.specs.Stores.{TypedMembersStore, TypedStores};
 ghost use Rattle.canon_lower_parts.specs.Tuples.{member_type, members_after, types_from, types_in};
-ghost use Rattle.canon_lower_parts.specs.Words.{Stays, TypedLowers, TypedMembersLower};
+ghost use Rattle.canon_lower_parts.specs.Words.{TypedLowers, TypedMembersLower};
+ghost use Rattle.canon_value_parts.specs.Words.{WordsStay};
 ghost use Rattle.canon_model.specs.Layout.{begins, ends, flat, members_end, members_flat};
 ghost use Rattle.canon_model.specs.Shape.{Shape};
 ghost use Rattle.canon_model.specs.Tree.{Trees};
@@ -38,7 +39,7 @@ fn lower_member<A: Lower, D, G: Guest>(
     requires room { at.old + flat (shape_of (component_types cx.old.core.now) (member_type (component_types cx.old.core.now) ty.now k.old)) ≤ length dst.old }
     ensures lowers { TypedLowers G.seen G.moves cx.old.options cx.old.core.now cx.new.core.now (shape_of (component_types cx.old.core.now) (member_type (component_types cx.old.core.now) ty.now k.old)) dst.new at.old (A.walks value.old)
         (A.gives cx.old.core.now.component.types (shape_of (component_types cx.old.core.now) (member_type (component_types cx.old.core.now) ty.now k.old)) value.old) result }
-    ensures stays { Stays at.old dst.old dst.new }
+    ensures stays { WordsStay at.old dst.old dst.new }
     ensures next { k.new ≡ k.old + 1 }
     ensures end { at.new ≡ at.old + flat (shape_of (component_types cx.old.core.now) (member_type (component_types cx.old.core.now) ty.now k.old)) }
     ensures same_reference { cx.new.core.ghost_name ≡ cx.old.core.ghost_name }
@@ -103,7 +104,7 @@ pub(crate) trait LowerMembers {
         requires room { at + members_flat (members_after (component_types cx.old.core.now) ty.now k) ≤ length dst.old }
         ensures lowers { TypedMembersLower G.seen G.moves cx.old.options cx.old.core.now cx.new.core.now (members_after (component_types cx.old.core.now) ty.now k) dst.new at (have self.old)
             (row_gives (members_after (component_types cx.old.core.now) ty.now k) (give cx.old.core.now.component.types self.old)) result }
-        ensures stays { Stays at dst.old dst.new }
+        ensures stays { WordsStay at dst.old dst.new }
         ensures lent { same self.old self.new }
         ensures same_reference { cx.new.core.ghost_name ≡ cx.old.core.ghost_name }
         ensures same_options { cx.new.options ≡ cx.old.options };

@@ -6,7 +6,8 @@ ghost use Rattle.canon_lower_parts.specs.Cases.{HasCase, payload_members};
 ghost use Rattle.canon_lower_parts.specs.Gives.{payload_gives};
 ghost use Rattle.canon_typed.specs.Meaning.{CaseMeans};
 ghost use Rattle.canon_typed.specs.Types.{IsPayloadOf};
-ghost use Rattle.canon_lower_parts.specs.Words.{IsCaseWords, Stays, TypedLowers};
+ghost use Rattle.canon_lower_parts.specs.Words.{IsCaseWords, TypedLowers};
+ghost use Rattle.canon_value_parts.specs.Words.{WordsStay};
 ghost use Rattle.canon_model.specs.Layout.{flat, members_flat};
 ghost use Rattle.canon_model.specs.Shape.{Shape};
 ghost use Rattle.canon_types.specs.Table.{Knows, KnowsPayload, all_shapes, payload_in, shape_of};
@@ -32,7 +33,7 @@ pub(crate) fn lower_at<T: Lower, D, G: Guest>(
     requires room { at.old + flat (shape_of (component_types cx.old.core.now) ty) ≤ length dst.old }
     ensures lowers { TypedLowers G.seen G.moves cx.old.options cx.old.core.now cx.new.core.now (shape_of (component_types cx.old.core.now) ty) dst.new at.old (T.walks value.old)
         (T.gives cx.old.core.now.component.types (shape_of (component_types cx.old.core.now) ty) value.old) result }
-    ensures stays { Stays at.old dst.old dst.new }
+    ensures stays { WordsStay at.old dst.old dst.new }
     ensures end { at.new ≡ at.old + flat (shape_of (component_types cx.old.core.now) ty) }
     ensures same_reference { cx.new.core.ghost_name ≡ cx.old.core.ghost_name }
     ensures same_options { cx.new.options ≡ cx.old.options }

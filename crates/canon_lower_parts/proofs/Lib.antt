@@ -2,7 +2,6 @@ pub mod Attempts
 pub mod Blamed
 pub mod BlockSteps
 pub mod CaseSteps
-pub mod Clearing
 pub mod FixedSteps
 pub mod HandleSteps
 pub mod HeldSteps

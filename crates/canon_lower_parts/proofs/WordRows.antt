@@ -11,7 +11,8 @@ use Rattle.canon_lower_parts.proofs.TooLarge.{fixed_large}
 use Rattle.canon_lower_parts.proofs.Items.{each_count, row_trees}
 use Rattle.canon_lower_parts.proofs.WordTuples.{MembersDone, done_end, done_more, done_none, done_room, done_stop}
 use Rattle.canon_lower_parts.specs.Blames.{HasLarge, HaveLarge}
-use Rattle.canon_lower_parts.specs.Words.{Stays, TypedLowers, TypedMembersLower}
+use Rattle.canon_lower_parts.specs.Words.{TypedLowers, TypedMembersLower}
+use Rattle.canon_value_parts.specs.Words.{WordsStay}
 use Rattle.canon_lowering.proofs.AimedWords.{fixed_words}
 use Rattle.canon_lowering.proofs.Copying.{copies_flat}
 use Rattle.canon_lowering.specs.Attempt.{members_words, value_words}
@@ -78,11 +79,11 @@ module _ {D G A : Type 0} (L : GuestLaws G) (options : ℕ) (start : Parts D G) 
     pub row_room : at + flat (shape_of (component_types now) type) ≤ length ws
     row_room = done_room L options start (copies (length xs) one) (EachMeans Walks xs) (gives xs) now opts ws at type (copies (length zs) one) (Walks x) (EachMeans Walks zs) (λ i u. f i u x) (gives zs) next
 
-    pub row_more : (c : Parts D G) (opts2 : ℕ) (vs : List ℕ) (at2 : ℕ) → ((t : Tree) → Walks x t → Fits one t) → Stays at ws vs → at2 ≡ at + flat (shape_of (component_types now) type) → opts2 ≡ opts → Item c vs (Ok tt) → Row c opts2 vs at2 zs
+    pub row_more : (c : Parts D G) (opts2 : ℕ) (vs : List ℕ) (at2 : ℕ) → ((t : Tree) → Walks x t → Fits one t) → WordsStay at ws vs → at2 ≡ at + flat (shape_of (component_types now) type) → opts2 ≡ opts → Item c vs (Ok tt) → Row c opts2 vs at2 zs
     row_more c opts2 vs at2 fits stays end eo low =
         done_more L options start (copies (length xs) one) (EachMeans Walks xs) (gives xs) now opts ws at type (copies (length zs) one) (Walks x) (EachMeans Walks zs) (λ i u. f i u x) (gives zs) next c opts2 vs at2 fits stays end eo low
 
-    pub row_stop : (c : Parts D G) (vs : List ℕ) (e : Fault) → Stays at ws vs → Item c vs (Err e) → Whole c vs (Err e)
+    pub row_stop : (c : Parts D G) (vs : List ℕ) (e : Fault) → WordsStay at ws vs → Item c vs (Err e) → Whole c vs (Err e)
     row_stop c vs e stays low =
         done_stop L options start (copies (length xs) one) (EachMeans Walks xs) (gives xs) now opts ws at type (copies (length zs) one) (Walks x) (EachMeans Walks zs) (λ i u. f i u x) (gives zs) next c vs e stays low
 

@@ -17,7 +17,7 @@ use Rattle.canon_lower_parts.proofs.TooLarge.{first_large, product_large}
 use Rattle.canon_lower_parts.specs.Blames.{HasLarge, HaveLarge}
 use Rattle.canon_lower_parts.specs.Lowers.{TypedAttempt}
 use Rattle.canon_lower_parts.specs.Scalars.{IsWordOfScalar}
-use Rattle.canon_lower_parts.specs.Words.{Stays, TypedLowers, TypedMembersLower}
+use Rattle.canon_lower_parts.specs.Words.{TypedLowers, TypedMembersLower}
 use Rattle.canon_lowering.proofs.Attempts.{FirstAnd, attempt_none}
 use Rattle.canon_lowering.proofs.AimedWords.{members_words_cons, members_words_stop, product_words, scalar_words, words_moved}
 use Rattle.canon_lowering.specs.Attempt.{members_words, value_words}
@@ -32,14 +32,7 @@ use Rattle.canon_model.specs.Text.{Encoding}
 use Rattle.canon_model.specs.Tree.{Tree, Trees, no_trees, trees_of}
 use Rattle.canon_typed.specs.Meaning.{NoTrees, ProductMeans}
 
--- ---- words that stay
-
--- the first words stay where the rest are written
-pub first_stay : (i n : ℕ) (ws vs : List ℕ) → Stays (i + n) ws vs → SameWords ws i vs i n
-first_stay i n ws vs h p q l u is = let same : p ≡ q = omega (arith, is) in ap (slice_index ws) same ∙ sym (h.before q (omega (arith, u, is)))
-
-pub stays_then : (i j : ℕ) (ws vs us : List ℕ) → i ≤ j → Stays i ws vs → Stays j vs us → Stays i ws us
-stays_then i j ws vs us later h k = record { same_length = k.same_length ∙ h.same_length; before = λ p l. k.before p (omega (arith, l, later)) ∙ h.before p l }
+-- ---- words that are put into their place
 
 placed : (i k : ℕ) (dst vs : List ℕ) (p : ℕ) → i + k ≤ length dst → length vs ≡ k → p < k → slice_index (put_mid i k dst vs) (i + p) ≡ slice_index vs p
 placed i k dst vs p room count lt =
@@ -125,6 +118,3 @@ module _ {D G : Type 0} (L : GuestLaws G) (options : ℕ) where
 pub scalar_room : (s : Shape) (k : Scalar) (dst : List ℕ) → s ≡ scalar k → length dst ≡ flat s → 0 < length dst
 unfolding flat
 scalar_room s k dst shape room = omega (arith, room, ap flat shape)
-
-pub first_stay_at : (i n j : ℕ) (ws vs : List ℕ) → j ≡ i + n → Stays j ws vs → SameWords ws i vs i n
-first_stay_at i n j ws vs e h = first_stay i n ws vs (subst (λ (k : ℕ). Stays k ws vs) e h)

@@ -8,10 +8,12 @@ use Rattle.canon_leaves.specs.Parts.{Part}
 use Rattle.canon_value_parts.proofs.Passing.{handles_instance, handles_then, handles_types}
 use Rattle.canon_lower_parts.proofs.TupleSteps.{no_tuple_gives}
 use Rattle.canon_lower_parts.proofs.TupleTypes.{IsNext, next_of, none_after, tuple_seen}
-use Rattle.canon_lower_parts.proofs.WordSteps.{first_stay, first_stay_at, members_more, members_none, members_stop, product_lowers, stays_then}
+use Rattle.canon_lower_parts.proofs.WordSteps.{members_more, members_none, members_stop, product_lowers}
+use Rattle.canon_value_parts.proofs.WordSteps.{first_stay, stays_then}
 use Rattle.canon_lower_parts.specs.Gives.{product_gives, row_gives}
 use Rattle.canon_lower_parts.specs.Tuples.{member_type, members_after, types_from}
-use Rattle.canon_lower_parts.specs.Words.{Stays, TypedLowers, TypedMembersLower}
+use Rattle.canon_lower_parts.specs.Words.{TypedLowers, TypedMembersLower}
+use Rattle.canon_value_parts.specs.Words.{WordsStay}
 use Rattle.canon_memory.specs.Guest.{GuestIn, Seen}
 use Rattle.canon_memory.specs.declared.event.Event.{Event}
 use Rattle.canon_model.specs.Fits.{Fits}
@@ -36,7 +38,7 @@ module _ {D G : Type 0} (seen : G → Seen) (moves : GuestIn G → List Event �
     pub same : SameButHandles start now
     pub same_options : opts ≡ options
     pub room : at + members_flat rest ≤ length ws
-    pub completes : (c : Parts D G) (vs : List ℕ) (r : Result (Unit {0}) Fault) → Stays at ws vs → TypedMembersLower seen moves options now c rest vs at HaveRest left r
+    pub completes : (c : Parts D G) (vs : List ℕ) (r : Result (Unit {0}) Fault) → WordsStay at ws vs → TypedMembersLower seen moves options now c rest vs at HaveRest left r
         → TypedMembersLower seen moves options start c whole vs 0 Have gives r
 
 module _ {D G : Type 0} (L : GuestLaws G) (options : ℕ) (start : Parts D G) (whole : Members) (Have : Trees → Type 0) (gives : List (List Part)) where
@@ -65,7 +67,7 @@ module _ {D G : Type 0} (L : GuestLaws G) (options : ℕ) (start : Parts D G) (w
     of_start c vs r low = subst (λ (n : ℕ). TypedLowers L.seen L.moves n now c s vs at Has (f start.component.types s) r) h.same_options
         (subst (λ (i : Instance). TypedLowers L.seen L.moves opts now c (shape_of i.types type) vs at Has (f i (shape_of i.types type)) r) (handles_instance start now h.same) low)
 
-    pub done_more : (c : Parts D G) (opts2 : ℕ) (vs : List ℕ) (at2 : ℕ) → ((t : Tree) → Has t → Fits s t) → Stays at ws vs → at2 ≡ at + flat (shape_of (component_types now) type) → opts2 ≡ opts → Next c vs (Ok tt)
+    pub done_more : (c : Parts D G) (opts2 : ℕ) (vs : List ℕ) (at2 : ℕ) → ((t : Tree) → Has t → Fits s t) → WordsStay at ws vs → at2 ≡ at + flat (shape_of (component_types now) type) → opts2 ≡ opts → Next c vs (Ok tt)
         → Done c opts2 vs at2 ms HaveRest left
     done_more c opts2 vs at2 fits stays end eo low =
         let here : TypedLowers L.seen L.moves options now c s vs at Has (f start.component.types s) (Ok tt) = of_start c vs (Ok tt) low in
@@ -75,11 +77,11 @@ module _ {D G : Type 0} (L : GuestLaws G) (options : ℕ) (start : Parts D G) (w
           same_options = eo ∙ h.same_options;
           room = omega (arith, h.room, members_words s ms, to, stays.same_length);
           completes = λ d us r more k. h.completes d us r (stays_then at at2 ws vs us (omega (arith, to)) stays more)
-              (members_more L options now c d s ms vs us at Has HaveRest (f start.component.types s) left r fits (first_stay at (flat s) vs us (subst (λ (n : ℕ). Stays n vs us) to more)) here
+              (members_more L options now c d s ms vs us at Has HaveRest (f start.component.types s) left r fits (first_stay at at2 (flat s) vs us to more) here
               (subst (λ (n : ℕ). TypedMembersLower L.seen L.moves options c d ms us n HaveRest left r) to k));
         }
 
-    pub done_stop : (c : Parts D G) (vs : List ℕ) (e : Fault) → Stays at ws vs → Next c vs (Err e) → TypedMembersLower L.seen L.moves options start c whole vs 0 Have gives (Err e)
+    pub done_stop : (c : Parts D G) (vs : List ℕ) (e : Fault) → WordsStay at ws vs → Next c vs (Err e) → TypedMembersLower L.seen L.moves options start c whole vs 0 Have gives (Err e)
     done_stop c vs e stays low = h.completes c vs (Err e) stays (members_stop L options now c s ms vs at Has HaveRest (f start.component.types s) left e (of_start c vs (Err e) low))
 
   pub done_end : (now : Parts D G) (opts : ℕ) (ws : List ℕ) (at : ℕ) → length now.memory ≤ 2 ^ 32 → Done now opts ws at no_members NoTrees [] → TypedMembersLower L.seen L.moves options start now whole ws 0 Have gives (Ok tt)
@@ -112,7 +114,7 @@ module _ {D G : Type 0} (L : GuestLaws G) (options : ℕ) (a : Parts D G) (type 
     )
 
     module _ (Has : Tree → Type 0) (Have : Trees → Type 0) (f : Instance → Shape → List (List Part)) (fs : Instance → List (Shape → List (List Part))) where
-      pub lowered_more : (c : Parts D G) (options2 : ℕ) (ws vs : List ℕ) (r : Result (Unit {0}) Fault) → ((t : Tree) → Has t → Fits part t) → options2 ≡ options → Stays at2 ws vs
+      pub lowered_more : (c : Parts D G) (options2 : ℕ) (ws vs : List ℕ) (r : Result (Unit {0}) Fault) → ((t : Tree) → Has t → Fits part t) → options2 ≡ options → WordsStay at2 ws vs
           → TypedLowers L.seen L.moves options a b part ws at Has (f a.component.types part) (Ok tt)
           → TypedMembersLower L.seen L.moves options2 b c (members_after (component_types b) type k2) vs at2 Have (row_gives (members_after (component_types b) type k2) (fs b.component.types)) r
           → TypedMembersLower L.seen L.moves options a c (members_after (component_types a) type k) vs at (FirstAnd Has Have) (row_gives (members_after (component_types a) type k) (f a.component.types ∷ fs a.component.types)) r
@@ -124,7 +126,7 @@ module _ {D G : Type 0} (L : GuestLaws G) (options : ℕ) (a : Parts D G) (type 
           (subst (λ (n : ℕ). TypedMembersLower L.seen L.moves n b c (members_after (component_types b) type k2) vs at2 Have (row_gives (members_after (component_types b) type k2) (fs b.component.types)) r) eo more))) in
           subst (λ (ms : Members). TypedMembersLower L.seen L.moves options a c ms vs at (FirstAnd Has Have) (row_gives ms (f a.component.types ∷ fs a.component.types)) r) (sym next.members)
           (members_more L options a b c part (members_after (component_types a) type (k + 1)) ws vs at Has Have (f a.component.types part) (row_gives (members_after (component_types a) type (k + 1)) (fs a.component.types)) r fits
-          (first_stay_at at (flat part) at2 ws vs end stays) one rest)
+          (first_stay at at2 (flat part) ws vs end stays) one rest)
 
   pub lowered_stop : (b : Parts D G) (ws : List ℕ) (at : ℕ) (Has : Tree → Type 0) (Have : Trees → Type 0) (f : Instance → Shape → List (List Part)) (fs : Instance → List (Shape → List (List Part))) (e : Fault)
       → TypedLowers L.seen L.moves options a b part ws at Has (f a.component.types part) (Err e)

@@ -1,5 +1,5 @@
 -- What lowering a typed value to words does: the words of each from its first one on.
-use Rattle.std.specs.Prelude.{List, Result, [], false, ℕ, ◌<◌, ◌≡◌, slice_index, length}
+use Rattle.std.specs.Prelude.{List, Result, [], false, ℕ, ◌≡◌, slice_index, length}
 use Rattle.canon_context.specs.Core.{Parts, encoding_by}
 use Rattle.canon_context.specs.Quiet.{has_block, have_block}
 use Rattle.canon_context.specs.declared.fault.Fault.{Fault}
@@ -24,19 +24,9 @@ module _ {D G : Type 0} (seen : G → Seen) (moves : GuestIn G → List Event �
   TypedMembersLower ms ws i Have gives result = TypedAttempt seen moves before after [] (members_words false (encoding_by before options) ms ws i Have) gives (have_block ms) (after ≡ record before { ledger = after.ledger })
       (HaveLarge (encoding_by before options) ms) result
 
--- the words before word i stay, and how many there are
-pub record Stays (i : ℕ) (ws vs : List ℕ) : Type 0 where
-  pub same_length : length vs ≡ length ws
-  pub before : (p : ℕ) → p < i → slice_index vs p ≡ slice_index ws p
-
 -- the number of a case in the first word, and zeros from word i on
 abbrev pub IsCaseWords : ℕ → ℕ → List ℕ → Type 0
 IsCaseWords d i ws = (slice_index ws 0 ≡ d) × AreZero ws i (length ws)
-
--- the words from i up to e are 0, and those before stay
-pub record Clears (i e : ℕ) (ws vs : List ℕ) : Type 0 where
-  pub stays : Stays i ws vs
-  pub zeros : AreZero vs i e
 
 -- case d, whose payload has one of these trees
 abbrev pub CaseOf : ℕ → (Tree → Type 0) → Tree → Type 0

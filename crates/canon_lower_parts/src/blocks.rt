@@ -1,6 +1,6 @@
 //! Blocks of texts and lists, which the guest is asked for.
 
-ghost use Rattle.std.specs.Prelude.{◌≡◌, ◌≤◌, ◌<◌, ◌+◌, ◌^◌, IfOk, length};
+ghost use Rattle.std.specs.Prelude.{◌≡◌, ◌≤◌, ◌<◌, ◌+◌, ◌^◌, IfOk, OnErr, length, slice_index, ℕ};
 ghost use Rattle.canon_abi.specs.Abi.{HasLayout};
 ghost use Rattle.canon_lower_parts.specs.Places.{BlockAsked, IsPlacedPut, placed_words, without};
 ghost use Rattle.canon_model.specs.Flat.{SameWords};
@@ -46,6 +46,8 @@ pub fn put_words(dst: &mut [ValRaw], placed: Result<Placed, Fault>) -> Result<()
     requires room { 2 ≤ length dst.old }
     ensures there { SameWords (placed_words placed) 0 dst.new 0 (length (placed_words placed)) }
     ensures done { result ≡ without placed }
+    ensures behind { (p : ℕ) → 2 ≤ p → slice_index dst.new p ≡ slice_index dst.old p }
+    ensures unplaced { OnErr placed (dst.new ≡ dst.old) }
     ensures count { length dst.new ≡ length dst.old }
 {
     match placed {

@@ -4,7 +4,8 @@ ghost use Rattle.std.specs.Prelude.{◌≡◌, ◌≤◌, ◌+◌, [], false, le
 ghost use Rattle.canon_context.specs.Core.{component_types};
 ghost use Rattle.canon_lower_parts.specs.Scalars.{IsWordOfScalar};
 ghost use Rattle.canon_lower_parts.specs.Stores.{TypedStores};
-ghost use Rattle.canon_lower_parts.specs.Words.{IsCaseWords, Stays, TypedLowers};
+ghost use Rattle.canon_lower_parts.specs.Words.{IsCaseWords, TypedLowers};
+ghost use Rattle.canon_value_parts.specs.Words.{WordsStay};
 ghost use Rattle.canon_model.specs.Flat.{AreZero};
 ghost use Rattle.canon_model.specs.Layout.{flat, size};
 ghost use Rattle.canon_types.specs.Table.{Knows, shape_of};
@@ -64,7 +65,7 @@ pub fn store_scalar<S: WordScalar, D, G: Guest>(
 /// Writes zeros from a word on.
 pub fn clear_from(dst: &mut [ValRaw], from: usize)
     requires { from ≤ length dst.old }
-    ensures stays { Stays from dst.old dst.new }
+    ensures stays { WordsStay from dst.old dst.new }
     ensures zeros { AreZero dst.new from (length dst.new) }
 {
     for k in from..dst.len() {

@@ -17,20 +17,16 @@ use Rattle.std.proofs.lemmas.Slice.Eq.{bytes_eq-Decides}
 use Rattle.canon_abi.specs.Abi.{HasInfo}
 use Rattle.canon_abi.specs.declared.abi.VariantInfo.{VariantInfo}
 use Rattle.canon_lowering.specs.Copies.{case_members}
-use Rattle.canon_ledger.specs.declared.fault.ResourceFault.{ResourceFault}
-use Rattle.canon_lowering.specs.Lowering.{Ending, refused}
 use Rattle.canon_model.specs.Shape.{Cases, Members, Name, Shape, VariantKind, bare_cases, case_for, case_count, enum_of, member, member_count, no_cases, no_members, of_cases, of_names, of_result, result_of, variant, variant_of}
 use Rattle.canon_types.specs.Depth.{variant_cases}
 use Rattle.canon_types.specs.Keeps.{cases_type}
 use Rattle.canon_types.specs.Table.{Knows, KnowsPayload, ResultType, Table, all_shapes, cases_in, parts, payload_in, shape_of}
 use Rattle.canon_types.specs.declared.types.InterfaceType.{InterfaceType}
 use Rattle.canon_value_parts.specs.CaseView.{IsPayloadViewed, Misses}
-use Rattle.canon_value_parts.specs.Fails.{Blames, FailsAt, payload_expected, payload_not_expected, unknown_case}
-use Rattle.canon_context.specs.Lowers.{fault_ending}
-use Rattle.canon_value_parts.specs.Resources.{ledger_fault}
+use Rattle.canon_value_parts.specs.Fails.{payload_expected, payload_not_expected, unknown_case}
 use Rattle.canon_val.specs.Value.{IsCase, IsFirst, case_names, member_names, result_case, result_payload, unboxed}
 use Rattle.canon_value_parts.specs.View.{HaveKnownTypes, IsMember, names_of, shapes_of, values_of}
-use Rattle.canon_value_parts.specs.Viewed.{IsCaseSeen}
+use Rattle.canon_value_parts.specs.Viewed.{BlamesItself, IsCaseSeen}
 use Rattle.canon_context.specs.declared.fault.Fault.{Fault}
 use Rattle.canon_context.specs.declared.fault.Fault.TheVariants as fault
 use Rattle.canon_value_parts.specs.declared.members.Member.{Member}
@@ -41,7 +37,6 @@ use Rattle.canon_val.specs.declared.val.Val.TheVariants as val
 use Rattle.canon_value_parts.proofs.Cases.{Both, first_below, same_enum, same_variant}
 use Rattle.canon_plan.proofs.Flats.{first_known, second_known, bare_members, two_cases}
 use Rattle.canon_value_parts.proofs.Steps.{own_failure}
-use Rattle.canon_model.specs.Text.{Encoding}
 
 -- of one member without a name
 pub one_at : (t : Table) (k : ℕ) (m : Member) → k < 1 → Knows t m.ty → m.is_named ≡ true → IsMember t (member [] (shape_of t m.ty) no_members) ([] ∷ []) (m.value.now ∷ []) k m
@@ -159,18 +154,15 @@ payload_seen t (Some type) (Some b) ms known (v, e, ev) =
 
 -- ---- how a value fails
 
-abbrev IsBlamed : Shape → Val → ℕ → Fault → Type 0
-IsBlamed s v place e = ◌≡◌ {A = Ending × Option ResourceFault} (fault_ending e, ledger_fault e) (refused, None) × ((enc : Encoding) → Blames enc (λ how j. FailsAt how s v j) place e)
-
 -- its payload is there though its case has none, or the other way round
-pub missed : (t : Table) (k : VariantKind) (cs : Cases) (d : ℕ) (type : Option InterfaceType) (p : Option (Box Val Global)) (s : Shape) (v : Val) (place : ℕ) (e : Fault) → s ≡ variant k cs → place < 2 ^ 64
-    → case_members cs d ≡ payload_members t type → IsCase k cs d (unboxed p) v → Misses type p place e → IsBlamed s v place e
-missed t k cs d None None s v place e es few members of miss = absurd miss
-missed t k cs d (Some type) (Some b) s v place e es few members of miss = absurd miss
-missed t k cs d (Some type) None s v place e es few members of miss =
-    subst (λ (x : Fault). IsBlamed s v place x) (sym miss) (refl, λ enc. own_failure payload_expected (variant k cs) s v place es few (inl (refl, (d, of, ap member_count members))))
-missed t k cs d None (Some b) s v place e es few members of miss =
-    subst (λ (x : Fault). IsBlamed s v place x) (sym miss) (refl, λ enc. own_failure payload_not_expected (variant k cs) s v place es few (inl (refl, (d, b.value, of, ap member_count members))))
+pub missed : (t : Table) (k : VariantKind) (cs : Cases) (d : ℕ) (type : Option InterfaceType) (p : Option (Box Val Global)) (s : Shape) (v : Val) (place : ℕ) (e : Fault) → s ≡ variant k cs
+    → case_members cs d ≡ payload_members t type → IsCase k cs d (unboxed p) v → Misses type p place e → BlamesItself s v place e
+missed t k cs d None None s v place e es members of miss = absurd miss
+missed t k cs d (Some type) (Some b) s v place e es members of miss = absurd miss
+missed t k cs d (Some type) None s v place e es members of miss =
+    subst (λ (x : Fault). BlamesItself s v place x) (sym miss) (own_failure payload_expected (variant k cs) s v place es (d, of, ap member_count members))
+missed t k cs d None (Some b) s v place e es members of miss =
+    subst (λ (x : Fault). BlamesItself s v place x) (sym miss) (own_failure payload_not_expected (variant k cs) s v place es (d, b.value, of, ap member_count members))
 
 -- ---- an enum
 
@@ -203,17 +195,10 @@ module _ (t : Table) (s : Shape) (v : Val) (info : VariantInfo) (ks : List (Stri
     count = refl;
   }
 
-  pub enum_unknown : (place : ℕ) → place < 2 ^ 64 → position (λ k. bytes_eq xs (string_bytes k)) ks ≡ None → IsBlamed s v place (fault.UnknownCase place)
-  enum_unknown place few e = (
-    refl,
-    λ enc. own_failure unknown_case (variant of_names (bare_cases spellings)) s v place shape few
-        (inl (
-          refl,
-          (
-            λ other. other name ev,
-            λ d vs (n, ew, et, first). lost xs ks e d (subst (λ (ns : List Name). slice_get ns d ≡ Some xs) (enum_names spellings) (first.0 ∙ ap Some (ap (λ (x : String Global). string_bytes x) (same_enum n name (sym ew ∙ ev)) ∙ sym en))),
-          ),
-        )),
+  pub enum_unknown : (place : ℕ) → position (λ k. bytes_eq xs (string_bytes k)) ks ≡ None → BlamesItself s v place (fault.UnknownCase place)
+  enum_unknown place e = own_failure unknown_case (variant of_names (bare_cases spellings)) s v place shape (
+    λ other. other name ev,
+    λ d vs (n, ew, et, first). lost xs ks e d (subst (λ (ns : List Name). slice_get ns d ≡ Some xs) (enum_names spellings) (first.0 ∙ ap Some (ap (λ (x : String Global). string_bytes x) (same_enum n name (sym ew ∙ ev)) ∙ sym en))),
   )
 
 -- ---- a variant
@@ -230,18 +215,11 @@ module _ (t : Table) (s : Shape) (v : Val) (info : VariantInfo) (entries : List 
   pub variant_info : HasInfo info cs
   variant_info = subst (λ (x : Shape). HasInfo info (variant_cases x)) shape has
 
-  pub variant_unknown : (place : ℕ) → place < 2 ^ 64 → position (λ k. bytes_eq xs (string_bytes k)) (keys_of entries) ≡ None → IsBlamed s v place (fault.UnknownCase place)
-  variant_unknown place few e = (
-    refl,
-    λ enc. own_failure unknown_case (variant of_cases cs) s v place shape few
-        (inl (
-          refl,
-          (
-            λ other. other name p ev,
-            λ d vs (n, q, ew, et, first). lost xs (keys_of entries) e d
-                (subst (λ (ns : List Name). slice_get ns d ≡ Some xs) (variant_names (all_shapes t) entries) (first.0 ∙ ap Some (ap (λ (x : String Global). string_bytes x) (same_variant n name q p (sym ew ∙ ev)).0 ∙ sym en))),
-          ),
-        )),
+  pub variant_unknown : (place : ℕ) → position (λ k. bytes_eq xs (string_bytes k)) (keys_of entries) ≡ None → BlamesItself s v place (fault.UnknownCase place)
+  variant_unknown place e = own_failure unknown_case (variant of_cases cs) s v place shape (
+    λ other. other name p ev,
+    λ d vs (n, q, ew, et, first). lost xs (keys_of entries) e d
+        (subst (λ (ns : List Name). slice_get ns d ≡ Some xs) (variant_names (all_shapes t) entries) (first.0 ∙ ap Some (ap (λ (x : String Global). string_bytes x) (same_variant n name q p (sym ew ∙ ev)).0 ∙ sym en))),
   )
 
   module _ (i : ℕ) (k : String Global) (type : Option InterfaceType) (at : slice_get entries i ≡ Some (k, type)) (e : position (λ k. bytes_eq xs (string_bytes k)) (keys_of entries) ≡ Some i) where
@@ -261,8 +239,8 @@ module _ (t : Table) (s : Shape) (v : Val) (info : VariantInfo) (entries : List 
           count = seen.count;
         }
 
-    pub variant_missed : (place : ℕ) (f : Fault) → place < 2 ^ 64 → Misses type p place f → IsBlamed s v place f
-    variant_missed place f few miss = missed t of_cases cs i type p s v place f shape few (entry_members t entries i k type at) (name, p, ev, refl, variant_first i e) miss
+    pub variant_missed : (place : ℕ) (f : Fault) → Misses type p place f → BlamesItself s v place f
+    variant_missed place f miss = missed t of_cases cs i type p s v place f shape (entry_members t entries i k type at) (name, p, ev, refl, variant_first i e) miss
 
 -- ---- a result
 
@@ -316,5 +294,5 @@ module _ (t : Table) (s : Shape) (v : Val) (info : VariantInfo) (ok error : Opti
         count = seen.count;
       }
 
-  pub result_missed : (place : ℕ) (f : Fault) → place < 2 ^ 64 → Misses type p place f → IsBlamed s v place f
-  result_missed place f few miss = missed t of_result both_cases i type p s v place f shape few chosen.members (r, ev, chosen.payload, chosen.case, inside) miss
+  pub result_missed : (place : ℕ) (f : Fault) → Misses type p place f → BlamesItself s v place f
+  result_missed place f miss = missed t of_result both_cases i type p s v place f shape chosen.members (r, ev, chosen.payload, chosen.case, inside) miss

@@ -19,7 +19,7 @@ use Rattle.canon_model.specs.Memory.{low, num}
 use Rattle.canon_model.specs.Shape.{Name}
 use Rattle.canon_value_parts.specs.Flags.{AreSetInWords, SetsBit, SomeUnknown}
 use Rattle.canon_val.specs.Value.{Occurs}
-use Rattle.canon_value_parts.specs.Words.{WordsStay}
+use Rattle.canon_value_parts.specs.Words.{WordsWritten}
 use Rattle.canon_value_parts.proofs.FlagBits.{Gains, digit_gains, digits, digits_none, digits_same}
 use Rattle.canon_value_parts.proofs.FlagDigits.{byte_inside, num_digits, word_inside, words_digits}
 use Rattle.canon_value_parts.proofs.FlagNames.{Differ, IsMarked, marked_all, marked_more, marked_none}
@@ -79,7 +79,7 @@ stored_more xs ys zs at size names set k x room es differ h l is s =
 -- ---- in words
 
 pub record ArePut (ws vs : List ℕ) (first count : ℕ) (names set : List Name) : Type 0 where
-  pub stays : WordsStay first ws vs
+  pub written : WordsWritten first (first + count) ws vs
   pub below : (j : ℕ) → j < count → slice_index vs (first + j) < 2 ^ 32
   pub marked : IsMarked names set (low_number vs first count)
   pub known : All (λ x. Occurs x names) set
@@ -88,11 +88,11 @@ pub record ArePut (ws vs : List ℕ) (first count : ℕ) (names set : List Name)
 whole_words : (ws : List ℕ) (n i : ℕ) → ((j : ℕ) → j < n → slice_index ws (i + j) < 2 ^ 32) → low_number ws i n ≡ digits 32 (λ j. slice_index ws j) i n
 whole_words ws n i below = words_digits ws n i ∙ digits_same 32 (λ j. low (slice_index ws j)) (λ j. slice_index ws j) n i (λ j l. mod-eq_of_lt (below j l))
 
-pub put_begin : (ws vs : List ℕ) (first count : ℕ) (names : List Name) → WordsStay first ws vs → ((j : ℕ) → first ≤ j → j < first + count → slice_index vs j ≡ 0) → ArePut ws vs first count names []
-put_begin ws vs first count names stays none =
+pub put_begin : (ws vs : List ℕ) (first count : ℕ) (names : List Name) → WordsWritten first (first + count) ws vs → ((j : ℕ) → first ≤ j → j < first + count → slice_index vs j ≡ 0) → ArePut ws vs first count names []
+put_begin ws vs first count names written none =
     let below : (j : ℕ) → j < count → slice_index vs (first + j) < 2 ^ 32 = λ j l. let e : slice_index vs (first + j) ≡ 0 = none (first + j) (omega arith) (omega (arith, l)) in omega (arith, e) in
     record {
-      stays = stays;
+      written = written;
       below = below;
       marked = marked_none names _ (whole_words vs count first below ∙ digits_none 32 (λ j. slice_index vs j) count first (λ j l. none (first + j) (omega arith) (omega (arith, l))));
       known = All-nil (λ x. Occurs x names);
@@ -110,7 +110,10 @@ put_more ws vs us first count names set k x es differ h l is s =
     let new = whole_words us count first small in
     let one : Gains k (low_number vs first count) (low_number us first count) = subst (λ (i : ℕ). Gains i (low_number vs first count) (low_number us first count)) place (rw (old, new) gains) in
     record {
-      stays = record { same_length = s.same_length ∙ h.stays.same_length; before = λ p u. s.kept p (λ e. omega (arith, e, u)) ∙ h.stays.before p u };
+      written = record {
+        stays = record { same_length = s.same_length ∙ h.written.stays.same_length; before = λ p u. s.kept p (λ e. omega (arith, e, u)) ∙ h.written.stays.before p u };
+        behind = λ p u. s.kept p (λ e. omega (arith, e, u, inside)) ∙ h.written.behind p u;
+      };
       below = small;
       marked = marked_more names set _ _ k x differ h.marked l is one;
       known = All-push (λ y. Occurs y names) set x h.known (occurs_at names k x l is);

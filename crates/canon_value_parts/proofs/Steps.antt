@@ -1,8 +1,9 @@
 -- Places, blame from one place to another, and types that reach no text and no list.
-use Rattle.std.proofs.Common.{◌≡◌, ◌+◌, ◌∙◌, List, String, Vec, [], ◌∷◌, ap, arith, map, refl, rules, sym, ℕ, ◌||◌, Bool, false, true, ◌<◌, ◌^◌, length, subst}
+use Rattle.std.proofs.Common.{◌≡◌, ◌+◌, ◌∙◌, List, None, Option, String, Vec, [], ◌∷◌, ap, arith, inl, map, refl, rules, sym, ℕ, ◌||◌, Bool, false, true, ◌<◌, ◌^◌, length, subst}
 use Rattle.std.specs.declared.alloc.Global.{Global}
-use Rattle.canon_model.specs.Shape.{Name, ProductKind, of_fields, of_places, Members, Shape, fixed, product}
-use Rattle.canon_value_parts.specs.Fails.{Blames, Failure, field_name, mismatch, overflow, too_long, wrong_length, FailsAt, payload_expected, payload_not_expected, unknown_case, unknown_flag}
+use Rattle.canon_ledger.specs.declared.fault.ResourceFault.{ResourceFault}
+use Rattle.canon_model.specs.Shape.{Name, ProductKind, of_fields, of_places, of_items, of_pairs, Members, Shape, borrow, fixed, flags, list, own, product, scalar, string, variant}
+use Rattle.canon_value_parts.specs.Fails.{Blames, Failure, Fails, field_name, mismatch, overflow, too_long, wrong_length, FailsAt, payload_expected, payload_not_expected, unknown_case, unknown_flag}
 use Rattle.canon_val.specs.Value.{IsProduct, all_places, cap, places, total, values_in, IsFixed, no_names}
 use Rattle.canon_context.specs.Lowers.{fault_ending}
 use Rattle.canon_context.specs.declared.fault.Fault.{Fault}
@@ -11,8 +12,9 @@ use Rattle.canon_val.specs.declared.val.Val.{Val, the_lemmas}
 use Rattle.canon_val.specs.declared.val.Val.TheShapes.{former-Val-Record-0-at-2}
 use Rattle.canon_val.specs.declared.val.Val.TheVariants as val
 use Rattle.canon_lowering.specs.Copies.{copies}
-use Rattle.canon_lowering.specs.Lowering.{refused}
-use Rattle.canon_value_parts.specs.Viewed.{HasMembers}
+use Rattle.canon_lowering.specs.Lowering.{Ending, refused}
+use Rattle.canon_value_parts.specs.Resources.{ledger_fault}
+use Rattle.canon_value_parts.specs.Viewed.{BlamesItself, HasMembers}
 use Rattle.canon_plan.specs.Plan.{LiesAs}
 use Rattle.canon_model.specs.Text.{Encoding}
 
@@ -122,8 +124,51 @@ blocks_none a e f = cc
 -- ---- views of values, by what a look-up gives
 
 -- the value itself fails
-pub own_failure : (how : Failure) (s s2 : Shape) (v : Val) (place : ℕ) → s2 ≡ s → place < 2 ^ 64 → FailsAt how s v 0 → (j : ℕ) × (place ≡ cap (place + j)) × FailsAt how s2 v j
-own_failure how s s2 v place e few f = (0, omega (arith, few), subst (λ (x : Shape). FailsAt how x v 0) (sym e) f)
+pub own_failure : (how : Failure) (s s2 : Shape) (v : Val) (place : ℕ) → s2 ≡ s → Fails how s v → (place ≡ place) × Fails how s2 v
+own_failure how s s2 v place e f = (refl, subst (λ (x : Shape). Fails how x v) (sym e) f)
+
+fails_first : (how : Failure) (s : Shape) (v : Val) → Fails how s v → FailsAt how s v 0
+fails_first how (product k ms) v f = inl (refl, f)
+fails_first how (scalar k) v f = (refl, f)
+fails_first how string v f = (refl, f)
+fails_first how (own r) v f = (refl, f)
+fails_first how (borrow r) v f = (refl, f)
+fails_first how (list of_items s) v f = inl (refl, f)
+fails_first how (list of_pairs s) v f = inl (refl, f)
+fails_first how (fixed n s) v f = inl (refl, f)
+fails_first how (variant k cs) v f = inl (refl, f)
+fails_first how (flags names) v f = (refl, f)
+
+-- it is refused, and not by the ledger
+module _ (s : Shape) (v : Val) (place : ℕ) (few : place < 2 ^ 64) where
+  abbrev IsRefused : Fault → Type 0
+  IsRefused e = ◌≡◌ {A = Ending × Option ResourceFault} (fault_ending e, ledger_fault e) (refused, None) × ((enc : Encoding) → Blames enc (λ how k. FailsAt how s v k) place e)
+
+  at_first : (how : Failure) (k : ℕ) → k ≡ place → Fails how s v → (j : ℕ) × (k ≡ cap (place + j)) × FailsAt how s v j
+  at_first how k is f = (0, omega (arith, is, few), fails_first how s v f)
+
+  pub blames_itself : (e : Fault) → BlamesItself s v place e → IsRefused e
+  blames_itself (fault.TypeMismatch k) (is, f) = (refl, λ enc. at_first mismatch k is f)
+  blames_itself (fault.LengthMismatch k) (is, f) = (refl, λ enc. at_first wrong_length k is f)
+  blames_itself (fault.UnknownCase k) (is, f) = (refl, λ enc. at_first unknown_case k is f)
+  blames_itself (fault.PayloadExpected k) (is, f) = (refl, λ enc. at_first payload_expected k is f)
+  blames_itself (fault.PayloadNotExpected k) (is, f) = (refl, λ enc. at_first payload_not_expected k is f)
+  blames_itself (fault.FieldName k) h = absurd h
+  blames_itself (fault.UnknownFlag k) h = absurd h
+  blames_itself (fault.StringTooLong n) h = absurd h
+  blames_itself (fault.SizeOverflow n) h = absurd h
+  blames_itself (fault.ReallocMisaligned a) h = absurd h
+  blames_itself (fault.ReallocOutOfBounds a) h = absurd h
+  blames_itself fault.GuestTrap h = absurd h
+  blames_itself (fault.PointerMisaligned at) h = absurd h
+  blames_itself (fault.PointerOutOfBounds at) h = absurd h
+  blames_itself (fault.InvalidUtf8 at) h = absurd h
+  blames_itself (fault.InvalidUtf16 at) h = absurd h
+  blames_itself (fault.InvalidChar at) h = absurd h
+  blames_itself (fault.BadDiscriminant at n) h = absurd h
+  blames_itself fault.HostcallFuelExhausted h = absurd h
+  blames_itself fault.OutOfMemory h = absurd h
+  blames_itself (fault.Resource e) h = absurd h
 
 pub product_seen : (k : ProductKind) (ms : Members) (s : Shape) (names : List Name) (vs : List Val) (v : Val) → s ≡ product k ms → IsProduct k names vs v → LiesAs s ms × HasMembers s names vs v
 product_seen k ms s names vs v e h = subst (λ (x : Shape). LiesAs x ms × HasMembers x names vs v) (sym e) (refl, h)

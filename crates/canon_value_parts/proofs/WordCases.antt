@@ -84,9 +84,9 @@ module _ {T G : Type 0} (L : GuestLaws G) (options : ℕ) where
       let words : flat (variant k cs) ≡ 1 + cases_flat cs = variant_flat k cs in
       let most : members_flat ms ≤ cases_flat cs = payload_words cs d in
       let tag1 : slice_index dst1 from.word ≡ d = ap (λ (xs : List ℕ). slice_index xs from.word) e1 ∙ get_or-set_same dst from.word d 0 (omega (arith, room, words)) in
-      let tag3 : slice_index dst3 from.word ≡ d = clears.before from.word (omega (arith, h.passed)) ∙ (h.stays.before from.word (omega arith) ∙ tag1) in
+      let tag3 : slice_index dst3 from.word ≡ d = clears.written.stays.before from.word (omega (arith, h.passed)) ∙ (h.stays.before from.word (omega arith) ∙ tag1) in
       let same : SameWords dst2 (from.word + 1) dst3 (from.word + 1) (members_flat ms) =
-      λ p q l u is. let at : p ≡ q = omega (arith, is) in ap (slice_index dst2) at ∙ sym (clears.before q (omega (arith, u, at, h.passed))) in
+      λ p q l u is. let at : p ≡ q = omega (arith, is) in ap (slice_index dst2) at ∙ sym (clears.written.stays.before q (omega (arith, u, at, h.passed))) in
       let zeros : AreZero dst3 (from.word + 1 + members_flat ms) (from.word + 1 + cases_flat cs) = λ j l u. clears.zeros j (omega (arith, l, h.passed)) (omega (arith, u, words)) in
       let moved : LowersMembers false (moment_of L.seen a) (moment_of L.seen c) enc ms dst3 (from.word + 1) (Named ms names vs) h.handles done =
       members_moved false (moment_of L.seen a) (moment_of L.seen c) enc ms dst2 dst3 (from.word + 1) (from.word + 1) (Named ms names vs) done (λ ts (_, have). have_fit ms vs ts have) same h.lowered in
@@ -96,8 +96,8 @@ module _ {T G : Type 0} (L : GuestLaws G) (options : ℕ) where
             (case_told false enc k cs d names vs v lt of named) (case_untold false enc k cs d names vs v lt of named) moved;
         handed = passes_as a.component.types a.ledger c.ledger (all_passes ms vs) (passes v (variant k cs)) h.handles (Ok past) given h.handed;
         stays = record {
-          same_length = clears.same_length ∙ (h.stays.same_length ∙ (ap length e1 ∙ length-set dst from.word d));
-          before = λ p l. clears.before p (omega (arith, l, h.passed)) ∙ (h.stays.before p (omega (arith, l)) ∙ (ap (λ (xs : List ℕ). slice_index xs p) e1 ∙ get_or-set_other dst from.word p d 0 (omega (arith, l))));
+          same_length = clears.written.stays.same_length ∙ (h.stays.same_length ∙ (ap length e1 ∙ length-set dst from.word d));
+          before = λ p l. clears.written.stays.before p (omega (arith, l, h.passed)) ∙ (h.stays.before p (omega (arith, l)) ∙ (ap (λ (xs : List ℕ). slice_index xs p) e1 ∙ get_or-set_other dst from.word p d 0 (omega (arith, l))));
         };
         passed = refl;
         counted = case_words_counted enc from.place k cs d names vs v (Ok past.place) of named h.counted;
@@ -170,13 +170,15 @@ case_room t s v c h = omega (arith, ap members_flat h.shapes, ap flat h.shape, v
 -- ---- words become 0 one after another
 
 pub clears_none : (i : ℕ) (dst : List ℕ) → Clears i i dst dst
-clears_none i dst = record { same_length = refl; zeros = λ j l u. absurd (omega (arith, l, u)); before = λ p l. refl }
+clears_none i dst = record { written = record { stays = record { same_length = refl; before = λ p l. refl }; behind = λ p l. refl }; zeros = λ j l u. absurd (omega (arith, l, u)) }
 
 pub clears_one : (i k w : ℕ) (dst now : List ℕ) → i ≤ k → k < length now → w ≡ 0 → Clears i k dst now → Clears i (k + 1) dst (set now k w)
 clears_one i k w dst now later inside none h = record {
-  same_length = length-set now k w ∙ h.same_length;
+  written = record {
+    stays = record { same_length = length-set now k w ∙ h.written.stays.same_length; before = λ p l. get_or-set_other now k p w 0 (omega (arith, l, later)) ∙ h.written.stays.before p l };
+    behind = λ p l. get_or-set_other now k p w 0 (omega (arith, l)) ∙ h.written.behind p (omega (arith, l));
+  };
   zeros = λ j l u. at j l u (cases_order j k);
-  before = λ p l. get_or-set_other now k p w 0 (omega (arith, l, later)) ∙ h.before p l;
 }
   where
     at : (j : ℕ) → i ≤ j → j < k + 1 → (j ≡ k) ⊎ ((j < k) ⊎ (k < j)) → slice_index (set now k w) j < 1

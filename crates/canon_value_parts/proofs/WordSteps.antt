@@ -85,11 +85,11 @@ mutual
 stays_none : (i : ℕ) (dst : List ℕ) → WordsStay i dst dst
 stays_none i dst = record { same_length = refl; before = λ p l. refl }
 
-stays_then : (i j : ℕ) (dst dst2 dst3 : List ℕ) → i ≤ j → WordsStay i dst dst2 → WordsStay j dst2 dst3 → WordsStay i dst dst3
+pub stays_then : (i j : ℕ) (dst dst2 dst3 : List ℕ) → i ≤ j → WordsStay i dst dst2 → WordsStay j dst2 dst3 → WordsStay i dst dst3
 stays_then i j dst dst2 dst3 later h k = record { same_length = k.same_length ∙ h.same_length; before = λ p l. k.before p (omega (arith, l, later)) ∙ h.before p l }
 
 -- the first words stay where the rest are written
-first_stay : (i j n : ℕ) (dst dst2 : List ℕ) → j ≡ i + n → WordsStay j dst dst2 → SameWords dst i dst2 i n
+pub first_stay : (i j n : ℕ) (dst dst2 : List ℕ) → j ≡ i + n → WordsStay j dst dst2 → SameWords dst i dst2 i n
 first_stay i j n dst dst2 e h p q l u is = let same : p ≡ q = omega (arith, is) in ap (slice_index dst) same ∙ sym (h.before q (omega (arith, u, is, e)))
 
 -- ---- counting

@@ -1,29 +1,25 @@
 -- A value as the shape of its type sees it, or why it isn't of its type.
-use Rattle.std.specs.Prelude.{◌≡◌, ◌<◌, Err, List, None, Ok, Option, Result, length, ℕ}
+use Rattle.std.specs.Prelude.{◌≡◌, ◌<◌, Err, List, Ok, Result, length, ℕ}
 use Rattle.canon_abi.specs.Abi.{HasInfo}
 use Rattle.canon_lowering.specs.Copies.{case_members}
-use Rattle.canon_ledger.specs.declared.fault.ResourceFault.{ResourceFault}
-use Rattle.canon_lowering.specs.Lowering.{Ending, refused}
 use Rattle.canon_model.specs.Shape.{Cases, Name, Shape, VariantKind, case_count, fixed, member_count, product, string, variant}
 use Rattle.canon_types.specs.Table.{Table, shape_of}
 use Rattle.canon_types.specs.declared.types.InterfaceType.{InterfaceType}
 use Rattle.canon_plan.specs.Element.{IsKnown, list_shape}
 use Rattle.canon_value_parts.specs.Elements.{element_in, list_value}
-use Rattle.canon_value_parts.specs.Fails.{Blames, FailsAt}
+use Rattle.canon_value_parts.specs.Fails.{Fails, mismatch, payload_expected, payload_not_expected, unknown_case, wrong_length}
 use Rattle.canon_value_parts.specs.Flags.{IsFlagsType}
-use Rattle.canon_context.specs.Lowers.{fault_ending}
-use Rattle.canon_value_parts.specs.Resources.{ledger_fault}
 use Rattle.canon_val.specs.Value.{IsCase, IsFixed, IsProduct, member_names, no_names}
 use Rattle.canon_value_parts.specs.View.{HaveKnownTypes, names_of, shapes_of, values_of}
 use Rattle.canon_value_parts.specs.Words.{IsWordOf}
 use Rattle.canon_value_parts.specs.declared.case_view.Case.{Case}
 use Rattle.canon_context.specs.declared.fault.Fault.{Fault}
+use Rattle.canon_context.specs.declared.fault.Fault.TheVariants as fault
 use Rattle.canon_val.specs.declared.val.Val.{Val}
 use Rattle.canon_val.specs.declared.val.Val.TheVariants as val
 use Rattle.canon_value_parts.specs.declared.view.View.{View}
 use Rattle.canon_value_parts.specs.declared.view.View.TheVariants as view
 use Rattle.canon_plan.specs.Plan.{LiesAs, type_of_handle}
-use Rattle.canon_model.specs.Text.{Encoding}
 
 -- the value is of the shape's kind, and these are its members
 abbrev pub HasMembers : Shape → List Name → List Val → Val → Type 0
@@ -53,7 +49,17 @@ Views t type v (view.Case c) = IsCaseSeen t (shape_of t type) v c
 Views t type v (view.Handle h x) = (type ≡ type_of_handle h) × (v ≡ val.Resource x)
 Views t type v (view.Flags names) = IsFlagsType type × (v ≡ val.Flags names.now)
 
--- of a value that has this place: it is seen so, or it isn't of its type, which is no fault of the ledger's
+-- The fault says of the value itself, which has this place, how it isn't of its type. What it holds isn't looked at, and no names of
+-- fields or of flags.
+abbrev pub BlamesItself : Shape → Val → ℕ → Fault → Type 0
+BlamesItself s v place (fault.TypeMismatch k) = (k ≡ place) × Fails mismatch s v
+BlamesItself s v place (fault.LengthMismatch k) = (k ≡ place) × Fails wrong_length s v
+BlamesItself s v place (fault.UnknownCase k) = (k ≡ place) × Fails unknown_case s v
+BlamesItself s v place (fault.PayloadExpected k) = (k ≡ place) × Fails payload_expected s v
+BlamesItself s v place (fault.PayloadNotExpected k) = (k ≡ place) × Fails payload_not_expected s v
+BlamesItself s v place _ = ⊥
+
+-- of a value that has this place: it is seen so, or it isn't of its type
 abbrev pub Viewed : Table → InterfaceType → Val → ℕ → Result View Fault → Type 0
 Viewed t type v place (Ok x) = Views t type v x
-Viewed t type v place (Err e) = ◌≡◌ {A = Ending × Option ResourceFault} (fault_ending e, ledger_fault e) (refused, None) × ((enc : Encoding) → Blames enc (λ how k. FailsAt how (shape_of t type) v k) place e)
+Viewed t type v place (Err e) = BlamesItself (shape_of t type) v place e

@@ -1,6 +1,6 @@
 -- How words are written one after another: each value's from its first word on, and its fault, if it fails, at its place.
 -- A core goes from one to another.
-use Rattle.std.specs.Prelude.{◌≡◌, ◌+◌, ◌<◌, ◌%◌, ◌^◌, Err, IfOk, List, Ok, Result, Some, length, slice_index, ℕ, false}
+use Rattle.std.specs.Prelude.{◌≡◌, ◌≤◌, ◌+◌, ◌<◌, ◌%◌, ◌^◌, Err, IfOk, List, Ok, Result, Some, length, slice_index, ℕ, false}
 use Rattle.canon_lowering.specs.Attempt.{LowersMembers, LowersValue}
 use Rattle.canon_memory.specs.Guest.{GuestIn, Seen}
 use Rattle.canon_memory.specs.declared.event.Event.{Event}
@@ -53,11 +53,15 @@ pub record WordsStay (i : ℕ) (dst dst2 : List ℕ) : Type 0 where
   pub same_length : length dst2 ≡ length dst
   pub before : (p : ℕ) → p < i → slice_index dst2 p ≡ slice_index dst p
 
--- the words from i up to e become 0, and those before stay
+-- no words but those from i up to e were written
+pub record WordsWritten (i e : ℕ) (dst dst2 : List ℕ) : Type 0 where
+  pub stays : WordsStay i dst dst2
+  pub behind : (p : ℕ) → e ≤ p → slice_index dst2 p ≡ slice_index dst p
+
+-- the words from i up to e become 0, and the others stay
 pub record Clears (i e : ℕ) (dst dst2 : List ℕ) : Type 0 where
-  pub same_length : length dst2 ≡ length dst
+  pub written : WordsWritten i e dst dst2
   pub zeros : AreZero dst2 i e
-  pub before : (p : ℕ) → p < i → slice_index dst2 p ≡ slice_index dst p
 
 module _ {T G : Type 0} (seen : G → Seen) (moves : GuestIn G → List Event → GuestIn G → Type 0) (options : ℕ) (before after : Parts T G) (dst dst2 : List ℕ) (from : Spot) (result : Result Spot Fault) where
   -- a value of the shape s

@@ -21,7 +21,7 @@ ghost use Rattle.canon_context.specs.Core.{component_types};
 ghost use Rattle.canon_value_parts.specs.Flags.{AreFlags, AreSetInWords, AreUnpaid, HasPlace, HasRoom, IsFlagsType, SetsBit, SomeUnknown, digit_of, flag_names, marked_number, width_of};
 ghost use Rattle.canon_value_parts.specs.Stores.{StoresTo};
 ghost use Rattle.canon_val.specs.Value.{Occurs};
-ghost use Rattle.canon_value_parts.specs.Words.{LowersTo, WordsStay};
+ghost use Rattle.canon_value_parts.specs.Words.{LowersTo, WordsWritten};
 ghost use Rattle.canon_val.specs.declared.val.Val.TheVariants as val;
 
 use crate::lists::keep;
@@ -80,6 +80,7 @@ pub fn lower_names<T, G: Guest>(
     requires small { length cx.old.core.now.memory ≤ 2 ^ 32 }
     requires room { from.word + flat (shape_of (component_types cx.old.core.now) ty.now) ≤ length dst.old }
     ensures lowers { LowersTo G.seen G.moves cx.old.options cx.old.core.now cx.new.core.now dst.old dst.new from result (shape_of (component_types cx.old.core.now) ty.now) (val.Flags set.now) }
+    ensures written { WordsWritten from.word (from.word + flat (shape_of (component_types cx.old.core.now) ty.now)) dst.old dst.new }
     ensures same_reference { cx.new.core.ghost_name ≡ cx.old.core.ghost_name }
     ensures same_options { cx.new.options ≡ cx.old.options }
 {
@@ -127,6 +128,7 @@ fn lower_flags<T, G: Guest>(
     requires small { length cx.old.core.now.memory ≤ 2 ^ 32 }
     requires room { from.word + flat (shape_of (component_types cx.old.core.now) (InterfaceType.Flags i)) ≤ length dst.old }
     ensures lowers { LowersTo G.seen G.moves cx.old.options cx.old.core.now cx.new.core.now dst.old dst.new from result (shape_of (component_types cx.old.core.now) (InterfaceType.Flags i)) (val.Flags set.now) }
+    ensures written { WordsWritten from.word (from.word + flat (shape_of (component_types cx.old.core.now) (InterfaceType.Flags i))) dst.old dst.new }
     ensures same_reference { cx.new.core.ghost_name ≡ cx.old.core.ghost_name }
     ensures same_options { cx.new.options ≡ cx.old.options }
 {
@@ -153,7 +155,7 @@ fn put_flags(
     requires known { Knows types.now (InterfaceType.Flags i) }
     requires count { count ≡ flag_words (length (flag_names types.now i)) }
     requires room { first + count ≤ length dst.old }
-    ensures stays { WordsStay first dst.old dst.new }
+    ensures written { WordsWritten first (first + count) dst.old dst.new }
     ensures put { result ≡ true → AreSetInWords (flag_names types.now i) (map (λ s. string_bytes s) set.now.items) dst.new first }
     ensures unknown { result ≡ false → SomeUnknown (flag_names types.now i) (map (λ s. string_bytes s) set.now.items) }
 {
@@ -180,7 +182,7 @@ fn clear_bytes(memory: &mut [u8], at: u64, size: u32)
 /// Makes so many words from one on zero.
 fn clear_words(dst: &mut [ValRaw], first: usize, count: usize)
     requires room { first + count ≤ length dst.old }
-    ensures stays { WordsStay first dst.old dst.new }
+    ensures written { WordsWritten first (first + count) dst.old dst.new }
     ensures none { (j : ℕ) → first ≤ j → j < first + count → slice_index dst.new j ≡ 0 }
 {
     for j in first..first + count {

@@ -189,5 +189,4 @@ write_value-returns-in-Ok-Members t c =
 pub write_value-returns-in-Err : goal.write_value-returns-in-Err
 write_value-returns-in-Err t c =
     let a = c.args in
-    let (ending, blames) = c.in-Err.ensures in
-    record { writes = refused a.bytes.now.items (shape_of a.types.now a.ty.now) a.value.now a.place c.in-Err.fault c.told.result blames c.told.ensures.told c.told.ensures.same }
+    record { writes = refused a.bytes.now.items (shape_of a.types.now a.ty.now) a.value.now a.place c.in-Err.fault (omega arith) c.in-Err.ensures }

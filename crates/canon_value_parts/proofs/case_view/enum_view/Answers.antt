@@ -13,14 +13,14 @@ shape : (c : After-enum_-names) → shape_of c.args.types.now (ty.Enum c.args.i)
 shape c = c.enum_-names.ensures.entry.shape
 
 pub returns-in_default : goal.returns-in_default
-returns-in_default c = (refl, λ enc. own_failure mismatch _ _ c.args.value.now c.args.place (shape (goal.at.returns-in_default c).After-enum_-names) (omega arith) (inl (refl, λ n e. c.in_default.not-Enum n e)))
+returns-in_default c = own_failure mismatch _ _ c.args.value.now c.args.place (shape (goal.at.returns-in_default c).After-enum_-names) (λ n e. c.in_default.not-Enum n e)
 
 pub returns-in_default-get_index_of : goal.returns-in_default-get_index_of
 returns-in_default-get_index_of c =
     let names = c.enum_-names.result.now in
     let here = shape (goal.at.returns-in_default-get_index_of c).After-enum_-names in
     enum_unknown c.args.types.now _ c.args.value.now names.info names.names.keys c.in-Enum.name c.as_str.result.now here c.enum_-names.ensures.info c.in-Enum.is c.as_str.ensures.value
-    c.args.place (omega arith) (sym c.get_index_of.ensures.index ∙ c.in_default-get_index_of.is)
+    c.args.place (sym c.get_index_of.ensures.index ∙ c.in_default-get_index_of.is)
 
 pub overflow_cast-result : goal.overflow_cast-result
 overflow_cast-result c =

@@ -50,4 +50,4 @@ returns-in-Some c =
     }
 
 pub returns-in_default : goal.returns-in_default
-returns-in_default c = (refl, λ enc. own_failure mismatch _ _ c.args.value.now c.args.place (shape (goal.at.returns-in_default c).After-option-option) (omega arith) (inl (refl, λ p e. c.in_default.not-Option p e)))
+returns-in_default c = own_failure mismatch _ _ c.args.value.now c.args.place (shape (goal.at.returns-in_default c).After-option-option) (λ p e. c.in_default.not-Option p e)

@@ -15,7 +15,7 @@ shape : (c : After-result-types) → shape_of c.args.types.now (ty.Result c.args
 shape c = c.result-types.ensures.entry.shape
 
 pub returns-in_default : goal.returns-in_default
-returns-in_default c = (refl, λ enc. own_failure mismatch _ _ c.args.value.now c.args.place (shape (goal.at.returns-in_default c).After-result-types) (omega arith) (inl (refl, λ r e. c.in_default.not-Result r e)))
+returns-in_default c = own_failure mismatch _ _ c.args.value.now c.args.place (shape (goal.at.returns-in_default c).After-result-types) (λ r e. c.in_default.not-Result r e)
 
 pub returns-in-Ok-payload_of : goal.returns-in-Ok-payload_of
 returns-in-Ok-payload_of c =
@@ -41,4 +41,4 @@ returns-in-Err-payload_of c =
     ] in
     result_missed c.args.types.now _ c.args.value.now x.info x.ok x.err c.in-Result.payload c.match-payload.tag.0 c.match-payload.tag.1 c.match-payload.tag.2.now
     (shape (goal.at.returns-in-Err-payload_of c).After-result-types) c.result-types.ensures.info c.in-Result.is chosen
-    c.args.place c.in-Err-payload_of.fault (omega arith) c.in-Err-payload_of.ensures.err
+    c.args.place c.in-Err-payload_of.fault c.in-Err-payload_of.ensures.err

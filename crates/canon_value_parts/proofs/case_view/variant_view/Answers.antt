@@ -15,14 +15,14 @@ shape : (c : After-variant-variant)
 shape c = c.variant-variant.ensures.entry.shape
 
 pub returns-in_default : goal.returns-in_default
-returns-in_default c = (refl, λ enc. own_failure mismatch _ _ c.args.value.now c.args.place (shape (goal.at.returns-in_default c).After-variant-variant) (omega arith) (inl (refl, λ n p e. c.in_default.not-Variant n p e)))
+returns-in_default c = own_failure mismatch _ _ c.args.value.now c.args.place (shape (goal.at.returns-in_default c).After-variant-variant) (λ n p e. c.in_default.not-Variant n p e)
 
 pub returns-in_default-get_full : goal.returns-in_default-get_full
 returns-in_default-get_full c =
     let x = c.variant-variant.result.now in
     let here = shape (goal.at.returns-in_default-get_full c).After-variant-variant in
     variant_unknown c.args.types.now _ c.args.value.now x.info x.cases.entries c.in-Variant.name c.in-Variant.payload c.as_str.result.now here c.variant-variant.ensures.info c.in-Variant.is
-    c.as_str.ensures.value c.args.place (omega arith) (sym c.in_default-get_full.ensures.index)
+    c.as_str.ensures.value c.args.place (sym c.in_default-get_full.ensures.index)
 
 pub overflow_cast-result : goal.overflow_cast-result
 overflow_cast-result c =
@@ -49,4 +49,4 @@ returns-in-Err c =
     let x = c.variant-variant.result.now in
     let here = shape (goal.at.returns-in-Err c).After-variant-variant in
     variant_missed c.args.types.now _ c.args.value.now x.info x.cases.entries c.in-Variant.name c.in-Variant.payload c.as_str.result.now here c.variant-variant.ensures.info c.in-Variant.is c.as_str.ensures.value
-    c.in-Some.tag c.in-Some.field-0-1.now c.in-Some.ty.now c.in-Some.ensures.entry (sym c.in-Some.ensures.index) c.args.place c.in-Err.fault (omega arith) c.in-Err.ensures.err
+    c.in-Some.tag c.in-Some.field-0-1.now c.in-Some.ty.now c.in-Some.ensures.entry (sym c.in-Some.ensures.index) c.args.place c.in-Err.fault c.in-Err.ensures.err

@@ -6,7 +6,7 @@ use Rattle.canon_value_parts.proofs.FlagWriting.{ArePut, last_name, next_name, n
 use Rattle.canon_value_parts.proofs.flags.put_flags.Goals as goal
 
 pub loop-name-init : goal.loop-name-init
-loop-name-init c = put_begin c.args.dst.now c.clear_words.new.dst c.args.first c.args.count _ c.clear_words.ensures.stays c.clear_words.ensures.none
+loop-name-init c = put_begin c.args.dst.now c.clear_words.new.dst c.args.first c.args.count _ c.clear_words.ensures.written c.clear_words.ensures.none
 
 pub returns-in_default-clause-unknown : goal.returns-in_default-clause-unknown
 returns-in_default-clause-unknown c =

@@ -26,16 +26,14 @@ count c =
     )
 
 pub returns-in_default : goal.returns-in_default
-returns-in_default c = (refl, λ enc. own_failure mismatch _ _ c.args.value.now c.args.place (shape (goal.at.returns-in_default c).After-len-count) (omega arith) (inl (refl, λ names vs (fields, e, en, ev). c.in_default.not-Record fields e)))
+returns-in_default c = own_failure mismatch _ _ c.args.value.now c.args.place (shape (goal.at.returns-in_default c).After-len-count) (λ names vs (fields, e, en, ev). c.in_default.not-Record fields e)
 
 pub returns-then-len-count : goal.returns-then-len-count
 returns-then-len-count c =
     let here = (goal.at.returns-then-len-count c).After-len-count in
-    let values = c.in-Record.values in (
-      refl,
-      λ enc. own_failure wrong_length _ _ c.args.value.now c.args.place (shape here) (omega arith)
-          (inl (refl, (names_in values.items, values_in values.items, (values, c.in-Record.is, refl, refl), λ e. c.if-len-count.true (omega (arith, e, c.len.ensures, values.ok.0, count here, count_values values.items))))),
-    )
+    let values = c.in-Record.values in
+    own_failure wrong_length _ _ c.args.value.now c.args.place (shape here)
+    (names_in values.items, values_in values.items, (values, c.in-Record.is, refl, refl), λ e. c.if-len-count.true (omega (arith, e, c.len.ensures, values.ok.0, count here, count_values values.items)))
 
 pub returns : goal.returns
 returns c =

@@ -13,15 +13,13 @@ shape c = fixed_shape c.args.types.now c.args.types.now c.args.i c.fixed_length_
 
 pub returns-in_default : goal.returns-in_default
 returns-in_default c =
-    (refl, λ enc. own_failure mismatch _ _ c.args.value.now c.args.place (shape (goal.at.returns-in_default c).After-fixed_length_list-list) (omega arith) (inl (refl, λ members e. c.in_default.not-FixedLengthList members e)))
+    own_failure mismatch _ _ c.args.value.now c.args.place (shape (goal.at.returns-in_default c).After-fixed_length_list-list) (λ members e. c.in_default.not-FixedLengthList members e)
 
 pub returns-then-len-from : goal.returns-then-len-from
 returns-then-len-from c =
-    let values = c.in-FixedLengthList.values in (
-      refl,
-      λ enc. own_failure wrong_length _ _ c.args.value.now c.args.place (shape (goal.at.returns-then-len-from c).After-fixed_length_list-list) (omega arith)
-          (inl (refl, (values.items, (values, c.in-FixedLengthList.is, refl), λ e. c.if-len-from.true (omega (arith, e, c.len.ensures, values.ok.0, c.from.ensures))))),
-    )
+    let values = c.in-FixedLengthList.values in
+    own_failure wrong_length _ _ c.args.value.now c.args.place (shape (goal.at.returns-then-len-from c).After-fixed_length_list-list)
+    (values.items, (values, c.in-FixedLengthList.is, refl), λ e. c.if-len-from.true (omega (arith, e, c.len.ensures, values.ok.0, c.from.ensures)))
 
 pub returns : goal.returns
 returns c =

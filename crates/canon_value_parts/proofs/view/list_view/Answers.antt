@@ -9,8 +9,6 @@ use Rattle.canon_value_parts.proofs.view.list_view.Goals as goal
 
 pub returns-in_default : goal.returns-in_default
 returns-in_default c =
-    let t = c.args.types.now in (
-      refl,
-      λ enc. own_failure mismatch (list of_items (shape_of t c.list.result.now.element)) (shape_of t (ty.List c.args.i)) c.args.value.now c.args.place
-          (list_shape t t c.args.i c.list.result.now.element refl c.list.ensures.entry) (omega arith) (inl (refl, λ members e. c.in_default.not-List members e)),
-    )
+    let t = c.args.types.now in
+    own_failure mismatch (list of_items (shape_of t c.list.result.now.element)) (shape_of t (ty.List c.args.i)) c.args.value.now c.args.place
+    (list_shape t t c.args.i c.list.result.now.element refl c.list.ensures.entry) (λ members e. c.in_default.not-List members e)

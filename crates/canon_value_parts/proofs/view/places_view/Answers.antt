@@ -17,16 +17,14 @@ count c = omega (arith, c.len-count.ensures, c.tuple.result.now.types.ok.0, ap l
 
 pub returns-in_default : goal.returns-in_default
 returns-in_default c =
-    (refl, λ enc. own_failure mismatch _ _ c.args.value.now c.args.place (shape (goal.at.returns-in_default c).After-len-count) (omega arith) (inl (refl, λ names vs (members, e, en, ev). c.in_default.not-Tuple members e)))
+    own_failure mismatch _ _ c.args.value.now c.args.place (shape (goal.at.returns-in_default c).After-len-count) (λ names vs (members, e, en, ev). c.in_default.not-Tuple members e)
 
 pub returns-then-len-count : goal.returns-then-len-count
 returns-then-len-count c =
     let here = (goal.at.returns-then-len-count c).After-len-count in
-    let values = c.in-Tuple.values in (
-      refl,
-      λ enc. own_failure wrong_length _ _ c.args.value.now c.args.place (shape here) (omega arith)
-          (inl (refl, (no_names values.items, values.items, (values, c.in-Tuple.is, refl, refl), λ e. c.if-len-count.true (omega (arith, e, c.len.ensures, values.ok.0, count here))))),
-    )
+    let values = c.in-Tuple.values in
+    own_failure wrong_length _ _ c.args.value.now c.args.place (shape here)
+    (no_names values.items, values.items, (values, c.in-Tuple.is, refl, refl), λ e. c.if-len-count.true (omega (arith, e, c.len.ensures, values.ok.0, count here)))
 
 pub returns : goal.returns
 returns c =

@@ -10,4 +10,4 @@ pub returns-in-None : goal.returns-in-None
 returns-in-None c =
     let t = c.args.types.now in
     let (k, e) = c.requires.scalar in
-    (refl, λ enc. own_failure mismatch (scalar k) (shape_of t c.args.ty.now) c.args.value.now c.args.place (scalar_shape t c.args.ty.now k e) (omega arith) (refl, c.in-None.ensures.none refl k e))
+    own_failure mismatch (scalar k) (shape_of t c.args.ty.now) c.args.value.now c.args.place (scalar_shape t c.args.ty.now k e) (c.in-None.ensures.none refl k e)

@@ -16,7 +16,7 @@ use Rattle.canon_value_parts.specs.Words.{LowersTo, PartsLowerTo}
 use Rattle.canon_value_parts.specs.declared.spot.Spot.{Spot}
 use Rattle.canon_val.specs.declared.val.Val.{the_lemmas}
 use Rattle.canon_context.proofs.Moves.{GuestLaws}
-use Rattle.canon_value_parts.proofs.Steps.{blocks_none}
+use Rattle.canon_value_parts.proofs.Steps.{blames_itself, blocks_none}
 use Rattle.canon_value_parts.proofs.Passing.{handles_types}
 use Rattle.canon_value_parts.proofs.PassesOf.{case_passes, members_passes}
 use Rattle.canon_value_parts.proofs.Listing.{row}
@@ -156,7 +156,7 @@ lower_value-returns-in-Err-clause-lowers g t0 c =
     let a = c.args in
     let core = a.cx.now.core.now in
     let L : GuestLaws _ = record { seen = g.G.Guest.seen; moves = g.G.Guest.moves; stays = g.met.G.Guest.stays; goes_on = g.met.G.Guest.goes_on } in
-    let (is, blames) = rw c.types.ensures at c.in-Err.ensures in
+    let (is, blames) = blames_itself (shape_of (component_types core) a.ty) a.value.now a.from.place (omega arith) c.in-Err.fault (rw c.types.ensures at c.in-Err.ensures) in
     value_refused L a.cx.now.options core a.dst.now a.from (shape_of (component_types core) a.ty) a.value.now c.in-Err.fault c.requires.small is (blames (encoding_by core a.cx.now.options))
 
 -- ---- a case

@@ -7,7 +7,7 @@ pub loop-k-init : goal.loop-k-init
 loop-k-init c = clears_none c.args.from.word c.args.dst.now
 
 pub bounds-dst-k : goal.bounds-dst-k
-bounds-dst-k c = omega (arith, c.loop-k.invariant.same_length, c.requires.room, c.loop-k-test.true)
+bounds-dst-k c = omega (arith, c.loop-k.invariant.written.stays.same_length, c.requires.room, c.loop-k-test.true)
 
 pub loop-k-preserved : goal.loop-k-preserved
 loop-k-preserved c = clears_one c.args.from.word c.loop-k.k c.u32.result c.args.dst.now c.loop-k.dst c.loop-k.auto.k (omega (arith, c.loop-k.auto.dst, c.requires.room, c.loop-k-test.true)) c.u32.ensures c.loop-k.invariant

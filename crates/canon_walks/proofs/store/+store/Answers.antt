@@ -1,5 +1,5 @@
 use Rattle.canon_plan.proofs.Lookups.{begins_here, ends_here}
-use Rattle.canon_value_parts.proofs.Steps.{blocks_none}
+use Rattle.canon_value_parts.proofs.Steps.{blames_itself, blocks_none}
 use Rattle.std.proofs.Common.{Err, List, Ok, Result, ap, ap₂, arith, false, length, refl, rules, subst, sym, ℕ, ◌%◌, ◌*◌, ◌+◌, ◌-◌, ◌<◌, ◌^◌, ◌∙◌, ◌≡◌, ◌≤◌, ◌⊎◌}
 use Rattle.canon_lowering.specs.Storing.{IsPair, narrow}
 use Rattle.canon_model.specs.Memory.{num}
@@ -339,5 +339,5 @@ store_value-returns-in-Err-clause-stores g t0 c =
     let a = c.args in
     let core = a.cx.now.core.now in
     let L : GuestLaws _ = record { seen = g.G.Guest.seen; moves = g.G.Guest.moves; stays = g.met.G.Guest.stays; goes_on = g.met.G.Guest.goes_on } in
-    let (is, blames) = rw c.types.ensures at c.in-Err.ensures in
+    let (is, blames) = blames_itself (shape_of (component_types core) a.ty) a.value.now a.place (omega arith) c.in-Err.fault (rw c.types.ensures at c.in-Err.ensures) in
     value_refused L a.cx.now.options core (shape_of (component_types core) a.ty) a.at a.value.now a.place c.in-Err.fault c.requires.small is (blames (encoding_by core a.cx.now.options))
