@@ -11,7 +11,7 @@ use Rattle.canon_json.specs.declared.error.ScriptError.{ScriptError}
 use Rattle.canon_json.specs.declared.error.ScriptError.TheVariants as refused
 use Rattle.canon_model.specs.Shape.{Name}
 use Rattle.canon_val.specs.declared.val.Val.{Val}
-use Rattle.canon_literals.specs.Literals.{Literal, enum, fields, fields_of, fixed, flags, list, literal_view, literals_of, pairs, pairs_of, text, tuple}
+use Rattle.canon_literals.specs.Literals.{Literal, enum, fields, fields_of, fixed, flags, list, literal_view, literals_of, pairs, literal_pairs, text, tuple}
 use Rattle.canon_script.specs.Values.{field_of, fields_in, pairs_in, value_kind_named, only_char, scalar_by, value_by, value_of, values_of}
 use Rattle.canon_script.specs.declared.kinds.ValueKind.{ValueKind}
 use Rattle.canon_script.specs.declared.kinds.ValueKind.TheVariants as kind
@@ -148,7 +148,7 @@ pub flags_by : (d : Data) → value_by d kind.Flags ≡ option_map flags (each_o
 flags_by (array ds) = refl
 flags_by d = refl
 
-pub map_by : (d : Data) → value_by d kind.Map ≡ option_map (λ ps. pairs (pairs_of ps)) (option_and_then pairs_in (as_array d))
+pub map_by : (d : Data) → value_by d kind.Map ≡ option_map (λ ps. pairs (literal_pairs ps)) (option_and_then pairs_in (as_array d))
 map_by (array ds) = refl
 map_by d = refl
 

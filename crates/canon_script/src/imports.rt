@@ -175,7 +175,7 @@ impl Reader for Answers {
 
     ghost seen = { spec.answer_view };
 
-    ghost reads = { λ r. spec.answer_of r.results };
+    ghost reads = { λ r. spec.host_answer_of r.results };
 
     fn read(&self, alloc: Global, v: &Value) -> Result<Option<Vec<Val>>, ScriptError> {
         answer_of(alloc, v, self.results)
@@ -184,7 +184,7 @@ impl Reader for Answers {
 
 /// An answer: as many values as there are results, or a refusal.
 fn answer_of(alloc: Global, v: &Value, results: usize) -> Result<Option<Vec<Val>>, ScriptError>
-    ensures { Gives spec.answer_view result (spec.answer_of results (view v.now)) }
+    ensures { Gives spec.answer_view result (spec.host_answer_of results (view v.now)) }
 {
     match v {
         Value::String(word) if word.as_str() == "refuse" => Ok(None),
@@ -206,7 +206,7 @@ fn results_of(alloc: Global, v: &Value, results: usize) -> Result<Option<Vec<Val
 
 /// A call on the handles of a resource type.
 fn builtin_of(builder: &mut TypeBuilder, v: &Value) -> Option<Import>
-    ensures import { result ≡ spec.builtin_of builder.old (view v.now) }
+    ensures import { result ≡ spec.builtin_import_of builder.old (view v.now) }
     ensures same { builder.new ≡ builder.old }
 {
     if !has_len(v, 2) {

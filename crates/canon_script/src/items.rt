@@ -5,7 +5,7 @@ ghost use Rattle.std.specs.Option.{option_map_or};
 ghost use Rattle.serde_json.specs.Find.{as_object};
 ghost use Rattle.serde_json.specs.View.{view};
 ghost use Rattle.canon_json.specs.Json.{Gives, u32_of, word_of};
-ghost use Rattle.canon_script.specs.Imports.{result_count};
+ghost use Rattle.canon_script.specs.Imports.{func_result_count};
 ghost use Rattle.canon_script.specs.Numbers.{if_below};
 ghost use Rattle.canon_script.specs.Script as spec;
 ghost use Rattle.canon_script.specs.Typed.{typed_view};
@@ -171,7 +171,7 @@ fn optional_call_members(v: &Value) -> usize
 
 /// The number of a function's results, if there is such a function.
 fn result_count(types: &ComponentTypes, func: u32) -> Option<u64>
-    ensures { result ≡ result_count types.now func }
+    ensures { result ≡ func_result_count types.now func }
 {
     let func = TypeFuncIndex::from_u32(func);
     if !types.contains_func(func) {

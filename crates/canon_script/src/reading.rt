@@ -93,7 +93,7 @@ fn settings_of(v: &Value) -> Option<Settings>
 }
 
 fn memory_len_of(v: Option<&Value>) -> Option<u64>
-    ensures { result ≡ spec.memory_len_of (option_map (λ x. view x.now) v.entry) }
+    ensures { result ≡ spec.memory_setting (option_map (λ x. view x.now) v.entry) }
 {
     let Some(v) = v else {
         return Some(65536);
@@ -105,7 +105,7 @@ fn memory_len_of(v: Option<&Value>) -> Option<u64>
 }
 
 fn heap_of(memory: u64, v: Option<&Value>) -> Option<u64>
-    ensures { result ≡ spec.heap_of memory (option_map (λ x. view x.now) v.entry) }
+    ensures { result ≡ spec.heap_setting memory (option_map (λ x. view x.now) v.entry) }
 {
     let heap = match v {
         Some(v) => v.as_u64()?,
@@ -115,7 +115,7 @@ fn heap_of(memory: u64, v: Option<&Value>) -> Option<u64>
 }
 
 fn fuel_of(v: Option<&Value>) -> Option<u64>
-    ensures { result ≡ spec.fuel_of (option_map (λ x. view x.now) v.entry) }
+    ensures { result ≡ spec.fuel_setting (option_map (λ x. view x.now) v.entry) }
 {
     match v {
         Some(v) => v.as_u64(),
@@ -124,7 +124,7 @@ fn fuel_of(v: Option<&Value>) -> Option<u64>
 }
 
 fn handles_of(v: Option<&Value>) -> Option<u64>
-    ensures { result ≡ spec.handles_of (option_map (λ x. view x.now) v.entry) }
+    ensures { result ≡ spec.handles_setting (option_map (λ x. view x.now) v.entry) }
 {
     let Some(v) = v else {
         return Some(MAX_HANDLES);
@@ -136,7 +136,7 @@ fn handles_of(v: Option<&Value>) -> Option<u64>
 }
 
 fn turns_of(v: Option<&Value>) -> Option<u64>
-    ensures { result ≡ spec.turns_of (option_map (λ x. view x.now) v.entry) }
+    ensures { result ≡ spec.turns_setting (option_map (λ x. view x.now) v.entry) }
 {
     let Some(v) = v else {
         return Some(100);
@@ -148,7 +148,7 @@ fn turns_of(v: Option<&Value>) -> Option<u64>
 }
 
 fn encoding_of(v: Option<&Value>) -> Option<StringEncoding>
-    ensures { result ≡ spec.encoding_of (option_map (λ x. view x.now) v.entry) }
+    ensures { result ≡ spec.encoding_setting (option_map (λ x. view x.now) v.entry) }
 {
     let Some(v) = v else {
         return Some(StringEncoding::Utf8);

@@ -7,7 +7,7 @@ ghost use Rattle.serde_json.specs.View.{view};
 ghost use Rattle.canon_json.specs.Json.{Gives, each_of};
 ghost use Rattle.canon_json.specs.declared.error.ScriptError.TheVariants as refused;
 ghost use Rattle.canon_model.specs.Shape.{Name};
-ghost use Rattle.canon_literals.specs.Literals.{Literal, fields_view, literal_view, literals_view, numbered, pair_view, pairs_view, payload_view, variant, with_payload};
+ghost use Rattle.canon_literals.specs.Literals.{Literal, fields_view, literal_view, literals_view, numbered_resource, pair_view, pairs_view, payload_view, variant, with_payload};
 ghost use Rattle.canon_script.specs.Numbers as numbers;
 ghost use Rattle.canon_script.specs.Values as spec;
 
@@ -346,7 +346,7 @@ fn scalar_by(kind: ValueKind, v: &Value) -> Option<Val>
 
 /// The resource of a number, as a script's values keep it: a borrow that the host made of the number.
 fn numbered(n: u32) -> ResourceAny
-    ensures { result ≡ numbered n }
+    ensures { result ≡ numbered_resource n }
 {
     ResourceAny::new_borrow(n, ResourceType::host_dynamic(0))
 }

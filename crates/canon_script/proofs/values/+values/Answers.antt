@@ -3,7 +3,7 @@ use Rattle.serde_json.specs.Find.{as_array, as_str}
 use Rattle.serde_json.specs.View.{view}
 use Rattle.canon_json.specs.Json.{Gives, each_of}
 use Rattle.canon_val.specs.declared.val.Val.TheVariants as val
-use Rattle.canon_literals.specs.Literals.{Literal, enum, fields_view, fixed, flags, list, literal_view, literals_of, literals_view, option, pair_view, pairs, pairs_of, pairs_view, payload_view, text, tuple}
+use Rattle.canon_literals.specs.Literals.{Literal, enum, fields_view, fixed, flags, list, literal_view, literals_of, literals_view, option, pair_view, pairs, literal_pairs, pairs_view, payload_view, text, tuple}
 use Rattle.canon_script.specs.Values.{optional_of, pair_of, pairs_in, value_by, value_of, values_of}
 use Rattle.canon_script.specs.declared.kinds.ValueKind.TheVariants as kind
 use Rattle.canon_script.proofs.Cases.{case_given, case_refused, first_in_two, key_refused, option_by, outcome_by, pair_given, payload_within, result_reads, value_refused, variant_by, variant_reads}
@@ -94,7 +94,7 @@ value_of-returns-in-List t c =
 pub value_of-returns-in-Map : goal.value_of-returns-in-Map
 value_of-returns-in-Map t c =
     let form = view c.in-Some.form.now in
-    made_of val.Map (λ pairs. pairs_view pairs.items) (λ ps. pairs (pairs_of ps)) (option_and_then pairs_in (as_array form)) (value_of (view c.args.v.now)) c.pairs_of.result c.map-in-Map.result
+    made_of val.Map (λ pairs. pairs_view pairs.items) (λ ps. pairs (literal_pairs ps)) (option_and_then pairs_in (as_array form)) (value_of (view c.args.v.now)) c.pairs_of.result c.map-in-Map.result
     (value_is (view c.args.v.now) form c.in-Some.name.now c.in-Some-value_kind_named.kind c.in-Some.ensures c.in-Some-value_kind_named.ensures ∙ (ap (value_by form) c.in-Map.is ∙ map_by form))
     literal-Map c.pairs_of.ensures c.map-in-Map.ensures.cases
 
