@@ -3,16 +3,16 @@ use Rattle.std.proofs.Common.{◌≡◌, ◌<◌, ◌≤◌, ◌+◌, ◌++◌, 
 use Rattle.std.proofs.Math.ListN.{drop_of_length-le, get_or}
 use Rattle.std.proofs.lemmas.List.{at_drop_more}
 use Rattle.serde_json.specs.Data.{Data, null, boolean, number, string, array, object, Items, no_items, item, no_members, member, depth, items_depth}
-use Rattle.serde_json.specs.Find.{as_array, as_object, as_str}
+use Rattle.serde_json.specs.Find.{as_array, as_str}
 use Rattle.serde_json.specs.View.{items_view, view}
 use Rattle.serde_json.specs.declared.value.Value.{Value}
-use Rattle.canon_json.specs.Json.{Gives, each_of, only_member, two}
+use Rattle.canon_json.specs.Json.{Gives, each_of, two}
 use Rattle.canon_json.specs.declared.error.ScriptError.{ScriptError}
 use Rattle.canon_json.specs.declared.error.ScriptError.TheVariants as refused
 use Rattle.canon_model.specs.Shape.{Name}
 use Rattle.canon_val.specs.declared.val.Val.{Val}
 use Rattle.canon_literals.specs.Literals.{Literal, enum, fields, fields_of, fixed, flags, list, literal_view, literals_of, pairs, literal_pairs, text, tuple}
-use Rattle.canon_script.specs.Values.{field_of, fields_in, pairs_in, value_kind_named, only_char, scalar_by, value_by, value_of, values_of}
+use Rattle.canon_script.specs.Values.{field_of, fields_in, kind_and_form, pairs_in, value_kind_named, only_char, scalar_by, value_by, value_of, values_of}
 use Rattle.canon_script.specs.declared.kinds.ValueKind.{ValueKind}
 use Rattle.canon_script.specs.declared.kinds.ValueKind.TheVariants as kind
 
@@ -60,19 +60,26 @@ in_two (array (item f (item g no_items))) a b e = let same : (a, b) ≡ (f, g) =
 in_two (array (item f (item g (item h ds)))) a b e = absurd (cc)
 in_two (object ms) a b e = absurd (cc)
 
-member_are : (p q : Name × Data) → Some p ≡ Some q → p ≡ q
-member_are p q e = cc
+form_are : (p q : ValueKind × Data) → Some p ≡ Some q → p ≡ q
+form_are p q e = cc
 
--- the value of the only member is less deep
-pub in_member : (d f : Data) (name : Name) → Some (name, f) ≡ option_and_then only_member (as_object d) → depth f < depth d
-in_member null f name e = absurd (cc)
-in_member (boolean b) f name e = absurd (cc)
-in_member (number n) f name e = absurd (cc)
-in_member (string s) f name e = absurd (cc)
-in_member (array ds) f name e = absurd (cc)
-in_member (object no_members) f name e = absurd (cc)
-in_member (object (member k d no_members)) f name e = omega (arith, ap (λ (p : Name × Data). depth p.1) (member_are (name, f) (k, d) e))
-in_member (object (member k d (member l x ms))) f name e = absurd (cc)
+abbrev kind_with : Data → ValueKind → ValueKind × Data
+kind_with d k = (k, d)
+
+form_is : (o : Option ValueKind) (d f : Data) (k : ValueKind) → Some (k, f) ≡ option_map (λ j. kind_with d j) o → f ≡ d
+form_is None d f k e = absurd (cc)
+form_is (Some j) d f k e = ap (λ (p : ValueKind × Data). p.1) (form_are (k, f) (j, d) e)
+
+-- what the value of the only member is read from is less deep
+pub in_form : (d f : Data) (k : ValueKind) → Some (k, f) ≡ kind_and_form d → depth f < depth d
+in_form null f k e = absurd (cc)
+in_form (boolean b) f k e = absurd (cc)
+in_form (number n) f k e = absurd (cc)
+in_form (string s) f k e = absurd (cc)
+in_form (array ds) f k e = absurd (cc)
+in_form (object no_members) f k e = absurd (cc)
+in_form (object (member name d no_members)) f k e = omega (arith, ap depth (form_is (value_kind_named name) d f k e))
+in_form (object (member name d (member l x ms))) f k e = absurd (cc)
 
 -- ---- arrays of values
 
@@ -255,27 +262,34 @@ by_scalar (array ds) kind.Flags other = absurd (other.no_flags refl)
 by_scalar (array ds) kind.FixedLengthList other = absurd (other.no_fixed refl)
 by_scalar d k other = refl
 
-value_at : (d f : Data) (name : List ℕ) → Some (name, f) ≡ option_and_then only_member (as_object d) → value_of d ≡ option_and_then (value_by f) (value_kind_named name)
-value_at null f name e = absurd (cc)
-value_at (boolean b) f name e = absurd (cc)
-value_at (number n) f name e = absurd (cc)
-value_at (string s) f name e = absurd (cc)
-value_at (array ds) f name e = absurd (cc)
-value_at (object no_members) f name e = absurd (cc)
-value_at (object (member l d no_members)) f name e =
-    ap (λ (m : List ℕ × Data). option_and_then (value_by m.1) (value_kind_named m.0)) (sym (member_is (name, f) (l, d) e))
-  where
-    member_is : (p q : List ℕ × Data) → Some p ≡ Some q → p ≡ q
-    member_is p q h = cc
-value_at (object (member l d (member m g ms))) f name e = absurd (cc)
+formed : (o : Option ValueKind) (d f : Data) (k : ValueKind) → Some (k, f) ≡ option_map (λ j. kind_with d j) o → option_and_then (value_by d) o ≡ value_by f k
+formed None d f k e = absurd (cc)
+formed (Some j) d f k e = ap (λ (p : ValueKind × Data). value_by p.1 p.0) (sym (form_are (k, f) (j, d) e))
 
-pub value_is : (d f : Data) (name : List ℕ) (k : ValueKind) → Some (name, f) ≡ option_and_then only_member (as_object d) → Some k ≡ value_kind_named name → value_of d ≡ value_by f k
-value_is d f name k e is = value_at d f name e ∙ ap (option_and_then (value_by f)) (sym is)
+pub value_is : (d f : Data) (k : ValueKind) → Some (k, f) ≡ kind_and_form d → value_of d ≡ value_by f k
+value_is null f k e = absurd (cc)
+value_is (boolean b) f k e = absurd (cc)
+value_is (number n) f k e = absurd (cc)
+value_is (string s) f k e = absurd (cc)
+value_is (array ds) f k e = absurd (cc)
+value_is (object no_members) f k e = absurd (cc)
+value_is (object (member name d no_members)) f k e = formed (value_kind_named name) d f k e
+value_is (object (member name d (member l x ms))) f k e = absurd (cc)
 
--- no kind has this name
-pub no_kind : (d f : Data) (name : List ℕ) (o : Option ValueKind) → Some (name, f) ≡ option_and_then only_member (as_object d) → o ≡ value_kind_named name → ((k : ValueKind) → ¬ (o ≡ Some k)) → value_of d ≡ None
-no_kind d f name None e is none = value_at d f name e ∙ ap (option_and_then (value_by f)) (sym is)
-no_kind d f name (Some k) e is none = absurd (none k refl)
+unformed : (o : Option ValueKind) (d : Data) → None ≡ option_map (λ j. kind_with d j) o → option_and_then (value_by d) o ≡ None
+unformed None d e = refl
+unformed (Some j) d e = absurd (cc)
 
-pub scalar_is : (d f : Data) (name : List ℕ) (k : ValueKind) → Some (name, f) ≡ option_and_then only_member (as_object d) → Some k ≡ value_kind_named name → IsOther k → scalar_by k f ≡ value_of d
-scalar_is d f name k e is other = sym (value_is d f name k e is ∙ by_scalar f k other)
+-- there is no only member, or no kind has its name
+pub no_value : (d : Data) → None ≡ kind_and_form d → value_of d ≡ None
+no_value null e = refl
+no_value (boolean b) e = refl
+no_value (number n) e = refl
+no_value (string s) e = refl
+no_value (array ds) e = refl
+no_value (object no_members) e = refl
+no_value (object (member name d no_members)) e = unformed (value_kind_named name) d e
+no_value (object (member name d (member l x ms))) e = refl
+
+pub scalar_is : (d : Data) (k : ValueKind) → IsOther k → scalar_by k d ≡ value_by d k
+scalar_is d k other = sym (by_scalar d k other)

@@ -37,12 +37,26 @@ pub fn value_of_json(alloc: Global, v: &Value) -> Result<Val, ScriptError>
 fn value_of(alloc: Global, v: &Value) -> Result<Val, ScriptError>
     ensures { Gives literal_view result (spec.value_of (view v.now)) }
 {
-    let Some((name, form)) = only_member(v) else {
-        return Err(ScriptError::BadScript);
-    };
-    let Some(kind) = value_kind_named(name) else {
-        return Err(ScriptError::BadScript);
-    };
+    match kind_and_form(v) {
+        Some((kind, form)) => value_by(alloc, kind, form),
+        None => Err(ScriptError::BadScript),
+    }
+}
+
+/// The kind that the only member names, and what a value of it is read from.
+fn kind_and_form(v: &Value) -> Option<(ValueKind, &Value)>
+    ensures { option_map (λ p. (p.0, view p.1.now)) result ≡ spec.kind_and_form (view v.now) }
+{
+    let (name, form) = only_member(v)?;
+    let kind = value_kind_named(name)?;
+    Some((kind, form))
+}
+
+/// A value of this kind.
+#[cycle(values)]
+fn value_by(alloc: Global, kind: ValueKind, form: &Value) -> Result<Val, ScriptError>
+    ensures { Gives literal_view result (spec.value_by (view form.now) kind) }
+{
     match kind {
         ValueKind::String => name_of(alloc, form).map(Val::String),
         ValueKind::List => values_of(alloc, form).map(Val::List),
@@ -238,7 +252,7 @@ fn result_named(name: &str, payload: Option<Box<Val>>) -> Result<Val, ScriptErro
 
 /// One value more.
 fn keep(values: &mut Vec<Val>, value: Val) -> Result<(), ScriptError>
-    ensures ok { OnOk result (values.new.items ≡ values.old.items ++ value ∷ []) }
+    ensures ok { OnOk result (literals_view values.new.items ≡ literals_view values.old.items ++ literal_view value ∷ []) }
     ensures cause { IfErr result (λ e. e ≡ refused.OutOfMemory) }
 {
     values.push(value)?;
