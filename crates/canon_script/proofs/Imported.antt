@@ -25,6 +25,15 @@ use Rattle.canon_literals.specs.Literals.{Literal}
 use Rattle.canon_script.specs.Numbers.{if_below}
 use Rattle.canon_script.specs.Values.{plain_value_of}
 
+-- ---- functions of the host
+
+-- a function of the host is of what its members were read as
+pub host_given : (types : List InterfaceType) (d : Data) (params results : List InterfaceType) (answers : List HostAnswer) → option_and_then (each_of (reference_of types)) (get (codes "params") d) ≡ Some params
+    → option_and_then (each_of (reference_of types)) (get (codes "results") d) ≡ Some results
+    → option_and_then (each_of (host_answer_of (length results))) (get (codes "answers") d) ≡ Some answers
+    → host_of types d ≡ Some (host_with params results answers)
+host_given types d params results answers p r a = rw (p, r, a) refl
+
 -- ---- lists that grow
 
 kept : {X : Type 0} (xs ys : List X) (n : ℕ) (x : X) → slice_get xs n ≡ Some x → slice_get (xs ++ ys) n ≡ Some x

@@ -53,12 +53,12 @@ reallocs_narrow (Some d) os e = option_and_then_some (each ordered_of) (as_array
 
 called : (count : ℕ) (d : Data) (func results : ℕ) (c : ScriptCall) → func < count → call_of_func d func results ≡ Some c → ItemStands count (call_item c)
 called count d func results c known e =
-    option_and_then_some _ (option_and_then (each_of value_of) (get (codes "params") d)) c e (λ params s1 e1.
-    option_and_then_some _ (option_and_then (each_of action_of) (get (codes "guest") d)) c e1 (λ guest s2 e2.
-    option_and_then_some _ (slots_of results (get (codes "slots") d)) c e2 (λ slots s3 e3.
-    option_and_then_some _ (reallocs_of (get (codes "reallocs") d)) c e3 (λ reallocs s4 e4.
-    by_map (call_with func params guest slots reallocs) (option_map_or as_bool (get (codes "post_trap") d) (Some false)) c e4 (λ post s5 is.
-    subst (λ (x : ScriptCall). ItemStands count (call_item x)) is (known, reallocs_narrow (get (codes "reallocs") d) reallocs s4))))))
+    option_and_then_some _ (slots_of results (get (codes "slots") d)) c e (λ slots s1 e1.
+    option_and_then_some _ (option_map_or as_bool (get (codes "post_trap") d) (Some false)) c e1 (λ post s2 e2.
+    option_and_then_some _ (option_and_then (each_of value_of) (get (codes "params") d)) c e2 (λ params s3 e3.
+    option_and_then_some _ (option_and_then (each_of action_of) (get (codes "guest") d)) c e3 (λ guest s4 e4.
+    by_map (λ reallocs. call_with func params guest slots reallocs post) (reallocs_of (get (codes "reallocs") d)) c e4 (λ reallocs s5 is.
+    subst (λ (x : ScriptCall). ItemStands count (call_item x)) is (known, reallocs_narrow (get (codes "reallocs") d) reallocs s5))))))
 
 call_stands : (t : Table) (count : ℕ) (d : Data) (c : ScriptCall) → call_item_of t count d ≡ Some c → ItemStands count (call_item c)
 call_stands t count d c e =
@@ -69,11 +69,11 @@ call_stands t count d c e =
 
 typed_called : (count : ℕ) (d : Data) (func : ℕ) (c : ScriptTyped) → func < count → typed_of_func d func ≡ Some c → ItemStands count (typed_item c)
 typed_called count d func c known e =
-    option_and_then_some _ (typed_params_of d) c e (λ params s1 e1.
-    option_and_then_some _ (option_and_then (each_of action_of) (get (codes "guest") d)) c e1 (λ guest s2 e2.
-    option_and_then_some _ (reallocs_of (get (codes "reallocs") d)) c e2 (λ reallocs s3 e3.
-    by_map (typed_with func params guest reallocs) (option_map_or as_bool (get (codes "post_trap") d) (Some false)) c e3 (λ post s4 is.
-    subst (λ (x : ScriptTyped). ItemStands count (typed_item x)) is (known, reallocs_narrow (get (codes "reallocs") d) reallocs s3)))))
+    option_and_then_some _ (option_map_or as_bool (get (codes "post_trap") d) (Some false)) c e (λ post s1 e1.
+    option_and_then_some _ (typed_params_of d) c e1 (λ params s2 e2.
+    option_and_then_some _ (option_and_then (each_of action_of) (get (codes "guest") d)) c e2 (λ guest s3 e3.
+    by_map (λ reallocs. typed_with func params guest reallocs post) (reallocs_of (get (codes "reallocs") d)) c e3 (λ reallocs s4 is.
+    subst (λ (x : ScriptTyped). ItemStands count (typed_item x)) is (known, reallocs_narrow (get (codes "reallocs") d) reallocs s4)))))
 
 typed_stands : (count : ℕ) (d : Data) (c : ScriptTyped) → typed_item_of count d ≡ Some c → ItemStands count (typed_item c)
 typed_stands count d c e =

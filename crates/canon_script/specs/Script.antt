@@ -65,12 +65,12 @@ optional_call_members d = there (get (codes "slots") d) + (there (get (codes "re
 -- a call of the function of this number, which has so many results
 abbrev pub call_of_func : Data → ℕ → ℕ → Option ScriptCall
 call_of_func d func results =
-    option_and_then (λ params. option_and_then (λ guest. option_and_then (λ slots. option_and_then (λ reallocs. option_map (call_with func params guest slots reallocs)
-    (option_map_or as_bool (get (codes "post_trap") d) (Some false)))
+    option_and_then (λ slots. option_and_then (λ post_trap. option_and_then (λ params. option_and_then (λ guest. option_map (λ reallocs. call_with func params guest slots reallocs post_trap)
     (reallocs_of (get (codes "reallocs") d)))
-    (slots_of results (get (codes "slots") d)))
     (option_and_then (each_of action_of) (get (codes "guest") d)))
-    (option_and_then (each_of value_of) (get (codes "params") d))
+    (option_and_then (each_of value_of) (get (codes "params") d)))
+    (option_map_or as_bool (get (codes "post_trap") d) (Some false)))
+    (slots_of results (get (codes "slots") d))
 
 -- an object that calls one of the first functions of the table, of which there are so many
 abbrev pub call_item_of : Table → ℕ → Data → Option ScriptCall
@@ -89,18 +89,18 @@ optional_typed_members d = there (get (codes "reallocs") d) + there (get (codes 
 -- the parameters of a typed call, by the number of its signature
 abbrev pub typed_params_of : Data → Option TypedValues
 typed_params_of d =
-    option_and_then (λ xs. option_and_then (λ signature. typed_values signature xs)
-    (option_and_then word_of (get (codes "typed") d)))
-    (option_and_then (each_of value_of) (get (codes "params") d))
+    option_and_then (λ signature. option_and_then (typed_values signature)
+    (option_and_then (each_of value_of) (get (codes "params") d)))
+    (option_and_then word_of (get (codes "typed") d))
 
 -- a typed call of the function of this number
 abbrev pub typed_of_func : Data → ℕ → Option ScriptTyped
 typed_of_func d func =
-    option_and_then (λ params. option_and_then (λ guest. option_and_then (λ reallocs. option_map (typed_with func params guest reallocs)
-    (option_map_or as_bool (get (codes "post_trap") d) (Some false)))
+    option_and_then (λ post_trap. option_and_then (λ params. option_and_then (λ guest. option_map (λ reallocs. typed_with func params guest reallocs post_trap)
     (reallocs_of (get (codes "reallocs") d)))
     (option_and_then (each_of action_of) (get (codes "guest") d)))
-    (typed_params_of d)
+    (typed_params_of d))
+    (option_map_or as_bool (get (codes "post_trap") d) (Some false))
 
 -- an object that calls one of the first functions of the table so, of which there are so many
 abbrev pub typed_item_of : ℕ → Data → Option ScriptTyped

@@ -13,10 +13,11 @@ ghost use Rattle.canon_types.specs.declared.types.InterfaceType.{InterfaceType};
 ghost use Rattle.canon_script.specs.Imports as spec;
 ghost use Rattle.canon_script.specs.Values.{plain_value_of};
 
+use crate::fields::u32_in;
 use crate::values::PlainValues;
 use canon_context::Import;
 use canon_indices::{OptionsIndex, TypeFuncIndex};
-use canon_json::{Reader, ScriptError, each_of, has_len, u32_of};
+use canon_json::{Reader, ScriptError, each_of, has_len};
 use canon_layout::type_of_json;
 use canon_types::{InterfaceType, TypeBuilder, TypeError, TypeResourceTableIndex};
 use canon_val::Val;
@@ -212,7 +213,7 @@ fn builtin_of(builder: &mut TypeBuilder, v: &Value) -> Option<Import>
     if !has_len(v, 2) {
         return None;
     }
-    let resource = known_resource(builder, u32_of(v.get("resource")?)?)?;
+    let resource = known_resource(builder, u32_in(v.get("resource"))?)?;
     builtin_by(resource, v.get("builtin")?.as_str()?)
 }
 

@@ -7,6 +7,7 @@ ghost use Rattle.canon_literals.specs.Literals.{Literal, literal_view, literals_
 ghost use Rattle.canon_script.specs.Typed as spec;
 
 use crate::script::TypedParams;
+use crate::values::keep;
 use canon_json::ScriptError;
 use canon_val::Val;
 use std::alloc::Global;
@@ -188,18 +189,9 @@ fn each_pair(alloc: Global, items: &[Val]) -> Result<Vec<(String, u64)>, ScriptE
     let mut pairs = Vec::new(alloc);
     for item in items {
         let pair = pair_in(alloc, item)?;
-        keep_pair(&mut pairs, pair)?;
+        keep(&mut pairs, pair)?;
     }
     Ok(pairs)
-}
-
-/// One pair more.
-fn keep_pair(pairs: &mut Vec<(String, u64)>, pair: (String, u64)) -> Result<(), ScriptError>
-    ensures ok { OnOk result (map spec.name_view pairs.new.items ≡ map spec.name_view pairs.old.items ++ spec.name_view pair ∷ []) }
-    ensures cause { IfErr result (λ e. e ≡ refused.OutOfMemory) }
-{
-    pairs.push(pair)?;
-    Ok(())
 }
 
 /// A tuple of a text and a `u64`.

@@ -25,8 +25,16 @@ pub fn value_of_json(alloc: Global, v: &Value) -> Result<Val, ScriptError>
     ensures { Gives literal_view result (spec.plain_value_of (view v.now)) }
 {
     let value = value_of(alloc, v)?;
-    match is_plain(alloc, &value) {
-        Ok(true) => Ok(value),
+    refuse_resources(alloc, &value)?;
+    Ok(value)
+}
+
+/// Refuses a value in which a resource stands.
+fn refuse_resources(alloc: Global, value: &Val) -> Result<(), ScriptError>
+    ensures { Gives (λ _. literal_view value.now) result (spec.if_plain (literal_view value.now)) }
+{
+    match is_plain(alloc, value) {
+        Ok(true) => Ok(()),
         Ok(false) => Err(ScriptError::BadScript),
         Err(OutOfMemory) => Err(ScriptError::OutOfMemory),
     }
@@ -126,7 +134,7 @@ fn pairs_of(alloc: Global, v: &Value) -> Result<Vec<(Val, Val)>, ScriptError>
     let mut pairs = Vec::new(alloc);
     for item in items {
         match pair_of(alloc, item) {
-            Ok(pair) => keep_pair(&mut pairs, pair)?,
+            Ok(pair) => keep(&mut pairs, pair)?,
             Err(e) => return Err(e),
         }
     }
@@ -250,21 +258,12 @@ fn result_named(name: &str, payload: Option<Box<Val>>) -> Result<Val, ScriptErro
     }
 }
 
-/// One value more.
-fn keep(values: &mut Vec<Val>, value: Val) -> Result<(), ScriptError>
-    ensures ok { OnOk result (literals_view values.new.items ≡ literals_view values.old.items ++ literal_view value ∷ []) }
+/// One item more.
+pub(crate) fn keep<T: Drop>(row: &mut Vec<T>, item: T) -> Result<(), ScriptError>
+    ensures ok { OnOk result (row.new.items ≡ row.old.items ++ item ∷ []) }
     ensures cause { IfErr result (λ e. e ≡ refused.OutOfMemory) }
 {
-    values.push(value)?;
-    Ok(())
-}
-
-/// One pair more.
-fn keep_pair(pairs: &mut Vec<(Val, Val)>, pair: (Val, Val)) -> Result<(), ScriptError>
-    ensures ok { OnOk result (pairs_view pairs.new.items ≡ pairs_view pairs.old.items ++ pair_view pair ∷ []) }
-    ensures cause { IfErr result (λ e. e ≡ refused.OutOfMemory) }
-{
-    pairs.push(pair)?;
+    row.push(item)?;
     Ok(())
 }
 
@@ -279,8 +278,7 @@ fn keep_field(
     ensures cause { IfErr result (λ e. e ≡ refused.OutOfMemory) }
 {
     let name = String::from_str(alloc, name)?;
-    fields.push((name, value))?;
-    Ok(())
+    keep(fields, (name, value))
 }
 
 /// A text, or a name.
