@@ -9,7 +9,7 @@ use Rattle.canon_memory.specs.Realloc.{ReallocLaw}
 use Rattle.canon_memory.specs.declared.error.GuestFault.{GuestFault}
 use Rattle.canon_memory.specs.declared.error.GuestFault.TheVariants as fault
 use Rattle.canon_memory.specs.declared.event.Event.{Event}
-use Rattle.canon_example_guests.specs.Arena.{Answers, Counts, Starts}
+use Rattle.canon_example_guests.specs.Arena.{CountsAnswer, Counts, Starts}
 use Rattle.canon_example_guests.specs.declared.arena.Arena.{Arena}
 
 abbrev marked : Mark
@@ -52,7 +52,7 @@ module _ (a b : Arena) (m n : List ℕ) (same : length n ≡ length m) where
 
 -- and where it stays
 module _ (a b : Arena) (m n : List ℕ) (same : n ≡ m) where
-  pub reallocates : (c : Call) (r : Result ℕ GuestFault) → Answers r a b → IfOk r (λ at. ReallocLaw a.blocks.live b.blocks.live m n c at) → Reallocates (moment (seen_of a) m) (moment (seen_of b) n) c r
+  pub reallocates : (c : Call) (r : Result ℕ GuestFault) → CountsAnswer r a b → IfOk r (λ at. ReallocLaw a.blocks.live b.blocks.live m n c at) → Reallocates (moment (seen_of a) m) (moment (seen_of b) n) c r
   reallocates c (Ok at) e law = (
     marked,
     record {

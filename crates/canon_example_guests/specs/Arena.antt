@@ -16,6 +16,6 @@ Starts (Ok step) before after = after ≡ before
 Starts (Err fault) before after = Counts fault before after
 
 -- an answer of `realloc` is counted, and may add a block
-abbrev pub Answers : Result ℕ GuestFault → Arena → Arena → Type 0
-Answers (Ok at) before after = after ≡ record before { blocks = after.blocks; answers = before.answers + 1 }
-Answers (Err fault) before after = Counts fault before after
+abbrev pub CountsAnswer : Result ℕ GuestFault → Arena → Arena → Type 0
+CountsAnswer (Ok at) before after = after ≡ record before { blocks = after.blocks; answers = before.answers + 1 }
+CountsAnswer (Err fault) before after = Counts fault before after

@@ -50,7 +50,7 @@ impl Guest for Arena {
     ghost use Rattle.std.specs.Prelude.{◌≡◌, ◌≢◌, ◌↔◌, ◌+◌, ◌<◌, ◌^◌, IfOk, Err, drop, length};
     ghost use Rattle.canon_memory.specs.Realloc.{ReallocLaw, call};
     ghost use Rattle.canon_scripted.specs.Allocator.{DoesPlace, new_placed};
-    ghost use Rattle.canon_example_guests.specs.Arena.{Answers, Starts};
+    ghost use Rattle.canon_example_guests.specs.Arena.{CountsAnswer, Starts};
 
     // Each answer is marked as lawful and tidy, and the live blocks are those of the list.
     ghost seen = { λ g. record { journal = None; marks = replicate g.answers (record { lawful = true; tidy = true }); live = g.blocks.live; traps = g.traps; shortages = g.shortages } };
@@ -100,7 +100,7 @@ impl Guest for Arena {
         ensures placed { old_size ≡ 0 → self.old.answers + 1 < 2 ^ 64 → DoesPlace (new_placed (length memory.old) self.old.blocks (call 0 0 align new_size)) self.old.blocks self.new.blocks result }
         ensures grows_none { 0 < old_size → result ≡ Err GuestFault.Trap }
         ensures few { self.old.answers + 1 ≡ 2 ^ 64 → result ≡ Err GuestFault.Trap }
-        ensures counts { Answers result self.old self.new }
+        ensures counts { CountsAnswer result self.old self.new }
         ensures memory { memory.new ≡ memory.old }
         ensures lawful { IfOk result (λ at. ReallocLaw self.old.blocks.live self.new.blocks.live memory.old memory.new (call _old old_size align new_size) at) }
     {

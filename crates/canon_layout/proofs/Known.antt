@@ -20,8 +20,8 @@ use Rattle.canon_types.specs.declared.error.TypeError.TheVariants as error
 use Rattle.canon_types.specs.declared.types.InterfaceType.{InterfaceType}
 use Rattle.canon_types.specs.declared.types.InterfaceType.TheVariants as ty
 use Rattle.canon_types.specs.declared.types.TypeResourceTable.{TypeResourceTable}
-use Rattle.canon_layout.specs.Asked.{Funcs, Listed, add_entry, add_func, add_resource, funcs_over, funcs_so_far, grown, layout_of, listing_over, layout_members, so_far, type_at, types_listed, types_over, unless, entry_added, with_funcs, with_parts, with_resource}
-use Rattle.canon_layout.specs.Entries.{Entry, FuncParts, defines, entry_by_member, func_of, handle, resource_of}
+use Rattle.canon_layout.specs.Asked.{Funcs, Listed, add_entry, add_func, add_resource, funcs_over, funcs_so_far, grown, layout_of, listing_over, layout_members, listed_so_far, type_at, types_listed, types_over, unless, entry_added, with_funcs, with_parts, with_resource}
+use Rattle.canon_layout.specs.Entries.{Entry, FuncParts, defines, entry_by_member, func_of, handle, resource_table_of}
 
 -- what is added is what came, and nothing refused it
 pub accepted_is : {A : Type 0} (o : Option TypeError) (a b : A) → unless o a ≡ Some b → a ≡ b
@@ -68,7 +68,7 @@ keeps_types : (l m : Listed) (d : Data) → Begun l → add_entry l d ≡ Some m
 keeps_types l m d begun e = option_and_then_some (entry_added l) (entry_by_member l.types d) m e (λ x s h. keeps_entry l m x begun h)
 
 pub types_begun : (t : Table) (ds : Items) (l : Listed) → length t.funcs ≡ 0 → types_over t ds ≡ Some l → Begun l
-types_begun t ds l none e = onward_keeps Begun add_entry keeps_types (so_far t []) l ds (record { known = All-nil (Knows t); none = none }) e
+types_begun t ds l none e = onward_keeps Begun add_entry keeps_types (listed_so_far t []) l ds (record { known = All-nil (Knows t); none = none }) e
 
 -- ---- functions
 
@@ -136,7 +136,7 @@ funcs_stand ds l fs begun e = onward_keeps (Stands l.types) (add_func l.types) (
 -- ---- all of it
 
 keeps_resources : (t u : Table) (d : Data) → length t.funcs ≡ 0 → add_resource t d ≡ Some u → length u.funcs ≡ 0
-keeps_resources t u d none e = option_and_then_some (with_resource t) (resource_of d) u e (λ r s h.
+keeps_resources t u d none e = option_and_then_some (with_resource t) (resource_table_of d) u e (λ r s h.
     subst (λ (x : Table). length x.funcs ≡ 0) (accepted_is (resource_refusal t r) (record t { resources = t.resources ++ r ∷ [] }) u h) none)
 
 pub resources_begun : (ds : Items) (t : Table) → onward add_resource empty_table ds ≡ Some t → length t.funcs ≡ 0
@@ -151,7 +151,7 @@ pub listing_known : (resources types funcs : Items) (l : Listed) → listing_ove
 listing_known resources types funcs l e =
     option_and_then_some (λ t. option_and_then (with_funcs funcs) (types_over t types)) (onward add_resource empty_table resources) l e (λ t s more.
     option_and_then_some (with_funcs funcs) (types_over t types) l more (λ m made last.
-    by_map (λ fs. so_far fs.table m.types) (funcs_over funcs m) l last (λ fs over is.
+    by_map (λ fs. listed_so_far fs.table m.types) (funcs_over funcs m) l last (λ fs over is.
     let none = resources_begun resources t s in
     let stands = funcs_stand funcs m fs (types_begun t types m none made) over in
     subst IsKnown is (record { known = stands.known; few = stands.few }))))

@@ -4,7 +4,7 @@ use Rattle.serde_json.specs.Data.{Data, null, boolean, number, string, array, ob
 use Rattle.serde_json.specs.Find.{as_null, as_number, as_str, as_u64}
 use Rattle.canon_types.specs.declared.types.InterfaceType.{InterfaceType}
 use Rattle.canon_json.specs.Json.{u32_of}
-use Rattle.canon_layout.specs.Entries.{dtor_of, optional_type_of, plain_named, reference_of}
+use Rattle.canon_layout.specs.Entries.{optional_dtor, optional_type_of, plain_named, reference_of}
 
 pub reference_of_string : (before : List InterfaceType) (d : Data) (name : List ℕ) → as_str d ≡ Some name → reference_of before d ≡ plain_named name
 reference_of_string before null name e = cc
@@ -38,7 +38,7 @@ optional_type_of_type before (string s) e = refl
 optional_type_of_type before (array ds) e = refl
 optional_type_of_type before (object ms) e = refl
 
-pub dtor_of_null : (d : Data) → is_some (as_null d) ≡ true → dtor_of d ≡ Some None
+pub dtor_of_null : (d : Data) → is_some (as_null d) ≡ true → optional_dtor d ≡ Some None
 dtor_of_null null e = refl
 dtor_of_null (boolean b) e = cc
 dtor_of_null (number n) e = cc
@@ -46,7 +46,7 @@ dtor_of_null (string s) e = cc
 dtor_of_null (array ds) e = cc
 dtor_of_null (object ms) e = cc
 
-pub dtor_of_number : (d : Data) → is_some (as_null d) ≡ false → dtor_of d ≡ option_map (λ f. Some f) (u32_of d)
+pub dtor_of_number : (d : Data) → is_some (as_null d) ≡ false → optional_dtor d ≡ option_map (λ f. Some f) (u32_of d)
 dtor_of_number null e = cc
 dtor_of_number (boolean b) e = refl
 dtor_of_number (number n) e = refl

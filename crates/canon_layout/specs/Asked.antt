@@ -9,19 +9,19 @@ use Rattle.canon_types.specs.declared.error.TypeError.{TypeError}
 use Rattle.canon_types.specs.declared.types.InterfaceType.{InterfaceType}
 use Rattle.canon_types.specs.declared.types.InterfaceType.TheVariants as ty
 use Rattle.canon_types.specs.declared.types.TypeResourceTable.{TypeResourceTable}
-use Rattle.canon_layout.specs.Entries.{Entry, FuncParts, defines, entry_by_member, func_of, handle, resource_of}
+use Rattle.canon_layout.specs.Entries.{Entry, FuncParts, defines, entry_by_member, func_of, handle, resource_table_of}
 
 -- a table, and the type of each entry
 pub record Listed : Type 0 where
   pub table : Table
   pub types : List InterfaceType
 
-abbrev pub so_far : Table → List InterfaceType → Listed
-so_far t types = record { table = t; types = types }
+abbrev pub listed_so_far : Table → List InterfaceType → Listed
+listed_so_far t types = record { table = t; types = types }
 
 -- with one type more
 abbrev pub grown : Table → List InterfaceType → InterfaceType → Listed
-grown t types type = so_far t (types ++ type ∷ [])
+grown t types type = listed_so_far t (types ++ type ∷ [])
 
 -- the type that a definition of this number defines
 abbrev pub type_at : ℕ → Definition → InterfaceType
@@ -52,7 +52,7 @@ abbrev pub with_resource : Table → TypeResourceTable → Option Table
 with_resource t r = unless (resource_refusal t r) (record t { resources = t.resources ++ r ∷ [] })
 
 abbrev pub add_resource : Table → Data → Option Table
-add_resource t d = option_and_then (with_resource t) (resource_of d)
+add_resource t d = option_and_then (with_resource t) (resource_table_of d)
 
 -- a table, and for each of its functions whether it has a post-return function
 pub record Funcs : Type 0 where
@@ -72,7 +72,7 @@ add_func types fs d = option_and_then (with_parts fs) (func_of types d)
 
 -- the types of an array, over these resources
 abbrev pub types_over : Table → Items → Option Listed
-types_over t entries = onward add_entry (so_far t []) entries
+types_over t entries = onward add_entry (listed_so_far t []) entries
 
 -- the types of an array, without resources
 abbrev pub types_listed : Data → Option Listed
@@ -83,7 +83,7 @@ abbrev pub funcs_over : Items → Listed → Option Funcs
 funcs_over funcs l = onward (add_func l.types) (funcs_so_far l.table []) funcs
 
 abbrev pub with_funcs : Items → Listed → Option Listed
-with_funcs funcs l = option_map (λ fs. so_far fs.table l.types) (funcs_over funcs l)
+with_funcs funcs l = option_map (λ fs. listed_so_far fs.table l.types) (funcs_over funcs l)
 
 -- resources come first, then types, then functions
 abbrev pub listing_over : Items → Items → Items → Option Listed

@@ -13,7 +13,7 @@ use Rattle.canon_types.specs.declared.types.InterfaceType.TheVariants as ty
 use Rattle.canon_types.specs.declared.types.ResourceKind.{ResourceKind}
 use Rattle.canon_types.specs.declared.types.ResourceKind.TheVariants as resource
 use Rattle.canon_types.specs.declared.types.TypeResourceTable.{TypeResourceTable}
-use Rattle.canon_layout.specs.Words.{kind_word, kinds, plain_types, type_word}
+use Rattle.canon_layout.specs.Words.{kind_word, entry_kinds, plain_types, type_word}
 use Rattle.canon_layout.specs.declared.funcs.Signature.{Signature}
 use Rattle.canon_layout.specs.declared.words.Kind.{Kind}
 use Rattle.canon_layout.specs.declared.words.Kind.TheVariants as kind
@@ -78,7 +78,7 @@ entry_by kind.Own before d = option_map (λ r. handle (ty.Own r)) (u32_of d)
 entry_by kind.Borrow before d = option_map (λ r. handle (ty.Borrow r)) (u32_of d)
 
 abbrev pub kind_named : List ℕ → Option Kind
-kind_named name = find (λ k. pointwise nat_eq name (kind_word k)) kinds
+kind_named name = find (λ k. pointwise nat_eq name (kind_word k)) entry_kinds
 
 -- an object of one member
 abbrev pub entry_by_member : List InterfaceType → Data → Option Entry
@@ -123,9 +123,9 @@ abbrev pub dynamic_resource_of : Data → Option TypeResourceTable
 dynamic_resource_of d = if has_len 2 (as_object d) then option_map (λ n. resource_with (resource.HostDynamic n) false) (option_and_then u32_of (get (codes "id") d)) else None
 
 -- a number, or null for none
-abbrev pub dtor_of : Data → Option (Option ℕ)
-dtor_of null = Some None
-dtor_of d = option_map (λ f. Some f) (u32_of d)
+abbrev pub optional_dtor : Data → Option (Option ℕ)
+optional_dtor null = Some None
+optional_dtor d = option_map (λ f. Some f) (u32_of d)
 
 -- the guest's, defined here unless it says otherwise, with a destructor or none
 abbrev pub guest_resource_of : Data → Option TypeResourceTable
@@ -134,7 +134,7 @@ guest_resource_of d =
     let dtor = get (codes "dtor") d in
     if has_len (2 + (there here + there dtor)) (as_object d)
     then option_and_then (λ n. option_and_then (λ h. option_map (λ f. resource_with (resource.Guest n f) h)
-    (option_map_or dtor_of dtor (Some None)))
+    (option_map_or optional_dtor dtor (Some None)))
     (option_map_or as_bool here (Some true)))
     (option_and_then u32_of (get (codes "id") d))
     else None
@@ -144,5 +144,5 @@ resource_by d kind =
     if pointwise nat_eq kind (codes "dynamic") then dynamic_resource_of d
     else (if pointwise nat_eq kind (codes "guest") then guest_resource_of d else None)
 
-abbrev pub resource_of : Data → Option TypeResourceTable
-resource_of d = option_and_then (resource_by d) (option_and_then as_str (get (codes "kind") d))
+abbrev pub resource_table_of : Data → Option TypeResourceTable
+resource_table_of d = option_and_then (resource_by d) (option_and_then as_str (get (codes "kind") d))

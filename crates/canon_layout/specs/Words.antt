@@ -20,8 +20,8 @@ kind_word kind.Fixed = codes "fixed"
 kind_word kind.Own = codes "own"
 kind_word kind.Borrow = codes "borrow"
 
-abbrev pub kinds : List Kind
-kinds = kind.List ∷ kind.Option ∷ kind.Map ∷ kind.Record ∷ kind.Tuple ∷ kind.Variant ∷ kind.Enum ∷ kind.Flags ∷ kind.Result ∷ kind.Fixed ∷ kind.Own ∷ kind.Borrow ∷ []
+abbrev pub entry_kinds : List Kind
+entry_kinds = kind.List ∷ kind.Option ∷ kind.Map ∷ kind.Record ∷ kind.Tuple ∷ kind.Variant ∷ kind.Enum ∷ kind.Flags ∷ kind.Result ∷ kind.Fixed ∷ kind.Own ∷ kind.Borrow ∷ []
 
 -- the word of a type: its name, or that of the kind of entry that makes it
 abbrev pub type_word : InterfaceType → List ℕ

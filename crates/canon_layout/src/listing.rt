@@ -19,7 +19,7 @@ pub fn types_of_json(
     alloc: Global,
     v: &Value,
 ) -> Result<(ComponentTypes, Vec<InterfaceType>), ScriptError>
-    ensures table { Gives (λ p. spec.so_far p.0 p.1.items) result (spec.types_listed (view v.now)) }
+    ensures table { Gives (λ p. spec.listed_so_far p.0 p.1.items) result (spec.types_listed (view v.now)) }
     ensures known { IfOk result (λ p. All (Knows p.0) p.1.items) }
 {
     let Some(items) = v.as_array() else {
@@ -35,7 +35,7 @@ pub fn listing_of_json(
     alloc: Global,
     v: &Value,
 ) -> Result<(ComponentTypes, Vec<InterfaceType>), ScriptError>
-    ensures table { Gives (λ p. spec.so_far p.0 p.1.items) result (spec.layout_of (view v.now)) }
+    ensures table { Gives (λ p. spec.listed_so_far p.0 p.1.items) result (spec.layout_of (view v.now)) }
     ensures known { IfOk result (λ p. All (Knows p.0) p.1.items) }
 {
     if !has_len(v, members(v)) {
@@ -66,7 +66,7 @@ fn listing_over(
     types: &[Value],
     funcs: &[Value],
 ) -> Result<(ComponentTypes, Vec<InterfaceType>), ScriptError>
-    ensures table { Gives (λ p. spec.so_far p.0 p.1.items) result (spec.listing_over (items_view resources.now) (items_view types.now) (items_view funcs.now)) }
+    ensures table { Gives (λ p. spec.listed_so_far p.0 p.1.items) result (spec.listing_over (items_view resources.now) (items_view types.now) (items_view funcs.now)) }
     ensures known { IfOk result (λ p. All (Knows p.0) p.1.items) }
 {
     let mut builder = TypeBuilder::new(alloc);

@@ -33,7 +33,7 @@ fn add_resource(builder: &mut TypeBuilder, v: &Value) -> Result<(), ScriptError>
 }
 
 fn resource_of(v: &Value) -> Option<TypeResourceTable>
-    ensures { result ≡ entry_spec.resource_of (view v.now) }
+    ensures { result ≡ entry_spec.resource_table_of (view v.now) }
 {
     let kind = v.get("kind")?.as_str()?;
     if kind == "dynamic" {
@@ -72,7 +72,7 @@ fn guest_resource_of(v: &Value) -> Option<TypeResourceTable>
 #[tactic(auto, using(crate::proofs::Reading::dtor_of_null, crate::proofs::Reading::dtor_of_number))]
 /// A number, or null or nothing for none.
 fn dtor_of(v: Option<&Value>) -> Option<Option<u32>>
-    ensures { result ≡ option_map_or entry_spec.dtor_of (option_map (λ x. view x.now) v.entry) (Some None) }
+    ensures { result ≡ option_map_or entry_spec.optional_dtor (option_map (λ x. view x.now) v.entry) (Some None) }
 {
     let Some(v) = v else {
         return Some(None);

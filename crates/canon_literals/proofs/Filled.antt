@@ -5,7 +5,7 @@ use Rattle.canon_model.specs.Shape.{Name}
 use Rattle.canon_resources.specs.Held.{Any}
 use Rattle.canon_val.specs.declared.val.Val.{Val}
 use Rattle.canon_val.specs.declared.val.Val.TheVariants as val
-use Rattle.canon_literals.specs.Literals.{Fields, Literal, Literals, Pairs, Payload, all_replaced, error, field, fields, fields_of, fields_replaced, fields_view, fixed, flags, list, literal, literal_view, literals_of, literals_view, ok, pair, pairs, pairs_of, pairs_replaced, pairs_view, payload_replaced, payload_view, replaced, tuple}
+use Rattle.canon_literals.specs.Literals.{Fields, Literal, Literals, Pairs, Payload, all_replaced, error, field, fields, fields_of, fields_replaced, fields_view, fixed, flags, list, literal, literal_view, literals_of, literals_view, ok, pair, pairs, literal_pairs, pairs_replaced, pairs_view, payload_replaced, payload_view, replaced, tuple}
 use Rattle.canon_literals.specs.Resources.{field_replaced, field_view, pair_replaced}
 use Rattle.canon_literals.proofs.Views.{literal-Err, literal-FixedLengthList, literal-Flags, literal-List, literal-Map, literal-Ok, literal-Record, literal-Tuple}
 
@@ -14,7 +14,7 @@ module _ (f : Any → Any) where
   all_filled [] = refl
   all_filled (x ∷ xs) = ap (λ (ys : Literals). literal (replaced f x) ys) (all_filled xs)
 
-  pairs_filled : (ps : List (Literal × Literal)) → pairs_of (map (pair_replaced f) ps) ≡ pairs_replaced f (pairs_of ps)
+  pairs_filled : (ps : List (Literal × Literal)) → literal_pairs (map (pair_replaced f) ps) ≡ pairs_replaced f (literal_pairs ps)
   pairs_filled [] = refl
   pairs_filled (p ∷ ps) = ap (λ (qs : Pairs). pair (replaced f p.0) (replaced f p.1) qs) (pairs_filled ps)
 
@@ -45,7 +45,7 @@ module _ (f : Any → Any) where
 
     pub map_filled : (xs ys : Vec (Val × Val) Global) (vs : List (Val × Val)) → v ≡ val.Map ys → vs ≡ ys.items → pairs_view xs.items ≡ map (pair_replaced f) (pairs_view vs) → literal_view (val.Map xs) ≡ replaced f (literal_view v)
     map_filled xs ys vs ev es e =
-        literal-Map xs ∙ (ap (λ (ps : List (Literal × Literal)). pairs (pairs_of ps)) (e ∙ ap (λ (ws : List (Val × Val)). map (pair_replaced f) (pairs_view ws)) es)
+        literal-Map xs ∙ (ap (λ (ps : List (Literal × Literal)). pairs (literal_pairs ps)) (e ∙ ap (λ (ws : List (Val × Val)). map (pair_replaced f) (pairs_view ws)) es)
         ∙ (ap pairs (pairs_filled (pairs_view ys.items)) ∙ (ap (replaced f) (sym (literal-Map ys)) ∙ ap (λ (w : Val). replaced f (literal_view w)) (sym ev))))
 
     pub record_filled : (xs ys : Vec (String Global × Val) Global) (vs : List (String Global × Val)) → v ≡ val.Record ys → vs ≡ ys.items → map field_view xs.items ≡ map (field_replaced f) (map field_view vs)

@@ -11,7 +11,7 @@ use Rattle.canon_val.specs.declared.val.Val.TheOpen.{Val-F, Val-F as F}
 use Rattle.canon_val.specs.declared.val.Val.TheShapes.{former-Val-Map-0-at-2, former-Val-Record-0-at-2}
 use Rattle.canon_val.specs.declared.val.Val.TheVariants as val
 use Rattle.canon_literals.specs.Resources.{pair_resources}
-use Rattle.canon_literals.specs.Literals.{Literal, all_held, fields_held, fields_of, held_among, held_in, literal_step, literal_view, literals_of, literals_view, named, pairs_held, pairs_of}
+use Rattle.canon_literals.specs.Literals.{Literal, all_held, fields_held, fields_of, held_among, held_in, literal_step, literal_view, literals_of, literals_view, named, pairs_held, literal_pairs}
 
 -- one level of a value, of whose parts it is known
 module _ {E : Type 0} (f : E → Val) (h : (e : E) → held_in (literal_view (f e)) ≡ resources (f e)) where
@@ -19,7 +19,7 @@ module _ {E : Type 0} (f : E → Val) (h : (e : E) → held_in (literal_view (f 
   rows [] = refl
   rows (e ∷ es) = ap₂ (λ (xs ys : List Any). xs ++ ys) (h e) (rows es)
 
-  pair_rows : (ps : List (E × E)) → pairs_held (pairs_of (map (former-Val-Map-0-at-2.map Val Literal literal_view) (map (former-Val-Map-0-at-2.map E Val f) ps)))
+  pair_rows : (ps : List (E × E)) → pairs_held (literal_pairs (map (former-Val-Map-0-at-2.map Val Literal literal_view) (map (former-Val-Map-0-at-2.map E Val f) ps)))
       ≡ joined (map (λ p. p.0 ++ p.1) (map (former-Val-Map-0-at-2.map Val (List Any) resources) (map (former-Val-Map-0-at-2.map E Val f) ps)))
   pair_rows [] = refl
   pair_rows (p ∷ ps) = ap₂ (λ (xs ys : List Any). xs ++ ys) (ap₂ (λ (xs ys : List Any). xs ++ ys) (h p.0) (h p.1)) (pair_rows ps)

@@ -3,7 +3,7 @@ use Rattle.std.proofs.Common.{◌≡◌, sym, ap, ◌∙◌, map, Box, Option, N
 use Rattle.canon_val.specs.declared.val.Val.{Val, fold-roll-Val}
 use Rattle.canon_val.specs.declared.val.Val.TheOpen.{Val-F}
 use Rattle.canon_val.specs.declared.val.Val.TheVariants as val
-use Rattle.canon_literals.specs.Literals.{Literal, enum, fields, fields_of, fields_view, fixed, flags, list, literal_step, literal_view, literals_of, literals_view, ok, error, option, pairs, pairs_of, pairs_view, payload_view, text, tuple, variant}
+use Rattle.canon_literals.specs.Literals.{Literal, enum, fields, fields_of, fields_view, fixed, flags, list, literal_step, literal_view, literals_of, literals_view, ok, error, option, pairs, literal_pairs, pairs_view, payload_view, text, tuple, variant}
 
 pub literal-String : (s : String Global) → literal_view (val.String s) ≡ text (string_bytes s)
 literal-String s = ap literal_view (sym (val.rolls-String s)) ∙ fold-roll-Val Literal literal_step (Val-F.String s)
@@ -11,7 +11,7 @@ literal-String s = ap literal_view (sym (val.rolls-String s)) ∙ fold-roll-Val 
 pub literal-List : (members : Vec Val Global) → literal_view (val.List members) ≡ list (literals_of (literals_view members.items))
 literal-List members = ap literal_view (sym (val.rolls-List members)) ∙ fold-roll-Val Literal literal_step (Val-F.List members)
 
-pub literal-Map : (members : Vec (Val × Val) Global) → literal_view (val.Map members) ≡ pairs (pairs_of (pairs_view members.items))
+pub literal-Map : (members : Vec (Val × Val) Global) → literal_view (val.Map members) ≡ pairs (literal_pairs (pairs_view members.items))
 literal-Map members = ap literal_view (sym (val.rolls-Map members)) ∙ fold-roll-Val Literal literal_step (Val-F.Map members)
 
 pub literal-Record : (members : Vec (String Global × Val) Global) → literal_view (val.Record members) ≡ fields (fields_of (fields_view members.items))

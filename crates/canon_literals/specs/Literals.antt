@@ -29,7 +29,7 @@ mutual
     -- the two cases of a result
     ok error : Payload → Literal
     flags : List Name → Literal
-    -- a resource; that of a script is a number (`numbered`)
+    -- a resource; that of a script is a number (`numbered_resource`)
     held : Any → Literal
 
   pub data Literals : Type 0 where
@@ -58,17 +58,17 @@ abbrev pub fields_of : List (Name × Literal) → Fields
 fields_of [] = no_fields
 fields_of (f ∷ fs) = field f.0 f.1 (fields_of fs)
 
-abbrev pub pairs_of : List (Literal × Literal) → Pairs
-pairs_of [] = no_pairs
-pairs_of (p ∷ ps) = pair p.0 p.1 (pairs_of ps)
+abbrev pub literal_pairs : List (Literal × Literal) → Pairs
+literal_pairs [] = no_pairs
+literal_pairs (p ∷ ps) = pair p.0 p.1 (literal_pairs ps)
 
-abbrev pub payload_of : Option (Box Literal Global) → Payload
-payload_of None = no_payload
-payload_of (Some x) = with_payload x.value
+abbrev pub literal_payload : Option (Box Literal Global) → Payload
+literal_payload None = no_payload
+literal_payload (Some x) = with_payload x.value
 
-abbrev pub result_of : Result (Option (Box Literal Global)) (Option (Box Literal Global)) → Literal
-result_of (Ok p) = ok (payload_of p)
-result_of (Err p) = error (payload_of p)
+abbrev pub literal_result : Result (Option (Box Literal Global)) (Option (Box Literal Global)) → Literal
+literal_result (Ok p) = ok (literal_payload p)
+literal_result (Err p) = error (literal_payload p)
 
 abbrev pub named : List (String Global × Literal) → List (Name × Literal)
 named fs = map (λ f. (string_bytes f.0, f.1)) fs
@@ -89,13 +89,13 @@ literal_step (Val-F.Float64 n) = f64 n
 literal_step (Val-F.Char c) = char c
 literal_step (Val-F.String s) = text (string_bytes s)
 literal_step (Val-F.List members) = list (literals_of members.items)
-literal_step (Val-F.Map members) = pairs (pairs_of members.items)
+literal_step (Val-F.Map members) = pairs (literal_pairs members.items)
 literal_step (Val-F.Record members) = fields (fields_of (named members.items))
 literal_step (Val-F.Tuple members) = tuple (literals_of members.items)
-literal_step (Val-F.Variant name p) = variant (string_bytes name) (payload_of p)
+literal_step (Val-F.Variant name p) = variant (string_bytes name) (literal_payload p)
 literal_step (Val-F.Enum name) = enum (string_bytes name)
-literal_step (Val-F.Option p) = option (payload_of p)
-literal_step (Val-F.Result r) = result_of r
+literal_step (Val-F.Option p) = option (literal_payload p)
+literal_step (Val-F.Result r) = literal_result r
 literal_step (Val-F.Flags names) = flags (map (λ name. string_bytes name) names.items)
 literal_step (Val-F.Resource x) = held x
 literal_step (Val-F.FixedLengthList members) = fixed (literals_of members.items)
@@ -123,23 +123,23 @@ payload_view (Some v) = with_payload (literal_view v.value)
 
 -- The number of a resource in a script. A value keeps it as a borrow that the host made of it, until the resource of that number
 -- stands in its place.
-abbrev pub numbered : ℕ → Any
-numbered n = any (Synthetic n) (HostDynamic 0)
+abbrev pub numbered_resource : ℕ → Any
+numbered_resource n = any (Synthetic n) (HostDynamic 0)
 
-abbrev pub number_of : Any → ℕ
-number_of x = unwrap_or (synthetic_rep x.handle) 0
+abbrev pub resource_number : Any → ℕ
+resource_number x = unwrap_or (synthetic_rep x.handle) 0
 
 -- there are so many resources that this number is one's
 abbrev pub is_known : ℕ → Any → Bool
-is_known count x = nat_lt (number_of x) count
+is_known count x = nat_lt (resource_number x) count
 
 abbrev pub all_known : ℕ → List Any → Bool
 all_known count [] = true
 all_known count (x ∷ xs) = is_known count x && all_known count xs
 
 -- the resource of a number in a list; where there is none, what stood for it
-abbrev pub listed : List Any → Any → Any
-listed xs x = unwrap_or (slice_get xs (number_of x)) x
+abbrev pub listed_resource : List Any → Any → Any
+listed_resource xs x = unwrap_or (slice_get xs (resource_number x)) x
 
 abbrev mutual
   -- the resources in a value, depth first

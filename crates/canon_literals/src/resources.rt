@@ -1,7 +1,7 @@
 //! The resources in values. Those of a script are numbers; the values that are passed have the resources of a list in their place.
 
 ghost use Rattle.std.specs.Prelude.{◌≡◌, ◌++◌, ◌∷◌, [], IfOk, OnOk, length, map, nat_eq, string_bytes};
-ghost use Rattle.canon_literals.specs.Literals.{all_known, held_among, held_in, is_known, listed, literal_view, literals_view, number_of, pairs_view, payload_replaced, payload_view, replaced};
+ghost use Rattle.canon_literals.specs.Literals.{all_known, held_among, held_in, is_known, listed_resource, literal_view, literals_view, resource_number, pairs_view, payload_replaced, payload_view, replaced};
 ghost use Rattle.canon_literals.specs.Resources.{field_replaced, field_view, pair_replaced, pair_resources, payload_resources};
 ghost use Rattle.canon_value_parts.specs.Resources.{all_resources, resources};
 ghost use Rattle.canon_val.specs.Value.{values_in};
@@ -57,7 +57,7 @@ fn is_below(x: &ResourceAny, count: usize) -> bool
 
 /// The number of a resource in a script.
 fn number_of(x: &ResourceAny) -> u32
-    ensures { result ≡ number_of x.now }
+    ensures { result ≡ resource_number x.now }
 {
     x.synthetic_rep().unwrap_or(0)
 }
@@ -158,7 +158,7 @@ pub fn with_resources(
     values: &[Val],
     list: &[ResourceAny],
 ) -> Result<Vec<Val>, OutOfMemory>
-    ensures { IfOk result (λ vs. literals_view vs.items ≡ map (replaced (listed list.now)) (literals_view values.now)) }
+    ensures { IfOk result (λ vs. literals_view vs.items ≡ map (replaced (listed_resource list.now)) (literals_view values.now)) }
 {
     fill_row(alloc, values, list)
 }
@@ -172,7 +172,7 @@ pub fn copies_of(alloc: Global, values: &[Val]) -> Result<Vec<Val>, OutOfMemory>
 
 /// The resource of a number in a list; where there is none, what stood for it.
 fn listed(list: &[ResourceAny], x: &ResourceAny) -> ResourceAny
-    ensures { result ≡ listed list.now x.now }
+    ensures { result ≡ listed_resource list.now x.now }
 {
     match list.get(number_of(x) as usize) {
         Some(resource) => *resource,
@@ -182,7 +182,7 @@ fn listed(list: &[ResourceAny], x: &ResourceAny) -> ResourceAny
 
 #[cycle(fill)]
 fn fill(alloc: Global, value: &Val, list: &[ResourceAny]) -> Result<Val, OutOfMemory>
-    ensures { IfOk result (λ v. literal_view v ≡ replaced (listed list.now) (literal_view value.now)) }
+    ensures { IfOk result (λ v. literal_view v ≡ replaced (listed_resource list.now) (literal_view value.now)) }
 {
     match value {
         Val::Bool(v) => Ok(Val::Bool(*v)),
@@ -236,7 +236,7 @@ fn copy_names(alloc: Global, names: &[String]) -> Result<Vec<String>, OutOfMemor
 
 #[cycle(fill)]
 fn fill_row(alloc: Global, values: &[Val], list: &[ResourceAny]) -> Result<Vec<Val>, OutOfMemory>
-    ensures { IfOk result (λ vs. literals_view vs.items ≡ map (replaced (listed list.now)) (literals_view values.now)) }
+    ensures { IfOk result (λ vs. literals_view vs.items ≡ map (replaced (listed_resource list.now)) (literals_view values.now)) }
 {
     let mut filled = Vec::with_capacity(alloc, values.len())?;
     for value in values {
@@ -252,7 +252,7 @@ fn fill_pairs(
     pairs: &[(Val, Val)],
     list: &[ResourceAny],
 ) -> Result<Vec<(Val, Val)>, OutOfMemory>
-    ensures { IfOk result (λ ps. pairs_view ps.items ≡ map (pair_replaced (listed list.now)) (pairs_view pairs.now)) }
+    ensures { IfOk result (λ ps. pairs_view ps.items ≡ map (pair_replaced (listed_resource list.now)) (pairs_view pairs.now)) }
 {
     let mut filled = Vec::with_capacity(alloc, pairs.len())?;
     for pair in pairs {
@@ -270,7 +270,7 @@ fn fill_fields(
     fields: &[(String, Val)],
     list: &[ResourceAny],
 ) -> Result<Vec<(String, Val)>, OutOfMemory>
-    ensures { IfOk result (λ fs. map field_view fs.items ≡ map (field_replaced (listed list.now)) (map field_view fields.now)) }
+    ensures { IfOk result (λ fs. map field_view fs.items ≡ map (field_replaced (listed_resource list.now)) (map field_view fields.now)) }
 {
     let mut filled = Vec::with_capacity(alloc, fields.len())?;
     for field in fields {
@@ -287,7 +287,7 @@ fn fill_payload(
     payload: &Option<Box<Val>>,
     list: &[ResourceAny],
 ) -> Result<Option<Box<Val>>, OutOfMemory>
-    ensures { IfOk result (λ p. payload_view p ≡ payload_replaced (listed list.now) (payload_view payload.now)) }
+    ensures { IfOk result (λ p. payload_view p ≡ payload_replaced (listed_resource list.now) (payload_view payload.now)) }
 {
     match payload {
         Some(value) => Ok(Some(Box::new(alloc, fill(alloc, value, list)?)?)),

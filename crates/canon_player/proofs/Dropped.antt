@@ -18,12 +18,12 @@ use Rattle.canon_imports.specs.declared.imports.ScriptedImports.{ScriptedImports
 use Rattle.canon_transcript.specs.declared.transcript.Answer.{Answer}
 use Rattle.canon_transcript.specs.declared.transcript.Answer.TheVariants as answer
 use Rattle.canon_transcript.specs.declared.transcript.Record.{Record}
-use Rattle.canon_player.specs.Session.{DroppedAt, DroppedBy, IsEnd, LeavesSame, Removed, State, WasDropped, WasRemoved, answer_values, drop_plan, outcome}
+use Rattle.canon_player.specs.Session.{DroppedAt, DroppedBy, IsEnd, LeavesSame, Removed, State, WasDropped, WasRemoved, answer_values, drop_plan, answer_outcome}
 use Rattle.canon_player.specs.Stores.{ScriptStore, state_of, with_plan}
 use Rattle.canon_player.proofs.Played.{IsOther, answers_error, journaled, on_answered}
 
 -- no value was answered
-no_vals : (a : Answer) (d : Result (Unit {0}) Error) → outcome a ≡ d → OnOk d (answer_values a ≡ []) → answer_values a ≡ []
+no_vals : (a : Answer) (d : Result (Unit {0}) Error) → answer_outcome a ≡ d → OnOk d (answer_values a ≡ []) → answer_values a ≡ []
 no_vals (answer.Ok vs) d e h = subst (λ (c : Result (Unit {0}) Error). OnOk c (answer_values (answer.Ok vs) ≡ [])) (sym e) h
 no_vals (answer.Err x) d e h = refl
 no_vals answer.Typecheck d e h = refl
@@ -58,7 +58,7 @@ Dropping i before left dropped = IsDrop journaled Moving LeavesSame i before lef
 
 -- The store is `s` before the guest is loaded, and `left` as the drop leaves it.
 module _ (x : Any) (dtor_trap : Bool) (r : Record) (s left : ScriptStore) (dropped : Result (Unit {0}) Error)
-    (empty : s.core.guest.events ≡ []) (events : r.events ≡ left.core.guest.events) (out : outcome r.answer ≡ dropped) (vals : OnOk dropped (answer_values r.answer ≡ []))
+    (empty : s.core.guest.events ≡ []) (events : r.events ≡ left.core.guest.events) (out : answer_outcome r.answer ≡ dropped) (vals : OnOk dropped (answer_values r.answer ≡ []))
     (short : IsOther dropped) (played : IsEnd r.answer) (served : r.served.items ≡ []) (kept : left.imports ≡ s.imports) (id : left.core.id ≡ s.core.id) where
   abbrev Drops : GivenIndex → Type 0
   Drops i = Dropping i (readied dtor_trap s) left dropped
@@ -102,7 +102,7 @@ module _ (x : Any) (dtor_trap : Bool) (r : Record) (s left : ScriptStore) (dropp
 
 -- the store is `before` when the resource is dropped, and `final` once the journal is taken
 module _ (x : Any) (dtor_trap : Bool) (r : Record) (s before left final : ScriptStore) (dropped : Result (Unit {0}) Error) where
-  pub drop_is : s.core.guest.events ≡ [] → before ≡ readied dtor_trap s → state_of final ≡ state_of left → r.events ≡ left.core.guest.events → outcome r.answer ≡ dropped → OnOk dropped (answer_values r.answer ≡ [])
+  pub drop_is : s.core.guest.events ≡ [] → before ≡ readied dtor_trap s → state_of final ≡ state_of left → r.events ≡ left.core.guest.events → answer_outcome r.answer ≡ dropped → OnOk dropped (answer_values r.answer ≡ [])
       → IsOther dropped → IsEnd r.answer → r.served.items ≡ [] → left.imports ≡ before.imports → left.core.id ≡ before.core.id → IfNone (host_index x.handle) ((dropped ≡ Ok tt) × (left ≡ before))
       → IfSome (host_index x.handle) (λ i. IfSome (drop_refusal before.core.ledger before.trapped i) (λ e. (dropped ≡ Err e) × (left ≡ before)))
       → IfSome (host_index x.handle) (λ i. IfNone (drop_refusal before.core.ledger before.trapped i) (Dropping i before left dropped))

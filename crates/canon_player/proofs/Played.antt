@@ -24,13 +24,13 @@ use Rattle.canon_func.specs.Stores.{Callee, Named, callee_of}
 use Rattle.canon_func.specs.declared.error.Error.{Error}
 use Rattle.canon_func.specs.declared.error.Error.TheVariants as error
 use Rattle.canon_resources.specs.Held.{Any}
-use Rattle.canon_literals.specs.Literals.{listed, literal_view, literals_view, replaced}
+use Rattle.canon_literals.specs.Literals.{listed_resource, literal_view, literals_view, replaced}
 use Rattle.canon_script.specs.Script.{ScriptCall}
 use Rattle.canon_transcript.specs.declared.transcript.Answer.{Answer}
 use Rattle.canon_transcript.specs.declared.transcript.Answer.TheVariants as answer
 use Rattle.canon_transcript.specs.declared.transcript.Head.TheVariants as head
 use Rattle.canon_transcript.specs.declared.transcript.Record.{Record}
-use Rattle.canon_player.specs.Session.{Called, Idle, IsEnd, LeavesSame, State, Tells, Themselves, WasCalled, answer_values, entry_view, host_of, outcome, plan_of, plan_with, served_view}
+use Rattle.canon_player.specs.Session.{Called, Idle, IsEnd, LeavesSame, State, Tells, Themselves, WasCalled, answer_values, entry_view, host_side_of, answer_outcome, plan_of, plan_with, served_view}
 use Rattle.canon_player.specs.Steps.{CallsOnce}
 use Rattle.canon_player.specs.Session as session
 use Rattle.canon_player.specs.Stores.{ScriptStore, answers_of, callee_at, limits_of, state_of, with_plan}
@@ -52,7 +52,7 @@ error_in : Result (Unit {0}) Error → Error → Error
 error_in (Ok x) other = other
 error_in (Err e) other = e
 
-pub answers_error : (a : Answer) (e : Error) → outcome a ≡ Err e → a ≡ answer.Err e
+pub answers_error : (a : Answer) (e : Error) → answer_outcome a ≡ Err e → a ≡ answer.Err e
 unfolding error_in
 answers_error (answer.Ok vals) e h = absurd (true≢false (sym (ap is_err h)))
 answers_error answer.Typecheck e h = absurd (true≢false (sym (ap is_err h)))
@@ -112,8 +112,8 @@ module _ {R : Type 0} (args : Arguments) (its : ReturnedValues R) (Told : R → 
 
   -- the call, by the events before it, those that are printed after it, and the events that it added
   abbrev Calls : List Event → List Event → List Event → Type 0
-  Calls earlier later added = IsCallOf args its LeavesSame (GivesAnswers (answers_of s)) callee (limits_of s) (session.moment_of (state_of s) earlier) (session.moment_of (state_of left) later)
-      (host_of (state_of s)) (host_of (state_of left)) called added
+  Calls earlier later added = IsCallOf args its LeavesSame (GivesAnswers (answers_of s)) callee (limits_of s) (session.moment_with_events (state_of s) earlier) (session.moment_with_events (state_of left) later)
+      (host_side_of (state_of s)) (host_side_of (state_of left)) called added
 
   was_called : s.trapped ≡ false → Entered args its callee loaded left called → OnOk called (left.trapped ≡ s.trapped) → OnErr called (left.trapped ≡ true)
       → WasCalled args its Told callee (limits_of s) (answers_of s) plan (state_of s) (state_of left) r
@@ -130,7 +130,7 @@ module _ {R : Type 0} (args : Arguments) (its : ReturnedValues R) (Told : R → 
         told = told;
         called = subst (λ (es : List Event). Calls [] r.events es) (sym all) two;
         served = served_logs s.imports.lines.items left.imports.lines.items r.served.items asked
-            (call_logged args its (GivesAnswers (answers_of s)) callee s.core.fuel one.turns left.core.memory one.late one.late_trap (host_of before) (host_of after)
+            (call_logged args its (GivesAnswers (answers_of s)) callee s.core.fuel one.turns left.core.memory one.late one.late_trap (host_side_of before) (host_side_of after)
             one.given called entered.events one.tail before.log refl one.handles) lines serves;
         left = left.core.guest.guest.plan;
         new_marks = moved.new_marks;
@@ -186,7 +186,7 @@ done_with : (called : Result (Unit {0}) Error) (results : List Val) → done_by 
 done_with (Ok x) results = refl
 done_with (Err e) results = refl
 
-told_with : (called : Result (Unit {0}) Error) (results : List Val) (a : Answer) → outcome a ≡ called → OnOk called (answer_values a ≡ results) → IsEnd a → Tells Themselves (with_results called results) a
+told_with : (called : Result (Unit {0}) Error) (results : List Val) (a : Answer) → answer_outcome a ≡ called → OnOk called (answer_values a ≡ results) → IsEnd a → Tells Themselves (with_results called results) a
 unfolding error_in
 told_with (Ok x) results (answer.Ok values) e h is = h
 told_with (Ok x) results (answer.Err f) e h is = absurd (true≢false (ap is_err e))
@@ -242,23 +242,23 @@ taken_is left core told after a b c = simp (c, b, a)
 -- The store is `s` before the guest is loaded, `before` when the function is called, `left` as the call leaves it, and `final` once
 -- the journal is taken.
 module _ (call : ScriptCall) (list : List Any) (r : Record) (s before left final : ScriptStore) (f : Named) (params results : List Val) (slots : Vec Val Global) (called : Result (Unit {0}) Error) (asked : ℕ) where
-  with_params : (callee : Callee) (why : Option Error) → literals_view params ≡ map (replaced (listed list)) call.params
+  with_params : (callee : Callee) (why : Option Error) → literals_view params ≡ map (replaced (listed_resource list)) call.params
       → Became (dynamic callee params) (dynamic_results callee) Themselves callee (plan_of call) s left r why → Called callee (limits_of s) (answers_of s) call list (state_of s) (state_of left) r why
   with_params callee (Some e) their h = h
   with_params callee None their h = record { params = params; params_are = their; called = h }
 
   pub record_is : s.core.guest.events ≡ [] → before ≡ with_plan s (plan_of call s.core.guest.guest.plan.allocator) → f.export ≡ call.func → state_of final ≡ state_of left
-      → literals_view params ≡ map (replaced (listed list)) call.params → length slots.items ≡ call.slots
+      → literals_view params ≡ map (replaced (listed_resource list)) call.params → length slots.items ≡ call.slots
       → refused_by called ≡ refusal (callee_of before f) (length params) (length slots.items) before.trapped → IfSome (refused_by called) (λ e. left ≡ before)
       → (IsNone (refused_by called) → EnteredWith (callee_of before f) params before left called results) → OnOk called (left.trapped ≡ before.trapped) → (IsNone (refused_by called) → OnErr called (left.trapped ≡ true))
-      → r.head ≡ head.Call call.func → r.live ≡ left.core.ledger.handles.counter.live → r.events ≡ left.core.guest.events → outcome r.answer ≡ called
+      → r.head ≡ head.Call call.func → r.live ≡ left.core.ledger.handles.counter.live → r.events ≡ left.core.guest.events → answer_outcome r.answer ≡ called
       → length results ≡ slots.len → OnOk called (answer_values r.answer ≡ (with_items slots results).items) → IsOther called → IsEnd r.answer
       → asked ≡ length s.imports.lines.items → map served_view r.served.items ≡ map entry_view (drop asked (entries_of left.imports.lines.items))
       → CallsOnce (callee_at s.core.component call.func) (limits_of s) (answers_of s) call list (state_of s) (state_of final) r
   record_is empty is export end their count why same entered runs traps hd lv events out many vals short ended lines serves =
       let callee = callee_at s.core.component call.func in
       let it : callee_of before f ≡ callee = ap (λ (k : ScriptStore). callee_of k f) is ∙ ap (λ n. callee_at s.core.component n) export in
-      let many2 : length params ≡ length call.params = sym (length-map params literal_view) ∙ (ap length their ∙ length-map call.params (replaced (listed list))) in
+      let many2 : length params ≡ length call.params = sym (length-map params literal_view) ∙ (ap length their ∙ length-map call.params (replaced (listed_resource list))) in
       let all = with_results called results in
       let done : refused_by (done_by all) ≡ refused_by called = ap refused_by (done_with called results) in
       let why2 : refused_by (done_by all) ≡ refusal callee (length call.params) call.slots s.trapped =

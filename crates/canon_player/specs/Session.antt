@@ -32,7 +32,7 @@ use Rattle.canon_func.specs.Typed.{FitsParams, FitsResults, params_shape, typed_
 use Rattle.canon_func.specs.declared.error.Error.{Error}
 use Rattle.canon_func.specs.declared.error.Error.TheVariants as error
 use Rattle.canon_script.specs.Imports.{HostAnswer}
-use Rattle.canon_literals.specs.Literals.{Literal, all_known, held_among, listed, literals_view, replaced}
+use Rattle.canon_literals.specs.Literals.{Literal, all_known, held_among, listed_resource, literals_view, replaced}
 use Rattle.canon_script.specs.Script.{Play, ScriptCall, ScriptItem, ScriptTyped, call_item, drop_item, new_item, typed_item}
 use Rattle.canon_script.specs.Typed.{TypedValues, a_number, a_text, the_numbers, the_pairs}
 use Rattle.canon_script.specs.declared.script.NewItem.{NewItem}
@@ -113,12 +113,12 @@ at_first play = record {
 }
 
 -- as a call sees it that has added these events
-abbrev pub moment_of : State → List Event → Moment
-moment_of s events = moment (record { journal = Some events; marks = s.marks; live = s.allocator.live; traps = s.traps; shortages = s.shortages }) s.memory
+abbrev pub moment_with_events : State → List Event → Moment
+moment_with_events s events = moment (record { journal = Some events; marks = s.marks; live = s.allocator.live; traps = s.traps; shortages = s.shortages }) s.memory
 
 -- what it has beside its guest: its functions of the host share no data
-abbrev pub host_of : State → HostSide (Unit {0})
-host_of s = record { store = s.store; state = tt; ledger = s.ledger; log = Some s.log; refusals = s.refusals }
+abbrev pub host_side_of : State → HostSide (Unit {0})
+host_side_of s = record { store = s.store; state = tt; ledger = s.ledger; log = Some s.log; refusals = s.refusals }
 
 -- what the guest is to do in a call: these actions, with these answers of `realloc`
 abbrev pub plan_with : List Action → List Ordered → Bool → Allocator → Plan
@@ -145,11 +145,11 @@ IsEnd answer.Typecheck = ⊥
 IsEnd answer.Skipped = ⊥
 
 -- how it ended, and the results that it left
-abbrev pub outcome : Answer → Result (Unit {0}) Error
-outcome (answer.Ok results) = Ok tt
-outcome (answer.Err e) = Err e
-outcome answer.Typecheck = Ok tt
-outcome answer.Skipped = Ok tt
+abbrev pub answer_outcome : Answer → Result (Unit {0}) Error
+answer_outcome (answer.Ok results) = Ok tt
+answer_outcome (answer.Err e) = Err e
+answer_outcome answer.Typecheck = Ok tt
+answer_outcome answer.Skipped = Ok tt
 
 abbrev pub answer_values : Answer → List Val
 answer_values (answer.Ok results) = results.items
@@ -173,7 +173,7 @@ Idle before after r a = (r.answer ≡ a) × IsSilent r × (after ≡ before)
 
 -- it answered Ok with these values
 abbrev pub AnswersOk : Answer → List Val → Type 0
-AnswersOk a vs = IsEnd a × (outcome a ≡ Ok tt) × (answer_values a ≡ vs)
+AnswersOk a vs = IsEnd a × (answer_outcome a ≡ Ok tt) × (answer_values a ≡ vs)
 
 -- ---- served asks
 
@@ -205,7 +205,7 @@ pub record WasCalled {R : Type 0} (args : Arguments) (its : ReturnedValues R) (T
     (before after : State) (r : Record) : Type 0 where
   pub ended : Result R Error
   pub told : Tells Told ended r.answer
-  pub called : IsCallOf args its LeavesSame (GivesAnswers answers) callee limits (moment_of before []) (moment_of after r.events) (host_of before) (host_of after) ended r.events
+  pub called : IsCallOf args its LeavesSame (GivesAnswers answers) callee limits (moment_with_events before []) (moment_with_events after r.events) (host_side_of before) (host_side_of after) ended r.events
   pub served : Logs before.log after.log r.served.items
   pub left : Plan
   pub new_marks : List Mark
@@ -223,7 +223,7 @@ Themselves results values = values ≡ results
 -- A call with dynamic values: its parameters are those of the script, with the resources of the list in the place of their numbers.
 pub record WasCalledWith (callee : Callee) (limits : Limits) (answers : List (List HostAnswer)) (call : ScriptCall) (list : List Any) (before after : State) (r : Record) : Type 0 where
   pub params : List Val
-  pub params_are : literals_view params ≡ map (replaced (listed list)) call.params
+  pub params_are : literals_view params ≡ map (replaced (listed_resource list)) call.params
   pub called : WasCalled (dynamic callee params) (dynamic_results callee) Themselves callee limits answers (plan_of call) before after r
 
 -- It was refused before the guest was entered, which leaves everything as it was; else it was called.
@@ -306,10 +306,10 @@ Removed x before after (Err _) = ⊥
 -- The handle at an index was removed, and where it was an own handle with a destructor the guest ran that once; or the ledger refused
 -- it. A destructor that traps leaves the store trapped, and nothing reads memory any more.
 pub record WasRemoved (x : GivenIndex) (dtor_trap : Bool) (before after : State) (r : Record) : Type 0 where
-  pub removed : Removed x before after (outcome r.answer)
+  pub removed : Removed x before after (answer_outcome r.answer)
   pub played : IsEnd r.answer
   pub no_values : answer_values r.answer ≡ []
-  pub ran : r.events ≡ destructor_events (destructor_at before.ledger x) before.memory (outcome r.answer)
+  pub ran : r.events ≡ destructor_events (destructor_at before.ledger x) before.memory (answer_outcome r.answer)
   pub left : Plan
   pub does : CarriesOut (drop_plan dtor_trap before.allocator) (length before.memory) r.events [] left (length after.memory)
   pub served_none : r.served.items ≡ []

@@ -3,7 +3,7 @@
 ghost use Rattle.std.specs.Prelude.{◌≡◌, ◌≢◌, ◌++◌, [], All, Err, IfOk, OnErr, OnOk, Some, length, map};
 ghost use Rattle.canon_value_parts.specs.Resources.{all_resources};
 ghost use Rattle.canon_script.specs.Script.{IsWellFormed, call_item, call_item_view, drop_item, item_view, new_item, play_of};
-ghost use Rattle.canon_player.specs.Session.{IsEnd, Session, WasDropped, answer_values, outcome};
+ghost use Rattle.canon_player.specs.Session.{IsEnd, Session, WasDropped, answer_values, answer_outcome};
 ghost use Rattle.canon_player.specs.Steps.{MadeAnswer, MakesCall, MakesResource, PlaysItem, PlaysItems};
 ghost use Rattle.canon_player.specs.Stores.{HasItsTypes, IsCallable, IsPlayable, answers_of, limits_of, state_of};
 
@@ -331,7 +331,7 @@ fn slots_of(alloc: Global, slots: u64) -> Result<Vec<Val>, OutOfMemory>
 
 /// The answer of a call that left these results.
 fn answer_of(called: Result<(), Error>, results: Vec<Val>) -> Result<Answer, OutOfMemory>
-    ensures outcome { IfOk result (λ answer. outcome answer ≡ called) }
+    ensures outcome { IfOk result (λ answer. answer_outcome answer ≡ called) }
     ensures values { IfOk result (λ answer. OnOk called (answer_values answer ≡ results.items)) }
     ensures memory_left { IfOk result (λ answer. called ≢ Err (Error.Fault Fault.OutOfMemory)) }
     ensures played { IfOk result IsEnd }

@@ -20,10 +20,19 @@ use Rattle.canon_types.specs.Refusal.{func_refusal, with_func}
 use Rattle.canon_types.specs.Table.{HasResource, Table, TupleType, tuple_types}
 use Rattle.canon_types.specs.declared.types.InterfaceType.{InterfaceType}
 use Rattle.canon_types.specs.declared.types.TypeFunc.{TypeFunc}
-use Rattle.canon_script.specs.Imports.{HasAnswers, HaveAnswers, HostAnswer, HostParts, ImportStands, Imported, IsAnswer, add_import, answer_after, answer_of, builtin_by, builtin_of, host_of, host_with, if_many, known_resource, result_count, with_builtin, with_host, with_import}
+use Rattle.canon_script.specs.Imports.{HasAnswers, HaveAnswers, HostAnswer, HostParts, ImportStands, Imported, IsAnswer, add_import, answer_after, host_answer_of, builtin_by, builtin_import_of, host_of, host_with, if_many, known_resource, func_result_count, with_builtin, with_host, with_import}
 use Rattle.canon_literals.specs.Literals.{Literal}
 use Rattle.canon_script.specs.Numbers.{if_below}
 use Rattle.canon_script.specs.Values.{plain_value_of}
+
+-- ---- functions of the host
+
+-- a function of the host is of what its members were read as
+pub host_given : (types : List InterfaceType) (d : Data) (params results : List InterfaceType) (answers : List HostAnswer) → option_and_then (each_of (reference_of types)) (get (codes "params") d) ≡ Some params
+    → option_and_then (each_of (reference_of types)) (get (codes "results") d) ≡ Some results
+    → option_and_then (each_of (host_answer_of (length results))) (get (codes "answers") d) ≡ Some answers
+    → host_of types d ≡ Some (host_with params results answers)
+host_given types d params results answers p r a = rw (p, r, a) refl
 
 -- ---- lists that grow
 
@@ -70,7 +79,7 @@ taken_more t (j ∷ is) (b ∷ gs) i a h x = (h.0, taken_more t is gs i a h.1 x)
 
 -- ---- what it comes to
 
-results_are : (t : Table) (type : ℕ) (results : List InterfaceType) → IsHost t type results → result_count t type ≡ Some (length results)
+results_are : (t : Table) (type : ℕ) (results : List InterfaceType) → IsHost t type results → func_result_count t type ≡ Some (length results)
 results_are t type results h =
     ap (option_map (λ f. length (option_map_or tuple_types (slice_get t.definitions f.results) []))) h.found ∙ ap (λ d. Some (length (option_map_or tuple_types d []))) h.tuple
 
@@ -83,7 +92,7 @@ stands t (import.ResourceDrop r) a h = h.0
 
 answered : (t : Table) (i : Import) (a : List HostAnswer) → IsTaken t i a → HasAnswers t i a
 answered t (import.Host type options) a h =
-    All-from_recursion (IsAnswer (result_count t type)) a (subst (λ o. AllByRecursion (IsAnswer o) a) (sym (results_are t type h.0 h.1)) h.3)
+    All-from_recursion (IsAnswer (func_result_count t type)) a (subst (λ o. AllByRecursion (IsAnswer o) a) (sym (results_are t type h.0 h.1)) h.3)
 answered t (import.ResourceNew r) a h = h.1
 answered t (import.ResourceRep r) a h = h.1
 answered t (import.ResourceDrop r) a h = h.1
@@ -140,7 +149,7 @@ module _ (t : Table) (params results : List InterfaceType) where
 
 -- ---- reading
 
-answer_sound : (results : ℕ) (d : Data) (a : HostAnswer) → answer_of results d ≡ Some a → IsAnswer (Some results) a
+answer_sound : (results : ℕ) (d : Data) (a : HostAnswer) → host_answer_of results d ≡ Some a → IsAnswer (Some results) a
 answer_sound results null a e = absurd (cc)
 answer_sound results (boolean b) a e = absurd (cc)
 answer_sound results (number n) a e = absurd (cc)
@@ -156,10 +165,10 @@ host_sound : (types : List InterfaceType) (d : Data) (h : HostParts) → host_of
 host_sound types d h e =
     option_and_then_some _ (option_and_then (each_of (reference_of types)) (get (codes "params") d)) h e (λ params s1 e1.
     option_and_then_some _ (option_and_then (each_of (reference_of types)) (get (codes "results") d)) h e1 (λ results s2 e2.
-    by_map (host_with params results) (option_and_then (each_of (answer_of (length results))) (get (codes "answers") d)) h e2 (λ answers s3 is.
-    option_and_then_some (each_of (answer_of (length results))) (get (codes "answers") d) answers s3 (λ x s4 e4.
-    option_and_then_some (each (answer_of (length results))) (as_array x) answers e4 (λ ds s5 e5.
-    subst HasParts is (each_all (IsAnswer (Some (length results))) (answer_of (length results)) (answer_sound (length results)) ds answers e5))))))
+    by_map (host_with params results) (option_and_then (each_of (host_answer_of (length results))) (get (codes "answers") d)) h e2 (λ answers s3 is.
+    option_and_then_some (each_of (host_answer_of (length results))) (get (codes "answers") d) answers s3 (λ x s4 e4.
+    option_and_then_some (each (host_answer_of (length results))) (as_array x) answers e4 (λ ds s5 e5.
+    subst HasParts is (each_all (IsAnswer (Some (length results))) (host_answer_of (length results)) (answer_sound (length results)) ds answers e5))))))
 
 builtin_over : (t : Table) (r : ℕ) (word : List ℕ) (i : Import) → r < length t.resources → builtin_by r word ≡ Some i → IsTaken t i []
 builtin_over t r word i known e = by_word (pointwise nat_eq word (codes "new")) (pointwise nat_eq word (codes "rep")) (pointwise nat_eq word (codes "drop")) e
@@ -170,7 +179,7 @@ builtin_over t r word i known e = by_word (pointwise nat_eq word (codes "new")) 
     by_word false false true e = subst (λ x. IsTaken t x []) (same_Some (import.ResourceDrop r) i e) (known, refl)
     by_word false false false e = absurd (cc)
 
-builtin_sound : (t : Table) (d : Data) (i : Import) → builtin_of t d ≡ Some i → IsTaken t i []
+builtin_sound : (t : Table) (d : Data) (i : Import) → builtin_import_of t d ≡ Some i → IsTaken t i []
 builtin_sound t d i e =
     by_test (has_len 2 (as_object d)) _ i e (λ two e1.
     option_and_then_some (λ r. option_and_then (builtin_by r) (option_and_then as_str (get (codes "builtin") d))) (option_and_then (known_resource t) (option_and_then u32_of (get (codes "resource") d))) i e1 (λ r s1 e2.
@@ -202,9 +211,9 @@ builtin_keeps count m n i are taken is = subst (AreImports count) is (record {
 pub import_keeps : (count : ℕ) (types : List InterfaceType) (m n : Imported) (d : Data) → AreImports count m → add_import types m d ≡ Some n → AreImports count n
 import_keeps count types m n d are e = by_cases (has_len 3 (as_object d)) e
   where
-    by_cases : (b : Bool) → (if b then option_and_then (with_host m) (host_of types d) else option_map (with_builtin m) (builtin_of m.table d)) ≡ Some n → AreImports count n
+    by_cases : (b : Bool) → (if b then option_and_then (with_host m) (host_of types d) else option_map (with_builtin m) (builtin_import_of m.table d)) ≡ Some n → AreImports count n
     by_cases true e = option_and_then_some (with_host m) (host_of types d) n e (λ h s more. host_keeps count m n h are (host_sound types d h s) more)
-    by_cases false e = by_map (with_builtin m) (builtin_of m.table d) n e (λ i s is. builtin_keeps count m n i are (builtin_sound m.table d i s) is)
+    by_cases false e = by_map (with_builtin m) (builtin_import_of m.table d) n e (λ i s is. builtin_keeps count m n i are (builtin_sound m.table d i s) is)
 
 -- ---- of one import
 
@@ -216,10 +225,10 @@ has_answers t (j ∷ is) (k ∷ gs) (suc n) i g h e d = has_answers t is gs n i 
 
 -- what a function of the host answers, where it doesn't refuse, is as many values as its type has results
 pub answer_fits : (t : Table) (is : List Import) (gs : List (List HostAnswer)) (n k type options : ℕ) (xs : List Literal) → HaveAnswers t is gs → slice_get is n ≡ Some (import.Host type options) → answer_after gs n k ≡ Some xs
-    → result_count t type ≡ Some (length xs)
+    → func_result_count t type ≡ Some (length xs)
 answer_fits t is gs n k type options xs h e d =
     option_and_then_some (λ a. a) (option_and_then (λ given. slice_get given k) (slice_get gs n)) xs d (λ a s1 e1.
     option_and_then_some (λ given. slice_get given k) (slice_get gs n) a s1 (λ given s2 e2.
     let all = has_answers t is gs n (import.Host type options) given h e s2 in
     let at : get_or given k a ≡ a = get_or_from_slice_get given k a a e2 in
-    subst (IsAnswer (result_count t type)) (at ∙ e1) (all k a (slice_get_within given k a e2))))
+    subst (IsAnswer (func_result_count t type)) (at ∙ e1) (all k a (slice_get_within given k a e2))))

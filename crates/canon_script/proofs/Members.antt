@@ -1,18 +1,19 @@
 -- Values are read member by member.
 use Rattle.std.proofs.Common.{◌≡◌, ◌<◌, ◌≤◌, ◌+◌, ◌++◌, ℕ, zero, suc, List, [], ◌∷◌, length, drop, map, None, Some, Option, Err, slice_get, option_map, option_and_then, Result, Ok, MatchResult, IsOkAnd, Vec, Global, refl, sym, ap, subst, ◌∙◌, arith, append_assoc, append-nil}
 use Rattle.std.proofs.Math.ListN.{drop_of_length-le, get_or}
-use Rattle.std.proofs.lemmas.List.{at_drop_more}
+use Rattle.std.proofs.lemmas.List.{at_drop_more, map-append}
 use Rattle.serde_json.specs.Data.{Data, null, boolean, number, string, array, object, Items, no_items, item, no_members, member, depth, items_depth}
-use Rattle.serde_json.specs.Find.{as_array, as_object, as_str}
+use Rattle.serde_json.specs.Find.{as_array, as_str}
 use Rattle.serde_json.specs.View.{items_view, view}
 use Rattle.serde_json.specs.declared.value.Value.{Value}
-use Rattle.canon_json.specs.Json.{Gives, each_of, only_member, two}
+use Rattle.canon_json.specs.Json.{Gives, each_of, onward, two}
 use Rattle.canon_json.specs.declared.error.ScriptError.{ScriptError}
 use Rattle.canon_json.specs.declared.error.ScriptError.TheVariants as refused
 use Rattle.canon_model.specs.Shape.{Name}
 use Rattle.canon_val.specs.declared.val.Val.{Val}
-use Rattle.canon_literals.specs.Literals.{Literal, enum, fields, fields_of, fixed, flags, list, literal_view, literals_of, pairs, pairs_of, text, tuple}
-use Rattle.canon_script.specs.Values.{field_of, fields_in, pairs_in, value_kind_named, only_char, scalar_by, value_by, value_of, values_of}
+use Rattle.canon_literals.specs.Literals.{Literal, enum, fields, fields_of, fixed, flags, list, literal_view, literals_of, literals_view, pairs, literal_pairs, text, tuple}
+use Rattle.canon_script.specs.Typed.{each_literal}
+use Rattle.canon_script.specs.Values.{field_of, fields_in, kind_and_form, pairs_in, value_kind_named, only_char, scalar_by, value_by, value_of, values_of}
 use Rattle.canon_script.specs.declared.kinds.ValueKind.{ValueKind}
 use Rattle.canon_script.specs.declared.kinds.ValueKind.TheVariants as kind
 
@@ -60,25 +61,89 @@ in_two (array (item f (item g no_items))) a b e = let same : (a, b) ≡ (f, g) =
 in_two (array (item f (item g (item h ds)))) a b e = absurd (cc)
 in_two (object ms) a b e = absurd (cc)
 
-member_are : (p q : Name × Data) → Some p ≡ Some q → p ≡ q
-member_are p q e = cc
+form_are : (p q : ValueKind × Data) → Some p ≡ Some q → p ≡ q
+form_are p q e = cc
 
--- the value of the only member is less deep
-pub in_member : (d f : Data) (name : Name) → Some (name, f) ≡ option_and_then only_member (as_object d) → depth f < depth d
-in_member null f name e = absurd (cc)
-in_member (boolean b) f name e = absurd (cc)
-in_member (number n) f name e = absurd (cc)
-in_member (string s) f name e = absurd (cc)
-in_member (array ds) f name e = absurd (cc)
-in_member (object no_members) f name e = absurd (cc)
-in_member (object (member k d no_members)) f name e = omega (arith, ap (λ (p : Name × Data). depth p.1) (member_are (name, f) (k, d) e))
-in_member (object (member k d (member l x ms))) f name e = absurd (cc)
+abbrev kind_with : Data → ValueKind → ValueKind × Data
+kind_with d k = (k, d)
+
+form_is : (o : Option ValueKind) (d f : Data) (k : ValueKind) → Some (k, f) ≡ option_map (λ j. kind_with d j) o → f ≡ d
+form_is None d f k e = absurd (cc)
+form_is (Some j) d f k e = ap (λ (p : ValueKind × Data). p.1) (form_are (k, f) (j, d) e)
+
+-- what the value of the only member is read from is less deep
+pub in_form : (d f : Data) (k : ValueKind) → Some (k, f) ≡ kind_and_form d → depth f < depth d
+in_form null f k e = absurd (cc)
+in_form (boolean b) f k e = absurd (cc)
+in_form (number n) f k e = absurd (cc)
+in_form (string s) f k e = absurd (cc)
+in_form (array ds) f k e = absurd (cc)
+in_form (object no_members) f k e = absurd (cc)
+in_form (object (member name d no_members)) f k e = omega (arith, ap depth (form_is (value_kind_named name) d f k e))
+in_form (object (member name d (member l x ms))) f k e = absurd (cc)
+
+-- ---- rows that are read item by item
+
+-- a row has what its first item has, before what the rest has
+abbrev Rows : {A V : Type 0} → (List V → Option (List A)) → (V → Option A) → Type 0
+Rows {A} {V} F f = (v : V) (vs : List V) → F (v ∷ vs) ≡ option_and_then (λ x. option_map (λ xs. x ∷ xs) (F vs)) (f v)
+
+row_end : {A V : Type 0} (F : List V → Option (List A)) (us : List V) (k : ℕ) (done : List A) → F [] ≡ Some [] → length us ≤ k → option_map (λ xs. done ++ xs) (F (drop k us)) ≡ F us → F us ≡ Some done
+row_end F us k done nil past inv =
+    sym inv ∙ (ap (option_map (λ xs. done ++ xs)) (ap F (drop_of_length-le us past) ∙ nil) ∙ ap (λ xs. Some xs) (append-nil done))
+
+-- the next item has nothing, so the row has nothing
+row_none : {A V : Type 0} (F : List V → Option (List A)) (f : V → Option A) (us : List V) (k : ℕ) (x : V) (done : List A) → Rows F f → k < length us → x ≡ get_or us k x → f x ≡ None
+    → option_map (λ xs. done ++ xs) (F (drop k us)) ≡ F us → F us ≡ None
+row_none F f us k x done rows lt at none inv =
+    let rest = F (drop (k + 1) us) in
+    let first : F (drop k us) ≡ None =
+    at_drop_more F us k x lt ∙ (rows _ _ ∙ ap (option_and_then (λ y. option_map (λ ys. y ∷ ys) rest)) (ap f (sym at) ∙ none)) in
+    sym inv ∙ ap (option_map (λ xs. done ++ xs)) first
+
+one_more : {A : Type 0} (done new : List A) (x : A) (o : Option (List A)) → new ≡ done ++ x ∷ [] → option_map (λ xs. new ++ xs) o ≡ option_map (λ xs. done ++ xs) (option_map (λ xs. x ∷ xs) o)
+one_more done new x None e = refl
+one_more done new x (Some xs) e = ap (λ ys. Some ys) (ap (λ ys. ys ++ xs) e ∙ append_assoc done (x ∷ []) xs)
+
+row_step : {A V : Type 0} (F : List V → Option (List A)) (f : V → Option A) (us : List V) (k : ℕ) (x : V) (done new : List A) (a : A) → Rows F f → k < length us → x ≡ get_or us k x → f x ≡ Some a → new ≡ done ++ a ∷ []
+    → option_map (λ xs. done ++ xs) (F (drop k us)) ≡ F us → option_map (λ xs. new ++ xs) (F (drop (k + 1) us)) ≡ F us
+row_step F f us k x done new a rows lt at is grown inv =
+    let rest = F (drop (k + 1) us) in
+    let first : F (drop k us) ≡ option_map (λ xs. a ∷ xs) rest =
+    at_drop_more F us k x lt ∙ (rows _ _ ∙ ap (option_and_then (λ y. option_map (λ ys. y ∷ ys) rest)) (ap f (sym at) ∙ is)) in
+    one_more done new a rest grown ∙ (ap (option_map (λ xs. done ++ xs)) (sym first) ∙ inv)
+
+pub map_more : {A B : Type 0} (f : A → B) (xs ys : List A) (x : A) → ys ≡ xs ++ x ∷ [] → map f ys ≡ map f xs ++ f x ∷ []
+map_more f xs ys x e = ap (map f) e ∙ map-append f xs (x ∷ [])
+
+-- ---- literals
+
+pub literals_end : {A : Type 0} (read : Literal → Option A) (us : List Val) (k : ℕ) (done : List A) → length us ≤ k
+    → option_map (λ xs. done ++ xs) (each_literal read (literals_of (literals_view (drop k us)))) ≡ each_literal read (literals_of (literals_view us)) → each_literal read (literals_of (literals_view us)) ≡ Some done
+literals_end read us k done past inv = row_end (λ ws. each_literal read (literals_of (literals_view ws))) us k done refl past inv
+
+pub literals_none : {A : Type 0} (read : Literal → Option A) (us : List Val) (k : ℕ) (x : Val) (done : List A) → k < length us → x ≡ get_or us k x → read (literal_view x) ≡ None
+    → option_map (λ xs. done ++ xs) (each_literal read (literals_of (literals_view (drop k us)))) ≡ each_literal read (literals_of (literals_view us)) → each_literal read (literals_of (literals_view us)) ≡ None
+literals_none read us k x done lt at none inv =
+    row_none (λ ws. each_literal read (literals_of (literals_view ws))) (λ w. read (literal_view w)) us k x done (λ w ws. refl) lt at none inv
+
+pub literals_step : {A : Type 0} (read : Literal → Option A) (us : List Val) (k : ℕ) (x : Val) (done new : List A) (a : A) → k < length us → x ≡ get_or us k x → read (literal_view x) ≡ Some a → new ≡ done ++ a ∷ []
+    → option_map (λ xs. done ++ xs) (each_literal read (literals_of (literals_view (drop k us)))) ≡ each_literal read (literals_of (literals_view us))
+    → option_map (λ xs. new ++ xs) (each_literal read (literals_of (literals_view (drop (k + 1) us)))) ≡ each_literal read (literals_of (literals_view us))
+literals_step read us k x done new a lt at is grown inv =
+    row_step (λ ws. each_literal read (literals_of (literals_view ws))) (λ w. read (literal_view w)) us k x done new a (λ w ws. refl) lt at is grown inv
+
+-- ---- items that each take what is there further
+
+pub onward_step : {A : Type 0} (step : A → Data → Option A) (a b : A) (all : Option A) (us : List Value) (k : ℕ) (x : Value) → k < length us → x ≡ get_or us k x → step a (view x) ≡ Some b
+    → onward step a (items_view (drop k us)) ≡ all → onward step b (items_view (drop (k + 1) us)) ≡ all
+onward_step step a b all us k x lt at is inv =
+    let rest = items_view (drop (k + 1) us) in
+    let first : onward step a (items_view (drop k us)) ≡ onward step b rest =
+    at_drop_more (λ ws. onward step a (items_view ws)) us k x lt ∙ ap (option_and_then (λ y. onward step y rest)) (ap (λ (w : Value). step a (view w)) (sym at) ∙ is) in
+    sym first ∙ inv
 
 -- ---- arrays of values
-
-ends : {A : Type 0} (F : List Value → Option (List A)) (us : List Value) (k : ℕ) (done : List A) → F [] ≡ Some [] → length us ≤ k → option_map (λ xs. done ++ xs) (F (drop k us)) ≡ F us → Some done ≡ F us
-ends F us k done nil past inv =
-    ap (λ xs. Some xs) (sym (append-nil done)) ∙ (ap (option_map (λ xs. done ++ xs)) (sym (ap F (drop_of_length-le us past) ∙ nil)) ∙ inv)
 
 -- a list that is read item by item
 abbrev Lists : {A : Type 0} → (Items → Option (List A)) → (Data → Option A) → Type 0
@@ -90,16 +155,12 @@ array_by F d ds o e is = ap (option_and_then F) (sym e) ∙ is
 pub array_end : {A : Type 0} (F : Items → Option (List A)) (d : Data) (vs us : List Value) (k : ℕ) (done : List A) → F no_items ≡ Some [] → Some (items_view vs) ≡ as_array d → us ≡ vs → length us ≤ k
     → option_map (λ xs. done ++ xs) (F (items_view (drop k us))) ≡ F (items_view us) → option_and_then F (as_array d) ≡ Some done
 array_end F d vs us k done nil e same past inv =
-    array_by F d (items_view vs) (Some done) e (ap (λ ws. F (items_view ws)) (sym same) ∙ sym (ends (λ ws. F (items_view ws)) us k done nil past inv))
+    array_by F d (items_view vs) (Some done) e (ap (λ ws. F (items_view ws)) (sym same) ∙ row_end (λ ws. F (items_view ws)) us k done nil past inv)
 
 -- the next item has no value, so the array has none
 no_list : {A : Type 0} (F : Items → Option (List A)) (f : Data → Option A) (us : List Value) (k : ℕ) (x : Value) (done : List A) → Lists F f → k < length us → x ≡ get_or us k x → f (view x) ≡ None
     → option_map (λ xs. done ++ xs) (F (items_view (drop k us))) ≡ F (items_view us) → F (items_view us) ≡ None
-no_list F f us k x done lists lt at none inv =
-    let rest = F (items_view (drop (k + 1) us)) in
-    let first : F (items_view (drop k us)) ≡ None =
-    at_drop_more (λ ws. F (items_view ws)) us k x lt ∙ (lists _ _ ∙ ap (option_and_then (λ y. option_map (λ ys. y ∷ ys) rest)) (ap (λ (y : Value). f (view y)) (sym at) ∙ none)) in
-    sym inv ∙ ap (option_map (λ xs. done ++ xs)) first
+no_list F f us k x done lists lt at none inv = row_none (λ ws. F (items_view ws)) (λ w. f (view w)) us k x done (λ w ws. lists (view w) (items_view ws)) lt at none inv
 
 pub array_refused : {A X : Type 0} (F : Items → Option (List A)) (f : Data → Option A) (seen : X → A) (e : ScriptError) (d : Data) (vs us : List Value) (k : ℕ) (x : Value) (done : List A) → Lists F f
     → Some (items_view vs) ≡ as_array d → us ≡ vs → k < length us → x ≡ get_or us k x → option_map (λ xs. done ++ xs) (F (items_view (drop k us))) ≡ F (items_view us)
@@ -108,17 +169,10 @@ array_refused F f seen refused.BadScript d vs us k x done lists is same lt at in
     array_by F d (items_view vs) None is (ap (λ ws. F (items_view ws)) (sym same) ∙ no_list F f us k x done lists lt at h inv)
 array_refused F f seen refused.OutOfMemory d vs us k x done lists is same lt at inv h = tt
 
-one_more : {A : Type 0} (done new : List A) (x : A) (o : Option (List A)) → new ≡ done ++ x ∷ [] → option_map (λ xs. new ++ xs) o ≡ option_map (λ xs. done ++ xs) (option_map (λ xs. x ∷ xs) o)
-one_more done new x None e = refl
-one_more done new x (Some xs) e = ap (λ ys. Some ys) (ap (λ ys. ys ++ xs) e ∙ append_assoc done (x ∷ []) xs)
-
 pub array_step : {A : Type 0} (F : Items → Option (List A)) (f : Data → Option A) (us : List Value) (k : ℕ) (x : Value) (done new : List A) (a : A) → Lists F f → k < length us → x ≡ get_or us k x → f (view x) ≡ Some a → new ≡ done ++ a ∷ []
     → option_map (λ xs. done ++ xs) (F (items_view (drop k us))) ≡ F (items_view us) → option_map (λ xs. new ++ xs) (F (items_view (drop (k + 1) us))) ≡ F (items_view us)
 array_step F f us k x done new a lists lt at is grown inv =
-    let rest = F (items_view (drop (k + 1) us)) in
-    let first : F (items_view (drop k us)) ≡ option_map (λ xs. a ∷ xs) rest =
-    at_drop_more (λ ws. F (items_view ws)) us k x lt ∙ (lists _ _ ∙ ap (option_and_then (λ y. option_map (λ ys. y ∷ ys) rest)) (ap (λ (y : Value). f (view y)) (sym at) ∙ is)) in
-    one_more done new a rest grown ∙ (ap (option_map (λ xs. done ++ xs)) (sym first) ∙ inv)
+    row_step (λ ws. F (items_view ws)) (λ w. f (view w)) us k x done new a (λ w ws. lists (view w) (items_view ws)) lt at is grown inv
 
 -- ---- values made of what was read
 
@@ -148,7 +202,7 @@ pub flags_by : (d : Data) → value_by d kind.Flags ≡ option_map flags (each_o
 flags_by (array ds) = refl
 flags_by d = refl
 
-pub map_by : (d : Data) → value_by d kind.Map ≡ option_map (λ ps. pairs (pairs_of ps)) (option_and_then pairs_in (as_array d))
+pub map_by : (d : Data) → value_by d kind.Map ≡ option_map (λ ps. pairs (literal_pairs ps)) (option_and_then pairs_in (as_array d))
 map_by (array ds) = refl
 map_by d = refl
 
@@ -222,7 +276,7 @@ record_refused refused.OutOfMemory d vs us k x n f name done is same lt at pair 
 pub record_end : (d : Data) (vs us : List Value) (k : ℕ) (done : List (Name × Literal)) → Some (items_view vs) ≡ as_array d → us ≡ vs → length us ≤ k
     → option_map (λ fs. done ++ fs) (fields_in (items_view (drop k us))) ≡ fields_in (items_view us) → value_by d kind.Record ≡ Some (fields (fields_of done))
 record_end d vs us k done e same past inv =
-    record_by d (items_view vs) (Some done) e (ap (λ ws. fields_in (items_view ws)) (sym same) ∙ sym (ends (λ ws. fields_in (items_view ws)) us k done refl past inv))
+    record_by d (items_view vs) (Some done) e (ap (λ ws. fields_in (items_view ws)) (sym same) ∙ row_end (λ ws. fields_in (items_view ws)) us k done refl past inv)
 
 -- ---- scalars
 
@@ -255,27 +309,34 @@ by_scalar (array ds) kind.Flags other = absurd (other.no_flags refl)
 by_scalar (array ds) kind.FixedLengthList other = absurd (other.no_fixed refl)
 by_scalar d k other = refl
 
-value_at : (d f : Data) (name : List ℕ) → Some (name, f) ≡ option_and_then only_member (as_object d) → value_of d ≡ option_and_then (value_by f) (value_kind_named name)
-value_at null f name e = absurd (cc)
-value_at (boolean b) f name e = absurd (cc)
-value_at (number n) f name e = absurd (cc)
-value_at (string s) f name e = absurd (cc)
-value_at (array ds) f name e = absurd (cc)
-value_at (object no_members) f name e = absurd (cc)
-value_at (object (member l d no_members)) f name e =
-    ap (λ (m : List ℕ × Data). option_and_then (value_by m.1) (value_kind_named m.0)) (sym (member_is (name, f) (l, d) e))
-  where
-    member_is : (p q : List ℕ × Data) → Some p ≡ Some q → p ≡ q
-    member_is p q h = cc
-value_at (object (member l d (member m g ms))) f name e = absurd (cc)
+formed : (o : Option ValueKind) (d f : Data) (k : ValueKind) → Some (k, f) ≡ option_map (λ j. kind_with d j) o → option_and_then (value_by d) o ≡ value_by f k
+formed None d f k e = absurd (cc)
+formed (Some j) d f k e = ap (λ (p : ValueKind × Data). value_by p.1 p.0) (sym (form_are (k, f) (j, d) e))
 
-pub value_is : (d f : Data) (name : List ℕ) (k : ValueKind) → Some (name, f) ≡ option_and_then only_member (as_object d) → Some k ≡ value_kind_named name → value_of d ≡ value_by f k
-value_is d f name k e is = value_at d f name e ∙ ap (option_and_then (value_by f)) (sym is)
+pub value_is : (d f : Data) (k : ValueKind) → Some (k, f) ≡ kind_and_form d → value_of d ≡ value_by f k
+value_is null f k e = absurd (cc)
+value_is (boolean b) f k e = absurd (cc)
+value_is (number n) f k e = absurd (cc)
+value_is (string s) f k e = absurd (cc)
+value_is (array ds) f k e = absurd (cc)
+value_is (object no_members) f k e = absurd (cc)
+value_is (object (member name d no_members)) f k e = formed (value_kind_named name) d f k e
+value_is (object (member name d (member l x ms))) f k e = absurd (cc)
 
--- no kind has this name
-pub no_kind : (d f : Data) (name : List ℕ) (o : Option ValueKind) → Some (name, f) ≡ option_and_then only_member (as_object d) → o ≡ value_kind_named name → ((k : ValueKind) → ¬ (o ≡ Some k)) → value_of d ≡ None
-no_kind d f name None e is none = value_at d f name e ∙ ap (option_and_then (value_by f)) (sym is)
-no_kind d f name (Some k) e is none = absurd (none k refl)
+unformed : (o : Option ValueKind) (d : Data) → None ≡ option_map (λ j. kind_with d j) o → option_and_then (value_by d) o ≡ None
+unformed None d e = refl
+unformed (Some j) d e = absurd (cc)
 
-pub scalar_is : (d f : Data) (name : List ℕ) (k : ValueKind) → Some (name, f) ≡ option_and_then only_member (as_object d) → Some k ≡ value_kind_named name → IsOther k → scalar_by k f ≡ value_of d
-scalar_is d f name k e is other = sym (value_is d f name k e is ∙ by_scalar f k other)
+-- there is no only member, or no kind has its name
+pub no_value : (d : Data) → None ≡ kind_and_form d → value_of d ≡ None
+no_value null e = refl
+no_value (boolean b) e = refl
+no_value (number n) e = refl
+no_value (string s) e = refl
+no_value (array ds) e = refl
+no_value (object no_members) e = refl
+no_value (object (member name d no_members)) e = unformed (value_kind_named name) d e
+no_value (object (member name d (member l x ms))) e = refl
+
+pub scalar_is : (d : Data) (k : ValueKind) → IsOther k → scalar_by k d ≡ value_by d k
+scalar_is d k other = sym (by_scalar d k other)

@@ -16,9 +16,9 @@ use Rattle.canon_script.specs.Actions.{action_of, ordered_of}
 use Rattle.canon_scripted.specs.declared.orders.Ordered.{Ordered}
 use Rattle.canon_scripted.specs.declared.orders.Ordered.TheVariants as order
 use Rattle.canon_scripted.specs.Orders.{AreNarrow, IsNarrow}
-use Rattle.canon_script.specs.Script.{IsWellFormed, ItemStands, Play, ScriptCall, ScriptItem, ScriptTyped, call_item, call_item_of, call_of_func, call_with, called_item_of, drop_item, drop_item_of, encoding_of, final_memory, fits, fuel_of, handles_of, heap_of, if_fits, item_of, max_memory, max_work, memory_len_of, new_item, new_item_of, optional_call_members, other_item_of, play_of, play_with, played, played_over, reallocs_of, settings_of, settings_with, slots_of, times_entered, turns_of, typed_item, typed_item_of, typed_of_func, typed_params_of, typed_with, optional_typed_members}
+use Rattle.canon_script.specs.Script.{IsWellFormed, ItemStands, Play, ScriptCall, ScriptItem, ScriptTyped, call_item, call_item_of, call_of_func, call_with, called_item_of, drop_item, drop_item_of, encoding_setting, final_memory, fits, fuel_setting, handles_setting, heap_setting, if_fits, item_of, max_memory, max_work, memory_setting, new_item, new_item_of, optional_call_members, other_item_of, play_of, play_with, played, played_over, reallocs_of, settings_of, settings_with, slots_of, times_entered, turns_setting, typed_item, typed_item_of, typed_of_func, typed_params_of, typed_with, optional_typed_members}
 use Rattle.canon_script.specs.declared.script.Settings.{Settings}
-use Rattle.canon_script.specs.Imports.{result_count}
+use Rattle.canon_script.specs.Imports.{func_result_count}
 use Rattle.canon_script.specs.Numbers.{if_below}
 use Rattle.canon_script.specs.Types.{Declared, declared_of}
 use Rattle.canon_script.specs.Values.{value_of}
@@ -53,27 +53,27 @@ reallocs_narrow (Some d) os e = option_and_then_some (each ordered_of) (as_array
 
 called : (count : ℕ) (d : Data) (func results : ℕ) (c : ScriptCall) → func < count → call_of_func d func results ≡ Some c → ItemStands count (call_item c)
 called count d func results c known e =
-    option_and_then_some _ (option_and_then (each_of value_of) (get (codes "params") d)) c e (λ params s1 e1.
-    option_and_then_some _ (option_and_then (each_of action_of) (get (codes "guest") d)) c e1 (λ guest s2 e2.
-    option_and_then_some _ (slots_of results (get (codes "slots") d)) c e2 (λ slots s3 e3.
-    option_and_then_some _ (reallocs_of (get (codes "reallocs") d)) c e3 (λ reallocs s4 e4.
-    by_map (call_with func params guest slots reallocs) (option_map_or as_bool (get (codes "post_trap") d) (Some false)) c e4 (λ post s5 is.
-    subst (λ (x : ScriptCall). ItemStands count (call_item x)) is (known, reallocs_narrow (get (codes "reallocs") d) reallocs s4))))))
+    option_and_then_some _ (slots_of results (get (codes "slots") d)) c e (λ slots s1 e1.
+    option_and_then_some _ (option_map_or as_bool (get (codes "post_trap") d) (Some false)) c e1 (λ post s2 e2.
+    option_and_then_some _ (option_and_then (each_of value_of) (get (codes "params") d)) c e2 (λ params s3 e3.
+    option_and_then_some _ (option_and_then (each_of action_of) (get (codes "guest") d)) c e3 (λ guest s4 e4.
+    by_map (λ reallocs. call_with func params guest slots reallocs post) (reallocs_of (get (codes "reallocs") d)) c e4 (λ reallocs s5 is.
+    subst (λ (x : ScriptCall). ItemStands count (call_item x)) is (known, reallocs_narrow (get (codes "reallocs") d) reallocs s5))))))
 
 call_stands : (t : Table) (count : ℕ) (d : Data) (c : ScriptCall) → call_item_of t count d ≡ Some c → ItemStands count (call_item c)
 call_stands t count d c e =
     by_test (has_len (3 + optional_call_members d) (as_object d)) _ c e (λ counted e1.
-    option_and_then_some (λ func. option_and_then (call_of_func d func) (result_count t func)) (option_and_then (if_below count) (option_and_then u32_of (get (codes "call") d))) c e1 (λ func s1 e2.
-    option_and_then_some (call_of_func d func) (result_count t func) c e2 (λ results s2 e3.
+    option_and_then_some (λ func. option_and_then (call_of_func d func) (func_result_count t func)) (option_and_then (if_below count) (option_and_then u32_of (get (codes "call") d))) c e1 (λ func s1 e2.
+    option_and_then_some (call_of_func d func) (func_result_count t func) c e2 (λ results s2 e3.
     option_and_then_some (if_below count) (option_and_then u32_of (get (codes "call") d)) func s1 (λ n s3 e4. called count d func results c (below count n func e4) e3))))
 
 typed_called : (count : ℕ) (d : Data) (func : ℕ) (c : ScriptTyped) → func < count → typed_of_func d func ≡ Some c → ItemStands count (typed_item c)
 typed_called count d func c known e =
-    option_and_then_some _ (typed_params_of d) c e (λ params s1 e1.
-    option_and_then_some _ (option_and_then (each_of action_of) (get (codes "guest") d)) c e1 (λ guest s2 e2.
-    option_and_then_some _ (reallocs_of (get (codes "reallocs") d)) c e2 (λ reallocs s3 e3.
-    by_map (typed_with func params guest reallocs) (option_map_or as_bool (get (codes "post_trap") d) (Some false)) c e3 (λ post s4 is.
-    subst (λ (x : ScriptTyped). ItemStands count (typed_item x)) is (known, reallocs_narrow (get (codes "reallocs") d) reallocs s3)))))
+    option_and_then_some _ (option_map_or as_bool (get (codes "post_trap") d) (Some false)) c e (λ post s1 e1.
+    option_and_then_some _ (typed_params_of d) c e1 (λ params s2 e2.
+    option_and_then_some _ (option_and_then (each_of action_of) (get (codes "guest") d)) c e2 (λ guest s3 e3.
+    by_map (λ reallocs. typed_with func params guest reallocs post) (reallocs_of (get (codes "reallocs") d)) c e3 (λ reallocs s4 is.
+    subst (λ (x : ScriptTyped). ItemStands count (typed_item x)) is (known, reallocs_narrow (get (codes "reallocs") d) reallocs s4)))))
 
 typed_stands : (count : ℕ) (d : Data) (c : ScriptTyped) → typed_item_of count d ≡ Some c → ItemStands count (typed_item c)
 typed_stands count d c e =
@@ -104,18 +104,18 @@ item_stands t count d i e = by_cases (is_some (get (codes "call") d)) e
 
 -- ---- all of it
 
-pub heap_is : (memory heap : ℕ) (d : Option Data) → heap_of memory d ≡ Some heap → heap ≤ memory
+pub heap_is : (memory heap : ℕ) (d : Option Data) → heap_setting memory d ≡ Some heap → heap ≤ memory
 heap_is memory heap d e = option_and_then_some (λ h. if nat_le h memory then Some h else None) (option_map_or word_of d (Some 1024)) heap e (λ h s f.
     by_test (nat_le h memory) (Some h) heap f (λ le is. subst (λ (n : ℕ). n ≤ memory) (same_Some h heap is) (leb-true h memory le)))
 
 pub settings_sound : (d : Data) (s : Settings) → settings_of d ≡ Some s → s.heap ≤ s.memory
 settings_sound d s e =
-    option_and_then_some _ (memory_len_of (get (codes "memory") d)) s e (λ memory s1 e1.
-    option_and_then_some _ (heap_of memory (get (codes "heap") d)) s e1 (λ heap s2 e2.
-    option_and_then_some _ (fuel_of (get (codes "fuel") d)) s e2 (λ fuel s3 e3.
-    option_and_then_some _ (handles_of (get (codes "handles") d)) s e3 (λ handles s4 e4.
-    option_and_then_some _ (turns_of (get (codes "turns") d)) s e4 (λ turns s5 e5.
-    by_map (settings_with memory heap fuel handles turns) (encoding_of (get (codes "encoding") d)) s e5 (λ encoding s6 is.
+    option_and_then_some _ (memory_setting (get (codes "memory") d)) s e (λ memory s1 e1.
+    option_and_then_some _ (heap_setting memory (get (codes "heap") d)) s e1 (λ heap s2 e2.
+    option_and_then_some _ (fuel_setting (get (codes "fuel") d)) s e2 (λ fuel s3 e3.
+    option_and_then_some _ (handles_setting (get (codes "handles") d)) s e3 (λ handles s4 e4.
+    option_and_then_some _ (turns_setting (get (codes "turns") d)) s e4 (λ turns s5 e5.
+    by_map (settings_with memory heap fuel handles turns) (encoding_setting (get (codes "encoding") d)) s e5 (λ encoding s6 is.
     subst (λ (x : Settings). x.heap ≤ x.memory) is (heap_is memory heap (get (codes "heap") d) s2)))))))
 
 module _ (s : Settings) (inside : s.heap ≤ s.memory) (items : Items) where

@@ -6,7 +6,7 @@ use Rattle.canon_model.specs.Shape.{Name}
 use Rattle.canon_json.proofs.Found.{by_map}
 use Rattle.canon_val.specs.declared.val.Val.{Val}
 use Rattle.canon_literals.specs.Literals.{Literal, Literals, Payload, literals_view, bool, list, literal, literals_of, no_literals, no_payload, option, text, tuple, u32, u64, with_payload}
-use Rattle.canon_script.specs.Typed.{IsForm, AreReadBack, TypedValues, a_number, a_text, alone, both, each_literal, flag_from, flag_in, flag_payload, items_in, long_in, number_in, pair_in, pair_literal, signature_of, text_in, the_numbers, the_pairs, truth_in, tuple_in, two_in, typed_literals, typed_values}
+use Rattle.canon_script.specs.Typed.{IsForm, AreReadBack, TypedValues, a_number, a_text, alone, both_literals, each_literal, flag_from, flag_in, flag_payload, list_items_in, long_in, number_in, string_and_long_in, pair_literal, signature_number, string_in, the_numbers, the_pairs, truth_in, tuple_in, two_in, typed_literals, typed_values}
 
 -- a row of another length has no two members
 pub two_of_none : (vs : List Val) → length vs ≢ 2 → two_in (literals_of (literals_view vs)) ≡ None
@@ -29,7 +29,7 @@ long_inverts : Inverts long_in u64
 long_inverts (u64 n) a e = ap u64 (sym (same_Some n a e))
 long_inverts _ a e = absurd (cc)
 
-text_inverts : Inverts text_in text
+text_inverts : Inverts string_in text
 text_inverts (text s) a e = ap text (sym (same_Some s a e))
 text_inverts _ a e = absurd (cc)
 
@@ -55,10 +55,10 @@ tuple_inverts : Inverts tuple_in (λ p. tuple (literal p.0 (literal p.1 no_liter
 tuple_inverts (tuple xs) p e = ap tuple (two_are xs p e)
 tuple_inverts _ p e = absurd (cc)
 
-pair_inverts : Inverts pair_in pair_literal
+pair_inverts : Inverts string_and_long_in pair_literal
 pair_inverts x a e =
-    option_and_then_some (λ m. option_and_then (λ s. option_map (λ n. (s, n)) (long_in m.1)) (text_in m.0)) (tuple_in x) a e (λ m s1 e1.
-    option_and_then_some (λ s. option_map (λ n. (s, n)) (long_in m.1)) (text_in m.0) a e1 (λ s s2 e2.
+    option_and_then_some (λ m. option_and_then (λ s. option_map (λ n. (s, n)) (long_in m.1)) (string_in m.0)) (tuple_in x) a e (λ m s1 e1.
+    option_and_then_some (λ s. option_map (λ n. (s, n)) (long_in m.1)) (string_in m.0) a e1 (λ s s2 e2.
     by_map (λ n. (s, n)) (long_in m.1) a e2 (λ n s3 is.
     ap pair_literal (sym is) ∙ (ap₂ (λ y z. tuple (literal y (literal z no_literals))) (text_inverts m.0 s s2) (long_inverts m.1 n s3) ∙ tuple_inverts x m s1))))
 
@@ -70,7 +70,7 @@ module _ {A : Type 0} (read : Literal → Option A) (told : A → Literal) (law 
       by_map (λ zs. y ∷ zs) (each_literal read xs) ys e1 (λ zs s2 is.
       ap (λ ws. literals_of (map told ws)) (sym is) ∙ ap₂ literal (law x y s1) (each_inverts xs zs s2)))
 
-  items_inverts : Inverts (items_in read) (λ ys. list (literals_of (map told ys)))
+  items_inverts : Inverts (list_items_in read) (λ ys. list (literals_of (map told ys)))
   items_inverts (list xs) ys e = ap list (each_inverts xs ys e)
   items_inverts _ ys e = absurd (cc)
 
@@ -80,7 +80,7 @@ module _ {A : Type 0} (read : Literal → Option A) (told : A → Literal) (law 
   alone_inverts (x ∷ y ∷ xs) a e = absurd (cc)
 
 module _ {A B : Type 0} (read : Literal → Option A) (told : A → Literal) (read2 : Literal → Option B) (told2 : B → Literal) (law : Inverts read told) (law2 : Inverts read2 told2) where
-  both_inverts : (xs : List Literal) (p : A × B) → both read read2 xs ≡ Some p → told p.0 ∷ told2 p.1 ∷ [] ≡ xs
+  both_inverts : (xs : List Literal) (p : A × B) → both_literals read read2 xs ≡ Some p → told p.0 ∷ told2 p.1 ∷ [] ≡ xs
   both_inverts [] p e = absurd (cc)
   both_inverts (x ∷ []) p e = absurd (cc)
   both_inverts (x ∷ y ∷ []) p e =
@@ -89,7 +89,7 @@ module _ {A B : Type 0} (read : Literal → Option A) (told : A → Literal) (re
       ap (λ (q : A × B). told q.0 ∷ told2 q.1 ∷ []) (sym is) ∙ ap₂ (λ (u w : Literal). u ∷ w ∷ []) (law x a s1) (law2 y b s2)))
   both_inverts (x ∷ y ∷ z ∷ xs) p e = absurd (cc)
 
-formed : (signature : ℕ) (xs : List Literal) (v w : TypedValues) → w ≡ v → signature_of w ≡ signature → typed_literals w ≡ xs → IsForm signature xs v
+formed : (signature : ℕ) (xs : List Literal) (v w : TypedValues) → w ≡ v → signature_number w ≡ signature → typed_literals w ≡ xs → IsForm signature xs v
 formed signature xs v w e s l = subst (IsForm signature xs) e (record { signature_is = s; literals_are = l })
 
 either : {A P : Type 0} (b : Bool) (o q : Option A) (x : A) → (if b then o else q) ≡ Some x → (IsTrue b → o ≡ Some x → P) → (q ≡ Some x → P) → P
@@ -100,13 +100,13 @@ pub is_form : (signature : ℕ) (xs : List Literal) (v : TypedValues) → typed_
 is_form signature xs v e =
     either (nat_eq signature 1) _ _ v e (λ one f. by_map a_number (alone number_in xs) v f (λ n s is.
     formed signature xs v (a_number n) is (sym (eqb-true signature 1 one)) (alone_inverts number_in u32 number_inverts xs n s))) (λ e.
-    either (nat_eq signature 2) _ _ v e (λ one f. by_map a_text (alone text_in xs) v f (λ n s is.
-    formed signature xs v (a_text n) is (sym (eqb-true signature 2 one)) (alone_inverts text_in text text_inverts xs n s))) (λ e.
-    either (nat_eq signature 3) _ _ v e (λ one f. by_map the_numbers (alone (items_in number_in) xs) v f (λ n s is.
-    formed signature xs v (the_numbers n) is (sym (eqb-true signature 3 one)) (alone_inverts (items_in number_in) (λ ys. list (literals_of (map u32 ys))) (items_inverts number_in u32 number_inverts) xs n s))) (λ e.
-    either (nat_eq signature 4) _ _ v e (λ one f. by_map (λ p. the_pairs p.0 p.1) (both (items_in pair_in) flag_in xs) v f (λ p s is.
+    either (nat_eq signature 2) _ _ v e (λ one f. by_map a_text (alone string_in xs) v f (λ n s is.
+    formed signature xs v (a_text n) is (sym (eqb-true signature 2 one)) (alone_inverts string_in text text_inverts xs n s))) (λ e.
+    either (nat_eq signature 3) _ _ v e (λ one f. by_map the_numbers (alone (list_items_in number_in) xs) v f (λ n s is.
+    formed signature xs v (the_numbers n) is (sym (eqb-true signature 3 one)) (alone_inverts (list_items_in number_in) (λ ys. list (literals_of (map u32 ys))) (items_inverts number_in u32 number_inverts) xs n s))) (λ e.
+    either (nat_eq signature 4) _ _ v e (λ one f. by_map (λ p. the_pairs p.0 p.1) (both_literals (list_items_in string_and_long_in) flag_in xs) v f (λ p s is.
     formed signature xs v (the_pairs p.0 p.1) is (sym (eqb-true signature 4 one))
-    (both_inverts (items_in pair_in) (λ ys. list (literals_of (map pair_literal ys))) flag_in (λ flag. option (flag_payload flag)) (items_inverts pair_in pair_literal pair_inverts) flag_inverts xs p s)))
+    (both_inverts (list_items_in string_and_long_in) (λ ys. list (literals_of (map pair_literal ys))) flag_in (λ flag. option (flag_payload flag)) (items_inverts string_and_long_in pair_literal pair_inverts) flag_inverts xs p s)))
     (λ e. absurd (cc)))))
 
 -- ---- literals are read
@@ -130,5 +130,5 @@ is_read (a_number n) = refl
 is_read (a_text s) = refl
 is_read (the_numbers ns) = ap (option_map the_numbers) (each_read number_in u32 (λ n. refl) ns)
 is_read (the_pairs ps flag) =
-    ap (λ o. option_map by_pairs (option_and_then (λ a. option_map (λ b. (a, b)) (flag_from (flag_payload flag))) o)) (each_read pair_in pair_literal (λ p. refl) ps)
+    ap (λ o. option_map by_pairs (option_and_then (λ a. option_map (λ b. (a, b)) (flag_from (flag_payload flag))) o)) (each_read string_and_long_in pair_literal (λ p. refl) ps)
     ∙ ap (λ o. option_map by_pairs (option_map (λ b. (ps, b)) o)) (flag_read flag)

@@ -32,20 +32,20 @@ abbrev pub answers_view : List (Vec (Option (Vec Val Global)) Global) → List (
 answers_view given = map (λ answers. map answer_view answers.items) given
 
 -- the word of a refusal
-abbrev pub refused_by : List ℕ → Option HostAnswer
-refused_by word = if pointwise nat_eq word (codes "refuse") then Some None else None
+abbrev pub refusal_by_word : List ℕ → Option HostAnswer
+refusal_by_word word = if pointwise nat_eq word (codes "refuse") then Some None else None
 
 abbrev pub if_many : ℕ → List Literal → Option HostAnswer
 if_many count xs = if nat_eq (length xs) count then Some (Some xs) else None
 
 -- values in which no resource stands, as many as there are results; or the word of a refusal
-abbrev pub answer_of : ℕ → Data → Option HostAnswer
-answer_of results null = None
-answer_of results (boolean b) = None
-answer_of results (number n) = None
-answer_of results (string word) = refused_by word
-answer_of results (array ds) = option_and_then (if_many results) (each plain_value_of ds)
-answer_of results (object ms) = None
+abbrev pub host_answer_of : ℕ → Data → Option HostAnswer
+host_answer_of results null = None
+host_answer_of results (boolean b) = None
+host_answer_of results (number n) = None
+host_answer_of results (string word) = refusal_by_word word
+host_answer_of results (array ds) = option_and_then (if_many results) (each plain_value_of ds)
+host_answer_of results (object ms) = None
 
 -- What import n answers after it gave k answers: none where it refuses, or has no more.
 abbrev pub answer_after : List (List HostAnswer) → ℕ → ℕ → HostAnswer
@@ -68,7 +68,7 @@ host_view h = host_with h.params.items h.results.items (map answer_view h.answer
 abbrev pub host_of : List InterfaceType → Data → Option HostParts
 host_of types d =
     option_and_then (λ params. option_and_then (λ results. option_map (host_with params results)
-    (option_and_then (each_of (answer_of (length results))) (get (codes "answers") d)))
+    (option_and_then (each_of (host_answer_of (length results))) (get (codes "answers") d)))
     (option_and_then (each_of (reference_of types)) (get (codes "results") d)))
     (option_and_then (each_of (reference_of types)) (get (codes "params") d))
 
@@ -86,8 +86,8 @@ abbrev pub known_resource : Table → ℕ → Option ℕ
 known_resource t r = if_below (length t.resources) r
 
 -- an object of these two members
-abbrev pub builtin_of : Table → Data → Option Import
-builtin_of t d =
+abbrev pub builtin_import_of : Table → Data → Option Import
+builtin_import_of t d =
     if has_len 2 (as_object d)
     then option_and_then (λ r. option_and_then (builtin_by r) (option_and_then as_str (get (codes "builtin") d)))
     (option_and_then (known_resource t) (option_and_then u32_of (get (codes "resource") d)))
@@ -122,7 +122,7 @@ with_builtin m i = with_import m m.table i []
 abbrev pub add_import : List InterfaceType → Imported → Data → Option Imported
 add_import types m d =
     if has_len 3 (as_object d) then option_and_then (with_host m) (host_of types d)
-    else option_map (with_builtin m) (builtin_of m.table d)
+    else option_map (with_builtin m) (builtin_import_of m.table d)
 
 -- the imports of an array, over these types
 abbrev pub imports_over : List InterfaceType → Table → Items → Option Imported
@@ -131,8 +131,8 @@ imports_over types t items = onward (add_import types) (imported t [] []) items
 -- ---- what is known of them
 
 -- the number of a function's results, if there is such a function
-abbrev pub result_count : Table → ℕ → Option ℕ
-result_count t func = option_map (λ f. length (types_of t f.results)) (slice_get t.funcs func)
+abbrev pub func_result_count : Table → ℕ → Option ℕ
+func_result_count t func = option_map (λ f. length (types_of t f.results)) (slice_get t.funcs func)
 
 -- It is a function of a type of the table that isn't async, under the first options; or a call on the handles of one of its resource types.
 abbrev pub ImportStands : Table → Import → Type 0
@@ -148,7 +148,7 @@ IsAnswer results (Some xs) = results ≡ Some (length xs)
 
 -- a call on handles has no answers
 abbrev pub HasAnswers : Table → Import → List HostAnswer → Type 0
-HasAnswers t (import.Host type options) answers = All (IsAnswer (result_count t type)) answers
+HasAnswers t (import.Host type options) answers = All (IsAnswer (func_result_count t type)) answers
 HasAnswers t (import.ResourceNew r) answers = answers ≡ []
 HasAnswers t (import.ResourceRep r) answers = answers ≡ []
 HasAnswers t (import.ResourceDrop r) answers = answers ≡ []

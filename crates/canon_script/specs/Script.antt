@@ -15,7 +15,7 @@ use Rattle.canon_scripted.specs.declared.actions.Action.{Action}
 use Rattle.canon_scripted.specs.Orders.{AreNarrow}
 use Rattle.canon_scripted.specs.declared.orders.Ordered.{Ordered}
 use Rattle.canon_script.specs.Actions.{action_of, ask_count, growth, ordered_of}
-use Rattle.canon_script.specs.Imports.{HaveAnswers, HostAnswer, ImportStands, answers_view, result_count}
+use Rattle.canon_script.specs.Imports.{HaveAnswers, HostAnswer, ImportStands, answers_view, func_result_count}
 use Rattle.canon_literals.specs.Literals.{Literal, literals_view}
 use Rattle.canon_script.specs.Numbers.{if_below, number_to}
 use Rattle.canon_script.specs.Typed.{TypedValues, typed_values, typed_view}
@@ -65,18 +65,18 @@ optional_call_members d = there (get (codes "slots") d) + (there (get (codes "re
 -- a call of the function of this number, which has so many results
 abbrev pub call_of_func : Data → ℕ → ℕ → Option ScriptCall
 call_of_func d func results =
-    option_and_then (λ params. option_and_then (λ guest. option_and_then (λ slots. option_and_then (λ reallocs. option_map (call_with func params guest slots reallocs)
-    (option_map_or as_bool (get (codes "post_trap") d) (Some false)))
+    option_and_then (λ slots. option_and_then (λ post_trap. option_and_then (λ params. option_and_then (λ guest. option_map (λ reallocs. call_with func params guest slots reallocs post_trap)
     (reallocs_of (get (codes "reallocs") d)))
-    (slots_of results (get (codes "slots") d)))
     (option_and_then (each_of action_of) (get (codes "guest") d)))
-    (option_and_then (each_of value_of) (get (codes "params") d))
+    (option_and_then (each_of value_of) (get (codes "params") d)))
+    (option_map_or as_bool (get (codes "post_trap") d) (Some false)))
+    (slots_of results (get (codes "slots") d))
 
 -- an object that calls one of the first functions of the table, of which there are so many
 abbrev pub call_item_of : Table → ℕ → Data → Option ScriptCall
 call_item_of t count d =
     if has_len (3 + optional_call_members d) (as_object d)
-    then option_and_then (λ func. option_and_then (call_of_func d func) (result_count t func))
+    then option_and_then (λ func. option_and_then (call_of_func d func) (func_result_count t func))
     (option_and_then (if_below count) (option_and_then u32_of (get (codes "call") d)))
     else None
 
@@ -89,18 +89,18 @@ optional_typed_members d = there (get (codes "reallocs") d) + there (get (codes 
 -- the parameters of a typed call, by the number of its signature
 abbrev pub typed_params_of : Data → Option TypedValues
 typed_params_of d =
-    option_and_then (λ xs. option_and_then (λ signature. typed_values signature xs)
-    (option_and_then word_of (get (codes "typed") d)))
-    (option_and_then (each_of value_of) (get (codes "params") d))
+    option_and_then (λ signature. option_and_then (typed_values signature)
+    (option_and_then (each_of value_of) (get (codes "params") d)))
+    (option_and_then word_of (get (codes "typed") d))
 
 -- a typed call of the function of this number
 abbrev pub typed_of_func : Data → ℕ → Option ScriptTyped
 typed_of_func d func =
-    option_and_then (λ params. option_and_then (λ guest. option_and_then (λ reallocs. option_map (typed_with func params guest reallocs)
-    (option_map_or as_bool (get (codes "post_trap") d) (Some false)))
+    option_and_then (λ post_trap. option_and_then (λ params. option_and_then (λ guest. option_map (λ reallocs. typed_with func params guest reallocs post_trap)
     (reallocs_of (get (codes "reallocs") d)))
     (option_and_then (each_of action_of) (get (codes "guest") d)))
-    (typed_params_of d)
+    (typed_params_of d))
+    (option_map_or as_bool (get (codes "post_trap") d) (Some false))
 
 -- an object that calls one of the first functions of the table so, of which there are so many
 abbrev pub typed_item_of : ℕ → Data → Option ScriptTyped
@@ -161,11 +161,11 @@ abbrev pub item_of : Table → ℕ → Data → Option ScriptItem
 item_of t count d = if is_some (get (codes "call") d) then called_item_of t count d else other_item_of t d
 
 -- what the guest does in an item
-abbrev pub guest_in : ScriptItem → List Action
-guest_in (call_item c) = c.guest
-guest_in (typed_item c) = c.guest
-guest_in (new_item n) = []
-guest_in (drop_item d) = []
+abbrev pub guest_actions_in : ScriptItem → List Action
+guest_actions_in (call_item c) = c.guest
+guest_actions_in (typed_item c) = c.guest
+guest_actions_in (new_item n) = []
+guest_actions_in (drop_item d) = []
 
 -- a call starts the guest
 abbrev pub starts : ScriptItem → ℕ
@@ -184,11 +184,11 @@ max_work = 1073741824
 
 -- memory at the end, as long as all actions that grow it are carried out
 abbrev pub final_memory : ℕ → List ScriptItem → ℕ
-final_memory memory items = memory + sum_by (λ i. growth (guest_in i)) items
+final_memory memory items = memory + sum_by (λ i. growth (guest_actions_in i)) items
 
 -- how often the guest is started or resumed
 abbrev pub times_entered : List ScriptItem → ℕ
-times_entered items = sum_by (λ i. starts i + ask_count (guest_in i)) items
+times_entered items = sum_by (λ i. starts i + ask_count (guest_actions_in i)) items
 
 abbrev pub fits : ℕ → List ScriptItem → Bool
 fits memory items =
@@ -238,21 +238,21 @@ play_with s d items = record {
 abbrev pub if_fits : Settings → Declared → List ScriptItem → Option Play
 if_fits s d items = if fits s.memory items then Some (play_with s d items) else None
 
-abbrev pub memory_len_of : Option Data → Option ℕ
-memory_len_of d = option_map_or (number_to max_memory) d (Some 65536)
+abbrev pub memory_setting : Option Data → Option ℕ
+memory_setting d = option_map_or (number_to max_memory) d (Some 65536)
 
 -- at most memory, so it is given where memory is below 1,024
-abbrev pub heap_of : ℕ → Option Data → Option ℕ
-heap_of memory d = option_and_then (λ heap. if nat_le heap memory then Some heap else None) (option_map_or word_of d (Some 1024))
+abbrev pub heap_setting : ℕ → Option Data → Option ℕ
+heap_setting memory d = option_and_then (λ heap. if nat_le heap memory then Some heap else None) (option_map_or word_of d (Some 1024))
 
-abbrev pub fuel_of : Option Data → Option ℕ
-fuel_of d = option_map_or word_of d (Some 1000000)
+abbrev pub fuel_setting : Option Data → Option ℕ
+fuel_setting d = option_map_or word_of d (Some 1000000)
 
-abbrev pub handles_of : Option Data → Option ℕ
-handles_of d = option_map_or (number_to 1000000) d (Some 1000000)
+abbrev pub handles_setting : Option Data → Option ℕ
+handles_setting d = option_map_or (number_to 1000000) d (Some 1000000)
 
-abbrev pub turns_of : Option Data → Option ℕ
-turns_of d = option_map_or (number_to 1000000) d (Some 100)
+abbrev pub turns_setting : Option Data → Option ℕ
+turns_setting d = option_map_or (number_to 1000000) d (Some 100)
 
 abbrev pub encoding_named : List ℕ → Option StringEncoding
 encoding_named name =
@@ -260,8 +260,8 @@ encoding_named name =
     else (if pointwise nat_eq name (codes "utf16") then Some encoding.Utf16
     else (if pointwise nat_eq name (codes "compact") then Some encoding.CompactUtf16 else None))
 
-abbrev pub encoding_of : Option Data → Option StringEncoding
-encoding_of d = option_map_or (λ x. option_and_then encoding_named (as_str x)) d (Some encoding.Utf8)
+abbrev pub encoding_setting : Option Data → Option StringEncoding
+encoding_setting d = option_map_or (λ x. option_and_then encoding_named (as_str x)) d (Some encoding.Utf8)
 
 abbrev pub settings_with : ℕ → ℕ → ℕ → ℕ → ℕ → StringEncoding → Settings
 settings_with memory heap fuel handles turns encoding = record { memory = memory; heap = heap; fuel = fuel; handles = handles; turns = turns; encoding = encoding }
@@ -269,12 +269,12 @@ settings_with memory heap fuel handles turns encoding = record { memory = memory
 -- the members that are no arrays
 abbrev pub settings_of : Data → Option Settings
 settings_of d = option_and_then (λ memory. option_and_then (λ heap. option_and_then (λ fuel. option_and_then (λ handles. option_and_then (λ turns. option_map (settings_with memory heap fuel handles turns)
-    (encoding_of (get (codes "encoding") d)))
-    (turns_of (get (codes "turns") d)))
-    (handles_of (get (codes "handles") d)))
-    (fuel_of (get (codes "fuel") d)))
-    (heap_of memory (get (codes "heap") d)))
-    (memory_len_of (get (codes "memory") d))
+    (encoding_setting (get (codes "encoding") d)))
+    (turns_setting (get (codes "turns") d)))
+    (handles_setting (get (codes "handles") d)))
+    (fuel_setting (get (codes "fuel") d)))
+    (heap_setting memory (get (codes "heap") d)))
+    (memory_setting (get (codes "memory") d))
 
 -- items over what was declared
 abbrev pub played_over : Settings → Items → Declared → Option Play

@@ -14,11 +14,11 @@ pub data TypedValues : Type 0 where
   the_pairs : List (Name × ℕ) → Option Bool → TypedValues
 
 -- the number of their signature
-abbrev pub signature_of : TypedValues → ℕ
-signature_of (a_number n) = 1
-signature_of (a_text s) = 2
-signature_of (the_numbers ns) = 3
-signature_of (the_pairs ps flag) = 4
+abbrev pub signature_number : TypedValues → ℕ
+signature_number (a_number n) = 1
+signature_number (a_text s) = 2
+signature_number (the_numbers ns) = 3
+signature_number (the_pairs ps flag) = 4
 
 -- ---- as literals
 
@@ -45,9 +45,9 @@ abbrev pub long_in : Literal → Option ℕ
 long_in (u64 n) = Some n
 long_in _ = None
 
-abbrev pub text_in : Literal → Option Name
-text_in (text s) = Some s
-text_in _ = None
+abbrev pub string_in : Literal → Option Name
+string_in (text s) = Some s
+string_in _ = None
 
 abbrev pub truth_in : Literal → Option Bool
 truth_in (bool b) = Some b
@@ -70,8 +70,8 @@ tuple_in (tuple xs) = two_in xs
 tuple_in _ = None
 
 -- a tuple of a text and a u64
-abbrev pub pair_in : Literal → Option (Name × ℕ)
-pair_in x = option_and_then (λ m. option_and_then (λ s. option_map (λ n. (s, n)) (long_in m.1)) (text_in m.0)) (tuple_in x)
+abbrev pub string_and_long_in : Literal → Option (Name × ℕ)
+string_and_long_in x = option_and_then (λ m. option_and_then (λ s. option_map (λ n. (s, n)) (long_in m.1)) (string_in m.0)) (tuple_in x)
 
 abbrev pub each_literal : {A : Type 0} → (Literal → Option A) → Literals → Option (List A)
 each_literal read no_literals = Some []
@@ -82,25 +82,25 @@ abbrev pub list_in : Literal → Option Literals
 list_in (list xs) = Some xs
 list_in _ = None
 
-abbrev pub items_in : {A : Type 0} → (Literal → Option A) → Literal → Option (List A)
-items_in read x = option_and_then (each_literal read) (list_in x)
+abbrev pub list_items_in : {A : Type 0} → (Literal → Option A) → Literal → Option (List A)
+list_items_in read x = option_and_then (each_literal read) (list_in x)
 
 -- the only literal, and two of them
 abbrev pub alone : {A : Type 0} → (Literal → Option A) → List Literal → Option A
 alone read (x ∷ []) = read x
 alone read _ = None
 
-abbrev pub both : {A B : Type 0} → (Literal → Option A) → (Literal → Option B) → List Literal → Option (A × B)
-both read read2 (x ∷ y ∷ []) = option_and_then (λ a. option_map (λ b. (a, b)) (read2 y)) (read x)
-both read read2 _ = None
+abbrev pub both_literals : {A B : Type 0} → (Literal → Option A) → (Literal → Option B) → List Literal → Option (A × B)
+both_literals read read2 (x ∷ y ∷ []) = option_and_then (λ a. option_map (λ b. (a, b)) (read2 y)) (read x)
+both_literals read read2 _ = None
 
 -- the values of this signature that literals are
 abbrev pub typed_values : ℕ → List Literal → Option TypedValues
 typed_values signature xs =
     if nat_eq signature 1 then option_map a_number (alone number_in xs)
-    else (if nat_eq signature 2 then option_map a_text (alone text_in xs)
-    else (if nat_eq signature 3 then option_map the_numbers (alone (items_in number_in) xs)
-    else (if nat_eq signature 4 then option_map (λ p. the_pairs p.0 p.1) (both (items_in pair_in) flag_in xs)
+    else (if nat_eq signature 2 then option_map a_text (alone string_in xs)
+    else (if nat_eq signature 3 then option_map the_numbers (alone (list_items_in number_in) xs)
+    else (if nat_eq signature 4 then option_map (λ p. the_pairs p.0 p.1) (both_literals (list_items_in string_and_long_in) flag_in xs)
     else None)))
 
 -- ---- how they are kept
@@ -118,9 +118,9 @@ typed_view (params.Pairs ps flag) = the_pairs (map name_view ps.items) flag
 
 -- what was read has the signature, and its literals are these
 pub record IsForm (signature : ℕ) (xs : List Literal) (v : TypedValues) : Type 0 where
-  pub signature_is : signature_of v ≡ signature
+  pub signature_is : signature_number v ≡ signature
   pub literals_are : typed_literals v ≡ xs
 
 -- the literals of values are read as these values
 abbrev pub AreReadBack : TypedValues → Type 0
-AreReadBack v = typed_values (signature_of v) (typed_literals v) ≡ Some v
+AreReadBack v = typed_values (signature_number v) (typed_literals v) ≡ Some v

@@ -4,10 +4,10 @@ use Rattle.std.specs.List.{find}
 use Rattle.std.specs.Str.{chars}
 use lib.Pointwise.{pointwise}
 use Rattle.serde_json.specs.Data.{Data, null, boolean, number, string, array, object, Items, no_items, item, Members, no_members, member}
-use Rattle.serde_json.specs.Find.{as_array, as_bool, as_str}
-use Rattle.canon_json.specs.Json.{each, u32_of, word_of}
+use Rattle.serde_json.specs.Find.{as_array, as_bool, as_object, as_str}
+use Rattle.canon_json.specs.Json.{each, only_member, u32_of, word_of}
 use Rattle.canon_model.specs.Shape.{Name}
-use Rattle.canon_literals.specs.Literals.{Literal, Payload, bool, char, enum, error, f32, f64, fields, fields_of, fixed, flags, held, held_in, list, literals_of, no_payload, numbered, ok, option, pairs, pairs_of, s16, s32, s64, s8, text, tuple, u16, u32, u64, u8, variant, with_payload}
+use Rattle.canon_literals.specs.Literals.{Literal, Payload, bool, char, enum, error, f32, f64, fields, fields_of, fixed, flags, held, held_in, list, literals_of, no_payload, numbered_resource, ok, option, pairs, literal_pairs, s16, s32, s64, s8, text, tuple, u16, u32, u64, u8, variant, with_payload}
 use Rattle.canon_script.specs.Numbers.{integer_of, integer_within, number_below}
 use Rattle.canon_script.specs.declared.kinds.ValueKind.{ValueKind}
 use Rattle.canon_script.specs.declared.kinds.ValueKind.TheVariants as kind
@@ -46,6 +46,10 @@ value_kinds = kind.Bool ∷ kind.S8 ∷ kind.U8 ∷ kind.S16 ∷ kind.U16 ∷ ki
 abbrev pub value_kind_named : List ℕ → Option ValueKind
 value_kind_named name = find (λ k. pointwise nat_eq name (value_word k)) value_kinds
 
+-- the kind that the only member names, and what a value of it is read from
+abbrev pub kind_and_form : Data → Option (ValueKind × Data)
+kind_and_form d = option_and_then (λ m. option_map (λ k. (k, m.1)) (value_kind_named m.0)) (option_and_then only_member (as_object d))
+
 -- ---- scalars
 
 abbrev pub only_char : List ℕ → Option ℕ
@@ -71,7 +75,7 @@ scalar_by kind.Float32 d = option_map f32 (u32_of d)
 scalar_by kind.Float64 d = option_map f64 (word_of d)
 scalar_by kind.Char d = option_map char (char_of d)
 -- the number of a resource
-scalar_by kind.Resource d = option_map (λ n. held (numbered n)) (u32_of d)
+scalar_by kind.Resource d = option_map (λ n. held (numbered_resource n)) (u32_of d)
 scalar_by _ d = None
 
 -- ---- values
@@ -111,7 +115,7 @@ abbrev mutual
   pub value_by : Data → ValueKind → Option Literal
   value_by (string s) kind.String = Some (text s)
   value_by (array ds) kind.List = option_map (λ xs. list (literals_of xs)) (values_of ds)
-  value_by (array ds) kind.Map = option_map (λ ps. pairs (pairs_of ps)) (pairs_in ds)
+  value_by (array ds) kind.Map = option_map (λ ps. pairs (literal_pairs ps)) (pairs_in ds)
   value_by (array ds) kind.Record = option_map (λ fs. fields (fields_of fs)) (fields_in ds)
   value_by (array ds) kind.Tuple = option_map (λ xs. tuple (literals_of xs)) (values_of ds)
   value_by (array ds) kind.Variant = option_map (λ c. variant c.0 c.1) (case_in ds)

@@ -11,6 +11,7 @@ ghost use Rattle.canon_scripted.specs.declared.actions.Action.{Action};
 ghost use Rattle.canon_scripted.specs.declared.orders.Ordered.{Ordered};
 ghost use Rattle.canon_script.specs.Actions as spec;
 
+use crate::fields::u32_in;
 use canon_json::{Reader, ScriptError, bytes_of_json, each_of, has_len, only_member, two, u32_of};
 use canon_memory::{Bytes, ValRaw, Words};
 use canon_scripted::{Action, Ordered};
@@ -123,10 +124,7 @@ fn trap_of(v: &Value) -> Result<Action, ScriptError>
 fn ask_of(alloc: Global, v: &Value) -> Result<Action, ScriptError>
     ensures { Gives (λ a. a) result (spec.ask_of (view v.now)) }
 {
-    let Some(import) = v.get("ask") else {
-        return Err(ScriptError::BadScript);
-    };
-    let Some(import) = u32_of(import) else {
+    let Some(import) = u32_in(v.get("ask")) else {
         return Err(ScriptError::BadScript);
     };
     let words = words_of(alloc, v.get("words"))?;

@@ -13,10 +13,11 @@ ghost use Rattle.canon_types.specs.declared.types.InterfaceType.{InterfaceType};
 ghost use Rattle.canon_script.specs.Imports as spec;
 ghost use Rattle.canon_script.specs.Values.{plain_value_of};
 
+use crate::fields::u32_in;
 use crate::values::PlainValues;
 use canon_context::Import;
 use canon_indices::{OptionsIndex, TypeFuncIndex};
-use canon_json::{Reader, ScriptError, each_of, has_len, u32_of};
+use canon_json::{Reader, ScriptError, each_of, has_len};
 use canon_layout::type_of_json;
 use canon_types::{InterfaceType, TypeBuilder, TypeError, TypeResourceTableIndex};
 use canon_val::Val;
@@ -175,7 +176,7 @@ impl Reader for Answers {
 
     ghost seen = { spec.answer_view };
 
-    ghost reads = { λ r. spec.answer_of r.results };
+    ghost reads = { λ r. spec.host_answer_of r.results };
 
     fn read(&self, alloc: Global, v: &Value) -> Result<Option<Vec<Val>>, ScriptError> {
         answer_of(alloc, v, self.results)
@@ -184,7 +185,7 @@ impl Reader for Answers {
 
 /// An answer: as many values as there are results, or a refusal.
 fn answer_of(alloc: Global, v: &Value, results: usize) -> Result<Option<Vec<Val>>, ScriptError>
-    ensures { Gives spec.answer_view result (spec.answer_of results (view v.now)) }
+    ensures { Gives spec.answer_view result (spec.host_answer_of results (view v.now)) }
 {
     match v {
         Value::String(word) if word.as_str() == "refuse" => Ok(None),
@@ -206,13 +207,13 @@ fn results_of(alloc: Global, v: &Value, results: usize) -> Result<Option<Vec<Val
 
 /// A call on the handles of a resource type.
 fn builtin_of(builder: &mut TypeBuilder, v: &Value) -> Option<Import>
-    ensures import { result ≡ spec.builtin_of builder.old (view v.now) }
+    ensures import { result ≡ spec.builtin_import_of builder.old (view v.now) }
     ensures same { builder.new ≡ builder.old }
 {
     if !has_len(v, 2) {
         return None;
     }
-    let resource = known_resource(builder, u32_of(v.get("resource")?)?)?;
+    let resource = known_resource(builder, u32_in(v.get("resource"))?)?;
     builtin_by(resource, v.get("builtin")?.as_str()?)
 }
 

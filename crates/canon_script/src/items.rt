@@ -5,17 +5,18 @@ ghost use Rattle.std.specs.Option.{option_map_or};
 ghost use Rattle.serde_json.specs.Find.{as_object};
 ghost use Rattle.serde_json.specs.View.{view};
 ghost use Rattle.canon_json.specs.Json.{Gives, u32_of, word_of};
-ghost use Rattle.canon_script.specs.Imports.{result_count};
+ghost use Rattle.canon_script.specs.Imports.{func_result_count};
 ghost use Rattle.canon_script.specs.Numbers.{if_below};
 ghost use Rattle.canon_script.specs.Script as spec;
 ghost use Rattle.canon_script.specs.Typed.{typed_view};
 
 use crate::actions::{Actions, Orders};
+use crate::fields::{number_or, u32_in, word_in};
 use crate::script::{CallItem, DropItem, Item, NewItem, TypedItem, TypedParams};
 use crate::typed_params::typed_params;
 use crate::values::Values;
 use canon_indices::TypeFuncIndex;
-use canon_json::{Reader, ScriptError, bool_or, each_of, has_len, there, u32_of};
+use canon_json::{Reader, ScriptError, bool_or, each_of, has_len, there};
 use canon_scripted::Ordered;
 use canon_types::{ComponentTypes, InterfaceType, ResourceKind, TypeResourceTableIndex};
 use serde_json::Value;
@@ -97,8 +98,8 @@ fn new_item_of(types: &ComponentTypes, v: &Value) -> Option<NewItem>
     if !has_len(v, 2 + there(v.get("borrow"))) {
         return None;
     }
-    let ty = dynamic_type(types, u32_of(v.get("new")?)?)?;
-    let rep = u32_of(v.get("rep")?)?;
+    let ty = dynamic_type(types, u32_in(v.get("new"))?)?;
+    let rep = u32_in(v.get("rep"))?;
     let borrow = bool_or(v.get("borrow"), false)?;
     Some(NewItem { ty, rep, borrow })
 }
@@ -123,7 +124,7 @@ fn drop_item_of(v: &Value) -> Option<DropItem>
     if !has_len(v, 1 + there(v.get("dtor_trap"))) {
         return None;
     }
-    let resource = u32_of(v.get("drop")?)?;
+    let resource = u32_in(v.get("drop"))?;
     let dtor_trap = bool_or(v.get("dtor_trap"), false)?;
     Some(DropItem {
         resource,
@@ -155,7 +156,7 @@ fn call_item_of(
 fn called_func(funcs: usize, v: Option<&Value>) -> Option<u32>
     ensures { result ≡ option_and_then (if_below funcs) (option_and_then u32_of (option_map (λ x. view x.now) v.entry)) }
 {
-    let func = u32_of(v?)?;
+    let func = u32_in(v)?;
     if (func as usize) < funcs {
         Some(func)
     } else {
@@ -171,7 +172,7 @@ fn optional_call_members(v: &Value) -> usize
 
 /// The number of a function's results, if there is such a function.
 fn result_count(types: &ComponentTypes, func: u32) -> Option<u64>
-    ensures { result ≡ result_count types.now func }
+    ensures { result ≡ func_result_count types.now func }
 {
     let func = TypeFuncIndex::from_u32(func);
     if !types.contains_func(func) {
@@ -185,15 +186,15 @@ fn result_count(types: &ComponentTypes, func: u32) -> Option<u64>
 fn call_of_func(alloc: Global, v: &Value, func: u32, results: u64) -> Result<CallItem, ScriptError>
     ensures { Gives spec.call_item_view result (spec.call_of_func (view v.now) func results) }
 {
-    let params = each_of(alloc, &Values, v.get("params"))?;
-    let guest = each_of(alloc, &Actions, v.get("guest"))?;
-    let Some(slots) = slots_of(v.get("slots"), results) else {
+    let Some(slots) = number_or(v.get("slots"), MAX_SLOTS, results) else {
         return Err(ScriptError::BadScript);
     };
-    let reallocs = reallocs_of(alloc, v.get("reallocs"))?;
     let Some(post_trap) = bool_or(v.get("post_trap"), false) else {
         return Err(ScriptError::BadScript);
     };
+    let params = each_of(alloc, &Values, v.get("params"))?;
+    let guest = each_of(alloc, &Actions, v.get("guest"))?;
+    let reallocs = reallocs_of(alloc, v.get("reallocs"))?;
     Ok(CallItem {
         func,
         params,
@@ -228,12 +229,12 @@ fn optional_typed_members(v: &Value) -> usize
 fn typed_of_func(alloc: Global, v: &Value, func: u32) -> Result<TypedItem, ScriptError>
     ensures { Gives spec.typed_item_view result (spec.typed_of_func (view v.now) func) }
 {
-    let params = typed_params_of(alloc, v)?;
-    let guest = each_of(alloc, &Actions, v.get("guest"))?;
-    let reallocs = reallocs_of(alloc, v.get("reallocs"))?;
     let Some(post_trap) = bool_or(v.get("post_trap"), false) else {
         return Err(ScriptError::BadScript);
     };
+    let params = typed_params_of(alloc, v)?;
+    let guest = each_of(alloc, &Actions, v.get("guest"))?;
+    let reallocs = reallocs_of(alloc, v.get("reallocs"))?;
     Ok(TypedItem {
         func,
         params,
@@ -247,29 +248,11 @@ fn typed_of_func(alloc: Global, v: &Value, func: u32) -> Result<TypedItem, Scrip
 fn typed_params_of(alloc: Global, v: &Value) -> Result<TypedParams, ScriptError>
     ensures { Gives typed_view result (spec.typed_params_of (view v.now)) }
 {
-    let values = each_of(alloc, &Values, v.get("params"))?;
-    match word_in(v.get("typed")) {
-        Some(signature) => typed_params(alloc, signature, &values),
-        None => Err(ScriptError::BadScript),
-    }
-}
-
-fn word_in(v: Option<&Value>) -> Option<u64>
-    ensures { result ≡ option_and_then word_of (option_map (λ x. view x.now) v.entry) }
-{
-    v?.as_u64()
-}
-
-fn slots_of(v: Option<&Value>, results: u64) -> Option<u64>
-    ensures { result ≡ spec.slots_of results (option_map (λ x. view x.now) v.entry) }
-{
-    let Some(v) = v else {
-        return Some(results);
+    let Some(signature) = word_in(v.get("typed")) else {
+        return Err(ScriptError::BadScript);
     };
-    match v.as_u64() {
-        Some(slots) if slots <= MAX_SLOTS => Some(slots),
-        _ => None,
-    }
+    let values = each_of(alloc, &Values, v.get("params"))?;
+    typed_params(alloc, signature, &values)
 }
 
 fn reallocs_of(alloc: Global, v: Option<&Value>) -> Result<Vec<Ordered>, ScriptError>

@@ -56,6 +56,7 @@
 #![tactic(auto)]
 
 mod actions;
+mod fields;
 mod imports;
 mod items;
 mod kinds;

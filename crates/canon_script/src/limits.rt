@@ -115,7 +115,7 @@ fn started(times: u64, item: &Item) -> Option<u64>
 
 /// What the guest does in an item.
 fn guest_of(item: &Item) -> &[Action]
-    ensures { result.now ≡ spec.guest_in (spec.item_view item.now) }
+    ensures { result.now ≡ spec.guest_actions_in (spec.item_view item.now) }
 {
     match item {
         Item::Call(call) => &call.guest,

@@ -6,6 +6,7 @@ ghost use Rattle.canon_json.specs.Json.{Gives};
 ghost use Rattle.canon_script.specs.Script as spec;
 ghost use Rattle.canon_script.specs.Types.{declared_view};
 
+use crate::fields::{number_or, word_or};
 use crate::imports::Imports;
 use crate::items::Items;
 use crate::limits::{MAX_MEMORY, fits};
@@ -76,11 +77,11 @@ fn settings_members(v: &Value) -> usize
 fn settings_of(v: &Value) -> Option<Settings>
     ensures { result ≡ spec.settings_of (view v.now) }
 {
-    let memory = memory_len_of(v.get("memory"))?;
+    let memory = number_or(v.get("memory"), MAX_MEMORY, 65536)?;
     let heap = heap_of(memory, v.get("heap"))?;
-    let fuel = fuel_of(v.get("fuel"))?;
-    let handles = handles_of(v.get("handles"))?;
-    let turns = turns_of(v.get("turns"))?;
+    let fuel = word_or(v.get("fuel"), 1_000_000)?;
+    let handles = number_or(v.get("handles"), MAX_HANDLES, MAX_HANDLES)?;
+    let turns = number_or(v.get("turns"), MAX_TURNS, 100)?;
     let encoding = encoding_of(v.get("encoding"))?;
     Some(Settings {
         memory,
@@ -92,63 +93,15 @@ fn settings_of(v: &Value) -> Option<Settings>
     })
 }
 
-fn memory_len_of(v: Option<&Value>) -> Option<u64>
-    ensures { result ≡ spec.memory_len_of (option_map (λ x. view x.now) v.entry) }
-{
-    let Some(v) = v else {
-        return Some(65536);
-    };
-    match v.as_u64() {
-        Some(memory) if memory <= MAX_MEMORY => Some(memory),
-        _ => None,
-    }
-}
-
 fn heap_of(memory: u64, v: Option<&Value>) -> Option<u64>
-    ensures { result ≡ spec.heap_of memory (option_map (λ x. view x.now) v.entry) }
+    ensures { result ≡ spec.heap_setting memory (option_map (λ x. view x.now) v.entry) }
 {
-    let heap = match v {
-        Some(v) => v.as_u64()?,
-        None => 1024,
-    };
+    let heap = word_or(v, 1024)?;
     if heap <= memory { Some(heap) } else { None }
 }
 
-fn fuel_of(v: Option<&Value>) -> Option<u64>
-    ensures { result ≡ spec.fuel_of (option_map (λ x. view x.now) v.entry) }
-{
-    match v {
-        Some(v) => v.as_u64(),
-        None => Some(1_000_000),
-    }
-}
-
-fn handles_of(v: Option<&Value>) -> Option<u64>
-    ensures { result ≡ spec.handles_of (option_map (λ x. view x.now) v.entry) }
-{
-    let Some(v) = v else {
-        return Some(MAX_HANDLES);
-    };
-    match v.as_u64() {
-        Some(handles) if handles <= MAX_HANDLES => Some(handles),
-        _ => None,
-    }
-}
-
-fn turns_of(v: Option<&Value>) -> Option<u64>
-    ensures { result ≡ spec.turns_of (option_map (λ x. view x.now) v.entry) }
-{
-    let Some(v) = v else {
-        return Some(100);
-    };
-    match v.as_u64() {
-        Some(turns) if turns <= MAX_TURNS => Some(turns),
-        _ => None,
-    }
-}
-
 fn encoding_of(v: Option<&Value>) -> Option<StringEncoding>
-    ensures { result ≡ spec.encoding_of (option_map (λ x. view x.now) v.entry) }
+    ensures { result ≡ spec.encoding_setting (option_map (λ x. view x.now) v.entry) }
 {
     let Some(v) = v else {
         return Some(StringEncoding::Utf8);

@@ -7,6 +7,7 @@ ghost use Rattle.canon_literals.specs.Literals.{Literal, literal_view, literals_
 ghost use Rattle.canon_script.specs.Typed as spec;
 
 use crate::script::TypedParams;
+use crate::values::keep;
 use canon_json::ScriptError;
 use canon_val::Val;
 use std::alloc::Global;
@@ -48,7 +49,7 @@ fn number_alone(values: &[Val]) -> Result<TypedParams, ScriptError>
 }
 
 fn text_alone(alloc: Global, values: &[Val]) -> Result<TypedParams, ScriptError>
-    ensures { Gives spec.typed_view result (option_map spec.a_text (spec.alone spec.text_in (literals_view values.now))) }
+    ensures { Gives spec.typed_view result (option_map spec.a_text (spec.alone spec.string_in (literals_view values.now))) }
 {
     let [value] = values else {
         return Err(ScriptError::BadScript);
@@ -58,7 +59,7 @@ fn text_alone(alloc: Global, values: &[Val]) -> Result<TypedParams, ScriptError>
 }
 
 fn numbers_alone(alloc: Global, values: &[Val]) -> Result<TypedParams, ScriptError>
-    ensures { Gives spec.typed_view result (option_map spec.the_numbers (spec.alone (spec.items_in spec.number_in) (literals_view values.now))) }
+    ensures { Gives spec.typed_view result (option_map spec.the_numbers (spec.alone (spec.list_items_in spec.number_in) (literals_view values.now))) }
 {
     let [value] = values else {
         return Err(ScriptError::BadScript);
@@ -68,7 +69,7 @@ fn numbers_alone(alloc: Global, values: &[Val]) -> Result<TypedParams, ScriptErr
 }
 
 fn pairs_and_flag(alloc: Global, values: &[Val]) -> Result<TypedParams, ScriptError>
-    ensures { Gives spec.typed_view result (option_map (λ p. spec.the_pairs p.0 p.1) (spec.both (spec.items_in spec.pair_in) spec.flag_in (literals_view values.now))) }
+    ensures { Gives spec.typed_view result (option_map (λ p. spec.the_pairs p.0 p.1) (spec.both_literals (spec.list_items_in spec.string_and_long_in) spec.flag_in (literals_view values.now))) }
 {
     let [value, flag] = values else {
         return Err(ScriptError::BadScript);
@@ -112,7 +113,7 @@ fn truth_in(value: &Val) -> Option<bool>
 
 /// A copy of the text that a value is.
 fn text_in(alloc: Global, value: &Val) -> Result<String, ScriptError>
-    ensures { Gives (λ text. string_bytes text) result (spec.text_in (literal_view value.now)) }
+    ensures { Gives (λ text. string_bytes text) result (spec.string_in (literal_view value.now)) }
 {
     match value {
         Val::String(text) => Ok(String::from_str(alloc, text.as_str())?),
@@ -151,7 +152,7 @@ fn items_in(value: &Val) -> Option<&[Val]>
 
 /// The numbers of a list of `u32`.
 fn numbers_in(alloc: Global, value: &Val) -> Result<Vec<u32>, ScriptError>
-    ensures { Gives (λ ns. ns.items) result (spec.items_in spec.number_in (literal_view value.now)) }
+    ensures { Gives (λ ns. ns.items) result (spec.list_items_in spec.number_in (literal_view value.now)) }
 {
     match items_in(value) {
         Some(items) => each_number(alloc, items),
@@ -174,7 +175,7 @@ fn each_number(alloc: Global, items: &[Val]) -> Result<Vec<u32>, ScriptError>
 
 /// The pairs of a list of tuples, each of a text and a `u64`.
 fn pairs_in(alloc: Global, value: &Val) -> Result<Vec<(String, u64)>, ScriptError>
-    ensures { Gives (λ ps. map spec.name_view ps.items) result (spec.items_in spec.pair_in (literal_view value.now)) }
+    ensures { Gives (λ ps. map spec.name_view ps.items) result (spec.list_items_in spec.string_and_long_in (literal_view value.now)) }
 {
     match items_in(value) {
         Some(items) => each_pair(alloc, items),
@@ -183,28 +184,19 @@ fn pairs_in(alloc: Global, value: &Val) -> Result<Vec<(String, u64)>, ScriptErro
 }
 
 fn each_pair(alloc: Global, items: &[Val]) -> Result<Vec<(String, u64)>, ScriptError>
-    ensures { Gives (λ ps. map spec.name_view ps.items) result (spec.each_literal spec.pair_in (literals_of (literals_view items.now))) }
+    ensures { Gives (λ ps. map spec.name_view ps.items) result (spec.each_literal spec.string_and_long_in (literals_of (literals_view items.now))) }
 {
     let mut pairs = Vec::new(alloc);
     for item in items {
         let pair = pair_in(alloc, item)?;
-        keep_pair(&mut pairs, pair)?;
+        keep(&mut pairs, pair)?;
     }
     Ok(pairs)
 }
 
-/// One pair more.
-fn keep_pair(pairs: &mut Vec<(String, u64)>, pair: (String, u64)) -> Result<(), ScriptError>
-    ensures ok { OnOk result (map spec.name_view pairs.new.items ≡ map spec.name_view pairs.old.items ++ spec.name_view pair ∷ []) }
-    ensures cause { IfErr result (λ e. e ≡ refused.OutOfMemory) }
-{
-    pairs.push(pair)?;
-    Ok(())
-}
-
 /// A tuple of a text and a `u64`.
 fn pair_in(alloc: Global, value: &Val) -> Result<(String, u64), ScriptError>
-    ensures { Gives spec.name_view result (spec.pair_in (literal_view value.now)) }
+    ensures { Gives spec.name_view result (spec.string_and_long_in (literal_view value.now)) }
 {
     let Some((text, number)) = two_in(value) else {
         return Err(ScriptError::BadScript);

@@ -7,7 +7,7 @@ ghost use Rattle.serde_json.specs.View.{view};
 ghost use Rattle.canon_json.specs.Json.{Gives, each_of};
 ghost use Rattle.canon_json.specs.declared.error.ScriptError.TheVariants as refused;
 ghost use Rattle.canon_model.specs.Shape.{Name};
-ghost use Rattle.canon_literals.specs.Literals.{Literal, fields_view, literal_view, literals_view, numbered, pair_view, pairs_view, payload_view, variant, with_payload};
+ghost use Rattle.canon_literals.specs.Literals.{Literal, fields_view, literal_view, literals_view, numbered_resource, pair_view, pairs_view, payload_view, variant, with_payload};
 ghost use Rattle.canon_script.specs.Numbers as numbers;
 ghost use Rattle.canon_script.specs.Values as spec;
 
@@ -25,8 +25,16 @@ pub fn value_of_json(alloc: Global, v: &Value) -> Result<Val, ScriptError>
     ensures { Gives literal_view result (spec.plain_value_of (view v.now)) }
 {
     let value = value_of(alloc, v)?;
-    match is_plain(alloc, &value) {
-        Ok(true) => Ok(value),
+    refuse_resources(alloc, &value)?;
+    Ok(value)
+}
+
+/// Refuses a value in which a resource stands.
+fn refuse_resources(alloc: Global, value: &Val) -> Result<(), ScriptError>
+    ensures { Gives (λ _. literal_view value.now) result (spec.if_plain (literal_view value.now)) }
+{
+    match is_plain(alloc, value) {
+        Ok(true) => Ok(()),
         Ok(false) => Err(ScriptError::BadScript),
         Err(OutOfMemory) => Err(ScriptError::OutOfMemory),
     }
@@ -37,12 +45,26 @@ pub fn value_of_json(alloc: Global, v: &Value) -> Result<Val, ScriptError>
 fn value_of(alloc: Global, v: &Value) -> Result<Val, ScriptError>
     ensures { Gives literal_view result (spec.value_of (view v.now)) }
 {
-    let Some((name, form)) = only_member(v) else {
-        return Err(ScriptError::BadScript);
-    };
-    let Some(kind) = value_kind_named(name) else {
-        return Err(ScriptError::BadScript);
-    };
+    match kind_and_form(v) {
+        Some((kind, form)) => value_by(alloc, kind, form),
+        None => Err(ScriptError::BadScript),
+    }
+}
+
+/// The kind that the only member names, and what a value of it is read from.
+fn kind_and_form(v: &Value) -> Option<(ValueKind, &Value)>
+    ensures { option_map (λ p. (p.0, view p.1.now)) result ≡ spec.kind_and_form (view v.now) }
+{
+    let (name, form) = only_member(v)?;
+    let kind = value_kind_named(name)?;
+    Some((kind, form))
+}
+
+/// A value of this kind.
+#[cycle(values)]
+fn value_by(alloc: Global, kind: ValueKind, form: &Value) -> Result<Val, ScriptError>
+    ensures { Gives literal_view result (spec.value_by (view form.now) kind) }
+{
     match kind {
         ValueKind::String => name_of(alloc, form).map(Val::String),
         ValueKind::List => values_of(alloc, form).map(Val::List),
@@ -112,7 +134,7 @@ fn pairs_of(alloc: Global, v: &Value) -> Result<Vec<(Val, Val)>, ScriptError>
     let mut pairs = Vec::new(alloc);
     for item in items {
         match pair_of(alloc, item) {
-            Ok(pair) => keep_pair(&mut pairs, pair)?,
+            Ok(pair) => keep(&mut pairs, pair)?,
             Err(e) => return Err(e),
         }
     }
@@ -236,21 +258,12 @@ fn result_named(name: &str, payload: Option<Box<Val>>) -> Result<Val, ScriptErro
     }
 }
 
-/// One value more.
-fn keep(values: &mut Vec<Val>, value: Val) -> Result<(), ScriptError>
-    ensures ok { OnOk result (values.new.items ≡ values.old.items ++ value ∷ []) }
+/// One item more.
+pub(crate) fn keep<T: Drop>(row: &mut Vec<T>, item: T) -> Result<(), ScriptError>
+    ensures ok { OnOk result (row.new.items ≡ row.old.items ++ item ∷ []) }
     ensures cause { IfErr result (λ e. e ≡ refused.OutOfMemory) }
 {
-    values.push(value)?;
-    Ok(())
-}
-
-/// One pair more.
-fn keep_pair(pairs: &mut Vec<(Val, Val)>, pair: (Val, Val)) -> Result<(), ScriptError>
-    ensures ok { OnOk result (pairs_view pairs.new.items ≡ pairs_view pairs.old.items ++ pair_view pair ∷ []) }
-    ensures cause { IfErr result (λ e. e ≡ refused.OutOfMemory) }
-{
-    pairs.push(pair)?;
+    row.push(item)?;
     Ok(())
 }
 
@@ -265,8 +278,7 @@ fn keep_field(
     ensures cause { IfErr result (λ e. e ≡ refused.OutOfMemory) }
 {
     let name = String::from_str(alloc, name)?;
-    fields.push((name, value))?;
-    Ok(())
+    keep(fields, (name, value))
 }
 
 /// A text, or a name.
@@ -346,7 +358,7 @@ fn scalar_by(kind: ValueKind, v: &Value) -> Option<Val>
 
 /// The resource of a number, as a script's values keep it: a borrow that the host made of the number.
 fn numbered(n: u32) -> ResourceAny
-    ensures { result ≡ numbered n }
+    ensures { result ≡ numbered_resource n }
 {
     ResourceAny::new_borrow(n, ResourceType::host_dynamic(0))
 }

@@ -15,8 +15,8 @@ use Rattle.canon_memory.specs.Realloc.{IsTidy, ReallocLaw, new_block}
 use Rattle.canon_scripted.specs.Actions.{ActionTurn, carry_out, turn}
 use Rattle.canon_scripted.specs.Allocator.{Allocator, InRow, allocate, copied}
 use Rattle.canon_scripted.specs.Orders.{next_order}
-use Rattle.canon_scripted.specs.Leaves.{Answers, DoesRealloc, counted, faulted, with_actions}
-use Rattle.canon_scripted.specs.Scripted.{Asked, Doing, ScriptMoves, Plan, Reallocating, after, destroyed, ended, events_of, free_realloc, is_free, is_trap, len_after, len_before, marks_by, marks_of, marks_told, ordered_realloc, post_returned, raised, realloc, reallocated, resumed, seen_of, started, told, traps_after}
+use Rattle.canon_scripted.specs.Leaves.{AnswersAsPlanned, DoesRealloc, counted, with_fault_counted, with_actions}
+use Rattle.canon_scripted.specs.Scripted.{Asked, Doing, ScriptMoves, Plan, Reallocating, after, destroyed, ended, events_telling, free_realloc, is_free, is_trap, len_after, len_before, marks_by, marks_of_origins, marks_told, ordered_realloc, post_returned, raised_count, realloc, reallocated, resumed, seen_of, started, told, traps_after}
 use Rattle.canon_scripted.specs.declared.actions.Action.{Action}
 use Rattle.canon_scripted.specs.declared.orders.Ordered.{Ordered}
 use Rattle.canon_scripted.specs.declared.orders.Ordered.TheVariants as ordered
@@ -29,32 +29,32 @@ abbrev pub plan_of : List Action → List Ordered → Bool → Bool → Allocato
 plan_of actions orders post dtor allocator = record { actions = actions; reallocs = orders; post_trap = post; dtor_trap = dtor; allocator = allocator }
 
 abbrev pub doing : Plan → List Bool → ℕ → ℕ → Doing
-doing plan answers traps shortages = record { plan = plan; marks = marks_of answers; traps = traps; shortages = shortages }
+doing plan answers traps shortages = record { plan = plan; marks = marks_of_origins answers; traps = traps; shortages = shortages }
 
-marks_append : (bs cs : List Bool) → marks_of (bs ++ cs) ≡ marks_of bs ++ marks_of cs
+marks_append : (bs cs : List Bool) → marks_of_origins (bs ++ cs) ≡ marks_of_origins bs ++ marks_of_origins cs
 marks_append [] cs = refl
 marks_append (b ∷ bs) cs = ap (λ (ms : List Mark). record { lawful = b; tidy = true } ∷ ms) (marks_append bs cs)
 
 module _ (actions : List Action) (orders left : List Ordered) (post dtor : Bool) (al : Allocator) (answers answers2 : List Bool) (traps shortages : ℕ)
     (g : Doing) (view : doing (plan_of actions orders post dtor al) answers traps shortages ≡ g) (m : List ℕ) (c : Call) (rest : left ≡ drop 1 orders) where
   pub ordered_answers : (answer : ℕ) → next_order orders ≡ ordered.Answer answer → answers2 ≡ answers ++ false ∷ []
-      → Answers g m c (doing (plan_of actions left post dtor al) answers2 traps shortages) m answer
+      → AnswersAsPlanned g m c (doing (plan_of actions left post dtor al) answers2 traps shortages) m answer
   ordered_answers answer order more =
-      subst (λ (f : Doing). Answers f m c (doing (plan_of actions left post dtor al) answers2 traps shortages) m answer) view (record {
+      subst (λ (f : Doing). AnswersAsPlanned f m c (doing (plan_of actions left post dtor al) answers2 traps shortages) m answer) view (record {
         told = ap (λ (o : Ordered). ordered_realloc o (length m) (plan_of actions (drop 1 orders) post dtor al) c) order
             ∙ ap (λ (os : List Ordered). told (Ok answer) (plan_of actions os post dtor al)) (sym rest);
-        marks = ap marks_of more ∙ marks_append answers (false ∷ []) ∙ ap (λ (o : Ordered). marks_of answers ++ marks_of (is_free o ∷ [])) (sym order);
+        marks = ap marks_of_origins more ∙ marks_append answers (false ∷ []) ∙ ap (λ (o : Ordered). marks_of_origins answers ++ marks_of_origins (is_free o ∷ [])) (sym order);
         bytes = sym (cond-false _ _ _ (ap is_free order));
       })
 
   pub free_answers : (al2 : Allocator) (bytes : List ℕ) (answer : ℕ) → next_order orders ≡ ordered.Free → allocate (length m) al c ≡ Some (at_place answer al2) → bytes ≡ copied m c answer → answers2 ≡ answers ++ true ∷ []
-      → Answers g m c (doing (plan_of actions left post dtor al2) answers2 traps shortages) bytes answer
+      → AnswersAsPlanned g m c (doing (plan_of actions left post dtor al2) answers2 traps shortages) bytes answer
   free_answers al2 bytes answer order placed copies more =
-      subst (λ (f : Doing). Answers f m c (doing (plan_of actions left post dtor al2) answers2 traps shortages) bytes answer) view (record {
+      subst (λ (f : Doing). AnswersAsPlanned f m c (doing (plan_of actions left post dtor al2) answers2 traps shortages) bytes answer) view (record {
         told = ap (λ (o : Ordered). ordered_realloc o (length m) (plan_of actions (drop 1 orders) post dtor al) c) order
             ∙ ap (λ p. free_realloc p (plan_of actions (drop 1 orders) post dtor al)) placed
             ∙ ap (λ (os : List Ordered). told (Ok answer) (plan_of actions os post dtor al2)) (sym rest);
-        marks = ap marks_of more ∙ marks_append answers (true ∷ []) ∙ ap (λ (o : Ordered). marks_of answers ++ marks_of (is_free o ∷ [])) (sym order);
+        marks = ap marks_of_origins more ∙ marks_append answers (true ∷ []) ∙ ap (λ (o : Ordered). marks_of_origins answers ++ marks_of_origins (is_free o ∷ [])) (sym order);
         bytes = copies ∙ sym (cond-true _ _ _ (ap is_free order));
       })
 
@@ -94,7 +94,7 @@ counted_goes g h result m bytes es e later le = record {
 
 -- a call of these events, and what it leaves
 record One (g h : Doing) (m bytes : List ℕ) (call : Asked) (es : List Event) : Type 0 where
-  told : es ≡ events_of g.plan call
+  told : es ≡ events_telling g.plan call
   leaves : h.plan ≡ after g.plan call
   marks : h.marks ≡ g.marks ++ marks_told g.plan call
   before : len_before call ≡ length m
@@ -107,7 +107,7 @@ one_call g h m bytes call es o = record {
   new_marks = marks_told g.plan call;
   does = record {
     calls = call ∷ [];
-    told = o.told ∙ sym (append-nil (events_of g.plan call));
+    told = o.told ∙ sym (append-nil (events_telling g.plan call));
     marked = sym (append-nil (marks_told g.plan call));
     leaves = o.leaves;
     lengths = (o.before, o.after_it);
@@ -120,7 +120,7 @@ one_call g h m bytes call es o = record {
 -- a turn
 module _ (g h : Doing) (m bytes : List ℕ) where
   acts : (result : Result Step GuestFault) (call : Asked) (es : List ℕ → Result Step GuestFault → List Event)
-      → events_of g.plan call ≡ es (carry_out g.plan.actions m).memory (carry_out g.plan.actions m).result
+      → events_telling g.plan call ≡ es (carry_out g.plan.actions m).memory (carry_out g.plan.actions m).result
       → after g.plan call ≡ record g.plan { actions = (carry_out g.plan.actions m).left }
       → len_before call ≡ length m → len_after g.plan call ≡ length (carry_out g.plan.actions m).memory → [] ≡ marks_told g.plan call
       → carry_out g.plan.actions m ≡ turn bytes result h.plan.actions
@@ -137,10 +137,10 @@ module _ (g h : Doing) (m bytes : List ℕ) where
   })
 
   module _ (call : Asked) (es : List ℕ → Result Step GuestFault → List Event)
-      (told : events_of g.plan call ≡ es (carry_out g.plan.actions m).memory (carry_out g.plan.actions m).result)
+      (told : events_telling g.plan call ≡ es (carry_out g.plan.actions m).memory (carry_out g.plan.actions m).result)
       (leaves : after g.plan call ≡ record g.plan { actions = (carry_out g.plan.actions m).left })
       (first : len_before call ≡ length m) (last : len_after g.plan call ≡ length (carry_out g.plan.actions m).memory) (none : [] ≡ marks_told g.plan call)
-      (goes : (x : Step) → traps_after g.traps (es bytes (Ok x)) ≡ g.traps) (traps : traps_after g.traps (es bytes (Err fault.Trap)) ≡ raised g.traps) where
+      (goes : (x : Step) → traps_after g.traps (es bytes (Ok x)) ≡ g.traps) (traps : traps_after g.traps (es bytes (Err fault.Trap)) ≡ raised_count g.traps) where
     turn_moves : (result : Result Step GuestFault) → h ≡ counted result (with_actions g h.plan.actions)
         → OnAnswer result (carry_out g.plan.actions m ≡ turn bytes result h.plan.actions) → OnAnswer result (ScriptMoves (guest_in g m) (es bytes result) (guest_in h bytes))
     turn_moves (Ok x) e t = acts (Ok x) call es told leaves first last none t (ap (λ (k : Doing). k.plan) e) (ap (λ (k : Doing). k.marks) e)
@@ -166,9 +166,9 @@ module _ (g h : Doing) (m bytes : List ℕ) where
 
 -- a call that the guest ends itself leaves the plan and memory
 module _ (g h : Doing) (m : List ℕ) (call : Asked) (traps : Bool) (es : Result (Unit {0}) GuestFault → List Event)
-    (told : es (ended traps) ≡ events_of g.plan call) (leaves : g.plan ≡ after g.plan call) (marks : [] ≡ marks_told g.plan call)
+    (told : es (ended traps) ≡ events_telling g.plan call) (leaves : g.plan ≡ after g.plan call) (marks : [] ≡ marks_told g.plan call)
     (before : len_before call ≡ length m) (after_it : length m ≡ len_after g.plan call)
-    (none : traps_after g.traps (es (Ok tt)) ≡ g.traps) (one : traps_after g.traps (es (Err fault.Trap)) ≡ raised g.traps) where
+    (none : traps_after g.traps (es (Ok tt)) ≡ g.traps) (one : traps_after g.traps (es (Err fault.Trap)) ≡ raised_count g.traps) where
   ended_moves : (result : Result (Unit {0}) GuestFault) → result ≡ ended traps → h ≡ counted result g → OnAnswer result (ScriptMoves (guest_in g m) (es result) (guest_in h m))
   ended_moves (Ok tt) e k = one_call g h m m call (es (Ok tt)) (record {
     told = ap es e ∙ told;
@@ -213,10 +213,10 @@ module _ (g h : Doing) (m bytes : List ℕ) (c : Call) (same_len : length bytes 
     shortages = shortages;
   })
 
-  pub answer_moves : (answer : ℕ) → Answers g m c h bytes answer → (h.traps ≡ g.traps) × (h.shortages ≡ g.shortages) → ScriptMoves (guest_in g m) (realloc_events c m (Ok answer)) (guest_in h bytes)
+  pub answer_moves : (answer : ℕ) → AnswersAsPlanned g m c h bytes answer → (h.traps ≡ g.traps) × (h.shortages ≡ g.shortages) → ScriptMoves (guest_in g m) (realloc_events c m (Ok answer)) (guest_in h bytes)
   answer_moves answer a same = told_moves (Ok answer) a.told a.marks same.0 same.1
 
-  pub answer_does : (answer : ℕ) → Answers g m c h bytes answer → (h.traps ≡ g.traps) × (h.shortages ≡ g.shortages)
+  pub answer_does : (answer : ℕ) → AnswersAsPlanned g m c h bytes answer → (h.traps ≡ g.traps) × (h.shortages ≡ g.shortages)
       → (IsTrue (is_free (next_order g.plan.reallocs)) → ReallocLaw g.plan.allocator.live h.plan.allocator.live m bytes c answer) → IsTidy m bytes (new_block c answer)
       → Reallocates (moment (seen_of g) m) (moment (seen_of h) bytes) c (Ok answer)
   answer_does answer a same law neat = (
@@ -239,13 +239,13 @@ module _ (g k h : Doing) (m bytes : List ℕ) (c : Call) (same : (k.traps ≡ g.
     events = refl;
   }
 
-  rises : (x y z : ℕ) → y ≡ x → z ≡ raised y → Rose x z
-  rises x y z e d = subst (λ (n : ℕ). min (x + 1) (2 ^ 64 - 1) ≤ n) (ap raised (sym e) ∙ sym d) (omega arith)
+  rises : (x y z : ℕ) → y ≡ x → z ≡ raised_count y → Rose x z
+  rises x y z e d = subst (λ (n : ℕ). min (x + 1) (2 ^ 64 - 1) ≤ n) (ap raised_count (sym e) ∙ sym d) (omega arith)
 
-  pub fault_does : (f r : GuestFault) → r ≡ f → DoesRealloc g m c k bytes (Err f) → h ≡ faulted f k → IsLater k h → Reallocates (moment (seen_of g) m) (moment (seen_of h) bytes) c (Err r)
+  pub fault_does : (f r : GuestFault) → r ≡ f → DoesRealloc g m c k bytes (Err f) → h ≡ with_fault_counted f k → IsLater k h → Reallocates (moment (seen_of g) m) (moment (seen_of h) bytes) c (Err r)
   fault_does f r e d s later = subst (λ (x : GuestFault). Reallocates (moment (seen_of g) m) (moment (seen_of h) bytes) c (Err x)) (sym e) (by f d s)
     where
-      by : (x : GuestFault) → DoesRealloc g m c k bytes (Err x) → h ≡ faulted x k → Reallocates (moment (seen_of g) m) (moment (seen_of h) bytes) c (Err x)
+      by : (x : GuestFault) → DoesRealloc g m c k bytes (Err x) → h ≡ with_fault_counted x k → Reallocates (moment (seen_of g) m) (moment (seen_of h) bytes) c (Err x)
       by fault.Trap d s = record {
         goes = fault_goes _ later (ap (λ (x : Doing). x.marks) s ∙ d.marks);
         rose = rises g.traps k.traps h.traps same.0 (ap (λ (x : Doing). x.traps) s);
@@ -255,10 +255,10 @@ module _ (g k h : Doing) (m bytes : List ℕ) (c : Call) (same : (k.traps ≡ g.
         rose = rises g.shortages k.shortages h.shortages same.1 (ap (λ (x : Doing). x.shortages) s);
       }
 
-  pub fault_moves : (f r : GuestFault) → r ≡ f → DoesRealloc g m c k bytes (Err f) → h ≡ faulted f k → OnAnswer {T = ℕ} (Err r) (ScriptMoves (guest_in g m) (realloc_events c m (Err r)) (guest_in h bytes))
+  pub fault_moves : (f r : GuestFault) → r ≡ f → DoesRealloc g m c k bytes (Err f) → h ≡ with_fault_counted f k → OnAnswer {T = ℕ} (Err r) (ScriptMoves (guest_in g m) (realloc_events c m (Err r)) (guest_in h bytes))
   fault_moves f r e d s = subst (λ (x : GuestFault). OnAnswer {T = ℕ} (Err x) (ScriptMoves (guest_in g m) (realloc_events c m (Err x)) (guest_in h bytes))) (sym e) (by f d s)
     where
-      by : (x : GuestFault) → DoesRealloc g m c k bytes (Err x) → h ≡ faulted x k → OnAnswer {T = ℕ} (Err x) (ScriptMoves (guest_in g m) (realloc_events c m (Err x)) (guest_in h bytes))
+      by : (x : GuestFault) → DoesRealloc g m c k bytes (Err x) → h ≡ with_fault_counted x k → OnAnswer {T = ℕ} (Err x) (ScriptMoves (guest_in g m) (realloc_events c m (Err x)) (guest_in h bytes))
       by fault.Trap d s = told_moves g h m bytes c same_len (Err fault.Trap) (d.told ∙ ap (λ (x : Doing). told (Err fault.Trap) x.plan) (sym s)) (ap (λ (x : Doing). x.marks) s ∙ d.marks ∙ sym (append-nil g.marks))
-          (ap (λ (x : Doing). x.traps) s ∙ ap raised same.0) (ap (λ (x : Doing). x.shortages) s ∙ same.1)
+          (ap (λ (x : Doing). x.traps) s ∙ ap raised_count same.0) (ap (λ (x : Doing). x.shortages) s ∙ same.1)
       by fault.OutOfMemory d s = tt

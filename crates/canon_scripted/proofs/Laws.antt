@@ -12,7 +12,7 @@ use Rattle.canon_model.specs.Memory.{Block, InBlocks}
 use Rattle.canon_model.specs.Requests.{Call}
 use Rattle.canon_model.proofs.Layouts.{align_to-dvd, align_to-le}
 use Rattle.canon_memory.specs.Realloc.{InOthers, IsTidy, ReallocLaw, new_block, old_block}
-use Rattle.canon_scripted.specs.Allocator.{Allocator, InRow, Placed, allocate, copied, listed, resized}
+use Rattle.canon_scripted.specs.Allocator.{Allocator, InRow, Placed, allocate, copied, listed, with_block_resized}
 use Rattle.canon_scripted.proofs.Bytes.{paste_in, paste_out, paste_same}
 use Rattle.canon_scripted.proofs.Rows.{Among, added_keeps, added_lives, added_new, among_from, among_to, live_among, resized_keeps, resized_lives, resized_new, row_apart, row_place}
 use Rattle.canon_scripted.proofs.Rules.{at_place, by_rule, placed_is}
@@ -101,7 +101,7 @@ module _ (len : ℕ) (a : Allocator) (c : Call) (row : InRow 0 a.live a.top) whe
   -- the block in another size, where it is
   same_keeps : (t : ℕ) → Among a.live (old_block c) → ((i : ℕ) → c.old + c.old_size ≤ i → i < c.old + c.new_size → a.top ≤ i)
       → c.old % c.align ≡ 0 → (c.old < 2 ^ 32) → (c.old + c.new_size ≤ len)
-      → Keeps len a c (at_place c.old (allocator t (resized a.live (old_block c) c.new_size)))
+      → Keeps len a c (at_place c.old (allocator t (with_block_resized a.live (old_block c) c.new_size)))
   same_keeps t there past aligned near room =
       record {
         near = near;
@@ -118,7 +118,7 @@ module _ (len : ℕ) (a : Allocator) (c : Call) (row : InRow 0 a.live a.top) whe
           (λ h. ⊎_elim (λ k. inl (among_to a.live b k.0, k.1)) (λ k. inr k) (resized_lives 0 a.live a.top (old_block c) c.new_size b row (among_from _ b h))),
           (λ h. among_to _ b (⊎_elim
               (λ k. resized_keeps a.live (old_block c) c.new_size b (among_from a.live b k.0) k.1)
-              (λ k. subst (λ (y : Block). Among (resized a.live (old_block c) c.new_size) y) (sym k.0) (resized_new a.live (old_block c) c.new_size there k.1)) h)),
+              (λ k. subst (λ (y : Block). Among (with_block_resized a.live (old_block c) c.new_size) y) (sym k.0) (resized_new a.live (old_block c) c.new_size there k.1)) h)),
         );
       }
 
@@ -143,7 +143,7 @@ module _ (len : ℕ) (a : Allocator) (c : Call) (row : InRow 0 a.live a.top) whe
       subst As f.is (same_keeps a.top (live_among a.live old lives) (λ i le lt. absurd (omega (arith, less, le, lt))) aligned f.near f.room))
       (λ lives h. let f = placed_is len s c.new_size _ p h in
       let w = row_place 0 a.live a.top old row (live_among a.live old lives) in
-      subst As f.is (new_keeps (resized a.live old 0)
+      subst As f.is (new_keeps (with_block_resized a.live old 0)
       (λ b k. ⊎_elim (λ q. q) (λ q. absurd (omega (arith, q.1))) (resized_lives 0 a.live a.top old 0 b row k))
       (λ b k d. resized_keeps a.live old 0 b k d)
       some f.near f.room (inr (omega (arith, w.1, f.room, align_to-le a.top c.align some)))))

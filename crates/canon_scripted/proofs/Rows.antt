@@ -5,7 +5,7 @@ use Rattle.std.proofs.lemmas.Bool.{and_parts, and_from, cases_Bool, cond-true, c
 use Rattle.std.proofs.lemmas.Option.{same_Some, none-some}
 use Rattle.canon_model.specs.Memory.{Block}
 use Rattle.canon_memory.specs.Realloc.{block}
-use Rattle.canon_scripted.specs.Allocator.{InRow, is_live, listed, resized, same_block}
+use Rattle.canon_scripted.specs.Allocator.{InRow, is_live, listed, with_block_resized, same_block}
 
 -- ---- a block is one of a list
 
@@ -141,13 +141,13 @@ row_none f (x ∷ xs) t h le = absurd (omega (arith, h.0, h.1, row_order (x.star
 
 -- ---- a block of a row in another size
 
-resized_first : (x b : Block) (xs : List Block) (n : ℕ) → same_block x b ≡ true → resized (x ∷ xs) b n ≡ listed b.start n ++ xs
+resized_first : (x b : Block) (xs : List Block) (n : ℕ) → same_block x b ≡ true → with_block_resized (x ∷ xs) b n ≡ listed b.start n ++ xs
 resized_first x b xs n e = cond-true _ _ _ e
 
-resized_later : (x b : Block) (xs : List Block) (n : ℕ) → same_block x b ≡ false → resized (x ∷ xs) b n ≡ x ∷ resized xs b n
+resized_later : (x b : Block) (xs : List Block) (n : ℕ) → same_block x b ≡ false → with_block_resized (x ∷ xs) b n ≡ x ∷ with_block_resized xs b n
 resized_later x b xs n e = cond-false _ _ _ e
 
-resized_from : (f : ℕ) (xs : List Block) (t i : ℕ) (b : Block) (n : ℕ) → InRow f xs t → slice_get xs i ≡ Some b → resized xs b n ≡ take i xs ++ listed b.start n ++ drop (suc i) xs
+resized_from : (f : ℕ) (xs : List Block) (t i : ℕ) (b : Block) (n : ℕ) → InRow f xs t → slice_get xs i ≡ Some b → with_block_resized xs b n ≡ take i xs ++ listed b.start n ++ drop (suc i) xs
 resized_from f [] t i b n h e = absurd (none-some b e)
 resized_from f (x ∷ xs) t zero b n h e = resized_first x b xs n (same_from x b (same_Some x b e))
 resized_from f (x ∷ xs) t (suc i) b n h e = ⊎_elim
@@ -156,11 +156,11 @@ resized_from f (x ∷ xs) t (suc i) b n h e = ⊎_elim
     (cases_Bool (same_block x b))
 
 -- as the code does it, at the block's place
-pub resized_at : (f : ℕ) (xs : List Block) (t i : ℕ) (b : Block) (n : ℕ) → InRow f xs t → slice_get xs i ≡ Some b → resized xs b n ≡ take i xs ++ listed b.start n ++ drop (i + 1) xs
+pub resized_at : (f : ℕ) (xs : List Block) (t i : ℕ) (b : Block) (n : ℕ) → InRow f xs t → slice_get xs i ≡ Some b → with_block_resized xs b n ≡ take i xs ++ listed b.start n ++ drop (i + 1) xs
 resized_at f xs t i b n h e = resized_from f xs t i b n h e ∙ ap (λ (k : ℕ). take i xs ++ listed b.start n ++ drop k xs) (sym (add-one i))
 
 -- the top stays where the size isn't larger
-pub row_smaller : (f : ℕ) (xs : List Block) (t : ℕ) (b : Block) (n : ℕ) → n ≤ b.size → InRow f xs t → InRow f (resized xs b n) t
+pub row_smaller : (f : ℕ) (xs : List Block) (t : ℕ) (b : Block) (n : ℕ) → n ≤ b.size → InRow f xs t → InRow f (with_block_resized xs b n) t
 row_smaller f [] t b n le h = h
 row_smaller f (x ∷ xs) t b n le h = ⊎_elim
     (λ s. let e = same_yes x b s in
@@ -171,7 +171,7 @@ row_smaller f (x ∷ xs) t b n le h = ⊎_elim
     (cases_Bool (same_block x b))
 
 -- where the block ends at the top, the top is then its end
-pub row_last : (f : ℕ) (xs : List Block) (t : ℕ) (b : Block) (n : ℕ) → Among xs b → b.start + b.size ≡ t → InRow f xs t → InRow f (resized xs b n) (b.start + n)
+pub row_last : (f : ℕ) (xs : List Block) (t : ℕ) (b : Block) (n : ℕ) → Among xs b → b.start + b.size ≡ t → InRow f xs t → InRow f (with_block_resized xs b n) (b.start + n)
 row_last f [] t b n g last h = absurd g
 row_last f (x ∷ xs) t b n g last h = ⊎_elim
     (λ s. let e = same_yes x b s in
@@ -188,7 +188,7 @@ row_last f (x ∷ xs) t b n g last h = ⊎_elim
 abbrev pub Lives : List Block → Block → ℕ → ℕ → Block → Type 0
 Lives xs old s n c = (Among xs c × (c ≡ old → ⊥)) ⊎ ((c ≡ block s n) × (0 < n))
 
-pub resized_lives : (f : ℕ) (xs : List Block) (t : ℕ) (b : Block) (n : ℕ) (c : Block) → InRow f xs t → Among (resized xs b n) c → Lives xs b b.start n c
+pub resized_lives : (f : ℕ) (xs : List Block) (t : ℕ) (b : Block) (n : ℕ) (c : Block) → InRow f xs t → Among (with_block_resized xs b n) c → Lives xs b b.start n c
 resized_lives f [] t b n c h g = absurd g
 resized_lives f (x ∷ xs) t b n c h g = ⊎_elim
     (λ s. ⊎_elim
@@ -201,7 +201,7 @@ resized_lives f (x ∷ xs) t b n c h g = ⊎_elim
     (subst (λ ys. Among ys c) (resized_later x b xs n s) g))
     (cases_Bool (same_block x b))
 
-pub resized_keeps : (xs : List Block) (b : Block) (n : ℕ) (c : Block) → Among xs c → (c ≡ b → ⊥) → Among (resized xs b n) c
+pub resized_keeps : (xs : List Block) (b : Block) (n : ℕ) (c : Block) → Among xs c → (c ≡ b → ⊥) → Among (with_block_resized xs b n) c
 resized_keeps [] b n c g other = absurd g
 resized_keeps (x ∷ xs) b n c g other = ⊎_elim
     (λ s. subst (λ ys. Among ys c) (sym (resized_first x b xs n s))
@@ -210,7 +210,7 @@ resized_keeps (x ∷ xs) b n c g other = ⊎_elim
     (⊎_elim (λ e. inl e) (λ k. inr (resized_keeps xs b n c k other)) g))
     (cases_Bool (same_block x b))
 
-pub resized_new : (xs : List Block) (b : Block) (n : ℕ) → Among xs b → 0 < n → Among (resized xs b n) (block b.start n)
+pub resized_new : (xs : List Block) (b : Block) (n : ℕ) → Among xs b → 0 < n → Among (with_block_resized xs b n) (block b.start n)
 resized_new [] b n g some = absurd g
 resized_new (x ∷ xs) b n g some = ⊎_elim
     (λ s. subst (λ ys. Among ys (block b.start n)) (sym (resized_first x b xs n s)) (among_append_left (listed b.start n) xs _ (listed_has b.start n some)))

@@ -5,23 +5,23 @@ use Rattle.std.proofs.lemmas.Bool.{and_parts, and_from, and_left, and_right, cas
 use Rattle.std.proofs.lemmas.Option.{same_Some, none-some}
 use Rattle.canon_model.specs.Requests.{Call}
 use Rattle.canon_memory.specs.Realloc.{old_block}
-use Rattle.canon_scripted.specs.Allocator.{Allocator, Placed, allocate, is_live, last_placed, moved_placed, new_placed, placed, smaller_placed}
+use Rattle.canon_scripted.specs.Allocator.{Allocator, Placed, allocate, is_live, last_placed, moved_placed, new_placed, placed_inside, smaller_placed}
 
 abbrev pub at_place : ℕ → Allocator → Placed
 at_place start after = record { answer = start; after = after }
 
 -- ---- a placed block
 
-pub placed_yes : (len start size : ℕ) (after : Allocator) → start < 2 ^ 32 → start + size ≤ len → placed len start size after ≡ Some (at_place start after)
+pub placed_yes : (len start size : ℕ) (after : Allocator) → start < 2 ^ 32 → start + size ≤ len → placed_inside len start size after ≡ Some (at_place start after)
 placed_yes len start size after near room = cond-true _ _ _ (and_from _ _ (lt-ltb start (2 ^ 32) near) (le-leb (start + size) len room))
 
-pub placed_far : (len start size : ℕ) (after : Allocator) → 2 ^ 32 ≤ start → placed len start size after ≡ None
+pub placed_far : (len start size : ℕ) (after : Allocator) → 2 ^ 32 ≤ start → placed_inside len start size after ≡ None
 placed_far len start size after far = cond-false _ _ _ (and_left _ _ (le-ltb start (2 ^ 32) far))
 
-pub placed_past : (len start size : ℕ) (after : Allocator) → len < start + size → placed len start size after ≡ None
+pub placed_past : (len start size : ℕ) (after : Allocator) → len < start + size → placed_inside len start size after ≡ None
 placed_past len start size after past = cond-false _ _ _ (and_right _ _ (lt-leb (start + size) len past))
 
-pub placed_no : (len start size : ℕ) (after : Allocator) → ((start < 2 ^ 32) × (start + size ≤ len) → ⊥) → placed len start size after ≡ None
+pub placed_no : (len start size : ℕ) (after : Allocator) → ((start < 2 ^ 32) × (start + size ≤ len) → ⊥) → placed_inside len start size after ≡ None
 placed_no len start size after h = ⊎_elim
     (λ e. absurd (h (ltb-true _ _ (and_parts _ _ e).0, leb-true _ _ (and_parts _ _ e).1)))
     (λ e. cond-false _ _ _ e)
@@ -33,7 +33,7 @@ pub record IsPlaced (len start size : ℕ) (after : Allocator) (p : Placed) : Ty
   pub room : start + size ≤ len
   pub is : at_place start after ≡ p
 
-pub placed_is : (len start size : ℕ) (after : Allocator) (p : Placed) → placed len start size after ≡ Some p → IsPlaced len start size after p
+pub placed_is : (len start size : ℕ) (after : Allocator) (p : Placed) → placed_inside len start size after ≡ Some p → IsPlaced len start size after p
 placed_is len start size after p e = ⊎_elim
     (λ t. record {
       near = ltb-true _ _ (and_parts _ _ t).0;

@@ -6,7 +6,7 @@ use Rattle.canon_model.specs.Memory.{Block}
 use Rattle.canon_model.proofs.Layouts.{align_to-le}
 use Rattle.canon_memory.specs.Realloc.{block, call}
 use Rattle.canon_memory.specs.declared.error.GuestFault.{GuestFault}
-use Rattle.canon_scripted.specs.Allocator.{Allocator, DoesPlace, InRow, Placed, allocate, is_live, last_placed, listed, moved_placed, placed, resized, smaller_placed}
+use Rattle.canon_scripted.specs.Allocator.{Allocator, DoesPlace, InRow, Placed, allocate, is_live, last_placed, listed, moved_placed, placed_inside, with_block_resized, smaller_placed}
 use Rattle.canon_scripted.proofs.Rows.{among_got, live_from, resized_at, row_add, row_last, row_smaller}
 use Rattle.canon_scripted.proofs.Rules.{at_place, is_last, is_larger, is_smaller, is_unaligned, placed_yes}
 
@@ -27,7 +27,7 @@ module _ (a : Allocator) (t : ℕ) (xs : List Block) (i old old_size n : ℕ) (l
   pub a_row : InRow 0 a.live a.top
   a_row = in_row t xs a h.view h.row
 
-  pub is_resized : live ≡ resized a.live (block old old_size) n
+  pub is_resized : live ≡ with_block_resized a.live (block old old_size) n
   is_resized = h.now ∙ ap (λ (b : Allocator). take i b.live ++ listed old n ++ drop (i + 1) b.live) h.view ∙ sym (resized_at 0 a.live a.top i (block old old_size) n a_row h.got)
 
   pub last_row : old + old_size ≡ a.top → InRow 0 live (old + n)
@@ -54,8 +54,8 @@ module _ (a : Allocator) (t : ℕ) (xs : List Block) (i old old_size : ℕ) (liv
   moved_does len near room =
       let top : t ≡ a.top = ap (λ (b : Allocator). b.top) h.view in
       let at : align_to a.top align ≡ start = ap (λ (u : ℕ). align_to u align) (sym top) ∙ sym up in
-      let now : resized a.live (block old old_size) 0 ++ listed start n ≡ live2 = ap (λ ys. ys ++ listed start n) (sym (is_resized a t xs i old old_size 0 live h)) ∙ sym e in
-      ap (λ (s : ℕ). placed len s n (allocator (s + n) (resized a.live (block old old_size) 0 ++ listed s n))) at
+      let now : with_block_resized a.live (block old old_size) 0 ++ listed start n ≡ live2 = ap (λ ys. ys ++ listed start n) (sym (is_resized a t xs i old old_size 0 live h)) ∙ sym e in
+      ap (λ (s : ℕ). placed_inside len s n (allocator (s + n) (with_block_resized a.live (block old old_size) 0 ++ listed s n))) at
       ∙ placed_yes len start n _ (subst (λ (s : ℕ). s < 2 ^ 32) (sym up) near) (subst (λ (s : ℕ). s + n ≤ len) (sym up) room)
       ∙ ap (λ ys. Some (at_place start (allocator (start + n) ys))) now
 

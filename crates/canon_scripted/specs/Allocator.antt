@@ -27,9 +27,9 @@ abbrev pub listed : ℕ → ℕ → List Block
 listed start size = if nat_eq size 0 then [] else block start size ∷ []
 
 -- the block in another size; it lives no more where that is 0
-abbrev pub resized : List Block → Block → ℕ → List Block
-resized [] old size = []
-resized (b ∷ bs) old size = if same_block b old then listed old.start size ++ bs else b ∷ resized bs old size
+abbrev pub with_block_resized : List Block → Block → ℕ → List Block
+with_block_resized [] old size = []
+with_block_resized (b ∷ bs) old size = if same_block b old then listed old.start size ++ bs else b ∷ with_block_resized bs old size
 
 -- ---- the five rules, in a memory of so many bytes
 
@@ -39,27 +39,27 @@ pub record Placed : Type 0 where
   pub after : Allocator
 
 -- A block that passes the end of memory isn't answered, nor one at 2 ^ 32: a pointer has four bytes.
-abbrev pub placed : ℕ → ℕ → ℕ → Allocator → Option Placed
-placed len start size after =
+abbrev pub placed_inside : ℕ → ℕ → ℕ → Allocator → Option Placed
+placed_inside len start size after =
     if nat_lt start (2 ^ 32) && nat_le (start + size) len then Some (record { answer = start; after = after }) else None
 
 -- 1. A new block, at the first multiple of the alignment from the top on; the top is then its end.
 abbrev pub new_placed : ℕ → Allocator → Call → Option Placed
 new_placed len a c = let start = align_to a.top c.align in
-    placed len start c.new_size (record { top = start + c.new_size; live = a.live ++ listed start c.new_size })
+    placed_inside len start c.new_size (record { top = start + c.new_size; live = a.live ++ listed start c.new_size })
 
 -- 3. The block that ends at the top, in another size where it is; the top is then its end.
 abbrev pub last_placed : ℕ → Allocator → Call → Option Placed
 last_placed len a c =
-    placed len c.old c.new_size (record { top = c.old + c.new_size; live = resized a.live (old_block c) c.new_size })
+    placed_inside len c.old c.new_size (record { top = c.old + c.new_size; live = with_block_resized a.live (old_block c) c.new_size })
 
 -- 4. A block in a smaller size, where it is.
 abbrev pub smaller_placed : ℕ → Allocator → Call → Option Placed
-smaller_placed len a c = placed len c.old c.new_size (record a { live = resized a.live (old_block c) c.new_size })
+smaller_placed len a c = placed_inside len c.old c.new_size (record a { live = with_block_resized a.live (old_block c) c.new_size })
 
 -- 5. A new block, and the old one lives no more.
 abbrev pub moved_placed : ℕ → Allocator → Call → Option Placed
-moved_placed len a c = new_placed len (record a { live = resized a.live (old_block c) 0 }) c
+moved_placed len a c = new_placed len (record a { live = with_block_resized a.live (old_block c) 0 }) c
 
 -- The five rules: which one answers a call. It traps where nothing is placed, and, by rule 2, where its old block
 -- doesn't live. (In the memory of its earlier answers rule 4 never passes the end.)

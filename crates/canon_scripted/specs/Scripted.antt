@@ -32,9 +32,9 @@ pub record Doing : Type 0 where
   pub shortages : ℕ
 
 -- the marks of answers, by whether the allocator gave them; an ordered answer isn't lawful, but tidy
-abbrev pub marks_of : List Bool → List Mark
-marks_of [] = []
-marks_of (own ∷ rest) = record { lawful = own; tidy = true } ∷ marks_of rest
+abbrev pub marks_of_origins : List Bool → List Mark
+marks_of_origins [] = []
+marks_of_origins (own ∷ rest) = record { lawful = own; tidy = true } ∷ marks_of_origins rest
 
 -- whether the allocator answers
 abbrev pub is_free : Ordered → Bool
@@ -89,16 +89,16 @@ pub data Asked : Type 0 where
   destroyed : (func rep : ℕ) (memory : List ℕ) → Asked
 
 -- the events that tell a call
-abbrev pub events_of : Plan → Asked → List Event
-events_of plan (started func words memory) = let t = carry_out plan.actions memory in start_events func words memory t.memory t.result
-events_of plan (resumed words memory) = let t = carry_out plan.actions memory in resume_events words memory t.memory t.result
-events_of plan (reallocated c memory) = realloc_events c memory (realloc (length memory) plan c).result
-events_of plan (post_returned func words memory) = post_events func words memory (ended plan.post_trap)
-events_of plan (destroyed func rep memory) = dtor_events func rep memory (ended plan.dtor_trap)
+abbrev pub events_telling : Plan → Asked → List Event
+events_telling plan (started func words memory) = let t = carry_out plan.actions memory in start_events func words memory t.memory t.result
+events_telling plan (resumed words memory) = let t = carry_out plan.actions memory in resume_events words memory t.memory t.result
+events_telling plan (reallocated c memory) = realloc_events c memory (realloc (length memory) plan c).result
+events_telling plan (post_returned func words memory) = post_events func words memory (ended plan.post_trap)
+events_telling plan (destroyed func rep memory) = dtor_events func rep memory (ended plan.dtor_trap)
 
 -- the marks of its answers
 abbrev pub marks_by : Bool → Result ℕ GuestFault → List Mark
-marks_by own (Ok answer) = marks_of (own ∷ [])
+marks_by own (Ok answer) = marks_of_origins (own ∷ [])
 marks_by own (Err f) = []
 
 abbrev pub marks_told : Plan → Asked → List Mark
@@ -136,7 +136,7 @@ len_after plan (destroyed func rep memory) = length memory
 -- the events of calls in a row, the marks of their answers, and the plan that they leave
 abbrev pub all_events : Plan → List Asked → List Event
 all_events plan [] = []
-all_events plan (call ∷ calls) = events_of plan call ++ all_events (after plan call) calls
+all_events plan (call ∷ calls) = events_telling plan call ++ all_events (after plan call) calls
 
 abbrev pub all_marks : Plan → List Asked → List Mark
 all_marks plan [] = []
@@ -161,8 +161,8 @@ pub record CarriesOut (plan : Plan) (len : ℕ) (events : List Event) (marks : L
   pub lengths : InLength plan len calls last
 
 -- a count of faults, raised: it stands still at the last number of a `u64`
-abbrev pub raised : ℕ → ℕ
-raised n = min (n + 1) (2 ^ 64 - 1)
+abbrev pub raised_count : ℕ → ℕ
+raised_count n = min (n + 1) (2 ^ 64 - 1)
 
 abbrev pub is_trap : Event → Bool
 is_trap (event.Trap asked len) = true
@@ -171,7 +171,7 @@ is_trap _ = false
 -- a count of traps after these events: each trap raises it
 abbrev pub traps_after : ℕ → List Event → ℕ
 traps_after traps [] = traps
-traps_after traps (e ∷ events) = traps_after (if is_trap e then raised traps else traps) events
+traps_after traps (e ∷ events) = traps_after (if is_trap e then raised_count traps else traps) events
 
 -- From one state and length of memory to others it did so, and had these marks more; its traps are counted, and it didn't
 -- want memory.
@@ -194,7 +194,7 @@ moves_nothing g = record {
 
 events_then : (plan : Plan) (xs ys : List Asked) → all_events plan (xs ++ ys) ≡ all_events plan xs ++ all_events (after_all plan xs) ys
 events_then plan [] ys = refl
-events_then plan (x ∷ xs) ys = ap (λ (es : List Event). events_of plan x ++ es) (events_then (after plan x) xs ys) ∙ sym (append_assoc (events_of plan x) (all_events (after plan x) xs) (all_events (after_all (after plan x) xs) ys))
+events_then plan (x ∷ xs) ys = ap (λ (es : List Event). events_telling plan x ++ es) (events_then (after plan x) xs ys) ∙ sym (append_assoc (events_telling plan x) (all_events (after plan x) xs) (all_events (after_all (after plan x) xs) ys))
 
 marks_then : (plan : Plan) (xs ys : List Asked) → all_marks plan (xs ++ ys) ≡ all_marks plan xs ++ all_marks (after_all plan xs) ys
 marks_then plan [] ys = refl
@@ -210,7 +210,7 @@ lengths_then plan len mid last (x ∷ xs) ys (first, rest) h = (first, lengths_t
 
 traps_then : (n : ℕ) (xs ys : List Event) → traps_after n (xs ++ ys) ≡ traps_after (traps_after n xs) ys
 traps_then n [] ys = refl
-traps_then n (x ∷ xs) ys = traps_then (if is_trap x then raised n else n) xs ys
+traps_then n (x ∷ xs) ys = traps_then (if is_trap x then raised_count n else n) xs ys
 
 module _ (first mid left : Plan) (len between last : ℕ) (xs ys : List Event) (ms ns : List Mark) where
   does_then : CarriesOut first len xs ms mid between → CarriesOut mid between ys ns left last → CarriesOut first len (xs ++ ys) (ms ++ ns) left last

@@ -4,7 +4,7 @@ ghost use Rattle.std.specs.Prelude.{◌≡◌, ◌≤◌, ◌<◌, ◌+◌, ◌+
 ghost use Rattle.std.specs.Vec.{vec_len, vec_capacity};
 ghost use Rattle.canon_memory.specs.Realloc.{call};
 ghost use Rattle.canon_scripted.specs.Allocator.{DoesPlace, InRow, allocate, copied};
-ghost use Rattle.canon_scripted.specs.Scripted.{ScriptMoves, breaches, marks_of, moves_nothing, moves_then, seen_of};
+ghost use Rattle.canon_scripted.specs.Scripted.{ScriptMoves, breaches, marks_of_origins, moves_nothing, moves_then, seen_of};
 
 use crate::actions::{Action, Actions};
 use crate::allocator::Allocator;
@@ -29,13 +29,13 @@ pub struct ScriptedGuest {
 }
 
 impl Model for ScriptedGuest {
-    ghost use Rattle.canon_scripted.specs.Scripted.{Doing, marks_of};
+    ghost use Rattle.canon_scripted.specs.Scripted.{Doing, marks_of_origins};
 
     ghost Value = { Doing };
 
     ghost view = { λ g. record {
       plan = record { actions = g.actions; reallocs = g.orders; post_trap = g.post_trap; dtor_trap = g.dtor_trap; allocator = g.allocator };
-      marks = marks_of g.answers.items;
+      marks = marks_of_origins g.answers.items;
       traps = g.traps;
       shortages = g.shortages;
     } };
@@ -47,7 +47,7 @@ impl ScriptedGuest {
     ghost use Rattle.canon_memory.specs.Realloc.{IsTidy, ReallocLaw, call, new_block};
     ghost use Rattle.canon_scripted.specs.Actions.{carry_out, turn};
     ghost use Rattle.canon_scripted.specs.Orders.{AreNarrow, next_order};
-    ghost use Rattle.canon_scripted.specs.Leaves.{DoesRealloc, counted, faulted, with_actions};
+    ghost use Rattle.canon_scripted.specs.Leaves.{DoesRealloc, counted, with_fault_counted, with_actions};
     ghost use Rattle.canon_scripted.specs.Scripted.{breaches, ended, is_free};
 
     /// A guest with nothing to do, whose allocator goes up from `heap`.
@@ -98,7 +98,7 @@ impl ScriptedGuest {
     /// Counts a fault.
     fn count(&mut self, fault: GuestFault) -> GuestFault
         ensures same { result ≡ fault }
-        ensures counts { self.new ≡ faulted fault self.old }
+        ensures counts { self.new ≡ with_fault_counted fault self.old }
         ensures later { (self.old.traps ≤ self.new.traps) × (self.old.shortages ≤ self.new.shortages) }
     {
         match fault {
@@ -270,7 +270,7 @@ fn push_reserved(items: &mut Vec<bool>, item: bool)
 
 /// How many of these answers the allocator didn't give.
 fn count_ordered(answers: &[bool]) -> u64
-    ensures { result ≡ breaches (marks_of answers.now) }
+    ensures { result ≡ breaches (marks_of_origins answers.now) }
 {
     let mut count = 0;
     for own in answers {

@@ -12,7 +12,7 @@ use Rattle.canon_val.specs.declared.val.Val.TheShapes.{former-Val-Map-0-at-2, fo
 use Rattle.canon_transcript.specs.declared.transcript.Answer.{Answer}
 use Rattle.canon_transcript.specs.declared.transcript.Answer.TheVariants as answer
 use Rattle.canon_transcript.specs.declared.transcript.Record.{Record}
-use Rattle.canon_transcript.specs.Text.{Page, Printing, acts_text, after, answer_printing, answer_text, between, each_after, end, error_text, following, given, head_text, joined, labelled, layer_printing, live_text, name_text, next_number, number_after, page, paired, record_printing, record_text, records_text, resource_printing, resource_text, transcript_text, value_printing, value_text, values_printing, values_text, write}
+use Rattle.canon_transcript.specs.Text.{Page, Printing, acts_text, text_then, answer_printing, answer_text, between, each_after, end, error_text, following, resources_given, head_text, comma_separated, labelled, layer_printing, live_text, name_text, next_number, number_after, page, key_and_value, record_printing, record_text, records_text, resource_printing, resource_text, transcript_text, value_printing, value_text, values_printing, values_text, write}
 
 -- ---- numbers
 
@@ -62,12 +62,12 @@ adds_both f g xs ys a b = record {
       ∙ ap₂ page (append_assoc p.text q.text (g (page [] n)).text ∙ ap (λ text. p.text ++ text) (sym both)) (after_more xs ys p.next));
 }
 
-adds_after : (text : List ℕ) (f : Printing) (xs : List Any) → Adds f xs → Adds (after text f) xs
+adds_after : (text : List ℕ) (f : Printing) (xs : List Any) → Adds f xs → Adds (text_then text f) xs
 adds_after text f xs a = adds_both (write text) f [] xs (adds_text text) a
 
 adds_between : (opening closing : List ℕ) (f : Printing) (xs : List Any) → Adds f xs → Adds (between opening f closing) xs
 adds_between opening closing f xs a =
-    subst (λ ys. Adds (between opening f closing) ys) (append-nil xs) (adds_both (after opening f) (write closing) xs [] (adds_after opening f xs a) (adds_text closing))
+    subst (λ ys. Adds (between opening f closing) ys) (append-nil xs) (adds_both (text_then opening f) (write closing) xs [] (adds_after opening f xs a) (adds_text closing))
 
 adds_same : (f g : Printing) (xs ys : List Any) → g ≡ f → ys ≡ xs → Adds f xs → Adds g ys
 adds_same f g xs ys e d a = subst (λ k. Adds k ys) (sym e) (subst (λ zs. Adds f zs) (sym d) a)
@@ -87,9 +87,9 @@ adds_each separator [] [] a = adds_nothing
 adds_each separator [] (xs ∷ xss) a = absurd a
 adds_each separator (f ∷ fs) [] a = absurd a
 adds_each separator (f ∷ fs) (xs ∷ xss) a =
-    adds_both (after separator f) (each_after separator fs) xs (all_of xss) (adds_after separator f xs a.0) (adds_each separator fs xss a.1)
+    adds_both (text_then separator f) (each_after separator fs) xs (all_of xss) (adds_after separator f xs a.0) (adds_each separator fs xss a.1)
 
-adds_row : (fs : List Printing) (xss : List (List Any)) → AllAdd fs xss → Adds (joined fs) (all_of xss)
+adds_row : (fs : List Printing) (xss : List (List Any)) → AllAdd fs xss → Adds (comma_separated fs) (all_of xss)
 adds_row [] [] a = adds_nothing
 adds_row [] (xs ∷ xss) a = absurd a
 adds_row (f ∷ fs) [] a = absurd a
@@ -103,10 +103,10 @@ module _ {E : Type 0} (f : E → Val) (h : (e : E) → Adds (value_printing (f e
   members [] = tt
   members (e ∷ es) = (h e, members es)
 
-  pairs : (ps : List (E × E)) → AllAdd (map paired (map (former-Val-Map-0-at-2.map Val Printing value_printing) (map (former-Val-Map-0-at-2.map E Val f) ps)))
+  pairs : (ps : List (E × E)) → AllAdd (map key_and_value (map (former-Val-Map-0-at-2.map Val Printing value_printing) (map (former-Val-Map-0-at-2.map E Val f) ps)))
       (map (λ p. p.0 ++ p.1) (map (former-Val-Map-0-at-2.map Val (List Any) resources) (map (former-Val-Map-0-at-2.map E Val f) ps)))
   pairs [] = tt
-  pairs (p ∷ ps) = (adds_both (value_printing (f p.0)) (after (codes "=") (value_printing (f p.1))) _ _ (h p.0) (adds_after (codes "=") _ _ (h p.1)), pairs ps)
+  pairs (p ∷ ps) = (adds_both (value_printing (f p.0)) (text_then (codes "=") (value_printing (f p.1))) _ _ (h p.0) (adds_after (codes "=") _ _ (h p.1)), pairs ps)
 
   fields : (gs : List (String Global × E)) → AllAdd (map labelled (map (former-Val-Record-0-at-2.map Val Printing value_printing) (map (former-Val-Record-0-at-2.map E Val f) gs)))
       (map (λ g. g.1) (map (former-Val-Record-0-at-2.map Val (List Any) resources) (map (former-Val-Record-0-at-2.map E Val f) gs)))
@@ -158,7 +158,7 @@ each_value (v ∷ vs) = (adds_value v, each_value vs)
 
 -- ---- records
 
-adds_answer : (a : Answer) → Adds (answer_printing a) (given a)
+adds_answer : (a : Answer) → Adds (answer_printing a) (resources_given a)
 adds_answer (answer.Ok values) = adds_between (codes "ok") end (values_printing values.items) (all_resources values.items) (adds_each (codes " ") _ _ (each_value values.items))
 adds_answer (answer.Err e) = adds_text (codes "error " ++ error_text e ++ end)
 adds_answer answer.Typecheck = adds_text (codes "error TypecheckFailed" ++ end)
@@ -186,16 +186,16 @@ pub unnumbered : {T E : Type 0} (r : Result T E) (old new : List ℕ) (n : Optio
 unnumbered (Ok x) old new n vs h = ap (λ p. p.text) h ∙ values_added vs old
 unnumbered (Err e) old new n vs h = tt
 
-record_adds : (r : Record) (text : List ℕ) (n : ℕ) → record_printing r (page text (Some n)) ≡ page (text ++ record_text n r) (Some (number_after n (given r.answer)))
+record_adds : (r : Record) (text : List ℕ) (n : ℕ) → record_printing r (page text (Some n)) ≡ page (text ++ record_text n r) (Some (number_after n (resources_given r.answer)))
 record_adds r text n =
     ap (write (live_text r.live)) ((adds_answer r.answer).on (page (text ++ head_text r.head ++ acts_text r) (Some n)))
-    ∙ ap (λ t. page t (Some (number_after n (given r.answer)))) (regrouped text (head_text r.head) (acts_text r) (answer_text n r.answer) (live_text r.live))
+    ∙ ap (λ t. page t (Some (number_after n (resources_given r.answer)))) (regrouped text (head_text r.head) (acts_text r) (answer_text n r.answer) (live_text r.live))
 
 records_add : (rs : List Record) (text : List ℕ) (n : ℕ) → (records_printing rs (page text (Some n))).text ≡ text ++ records_text n rs
 records_add [] text n = sym (append-nil text)
 records_add (r ∷ rs) text n =
     ap (λ p. (records_printing rs p).text) (record_adds r text n)
-    ∙ (records_add rs (text ++ record_text n r) (number_after n (given r.answer)) ∙ append_assoc text (record_text n r) (records_text (number_after n (given r.answer)) rs))
+    ∙ (records_add rs (text ++ record_text n r) (number_after n (resources_given r.answer)) ∙ append_assoc text (record_text n r) (records_text (number_after n (resources_given r.answer)) rs))
 
 -- the text on a page with the records, once none is left
 pub printed_records : (rs : List Record) (i : ℕ) (text : List ℕ) (n : Option ℕ) → length rs ≤ i

@@ -9,7 +9,7 @@ use Rattle.canon_val.specs.declared.val.Val.TheFolds.{fold-roll-Val}
 use Rattle.canon_val.specs.declared.val.Val.TheOpen.{Val-F}
 use Rattle.canon_val.specs.declared.val.Val.TheVariants as val
 use Rattle.canon_val.specs.declared.val.Val.TheVariants.{rolls-Map, rolls-Record}
-use Rattle.canon_transcript.specs.Text.{Page, Printing, between, each_after, fields_printing, joined, labelled, layer_printing, paired, pairs_printing, value_printing}
+use Rattle.canon_transcript.specs.Text.{Page, Printing, between, each_after, fields_printing, comma_separated, labelled, layer_printing, key_and_value, pairs_printing, value_printing}
 
 -- what stands before an element: nothing, or the separator
 abbrev pub lead : Bool → ℕ → List ℕ
@@ -31,19 +31,19 @@ row_begins by f xs text text2 before e = ap (λ s. s ++ row by f [] xs) e ∙ ap
 
 -- what is left of a row: its first stands alone, and each other after a comma
 abbrev pub left : Bool → List Printing → Printing
-left true fs = joined fs
+left true fs = comma_separated fs
 left false fs = each_after (codes ",") fs
 
 -- the printing of a value, by those of its members
 pub value_of_record : (fields : Vec (String Global × Val) Global) → value_printing (val.Record fields) ≡ fields_printing fields.items
 value_of_record fields =
     ap value_printing (sym (rolls-Record fields)) ∙ (fold-roll-Val Printing layer_printing (Val-F.Record fields)
-    ∙ ap (λ fs. between (codes "{") (joined fs) (codes "}")) (map-map labelled (λ field. (field.0, value_printing field.1)) fields.items))
+    ∙ ap (λ fs. between (codes "{") (comma_separated fs) (codes "}")) (map-map labelled (λ field. (field.0, value_printing field.1)) fields.items))
 
 pub value_of_map : (pairs : Vec (Val × Val) Global) → value_printing (val.Map pairs) ≡ pairs_printing pairs.items
 value_of_map pairs =
     ap value_printing (sym (rolls-Map pairs)) ∙ (fold-roll-Val Printing layer_printing (Val-F.Map pairs)
-    ∙ ap (λ fs. between (codes "map[") (joined fs) (codes "]")) (map-map paired (λ pair. (value_printing pair.0, value_printing pair.1)) pairs.items))
+    ∙ ap (λ fs. between (codes "map[") (comma_separated fs) (codes "]")) (map-map key_and_value (λ pair. (value_printing pair.0, value_printing pair.1)) pairs.items))
 
 -- the same printing, spelled otherwise
 pub printed_as : {T E : Type 0} (r : Result T E) (new old : Page) (f g : Printing) → f ≡ g → OnOk r (new ≡ f old) → OnOk r (new ≡ g old)

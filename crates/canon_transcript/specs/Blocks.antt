@@ -33,8 +33,8 @@ abbrev pub blocks_left : List Event → List Block
 blocks_left events = fold blocks_after [] events
 
 -- how many bytes blocks have
-abbrev pub bytes_of : List Block → ℕ
-bytes_of bs = sum_by (λ b. b.size) bs
+abbrev pub size_of_blocks : List Block → ℕ
+size_of_blocks bs = sum_by (λ b. b.size) bs
 
 abbrev pub block_bytes : List Event → ℕ
-block_bytes events = bytes_of (blocks_left events)
+block_bytes events = size_of_blocks (blocks_left events)

@@ -51,21 +51,21 @@ abbrev pub write : List ℕ → Printing
 write text p = page (p.text ++ text) p.next
 
 -- a printing after a text
-abbrev pub after : List ℕ → Printing → Printing
-after text f p = f (write text p)
+abbrev pub text_then : List ℕ → Printing → Printing
+text_then text f p = f (write text p)
 
 abbrev pub between : List ℕ → Printing → List ℕ → Printing
-between opening f closing p = write closing (after opening f p)
+between opening f closing p = write closing (text_then opening f p)
 
 -- each printing after this separator
 abbrev pub each_after : List ℕ → List Printing → Printing
 each_after separator [] p = p
-each_after separator (f ∷ fs) p = each_after separator fs (after separator f p)
+each_after separator (f ∷ fs) p = each_after separator fs (text_then separator f p)
 
 -- printings with a comma between them
-abbrev pub joined : List Printing → Printing
-joined [] p = p
-joined (f ∷ fs) p = each_after (codes ",") fs (f p)
+abbrev pub comma_separated : List Printing → Printing
+comma_separated [] p = p
+comma_separated (f ∷ fs) p = each_after (codes ",") fs (f p)
 
 -- ---- values
 
@@ -96,8 +96,8 @@ abbrev pub flag_text : String Global → List ℕ
 flag_text name = name_text (string_bytes name)
 
 -- names with a bar between them
-abbrev pub flags_text : List (String Global) → List ℕ
-flags_text names = codes "<" ++ join_with_byte 0x7C (map flag_text names) ++ codes ">"
+abbrev pub flag_names_text : List (String Global) → List ℕ
+flag_names_text names = codes "<" ++ join_with_byte 0x7C (map flag_text names) ++ codes ">"
 
 -- a mark, and the number of the resource, where it has one
 abbrev pub resource_text : Option ℕ → List ℕ
@@ -117,11 +117,11 @@ resource_printing p = page (p.text ++ resource_text p.next) (next_number p.next)
 
 -- a field's name and its value
 abbrev pub labelled : String Global × Printing → Printing
-labelled field = after (name_text (string_bytes field.0)) (after (codes ":") field.1)
+labelled field = text_then (name_text (string_bytes field.0)) (text_then (codes ":") field.1)
 
 -- a key and its value
-abbrev pub paired : Printing × Printing → Printing
-paired pair p = after (codes "=") pair.1 (pair.0 p)
+abbrev pub key_and_value : Printing × Printing → Printing
+key_and_value pair p = text_then (codes "=") pair.1 (pair.0 p)
 
 -- a payload in brackets, if there is one
 abbrev pub wrapped : Option (Box Printing Global) → Printing
@@ -143,19 +143,19 @@ layer_printing (Val-F.Float32 bits) = write (codes "f32:" ++ hexadecimal 8 bits)
 layer_printing (Val-F.Float64 bits) = write (codes "f64:" ++ hexadecimal 16 bits)
 layer_printing (Val-F.Char c) = write (codes "'" ++ escaped c ++ codes "'")
 layer_printing (Val-F.String s) = write (quoted (string_bytes s))
-layer_printing (Val-F.List items) = between (codes "[") (joined items.items) (codes "]")
-layer_printing (Val-F.Map pairs) = between (codes "map[") (joined (map paired pairs.items)) (codes "]")
-layer_printing (Val-F.Record fields) = between (codes "{") (joined (map labelled fields.items)) (codes "}")
-layer_printing (Val-F.Tuple parts) = between (codes "(") (joined parts.items) (codes ")")
-layer_printing (Val-F.Variant name payload) = after (name_text (string_bytes name)) (wrapped payload)
+layer_printing (Val-F.List items) = between (codes "[") (comma_separated items.items) (codes "]")
+layer_printing (Val-F.Map pairs) = between (codes "map[") (comma_separated (map key_and_value pairs.items)) (codes "]")
+layer_printing (Val-F.Record fields) = between (codes "{") (comma_separated (map labelled fields.items)) (codes "}")
+layer_printing (Val-F.Tuple parts) = between (codes "(") (comma_separated parts.items) (codes ")")
+layer_printing (Val-F.Variant name payload) = text_then (name_text (string_bytes name)) (wrapped payload)
 layer_printing (Val-F.Enum name) = write (name_text (string_bytes name))
 layer_printing (Val-F.Option None) = write (codes "none")
-layer_printing (Val-F.Option (Some payload)) = after (codes "some") (wrapped (Some payload))
-layer_printing (Val-F.Result (Ok payload)) = after (codes "ok") (wrapped payload)
-layer_printing (Val-F.Result (Err payload)) = after (codes "err") (wrapped payload)
-layer_printing (Val-F.Flags names) = write (flags_text names.items)
+layer_printing (Val-F.Option (Some payload)) = text_then (codes "some") (wrapped (Some payload))
+layer_printing (Val-F.Result (Ok payload)) = text_then (codes "ok") (wrapped payload)
+layer_printing (Val-F.Result (Err payload)) = text_then (codes "err") (wrapped payload)
+layer_printing (Val-F.Flags names) = write (flag_names_text names.items)
 layer_printing (Val-F.Resource x) = resource_printing
-layer_printing (Val-F.FixedLengthList items) = between (codes "[") (joined items.items) (codes "]")
+layer_printing (Val-F.FixedLengthList items) = between (codes "[") (comma_separated items.items) (codes "]")
 
 abbrev pub value_printing : Val → Printing
 value_printing = fold-Val Printing layer_printing
@@ -170,13 +170,13 @@ abbrev pub field_printing : String Global × Val → Printing
 field_printing field = labelled (field.0, value_printing field.1)
 
 abbrev pub fields_printing : List (String Global × Val) → Printing
-fields_printing fields = between (codes "{") (joined (map field_printing fields)) (codes "}")
+fields_printing fields = between (codes "{") (comma_separated (map field_printing fields)) (codes "}")
 
 abbrev pub pair_printing : Val × Val → Printing
-pair_printing pair = paired (value_printing pair.0, value_printing pair.1)
+pair_printing pair = key_and_value (value_printing pair.0, value_printing pair.1)
 
 abbrev pub pairs_printing : List (Val × Val) → Printing
-pairs_printing pairs = between (codes "map[") (joined (map pair_printing pairs)) (codes "]")
+pairs_printing pairs = between (codes "map[") (comma_separated (map pair_printing pairs)) (codes "]")
 
 abbrev pub payload_printing : Option (Box Val Global) → Printing
 payload_printing None p = p
@@ -184,10 +184,10 @@ payload_printing (Some payload) p = between (codes "(") (value_printing payload.
 
 abbrev pub option_printing : Option (Box Val Global) → Printing
 option_printing None = write (codes "none")
-option_printing (Some payload) = after (codes "some") (payload_printing (Some payload))
+option_printing (Some payload) = text_then (codes "some") (payload_printing (Some payload))
 
 abbrev pub row_printing : List ℕ → List Val → List ℕ → Printing
-row_printing opening values closing = between opening (joined (map value_printing values)) closing
+row_printing opening values closing = between opening (comma_separated (map value_printing values)) closing
 
 -- each value after a space
 abbrev pub values_printing : List Val → Printing
@@ -334,16 +334,16 @@ abbrev pub first_text : Option ℕ → List Served → List ℕ
 first_text asked [] = []
 first_text asked (s ∷ served) = if is_of asked s then served_text s else []
 
-abbrev pub others : Option ℕ → List Served → List Served
-others asked [] = []
-others asked (s ∷ served) = if is_of asked s then served else s ∷ served
+abbrev pub others_served : Option ℕ → List Served → List Served
+others_served asked [] = []
+others_served asked (s ∷ served) = if is_of asked s then served else s ∷ served
 
 -- what stands before an event, and the served asks that are left after it
 abbrev pub text_before : Option ℕ → List Served → Event → List ℕ
 text_before asked served e = if is_resume e then first_text asked served else []
 
 abbrev pub left_after : Option ℕ → List Served → Event → List Served
-left_after asked served e = if is_resume e then others asked served else served
+left_after asked served e = if is_resume e then others_served asked served else served
 
 -- The lines of events, where those before them left these blocks, the last ask before them was for this import, and these served asks are
 -- left.
@@ -377,18 +377,18 @@ abbrev pub acts_text : Record → List ℕ
 acts_text r = events_text [] None r.served.items r.events
 
 abbrev pub record_printing : Record → Printing
-record_printing r = after (head_text r.head) (between (acts_text r) (answer_printing r.answer) (live_text r.live))
+record_printing r = text_then (head_text r.head) (between (acts_text r) (answer_printing r.answer) (live_text r.live))
 
 -- the text of a record whose first resource has this number
 abbrev pub record_text : ℕ → Record → List ℕ
 record_text first r = head_text r.head ++ acts_text r ++ answer_text first r.answer ++ live_text r.live
 
 -- the resources that an answer gave, depth first
-abbrev pub given : Answer → List Any
-given (answer.Ok values) = all_resources values.items
-given (answer.Err e) = []
-given answer.Typecheck = []
-given answer.Skipped = []
+abbrev pub resources_given : Answer → List Any
+resources_given (answer.Ok values) = all_resources values.items
+resources_given (answer.Err e) = []
+resources_given answer.Typecheck = []
+resources_given answer.Skipped = []
 
 -- the number after those of these resources
 abbrev pub number_after : ℕ → List Any → ℕ
@@ -398,7 +398,7 @@ number_after first (x ∷ xs) = number_after (following first) xs
 -- the text of records whose first resource has this number
 abbrev pub records_text : ℕ → List Record → List ℕ
 records_text first [] = []
-records_text first (r ∷ rs) = record_text first r ++ records_text (number_after first (given r.answer)) rs
+records_text first (r ∷ rs) = record_text first r ++ records_text (number_after first (resources_given r.answer)) rs
 
 abbrev pub transcript_text : List Record → List ℕ
 transcript_text records = records_text 0 records

@@ -35,7 +35,7 @@ pub fn block_bytes(alloc: Global, events: &[Event]) -> Result<u128, OutOfMemory>
 }
 
 fn sum_of_sizes(blocks: &[Block]) -> u128
-    ensures { result ≡ spec.bytes_of blocks.now }
+    ensures { result ≡ spec.size_of_blocks blocks.now }
 {
     let mut bytes = 0;
     for block in blocks {

@@ -111,7 +111,7 @@ fn print_case(
     word: &str,
     payload: &Option<Box<Val>>,
 ) -> Result<(), AllocError>
-    ensures { OnOk result (spec.page (string_bytes text.new) next.new ≡ spec.after word.now (spec.payload_printing payload.now) (spec.page (string_bytes text.old) next.old)) }
+    ensures { OnOk result (spec.page (string_bytes text.new) next.new ≡ spec.text_then word.now (spec.payload_printing payload.now) (spec.page (string_bytes text.old) next.old)) }
 {
     text.push_str(word)?;
     print_payload(text, next, payload)
@@ -157,7 +157,7 @@ fn print_map(
 }
 
 fn print_flags(text: &mut String, names: &[String]) -> Result<(), AllocError>
-    ensures { OnOk result (string_bytes text.new ≡ string_bytes text.old ++ spec.flags_text names.now) }
+    ensures { OnOk result (string_bytes text.new ≡ string_bytes text.old ++ spec.flag_names_text names.now) }
 {
     text.push_str("<")?;
     let mut is_first = true;

@@ -9,6 +9,9 @@ use Rattle.canon_script.proofs.values.+values.Given as goal
 abbrev pub decreases-value_of : goal.decreases-value_of
 decreases-value_of c = 4 * depth (view c.v.now)
 
+abbrev pub decreases-value_by : goal.decreases-value_by
+decreases-value_by c = 4 * depth (view c.form.now) + 3
+
 abbrev pub decreases-some_of : goal.decreases-some_of
 decreases-some_of c = 4 * depth (view c.v.now) + 1
 
