@@ -267,7 +267,7 @@ on_answered_with (Err e) results P p = p
 abbrev pub EnteredWith : Callee → List Val → ScriptStore → ScriptStore → Result (Unit {0}) Error → List Val → Type 0
 EnteredWith callee params loaded left called results = Adding (moment_of journaled loaded.core) (moment_of journaled left.core)
     (λ events. OnAnswered called (ScriptMoves (of_guest (guest_of loaded.core)) events (of_guest (guest_of left.core))))
-    (λ events. IsCall LeavesSame (GivesAnswers (answers_of loaded)) callee (limits_of loaded) params (moment_of journaled loaded.core) (moment_of journaled left.core) (side_of loaded) (side_of left) called results events)
+    (λ events. IsCall (EnteredLives loaded) LeavesSame (GivesAnswers (answers_of loaded)) callee (limits_of loaded) params (moment_of journaled loaded.core) (moment_of journaled left.core) (side_of loaded) (side_of left) called results events)
 
 entered_with : (callee : Callee) (params : List Val) (before left : ScriptStore) (called : Result (Unit {0}) Error) (results : List Val) → EnteredWith callee params before left called results
     → Entered (dynamic callee params) (dynamic_results callee) callee before left (with_results called results)
