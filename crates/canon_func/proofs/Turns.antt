@@ -57,7 +57,7 @@ events_more ts us tail = ap (λ es. es ++ tail) (events_append ts us) ∙ append
 
 module _ (Lives : List Event → List Block → Type 0) where
   -- one more turn
-  each_more : (front : List Event) (ts : List AskTurn) (t : AskTurn) → EachTurn Lives front ts → Lives (front ++ events_in ts ++ event.Ask t.index t.words t.memory ∷ []) t.live → EachTurn Lives front (ts ++ t ∷ [])
+  each_more : (front : List Event) (ts : List AskTurn) (t : AskTurn) → EachTurn Lives front ts → Lives (front ++ (events_in ts ++ event.Ask t.index t.words t.memory ∷ [])) t.live → EachTurn Lives front (ts ++ t ∷ [])
   each_more front [] t h p = (p, tt)
   each_more front (u ∷ us) t h p =
       let ask : List Event = event.Ask t.index t.words t.memory ∷ [] in (
@@ -78,8 +78,8 @@ module _ (P Q : List Event → List Block → Type 0) (first : List Event) (f : 
     subst (λ es. EachTurn Q es ts) (sym (append_assoc first front (events_in (t ∷ [])))) (turns_after (front ++ events_in (t ∷ [])) ts h.1),
   )
 
-  ask_after : (front : List Event) (ts : List AskTurn) (live : List Block) (tail : List Event) → OnAsk (λ i w m more. P (front ++ events_in ts ++ event.Ask i w m ∷ []) live) tail
-      → OnAsk (λ i w m more. Q ((first ++ front) ++ events_in ts ++ event.Ask i w m ∷ []) live) tail
+  ask_after : (front : List Event) (ts : List AskTurn) (live : List Block) (tail : List Event) → OnAsk (λ i w m more. P (front ++ (events_in ts ++ event.Ask i w m ∷ [])) live) tail
+      → OnAsk (λ i w m more. Q ((first ++ front) ++ (events_in ts ++ event.Ask i w m ∷ [])) live) tail
   ask_after front ts live [] h = tt
   ask_after front ts live (event.Ask i w m ∷ more) h = event_after front (events_in ts ++ event.Ask i w m ∷ []) live h
   ask_after front ts live (e ∷ more) h = tt

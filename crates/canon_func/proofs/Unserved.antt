@@ -78,7 +78,7 @@ late_trap_may n late (Some t) h = rw (ap (λ es. last_len n es) (sym (append-nil
 
 asked_prefix : (post : Option ℕ) (len index : ℕ) (asked memory : List ℕ) (late : List Answer) (trap : Option Trap) → TrapsLate (length memory) trap → TailPrefix post len (event.Ask index asked memory ∷ events_of late trap)
 asked_prefix post len index asked memory late trap h = record {
-  more = ask_turn index asked memory late [] [] ∷ [];
+  more = ask_turn index asked [] memory late [] [] ∷ [];
   returned = [];
   memory = [];
   prefix = event.Ask index asked memory ∷ events_of late None;

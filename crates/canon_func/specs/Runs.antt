@@ -134,11 +134,11 @@ EachTurn Lives front (t ∷ turns) = Lives (front ++ event.Ask t.index t.words t
 -- the same, and of an ask after the turns
 abbrev pub AsksFrom : (List Event → List Block → Type 0) → List Event → List AskTurn → List Block → List Event → Type 0
 AsksFrom Lives front turns late_live tail =
-    EachTurn Lives front turns × OnAsk (λ index words memory more. Lives (front ++ events_in turns ++ event.Ask index words memory ∷ []) late_live) tail
+    EachTurn Lives front turns × OnAsk (λ index words memory more. Lives (front ++ (events_in turns ++ event.Ask index words memory ∷ [])) late_live) tail
 
 -- Of all events, which end in those of the turns and what came after them: at each ask the blocks that lived are so.
 abbrev pub AsksLive : (List Event → List Block → Type 0) → List AskTurn → List Block → List Event → List Event → Type 0
-AsksLive Lives turns late_live tail events = (front : List Event) × (events ≡ front ++ events_in turns ++ tail) × AsksFrom Lives front turns late_live tail
+AsksLive Lives turns late_live tail events = (front : List Event) × (events ≡ front ++ (events_in turns ++ tail)) × AsksFrom Lives front turns late_live tail
 
 -- what came after the turns: where it is one more ask, which isn't resumed, blocks were asked for with these answers, and else none
 abbrev pub EndsAsking : List Answer → Option Trap → List Event → Type 0
