@@ -3,6 +3,7 @@ use Rattle.std.proofs.Common.{Err, List, None, Ok, Option, Result, Some, [], ap,
 use Rattle.std.proofs.lemmas.List.{append-nil}
 use Rattle.std.specs.Prelude.{IsSome, slice_get, take, slice_index, slice_index_or}
 use Rattle.std.specs.Option.{option_and_then}
+use Rattle.canon_model.specs.Memory.{Block}
 use Rattle.canon_memory.specs.declared.event.Event.{Event}
 use Rattle.canon_memory.specs.declared.event.Event.TheVariants as event
 use Rattle.canon_memory.specs.declared.guest.Step.{Step}
@@ -40,12 +41,13 @@ use Rattle.canon_func.proofs.FormLaws.{form_sound}
 use Rattle.canon_func.proofs.HostStopped.{host_tells}
 use Rattle.canon_func.proofs.Turns.{asked_none, done_is, marks_then, ran_exhausted, ran_refused, ran_returned, told_after}
 
-module _ {T : Type 0} (gives : Giving T) (callee : Callee) (limits : Limits) (words : List ℕ) (before : Moment) (host : HostSide T) where
+module _ {T : Type 0} (gives : Giving T) (callee : Callee) (limits : Limits) (Lives : List Event → List Block → Type 0) (words : List ℕ) (before : Moment) (host : HostSide T) where
   -- it wasn't started, or trapped at once
-  start_failed : (now : Moment) (e : Error) (events : List Event) → length before.bytes ≤ length now.bytes → Started callee.func words before now (Err e) events → MayRun gives callee limits words before now host host (Err e) [] events
+  start_failed : (now : Moment) (e : Error) (events : List Event) → length before.bytes ≤ length now.bytes → Started callee.func words before now (Err e) events → MayRun gives callee limits Lives words before now host host (Err e) [] events
   start_failed now (error.Fault fault.OutOfMemory) events longer h = inl (refl, h, refl, refl)
   start_failed now (error.Fault fault.GuestTrap) events longer (rose, are) = inr (record {
     turns = [];
+    late_live = [];
     late = [];
     late_trap = None;
     answers_are = refl;
@@ -57,51 +59,53 @@ module _ {T : Type 0} (gives : Giving T) (callee : Callee) (limits : Limits) (wo
     longer = longer;
     is = are;
     stopped = (rose, refl, (refl, refl, refl));
+    lived = λ told. (tt, tt);
   })
   start_failed now e events longer h = absurd h
 
   pub not_started : (now : Moment) (left : HostSide T) (e : Error) (M N : List Event → Type 0) → ((es : List Event) → M es → N es) → left ≡ host
-      → Proceeds before now M (Started callee.func words before now (Err e)) → Serving before now N (MayRun gives callee limits words before now host left (Err e))
+      → Proceeds before now M (Started callee.func words before now (Err e)) → Serving before now N (MayRun gives callee limits Lives words before now host left (Err e))
   not_started now left e M N f same h = record {
     answers = [];
     events = h.events;
     goes = h.goes;
     moves = λ told. f h.events h.moves;
-    so = subst (λ l. MayRun gives callee limits words before now host l (Err e) [] h.events) (sym same) (start_failed now e h.events h.goes.no_shorter h.so);
+    so = subst (λ l. MayRun gives callee limits Lives words before now host l (Err e) [] h.events) (sym same) (start_failed now e h.events h.goes.no_shorter h.so);
   }
 
   module _ (now : Moment) (served : HostSide T) (M : List Event → Type 0) (count : ℕ) where
-    pub has_returned : (returned : List ℕ) → Stepping gives callee limits words before now host served M count (step.Return returned) → count ≤ limits.turns
-        → Serving before now M (MayRun gives callee limits words before now host served (Ok returned))
+    pub has_returned : (returned : List ℕ) → Stepping gives callee limits Lives words before now host served M count (step.Return returned) → count ≤ limits.turns
+        → Serving before now M (MayRun gives callee limits Lives words before now host served (Ok returned))
     has_returned returned h le = record {
       answers = answers_in h.turns;
       events = so_far callee words before h.turns (event.Return returned now.bytes ∷ []);
       goes = h.goes;
       moves = h.moves;
-      so = inr (ran_returned gives callee limits words before host now served M count returned h le);
+      so = inr (ran_returned gives callee limits Lives words before host now served M count returned h le);
     }
 
-    pub has_exhausted : (index : ℕ) (asked : List ℕ) → Stepping gives callee limits words before now host served M count (step.Import index asked) → count ≡ limits.turns
-        → Serving before now M (MayRun gives callee limits words before now host served (Err error.TurnsExhausted))
-    has_exhausted index asked h all = record {
+    pub has_exhausted : (lives : (es : List Event) → M es → Lives es now.guest.live) (index : ℕ) (asked : List ℕ) → Stepping gives callee limits Lives words before now host served M count (step.Import index asked) → count ≡ limits.turns
+        → Serving before now M (MayRun gives callee limits Lives words before now host served (Err error.TurnsExhausted))
+    has_exhausted lives index asked h all = record {
       answers = answers_in h.turns;
       events = so_far callee words before h.turns (event.Ask index asked now.bytes ∷ []);
       goes = h.goes;
       moves = h.moves;
-      so = inr (ran_exhausted gives callee limits words before host now served M count index asked h all);
+      so = inr (ran_exhausted gives callee limits Lives words before host now served M count lives index asked h all);
     }
 
   -- it wasn't served, or didn't go on
-  pub has_stopped : (now after : Moment) (served left : HostSide T) (M N O : List Event → Type 0) (told : IsSome before.guest.journal → IsSome now.guest.journal) (goes_on : (xs ys : List Event) → M xs → N ys → O (xs ++ ys)) (count index : ℕ) (asked : List ℕ) (e : Error)
-      → Stepping gives callee limits words before now host served M count (step.Import index asked) → count < limits.turns → Serving now after N (Serves gives callee limits.fuel index asked now after served left (Err e))
-      → Serving before after O (MayRun gives callee limits words before after host left (Err e))
-  has_stopped now after served left M N O told goes_on count index asked e h lt second = record {
+  pub has_stopped : (now after : Moment) (served left : HostSide T) (M N O : List Event → Type 0) (told : IsSome before.guest.journal → IsSome now.guest.journal) (goes_on : (xs ys : List Event) → M xs → N ys → O (xs ++ ys))
+      (lives : (es : List Event) → M es → Lives es now.guest.live) (count index : ℕ) (asked : List ℕ) (e : Error)
+      → Stepping gives callee limits Lives words before now host served M count (step.Import index asked) → count < limits.turns → Serving now after N (Serves gives callee limits.fuel index asked now after served left (Err e))
+      → Serving before after O (MayRun gives callee limits Lives words before after host left (Err e))
+  has_stopped now after served left M N O told goes_on lives count index asked e h lt second = record {
     answers = answers_in h.turns ++ second.answers;
     events = so_far callee words before h.turns (event.Ask index asked now.bytes ∷ []) ++ second.events;
     goes = subst (λ ms. Goes before after ms (so_far callee words before h.turns (event.Ask index asked now.bytes ∷ []) ++ second.events)) (sym (marks_then (answers_in h.turns) second.answers))
         (goes_then before now after _ _ _ second.events h.goes second.goes);
     moves = λ there. goes_on _ second.events (h.moves there) (second.moves (told there));
-    so = inr (ran_refused gives callee limits words before host now after served left M N O goes_on count index asked e second.answers second.events h lt second.goes second.so);
+    so = inr (ran_refused gives callee limits Lives words before host now after served left M N O goes_on lives count index asked e second.answers second.events h lt second.goes second.so);
   }
 
 -- ---- one step of the guest
@@ -116,8 +120,8 @@ none_asked bytes = (refl, refl, refl)
 
 -- the guest was resumed once an ask was served in the memory that it had left
 module _ {T : Type 0} (gives : Giving T) (callee : Callee) (fuel index : ℕ) (words : List ℕ) (a m b : Moment) (l n : HostSide T) (answers : List Answer) (longer : length a.bytes ≤ length m.bytes) where
-  pub resumed_so : (resumed : List ℕ) (result : Result Step Error) (xs ys : List Event) → IsServed gives callee fuel (ask_turn index words a.bytes answers resumed m.bytes) l n → xs ≡ events_of answers None
-      → Goes a m (marks_of answers) xs → Goes m b [] ys → (AskStops gives callee fuel (error.Fault fault.OutOfMemory) index words a.bytes b.bytes answers None l n)
+  pub resumed_so : (resumed : List ℕ) (result : Result Step Error) (xs ys : List Event) → IsServed gives callee fuel (ask_turn index words a.guest.live a.bytes answers resumed m.bytes) l n → xs ≡ events_of answers None
+      → Goes a m (marks_of answers) xs → Goes m b [] ys → (AskStops gives callee fuel (error.Fault fault.OutOfMemory) index words a.guest.live a.bytes b.bytes answers None l n)
       → Resumed resumed m b result ys → Serves gives callee fuel index words a b l n result answers (xs ++ ys)
   resumed_so resumed (Ok next) xs ys served is first goes short are =
       let r : Resumes gives callee fuel index words a b l n answers = record { resumed = resumed; memory = m.bytes; served = served; longer = longer; shorter = goes.no_shorter } in
@@ -146,12 +150,12 @@ builtin_resumed gives callee fuel index words a b l n called is answer result M 
 -- ---- an ask of a function of the host
 
 module _ {T : Type 0} (gives : Giving T) (callee : Callee) (fuel : ℕ) (asked : Asked) (index : ℕ) (words : List ℕ) where
-  stops_so : (a b : Moment) (l n : HostSide T) (e : Error) (answers : List Answer) (es : List Event) (trap : Option Trap) → HostStops gives callee fuel asked index words a.bytes b.bytes answers trap l n e → es ≡ events_of answers trap → TrapsLate (length a.bytes) trap → RisesAt e a b
+  stops_so : (a b : Moment) (l n : HostSide T) (e : Error) (answers : List Answer) (es : List Event) (trap : Option Trap) → HostStops gives callee fuel asked index words a.guest.live a.bytes b.bytes answers trap l n e → es ≡ events_of answers trap → TrapsLate (length a.bytes) trap → RisesAt e a b
       → Serves gives callee fuel index words a b l n (Err e) answers es
-  stops_so a b l n (error.ImportFault k f) answers es trap h are late rises = (trap, (host_tells (ask_at gives index) (form_sound (gives.form index)) gives.answers callee fuel asked index words a.bytes b.bytes answers trap l n (error.ImportFault k f) h, inr (asked, h)), are, late, rises)
-  stops_so a b l n (error.HostRefused k) answers es trap h are late rises = (trap, (host_tells (ask_at gives index) (form_sound (gives.form index)) gives.answers callee fuel asked index words a.bytes b.bytes answers trap l n (error.HostRefused k) h, (asked, h)), are, late, rises)
+  stops_so a b l n (error.ImportFault k f) answers es trap h are late rises = (trap, (host_tells (ask_at gives index) (form_sound (gives.form index)) gives.answers callee fuel asked index words a.guest.live a.bytes b.bytes answers trap l n (error.ImportFault k f) h, inr (asked, h)), are, late, rises)
+  stops_so a b l n (error.HostRefused k) answers es trap h are late rises = (trap, (host_tells (ask_at gives index) (form_sound (gives.form index)) gives.answers callee fuel asked index words a.guest.live a.bytes b.bytes answers trap l n (error.HostRefused k) h, (asked, h)), are, late, rises)
   stops_so a b l n (error.Fault fault.OutOfMemory) answers es trap h are late rises = (trap, inr (inl (asked, h)), are, late, rises)
-  stops_so a b l n e answers es trap h are late rises = absurd (host_tells (ask_at gives index) (form_sound (gives.form index)) gives.answers callee fuel asked index words a.bytes b.bytes answers trap l n e h)
+  stops_so a b l n e answers es trap h are late rises = absurd (host_tells (ask_at gives index) (form_sound (gives.form index)) gives.answers callee fuel asked index words a.guest.live a.bytes b.bytes answers trap l n e h)
 
   -- there was no room for its storage
   pub no_storage : (s : Seen) (bytes : List ℕ) (l : HostSide T) (M : List Event → Type 0) → M [] → IsHostAsk callee index words asked → Serving (moment s bytes) (moment s bytes) M (Serves gives callee fuel index words (moment s bytes) (moment s bytes) l l (Err (error.Fault fault.OutOfMemory)))
@@ -173,9 +177,9 @@ module _ {T : Type 0} (gives : Giving T) (callee : Callee) (fuel : ℕ) (asked :
   pub then_resumed : (a m b : Moment) (l k n : HostSide T) → n ≡ k → (storage : List ℕ) (count : ℕ) (result : Result Step Error) (M N O : List Event → Type 0) → ((xs ys : List Event) → M xs → N ys → O (xs ++ ys)) → count ≡ row_words (asked_results callee asked)
       → Serving a m M (HostAsked gives callee fuel asked index words a m l k storage (Ok tt)) → Proceeds m b N (Resumed (take count storage) m b result) → Serving a b O (Serves gives callee fuel index words a b l n result)
   then_resumed a m b l k n same storage count result M N O f is first second =
-      let served : IsHostServed gives callee fuel (ask_turn index words a.bytes first.answers (take count storage) m.bytes) l n =
-      subst (λ (q : HostSide T). IsHostServed gives callee fuel (ask_turn index words a.bytes first.answers (take count storage) m.bytes) l q) (sym same)
-      (subst (λ c. IsHostServed gives callee fuel (ask_turn index words a.bytes first.answers (take c storage) m.bytes) l k) (sym is) first.so.0) in
+      let served : IsHostServed gives callee fuel (ask_turn index words a.guest.live a.bytes first.answers (take count storage) m.bytes) l n =
+      subst (λ (q : HostSide T). IsHostServed gives callee fuel (ask_turn index words a.guest.live a.bytes first.answers (take count storage) m.bytes) l q) (sym same)
+      (subst (λ c. IsHostServed gives callee fuel (ask_turn index words a.guest.live a.bytes first.answers (take c storage) m.bytes) l k) (sym is) first.so.0) in
       record {
         answers = first.answers;
         events = first.events ++ second.events;

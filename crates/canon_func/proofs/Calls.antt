@@ -1,7 +1,8 @@
 -- What a call did, from what its steps did.
 use Rattle.std.proofs.Common.{Err, inl, inr, List, None, Ok, Result, [], ap, append_assoc, arith, length, refl, subst, sym, true, ℕ, ◌++◌, ◌∷◌, ◌∙◌, ◌≡◌, ◌≤◌}
-use Rattle.std.specs.Prelude.{false}
+use Rattle.std.specs.Prelude.{IsSome, false}
 use Rattle.std.proofs.lemmas.List.{append-nil}
+use Rattle.canon_model.specs.Memory.{Block}
 use Rattle.canon_model.specs.Flat.{max_params}
 use Rattle.canon_model.specs.Homes.{ParamsHome, PointsTo}
 use Rattle.canon_model.specs.Shape.{Members}
@@ -28,7 +29,7 @@ use Rattle.canon_func.specs.Steps.{IsRest, RestCause}
 use Rattle.canon_func.specs.Stores.{Callee}
 use Rattle.canon_func.specs.declared.error.Error.{Error}
 use Rattle.canon_func.specs.declared.error.Error.TheVariants as error
-use Rattle.canon_func.proofs.Turns.{err_same, marks_then, not_ok}
+use Rattle.canon_func.proofs.Turns.{asks_after, err_same, marks_then, not_ok}
 use Rattle.canon_func.proofs.Prefixes.{IsEarly, answers_are, answers_early, asks_answers, each_after, each_answer, each_then, ends_after, grows_answers, grows_from, post_then, prefix_after, return_then, run_after}
 
 pub advances_then : (a b c : Moment) → Advances a b → Advances b c → Advances a c
@@ -141,7 +142,7 @@ each_start P p [] = tt
 each_start P p (event.Start f ws m ∷ events) = (p, each_start P p events)
 each_start P p (e ∷ events) = (tt, each_start P p events)
 
-module _ {T R : Type 0} (args : Arguments) (its : ReturnedValues R) (gives : Giving T) (callee : Callee) (limits : Limits) (Leaves : List ℕ → List ℕ → Type 0) (entry mid after : Moment) (l0 l1 l2 : HostSide T)
+module _ {T R : Type 0} (args : Arguments) (its : ReturnedValues R) (gives : Giving T) (callee : Callee) (limits : Limits) (P Q : List Event → List Block → Type 0) (Leaves : List ℕ → List ℕ → Type 0) (entry mid after : Moment) (l0 l1 l2 : HostSide T)
     (same : l1 ≡ record l0 { ledger = l1.ledger }) (words : List ℕ) (answers : List Answer) (given : List ℕ) (later : List Event) where
   abbrev first : List Event
   first = events_of answers None
@@ -175,10 +176,11 @@ module _ {T R : Type 0} (args : Arguments) (its : ReturnedValues R) (gives : Giv
   all_marks : (more : List Answer) → mid.guest.marks ≡ entry.guest.marks ++ marks_of answers → after.guest.marks ≡ mid.guest.marks ++ marks_of more → after.guest.marks ≡ entry.guest.marks ++ marks_of (answers ++ more)
   all_marks more first second = second ∙ (ap (λ ms. ms ++ marks_of more) first ∙ (append_assoc entry.guest.marks (marks_of answers) (marks_of more) ∙ ap (λ ms. entry.guest.marks ++ ms) (sym (marks_then answers more))))
 
-  pub joined : (more : List Answer) (answer : Result R Error) → IsReady args callee entry mid words answers given → LeavesTake (enter l0.ledger) args.parts given l1.ledger → Advances entry mid → Advances mid after
-      → after.guest.marks ≡ mid.guest.marks ++ marks_of more → IsRest its gives callee limits Leaves words mid after l1 l2 answer more later
-      → IsCallOf args its Leaves gives callee limits entry after l0 l2 answer (events_of answers None ++ later)
-  joined more (Ok results) low took goes on marks rest = record {
+  pub joined : (more : List Answer) (answer : Result R Error) → (IsSome entry.guest.journal → IsSome mid.guest.journal × ((es : List Event) (live : List Block) → P es live → Q (first ++ es) live))
+      → IsReady args callee entry mid words answers given → LeavesTake (enter l0.ledger) args.parts given l1.ledger → Advances entry mid → Advances mid after
+      → after.guest.marks ≡ mid.guest.marks ++ marks_of more → IsRest its gives callee limits P Leaves words mid after l1 l2 answer more later
+      → IsCallOf args its Q Leaves gives callee limits entry after l0 l2 answer (events_of answers None ++ later)
+  joined more (Ok results) earlier low took goes on marks rest = record {
     one_run = run_after callee.func callee.post (events_of answers None) later (answers_are answers) rest.one_run;
     prefix = prefix_after callee.func callee.post (length entry.bytes) (events_of answers None) later (answers_are answers) (rest.prefix (length entry.bytes));
     advances = advances_then entry mid after goes on;
@@ -188,10 +190,12 @@ module _ {T R : Type 0} (args : Arguments) (its : ReturnedValues R) (gives : Giv
     later = later;
     in_parts = refl;
     turns = rest.turns;
+    late_live = rest.late_live;
     late = rest.late;
     late_trap = rest.late_trap;
     tail = rest.tail;
     starts = rest.starts;
+    lived = λ told. let (there, f) = earlier told in asks_after P Q first f rest.turns rest.late_live rest.tail later (rest.lived there);
     asks = λ none. at_most (asks_in (first ++ later)) (asks_in later) limits.turns asks_later (rest.asks (λ is. not_ok results error.TurnsExhausted is));
     accepted = good_later (length mid.bytes) (length after.bytes) answers on.no_shorter low.start.good;
     marks = all_marks more low.marks marks ∙ ap (λ xs. entry.guest.marks ++ marks_of (answers ++ xs)) rest.answers_are;
@@ -208,7 +212,7 @@ module _ {T R : Type 0} (args : Arguments) (its : ReturnedValues R) (gives : Giv
     cause = tt;
     valid = λ ts have small lawful none calm quiet right accepted. tt;
   }
-  joined more (Err e) low took goes on marks rest = record {
+  joined more (Err e) earlier low took goes on marks rest = record {
     one_run = tt;
     prefix = prefix_after callee.func callee.post (length entry.bytes) (events_of answers None) later (answers_are answers) (rest.prefix (length entry.bytes));
     advances = advances_then entry mid after goes on;
@@ -218,10 +222,12 @@ module _ {T R : Type 0} (args : Arguments) (its : ReturnedValues R) (gives : Giv
     later = later;
     in_parts = refl;
     turns = rest.turns;
+    late_live = rest.late_live;
     late = rest.late;
     late_trap = rest.late_trap;
     tail = rest.tail;
     starts = rest.starts;
+    lived = λ told. let (there, f) = earlier told in asks_after P Q first f rest.turns rest.late_live rest.tail later (rest.lived there);
     asks = λ none. at_most (asks_in (first ++ later)) (asks_in later) limits.turns asks_later (rest.asks (λ is. none (ap Err (err_same {T = R} e error.TurnsExhausted is))));
     accepted = accepted_after its callee limits mid after later rest.tail answers e rest.cause (good_later (length mid.bytes) (length after.bytes) answers on.no_shorter low.start.good);
     marks = all_marks more low.marks marks ∙ ap (λ xs. entry.guest.marks ++ marks_of (answers ++ xs)) rest.answers_are;

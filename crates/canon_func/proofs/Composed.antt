@@ -2,6 +2,7 @@
 use Rattle.std.proofs.Common.{Err, List, None, Ok, Result, Some, Vec, Global, [], ap, append_assoc, arith, inl, inr, length, refl, subst, sym, ℕ, ◌++◌, ◌∙◌, ◌∷◌, ◌≡◌, ◌≤◌}
 use Rattle.std.specs.Prelude.{IfErr, IsSome, false}
 use Rattle.std.proofs.lemmas.List.{append-nil}
+use Rattle.canon_model.specs.Memory.{Block}
 use Rattle.canon_memory.specs.declared.error.GuestFault.{GuestFault}
 use Rattle.canon_memory.specs.declared.error.GuestFault.TheVariants as guest
 use Rattle.canon_memory.specs.declared.event.Event.{Event}
@@ -55,27 +56,27 @@ other e = cc
 
 -- ---- from the start on
 
-module _ {T R : Type 0} (its : ReturnedValues R) (gives : Giving T) (callee : Callee) (limits : Limits) (Leaves : List ℕ → List ℕ → Type 0) (law : ReadsRightly callee its) (words : List ℕ) where
+module _ {T R : Type 0} (its : ReturnedValues R) (gives : Giving T) (callee : Callee) (limits : Limits) (Lives : List Event → List Block → Type 0) (Leaves : List ℕ → List ℕ → Type 0) (law : ReadsRightly callee its) (words : List ℕ) where
   -- how the guest ran, and what came after its return
   joined_run : (before : Moment) (turns : List AskTurn) (ret : Event) (later : List Event) → so_far callee words before turns (ret ∷ []) ++ later ≡ so_far callee words before turns (ret ∷ later)
   joined_run before turns ret later = ap (λ es. event.Start callee.func words before.bytes ∷ es) (append_assoc (events_in turns) (ret ∷ []) later)
 
   -- a rest from what came after the turns, which is said of the host as the guest left it
-  rest_of_ran : (a b c : Moment) (l m l2 : HostSide T) (returned : List ℕ) (answer : Result R Error) (answers : List Answer) (xs later : List Event) (ran : RunsUntil gives callee limits words a b l m (Ok returned) answers xs)
-      → IsTail its gives callee limits Leaves a c (length ran.turns) ran.len m l2 answer [] None (event.Return returned b.bytes ∷ later) → IsRest its gives callee limits Leaves words a c l l2 answer answers (xs ++ later)
+  rest_of_ran : (a b c : Moment) (l m l2 : HostSide T) (returned : List ℕ) (answer : Result R Error) (answers : List Answer) (xs later : List Event) (ran : RunsUntil gives callee limits Lives words a b l m (Ok returned) answers xs)
+      → IsTail its gives callee limits Leaves a c (length ran.turns) ran.len m l2 answer [] [] None (event.Return returned b.bytes ∷ later) → IsRest its gives callee limits Lives Leaves words a c l l2 answer answers (xs ++ later)
   rest_of_ran a b c l m l2 returned answer answers xs later ran h =
       let tail : List Event = event.Return returned b.bytes ∷ later in
       let events : xs ++ later ≡ so_far callee words a ran.turns tail =
       ap (λ es. es ++ later) (ran.is ∙ ap (λ es. so_far callee words a ran.turns es) ran.stopped.0) ∙ joined_run a ran.turns (event.Return returned b.bytes) later in
       let none : answers ≡ answers_in ran.turns ++ [] = ran.answers_are ∙ ap (λ ys. answers_in ran.turns ++ ys) ran.stopped.1.0 in
-      subst (λ es. IsRest its gives callee limits Leaves words a c l l2 answer answers es) (sym events)
-      (rest_of_tail its gives callee limits Leaves words a c l ran.served l2 ran.turns ran.len ran.asked answer answers [] None tail none
-      (subst (λ (k : HostSide T). IsTail its gives callee limits Leaves a c (length ran.turns) ran.len k l2 answer [] None tail) ran.stopped.1.2 h))
+      subst (λ es. IsRest its gives callee limits Lives Leaves words a c l l2 answer answers es) (sym events)
+      (rest_of_tail its gives callee limits Lives Leaves words a c l ran.served l2 ran.turns ran.len ran.asked answer [] answers [] None tail none (λ told. ((ran.lived told).0, tt))
+      (subst (λ (k : HostSide T). IsTail its gives callee limits Leaves a c (length ran.turns) ran.len k l2 answer [] [] None tail) ran.stopped.1.2 h))
 
   -- the guest returned, and the scope ended
   pub run_returned : (a b c : Moment) (l m l2 : HostSide T) → l2 ≡ record m { ledger = l2.ledger } → (returned : List ℕ) (answer : Result R Error) (M N O : List Event → Type 0) → ((xs ys : List Event) → M xs → N ys → O (xs ++ ys))
-      → Serving a b M (RunsToEnd gives callee limits words a b l m (Ok returned)) → Proceeds b c N (Concluded its Leaves callee limits.fuel returned b c m.ledger l2.ledger answer)
-      → Serving a c O (IsRest its gives callee limits Leaves words a c l l2 answer)
+      → Serving a b M (RunsToEnd gives callee limits Lives words a b l m (Ok returned)) → Proceeds b c N (Concluded its Leaves callee limits.fuel returned b c m.ledger l2.ledger answer)
+      → Serving a c O (IsRest its gives callee limits Lives Leaves words a c l l2 answer)
   run_returned a b c l m l2 kept returned answer M N O f first second =
       let out = first.so in
       let whole : l2 ≡ record out.ran { ledger = l2.ledger } = subst (λ (k : HostSide T). l2 ≡ record k { ledger = l2.ledger }) out.kept kept in
@@ -91,27 +92,27 @@ module _ {T R : Type 0} (its : ReturnedValues R) (gives : Giving T) (callee : Ca
 
   -- the guest stopped
   module _ (lawful_forms : (n : ℕ) → IsLawful (gives.form n)) where
-    rest_stopped : (a b : Moment) (l l2 : HostSide T) (e : Error) (answers : List Answer) (xs : List Event) → length a.bytes ≤ length b.bytes → MayRun gives callee limits words a b l l2 (Err e) answers xs
-        → IsRest its gives callee limits Leaves words a b l l2 (Err e) answers xs
+    rest_stopped : (a b : Moment) (l l2 : HostSide T) (e : Error) (answers : List Answer) (xs : List Event) → length a.bytes ≤ length b.bytes → MayRun gives callee limits Lives words a b l l2 (Err e) answers xs
+        → IsRest its gives callee limits Lives Leaves words a b l l2 (Err e) answers xs
     rest_stopped a b l l2 e answers xs longer (inl (is, none, quiet, same)) =
-        subst (λ k. IsRest its gives callee limits Leaves words a b l k (Err e) answers xs) (sym same) (subst (λ es. IsRest its gives callee limits Leaves words a b l l (Err e) answers es) (sym none)
-        (subst (λ ys. IsRest its gives callee limits Leaves words a b l l (Err e) ys []) (sym quiet)
-        (subst (λ r. IsRest its gives callee limits Leaves words a b l l (Err r) [] []) (sym (err_same {T = List ℕ} e (error.Fault fault.OutOfMemory) is)) (rest_of_none its gives callee limits Leaves words a b l longer))))
-    rest_stopped a b l l2 e answers xs longer (inr ran) = subst (λ es. IsRest its gives callee limits Leaves words a b l l2 (Err e) answers es) (sym ran.is)
-        (rest_of_tail its gives callee limits Leaves words a b l ran.served l2 ran.turns ran.len ran.asked (Err e) answers ran.late ran.late_trap ran.tail ran.answers_are
-        (stopped_rest its gives lawful_forms callee limits Leaves a b (length ran.turns) ran.len ran.served l2 e ran.late ran.late_trap ran.tail ran.longer ran.few ran.stopped))
+        subst (λ k. IsRest its gives callee limits Lives Leaves words a b l k (Err e) answers xs) (sym same) (subst (λ es. IsRest its gives callee limits Lives Leaves words a b l l (Err e) answers es) (sym none)
+        (subst (λ ys. IsRest its gives callee limits Lives Leaves words a b l l (Err e) ys []) (sym quiet)
+        (subst (λ r. IsRest its gives callee limits Lives Leaves words a b l l (Err r) [] []) (sym (err_same {T = List ℕ} e (error.Fault fault.OutOfMemory) is)) (rest_of_none its gives callee limits Lives Leaves words a b l longer))))
+    rest_stopped a b l l2 e answers xs longer (inr ran) = subst (λ es. IsRest its gives callee limits Lives Leaves words a b l l2 (Err e) answers es) (sym ran.is)
+        (rest_of_tail its gives callee limits Lives Leaves words a b l ran.served l2 ran.turns ran.len ran.asked (Err e) ran.late_live answers ran.late ran.late_trap ran.tail ran.answers_are ran.lived
+        (stopped_rest its gives lawful_forms callee limits Leaves a b (length ran.turns) ran.len ran.served l2 e ran.late_live ran.late ran.late_trap ran.tail ran.longer ran.few ran.stopped))
 
     -- the guest stopped, or it returned and the scope didn't end
-    rest_refused : (a b : Moment) (l l2 : HostSide T) (e : Error) (answers : List Answer) (xs : List Event) → length a.bytes ≤ length b.bytes → RunsToEnd gives callee limits words a b l l2 (Err e) answers xs
-        → IsRest its gives callee limits Leaves words a b l l2 (Err e) answers xs
+    rest_refused : (a b : Moment) (l l2 : HostSide T) (e : Error) (answers : List Answer) (xs : List Event) → length a.bytes ≤ length b.bytes → RunsToEnd gives callee limits Lives words a b l l2 (Err e) answers xs
+        → IsRest its gives callee limits Lives Leaves words a b l l2 (Err e) answers xs
     rest_refused a b l l2 e answers xs longer (inl ran) = rest_stopped a b l l2 e answers xs longer ran
     rest_refused a b l l2 e answers xs longer (inr (returned, out)) =
-        subst (λ es. IsRest its gives callee limits Leaves words a b l l2 (Err e) answers es) (append-nil xs)
+        subst (λ es. IsRest its gives callee limits Lives Leaves words a b l l2 (Err e) answers es) (append-nil xs)
         (rest_of_ran a b b l out.ran l2 returned (Err e) answers xs [] out.run
         (unended_tail its gives callee limits Leaves law a b (length out.run.turns) out.run.len out.ran l2 out.kept returned b.bytes out.run.few out.run.longer (same_le (length b.bytes)) refl e out.ends))
 
-    pub run_refused : (a b : Moment) (l l2 : HostSide T) (e : Error) (M N : List Event → Type 0) → ((es : List Event) → M es → N es) → Serving a b M (RunsToEnd gives callee limits words a b l l2 (Err e))
-        → Serving a b N (IsRest its gives callee limits Leaves words a b l l2 (Err e))
+    pub run_refused : (a b : Moment) (l l2 : HostSide T) (e : Error) (M N : List Event → Type 0) → ((es : List Event) → M es → N es) → Serving a b M (RunsToEnd gives callee limits Lives words a b l l2 (Err e))
+        → Serving a b N (IsRest its gives callee limits Lives Leaves words a b l l2 (Err e))
     run_refused a b l l2 e M N f first = record {
       answers = first.answers;
       events = first.events;
@@ -122,19 +123,19 @@ module _ {T R : Type 0} (its : ReturnedValues R) (gives : Giving T) (callee : Ca
 
 -- ---- the end of the scope
 
-module _ {T : Type 0} (gives : Giving T) (callee : Callee) (limits : Limits) (words : List ℕ) (a b : Moment) (l m n : HostSide T) (kept : n ≡ record m { ledger = n.ledger }) (returned : List ℕ) where
+module _ {T : Type 0} (gives : Giving T) (callee : Callee) (limits : Limits) (Lives : List Event → List Block → Type 0) (words : List ℕ) (a b : Moment) (l m n : HostSide T) (kept : n ≡ record m { ledger = n.ledger }) (returned : List ℕ) where
   -- the guest returned, and the scope ended so, which changes nothing but the ledger
-  out_of : (r : Result (Unit {0}) Error) (answers : List Answer) (es : List Event) → Ended callee returned m.ledger n.ledger r → MayRun gives callee limits words a b l m (Ok returned) answers es
-      → RunsOut gives callee limits words a b l n returned r answers es
+  out_of : (r : Result (Unit {0}) Error) (answers : List Answer) (es : List Event) → Ended callee returned m.ledger n.ledger r → MayRun gives callee limits Lives words a b l m (Ok returned) answers es
+      → RunsOut gives callee limits Lives words a b l n returned r answers es
   out_of r xs es ends (inl (is, none, quiet, same)) = absurd (not_ok returned (error.Fault fault.OutOfMemory) is)
   out_of r xs es ends (inr ran) = record { ran = m; run = ran; ends = ends; kept = kept }
 
-  pub run_ended : (M N : List Event → Type 0) → ((es : List Event) → M es → N es) → Ended callee returned m.ledger n.ledger (Ok tt) → Serving a b M (MayRun gives callee limits words a b l m (Ok returned))
-      → Serving a b N (RunsToEnd gives callee limits words a b l n (Ok returned))
+  pub run_ended : (M N : List Event → Type 0) → ((es : List Event) → M es → N es) → Ended callee returned m.ledger n.ledger (Ok tt) → Serving a b M (MayRun gives callee limits Lives words a b l m (Ok returned))
+      → Serving a b N (RunsToEnd gives callee limits Lives words a b l n (Ok returned))
   run_ended M N f ends first = record { answers = first.answers; events = first.events; goes = first.goes; moves = λ told. f first.events (first.moves told); so = out_of (Ok tt) first.answers first.events ends first.so }
 
-  pub run_unended : (e : Error) (M N : List Event → Type 0) → ((es : List Event) → M es → N es) → Ended callee returned m.ledger n.ledger (Err e) → Serving a b M (MayRun gives callee limits words a b l m (Ok returned))
-      → Serving a b N (RunsToEnd gives callee limits words a b l n (Err e))
+  pub run_unended : (e : Error) (M N : List Event → Type 0) → ((es : List Event) → M es → N es) → Ended callee returned m.ledger n.ledger (Err e) → Serving a b M (MayRun gives callee limits Lives words a b l m (Ok returned))
+      → Serving a b N (RunsToEnd gives callee limits Lives words a b l n (Err e))
   run_unended e M N f ends first = record { answers = first.answers; events = first.events; goes = first.goes; moves = λ told. f first.events (first.moves told); so = inr (returned, out_of (Err e) first.answers first.events ends first.so) }
 
 -- ---- after the scope ended
@@ -214,24 +215,24 @@ lowered_is_late args callee a b l l2 es error.TurnsExhausted h = absurd h
 lowered_is_late args callee a b l l2 es (error.ImportFault n f) h = absurd h
 lowered_is_late args callee a b l l2 es (error.HostRefused n) h = absurd h
 
-module _ {T R : Type 0} (args : Arguments) (its : ReturnedValues R) (gives : Giving T) (callee : Callee) (limits : Limits) (Leaves : List ℕ → List ℕ → Type 0) where
+module _ {T R : Type 0} (args : Arguments) (its : ReturnedValues R) (gives : Giving T) (callee : Callee) (limits : Limits) (Lives : List Event → List Block → Type 0) (Leaves : List ℕ → List ℕ → Type 0) where
   -- memory ran out for the scope
   pub scope_short : (s : Seen) (bytes : List ℕ) (l0 l2 : HostSide T) (M : List Event → Type 0) → l2 ≡ l0 → (IsSome s.journal → M [])
-      → Adding (moment s bytes) (moment s bytes) M (IsCallOf args its Leaves gives callee limits (moment s bytes) (moment s bytes) l0 l2 (Err (error.Fault fault.OutOfMemory)))
+      → Adding (moment s bytes) (moment s bytes) M (IsCallOf args its Lives Leaves gives callee limits (moment s bytes) (moment s bytes) l0 l2 (Err (error.Fault fault.OutOfMemory)))
   scope_short s bytes l0 l2 M same stays = record {
     events = [];
     added = (goes_none s bytes bytes (omega arith)).events;
     moves = stays;
-    so = short_call args its gives callee limits Leaves (moment s bytes) (moment s bytes) l0 l2 refl (inl (refl, refl, same));
+    so = short_call args its gives callee limits Lives Leaves (moment s bytes) (moment s bytes) l0 l2 refl (inl (refl, refl, same));
   }
 
   core_refused : BlamesRightly args → (a b : Moment) (l0 l2 : HostSide T) → l2 ≡ record l0 { ledger = l2.ledger } → (e : Error) (es : List Event) → LoweredArgs args callee a b (enter l0.ledger) l2.ledger (Err e) es
-      → IsCallOf args its Leaves gives callee limits a b l0 l2 (Err e) es
-  core_refused law a b l0 l2 left (error.Fault f) es (inl (short, same, kept, none)) = subst (λ fs. IsCallOf args its Leaves gives callee limits a b l0 l2 (Err (error.Fault f)) fs) (sym none)
-      (subst (λ g. IsCallOf args its Leaves gives callee limits a b l0 l2 (Err (error.Fault g)) []) (sym short)
-      (short_call args its gives callee limits Leaves a b l0 l2 same (inr (inl (tt, stops_at_once (enter l0.ledger) l2.ledger args.parts kept, left)))))
-  core_refused law a b l0 l2 left (error.Fault f) es (inr (words, handles, ending, low, ends, blames, told, is, quiet, stops)) = subst (λ fs. IsCallOf args its Leaves gives callee limits a b l0 l2 (Err (error.Fault f)) fs) (sym is)
-      (refused_call args its gives callee limits Leaves law a b l0 l2 left f ending words handles low ends blames told quiet stops)
+      → IsCallOf args its Lives Leaves gives callee limits a b l0 l2 (Err e) es
+  core_refused law a b l0 l2 left (error.Fault f) es (inl (short, same, kept, none)) = subst (λ fs. IsCallOf args its Lives Leaves gives callee limits a b l0 l2 (Err (error.Fault f)) fs) (sym none)
+      (subst (λ g. IsCallOf args its Lives Leaves gives callee limits a b l0 l2 (Err (error.Fault g)) []) (sym short)
+      (short_call args its gives callee limits Lives Leaves a b l0 l2 same (inr (inl (tt, stops_at_once (enter l0.ledger) l2.ledger args.parts kept, left)))))
+  core_refused law a b l0 l2 left (error.Fault f) es (inr (words, handles, ending, low, ends, blames, told, is, quiet, stops)) = subst (λ fs. IsCallOf args its Lives Leaves gives callee limits a b l0 l2 (Err (error.Fault f)) fs) (sym is)
+      (refused_call args its gives callee limits Lives Leaves law a b l0 l2 left f ending words handles low ends blames told quiet stops)
   core_refused law a b l0 l2 left error.WrongCount es h = absurd h
   core_refused law a b l0 l2 left error.AsyncLifted es h = absurd h
   core_refused law a b l0 l2 left error.CannotEnterComponent es h = absurd h
@@ -243,13 +244,13 @@ module _ {T R : Type 0} (args : Arguments) (its : ReturnedValues R) (gives : Giv
 
   -- a call in the scope that was opened on its ledger
   abbrev pub InScope : HostSide T → Moment → Moment → HostSide T → Result R Error → List Event → Type 0
-  InScope l a b l2 answer es = (before : LedgerState) → enter before ≡ l.ledger → IsCallOf args its Leaves gives callee limits a b (record l { ledger = before }) l2 answer es
+  InScope l a b l2 answer es = (before : LedgerState) → enter before ≡ l.ledger → IsCallOf args its Lives Leaves gives callee limits a b (record l { ledger = before }) l2 answer es
 
   -- the parameters were lowered
-  pub call_started : (a b c : Moment) (l l1 l2 : HostSide T) → l1 ≡ record l { ledger = l1.ledger } → (words : Vec ℕ Global) (answer : Result R Error) (M N O : List Event → Type 0)
-      → (IsSome a.guest.journal → IsSome b.guest.journal) → ((xs ys : List Event) → M xs → N ys → O (xs ++ ys))
-      → Adding a b M (LoweredArgs args callee a b l.ledger l1.ledger (Ok words)) → Serving b c N (IsRest its gives callee limits Leaves words.items b c l1 l2 answer) → Adding a c O (InScope l a c l2 answer)
-  call_started a b c l l1 l2 same words answer M N O told f first second =
+  pub call_started : (P : List Event → List Block → Type 0) (a b c : Moment) (l l1 l2 : HostSide T) → l1 ≡ record l { ledger = l1.ledger } → (words : Vec ℕ Global) (answer : Result R Error) (M N O : List Event → Type 0)
+      → (IsSome a.guest.journal → IsSome b.guest.journal) → ((xs ys : List Event) → M xs → N ys → O (xs ++ ys)) → ((xs ys : List Event) (live : List Block) → M xs → P ys live → Lives (xs ++ ys) live)
+      → Adding a b M (LoweredArgs args callee a b l.ledger l1.ledger (Ok words)) → Serving b c N (IsRest its gives callee limits P Leaves words.items b c l1 l2 answer) → Adding a c O (InScope l a c l2 answer)
+  call_started P a b c l l1 l2 same words answer M N O told f lives first second =
       let low : LowersArgs false a b callee.encoding callee.params args.are words.items first.so.0 done = first.so.1 in
       let xs : List Event = events_of low.answers low.trap in
       let ys : List Event = second.events in
@@ -257,8 +258,9 @@ module _ {T R : Type 0} (args : Arguments) (its : ReturnedValues R) (gives : Giv
         events = xs ++ ys;
         added = (goes_then a b c (marks_of low.answers) (marks_of second.answers) xs ys low.lowering.goes second.goes).events;
         moves = λ there. f xs ys (subst M first.so.2 (first.moves there)) (second.moves (told there));
-        so = λ before entered. subst (λ o. IsCallOf args its Leaves gives callee limits a c (record l { ledger = before }) l2 answer (events_of low.answers o ++ ys)) (sym low.lowering.cause)
-            (joined args its gives callee limits Leaves a b c (record l { ledger = before }) l1 l2 same words.items low.answers first.so.0 ys second.answers answer (ready args callee a b words.items low first.so.3 first.so.4 first.so.5)
+        so = λ before entered. subst (λ o. IsCallOf args its Lives Leaves gives callee limits a c (record l { ledger = before }) l2 answer (events_of low.answers o ++ ys)) (sym low.lowering.cause)
+            (joined args its gives callee limits P Lives Leaves a b c (record l { ledger = before }) l1 l2 same words.items low.answers first.so.0 ys second.answers answer
+            (λ there. (told there, λ es live h. lives (events_of low.answers None) es live (subst (λ o. M (events_of low.answers o)) low.lowering.cause (subst M first.so.2 (first.moves there))) h)) (ready args callee a b words.items low first.so.3 first.so.4 first.so.5)
             (subst (λ k. LeavesTake k args.parts first.so.0 l1.ledger) (sym entered) first.so.6)
             (goes_advance a b _ _ low.lowering.goes) (goes_advance b c _ _ second.goes) second.goes.marks second.so);
       }
@@ -275,10 +277,10 @@ module _ {T R : Type 0} (args : Arguments) (its : ReturnedValues R) (gives : Giv
 
   -- the scope was opened
   pub entered_call : (a b : Moment) (l0 l l2 : HostSide T) (answer : Result R Error) (M : List Event → Type 0) → l ≡ record l0 { ledger = enter l0.ledger } → Adding a b M (InScope l a b l2 answer)
-      → Adding a b M (IsCallOf args its Leaves gives callee limits a b l0 l2 answer)
+      → Adding a b M (IsCallOf args its Lives Leaves gives callee limits a b l0 l2 answer)
   entered_call a b l0 l l2 answer M entered h = record {
     events = h.events;
     added = h.added;
     moves = h.moves;
-    so = subst (λ (k : HostSide T). IsCallOf args its Leaves gives callee limits a b (record k { ledger = l0.ledger }) l2 answer h.events) entered (h.so l0.ledger (sym (ap (λ k. k.ledger) entered)));
+    so = subst (λ (k : HostSide T). IsCallOf args its Lives Leaves gives callee limits a b (record k { ledger = l0.ledger }) l2 answer h.events) entered (h.so l0.ledger (sym (ap (λ k. k.ledger) entered)));
   }

@@ -1,6 +1,7 @@
 -- What comes after the turns of a call, and a call from it.
 use Rattle.std.proofs.Common.{Err, List, None, Ok, Option, Result, [], ap, append_assoc, arith, inl, inr, length, refl, subst, sym, ℕ, ◌++◌, ◌+◌, ◌∙◌, ◌∷◌, ◌≡◌, ◌≤◌}
-use Rattle.std.specs.Prelude.{IfErr, IfOk, IsOkUnless, OnOk, ◌≢◌}
+use Rattle.std.specs.Prelude.{IfErr, IfOk, IsOkUnless, IsSome, OnOk, ◌≢◌}
+use Rattle.canon_model.specs.Memory.{Block}
 use Rattle.canon_memory.specs.declared.event.Event.{Event}
 use Rattle.canon_memory.specs.declared.event.Event.TheVariants as event
 use Rattle.canon_memory.specs.Guest.{Moment}
@@ -11,7 +12,7 @@ use Rattle.canon_func.specs.Asks.{Limits}
 use Rattle.canon_func.specs.Call.{AcceptsLater, Left}
 use Rattle.canon_func.specs.HostAsks.{IsUnrefused}
 use Rattle.canon_func.specs.Passing.{ReturnedValues}
-use Rattle.canon_func.specs.Runs.{AskTurn, Each, EndsAsking, EndsIn, Grows, IsNoPost, IsNoResume, IsNoStart, IsPrefixOfRun, IsTrap, MayTrap, OnReturn, OnStart, answers_in, asks_in, events_in, last_len, posts}
+use Rattle.canon_func.specs.Runs.{AskTurn, AsksFrom, Each, EndsAsking, EndsIn, Grows, IsNoPost, IsNoResume, IsNoStart, IsPrefixOfRun, IsTrap, MayTrap, OnReturn, OnStart, answers_in, asks_in, events_in, last_len, posts}
 use Rattle.canon_func.specs.Steps.{IsRest, RestCause, RestPasses, TurnsTaken, so_far}
 use Rattle.canon_func.specs.Stores.{Callee}
 use Rattle.canon_func.specs.declared.error.Error.{Error}
@@ -35,7 +36,7 @@ pub record TailPrefix (post : Option ℕ) (len : ℕ) (tail : List Event) : Type
 
 -- What the events say that come after so many turns, the last of which let the guest go in a memory of so many bytes.
 pub record IsTail {T R : Type 0} (its : ReturnedValues R) (gives : Giving T) (callee : Callee) (limits : Limits) (Leaves : List ℕ → List ℕ → Type 0) (before after : Moment) (count len : ℕ) (served left : HostSide T)
-    (answer : Result R Error) (late : List Answer) (late_trap : Option Trap) (tail : List Event) : Type 0 where
+    (answer : Result R Error) (late_live : List Block) (late : List Answer) (late_trap : Option Trap) (tail : List Event) : Type 0 where
   pub whole : OnOk answer ((returned memory : List ℕ) × (tail ≡ event.Return returned memory ∷ posts callee.post returned))
   pub prefix : TailPrefix callee.post len tail
   pub no_resume : Each IsNoResume tail
@@ -47,7 +48,7 @@ pub record IsTail {T R : Type 0} (its : ReturnedValues R) (gives : Giving T) (ca
   pub posted : ¬ Each IsNoPost tail → Each (OnReturn (λ ws m. (over : ℕ) × (lifted : R) × its.are ws m limits.fuel over lifted)) tail
   pub leaves : OnOk answer (Each (OnReturn (λ ws m. Left Leaves callee.post m after.bytes)) tail)
   pub returned : answer ≢ Err (error.Fault fault.OutOfMemory) → Each IsNoPost tail → Each (OnReturn (λ ws m. after.bytes ≡ m)) tail
-  pub handles : RestPasses its gives callee limits after.bytes late late_trap served left answer tail
+  pub handles : RestPasses its gives callee limits late_live after.bytes late late_trap served left answer tail
   pub cause : IfErr answer (λ e. (xs : List Event) → asks_in xs ≡ count → RestCause its callee limits before after (xs ++ tail) tail e)
   pub valid : AllLawful late → IfErr answer IsUnrefused → ¬ EndsIn IsTrap tail → count + asks_in tail ≤ limits.turns
       → Each (OnReturn (λ ws m. its.represent ws m limits.fuel)) tail
@@ -79,7 +80,7 @@ sum_le a b c n k e f h = omega (arith, e, f, h)
 le_sum : (a b c n k : ℕ) → a ≡ b + c → b ≡ n → a ≤ k → n + c ≤ k
 le_sum a b c n k e f h = omega (arith, e, f, h)
 
-module _ {T R : Type 0} (its : ReturnedValues R) (gives : Giving T) (callee : Callee) (limits : Limits) (Leaves : List ℕ → List ℕ → Type 0) (words : List ℕ) (before after : Moment) (host served left : HostSide T) (turns : List AskTurn) (len : ℕ)
+module _ {T R : Type 0} (its : ReturnedValues R) (gives : Giving T) (callee : Callee) (limits : Limits) (Lives : List Event → List Block → Type 0) (Leaves : List ℕ → List ℕ → Type 0) (words : List ℕ) (before after : Moment) (host served left : HostSide T) (turns : List AskTurn) (len : ℕ)
     (asked : TurnsTaken gives callee limits.fuel before host served turns len) where
   abbrev first : List Event
   first = event.Start callee.func words before.bytes ∷ events_in turns
@@ -104,17 +105,20 @@ module _ {T R : Type 0} (its : ReturnedValues R) (gives : Giving T) (callee : Ca
         may_trap = subst (λ k. MayTrap k h.trap) (sym (len_then n first h.prefix ∙ ap (λ k. last_len k h.prefix) asked.last)) h.may_trap;
       }
 
-  pub rest_of_tail : (answer : Result R Error) (answers late : List Answer) (trap : Option Trap) (tail : List Event) → answers ≡ answers_in turns ++ late
-      → IsTail its gives callee limits Leaves before after (length turns) len served left answer late trap tail → IsRest its gives callee limits Leaves words before after host left answer answers (so_far callee words before turns tail)
-  rest_of_tail answer answers late trap tail all h = record {
+  pub rest_of_tail : (answer : Result R Error) (live : List Block) (answers late : List Answer) (trap : Option Trap) (tail : List Event) → answers ≡ answers_in turns ++ late
+      → (IsSome before.guest.journal → AsksFrom Lives (event.Start callee.func words before.bytes ∷ []) turns live tail)
+      → IsTail its gives callee limits Leaves before after (length turns) len served left answer live late trap tail → IsRest its gives callee limits Lives Leaves words before after host left answer answers (so_far callee words before turns tail)
+  rest_of_tail answer live answers late trap tail all lived h = record {
     one_run = ok_then answer _ _ (λ (returned, memory, is). (words, before.bytes, returned, memory, record { reallocs = []; only_reallocs = tt; turns = turns; is = ap (λ es. first ++ es) is })) h.whole;
     prefix = λ n. prefix_of n tail h.prefix;
     turns = turns;
+    late_live = live;
     late = late;
     late_trap = trap;
     tail = tail;
     answers_are = all;
     starts = inr (record { words = words; memory = before.bytes; is = refl; no_resume = h.no_resume; asking = h.asking });
+    lived = λ told. (event.Start callee.func words before.bytes ∷ [], refl, lived told);
     asks = λ none. sum_le (asks_in (first ++ tail)) (asks_in first) (asks_in tail) (length turns) limits.turns (asks_then first tail) count (h.asks none);
     grows = (same_le (length before.bytes), asked.grows tail (length after.bytes) h.grows);
     start = ((refl, refl), each_then _ (events_in turns) tail (each_turn _ (λ n ws m. tt) (λ o s a n p. tt) (λ ws m. tt) turns) (no_starts _ tail h.no_start));
@@ -132,18 +136,20 @@ module _ {T R : Type 0} (its : ReturnedValues R) (gives : Giving T) (callee : Ca
   }
 
 -- memory ran out for the start
-pub rest_of_none : {T R : Type 0} (its : ReturnedValues R) (gives : Giving T) (callee : Callee) (limits : Limits) (Leaves : List ℕ → List ℕ → Type 0) (words : List ℕ) (before after : Moment) (host : HostSide T)
+pub rest_of_none : {T R : Type 0} (its : ReturnedValues R) (gives : Giving T) (callee : Callee) (limits : Limits) (Lives : List Event → List Block → Type 0) (Leaves : List ℕ → List ℕ → Type 0) (words : List ℕ) (before after : Moment) (host : HostSide T)
     → length before.bytes ≤ length after.bytes
-    → IsRest its gives callee limits Leaves words before after host host (Err (error.Fault fault.OutOfMemory)) [] []
-rest_of_none its gives callee limits Leaves words before after host longer = record {
+    → IsRest its gives callee limits Lives Leaves words before after host host (Err (error.Fault fault.OutOfMemory)) [] []
+rest_of_none its gives callee limits Lives Leaves words before after host longer = record {
   one_run = tt;
   prefix = prefix_none callee.func callee.post;
   turns = [];
+  late_live = [];
   late = [];
   late_trap = None;
   tail = [];
   answers_are = refl;
   starts = inl (refl, refl, refl, refl, refl);
+  lived = λ told. ([], refl, (tt, tt));
   asks = λ none. omega arith;
   grows = longer;
   start = tt;

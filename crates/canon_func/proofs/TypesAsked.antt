@@ -3,6 +3,7 @@ use Rattle.std.proofs.Common.{Err, List, None, Ok, Option, Result, Some, [], ap,
 use Rattle.std.proofs.lemmas.Bool.{cases_lt}
 use Rattle.std.proofs.lemmas.List.{take-append-le}
 use Rattle.std.specs.Prelude.{IfErr, false, nat_le, take}
+use Rattle.canon_model.specs.Memory.{Block}
 use Rattle.canon_args.specs.Areas.{passed_taken}
 use Rattle.canon_args.specs.Params.{InParts}
 use Rattle.canon_args.specs.Results.{LowersTuple}
@@ -80,9 +81,9 @@ module _ {P : Type 0} (reading : Reading P) (store : ℕ) (callee : Callee) (fue
 
 -- ---- results
 
-module _ (Has : Tree → Type 0) (gives : List (List Part)) (callee : Callee) (asked : Asked) (at : ℕ) (memory memory2 : List ℕ) (low : List ℕ) (answers : List Answer) (trap : Option Trap) (l n : LedgerState) where
+module _ (Has : Tree → Type 0) (gives : List (List Part)) (callee : Callee) (asked : Asked) (at : ℕ) (live : List Block) (memory memory2 : List ℕ) (low : List ℕ) (answers : List Answer) (trap : Option Trap) (l n : LedgerState) where
   abbrev Unlowered : Fault → Type 0
-  Unlowered f = TypedAskLowers Has gives callee asked at memory memory2 low answers trap l n (Err f)
+  Unlowered f = TypedAskLowers Has gives callee asked at live memory memory2 low answers trap l n (Err f)
 
   tuple_cause : (f : Fault) (h : Unlowered f) → CauseOf h.from h.to answers trap h.ending
   tuple_cause f h = ⊎_elim
@@ -148,17 +149,17 @@ module _ {T P R : Type 0} (types : RustTypes P R) (May : TypedAnswering T P R) w
     calm = λ store callee fuel asked words memory l n f h. typed_calm types.reading store callee fuel asked words memory l n f h.1;
     unlifted = λ store callee fuel asked words memory l n f h. subst (λ why. LeavesStop why l (typed_parts types.reading callee asked words memory store) n) (same_stop f) h.1.1.stops;
     lift_excluded = λ store callee fuel asked words memory l n index f ok h. typed_lift_excluded types.reading store callee fuel asked words memory l n index f ok h.1;
-    given = λ callee asked at memory memory2 results low answers trap l n h. (h.handles, h.passed);
-    ungiven = λ callee asked at memory memory2 results low answers trap l n f h. h.passed.0;
-    traps = λ callee asked at memory memory2 results. typed_traps (types.walks results) (typed_given types callee asked results) callee asked at memory memory2;
+    given = λ callee asked at live memory memory2 results low answers trap l n h. (h.handles, h.passed);
+    ungiven = λ callee asked at live memory memory2 results low answers trap l n f h. h.passed.0;
+    traps = λ callee asked at live memory memory2 results. typed_traps (types.walks results) (typed_given types callee asked results) callee asked at live memory memory2;
   }
 
   pub types_lawful : AreTaken types.reading → ((v : R) → (t : Tree) × types.walks v t) → AskLawful (ask_types types May)
   types_lawful taken walkable = record {
     taken = λ store callee fuel asked words memory l n params h.
         passed_taken types.reading taken (nat_le (flat (asked_shape callee asked)) max_params) (asked_setting callee asked memory store) (flat_in (take (args_words (asked_params callee asked)) words) 0) (asked_shape callee asked) l n params h.1.1.0;
-    lower_excluded = λ callee asked at memory memory2 results low answers trap l n f ok h lawful none.
-        typed_lower_excluded (types.walks results) (typed_given types callee asked results) callee asked at memory memory2 low answers trap l n (walkable results) ok lawful none f h;
+    lower_excluded = λ callee asked at live memory memory2 results low answers trap l n f ok h lawful none.
+        typed_lower_excluded (types.walks results) (typed_given types callee asked results) callee asked at live memory memory2 low answers trap l n (walkable results) ok lawful none f h;
   }
 
 -- ---- its steps
@@ -252,6 +253,7 @@ module _ {T G P R : Type 0} (types : RustTypes P R) (May : TypedAnswering T P R)
         lowers = record {
           from = moment_of seen a;
           to = moment_of seen b;
+          from_live = refl;
           from_is = refl;
           to_is = refl;
           handles = h.handles;
@@ -277,6 +279,7 @@ module _ {T G P R : Type 0} (types : RustTypes P R) (May : TypedAnswering T P R)
         lowers = record {
           from = moment_of seen a;
           to = moment_of seen b;
+          from_live = refl;
           from_is = refl;
           to_is = refl;
           handles = h.handles;

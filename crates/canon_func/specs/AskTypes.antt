@@ -5,6 +5,7 @@ use Rattle.canon_args.specs.Results.{StoresTuple}
 use Rattle.canon_args.specs.Returned.{passed_reading}
 use Rattle.canon_model.specs.Flat.{max_params, max_results}
 use Rattle.canon_model.specs.Layout.{members_flat}
+use Rattle.canon_model.specs.Memory.{Block}
 use Rattle.canon_model.specs.Reach as reach
 use Rattle.canon_model.specs.Reach.{Kind}
 use Rattle.canon_model.specs.Shape.{Shape, of_places, product}
@@ -69,10 +70,11 @@ pub record TupleInto (from to : Moment) (callee : Callee) (asked : Asked) (at : 
   pub far : max_results < members_flat (asked_results callee asked)
       → (low : StoresTuple from to (asked_origin callee asked from.bytes).encoding (asked_results callee asked) at (InParts Has) hs ending) × (low.answers ≡ answers) × (low.trap ≡ trap)
 
--- the same, with its handles through the ledger, which do this, from one memory to another
-pub record TypedAskLowers (Has : Tree → Type 0) (gives : List (List Part)) (callee : Callee) (asked : Asked) (at : ℕ) (memory memory2 : List ℕ) (words : List ℕ) (answers : List Answer) (trap : Option Trap) (before after : LedgerState) (result : Result (Unit {0}) Fault) : Type 0 where
+-- the same, with its handles through the ledger, which do this, from one memory to another, where these blocks lived before
+pub record TypedAskLowers (Has : Tree → Type 0) (gives : List (List Part)) (callee : Callee) (asked : Asked) (at : ℕ) (live : List Block) (memory memory2 : List ℕ) (words : List ℕ) (answers : List Answer) (trap : Option Trap) (before after : LedgerState) (result : Result (Unit {0}) Fault) : Type 0 where
   pub from : Moment
   pub to : Moment
+  pub from_live : from.guest.live ≡ live
   pub from_is : from.bytes ≡ memory
   pub to_is : to.bytes ≡ memory2
   pub handles : List ℕ

@@ -5,6 +5,7 @@ use Rattle.canon_model.specs.Cost.{members_cost}
 use Rattle.canon_model.specs.Flat.{RepArgs, max_params, max_results}
 use Rattle.canon_model.specs.Layout.{members_flat}
 use Rattle.canon_model.specs.Leaves.{values_leaves}
+use Rattle.canon_model.specs.Memory.{Block}
 use Rattle.canon_model.specs.Shape.{Members}
 use Rattle.canon_model.specs.Tree.{Trees}
 use Rattle.canon_memory.specs.Guest.{Moment}
@@ -73,10 +74,11 @@ pub record LowersInto (from to : Moment) (callee : Callee) (asked : Asked) (at :
   pub far : max_results < members_flat (asked_results callee asked)
       → (low : StoresMembers false from to (asked_origin callee asked from.bytes).encoding (asked_results callee asked) 0 at (HaveTrees (asked_results callee asked) results) hs ending) × (low.answers ≡ answers) × (low.trap ≡ trap)
 
--- the same, with its handles through the ledger, from one memory to another
-pub record AskLowers (callee : Callee) (asked : Asked) (at : ℕ) (memory memory2 : List ℕ) (results : List Val) (words : List ℕ) (answers : List Answer) (trap : Option Trap) (before after : LedgerState) (result : Result (Unit {0}) Fault) : Type 0 where
+-- the same, with its handles through the ledger, from one memory to another, where these blocks lived before
+pub record AskLowers (callee : Callee) (asked : Asked) (at : ℕ) (live : List Block) (memory memory2 : List ℕ) (results : List Val) (words : List ℕ) (answers : List Answer) (trap : Option Trap) (before after : LedgerState) (result : Result (Unit {0}) Fault) : Type 0 where
   pub from : Moment
   pub to : Moment
+  pub from_live : from.guest.live ≡ live
   pub from_is : from.bytes ≡ memory
   pub to_is : to.bytes ≡ memory2
   pub crosses : Crosses callee.types (have_handle (asked_results callee asked)) (all_passes (asked_results callee asked) results) (LowersInto from to callee asked at results words answers trap) before after result

@@ -6,7 +6,7 @@ use Rattle.canon_model.specs.Flat.{RepArgs, RepResults, max_params, max_results}
 use Rattle.canon_model.specs.Homes.{ParamsHome, PointsTo}
 use Rattle.canon_model.specs.Layout.{members_flat}
 use Rattle.canon_model.specs.Leaves.{Leaf, members_leaves, values_leaves}
-use Rattle.canon_model.specs.Memory.{InBlocks}
+use Rattle.canon_model.specs.Memory.{Block, InBlocks}
 use Rattle.canon_model.specs.Reach.{Kind, ValuesFault, badly_spelled, misaligned, no_case, no_scalar, out_of_bounds, values_reach}
 use Rattle.canon_model.specs.Requests.{Request, params_requests}
 use Rattle.canon_model.specs.Shape.{Members, member_count}
@@ -14,7 +14,7 @@ use Rattle.canon_model.specs.Text.{in_utf16, in_utf8}
 use Rattle.canon_model.specs.Tree.{Trees}
 use Rattle.canon_memory.specs.declared.event.Event.{Event}
 use Rattle.canon_memory.specs.Counts.{Rose}
-use Rattle.canon_memory.specs.Guest.{Moment}
+use Rattle.canon_memory.specs.Guest.{GuestIn, Moment, Seen}
 use Rattle.canon_memory.specs.Journal.{Adds}
 use Rattle.canon_lowering.specs.Lowering.{Accepted, AllGood, AllLawful, AllTidy, Answer, Calm, Ending, Meets, Trap, addresses_of, blocks_of, done, events_of, marks_of, refused}
 use Rattle.canon_lowering.specs.Attempt.{AnyPointer, handle_numbers}
@@ -43,7 +43,7 @@ use Rattle.canon_host.specs.HostSide.{Giving, HostSide}
 use Rattle.canon_func.specs.Asks.{AreServed, AskStops, AcceptsAsk, Limits, import_words}
 use Rattle.canon_func.specs.HostAsks.{IsUnrefused}
 use Rattle.canon_func.specs.Passing.{Arguments, ReturnedValues}
-use Rattle.canon_func.specs.Runs.{AskTurn, BeginsInAsk, Each, EndsIn, Grows, IsReallocAnswer, IsNoPost, IsNoReturn, IsNoStart, IsOneRun, IsPrefixOfRun, IsReturn, IsTrap, MayStart, OnAsk, OnReturn, OnStart, SomeReturn, answers_in, asks_in}
+use Rattle.canon_func.specs.Runs.{AskTurn, AsksLive, BeginsInAsk, Each, EndsIn, Grows, IsNoPost, IsNoReturn, IsNoStart, IsOneRun, IsPrefixOfRun, IsReallocAnswer, IsReturn, IsTrap, MayStart, OnAsk, OnReturn, OnStart, SomeReturn, answers_in, asks_in}
 use Rattle.canon_func.specs.Stores.{Callee}
 use Rattle.canon_func.specs.declared.error.Error.{Error}
 use Rattle.canon_func.specs.declared.error.Error.TheVariants as error
@@ -243,10 +243,10 @@ module _ {T : Type 0} (gives : Giving T) (callee : Callee) (fuel : ℕ) where
 
 module _ {T R : Type 0} (its : ReturnedValues R) (gives : Giving T) (callee : Callee) (fuel : ℕ) where
   -- a call that was refused after its start stopped at an ask that it didn't resume, or otherwise
-  abbrev pub StopsStartedOf : Error → List ℕ → List Answer → Option Trap → HostSide T → HostSide T → List Event → Type 0
-  StopsStartedOf e memory2 late late_trap before after tail =
+  abbrev pub StopsStartedOf : Error → List Block → List ℕ → List Answer → Option Trap → HostSide T → HostSide T → List Event → Type 0
+  StopsStartedOf e late_live memory2 late late_trap before after tail =
       (StopsLater its callee (stopped_by e) before.ledger after.ledger tail × (after ≡ record before { ledger = after.ledger }))
-      ⊎ BeginsInAsk (λ index words memory more. AskStops gives callee fuel e index words memory memory2 late late_trap before after) tail
+      ⊎ BeginsInAsk (λ index words memory more. AskStops gives callee fuel e index words late_live memory memory2 late late_trap before after) tail
 
   -- an ask that isn't resumed can be served, and at a return the ledger accepts the end of the scope and each handle of the results
   abbrev pub AcceptsLater : HostSide T → List Event → Type 0
@@ -258,15 +258,15 @@ module _ {T R : Type 0} (args : Arguments) (its : ReturnedValues R) (gives : Giv
   -- order, and were given these numbers; each ask was served; and from the return on as above. A refused call stopped somewhere on this
   -- way, its scope is left open, and a refusal of the ledger is that of the step at which it stopped. Where memory ran out for the
   -- scope, nothing was done.
-  abbrev pub HandlesPassOf : List AskTurn → List ℕ → List Answer → Option Trap → HostSide T → HostSide T → List ℕ → Result R Error → List Event → List Event → Type 0
-  HandlesPassOf turns memory2 late late_trap before after given (Ok results) events tail =
+  abbrev pub HandlesPassOf : List AskTurn → List Block → List ℕ → List Answer → Option Trap → HostSide T → HostSide T → List ℕ → Result R Error → List Event → List Event → Type 0
+  HandlesPassOf turns late_live memory2 late late_trap before after given (Ok results) events tail =
       (lowered : LedgerState) × LeavesTake (enter before.ledger) args.parts given lowered
       × AfterTurns gives callee fuel turns (record before { ledger = lowered }) (λ served. Each (OnReturn (λ words m. Concludes its callee words m results served.ledger after.ledger)) tail × (after ≡ record served { ledger = after.ledger }))
-  HandlesPassOf turns memory2 late late_trap before after given (Err e) events tail =
+  HandlesPassOf turns late_live memory2 late late_trap before after given (Err e) events tail =
       ((e ≡ error.Fault fault.OutOfMemory) × (events ≡ []) × (after ≡ before))
       ⊎ (Each IsNoStart events × LeavesStop (stopped_by e) (enter before.ledger) args.parts after.ledger × (after ≡ record before { ledger = after.ledger }))
       ⊎ ((lowered : LedgerState) × LeavesTake (enter before.ledger) args.parts given lowered
-      × AfterTurns gives callee fuel turns (record before { ledger = lowered }) (λ served. StopsStartedOf its gives callee fuel e memory2 late late_trap served after tail))
+      × AfterTurns gives callee fuel turns (record before { ledger = lowered }) (λ served. StopsStartedOf its gives callee fuel e late_live memory2 late late_trap served after tail))
 
   -- the same of the whole call, after each handle of the parameters and each ask that was resumed, however it was served
   abbrev pub Accepts : List AskTurn → HostSide T → List Event → Type 0
@@ -286,9 +286,13 @@ pub record Advances (before after : Moment) : Type 0 where
   pub traps_later : before.guest.traps ≤ after.guest.traps
   pub shortages_later : before.guest.shortages ≤ after.guest.shortages
 
--- A call that wasn't refused before the guest was entered, by its parameters, what its results are, what functions of the host may give, its
--- callee, what it may use, the moments and the host before and after, its answer and the events that it adds to an exposed journal.
-pub record IsCallOf {T R : Type 0} (args : Arguments) (its : ReturnedValues R) (Leaves : List ℕ → List ℕ → Type 0) (gives : Giving T) (callee : Callee) (limits : Limits) (before after : Moment) (host left : HostSide T) (answer : Result R Error) (events : List Event) : Type 0 where
+-- these blocks may live in a guest that did these events from here on
+abbrev pub LivesAfter : {G : Type 0} → (G → Seen) → (GuestIn G → List Event → GuestIn G → Type 0) → GuestIn G → List Event → List Block → Type 0
+LivesAfter {G} seen moves before events live = (g : GuestIn G) × moves before events g × ((seen g.guest).live ≡ live)
+
+-- A call that wasn't refused before the guest was entered, by its parameters, what its results are, which blocks may live after events, what
+-- a post-return may make of memory, what functions of the host may give, its callee, what it may use, the moments and the host before and after, its answer and the events that it adds to an exposed journal.
+pub record IsCallOf {T R : Type 0} (args : Arguments) (its : ReturnedValues R) (Lives : List Event → List Block → Type 0) (Leaves : List ℕ → List ℕ → Type 0) (gives : Giving T) (callee : Callee) (limits : Limits) (before after : Moment) (host left : HostSide T) (answer : Result R Error) (events : List Event) : Type 0 where
   -- The guest made one run; of a refused call the events are a prefix of one.
   pub one_run : OnOk answer (IsOneRun callee.func callee.post events)
   pub prefix : IsPrefixOfRun callee.func callee.post (length before.bytes) events
@@ -302,10 +306,13 @@ pub record IsCallOf {T R : Type 0} (args : Arguments) (its : ReturnedValues R) (
   -- From the start on it asked in these turns, and was served; of all asks one at most, for which it was refused, passes the limit.
   -- Blocks were asked for from an ask to its resume alone, or after a last ask that wasn't resumed.
   pub turns : List AskTurn
+  pub late_live : List Block
   pub late : List Answer
   pub late_trap : Option Trap
   pub tail : List Event
   pub starts : MayStart callee.func turns late late_trap tail later
+  -- At each ask those blocks lived that live in a guest after the events so far, where the journal is exposed.
+  pub lived : IsSome before.guest.journal → AsksLive Lives turns late_live tail events
   pub asks : answer ≢ Err error.TurnsExhausted → asks_in events ≤ limits.turns
   -- each answer was aligned and its block ended inside memory, but one that the call was refused for; and each answer has its mark
   pub accepted : Accepted (lowering_ending answer) (length after.bytes) answers
@@ -314,7 +321,7 @@ pub record IsCallOf {T R : Type 0} (args : Arguments) (its : ReturnedValues R) (
   pub quiet : AsksByTypes callee.params (lowering_ending answer) answers trap
   -- Handles went through the ledger, and each ask was served; the words of the start have the handles that the parameters were given.
   pub given : List ℕ
-  pub handles : HandlesPassOf args its gives callee limits.fuel turns after.bytes late late_trap host left given answer events tail
+  pub handles : HandlesPassOf args its gives callee limits.fuel turns late_live after.bytes late late_trap host left given answer events tail
   pub start : Each (OnStart (IsStart args callee before answers given)) events
   -- The results are the only values that the returned words and memory represent, and cost no more than the fuel; that
   -- memory is left, as far as a post-return leaves it.
@@ -375,17 +382,17 @@ with_results (Ok x) results = Ok results
 with_results (Err e) results = Err e
 
 module _ {T : Type 0} (gives : Giving T) (callee : Callee) (fuel : ℕ) where
-  abbrev pub StopsStarted : Error → List ℕ → List Answer → Option Trap → HostSide T → HostSide T → List Event → Type 0
+  abbrev pub StopsStarted : Error → List Block → List ℕ → List Answer → Option Trap → HostSide T → HostSide T → List Event → Type 0
   StopsStarted = StopsStartedOf (dynamic_results callee) gives callee fuel
 
-  abbrev pub HandlesPass : List Val → List AskTurn → List ℕ → List Answer → Option Trap → HostSide T → HostSide T → List ℕ → Result (Unit {0}) Error → List Val → List Event → List Event → Type 0
-  HandlesPass params turns memory2 late late_trap before after given answer results events tail =
-      HandlesPassOf (dynamic callee params) (dynamic_results callee) gives callee fuel turns memory2 late late_trap before after given (with_results answer results) events tail
+  abbrev pub HandlesPass : List Val → List AskTurn → List Block → List ℕ → List Answer → Option Trap → HostSide T → HostSide T → List ℕ → Result (Unit {0}) Error → List Val → List Event → List Event → Type 0
+  HandlesPass params turns late_live memory2 late late_trap before after given answer results events tail =
+      HandlesPassOf (dynamic callee params) (dynamic_results callee) gives callee fuel turns late_live memory2 late late_trap before after given (with_results answer results) events tail
 
 -- A call with these parameters, by its answer and the results that it leaves.
-abbrev pub IsCall : {T : Type 0} → (List ℕ → List ℕ → Type 0) → Giving T → Callee → Limits → List Val → Moment → Moment → HostSide T → HostSide T → Result (Unit {0}) Error → List Val → List Event → Type 0
-IsCall Leaves gives callee limits params before after host left answer results events =
-    IsCallOf (dynamic callee params) (dynamic_results callee) Leaves gives callee limits before after host left (with_results answer results) events
+abbrev pub IsCall : {T : Type 0} → (List Event → List Block → Type 0) → (List ℕ → List ℕ → Type 0) → Giving T → Callee → Limits → List Val → Moment → Moment → HostSide T → HostSide T → Result (Unit {0}) Error → List Val → List Event → Type 0
+IsCall Lives Leaves gives callee limits params before after host left answer results events =
+    IsCallOf (dynamic callee params) (dynamic_results callee) Lives Leaves gives callee limits before after host left (with_results answer results) events
 
 -- a fact for every answer except out of memory
 abbrev pub OnAnswered : {T : Type 0} → Result T Error → Type 0 → Type 0

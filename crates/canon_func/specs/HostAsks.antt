@@ -2,6 +2,7 @@
 use Rattle.std.specs.Prelude.{Err, List, None, Ok, Option, Result, Some, [], if◌then◌else◌, nat_le, slice_get, length, ℕ, ◌+◌, ◌≡◌, ◌≢◌, ◌⊎◌}
 use Rattle.canon_model.specs.Flat.{max_results}
 use Rattle.canon_model.specs.Layout.{members_flat}
+use Rattle.canon_model.specs.Memory.{Block}
 use Rattle.canon_ledger.specs.Handles.{top_scope}
 use Rattle.canon_ledger.specs.Ledger.{Done, LedgerState, enter, leave, validate_scope_exit}
 use Rattle.canon_ledger.specs.declared.fault.ResourceFault.{ResourceFault}
@@ -101,7 +102,7 @@ module _ {T : Type 0} (its : AskForm T) (answers_so : Answering T) (callee : Cal
     pub gave : Gives before t.index t.memory lifted params (Ok results) after.state called
     pub place : IsResultPlace callee.types.types asked t.memory t.words at
     pub ends : asked_exit called ≡ record { answer = Ok tt; after = ended }
-    pub lowers : its.lowers callee asked at t.memory t.resumed_memory results words t.answers None (leave ended) after.ledger (Ok tt)
+    pub lowers : its.lowers callee asked at t.live t.memory t.resumed_memory results words t.answers None (leave ended) after.ledger (Ok tt)
     pub resumed : t.resumed_words ≡ resumed_with callee asked words
     pub count : length t.resumed_words ≡ row_words (asked_results callee asked)
     pub told : after.log ≡ its.logged_with before.log t.index params results
@@ -110,7 +111,7 @@ module _ {T : Type 0} (its : AskForm T) (answers_so : Answering T) (callee : Cal
 
   -- ---- an ask that wasn't
 
-  module _ (asked : Asked) (index : ℕ) (words memory memory2 : List ℕ) (answers : List Answer) (trap : Option Trap) (before after : HostSide T) (e : Error) where
+  module _ (asked : Asked) (index : ℕ) (words : List ℕ) (live : List Block) (memory memory2 : List ℕ) (answers : List Answer) (trap : Option Trap) (before after : HostSide T) (e : Error) where
     -- after the call: the place for the results, the end of the scope, or lowering the results was refused
     abbrev pub StopsGiven : its.Results → LedgerState → Type 0
     StopsGiven results called =
@@ -118,7 +119,7 @@ module _ {T : Type 0} (its : AskForm T) (answers_so : Answering T) (callee : Cal
         ⊎ ((at : ℕ) × IsResultPlace callee.types.types asked memory words at
         × (((x : ResourceFault) × (e ≡ asked_error index (fault.Resource x)) × (asked_exit called ≡ record { answer = Err x; after = after.ledger }) × NothingAsked memory memory2 answers trap)
         ⊎ ((ended : LedgerState) × (f : Fault) × (low : List ℕ) × (asked_exit called ≡ record { answer = Ok tt; after = ended }) × (e ≡ asked_error index f)
-        × its.lowers callee asked at memory memory2 results low answers trap (leave ended) after.ledger (Err f))))
+        × its.lowers callee asked at live memory memory2 results low answers trap (leave ended) after.ledger (Err f))))
 
     -- from the call on: there was no room for results, the function gave none, or it stopped later
     abbrev pub StopsCalled : its.Params → LedgerState → Type 0
@@ -165,8 +166,8 @@ module _ {T : Type 0} (gives : Giving T) (callee : Callee) (fuel : ℕ) where
   abbrev pub IsHostServed : AskTurn → HostSide T → HostSide T → Type 0
   IsHostServed t before after = IsHostServedBy (ask_at gives t.index) gives.answers callee fuel t before after
 
-  abbrev pub HostStops : Asked → ℕ → List ℕ → List ℕ → List ℕ → List Answer → Option Trap → HostSide T → HostSide T → Error → Type 0
-  HostStops asked index words memory memory2 answers trap before after e = HostStopsBy (ask_at gives index) gives.answers callee fuel asked index words memory memory2 answers trap before after e
+  abbrev pub HostStops : Asked → ℕ → List ℕ → List Block → List ℕ → List ℕ → List Answer → Option Trap → HostSide T → HostSide T → Error → Type 0
+  HostStops asked index words live memory memory2 answers trap before after e = HostStopsBy (ask_at gives index) gives.answers callee fuel asked index words live memory memory2 answers trap before after e
 
   abbrev pub AcceptsHost : Asked → ℕ → List ℕ → List ℕ → HostSide T → Type 0
   AcceptsHost asked index words memory before = AcceptsHostBy (ask_at gives index) gives.answers callee fuel asked index words memory before

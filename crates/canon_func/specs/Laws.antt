@@ -1,7 +1,7 @@
 -- Laws of the definitions of a call.
 use Rattle.std.specs.Prelude.{Err, List, Ok, Option, Some, [], false, slice_index, ℕ, ◌++◌, ◌+◌, ◌∷◌, ◌≡◌, ◌≤◌, ◌⊎◌}
 use Rattle.canon_model.specs.Flat.{RepResults}
-use Rattle.canon_model.specs.Memory.{low}
+use Rattle.canon_model.specs.Memory.{Block, low}
 use Rattle.canon_model.specs.Shape.{Shape}
 use Rattle.canon_model.specs.Tree as tree
 use Rattle.canon_model.specs.Tree.{Tree, Trees}
@@ -98,8 +98,8 @@ PassesThrough {T} gives callee fuel first last turns before after tail =
 
 -- The ledger of a call that is Ok went through these steps, one after another, each of which it accepted.
 abbrev pub CallIsThrough : {T : Type 0} → Giving T → Type 0
-CallIsThrough {T} gives = (callee : Callee) (fuel : ℕ) (params : List Val) (turns : List AskTurn) (memory2 : List ℕ) (late : List Answer) (trap : Option Trap) (before after : HostSide T) (given : List ℕ) (results : List Val) (events tail : List Event)
-    → HandlesPass gives callee fuel params turns memory2 late trap before after given (Ok tt) results events tail
+CallIsThrough {T} gives = (callee : Callee) (fuel : ℕ) (params : List Val) (turns : List AskTurn) (live : List Block) (memory2 : List ℕ) (late : List Answer) (trap : Option Trap) (before after : HostSide T) (given : List ℕ) (results : List Val) (events tail : List Event)
+    → HandlesPass gives callee fuel params turns live memory2 late trap before after given (Ok tt) results events tail
     → PassesThrough gives callee fuel (param_parts callee params) (result_parts callee) turns before after tail
 
 module _ {T : Type 0} (its : AskForm T) (answers_so : Answering T) (callee : Callee) (fuel : ℕ) (index : ℕ) (words memory : List ℕ) (served : HostSide T) where
@@ -140,8 +140,8 @@ module _ {T : Type 0} (gives : Giving T) (callee : Callee) (fuel : ℕ) where
 
 -- The ledger of a call that is refused went through the same steps up to some step, which is one of those that the events determine.
 abbrev pub RefusedIsPartway : {T : Type 0} → Giving T → Type 0
-RefusedIsPartway {T} gives = (callee : Callee) (fuel : ℕ) (params : List Val) (turns : List AskTurn) (memory2 : List ℕ) (late : List Answer) (trap : Option Trap) (before after : HostSide T) (given : List ℕ) (e : Error) (results : List Val) (events tail : List Event)
-    → HandlesPass gives callee fuel params turns memory2 late trap before after given (Err e) results events tail
+RefusedIsPartway {T} gives = (callee : Callee) (fuel : ℕ) (params : List Val) (turns : List AskTurn) (live : List Block) (memory2 : List ℕ) (late : List Answer) (trap : Option Trap) (before after : HostSide T) (given : List ℕ) (e : Error) (results : List Val) (events tail : List Event)
+    → HandlesPass gives callee fuel params turns live memory2 late trap before after given (Err e) results events tail
     → PassesPartway gives callee fuel e (param_parts callee params) (result_parts callee) turns before after.ledger events tail
 
 -- ---- of a typed call
@@ -149,12 +149,12 @@ RefusedIsPartway {T} gives = (callee : Callee) (fuel : ℕ) (params : List Val) 
 -- the same of any parameters and results
 module _ {T R : Type 0} (args : Arguments) (its : ReturnedValues R) (gives : Giving T) (callee : Callee) where
   abbrev pub IsThrough : Type 0
-  IsThrough = (fuel : ℕ) (turns : List AskTurn) (memory2 : List ℕ) (late : List Answer) (trap : Option Trap) (before after : HostSide T) (given : List ℕ) (results : R) (events tail : List Event)
-      → HandlesPassOf args its gives callee fuel turns memory2 late trap before after given (Ok results) events tail → PassesThrough gives callee fuel args.parts its.parts turns before after tail
+  IsThrough = (fuel : ℕ) (turns : List AskTurn) (live : List Block) (memory2 : List ℕ) (late : List Answer) (trap : Option Trap) (before after : HostSide T) (given : List ℕ) (results : R) (events tail : List Event)
+      → HandlesPassOf args its gives callee fuel turns live memory2 late trap before after given (Ok results) events tail → PassesThrough gives callee fuel args.parts its.parts turns before after tail
 
   abbrev pub IsPartway : Type 0
-  IsPartway = (fuel : ℕ) (turns : List AskTurn) (memory2 : List ℕ) (late : List Answer) (trap : Option Trap) (before after : HostSide T) (given : List ℕ) (e : Error) (events tail : List Event)
-      → HandlesPassOf args its gives callee fuel turns memory2 late trap before after given (Err e) events tail → PassesPartway gives callee fuel e args.parts its.parts turns before after.ledger events tail
+  IsPartway = (fuel : ℕ) (turns : List AskTurn) (live : List Block) (memory2 : List ℕ) (late : List Answer) (trap : Option Trap) (before after : HostSide T) (given : List ℕ) (e : Error) (events tail : List Event)
+      → HandlesPassOf args its gives callee fuel turns live memory2 late trap before after given (Err e) events tail → PassesPartway gives callee fuel e args.parts its.parts turns before after.ledger events tail
 
 module _ {T P R : Type 0} (gives : Giving T) (Walks : P → Tree → Type 0) (steps : Instance → Shape → P → List (List Part)) (reading : Reading R) where
   abbrev pub TypedIsThrough : Type 0

@@ -1,5 +1,6 @@
 -- The events of a run of a guest.
 use Rattle.std.specs.Prelude.{List, None, Option, Some, [], length, ℕ, ⊤, ◌++◌, ◌+◌, ◌∷◌, ◌≡◌, ◌≤◌, ◌⊎◌}
+use Rattle.canon_model.specs.Memory.{Block}
 use Rattle.canon_model.specs.Requests.{Call}
 use Rattle.canon_memory.specs.declared.event.Event.{Event}
 use Rattle.canon_memory.specs.declared.event.Event.TheVariants as event
@@ -106,10 +107,12 @@ Grows len (_ ∷ events) last = Grows len events last
 
 -- ---- one run
 
--- an import that was asked for, how the blocks were answered that the host asked for meanwhile, and how the guest went on
+-- an import that was asked for, with the blocks that lived then, how the blocks were answered that the host asked for meanwhile, and how
+-- the guest went on
 pub record AskTurn : Type 0 where
   pub index : ℕ
   pub words : List ℕ
+  pub live : List Block
   pub memory : List ℕ
   pub answers : List Answer
   pub resumed_words : List ℕ
@@ -122,6 +125,20 @@ events_in (t ∷ turns) = event.Ask t.index t.words t.memory ∷ events_of t.ans
 abbrev pub answers_in : List AskTurn → List Answer
 answers_in [] = []
 answers_in (t ∷ turns) = t.answers ++ answers_in turns
+
+-- each turn came after these events, and the blocks that lived as it was asked are so, by the events up to the ask
+abbrev pub EachTurn : (List Event → List Block → Type 0) → List Event → List AskTurn → Type 0
+EachTurn Lives front [] = ⊤
+EachTurn Lives front (t ∷ turns) = Lives (front ++ event.Ask t.index t.words t.memory ∷ []) t.live × EachTurn Lives (front ++ events_in (t ∷ [])) turns
+
+-- the same, and of an ask after the turns
+abbrev pub AsksFrom : (List Event → List Block → Type 0) → List Event → List AskTurn → List Block → List Event → Type 0
+AsksFrom Lives front turns late_live tail =
+    EachTurn Lives front turns × OnAsk (λ index words memory more. Lives (front ++ (events_in turns ++ event.Ask index words memory ∷ [])) late_live) tail
+
+-- Of all events, which end in those of the turns and what came after them: at each ask the blocks that lived are so.
+abbrev pub AsksLive : (List Event → List Block → Type 0) → List AskTurn → List Block → List Event → List Event → Type 0
+AsksLive Lives turns late_live tail events = (front : List Event) × (events ≡ front ++ (events_in turns ++ tail)) × AsksFrom Lives front turns late_live tail
 
 -- what came after the turns: where it is one more ask, which isn't resumed, blocks were asked for with these answers, and else none
 abbrev pub EndsAsking : List Answer → Option Trap → List Event → Type 0

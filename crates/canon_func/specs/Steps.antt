@@ -3,6 +3,7 @@ use Rattle.std.specs.Prelude.{Err, IfErr, IfOk, IsOkUnless, IsSome, List, Option
 use Rattle.std.specs.declared.alloc.Global.{Global}
 use Rattle.canon_model.specs.Flat.{max_params}
 use Rattle.canon_model.specs.Layout.{members_flat}
+use Rattle.canon_model.specs.Memory.{Block}
 use Rattle.canon_model.specs.Reach.{badly_spelled, misaligned, no_case, no_scalar, out_of_bounds}
 use Rattle.canon_model.specs.Shape.{Members}
 use Rattle.canon_model.specs.Text.{in_utf16, in_utf8}
@@ -41,7 +42,7 @@ use Rattle.canon_func.specs.HostAsks.{HostStopsBy, IsHostServedBy, IsUnrefused}
 use Rattle.canon_func.specs.AskValues.{asked_results}
 use Rattle.canon_func.specs.Call.{AcceptsLater, AfterTurns, AskCause, AsksByTypes, Concludes, HasFault, IsPastFuel, Left, StopsStartedOf, refused_by, result_words, scope_exit, words_within}
 use Rattle.canon_func.specs.Passing.{Arguments, ReturnedValues}
-use Rattle.canon_func.specs.Runs.{AskTurn, Each, EndsIn, Grows, IsNoPost, IsNoStart, IsOneRun, IsPrefixOfRun, IsReturn, IsTrap, MayStart, OnReturn, OnStart, answers_in, asks_in, events_in, last_len, posts}
+use Rattle.canon_func.specs.Runs.{AskTurn, AsksFrom, AsksLive, Each, EachTurn, EndsIn, Grows, IsNoPost, IsNoStart, IsOneRun, IsPrefixOfRun, IsReturn, IsTrap, MayStart, OnReturn, OnStart, answers_in, asks_in, events_in, last_len, posts}
 use Rattle.canon_func.specs.Stores.{Callee}
 use Rattle.canon_func.specs.declared.error.Error.{Error}
 use Rattle.canon_func.specs.declared.error.Error.TheVariants as error
@@ -121,9 +122,9 @@ pub record Serving (before after : Moment) (Moves : List Event → Type 0) (IsSo
 abbrev pub SameButHost : {T G : Type 0} → Parts T G → Parts T G → Type 0
 SameButHost before after = after ≡ record before { state = after.state; guest = after.guest; memory = after.memory; ledger = after.ledger }
 
--- an ask of a guest that left this memory and was resumed in another
-abbrev pub ask_turn : ℕ → List ℕ → List ℕ → List Answer → List ℕ → List ℕ → AskTurn
-ask_turn index words memory answers resumed memory2 = record { index = index; words = words; memory = memory; answers = answers; resumed_words = resumed; resumed_memory = memory2 }
+-- an ask of a guest that left this memory, where these blocks lived, and was resumed in another
+abbrev pub ask_turn : ℕ → List ℕ → List Block → List ℕ → List Answer → List ℕ → List ℕ → AskTurn
+ask_turn index words live memory answers resumed memory2 = record { index = index; words = words; live = live; memory = memory; answers = answers; resumed_words = resumed; resumed_memory = memory2 }
 
 -- a request that trapped found memory at least so long
 abbrev pub TrapsLate : ℕ → Option Trap → Type 0
@@ -139,9 +140,9 @@ module _ {T : Type 0} (its : AskForm T) (answers_so : Answering T) (callee : Cal
   -- An ask of a function of the host was served, and storage has the words of the results that go in a row; or it wasn't served.
   abbrev pub HostAskedBy : Asked → ℕ → List ℕ → Moment → Moment → HostSide T → HostSide T → List ℕ → Result (Unit {0}) Error → List Answer → List Event → Type 0
   HostAskedBy asked index words before after host left storage (Ok x) answers events =
-      IsHostServedBy its answers_so callee fuel (ask_turn index words before.bytes answers (take (row_words (asked_results callee asked)) storage) after.bytes) host left × (events ≡ events_of answers None)
+      IsHostServedBy its answers_so callee fuel (ask_turn index words before.guest.live before.bytes answers (take (row_words (asked_results callee asked)) storage) after.bytes) host left × (events ≡ events_of answers None)
   HostAskedBy asked index words before after host left storage (Err e) answers events =
-      (trap : Option Trap) × HostStopsBy its answers_so callee fuel asked index words before.bytes after.bytes answers trap host left e × (events ≡ events_of answers trap) × TrapsLate (length before.bytes) trap × RisesAt e before after
+      (trap : Option Trap) × HostStopsBy its answers_so callee fuel asked index words before.guest.live before.bytes after.bytes answers trap host left e × (events ≡ events_of answers trap) × TrapsLate (length before.bytes) trap × RisesAt e before after
 
 -- by the form of its import
 abbrev pub HostAsked : {T : Type 0} → Giving T → Callee → ℕ → Asked → ℕ → List ℕ → Moment → Moment → HostSide T → HostSide T → List ℕ → Result (Unit {0}) Error → List Answer → List Event → Type 0
@@ -152,7 +153,7 @@ module _ {T : Type 0} (gives : Giving T) (callee : Callee) (fuel : ℕ) where
   pub record Resumes (index : ℕ) (words : List ℕ) (before after : Moment) (host left : HostSide T) (answers : List Answer) : Type 0 where
     pub resumed : List ℕ
     pub memory : List ℕ
-    pub served : IsServed gives callee fuel (ask_turn index words before.bytes answers resumed memory) host left
+    pub served : IsServed gives callee fuel (ask_turn index words before.guest.live before.bytes answers resumed memory) host left
     pub longer : length before.bytes ≤ length memory
     pub shorter : length memory ≤ length after.bytes
 
@@ -165,7 +166,7 @@ module _ {T : Type 0} (gives : Giving T) (callee : Callee) (fuel : ℕ) where
       × (events ≡ events_of answers None ++ event.Resume r.resumed r.memory ∷ trap_event (length r.memory) ∷ [])
   Serves index words before after host left (Err error.TurnsExhausted) answers events = ⊥
   Serves index words before after host left (Err e) answers events =
-      (trap : Option Trap) × AskStops gives callee fuel e index words before.bytes after.bytes answers trap host left × (events ≡ events_of answers trap) × TrapsLate (length before.bytes) trap × RisesAt e before after
+      (trap : Option Trap) × AskStops gives callee fuel e index words before.guest.live before.bytes after.bytes answers trap host left × (events ≡ events_of answers trap) × TrapsLate (length before.bytes) trap × RisesAt e before after
 
   -- The guest was started at the moment `before`, asked in these turns and was served; it was last let go in a memory of so many bytes.
   pub record TurnsTaken (before : Moment) (host served : HostSide T) (turns : List AskTurn) (len : ℕ) : Type 0 where
@@ -179,7 +180,7 @@ so_far callee words before turns tail = event.Start callee.func words before.byt
 
 module _ {T : Type 0} (gives : Giving T) (callee : Callee) (limits : Limits) where
   -- The guest asked so often and was served, and then took this step.
-  pub record Stepping (words : List ℕ) (before now : Moment) (host served : HostSide T) (Moves : List Event → Type 0) (count : ℕ) (next : Step) : Type 0 where
+  pub record Stepping (Lives : List Event → List Block → Type 0) (words : List ℕ) (before now : Moment) (host served : HostSide T) (Moves : List Event → Type 0) (count : ℕ) (next : Step) : Type 0 where
     pub turns : List AskTurn
     pub len : ℕ
     pub asked : TurnsTaken gives callee limits.fuel before host served turns len
@@ -187,16 +188,17 @@ module _ {T : Type 0} (gives : Giving T) (callee : Callee) (limits : Limits) whe
     pub longer : len ≤ length now.bytes
     pub goes : Goes before now (marks_of (answers_in turns)) (so_far callee words before turns (step_event next now.bytes ∷ []))
     pub moves : IsSome before.guest.journal → Moves (so_far callee words before turns (step_event next now.bytes ∷ []))
+    pub lived : IsSome before.guest.journal → EachTurn Lives (event.Start callee.func words before.bytes ∷ []) turns
 
   -- The guest was left after so many asks that were served in an ask that wasn't.
-  pub record StopsInAsk (count len : ℕ) (before after : Moment) (served left : HostSide T) (e : Error) (late : List Answer) (trap : Option Trap) (tail : List Event) : Type 0 where
+  pub record StopsInAsk (count len : ℕ) (before after : Moment) (served left : HostSide T) (e : Error) (live : List Block) (late : List Answer) (trap : Option Trap) (tail : List Event) : Type 0 where
     pub index : ℕ
     pub words : List ℕ
     pub memory : List ℕ
     pub is : tail ≡ event.Ask index words memory ∷ events_of late trap
     pub longer : len ≤ length memory
     pub shorter : length memory ≤ length after.bytes
-    pub stops : AskStops gives callee limits.fuel e index words memory after.bytes late trap served left
+    pub stops : AskStops gives callee limits.fuel e index words live memory after.bytes late trap served left
     pub traps_late : TrapsLate (length memory) trap
     pub rises : RisesAt e before after
 
@@ -205,15 +207,16 @@ module _ {T : Type 0} (gives : Giving T) (callee : Callee) (limits : Limits) whe
   NoneLate late trap served left = (late ≡ []) × (trap ≡ None) × (left ≡ served)
 
   -- How the guest was left after so many asks that were served, by the last events.
-  abbrev pub Stopped : ℕ → ℕ → Moment → Moment → HostSide T → HostSide T → Result (List ℕ) Error → List Answer → Option Trap → List Event → Type 0
-  Stopped count len before after served left (Ok returned) late trap tail = (tail ≡ event.Return returned after.bytes ∷ []) × NoneLate late trap served left
-  Stopped count len before after served left (Err (error.Fault fault.GuestTrap)) late trap tail = Rose before.guest.traps after.guest.traps × (tail ≡ trap_event len ∷ []) × NoneLate late trap served left
-  Stopped count len before after served left (Err error.TurnsExhausted) late trap tail = (count ≡ limits.turns) × StopsInAsk count len before after served left error.TurnsExhausted late trap tail
-  Stopped count len before after served left (Err e) late trap tail = (count < limits.turns) × StopsInAsk count len before after served left e late trap tail
+  abbrev pub Stopped : ℕ → ℕ → Moment → Moment → HostSide T → HostSide T → Result (List ℕ) Error → List Block → List Answer → Option Trap → List Event → Type 0
+  Stopped count len before after served left (Ok returned) live late trap tail = (tail ≡ event.Return returned after.bytes ∷ []) × NoneLate late trap served left
+  Stopped count len before after served left (Err (error.Fault fault.GuestTrap)) live late trap tail = Rose before.guest.traps after.guest.traps × (tail ≡ trap_event len ∷ []) × NoneLate late trap served left
+  Stopped count len before after served left (Err error.TurnsExhausted) live late trap tail = (count ≡ limits.turns) × StopsInAsk count len before after served left error.TurnsExhausted live late trap tail
+  Stopped count len before after served left (Err e) live late trap tail = (count < limits.turns) × StopsInAsk count len before after served left e live late trap tail
 
   -- A core function was started with these words, and asked and was served until it returned these words or stopped otherwise.
-  pub record RunsUntil (words : List ℕ) (before after : Moment) (host left : HostSide T) (answer : Result (List ℕ) Error) (answers : List Answer) (events : List Event) : Type 0 where
+  pub record RunsUntil (Lives : List Event → List Block → Type 0) (words : List ℕ) (before after : Moment) (host left : HostSide T) (answer : Result (List ℕ) Error) (answers : List Answer) (events : List Event) : Type 0 where
     pub turns : List AskTurn
+    pub late_live : List Block
     pub late : List Answer
     pub late_trap : Option Trap
     pub answers_are : answers ≡ answers_in turns ++ late
@@ -224,12 +227,13 @@ module _ {T : Type 0} (gives : Giving T) (callee : Callee) (limits : Limits) whe
     pub few : length turns ≤ limits.turns
     pub longer : len ≤ length after.bytes
     pub is : events ≡ so_far callee words before turns tail
-    pub stopped : Stopped (length turns) len before after served left answer late late_trap tail
+    pub stopped : Stopped (length turns) len before after served left answer late_live late late_trap tail
+    pub lived : IsSome before.guest.journal → AsksFrom Lives (event.Start callee.func words before.bytes ∷ []) turns late_live tail
 
   -- or memory ran out for its start
-  abbrev pub MayRun : List ℕ → Moment → Moment → HostSide T → HostSide T → Result (List ℕ) Error → List Answer → List Event → Type 0
-  MayRun words before after host left answer answers events =
-      ((answer ≡ Err (error.Fault fault.OutOfMemory)) × (events ≡ []) × (answers ≡ []) × (left ≡ host)) ⊎ RunsUntil words before after host left answer answers events
+  abbrev pub MayRun : (List Event → List Block → Type 0) → List ℕ → Moment → Moment → HostSide T → HostSide T → Result (List ℕ) Error → List Answer → List Event → Type 0
+  MayRun Lives words before after host left answer answers events =
+      ((answer ≡ Err (error.Fault fault.OutOfMemory)) × (events ≡ []) × (answers ≡ []) × (left ≡ host)) ⊎ RunsUntil Lives words before after host left answer answers events
 
 -- ---- after the return
 
@@ -243,17 +247,17 @@ Ended callee words before after (Err _) = ⊥
 
 module _ {T : Type 0} (gives : Giving T) (callee : Callee) (limits : Limits) where
   -- A core function was started with these words, and ran until it returned these; then the call's scope ended, or didn't.
-  pub record RunsOut (words : List ℕ) (before after : Moment) (host left : HostSide T) (returned : List ℕ) (ended : Result (Unit {0}) Error) (answers : List Answer) (events : List Event) : Type 0 where
+  pub record RunsOut (Lives : List Event → List Block → Type 0) (words : List ℕ) (before after : Moment) (host left : HostSide T) (returned : List ℕ) (ended : Result (Unit {0}) Error) (answers : List Answer) (events : List Event) : Type 0 where
     pub ran : HostSide T
-    pub run : RunsUntil gives callee limits words before after host ran (Ok returned) answers events
+    pub run : RunsUntil gives callee limits Lives words before after host ran (Ok returned) answers events
     pub ends : Ended callee returned ran.ledger left.ledger ended
     pub kept : left ≡ record ran { ledger = left.ledger }
 
   -- the same, or it stopped before
-  abbrev pub RunsToEnd : List ℕ → Moment → Moment → HostSide T → HostSide T → Result (List ℕ) Error → List Answer → List Event → Type 0
-  RunsToEnd words before after host left (Ok returned) answers events = RunsOut words before after host left returned (Ok tt) answers events
-  RunsToEnd words before after host left (Err e) answers events =
-      MayRun gives callee limits words before after host left (Err e) answers events ⊎ ((returned : List ℕ) × RunsOut words before after host left returned (Err e) answers events)
+  abbrev pub RunsToEnd : (List Event → List Block → Type 0) → List ℕ → Moment → Moment → HostSide T → HostSide T → Result (List ℕ) Error → List Answer → List Event → Type 0
+  RunsToEnd Lives words before after host left (Ok returned) answers events = RunsOut Lives words before after host left returned (Ok tt) answers events
+  RunsToEnd Lives words before after host left (Err e) answers events =
+      MayRun gives callee limits Lives words before after host left (Err e) answers events ⊎ ((returned : List ℕ) × RunsOut Lives words before after host left returned (Err e) answers events)
 
 -- ---- after the scope ended
 
@@ -302,21 +306,23 @@ RestCause its callee limits before after events tail e = AskCause callee limits 
 
 module _ {T R : Type 0} (its : ReturnedValues R) (gives : Giving T) (callee : Callee) (limits : Limits) where
   -- the host from the start on, after these turns
-  abbrev pub RestPasses : List ℕ → List Answer → Option Trap → HostSide T → HostSide T → Result R Error → List Event → Type 0
-  RestPasses memory2 late trap served left (Ok results) tail = Each (OnReturn (λ words m. Concludes its callee words m results served.ledger left.ledger)) tail × (left ≡ record served { ledger = left.ledger })
-  RestPasses memory2 late trap served left (Err e) tail = StopsStartedOf its gives callee limits.fuel e memory2 late trap served left tail
+  abbrev pub RestPasses : List Block → List ℕ → List Answer → Option Trap → HostSide T → HostSide T → Result R Error → List Event → Type 0
+  RestPasses live memory2 late trap served left (Ok results) tail = Each (OnReturn (λ words m. Concludes its callee words m results served.ledger left.ledger)) tail × (left ≡ record served { ledger = left.ledger })
+  RestPasses live memory2 late trap served left (Err e) tail = StopsStartedOf its gives callee limits.fuel e live memory2 late trap served left tail
 
   -- A callee was started with these words at the moment `before`, was served in these turns, what it returned was lifted with this fuel,
   -- and post-return was run.
-  pub record IsRest (Leaves : List ℕ → List ℕ → Type 0) (words : List ℕ) (before after : Moment) (host left : HostSide T) (answer : Result R Error) (answers : List Answer) (events : List Event) : Type 0 where
+  pub record IsRest (Lives : List Event → List Block → Type 0) (Leaves : List ℕ → List ℕ → Type 0) (words : List ℕ) (before after : Moment) (host left : HostSide T) (answer : Result R Error) (answers : List Answer) (events : List Event) : Type 0 where
     pub one_run : OnOk answer (IsOneRun callee.func callee.post events)
     pub prefix : (len : ℕ) → IsPrefixOfRun callee.func callee.post len events
     pub turns : List AskTurn
+    pub late_live : List Block
     pub late : List Answer
     pub late_trap : Option Trap
     pub tail : List Event
     pub answers_are : answers ≡ answers_in turns ++ late
     pub starts : MayStart callee.func turns late late_trap tail events
+    pub lived : IsSome before.guest.journal → AsksLive Lives turns late_live tail events
     pub asks : answer ≢ Err error.TurnsExhausted → asks_in events ≤ limits.turns
     pub grows : Grows (length before.bytes) events (length after.bytes)
     pub start : Each (OnStart (λ ws m. (ws ≡ words) × (m ≡ before.bytes))) events
@@ -325,7 +331,7 @@ module _ {T R : Type 0} (its : ReturnedValues R) (gives : Giving T) (callee : Ca
     pub leaves : OnOk answer (Each (OnReturn (λ ws m. Left Leaves callee.post m after.bytes)) events)
     pub started : answer ≢ Err (error.Fault fault.OutOfMemory) → ¬ Each IsNoStart events
     pub returned : answer ≢ Err (error.Fault fault.OutOfMemory) → Each IsNoPost events → Each (OnReturn (λ ws m. after.bytes ≡ m)) events
-    pub handles : AfterTurns gives callee limits.fuel turns host (λ served. RestPasses after.bytes late late_trap served left answer tail)
+    pub handles : AfterTurns gives callee limits.fuel turns host (λ served. RestPasses late_live after.bytes late late_trap served left answer tail)
     pub cause : IfErr answer (RestCause its callee limits before after events tail)
     pub valid : AllLawful late → IfErr answer IsUnrefused → ¬ EndsIn IsTrap events → asks_in events ≤ limits.turns
         → Each (OnReturn (λ ws m. its.represent ws m limits.fuel)) events

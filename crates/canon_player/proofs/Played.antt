@@ -5,10 +5,13 @@ use Rattle.std.specs.Vec.{with_items}
 use Rattle.std.specs.declared.alloc.Global.{Global}
 use Rattle.std.proofs.lemmas.List.{length-map, with_items_is}
 use Rattle.std.proofs.lemmas.Option.{none-some}
-use Rattle.canon_host.specs.HostSide.{HostSide, host_side}
+use Rattle.canon_func.proofs.Turns.{asks_after}
+use Rattle.canon_func.specs.Asks.{Limits}
+use Rattle.canon_model.specs.Memory.{Block}
+use Rattle.canon_host.specs.HostSide.{Giving, HostSide, host_side}
 use Rattle.canon_imports.specs.Imports.{GivesAnswers, entries_of}
 use Rattle.canon_memory.specs.declared.event.Event.{Event}
-use Rattle.canon_memory.specs.Guest.{Recorded, Seen, of_guest}
+use Rattle.canon_memory.specs.Guest.{Moment, Recorded, Seen, of_guest}
 use Rattle.canon_scripted.specs.declared.actions.Action.{Action}
 use Rattle.canon_scripted.specs.declared.orders.Ordered.{Ordered}
 use Rattle.canon_scripted.specs.Allocator.{Allocator}
@@ -17,7 +20,7 @@ use Rattle.canon_context.specs.Core.{Parts, guest_of, moment_of}
 use Rattle.canon_context.specs.declared.fault.Fault.TheVariants as fault
 use Rattle.canon_val.specs.declared.val.Val.{Val}
 use Rattle.canon_types.specs.Refusal.{first_error}
-use Rattle.canon_func.specs.Call.{Adding, IsCall, IsCallOf, OnAnswered, dynamic, dynamic_results, refusal, refused_by, with_results}
+use Rattle.canon_func.specs.Call.{Adding, IsCall, IsCallOf, LivesAfter, OnAnswered, dynamic, dynamic_results, refusal, refused_by, with_results}
 use Rattle.canon_func.specs.Passing.{Arguments, ReturnedValues}
 use Rattle.canon_func.specs.Typed.{done_by}
 use Rattle.canon_func.specs.Stores.{Callee, Named, callee_of}
@@ -30,7 +33,7 @@ use Rattle.canon_transcript.specs.declared.transcript.Answer.{Answer}
 use Rattle.canon_transcript.specs.declared.transcript.Answer.TheVariants as answer
 use Rattle.canon_transcript.specs.declared.transcript.Head.TheVariants as head
 use Rattle.canon_transcript.specs.declared.transcript.Record.{Record}
-use Rattle.canon_player.specs.Session.{Called, Idle, IsEnd, LeavesSame, State, Tells, Themselves, WasCalled, answer_values, entry_view, host_side_of, answer_outcome, plan_of, plan_with, served_view}
+use Rattle.canon_player.specs.Session.{Called, Idle, IsEnd, LeavesSame, LivesBy, State, Tells, Themselves, WasCalled, answer_values, entry_view, host_side_of, answer_outcome, plan_of, plan_with, served_view}
 use Rattle.canon_player.specs.Steps.{CallsOnce}
 use Rattle.canon_player.specs.Session as session
 use Rattle.canon_player.specs.Stores.{ScriptStore, answers_of, callee_at, limits_of, state_of, with_plan}
@@ -84,15 +87,58 @@ told_error Told e answer.Skipped h = absurd h
 abbrev pub journaled : Recorded Doing → Seen
 journaled j = record (seen_of j.guest) { journal = Some j.events; shortages = j.shortages }
 
+-- the blocks that live in the guest of a store that did these events
+abbrev pub EnteredLives : ScriptStore → List Event → List Block → Type 0
+EnteredLives loaded = LivesAfter journaled (λ j events k. ScriptMoves (of_guest j) events (of_guest k)) (guest_of loaded.core)
+
 -- what a store has beside its guest
 abbrev pub side_of : ScriptStore → HostSide (Unit {0})
 side_of s = host_side s.core (Some (entries_of s.imports.lines.items)) s.imports.refusals
+
+-- ---- the blocks that lived
+
+-- a call, said of other blocks that may live
+lives_as : {T R : Type 0} (args : Arguments) (its : ReturnedValues R) (P Q : List Event → List Block → Type 0) (Leaves : List ℕ → List ℕ → Type 0) (gives : Giving T) (callee : Callee) (limits : Limits) (before after : Moment) (host left : HostSide T)
+    (called : Result R Error) (events : List Event) → ((es : List Event) (live : List Block) → P es live → Q es live) → IsCallOf args its P Leaves gives callee limits before after host left called events
+    → IsCallOf args its Q Leaves gives callee limits before after host left called events
+lives_as args its P Q Leaves gives callee limits before after host left called events f h = record {
+  one_run = h.one_run;
+  prefix = h.prefix;
+  advances = h.advances;
+  grows = h.grows;
+  answers = h.answers;
+  trap = h.trap;
+  later = h.later;
+  in_parts = h.in_parts;
+  turns = h.turns;
+  late_live = h.late_live;
+  late = h.late;
+  late_trap = h.late_trap;
+  tail = h.tail;
+  starts = h.starts;
+  lived = λ told. asks_after P Q [] f h.turns h.late_live h.tail events (h.lived told);
+  asks = h.asks;
+  accepted = h.accepted;
+  marks = h.marks;
+  requested = h.requested;
+  quiet = h.quiet;
+  given = h.given;
+  handles = h.handles;
+  start = h.start;
+  only_results = h.only_results;
+  posted = h.posted;
+  leaves = h.leaves;
+  unstarted = h.unstarted;
+  returned = h.returned;
+  cause = h.cause;
+  valid = h.valid;
+}
 
 -- what the call ensures once the guest was entered
 abbrev pub Entered : {R : Type 0} → Arguments → ReturnedValues R → Callee → ScriptStore → ScriptStore → Result R Error → Type 0
 Entered args its callee loaded left called = Adding (moment_of journaled loaded.core) (moment_of journaled left.core)
     (λ events. OnAnswered called (ScriptMoves (of_guest (guest_of loaded.core)) events (of_guest (guest_of left.core))))
-    (λ events. IsCallOf args its LeavesSame (GivesAnswers (answers_of loaded)) callee (limits_of loaded) (moment_of journaled loaded.core) (moment_of journaled left.core) (side_of loaded) (side_of left) called events)
+    (λ events. IsCallOf args its (EnteredLives loaded) LeavesSame (GivesAnswers (answers_of loaded)) callee (limits_of loaded) (moment_of journaled loaded.core) (moment_of journaled left.core) (side_of loaded) (side_of left) called events)
 
 -- what became of a call, where it was refused before the guest was entered or not
 abbrev pub Became : {R : Type 0} → Arguments → ReturnedValues R → (R → List Val → Type 0) → Callee → (Allocator → Plan) → ScriptStore → ScriptStore → Record → Option Error → Type 0
@@ -112,7 +158,7 @@ module _ {R : Type 0} (args : Arguments) (its : ReturnedValues R) (Told : R → 
 
   -- the call, by the events before it, those that are printed after it, and the events that it added
   abbrev Calls : List Event → List Event → List Event → Type 0
-  Calls earlier later added = IsCallOf args its LeavesSame (GivesAnswers (answers_of s)) callee (limits_of s) (session.moment_with_events (state_of s) earlier) (session.moment_with_events (state_of left) later)
+  Calls earlier later added = IsCallOf args its (LivesBy (plan s.core.guest.guest.plan.allocator) (length s.core.memory)) LeavesSame (GivesAnswers (answers_of s)) callee (limits_of s) (session.moment_with_events (state_of s) earlier) (session.moment_with_events (state_of left) later)
       (host_side_of (state_of s)) (host_side_of (state_of left)) called added
 
   was_called : s.trapped ≡ false → Entered args its callee loaded left called → OnOk called (left.trapped ≡ s.trapped) → OnErr called (left.trapped ≡ true)
@@ -122,7 +168,11 @@ module _ {R : Type 0} (args : Arguments) (its : ReturnedValues R) (Told : R → 
       let after = state_of left in
       let gained : left.core.guest.events ≡ s.core.guest.events ++ entered.events = ap (λ o. unwrap_or o []) entered.added in
       let all : r.events ≡ entered.events = events ∙ (gained ∙ ap (λ (es : List Event). es ++ entered.events) empty) in
-      let one : Calls [] left.core.guest.events entered.events = subst (λ (es : List Event). Calls es left.core.guest.events entered.events) empty entered.so in
+      let so : Calls s.core.guest.events left.core.guest.events entered.events =
+      lives_as args its (EnteredLives loaded) (LivesBy (plan s.core.guest.guest.plan.allocator) (length s.core.memory)) LeavesSame (GivesAnswers (answers_of s)) callee (limits_of s)
+      (session.moment_with_events before s.core.guest.events) (session.moment_with_events after left.core.guest.events) (host_side_of before) (host_side_of after) called entered.events
+      (λ es live (g, does, is). (does.new_marks, g.guest.guest.plan, g.len, does.does, is)) entered.so in
+      let one : Calls [] left.core.guest.events entered.events = subst (λ (es : List Event). Calls es left.core.guest.events entered.events) empty so in
       let two : Calls [] r.events entered.events = subst (λ (es : List Event). Calls [] es entered.events) (sym events) one in
       let moved : ScriptMoves (of_guest (guest_of loaded.core)) entered.events (of_guest (guest_of left.core)) = on_answered called _ short (entered.moves refl) in
       record {
@@ -130,7 +180,7 @@ module _ {R : Type 0} (args : Arguments) (its : ReturnedValues R) (Told : R → 
         told = told;
         called = subst (λ (es : List Event). Calls [] r.events es) (sym all) two;
         served = served_logs s.imports.lines.items left.imports.lines.items r.served.items asked
-            (call_logged args its (GivesAnswers (answers_of s)) callee s.core.fuel one.turns left.core.memory one.late one.late_trap (host_side_of before) (host_side_of after)
+            (call_logged args its (GivesAnswers (answers_of s)) callee s.core.fuel one.turns one.late_live left.core.memory one.late one.late_trap (host_side_of before) (host_side_of after)
             one.given called entered.events one.tail before.log refl one.handles) lines serves;
         left = left.core.guest.guest.plan;
         new_marks = moved.new_marks;
@@ -217,7 +267,7 @@ on_answered_with (Err e) results P p = p
 abbrev pub EnteredWith : Callee → List Val → ScriptStore → ScriptStore → Result (Unit {0}) Error → List Val → Type 0
 EnteredWith callee params loaded left called results = Adding (moment_of journaled loaded.core) (moment_of journaled left.core)
     (λ events. OnAnswered called (ScriptMoves (of_guest (guest_of loaded.core)) events (of_guest (guest_of left.core))))
-    (λ events. IsCall LeavesSame (GivesAnswers (answers_of loaded)) callee (limits_of loaded) params (moment_of journaled loaded.core) (moment_of journaled left.core) (side_of loaded) (side_of left) called results events)
+    (λ events. IsCall (EnteredLives loaded) LeavesSame (GivesAnswers (answers_of loaded)) callee (limits_of loaded) params (moment_of journaled loaded.core) (moment_of journaled left.core) (side_of loaded) (side_of left) called results events)
 
 entered_with : (callee : Callee) (params : List Val) (before left : ScriptStore) (called : Result (Unit {0}) Error) (results : List Val) → EnteredWith callee params before left called results
     → Entered (dynamic callee params) (dynamic_results callee) callee before left (with_results called results)

@@ -1,5 +1,6 @@
 -- What a script, played, leaves: one record for each item, in order, and the store between them.
 use Rattle.std.specs.Prelude.{Bool, Err, List, None, Ok, Option, Result, Some, [], false, is_err, length, map, nat_lt, not, replicate, slice_get, true, ℕ, ⊤, ◌⊎◌, ◌++◌, ◌∷◌, ◌≡◌, ◌≢◌, ◌||◌}
+use Rattle.canon_model.specs.Memory.{Block}
 use Rattle.canon_model.specs.Shape.{no_members}
 use Rattle.canon_indices.specs.Options.{encoding_of}
 use Rattle.canon_types.specs.Instance.{Instance}
@@ -196,6 +197,10 @@ pub record Logs (before after : List LoggedEntry) (served : List Served) : Type 
 abbrev pub LeavesSame : List ℕ → List ℕ → Type 0
 LeavesSame memory after = after ≡ memory
 
+-- These blocks live in a guest that had this plan, in a memory of so many bytes, and acted by it so far.
+abbrev pub LivesBy : Plan → ℕ → List Event → List Block → Type 0
+LivesBy plan len events live = (new_marks : List Mark) × (left : Plan) × (last : ℕ) × CarriesOut plan len events new_marks left last × (left.allocator.live ≡ live)
+
 -- The guest was entered, and acted by its plan in its memory, from the length before to the length after; its traps are counted;
 -- the asks and the results were within these limits; the store is trapped where the call was refused. After an answer that is Ok, memory is
 -- that of the return; after a refusal nothing reads its bytes, since every later call is refused. The memory that the run has
@@ -205,7 +210,7 @@ pub record WasCalled {R : Type 0} (args : Arguments) (its : ReturnedValues R) (T
     (before after : State) (r : Record) : Type 0 where
   pub ended : Result R Error
   pub told : Tells Told ended r.answer
-  pub called : IsCallOf args its LeavesSame (GivesAnswers answers) callee limits (moment_with_events before []) (moment_with_events after r.events) (host_side_of before) (host_side_of after) ended r.events
+  pub called : IsCallOf args its (LivesBy (plan before.allocator) (length before.memory)) LeavesSame (GivesAnswers answers) callee limits (moment_with_events before []) (moment_with_events after r.events) (host_side_of before) (host_side_of after) ended r.events
   pub served : Logs before.log after.log r.served.items
   pub left : Plan
   pub new_marks : List Mark

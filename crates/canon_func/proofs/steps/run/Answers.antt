@@ -3,7 +3,7 @@ use Rattle.canon_memory.specs.declared.event.Event.{Event}
 use Rattle.canon_context.specs.Core.{guest_of, moment_of}
 use Rattle.canon_host.specs.HostSide.{host_side}
 use Rattle.canon_func.specs.Asks.{allowed}
-use Rattle.canon_func.specs.Call.{OnAnswered}
+use Rattle.canon_func.specs.Call.{LivesAfter, OnAnswered}
 use Rattle.canon_func.specs.Steps.{Ended, RunsToEnd, Serving}
 use Rattle.canon_func.specs.Stores.{export_callee}
 use Rattle.canon_func.proofs.Composed.{answers, run_ended, run_unended}
@@ -26,9 +26,9 @@ returns-in-Ok-end_scope-clause-did g c =
     let ran = host_side mid (imports.log j) (imports.refusals j) in
     let M : List Event → Type 0 = λ es. OnAnswered {T = List ℕ} (Ok returned) (moves (guest_of before) es (guest_of mid)) in
     subst (λ k. Serving (moment_of seen before) (moment_of seen k) (λ es. OnAnswered {T = List ℕ} (Ok returned) (moves (guest_of before) es (guest_of k)))
-    (RunsToEnd (imports.gives (imports.plan i)) callee limits c.args.words.now (moment_of seen before) (moment_of seen k) host (host_side k (imports.log j) (imports.refusals j)) (Ok returned)))
+    (RunsToEnd (imports.gives (imports.plan i)) callee limits (LivesAfter seen moves (guest_of before)) c.args.words.now (moment_of seen before) (moment_of seen k) host (host_side k (imports.log j) (imports.refusals j)) (Ok returned)))
     (sym c.end_scope.ensures.same)
-    (run_ended (imports.gives (imports.plan i)) callee limits c.args.words.now (moment_of seen before) (moment_of seen mid) host ran (record ran { ledger = after.ledger }) refl returned M M (λ es h. h)
+    (run_ended (imports.gives (imports.plan i)) callee limits (LivesAfter seen moves (guest_of before)) c.args.words.now (moment_of seen before) (moment_of seen mid) host ran (record ran { ledger = after.ledger }) refl returned M M (λ es h. h)
     (subst (λ k. Ended (export_callee k.component c.args.export.now) returned mid.ledger after.ledger (Ok tt)) c.run_core.ensures.same
     (subst (λ ws. Ended (export_callee mid.component c.args.export.now) ws mid.ledger after.ledger (Ok tt)) c.as_slice.ensures c.in-Ok-end_scope.ensures.ended)) c.in-Ok.ensures.did)
 
@@ -51,9 +51,9 @@ returns-in-Err-end_scope-clause-did g c =
     let M : List Event → Type 0 = λ es. OnAnswered {T = List ℕ} (Ok returned) (moves (guest_of before) es (guest_of mid)) in
     let N : List Event → Type 0 = λ es. OnAnswered {T = List ℕ} (Err e) (moves (guest_of before) es (guest_of mid)) in
     subst (λ k. Serving (moment_of seen before) (moment_of seen k) (λ es. OnAnswered {T = List ℕ} (Err e) (moves (guest_of before) es (guest_of k)))
-    (RunsToEnd (imports.gives (imports.plan i)) callee limits c.args.words.now (moment_of seen before) (moment_of seen k) host (host_side k (imports.log j) (imports.refusals j)) (Err e)))
+    (RunsToEnd (imports.gives (imports.plan i)) callee limits (LivesAfter seen moves (guest_of before)) c.args.words.now (moment_of seen before) (moment_of seen k) host (host_side k (imports.log j) (imports.refusals j)) (Err e)))
     (sym c.end_scope.ensures.same)
-    (run_unended (imports.gives (imports.plan i)) callee limits c.args.words.now (moment_of seen before) (moment_of seen mid) host ran (record ran { ledger = after.ledger }) refl returned e M N
+    (run_unended (imports.gives (imports.plan i)) callee limits (LivesAfter seen moves (guest_of before)) c.args.words.now (moment_of seen before) (moment_of seen mid) host ran (record ran { ledger = after.ledger }) refl returned e M N
     (λ es h. answers {T = List ℕ} (Err e) (moves (guest_of before) es (guest_of mid)) h)
     (subst (λ k. Ended (export_callee k.component c.args.export.now) returned mid.ledger after.ledger (Err e)) c.run_core.ensures.same
     (subst (λ ws. Ended (export_callee mid.component c.args.export.now) ws mid.ledger after.ledger (Err e)) c.as_slice.ensures c.in-Err-end_scope.ensures.ended)) c.in-Ok.ensures.did)
