@@ -290,8 +290,9 @@ pub record Advances (before after : Moment) : Type 0 where
 abbrev pub LivesAfter : {G : Type 0} → (G → Seen) → (GuestIn G → List Event → GuestIn G → Type 0) → GuestIn G → List Event → List Block → Type 0
 LivesAfter {G} seen moves before events live = (g : GuestIn G) × moves before events g × ((seen g.guest).live ≡ live)
 
--- A call that wasn't refused before the guest was entered, by its parameters, what its results are, which blocks may live after events, what
--- a post-return may make of memory, what functions of the host may give, its callee, what it may use, the moments and the host before and after, its answer and the events that it adds to an exposed journal.
+-- A call that wasn't refused before the guest was entered, by its parameters, what its results are, which blocks may live after its events so
+-- far, what a post-return may leave, what functions of the host may give, its callee, what it may use, the moments and the host before and
+-- after, its answer and the events that it adds to an exposed journal.
 pub record IsCallOf {T R : Type 0} (args : Arguments) (its : ReturnedValues R) (Lives : List Event → List Block → Type 0) (Leaves : List ℕ → List ℕ → Type 0) (gives : Giving T) (callee : Callee) (limits : Limits) (before after : Moment) (host left : HostSide T) (answer : Result R Error) (events : List Event) : Type 0 where
   -- The guest made one run; of a refused call the events are a prefix of one.
   pub one_run : OnOk answer (IsOneRun callee.func callee.post events)

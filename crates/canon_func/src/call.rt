@@ -34,7 +34,8 @@ pub(crate) fn call_core<T, G: Guest, I: Imports<T, G>, P: Params, R: Results>(
     requires results { R.fit core.old.component export.now }
     ensures call { Adding (moment_of G.seen core.old) (moment_of G.seen core.new)
         (λ events. OnAnswered result (G.moves (guest_of core.old) events (guest_of core.new)))
-        (λ events. IsCallOf (P.args params.old (export_callee core.old.component export.now)) (R.returns (export_callee core.old.component export.now) export.now.options core.old.id) (LivesAfter G.seen G.moves (guest_of core.old)) G.leaves (I.gives (I.plan imports.old))
+        (λ events. IsCallOf (P.args params.old (export_callee core.old.component export.now)) (R.returns (export_callee core.old.component export.now) export.now.options core.old.id)
+        (LivesAfter G.seen G.moves (guest_of core.old)) G.leaves (I.gives (I.plan imports.old))
         (export_callee core.old.component export.now) (allowed core.old.fuel turns) (moment_of G.seen core.old) (moment_of G.seen core.new)
         (host_side core.old (I.log imports.old) (I.refusals imports.old)) (host_side core.new (I.log imports.new) (I.refusals imports.new)) (map_ok R.out result) events) }
     ensures late { IfErr result IsLate }
@@ -65,7 +66,8 @@ fn call_in_scope<T, G: Guest, I: Imports<T, G>, P: Params, R: Results>(
     ensures call { Adding (moment_of G.seen core.old) (moment_of G.seen core.new)
         (λ events. OnAnswered result (G.moves (guest_of core.old) events (guest_of core.new)))
         (λ events. (before : LedgerState) → enter before ≡ core.old.ledger
-        → IsCallOf (P.args params.old (export_callee core.old.component export.now)) (R.returns (export_callee core.old.component export.now) export.now.options core.old.id) (LivesAfter G.seen G.moves (guest_of core.old)) G.leaves (I.gives (I.plan imports.old))
+        → IsCallOf (P.args params.old (export_callee core.old.component export.now)) (R.returns (export_callee core.old.component export.now) export.now.options core.old.id)
+        (LivesAfter G.seen G.moves (guest_of core.old)) G.leaves (I.gives (I.plan imports.old))
         (export_callee core.old.component export.now) (allowed core.old.fuel turns) (moment_of G.seen core.old) (moment_of G.seen core.new)
         (host_side (record core.old { ledger = before }) (I.log imports.old) (I.refusals imports.old)) (host_side core.new (I.log imports.new) (I.refusals imports.new)) (map_ok R.out result) events) }
     ensures late { IfErr result IsLate }

@@ -168,7 +168,8 @@ impl Func {
         // From then on.
         ensures call { IsNone (refused_by result) → Adding (moment_of G.seen store.old.core) (moment_of G.seen store.new.core)
             (λ events. OnAnswered result (G.moves (guest_of store.old.core) events (guest_of store.new.core)))
-            (λ events. IsCall (LivesAfter G.seen G.moves (guest_of store.old.core)) G.leaves (I.gives (I.plan store.old.imports)) (callee_of store.old self.now) (allowed store.old.core.fuel store.old.turns) params.now (moment_of G.seen store.old.core) (moment_of G.seen store.new.core)
+            (λ events. IsCall (LivesAfter G.seen G.moves (guest_of store.old.core)) G.leaves (I.gives (I.plan store.old.imports))
+            (callee_of store.old self.now) (allowed store.old.core.fuel store.old.turns) params.now (moment_of G.seen store.old.core) (moment_of G.seen store.new.core)
             (host_side store.old.core (I.log store.old.imports) (I.refusals store.old.imports)) (host_side store.new.core (I.log store.new.imports) (I.refusals store.new.imports)) result results.new events) }
         ensures trapped { IsNone (refused_by result) → OnErr result (store.new.trapped ≡ true) }
 

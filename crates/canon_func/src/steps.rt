@@ -74,7 +74,8 @@ pub(crate) fn run<T, G: Guest, I: Imports<T, G>>(
     requires inside { IsInside core.old.component export.now }
     ensures did { Serving (moment_of G.seen core.old) (moment_of G.seen core.new)
         (λ events. OnAnswered result (G.moves (guest_of core.old) events (guest_of core.new)))
-        (λ answers events. RunsToEnd (I.gives (I.plan imports.old)) (export_callee core.old.component export.now) (allowed core.old.fuel turns) (LivesAfter G.seen G.moves (guest_of core.old)) words.now (moment_of G.seen core.old) (moment_of G.seen core.new)
+        (λ answers events. RunsToEnd (I.gives (I.plan imports.old)) (export_callee core.old.component export.now) (allowed core.old.fuel turns)
+        (LivesAfter G.seen G.moves (guest_of core.old)) words.now (moment_of G.seen core.old) (moment_of G.seen core.new)
         (host_side core.old (I.log imports.old) (I.refusals imports.old)) (host_side core.new (I.log imports.new) (I.refusals imports.new)) result answers events) }
     ensures same { SameButHost core.old core.new }
     ensures plan { I.plan imports.new ≡ I.plan imports.old }

@@ -77,7 +77,8 @@ impl<P: ComponentNamedList + Lower, R: ComponentNamedList + Lift> TypedFunc<P, R
         ensures call { IsNone (refused_by (done_by result)) → Adding (moment_of G.seen store.old.core) (moment_of G.seen store.new.core)
             (λ events. OnAnswered result (G.moves (guest_of store.old.core) events (guest_of store.new.core)))
             (λ events. IsCallOf (typed_args (P.walks params) (P.gives store.old.core.component.types (params_shape (callee_of store.old self.now.func)) params) (callee_of store.old self.now.func))
-            (typed_results R.reading (options_in store.old self.now.func) store.old.core.id (callee_of store.old self.now.func)) (LivesAfter G.seen G.moves (guest_of store.old.core)) G.leaves (I.gives (I.plan store.old.imports)) (callee_of store.old self.now.func)
+            (typed_results R.reading (options_in store.old self.now.func) store.old.core.id (callee_of store.old self.now.func))
+            (LivesAfter G.seen G.moves (guest_of store.old.core)) G.leaves (I.gives (I.plan store.old.imports)) (callee_of store.old self.now.func)
             (allowed store.old.core.fuel store.old.turns) (moment_of G.seen store.old.core) (moment_of G.seen store.new.core)
             (host_side store.old.core (I.log store.old.imports) (I.refusals store.old.imports)) (host_side store.new.core (I.log store.new.imports) (I.refusals store.new.imports)) result events) }
         ensures trapped { IsNone (refused_by (done_by result)) → OnErr result (store.new.trapped ≡ true) }
