@@ -1,6 +1,6 @@
 -- Views of cases, by what a look-up gives.
 use Rattle.std.proofs.Common.{◌≡◌, ◌≤◌, ◌<◌, ◌∙◌, ◌^◌, All, Bool, Err, List, None, Ok, Option, Some, String, [], ◌∷◌, ap}
-use Rattle.std.proofs.Common.{arith, false, get_or, inl, length, map, refl, slice_get, string_bytes, if◌then◌else◌, subst, suc, sym, true, zero, not, ℕ}
+use Rattle.std.proofs.Common.{arith, false, get_or, length, map, refl, slice_get, string_bytes, if◌then◌else◌, subst, suc, sym, true, zero, not, ℕ}
 use Rattle.std.specs.Prelude.{Box, position}
 use Rattle.std.specs.List.{position_or_len}
 use Rattle.std.specs.Map.{keys_of}

@@ -1,4 +1,4 @@
-use Rattle.std.proofs.Common.{[], ◌≡◌, ◌∙◌, ◌∷◌, None, Some, ap, arith, inl, refl, subst}
+use Rattle.std.proofs.Common.{[], ◌≡◌, ◌∙◌, ◌∷◌, None, Some, ap, arith, refl, subst}
 use Rattle.canon_abi.specs.Abi.{HasInfo}
 use Rattle.canon_model.specs.Shape.{Shape, of_option, option_of}
 use Rattle.canon_types.specs.Depth.{variant_cases}

@@ -1,4 +1,4 @@
-use Rattle.std.proofs.Common.{◌≡◌, Option, arith, inl, refl, subst, sym, ℕ}
+use Rattle.std.proofs.Common.{◌≡◌, Option, subst, sym, ℕ}
 use Rattle.std.specs.Borrow.{Bor}
 use Rattle.canon_model.specs.Shape.{result_of}
 use Rattle.canon_types.specs.Table.{all_shapes, payload_in, shape_of}

@@ -1,4 +1,4 @@
-use Rattle.std.proofs.Common.{◌≡◌, Option, String, arith, inl, map, refl, string_bytes, sym}
+use Rattle.std.proofs.Common.{◌≡◌, Option, String, arith, map, string_bytes, sym}
 use Rattle.std.specs.declared.alloc.Global.{Global}
 use Rattle.canon_model.specs.Shape.{variant_of}
 use Rattle.canon_types.specs.Table.{all_shapes, cases_in, shape_of}

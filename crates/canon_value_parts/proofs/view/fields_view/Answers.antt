@@ -1,4 +1,4 @@
-use Rattle.std.proofs.Common.{◌≡◌, ◌∙◌, arith, ap, inl, length, refl}
+use Rattle.std.proofs.Common.{◌≡◌, ◌∙◌, arith, ap, length, refl}
 use Rattle.canon_model.specs.Shape.{member_count, of_fields, product}
 use Rattle.canon_types.specs.Depth.{product_members}
 use Rattle.canon_types.specs.Table.{shape_of}

@@ -1,4 +1,4 @@
-use Rattle.std.proofs.Common.{◌≡◌, arith, ap, inl, length, refl, sym}
+use Rattle.std.proofs.Common.{◌≡◌, arith, ap, length, refl, sym}
 use Rattle.canon_model.specs.Shape.{fixed}
 use Rattle.canon_types.specs.Table.{shape_of}
 use Rattle.canon_types.specs.declared.types.InterfaceType.TheVariants as ty

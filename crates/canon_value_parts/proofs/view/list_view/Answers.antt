@@ -1,4 +1,4 @@
-use Rattle.std.proofs.Common.{arith, inl, refl}
+use Rattle.std.proofs.Common.{refl}
 use Rattle.canon_model.specs.Shape.{list, of_items}
 use Rattle.canon_types.specs.Table.{shape_of}
 use Rattle.canon_types.specs.declared.types.InterfaceType.TheVariants as ty

@@ -1,4 +1,4 @@
-use Rattle.std.proofs.Common.{◌≡◌, arith, ap, inl, length, refl}
+use Rattle.std.proofs.Common.{◌≡◌, arith, ap, length, refl}
 use Rattle.canon_model.specs.Shape.{member_count, of_places, product}
 use Rattle.canon_types.specs.Table.{shape_of, tuple_members, types_of}
 use Rattle.canon_types.specs.declared.types.InterfaceType.TheVariants as ty

@@ -1,4 +1,4 @@
-use Rattle.std.proofs.Common.{arith, refl}
+use Rattle.std.proofs.Common.{refl}
 use Rattle.canon_model.specs.Shape.{scalar}
 use Rattle.canon_types.specs.Table.{shape_of}
 use Rattle.canon_value_parts.specs.Fails.{mismatch}
