@@ -2,13 +2,13 @@
 use Rattle.std.specs.Prelude.{ℕ, ◌+◌, ◌≤◌, ◌≡◌, Result, Ok, Err}
 use Rattle.canon_memory.specs.declared.error.GuestFault.{GuestFault}
 use Rattle.canon_memory.specs.declared.error.GuestFault.TheVariants as fault
-use Rattle.canon_scripted.specs.Scripted.{raised}
+use Rattle.canon_scripted.specs.Scripted.{raised_count}
 use Rattle.canon_example_guests.specs.declared.arena.Arena.{Arena}
 
 -- a fault counts once, and nothing else changes
 abbrev pub Counts : GuestFault → Arena → Arena → Type 0
-Counts fault.Trap before after = (after ≡ record before { traps = raised before.traps }) × (before.traps ≤ after.traps)
-Counts fault.OutOfMemory before after = (after ≡ record before { shortages = raised before.shortages }) × (before.shortages ≤ after.shortages)
+Counts fault.Trap before after = (after ≡ record before { traps = raised_count before.traps }) × (before.traps ≤ after.traps)
+Counts fault.OutOfMemory before after = (after ≡ record before { shortages = raised_count before.shortages }) × (before.shortages ≤ after.shortages)
 
 -- an answer of `start` changes nothing
 abbrev pub Starts : {T : Type 0} → Result T GuestFault → Arena → Arena → Type 0

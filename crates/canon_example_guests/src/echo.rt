@@ -27,7 +27,7 @@ impl Echo {
 
 impl Guest for Echo {
     ghost use Rattle.std.specs.Prelude.{◌≡◌, ◌≤◌, [], IfOk, OnErr, Err};
-    ghost use Rattle.canon_scripted.specs.Scripted.{raised};
+    ghost use Rattle.canon_scripted.specs.Scripted.{raised_count};
 
     ghost seen = { λ g. record { journal = None; marks = []; live = []; traps = g.traps; shortages = g.shortages } };
 
@@ -46,7 +46,7 @@ impl Guest for Echo {
         words: &[ValRaw],
     ) -> Result<Step, GuestFault>
         ensures returns { IfOk result (λ step. (step ≡ Step.Return words.now) × (self.new ≡ self.old)) }
-        ensures short { OnErr result ((result ≡ Err GuestFault.OutOfMemory) × (self.new ≡ record self.old { shortages = raised self.old.shortages })) }
+        ensures short { OnErr result ((result ≡ Err GuestFault.OutOfMemory) × (self.new ≡ record self.old { shortages = raised_count self.old.shortages })) }
         ensures counts { (self.new.traps ≡ self.old.traps) × (self.old.shortages ≤ self.new.shortages) }
         ensures memory { _memory.new ≡ _memory.old }
     {
