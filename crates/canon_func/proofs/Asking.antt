@@ -31,7 +31,7 @@ use Rattle.canon_host.specs.Asked.{row_words}
 use Rattle.canon_func.specs.AskForms.{ask_at}
 use Rattle.canon_func.specs.HostAsks.{HostStops, IsHostAsk, IsHostServed, NothingAsked, asked_error}
 use Rattle.canon_func.specs.AskValues.{asked_results}
-use Rattle.canon_func.specs.Runs.{answers_in}
+use Rattle.canon_func.specs.Runs.{Stop, answers_in}
 use Rattle.canon_func.specs.Steps.{MayRun, HostAsked, Proceeds, Resumed, Resumes, RisesAt, SameButHost, Serves, Serving, Started, Stepping, TrapsLate, ask_turn, so_far}
 use Rattle.canon_func.specs.Stores.{Callee, export_callee}
 use Rattle.canon_func.specs.declared.asks.Builtin.{Builtin}
@@ -41,11 +41,11 @@ use Rattle.canon_func.proofs.FormLaws.{form_sound}
 use Rattle.canon_func.proofs.HostStopped.{host_tells}
 use Rattle.canon_func.proofs.Turns.{asked_none, done_is, marks_then, ran_exhausted, ran_refused, ran_returned, told_after}
 
-module _ {T : Type 0} (gives : Giving T) (callee : Callee) (limits : Limits) (Lives : List Event → List Block → Type 0) (words : List ℕ) (before : Moment) (host : HostSide T) where
+module _ {T : Type 0} (gives : Giving T) (callee : Callee) (limits : Limits) (Lives : List Stop → List Event → Type 0) (words : List ℕ) (before : Moment) (host : HostSide T) where
   -- it wasn't started, or trapped at once
-  start_failed : (now : Moment) (e : Error) (events : List Event) → length before.bytes ≤ length now.bytes → Started callee.func words before now (Err e) events → MayRun gives callee limits Lives words before now host host (Err e) [] events
-  start_failed now (error.Fault fault.OutOfMemory) events longer h = inl (refl, h, refl, refl)
-  start_failed now (error.Fault fault.GuestTrap) events longer (rose, are) = inr (record {
+  start_failed : (now : Moment) (e : Error) (events : List Event) → length before.bytes ≤ length now.bytes → (IsSome before.guest.journal → Lives [] events) → Started callee.func words before now (Err e) events → MayRun gives callee limits Lives words before now host host (Err e) [] events
+  start_failed now (error.Fault fault.OutOfMemory) events longer moves h = inl (refl, h, refl, refl)
+  start_failed now (error.Fault fault.GuestTrap) events longer moves (rose, are) = inr (record {
     turns = [];
     late_live = [];
     late = [];
@@ -59,53 +59,54 @@ module _ {T : Type 0} (gives : Giving T) (callee : Callee) (limits : Limits) (Li
     longer = longer;
     is = are;
     stopped = (rose, refl, (refl, refl, refl));
-    lived = λ told. (tt, tt);
+    lived = λ told. subst (λ es. Lives [] es) are (moves told);
   })
-  start_failed now e events longer h = absurd h
+  start_failed now e events longer moves h = absurd h
 
-  pub not_started : (now : Moment) (left : HostSide T) (e : Error) (M N : List Event → Type 0) → ((es : List Event) → M es → N es) → left ≡ host
-      → Proceeds before now M (Started callee.func words before now (Err e)) → Serving before now N (MayRun gives callee limits Lives words before now host left (Err e))
-  not_started now left e M N f same h = record {
+  pub not_started : (now : Moment) (left : HostSide T) (e : Error) (M : List Event → Type 0) → ((es : List Event) → M es → Lives [] es) → left ≡ host
+      → Proceeds before now M (Started callee.func words before now (Err e)) → Serving before now (Lives []) (MayRun gives callee limits Lives words before now host left (Err e))
+  not_started now left e M f same h = record {
     answers = [];
     events = h.events;
     goes = h.goes;
     moves = λ told. f h.events h.moves;
-    so = subst (λ l. MayRun gives callee limits Lives words before now host l (Err e) [] h.events) (sym same) (start_failed now e h.events h.goes.no_shorter h.so);
+    so = subst (λ l. MayRun gives callee limits Lives words before now host l (Err e) [] h.events) (sym same) (start_failed now e h.events h.goes.no_shorter (λ told. f h.events h.moves) h.so);
   }
 
-  module _ (now : Moment) (served : HostSide T) (M : List Event → Type 0) (count : ℕ) where
-    pub has_returned : (returned : List ℕ) → Stepping gives callee limits Lives words before now host served M count (step.Return returned) → count ≤ limits.turns
-        → Serving before now M (MayRun gives callee limits Lives words before now host served (Ok returned))
+  module _ (now : Moment) (served : HostSide T) (count : ℕ) where
+    pub has_returned : (returned : List ℕ) → Stepping gives callee limits Lives words before now host served count (step.Return returned) → count ≤ limits.turns
+        → Serving before now (Lives []) (MayRun gives callee limits Lives words before now host served (Ok returned))
     has_returned returned h le = record {
       answers = answers_in h.turns;
       events = so_far callee words before h.turns (event.Return returned now.bytes ∷ []);
       goes = h.goes;
       moves = h.moves;
-      so = inr (ran_returned gives callee limits Lives words before host now served M count returned h le);
+      so = inr (ran_returned gives callee limits Lives words before host now served count returned h le);
     }
 
-    pub has_exhausted : (lives : (es : List Event) → M es → Lives es now.guest.live) (index : ℕ) (asked : List ℕ) → Stepping gives callee limits Lives words before now host served M count (step.Import index asked) → count ≡ limits.turns
-        → Serving before now M (MayRun gives callee limits Lives words before now host served (Err error.TurnsExhausted))
-    has_exhausted lives index asked h all = record {
+    pub has_exhausted : (asks : (stops : List Stop) (xs : List Event) → Lives stops xs → Lives (stops ++ record { events = xs; live = now.guest.live } ∷ []) []) (index : ℕ) (asked : List ℕ)
+        → Stepping gives callee limits Lives words before now host served count (step.Import index asked) → count ≡ limits.turns → Serving before now (Lives []) (MayRun gives callee limits Lives words before now host served (Err error.TurnsExhausted))
+    has_exhausted asks index asked h all = record {
       answers = answers_in h.turns;
       events = so_far callee words before h.turns (event.Ask index asked now.bytes ∷ []);
       goes = h.goes;
       moves = h.moves;
-      so = inr (ran_exhausted gives callee limits Lives words before host now served M count lives index asked h all);
+      so = inr (ran_exhausted gives callee limits Lives words before host now served count asks index asked h all);
     }
 
   -- it wasn't served, or didn't go on
-  pub has_stopped : (now after : Moment) (served left : HostSide T) (M N O : List Event → Type 0) (told : IsSome before.guest.journal → IsSome now.guest.journal) (goes_on : (xs ys : List Event) → M xs → N ys → O (xs ++ ys))
-      (lives : (es : List Event) → M es → Lives es now.guest.live) (count index : ℕ) (asked : List ℕ) (e : Error)
-      → Stepping gives callee limits Lives words before now host served M count (step.Import index asked) → count < limits.turns → Serving now after N (Serves gives callee limits.fuel index asked now after served left (Err e))
-      → Serving before after O (MayRun gives callee limits Lives words before after host left (Err e))
-  has_stopped now after served left M N O told goes_on lives count index asked e h lt second = record {
+  pub has_stopped : (now after : Moment) (served left : HostSide T) (P : List Stop → List Event → Type 0) (N : List Event → Type 0) (told : IsSome before.guest.journal → IsSome now.guest.journal)
+      (goes_on : (xs ys : List Event) → P [] xs → N ys → Lives [] (xs ++ ys)) (asks : (stops : List Stop) (xs ys : List Event) → P stops xs → N ys → Lives (stops ++ record { events = xs; live = now.guest.live } ∷ []) ys)
+      (count index : ℕ) (asked : List ℕ) (e : Error)
+      → Stepping gives callee limits P words before now host served count (step.Import index asked) → count < limits.turns → Serving now after N (Serves gives callee limits.fuel index asked now after served left (Err e))
+      → Serving before after (Lives []) (MayRun gives callee limits Lives words before after host left (Err e))
+  has_stopped now after served left P N told goes_on asks count index asked e h lt second = record {
     answers = answers_in h.turns ++ second.answers;
     events = so_far callee words before h.turns (event.Ask index asked now.bytes ∷ []) ++ second.events;
     goes = subst (λ ms. Goes before after ms (so_far callee words before h.turns (event.Ask index asked now.bytes ∷ []) ++ second.events)) (sym (marks_then (answers_in h.turns) second.answers))
         (goes_then before now after _ _ _ second.events h.goes second.goes);
     moves = λ there. goes_on _ second.events (h.moves there) (second.moves (told there));
-    so = inr (ran_refused gives callee limits Lives words before host now after served left M N O goes_on lives count index asked e second.answers second.events h lt second.goes second.so);
+    so = inr (ran_refused gives callee limits Lives words before host now after served left P N goes_on asks count index asked e second.answers second.events h lt second.goes second.moves second.so);
   }
 
 -- ---- one step of the guest

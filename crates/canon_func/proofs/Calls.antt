@@ -24,12 +24,13 @@ use Rattle.canon_host.specs.HostSide.{Giving, HostSide}
 use Rattle.canon_func.specs.Asks.{AreServed, Limits}
 use Rattle.canon_func.specs.Call.{Accepts, AcceptsLater, Advances, AfterTurns, AskCause, AsksByTypes, Cause, IsCallOf, IsStart, lowering_ending, words_within}
 use Rattle.canon_func.specs.Passing.{Arguments, ReturnedValues}
-use Rattle.canon_func.specs.Runs.{AskTurn, Each, IsNoPost, IsTrap, OnReturn, OnStart, asks_in}
+use Rattle.canon_func.specs.Runs.{AskTurn, Each, IsNoPost, IsTrap, OnReturn, OnStart, Stop, asks_in}
 use Rattle.canon_func.specs.Steps.{IsRest, RestCause}
 use Rattle.canon_func.specs.Stores.{Callee}
 use Rattle.canon_func.specs.declared.error.Error.{Error}
 use Rattle.canon_func.specs.declared.error.Error.TheVariants as error
-use Rattle.canon_func.proofs.Turns.{asks_after, err_same, marks_then, not_ok}
+use Rattle.canon_func.proofs.Passes.{asks_after}
+use Rattle.canon_func.proofs.Turns.{err_same, marks_then, not_ok}
 use Rattle.canon_func.proofs.Prefixes.{IsEarly, answers_are, answers_early, asks_answers, each_after, each_answer, each_then, ends_after, grows_answers, grows_from, post_then, prefix_after, return_then, run_after}
 
 pub advances_then : (a b c : Moment) → Advances a b → Advances b c → Advances a c
@@ -142,7 +143,7 @@ each_start P p [] = tt
 each_start P p (event.Start f ws m ∷ events) = (p, each_start P p events)
 each_start P p (e ∷ events) = (tt, each_start P p events)
 
-module _ {T R : Type 0} (args : Arguments) (its : ReturnedValues R) (gives : Giving T) (callee : Callee) (limits : Limits) (P Q : List Event → List Block → Type 0) (Leaves : List ℕ → List ℕ → Type 0) (entry mid after : Moment) (l0 l1 l2 : HostSide T)
+module _ {T R : Type 0} (args : Arguments) (its : ReturnedValues R) (gives : Giving T) (callee : Callee) (limits : Limits) (P Q : List Stop → List Event → Type 0) (Leaves : List ℕ → List ℕ → Type 0) (entry mid after : Moment) (l0 l1 l2 : HostSide T)
     (same : l1 ≡ record l0 { ledger = l1.ledger }) (words : List ℕ) (answers : List Answer) (given : List ℕ) (later : List Event) where
   abbrev first : List Event
   first = events_of answers None
@@ -176,7 +177,8 @@ module _ {T R : Type 0} (args : Arguments) (its : ReturnedValues R) (gives : Giv
   all_marks : (more : List Answer) → mid.guest.marks ≡ entry.guest.marks ++ marks_of answers → after.guest.marks ≡ mid.guest.marks ++ marks_of more → after.guest.marks ≡ entry.guest.marks ++ marks_of (answers ++ more)
   all_marks more first second = second ∙ (ap (λ ms. ms ++ marks_of more) first ∙ (append_assoc entry.guest.marks (marks_of answers) (marks_of more) ∙ ap (λ ms. entry.guest.marks ++ ms) (sym (marks_then answers more))))
 
-  pub joined : (more : List Answer) (answer : Result R Error) → (IsSome entry.guest.journal → IsSome mid.guest.journal × ((es : List Event) (live : List Block) → P es live → Q (first ++ es) live))
+  pub joined : (more : List Answer) (answer : Result R Error) → (IsSome entry.guest.journal → IsSome mid.guest.journal × ((xs : List Event) → P [] xs → Q [] (first ++ xs))
+      × ((stop : Stop) (stops : List Stop) (xs : List Event) → P (stop ∷ stops) xs → Q (record { events = first ++ stop.events; live = stop.live } ∷ stops) xs))
       → IsReady args callee entry mid words answers given → LeavesTake (enter l0.ledger) args.parts given l1.ledger → Advances entry mid → Advances mid after
       → after.guest.marks ≡ mid.guest.marks ++ marks_of more → IsRest its gives callee limits P Leaves words mid after l1 l2 answer more later
       → IsCallOf args its Q Leaves gives callee limits entry after l0 l2 answer (events_of answers None ++ later)
@@ -195,7 +197,7 @@ module _ {T R : Type 0} (args : Arguments) (its : ReturnedValues R) (gives : Giv
     late_trap = rest.late_trap;
     tail = rest.tail;
     starts = rest.starts;
-    lived = λ told. let (there, f) = earlier told in asks_after P Q first f rest.turns rest.late_live rest.tail later (rest.lived there);
+    lived = λ told. let (there, ends, goes) = earlier told in asks_after P Q first ends goes rest.turns rest.late_live rest.tail later (rest.lived there);
     asks = λ none. at_most (asks_in (first ++ later)) (asks_in later) limits.turns asks_later (rest.asks (λ is. not_ok results error.TurnsExhausted is));
     accepted = good_later (length mid.bytes) (length after.bytes) answers on.no_shorter low.start.good;
     marks = all_marks more low.marks marks ∙ ap (λ xs. entry.guest.marks ++ marks_of (answers ++ xs)) rest.answers_are;
@@ -227,7 +229,7 @@ module _ {T R : Type 0} (args : Arguments) (its : ReturnedValues R) (gives : Giv
     late_trap = rest.late_trap;
     tail = rest.tail;
     starts = rest.starts;
-    lived = λ told. let (there, f) = earlier told in asks_after P Q first f rest.turns rest.late_live rest.tail later (rest.lived there);
+    lived = λ told. let (there, ends, goes) = earlier told in asks_after P Q first ends goes rest.turns rest.late_live rest.tail later (rest.lived there);
     asks = λ none. at_most (asks_in (first ++ later)) (asks_in later) limits.turns asks_later (rest.asks (λ is. none (ap Err (err_same {T = R} e error.TurnsExhausted is))));
     accepted = accepted_after its callee limits mid after later rest.tail answers e rest.cause (good_later (length mid.bytes) (length after.bytes) answers on.no_shorter low.start.good);
     marks = all_marks more low.marks marks ∙ ap (λ xs. entry.guest.marks ++ marks_of (answers ++ xs)) rest.answers_are;

@@ -21,13 +21,14 @@ use Rattle.canon_host.specs.Forms.{IsLawful}
 use Rattle.canon_host.specs.HostSide.{Giving, HostSide}
 use Rattle.canon_func.specs.Asks.{Limits}
 use Rattle.canon_func.specs.Call.{Adding, IsCallOf, Left, OnAnswered}
-use Rattle.canon_func.specs.Runs.{AskTurn, answers_in, events_in, posts}
+use Rattle.canon_func.specs.Runs.{AskTurn, AsksFrom, Stop, answers_in, events_in, posts}
 use Rattle.canon_func.specs.Passing.{Arguments, ReturnedValues}
 use Rattle.canon_func.specs.Steps.{Concluded, Ended, Proceeds, IsLate, IsRest, Lifted, LoweredArgs, MayRun, Posted, RunsOut, RunsToEnd, RunsUntil, RestCause, Serving, so_far}
 use Rattle.canon_func.specs.Stores.{Callee}
 use Rattle.canon_func.specs.declared.error.Error.{Error}
 use Rattle.canon_func.specs.declared.error.Error.TheVariants as error
 use Rattle.canon_func.proofs.Calls.{goes_advance, joined, ready}
+use Rattle.canon_func.proofs.Passes.{from_so, returned_more}
 use Rattle.canon_func.specs.Passed.{BlamesRightly, ReadsRightly}
 use Rattle.canon_func.proofs.Refusals.{refused_call, short_call}
 use Rattle.canon_func.proofs.Rests.{returned_rest, unended_tail}
@@ -56,87 +57,109 @@ other e = cc
 
 -- ---- from the start on
 
-module _ {T R : Type 0} (its : ReturnedValues R) (gives : Giving T) (callee : Callee) (limits : Limits) (Lives : List Event → List Block → Type 0) (Leaves : List ℕ → List ℕ → Type 0) (law : ReadsRightly callee its) (words : List ℕ) where
+module _ {T R : Type 0} (its : ReturnedValues R) (gives : Giving T) (callee : Callee) (limits : Limits) (Lives : List Stop → List Event → Type 0) (Leaves : List ℕ → List ℕ → Type 0) (law : ReadsRightly callee its) (words : List ℕ) where
   -- how the guest ran, and what came after its return
   joined_run : (before : Moment) (turns : List AskTurn) (ret : Event) (later : List Event) → so_far callee words before turns (ret ∷ []) ++ later ≡ so_far callee words before turns (ret ∷ later)
   joined_run before turns ret later = ap (λ es. event.Start callee.func words before.bytes ∷ es) (append_assoc (events_in turns) (ret ∷ []) later)
 
   -- a rest from what came after the turns, which is said of the host as the guest left it
-  rest_of_ran : (a b c : Moment) (l m l2 : HostSide T) (returned : List ℕ) (answer : Result R Error) (answers : List Answer) (xs later : List Event) (ran : RunsUntil gives callee limits Lives words a b l m (Ok returned) answers xs)
-      → IsTail its gives callee limits Leaves a c (length ran.turns) ran.len m l2 answer [] [] None (event.Return returned b.bytes ∷ later) → IsRest its gives callee limits Lives Leaves words a c l l2 answer answers (xs ++ later)
-  rest_of_ran a b c l m l2 returned answer answers xs later ran h =
+  rest_of_ran : (P : List Stop → List Event → Type 0) (a b c : Moment) (l m l2 : HostSide T) (returned : List ℕ) (answer : Result R Error) (answers : List Answer) (xs later : List Event) (ran : RunsUntil gives callee limits P words a b l m (Ok returned) answers xs)
+      → ((stops : List Stop) (es : List Event) → P stops es → Lives stops (es ++ later)) → IsTail its gives callee limits Leaves a c (length ran.turns) ran.len m l2 answer [] [] None (event.Return returned b.bytes ∷ later) → IsRest its gives callee limits Lives Leaves words a c l l2 answer answers (xs ++ later)
+  rest_of_ran P a b c l m l2 returned answer answers xs later ran f h =
       let tail : List Event = event.Return returned b.bytes ∷ later in
       let events : xs ++ later ≡ so_far callee words a ran.turns tail =
       ap (λ es. es ++ later) (ran.is ∙ ap (λ es. so_far callee words a ran.turns es) ran.stopped.0) ∙ joined_run a ran.turns (event.Return returned b.bytes) later in
       let none : answers ≡ answers_in ran.turns ++ [] = ran.answers_are ∙ ap (λ ys. answers_in ran.turns ++ ys) ran.stopped.1.0 in
       subst (λ es. IsRest its gives callee limits Lives Leaves words a c l l2 answer answers es) (sym events)
-      (rest_of_tail its gives callee limits Lives Leaves words a c l ran.served l2 ran.turns ran.len ran.asked answer [] answers [] None tail none (λ told. ((ran.lived told).0, tt))
+      (rest_of_tail its gives callee limits Lives Leaves words a c l ran.served l2 ran.turns ran.len ran.asked answer [] answers [] None tail none 
+      (λ told. returned_more P Lives later f (event.Start callee.func words a.bytes ∷ []) ran.turns ran.late_live returned b.bytes (subst (λ es. AsksFrom P (event.Start callee.func words a.bytes ∷ []) ran.turns ran.late_live es) ran.stopped.0 (ran.lived told)))
       (subst (λ (k : HostSide T). IsTail its gives callee limits Leaves a c (length ran.turns) ran.len k l2 answer [] [] None tail) ran.stopped.1.2 h))
 
   -- the guest returned, and the scope ended
-  pub run_returned : (a b c : Moment) (l m l2 : HostSide T) → l2 ≡ record m { ledger = l2.ledger } → (returned : List ℕ) (answer : Result R Error) (M N O : List Event → Type 0) → ((xs ys : List Event) → M xs → N ys → O (xs ++ ys))
-      → Serving a b M (RunsToEnd gives callee limits Lives words a b l m (Ok returned)) → Proceeds b c N (Concluded its Leaves callee limits.fuel returned b c m.ledger l2.ledger answer)
-      → Serving a c O (IsRest its gives callee limits Lives Leaves words a c l l2 answer)
-  run_returned a b c l m l2 kept returned answer M N O f first second =
+  pub run_returned : (a b c : Moment) (l m l2 : HostSide T) → l2 ≡ record m { ledger = l2.ledger } → (returned : List ℕ) (answer : Result R Error) (P : List Stop → List Event → Type 0) (N : List Event → Type 0) → ((stops : List Stop) (xs ys : List Event) → P stops xs → N ys → Lives stops (xs ++ ys))
+      → Serving a b (P []) (RunsToEnd gives callee limits P words a b l m (Ok returned)) → Proceeds b c N (Concluded its Leaves callee limits.fuel returned b c m.ledger l2.ledger answer)
+      → Serving a c (Lives []) (IsRest its gives callee limits Lives Leaves words a c l l2 answer)
+  run_returned a b c l m l2 kept returned answer P N f first second =
       let out = first.so in
       let whole : l2 ≡ record out.ran { ledger = l2.ledger } = subst (λ (k : HostSide T). l2 ≡ record k { ledger = l2.ledger }) out.kept kept in
       record {
         answers = first.answers;
         events = first.events ++ second.events;
         goes = subst (λ ms. Goes a c ms (first.events ++ second.events)) (append-nil (marks_of first.answers)) (goes_then a b c (marks_of first.answers) [] first.events second.events first.goes second.goes);
-        moves = λ told. f first.events second.events (first.moves told) second.moves;
-        so = rest_of_ran a b c l out.ran l2 returned answer first.answers first.events second.events out.run
+        moves = λ told. f [] first.events second.events (first.moves told) second.moves;
+        so = rest_of_ran P a b c l out.ran l2 returned answer first.answers first.events second.events out.run (λ stops es h. f stops es second.events h second.moves)
             (returned_rest its gives callee limits Leaves law a b c (length out.run.turns) out.run.len out.ran l2 whole returned out.run.few out.run.longer (goes_advance a b _ _ first.goes) (goes_advance b c _ _ second.goes)
             m.ledger out.ends.0 out.ends.1 answer second.events second.so);
       }
 
   -- the guest stopped
-  module _ (lawful_forms : (n : ℕ) → IsLawful (gives.form n)) where
-    rest_stopped : (a b : Moment) (l l2 : HostSide T) (e : Error) (answers : List Answer) (xs : List Event) → length a.bytes ≤ length b.bytes → MayRun gives callee limits Lives words a b l l2 (Err e) answers xs
+  module _ (lawful_forms : (n : ℕ) → IsLawful (gives.form n)) (P : List Stop → List Event → Type 0) (f : (stops : List Stop) (es : List Event) → P stops es → Lives stops es) where
+    rest_stopped : (a b : Moment) (l l2 : HostSide T) (e : Error) (answers : List Answer) (xs : List Event) → length a.bytes ≤ length b.bytes → (IsSome a.guest.journal → P [] xs) → MayRun gives callee limits P words a b l l2 (Err e) answers xs
         → IsRest its gives callee limits Lives Leaves words a b l l2 (Err e) answers xs
-    rest_stopped a b l l2 e answers xs longer (inl (is, none, quiet, same)) =
+    rest_stopped a b l l2 e answers xs longer moves (inl (is, none, quiet, same)) =
         subst (λ k. IsRest its gives callee limits Lives Leaves words a b l k (Err e) answers xs) (sym same) (subst (λ es. IsRest its gives callee limits Lives Leaves words a b l l (Err e) answers es) (sym none)
         (subst (λ ys. IsRest its gives callee limits Lives Leaves words a b l l (Err e) ys []) (sym quiet)
-        (subst (λ r. IsRest its gives callee limits Lives Leaves words a b l l (Err r) [] []) (sym (err_same {T = List ℕ} e (error.Fault fault.OutOfMemory) is)) (rest_of_none its gives callee limits Lives Leaves words a b l longer))))
-    rest_stopped a b l l2 e answers xs longer (inr ran) = subst (λ es. IsRest its gives callee limits Lives Leaves words a b l l2 (Err e) answers es) (sym ran.is)
-        (rest_of_tail its gives callee limits Lives Leaves words a b l ran.served l2 ran.turns ran.len ran.asked (Err e) ran.late_live answers ran.late ran.late_trap ran.tail ran.answers_are ran.lived
+        (subst (λ r. IsRest its gives callee limits Lives Leaves words a b l l (Err r) [] []) (sym (err_same {T = List ℕ} e (error.Fault fault.OutOfMemory) is)) (rest_of_none its gives callee limits Lives Leaves words a b l longer (λ told. f [] [] (subst (λ es. P [] es) none (moves told)))))))
+    rest_stopped a b l l2 e answers xs longer moves (inr ran) = subst (λ es. IsRest its gives callee limits Lives Leaves words a b l l2 (Err e) answers es) (sym ran.is)
+        (rest_of_tail its gives callee limits Lives Leaves words a b l ran.served l2 ran.turns ran.len ran.asked (Err e) ran.late_live answers ran.late ran.late_trap ran.tail ran.answers_are
+        (λ told. from_so P Lives f (event.Start callee.func words a.bytes ∷ []) ran.turns ran.late_live ran.tail (ran.lived told))
         (stopped_rest its gives lawful_forms callee limits Leaves a b (length ran.turns) ran.len ran.served l2 e ran.late_live ran.late ran.late_trap ran.tail ran.longer ran.few ran.stopped))
 
     -- the guest stopped, or it returned and the scope didn't end
-    rest_refused : (a b : Moment) (l l2 : HostSide T) (e : Error) (answers : List Answer) (xs : List Event) → length a.bytes ≤ length b.bytes → RunsToEnd gives callee limits Lives words a b l l2 (Err e) answers xs
+    rest_refused : (a b : Moment) (l l2 : HostSide T) (e : Error) (answers : List Answer) (xs : List Event) → length a.bytes ≤ length b.bytes → (IsSome a.guest.journal → P [] xs) → RunsToEnd gives callee limits P words a b l l2 (Err e) answers xs
         → IsRest its gives callee limits Lives Leaves words a b l l2 (Err e) answers xs
-    rest_refused a b l l2 e answers xs longer (inl ran) = rest_stopped a b l l2 e answers xs longer ran
-    rest_refused a b l l2 e answers xs longer (inr (returned, out)) =
+    rest_refused a b l l2 e answers xs longer moves (inl ran) = rest_stopped a b l l2 e answers xs longer moves ran
+    rest_refused a b l l2 e answers xs longer moves (inr (returned, out)) =
         subst (λ es. IsRest its gives callee limits Lives Leaves words a b l l2 (Err e) answers es) (append-nil xs)
-        (rest_of_ran a b b l out.ran l2 returned (Err e) answers xs [] out.run
+        (rest_of_ran P a b b l out.ran l2 returned (Err e) answers xs [] out.run (λ stops es h. subst (λ ys. Lives stops ys) (sym (append-nil es)) (f stops es h))
         (unended_tail its gives callee limits Leaves law a b (length out.run.turns) out.run.len out.ran l2 out.kept returned b.bytes out.run.few out.run.longer (same_le (length b.bytes)) refl e out.ends))
 
-    pub run_refused : (a b : Moment) (l l2 : HostSide T) (e : Error) (M N : List Event → Type 0) → ((es : List Event) → M es → N es) → Serving a b M (RunsToEnd gives callee limits Lives words a b l l2 (Err e))
-        → Serving a b N (IsRest its gives callee limits Lives Leaves words a b l l2 (Err e))
-    run_refused a b l l2 e M N f first = record {
+    pub run_refused : (a b : Moment) (l l2 : HostSide T) (e : Error) → Serving a b (P []) (RunsToEnd gives callee limits P words a b l l2 (Err e))
+        → Serving a b (Lives []) (IsRest its gives callee limits Lives Leaves words a b l l2 (Err e))
+    run_refused a b l l2 e first = record {
       answers = first.answers;
       events = first.events;
       goes = first.goes;
-      moves = λ told. f first.events (first.moves told);
-      so = rest_refused a b l l2 e first.answers first.events first.goes.no_shorter first.so;
+      moves = λ told. f [] first.events (first.moves told);
+      so = rest_refused a b l l2 e first.answers first.events first.goes.no_shorter first.moves first.so;
     }
 
 -- ---- the end of the scope
 
-module _ {T : Type 0} (gives : Giving T) (callee : Callee) (limits : Limits) (Lives : List Event → List Block → Type 0) (words : List ℕ) (a b : Moment) (l m n : HostSide T) (kept : n ≡ record m { ledger = n.ledger }) (returned : List ℕ) where
+module _ {T : Type 0} (gives : Giving T) (callee : Callee) (limits : Limits) (Lives : List Stop → List Event → Type 0) (words : List ℕ) (a b : Moment) (l m n : HostSide T) (kept : n ≡ record m { ledger = n.ledger }) (returned : List ℕ) where
+  -- a run, said otherwise
+  run_so : (Q : List Stop → List Event → Type 0) → ((stops : List Stop) (es : List Event) → Lives stops es → Q stops es) → (r : Result (List ℕ) Error) (answers : List Answer) (es : List Event) → RunsUntil gives callee limits Lives words a b l m r answers es
+      → RunsUntil gives callee limits Q words a b l m r answers es
+  run_so Q f r answers es h = record {
+    turns = h.turns;
+    late_live = h.late_live;
+    late = h.late;
+    late_trap = h.late_trap;
+    answers_are = h.answers_are;
+    len = h.len;
+    served = h.served;
+    tail = h.tail;
+    asked = h.asked;
+    few = h.few;
+    longer = h.longer;
+    is = h.is;
+    stopped = h.stopped;
+    lived = λ told. from_so Lives Q f (event.Start callee.func words a.bytes ∷ []) h.turns h.late_live h.tail (h.lived told);
+  }
+
   -- the guest returned, and the scope ended so, which changes nothing but the ledger
-  out_of : (r : Result (Unit {0}) Error) (answers : List Answer) (es : List Event) → Ended callee returned m.ledger n.ledger r → MayRun gives callee limits Lives words a b l m (Ok returned) answers es
-      → RunsOut gives callee limits Lives words a b l n returned r answers es
-  out_of r xs es ends (inl (is, none, quiet, same)) = absurd (not_ok returned (error.Fault fault.OutOfMemory) is)
-  out_of r xs es ends (inr ran) = record { ran = m; run = ran; ends = ends; kept = kept }
+  out_of : (Q : List Stop → List Event → Type 0) → ((stops : List Stop) (es : List Event) → Lives stops es → Q stops es) → (r : Result (Unit {0}) Error) (answers : List Answer) (es : List Event) → Ended callee returned m.ledger n.ledger r
+      → MayRun gives callee limits Lives words a b l m (Ok returned) answers es → RunsOut gives callee limits Q words a b l n returned r answers es
+  out_of Q f r xs es ends (inl (is, none, quiet, same)) = absurd (not_ok returned (error.Fault fault.OutOfMemory) is)
+  out_of Q f r xs es ends (inr ran) = record { ran = m; run = run_so Q f (Ok returned) xs es ran; ends = ends; kept = kept }
 
-  pub run_ended : (M N : List Event → Type 0) → ((es : List Event) → M es → N es) → Ended callee returned m.ledger n.ledger (Ok tt) → Serving a b M (MayRun gives callee limits Lives words a b l m (Ok returned))
-      → Serving a b N (RunsToEnd gives callee limits Lives words a b l n (Ok returned))
-  run_ended M N f ends first = record { answers = first.answers; events = first.events; goes = first.goes; moves = λ told. f first.events (first.moves told); so = out_of (Ok tt) first.answers first.events ends first.so }
+  pub run_ended : Ended callee returned m.ledger n.ledger (Ok tt) → Serving a b (Lives []) (MayRun gives callee limits Lives words a b l m (Ok returned))
+      → Serving a b (Lives []) (RunsToEnd gives callee limits Lives words a b l n (Ok returned))
+  run_ended ends first = record { answers = first.answers; events = first.events; goes = first.goes; moves = first.moves; so = out_of Lives (λ stops es h. h) (Ok tt) first.answers first.events ends first.so }
 
-  pub run_unended : (e : Error) (M N : List Event → Type 0) → ((es : List Event) → M es → N es) → Ended callee returned m.ledger n.ledger (Err e) → Serving a b M (MayRun gives callee limits Lives words a b l m (Ok returned))
-      → Serving a b N (RunsToEnd gives callee limits Lives words a b l n (Err e))
-  run_unended e M N f ends first = record { answers = first.answers; events = first.events; goes = first.goes; moves = λ told. f first.events (first.moves told); so = inr (returned, out_of (Err e) first.answers first.events ends first.so) }
+  pub run_unended : (Q : List Stop → List Event → Type 0) → ((stops : List Stop) (es : List Event) → Lives stops es → Q stops es) → (e : Error) → Ended callee returned m.ledger n.ledger (Err e)
+      → Serving a b (Lives []) (MayRun gives callee limits Lives words a b l m (Ok returned)) → Serving a b (Q []) (RunsToEnd gives callee limits Q words a b l n (Err e))
+  run_unended Q f e ends first = record { answers = first.answers; events = first.events; goes = first.goes; moves = λ told. f [] first.events (first.moves told); so = inr (returned, out_of Q f (Err e) first.answers first.events ends first.so) }
 
 -- ---- after the scope ended
 
@@ -215,42 +238,43 @@ lowered_is_late args callee a b l l2 es error.TurnsExhausted h = absurd h
 lowered_is_late args callee a b l l2 es (error.ImportFault n f) h = absurd h
 lowered_is_late args callee a b l l2 es (error.HostRefused n) h = absurd h
 
-module _ {T R : Type 0} (args : Arguments) (its : ReturnedValues R) (gives : Giving T) (callee : Callee) (limits : Limits) (Lives : List Event → List Block → Type 0) (Leaves : List ℕ → List ℕ → Type 0) where
+module _ {T R : Type 0} (args : Arguments) (its : ReturnedValues R) (gives : Giving T) (callee : Callee) (limits : Limits) (Lives : List Stop → List Event → Type 0) (Leaves : List ℕ → List ℕ → Type 0) where
   -- memory ran out for the scope
-  pub scope_short : (s : Seen) (bytes : List ℕ) (l0 l2 : HostSide T) (M : List Event → Type 0) → l2 ≡ l0 → (IsSome s.journal → M [])
-      → Adding (moment s bytes) (moment s bytes) M (IsCallOf args its Lives Leaves gives callee limits (moment s bytes) (moment s bytes) l0 l2 (Err (error.Fault fault.OutOfMemory)))
-  scope_short s bytes l0 l2 M same stays = record {
+  pub scope_short : (s : Seen) (bytes : List ℕ) (l0 l2 : HostSide T) → l2 ≡ l0 → (IsSome s.journal → Lives [] [])
+      → Adding (moment s bytes) (moment s bytes) (Lives []) (IsCallOf args its Lives Leaves gives callee limits (moment s bytes) (moment s bytes) l0 l2 (Err (error.Fault fault.OutOfMemory)))
+  scope_short s bytes l0 l2 same stays = record {
     events = [];
     added = (goes_none s bytes bytes (omega arith)).events;
     moves = stays;
-    so = short_call args its gives callee limits Lives Leaves (moment s bytes) (moment s bytes) l0 l2 refl (inl (refl, refl, same));
+    so = short_call args its gives callee limits Lives Leaves (moment s bytes) (moment s bytes) l0 l2 stays refl (inl (refl, refl, same));
   }
 
-  core_refused : BlamesRightly args → (a b : Moment) (l0 l2 : HostSide T) → l2 ≡ record l0 { ledger = l2.ledger } → (e : Error) (es : List Event) → LoweredArgs args callee a b (enter l0.ledger) l2.ledger (Err e) es
+  core_refused : BlamesRightly args → (a b : Moment) (l0 l2 : HostSide T) → l2 ≡ record l0 { ledger = l2.ledger } → (e : Error) (es : List Event) → (IsSome a.guest.journal → Lives [] es) → LoweredArgs args callee a b (enter l0.ledger) l2.ledger (Err e) es
       → IsCallOf args its Lives Leaves gives callee limits a b l0 l2 (Err e) es
-  core_refused law a b l0 l2 left (error.Fault f) es (inl (short, same, kept, none)) = subst (λ fs. IsCallOf args its Lives Leaves gives callee limits a b l0 l2 (Err (error.Fault f)) fs) (sym none)
+  core_refused law a b l0 l2 left (error.Fault f) es moves (inl (short, same, kept, none)) = subst (λ fs. IsCallOf args its Lives Leaves gives callee limits a b l0 l2 (Err (error.Fault f)) fs) (sym none)
       (subst (λ g. IsCallOf args its Lives Leaves gives callee limits a b l0 l2 (Err (error.Fault g)) []) (sym short)
-      (short_call args its gives callee limits Lives Leaves a b l0 l2 same (inr (inl (tt, stops_at_once (enter l0.ledger) l2.ledger args.parts kept, left)))))
-  core_refused law a b l0 l2 left (error.Fault f) es (inr (words, handles, ending, low, ends, blames, told, is, quiet, stops)) = subst (λ fs. IsCallOf args its Lives Leaves gives callee limits a b l0 l2 (Err (error.Fault f)) fs) (sym is)
-      (refused_call args its gives callee limits Lives Leaves law a b l0 l2 left f ending words handles low ends blames told quiet stops)
-  core_refused law a b l0 l2 left error.WrongCount es h = absurd h
-  core_refused law a b l0 l2 left error.AsyncLifted es h = absurd h
-  core_refused law a b l0 l2 left error.CannotEnterComponent es h = absurd h
-  core_refused law a b l0 l2 left error.WrongWords es h = absurd h
-  core_refused law a b l0 l2 left (error.UnknownImport n) es h = absurd h
-  core_refused law a b l0 l2 left error.TurnsExhausted es h = absurd h
-  core_refused law a b l0 l2 left (error.ImportFault n f) es h = absurd h
-  core_refused law a b l0 l2 left (error.HostRefused n) es h = absurd h
+      (short_call args its gives callee limits Lives Leaves a b l0 l2 (λ told. subst (λ fs. Lives [] fs) none (moves told)) same (inr (inl (tt, stops_at_once (enter l0.ledger) l2.ledger args.parts kept, left)))))
+  core_refused law a b l0 l2 left (error.Fault f) es moves (inr (words, handles, ending, low, ends, blames, told, is, quiet, stops)) = subst (λ fs. IsCallOf args its Lives Leaves gives callee limits a b l0 l2 (Err (error.Fault f)) fs) (sym is)
+      (refused_call args its gives callee limits Lives Leaves law a b l0 l2 left f ending words handles low (λ told. subst (λ fs. Lives [] fs) is (moves told)) ends blames told quiet stops)
+  core_refused law a b l0 l2 left error.WrongCount es moves h = absurd h
+  core_refused law a b l0 l2 left error.AsyncLifted es moves h = absurd h
+  core_refused law a b l0 l2 left error.CannotEnterComponent es moves h = absurd h
+  core_refused law a b l0 l2 left error.WrongWords es moves h = absurd h
+  core_refused law a b l0 l2 left (error.UnknownImport n) es moves h = absurd h
+  core_refused law a b l0 l2 left error.TurnsExhausted es moves h = absurd h
+  core_refused law a b l0 l2 left (error.ImportFault n f) es moves h = absurd h
+  core_refused law a b l0 l2 left (error.HostRefused n) es moves h = absurd h
 
   -- a call in the scope that was opened on its ledger
   abbrev pub InScope : HostSide T → Moment → Moment → HostSide T → Result R Error → List Event → Type 0
   InScope l a b l2 answer es = (before : LedgerState) → enter before ≡ l.ledger → IsCallOf args its Lives Leaves gives callee limits a b (record l { ledger = before }) l2 answer es
 
   -- the parameters were lowered
-  pub call_started : (P : List Event → List Block → Type 0) (a b c : Moment) (l l1 l2 : HostSide T) → l1 ≡ record l { ledger = l1.ledger } → (words : Vec ℕ Global) (answer : Result R Error) (M N O : List Event → Type 0)
-      → (IsSome a.guest.journal → IsSome b.guest.journal) → ((xs ys : List Event) → M xs → N ys → O (xs ++ ys)) → ((xs ys : List Event) (live : List Block) → M xs → P ys live → Lives (xs ++ ys) live)
-      → Adding a b M (LoweredArgs args callee a b l.ledger l1.ledger (Ok words)) → Serving b c N (IsRest its gives callee limits P Leaves words.items b c l1 l2 answer) → Adding a c O (InScope l a c l2 answer)
-  call_started P a b c l l1 l2 same words answer M N O told f lives first second =
+  pub call_started : (P : List Stop → List Event → Type 0) (a b c : Moment) (l l1 l2 : HostSide T) → l1 ≡ record l { ledger = l1.ledger } → (words : Vec ℕ Global) (answer : Result R Error) (M : List Event → Type 0)
+      → (IsSome a.guest.journal → IsSome b.guest.journal) → ((xs ys : List Event) → M xs → P [] ys → Lives [] (xs ++ ys))
+      → ((xs : List Event) → M xs → (stop : Stop) (stops : List Stop) (ys : List Event) → P (stop ∷ stops) ys → Lives (record { events = xs ++ stop.events; live = stop.live } ∷ stops) ys)
+      → Adding a b M (LoweredArgs args callee a b l.ledger l1.ledger (Ok words)) → Serving b c (P []) (IsRest its gives callee limits P Leaves words.items b c l1 l2 answer) → Adding a c (Lives []) (InScope l a c l2 answer)
+  call_started P a b c l l1 l2 same words answer M told f g first second =
       let low : LowersArgs false a b callee.encoding callee.params args.are words.items first.so.0 done = first.so.1 in
       let xs : List Event = events_of low.answers low.trap in
       let ys : List Event = second.events in
@@ -260,19 +284,20 @@ module _ {T R : Type 0} (args : Arguments) (its : ReturnedValues R) (gives : Giv
         moves = λ there. f xs ys (subst M first.so.2 (first.moves there)) (second.moves (told there));
         so = λ before entered. subst (λ o. IsCallOf args its Lives Leaves gives callee limits a c (record l { ledger = before }) l2 answer (events_of low.answers o ++ ys)) (sym low.lowering.cause)
             (joined args its gives callee limits P Lives Leaves a b c (record l { ledger = before }) l1 l2 same words.items low.answers first.so.0 ys second.answers answer
-            (λ there. (told there, λ es live h. lives (events_of low.answers None) es live (subst (λ o. M (events_of low.answers o)) low.lowering.cause (subst M first.so.2 (first.moves there))) h)) (ready args callee a b words.items low first.so.3 first.so.4 first.so.5)
+            (λ there. let moved : M (events_of low.answers None) = subst (λ o. M (events_of low.answers o)) low.lowering.cause (subst M first.so.2 (first.moves there)) in
+            (told there, λ es h. f (events_of low.answers None) es moved h, g (events_of low.answers None) moved)) (ready args callee a b words.items low first.so.3 first.so.4 first.so.5)
             (subst (λ k. LeavesTake k args.parts first.so.0 l1.ledger) (sym entered) first.so.6)
             (goes_advance a b _ _ low.lowering.goes) (goes_advance b c _ _ second.goes) second.goes.marks second.so);
       }
 
   -- they weren't
-  pub call_refused : BlamesRightly args → (a b : Moment) (l l2 : HostSide T) → l2 ≡ record l { ledger = l2.ledger } → (e : Error) (M : List Event → Type 0)
-      → Adding a b M (LoweredArgs args callee a b l.ledger l2.ledger (Err e)) → Adding a b M (InScope l a b l2 (Err e))
-  call_refused law a b l l2 same e M low = record {
+  pub call_refused : BlamesRightly args → (a b : Moment) (l l2 : HostSide T) → l2 ≡ record l { ledger = l2.ledger } → (e : Error)
+      → Adding a b (Lives []) (LoweredArgs args callee a b l.ledger l2.ledger (Err e)) → Adding a b (Lives []) (InScope l a b l2 (Err e))
+  call_refused law a b l l2 same e low = record {
     events = low.events;
     added = low.added;
     moves = low.moves;
-    so = λ before entered. core_refused law a b (record l { ledger = before }) l2 same e low.events (subst (λ k. LoweredArgs args callee a b k l2.ledger (Err e) low.events) (sym entered) low.so);
+    so = λ before entered. core_refused law a b (record l { ledger = before }) l2 same e low.events low.moves (subst (λ k. LoweredArgs args callee a b k l2.ledger (Err e) low.events) (sym entered) low.so);
   }
 
   -- the scope was opened

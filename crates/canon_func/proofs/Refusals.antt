@@ -1,6 +1,6 @@
 -- What a call did whose parameters weren't lowered.
 use Rattle.std.proofs.Common.{Err, inl, inr, List, None, Option, Some, [], ap, arith, length, refl, subst, sym, ℕ, ◌++◌, ◌%◌, ◌+◌, ◌∷◌, ◌∙◌, ◌≡◌, ◌≤◌}
-use Rattle.std.specs.Prelude.{false, slice_index}
+use Rattle.std.specs.Prelude.{IsSome, false, slice_index}
 use Rattle.std.proofs.lemmas.List.{append-nil}
 use Rattle.canon_model.specs.Memory.{Block}
 use Rattle.canon_model.specs.Requests.{Call, Request, params_requests}
@@ -21,7 +21,7 @@ use Rattle.canon_host.specs.HostSide.{Giving, HostSide}
 use Rattle.canon_func.specs.Asks.{Limits}
 use Rattle.canon_func.specs.Call.{Accepts, Advances, AsksByTypes, FaultCause, HandlesPassOf, IsCallOf, KeepsLive, Stands}
 use Rattle.canon_func.specs.Passing.{Arguments, ReturnedValues}
-use Rattle.canon_func.specs.Runs.{Each, EndsIn, IsNoPost, IsNoStart, IsTrap, asks_in}
+use Rattle.canon_func.specs.Runs.{Each, EndsIn, IsNoPost, IsNoStart, IsTrap, Stop, asks_in}
 use Rattle.canon_func.specs.Steps.{EndsFor, TrapsLate}
 use Rattle.canon_func.specs.Stores.{Callee}
 use Rattle.canon_func.specs.declared.error.Error.TheVariants as error
@@ -52,19 +52,19 @@ record Refused {T R : Type 0} (args : Arguments) (its : ReturnedValues R) (gives
   cause : FaultCause args its callee limits.fuel entry after events f
   valid : (ts : Trees) → args.are ts → args.small → AllLawful answers → ¬ EndsIn IsTrap events → Accepts args its gives callee limits.fuel [] before [] → f ≡ fault.OutOfMemory
 
-module _ {T R : Type 0} (args : Arguments) (its : ReturnedValues R) (gives : Giving T) (callee : Callee) (limits : Limits) (Lives : List Event → List Block → Type 0) (Leaves : List ℕ → List ℕ → Type 0) (entry after : Moment) (before left : HostSide T) where
+module _ {T R : Type 0} (args : Arguments) (its : ReturnedValues R) (gives : Giving T) (callee : Callee) (limits : Limits) (Lives : List Stop → List Event → Type 0) (Leaves : List ℕ → List ℕ → Type 0) (entry after : Moment) (before left : HostSide T) where
   no_asks : (answers : List Answer) (trap : Option Trap) → asks_in (events_of answers trap) ≤ limits.turns
   no_asks answers trap =
       let none : asks_in (events_of answers trap) ≡ 0 = ap asks_in (sym (append-nil (events_of answers trap))) ∙ asks_answers answers trap [] in
       omega (arith, none)
 
-  made : (f : Fault) (answers : List Answer) (trap : Option Trap) → Advances entry after →
+  made : (f : Fault) (answers : List Answer) (trap : Option Trap) → (IsSome entry.guest.journal → Lives [] (events_of answers trap)) → Advances entry after →
       (Calm refused entry.guest after.guest → Stands entry.bytes after.bytes answers × KeepsLive entry after.bytes answers) →
       AsksByTypes callee.params (fault_ending f) answers trap → after.guest.marks ≡ entry.guest.marks ++ marks_of answers
       → ((ts : Trees) → args.are ts → (left : List Request) × ((last : ℕ) → Meets last (params_requests false callee.encoding callee.params ts) answers trap left))
       → HandlesPassOf args its gives callee limits.fuel [] [] after.bytes [] None before left [] (Err (error.Fault f)) (events_of answers trap) []
       → Refused args its gives callee limits entry after before (events_of answers trap) answers trap f → IsCallOf args its Lives Leaves gives callee limits entry after before left (Err (error.Fault f)) (events_of answers trap)
-  made f answers trap advances stands quiet marks met handles because = record {
+  made f answers trap moves advances stands quiet marks met handles because = record {
     one_run = tt;
     prefix = prefix_requests callee.func callee.post (length entry.bytes) answers trap because.late;
     advances = advances;
@@ -79,7 +79,7 @@ module _ {T R : Type 0} (args : Arguments) (its : ReturnedValues R) (gives : Giv
     late_trap = None;
     tail = [];
     starts = inl (refl, refl, refl, refl, refl);
-    lived = λ told. (events_of answers trap, sym (append-nil (events_of answers trap)), (tt, tt));
+    lived = λ told. (events_of answers trap, sym (append-nil (events_of answers trap)), subst (λ es. Lives [] es) (sym (append-nil (events_of answers trap))) (moves told));
     asks = λ none. no_asks answers trap;
     accepted = because.accepted;
     marks = marks ∙ ap (λ xs. entry.guest.marks ++ marks_of xs) (sym (append-nil answers));
@@ -98,16 +98,16 @@ module _ {T R : Type 0} (args : Arguments) (its : ReturnedValues R) (gives : Giv
   }
 
   -- memory ran out before a request
-  pub short_call : after ≡ entry → HandlesPassOf args its gives callee limits.fuel [] [] after.bytes [] None before left [] (Err (error.Fault fault.OutOfMemory)) [] []
+  pub short_call : (IsSome entry.guest.journal → Lives [] []) → after ≡ entry → HandlesPassOf args its gives callee limits.fuel [] [] after.bytes [] None before left [] (Err (error.Fault fault.OutOfMemory)) [] []
       → IsCallOf args its Lives Leaves gives callee limits entry after before left (Err (error.Fault fault.OutOfMemory)) []
-  short_call e handles =
-      made fault.OutOfMemory [] None (subst (λ m. Advances entry m) (sym e) (record { no_shorter = omega arith; traps_later = omega arith; shortages_later = omega arith }))
+  short_call moves e handles =
+      made fault.OutOfMemory [] None moves (subst (λ m. Advances entry m) (sym e) (record { no_shorter = omega arith; traps_later = omega arith; shortages_later = omega arith }))
       (λ calm. (λ tidy i h out. ap (λ m. slice_index m.bytes i) e, λ lawful i h. ap (λ m. slice_index m.bytes i) e)) (λ near none. (refl, refl), λ far. (refl, λ none. tt))
       (ap (λ m. m.guest.marks) e ∙ sym (append-nil entry.guest.marks))
       (λ ts have. (params_requests false callee.encoding callee.params ts, λ last. refl)) handles
       (record { late = tt; accepted = tt; cause = tt; valid = λ ts have small lawful calm accepted. refl })
 
-module _ {T R : Type 0} (args : Arguments) (its : ReturnedValues R) (gives : Giving T) (callee : Callee) (limits : Limits) (Lives : List Event → List Block → Type 0) (Leaves : List ℕ → List ℕ → Type 0) (law : BlamesRightly args) (entry after : Moment) (before left : HostSide T) where
+module _ {T R : Type 0} (args : Arguments) (its : ReturnedValues R) (gives : Giving T) (callee : Callee) (limits : Limits) (Lives : List Stop → List Event → Type 0) (Leaves : List ℕ → List ℕ → Type 0) (law : BlamesRightly args) (entry after : Moment) (before left : HostSide T) where
   abbrev Low : List ℕ → List ℕ → Ending → Type 0
   Low words handles ending = LowersArgs false entry after callee.encoding callee.params args.are words handles ending
 
@@ -226,11 +226,11 @@ module _ {T R : Type 0} (args : Arguments) (its : ReturnedValues R) (gives : Giv
   asks_as fault.OutOfMemory ending answers trap (inr is) h = asks_short answers trap (subst (λ end. AsksByTypes callee.params end answers trap) is h)
   asks_as f ending answers trap is h = subst (λ end. AsksByTypes callee.params end answers trap) is h
 
-  pub refused_call : left ≡ record before { ledger = left.ledger } → (f : Fault) (ending : Ending) (words handles : List ℕ) (low : Low words handles ending) → EndsFor f ending → args.blames f → told_fault f ≡ f
+  pub refused_call : left ≡ record before { ledger = left.ledger } → (f : Fault) (ending : Ending) (words handles : List ℕ) (low : Low words handles ending) → (IsSome entry.guest.journal → Lives [] (events_of low.answers low.trap)) → EndsFor f ending → args.blames f → told_fault f ≡ f
       → AsksByTypes callee.params ending low.answers low.trap → LeavesStop (stop_of f) (enter before.ledger) args.parts left.ledger
       → IsCallOf args its Lives Leaves gives callee limits entry after before left (Err (error.Fault f)) (events_of low.answers low.trap)
-  refused_call kept f ending words handles low is blames told quiet stops =
-      made args its gives callee limits Lives Leaves entry after before left f low.answers low.trap (goes_advance entry after _ _ low.lowering.goes)
+  refused_call kept f ending words handles low moves is blames told quiet stops =
+      made args its gives callee limits Lives Leaves entry after before left f low.answers low.trap moves (goes_advance entry after _ _ low.lowering.goes)
       (λ calm. (
         λ tidy i h out. low.lowering.tidy (calm_so ending entry.guest after.guest calm) tidy i h (λ q. q) out,
         λ lawful i h. (low.lowering.lawful (calm_so ending entry.guest after.guest calm) lawful).kept i h (λ q. q),

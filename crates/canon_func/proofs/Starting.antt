@@ -8,7 +8,7 @@ use Rattle.canon_context.specs.declared.fault.Fault.TheVariants as fault
 use Rattle.canon_ledger.specs.Ledger.{enter}
 use Rattle.canon_host.specs.HostSide.{LoggedEntry, Giving, HostSide, host_side}
 use Rattle.canon_func.specs.Asks.{Limits}
-use Rattle.canon_func.specs.Call.{Adding, IsCallOf, LivesAfter, OnAnswered}
+use Rattle.canon_func.specs.Call.{Adding, IsCallOf, LivesUntil, OnAnswered}
 use Rattle.canon_func.specs.Passing.{Arguments, ReturnedValues}
 use Rattle.canon_func.specs.Steps.{IsLate, IsRest, LoweredArgs, Serving, map_ok}
 use Rattle.canon_func.specs.Stores.{Callee}
@@ -24,12 +24,12 @@ module _ {T G R : Type 0} (args : Arguments) (its : ReturnedValues R) (gives : G
   -- by what the function answers, and what is said of it
   abbrev pub Whole : {U : Type 0} → Result U Error → Result R Error → Parts T G → Parts T G → HostSide T → Type 0
   Whole result answer before after left = Adding (moment_of seen before) (moment_of seen after) (λ es. OnAnswered result (moves (guest_of before) es (guest_of after)))
-      (IsCallOf args its (LivesAfter seen moves (guest_of before)) Leaves gives callee limits (moment_of seen before) (moment_of seen after) (host_side before log refusals) left answer)
+      (IsCallOf args its (LivesUntil seen moves (guest_of before) (guest_of after) result) Leaves gives callee limits (moment_of seen before) (moment_of seen after) (host_side before log refusals) left answer)
 
   -- the same in the scope that was opened
   abbrev pub Within : {U : Type 0} → Result U Error → Result R Error → Parts T G → Parts T G → HostSide T → Type 0
   Within result answer before after left = Adding (moment_of seen before) (moment_of seen after) (λ es. OnAnswered result (moves (guest_of before) es (guest_of after)))
-      (InScope args its gives callee limits (LivesAfter seen moves (guest_of before)) Leaves (host_side before log refusals) (moment_of seen before) (moment_of seen after) left answer)
+      (InScope args its gives callee limits (LivesUntil seen moves (guest_of before) (guest_of after) result) Leaves (host_side before log refusals) (moment_of seen before) (moment_of seen after) left answer)
 
   abbrev pub Lowers : {U : Type 0} → Result U Error → Result (Vec ℕ Global) Error → Parts T G → Parts T G → Type 0
   Lowers result words before after = Adding (moment_of seen before) (moment_of seen after) (λ es. OnAnswered result (moves (guest_of before) es (guest_of after)))
@@ -39,32 +39,31 @@ module _ {T G R : Type 0} (args : Arguments) (its : ReturnedValues R) (gives : G
   pub lowered : {U : Type 0} (result : Result U Error) (answer : Result R Error) (before mid after : Parts T G) (left : HostSide T) (words : Vec ℕ Global) → SameButHandles before mid
       → ((a b c : GuestIn G) (xs ys : List Event) → moves a xs b → moves b ys c → moves a (xs ++ ys) c) → Lowers (Ok words) (Ok words) before mid
       → Serving (moment_of seen mid) (moment_of seen after) (λ es. OnAnswered result (moves (guest_of mid) es (guest_of after)))
-      (IsRest its gives callee limits (LivesAfter seen moves (guest_of mid)) Leaves words.items (moment_of seen mid) (moment_of seen after) (host_side mid log refusals) left answer) → Within result answer before after left
+      (IsRest its gives callee limits (LivesUntil seen moves (guest_of mid) (guest_of after) result) Leaves words.items (moment_of seen mid) (moment_of seen after) (host_side mid log refusals) left answer) → Within result answer before after left
   lowered result answer before mid after left words same goes_on first second =
-      call_started args its gives callee limits (LivesAfter seen moves (guest_of before)) Leaves (LivesAfter seen moves (guest_of mid)) (moment_of seen before) (moment_of seen mid) (moment_of seen after) (host_side before log refusals) (host_side mid log refusals) left
+      call_started args its gives callee limits (LivesUntil seen moves (guest_of before) (guest_of after) result) Leaves (LivesUntil seen moves (guest_of mid) (guest_of after) result) (moment_of seen before) (moment_of seen mid) (moment_of seen after) (host_side before log refusals) (host_side mid log refusals) left
       (side_handles before mid log refusals same) words answer
-      (λ es. moves (guest_of before) es (guest_of mid)) (λ es. OnAnswered result (moves (guest_of mid) es (guest_of after))) (λ es. OnAnswered result (moves (guest_of before) es (guest_of after)))
+      (λ es. moves (guest_of before) es (guest_of mid))
       (told_after_lowering (moment_of seen before) (moment_of seen mid) first.events first.added)
       (λ xs ys p q. answered result (moves (guest_of mid) ys (guest_of after)) (moves (guest_of before) (xs ++ ys) (guest_of after)) (λ r. goes_on (guest_of before) (guest_of mid) (guest_of after) xs ys p r) q)
-      (λ xs ys live p (g, does, is). (g, goes_on (guest_of before) (guest_of mid) g xs ys p does, is)) first second
+      (λ xs p stop stops ys (next, does, is, rest). (next, goes_on (guest_of before) (guest_of mid) next xs stop.events p does, is, rest)) first second
 
   -- they weren't
   pub unlowered : (U : Type 0) (e : Error) (before after : Parts T G) → BlamesRightly args → SameButHandles before after → Lowers {U = Vec ℕ Global} (Err e) (Err e) before after
       → Within {U = U} (Err e) (Err e) before after (host_side after log refusals)
   unlowered U e before after law same low =
-      call_refused args its gives callee limits (LivesAfter seen moves (guest_of before)) Leaves law (moment_of seen before) (moment_of seen after) (host_side before log refusals) (host_side after log refusals) (side_handles before after log refusals same) e
-      (λ es. OnAnswered {T = U} (Err e) (moves (guest_of before) es (guest_of after)))
+      call_refused args its gives callee limits (LivesUntil {U = U} seen moves (guest_of before) (guest_of after) (Err e)) Leaves law (moment_of seen before) (moment_of seen after) (host_side before log refusals) (host_side after log refusals) (side_handles before after log refusals same) e
       (record { events = low.events; added = low.added; moves = λ there. retyped (Vec ℕ Global) U e (moves (guest_of before) low.events (guest_of after)) (low.moves there); so = low.so })
 
   -- the scope was opened
   pub entered : {U : Type 0} (result : Result U Error) (answer : Result R Error) (before mid after : Parts T G) (left : HostSide T) → SameButLedger before mid → mid.ledger ≡ enter before.ledger
       → Within result answer mid after left → Whole result answer before after left
   entered result answer before mid after left same is h =
-      entered_call args its gives callee limits (LivesAfter seen moves (guest_of before)) Leaves (moment_of seen before) (moment_of seen after) (host_side before log refusals) (host_side mid log refusals) left answer
+      entered_call args its gives callee limits (LivesUntil seen moves (guest_of before) (guest_of after) result) Leaves (moment_of seen before) (moment_of seen after) (host_side before log refusals) (host_side mid log refusals) left answer
       (λ es. OnAnswered result (moves (guest_of before) es (guest_of after)))
       (side_ledger before mid log refusals same is)
       (subst (λ k. Adding (moment_of seen k) (moment_of seen after) (λ es. OnAnswered result (moves (guest_of k) es (guest_of after)))
-      (InScope args its gives callee limits (LivesAfter seen moves (guest_of k)) Leaves (host_side mid log refusals) (moment_of seen k) (moment_of seen after) left answer)) same h)
+      (InScope args its gives callee limits (LivesUntil seen moves (guest_of k) (guest_of after) result) Leaves (host_side mid log refusals) (moment_of seen k) (moment_of seen after) left answer)) same h)
 
   -- memory ran out for it
   pub unentered : (U : Type 0) (before after : Parts T G) → SameButLedger before after → after.ledger ≡ before.ledger
@@ -72,8 +71,7 @@ module _ {T G R : Type 0} (args : Arguments) (its : ReturnedValues R) (gives : G
   unentered U before after same left =
       let host = host_side before log refusals in
       subst (λ k. Whole {U = U} (Err (error.Fault fault.OutOfMemory)) (Err (error.Fault fault.OutOfMemory)) before k (host_side k log refusals)) (sym same)
-      (scope_short args its gives callee limits (LivesAfter seen moves (guest_of before)) Leaves (seen before.guest) before.memory host (record host { ledger = after.ledger })
-      (λ es. OnAnswered {T = U} (Err (error.Fault fault.OutOfMemory)) (moves (guest_of before) es (guest_of before)))
+      (scope_short args its gives callee limits (LivesUntil {U = U} seen moves (guest_of before) (guest_of before) (Err (error.Fault fault.OutOfMemory))) Leaves (seen before.guest) before.memory host (record host { ledger = after.ledger })
       (ledger_kept before after log refusals left) (λ there. tt))
 
 -- a refusal of what is said of an answer is one of the answer

@@ -16,11 +16,12 @@ use Rattle.canon_lowering.specs.Lowering.{Answer, events_of, marks_of}
 use Rattle.canon_context.specs.declared.fault.Fault.TheVariants as fault
 use Rattle.canon_host.specs.HostSide.{Giving, HostSide}
 use Rattle.canon_func.specs.Asks.{AreServed, IsServed, Limits}
-use Rattle.canon_func.specs.Runs.{AskTurn, AsksLive, Each, EachTurn, Grows, OnAsk, answers_in, asks_in, events_in, last_len}
+use Rattle.canon_func.specs.Runs.{AskTurn, Each, Grows, Stop, answers_in, asks_in, events_in, last_len, since_last, stops_in}
 use Rattle.canon_func.specs.Steps.{RisesAt, RunsUntil, Serves, Stepping, TurnsTaken, ask_turn, so_far}
 use Rattle.canon_func.specs.Stores.{Callee}
 use Rattle.canon_func.specs.declared.error.Error.{Error}
 use Rattle.canon_func.specs.declared.error.Error.TheVariants as error
+use Rattle.canon_func.proofs.Passes.{lives_more}
 use Rattle.canon_func.proofs.Prefixes.{asks_answers, each_then, grows_answers, last_len_answers}
 
 -- ---- answers
@@ -52,41 +53,6 @@ events_append (t ∷ ts) us = ap (λ es. event.Ask t.index t.words t.memory ∷ 
 
 pub events_more : (ts us : List AskTurn) (tail : List Event) → events_in (ts ++ us) ++ tail ≡ events_in ts ++ (events_in us ++ tail)
 events_more ts us tail = ap (λ es. es ++ tail) (events_append ts us) ∙ append_assoc (events_in ts) (events_in us) tail
-
--- ---- the blocks that lived at each ask
-
-module _ (Lives : List Event → List Block → Type 0) where
-  -- one more turn
-  each_more : (front : List Event) (ts : List AskTurn) (t : AskTurn) → EachTurn Lives front ts → Lives (front ++ (events_in ts ++ event.Ask t.index t.words t.memory ∷ [])) t.live → EachTurn Lives front (ts ++ t ∷ [])
-  each_more front [] t h p = (p, tt)
-  each_more front (u ∷ us) t h p =
-      let ask : List Event = event.Ask t.index t.words t.memory ∷ [] in (
-        h.0,
-        each_more (front ++ events_in (u ∷ [])) us t h.1
-            (subst (λ es. Lives es t.live) (ap (λ es. front ++ es) (events_more (u ∷ []) us ask) ∙ sym (append_assoc front (events_in (u ∷ [])) (events_in us ++ ask))) p),
-      )
-
--- by the events from an earlier moment on
-module _ (P Q : List Event → List Block → Type 0) (first : List Event) (f : (es : List Event) (live : List Block) → P es live → Q (first ++ es) live) where
-  event_after : (front rest : List Event) (live : List Block) → P (front ++ rest) live → Q ((first ++ front) ++ rest) live
-  event_after front rest live h = subst (λ es. Q es live) (sym (append_assoc first front rest)) (f (front ++ rest) live h)
-
-  turns_after : (front : List Event) (ts : List AskTurn) → EachTurn P front ts → EachTurn Q (first ++ front) ts
-  turns_after front [] h = tt
-  turns_after front (t ∷ ts) h = (
-    event_after front (event.Ask t.index t.words t.memory ∷ []) t.live h.0,
-    subst (λ es. EachTurn Q es ts) (sym (append_assoc first front (events_in (t ∷ [])))) (turns_after (front ++ events_in (t ∷ [])) ts h.1),
-  )
-
-  ask_after : (front : List Event) (ts : List AskTurn) (live : List Block) (tail : List Event) → OnAsk (λ i w m more. P (front ++ (events_in ts ++ event.Ask i w m ∷ [])) live) tail
-      → OnAsk (λ i w m more. Q ((first ++ front) ++ (events_in ts ++ event.Ask i w m ∷ [])) live) tail
-  ask_after front ts live [] h = tt
-  ask_after front ts live (event.Ask i w m ∷ more) h = event_after front (events_in ts ++ event.Ask i w m ∷ []) live h
-  ask_after front ts live (e ∷ more) h = tt
-
-  pub asks_after : (ts : List AskTurn) (live : List Block) (tail events : List Event) → AsksLive P ts live tail events → AsksLive Q ts live tail (first ++ events)
-  asks_after ts live tail events (front, is, (each, last)) =
-      (first ++ front, ap (λ es. first ++ es) is ∙ sym (append_assoc first front (events_in ts ++ tail)), (turns_after front ts each, ask_after front ts live tail last))
 
 -- a fact of each of them
 each_real : (P : Event → Type 0) → ((o s a n p : ℕ) → P (event.Realloc o s a n p)) → (xs : List Answer) → Each P (events_of xs None)
@@ -177,11 +143,14 @@ pub length_more : {A : Type 0} (xs : List A) (x : A) → length (xs ++ x ∷ [])
 length_more [] x = refl
 length_more (y ∷ xs) x = ap suc (length_more xs x) ∙ sym (suc_add (length xs) 1)
 
-module _ {T : Type 0} (gives : Giving T) (callee : Callee) (limits : Limits) (Lives : List Event → List Block → Type 0) (words : List ℕ) (before : Moment) (host : HostSide T) where
-  pub stepping_begin : (now : Moment) (M : List Event → Type 0) (next : Step) → Goes before now [] (event.Start callee.func words before.bytes ∷ step_event next now.bytes ∷ [])
-      → (IsSome before.guest.journal → M (event.Start callee.func words before.bytes ∷ step_event next now.bytes ∷ [])) → Stepping gives callee limits Lives words before now host host M 0 next
-  stepping_begin now M next goes moves =
-      record { turns = []; len = length before.bytes; asked = asked_none gives callee limits.fuel before host; count_is = refl; longer = goes.no_shorter; goes = goes; moves = moves; lived = λ told. tt }
+module _ {T : Type 0} (gives : Giving T) (callee : Callee) (limits : Limits) (Lives : List Stop → List Event → Type 0) (words : List ℕ) (before : Moment) (host : HostSide T) where
+  pub stepping_begin : (now : Moment) (next : Step) → Goes before now [] (event.Start callee.func words before.bytes ∷ step_event next now.bytes ∷ [])
+      → (IsSome before.guest.journal → Lives [] (event.Start callee.func words before.bytes ∷ step_event next now.bytes ∷ [])) → Stepping gives callee limits Lives words before now host host 0 next
+  stepping_begin now next goes moves =
+      record { turns = []; len = length before.bytes; asked = asked_none gives callee limits.fuel before host; count_is = refl; longer = goes.no_shorter; goes = goes; moves = moves; lived = moves }
+
+  abbrev start : List Event
+  start = event.Start callee.func words before.bytes ∷ []
 
   -- an ask, and what came after it
   after_ask : (ts : List AskTurn) (index : ℕ) (asked memory : List ℕ) (es : List Event) → so_far callee words before ts (event.Ask index asked memory ∷ []) ++ es ≡ so_far callee words before ts (event.Ask index asked memory ∷ es)
@@ -196,10 +165,16 @@ module _ {T : Type 0} (gives : Giving T) (callee : Callee) (limits : Limits) (Li
   marks_more : (ts : List AskTurn) (t : AskTurn) → marks_of (answers_in ts) ++ marks_of t.answers ≡ marks_of (answers_in (ts ++ t ∷ []))
   marks_more ts t = sym (marks_then (answers_in ts) t.answers) ∙ ap marks_of (ap (λ xs. answers_in ts ++ xs) (sym (append-nil t.answers)) ∙ sym (answers_append ts (t ∷ [])))
 
-  module _ (now after : Moment) (served left : HostSide T) (M N O : List Event → Type 0) (goes_on : (xs ys : List Event) → M xs → N ys → O (xs ++ ys))
-      (lives : (es : List Event) → M es → Lives es now.guest.live) (count index : ℕ) (asked : List ℕ) where
-    pub stepping_more : (next : Step) (xs : List Answer) (es : List Event) → Stepping gives callee limits Lives words before now host served M count (step.Import index asked) → Goes now after (marks_of xs) es
-        → (IsSome now.guest.journal → N es) → Serves gives callee limits.fuel index asked now after served left (Ok next) xs es → Stepping gives callee limits Lives words before after host left O (count + 1) next
+  -- after one more event of an ask
+  turn_lived : (ts : List AskTurn) (t : AskTurn) (last : Event) (es : List Event) → es ≡ rest_of_turn t (last ∷ []) → Lives (stops_in start ts ++ record { events = since_last start ts ++ event.Ask t.index t.words t.memory ∷ []; live = t.live } ∷ []) es
+      → Lives (stops_in start (ts ++ t ∷ [])) (since_last start (ts ++ t ∷ []) ++ last ∷ [])
+  turn_lived ts t last es are h =
+      lives_more Lives start ts t (last ∷ []) es (are ∙ sym (append_assoc (events_of t.answers None) (event.Resume t.resumed_words t.resumed_memory ∷ []) (last ∷ []))) h
+
+  module _ (now after : Moment) (served left : HostSide T) (P : List Stop → List Event → Type 0) (N : List Event → Type 0) (goes_on : (xs ys : List Event) → P [] xs → N ys → Lives [] (xs ++ ys))
+      (asks : (stops : List Stop) (xs ys : List Event) → P stops xs → N ys → Lives (stops ++ record { events = xs; live = now.guest.live } ∷ []) ys) (count index : ℕ) (asked : List ℕ) where
+    pub stepping_more : (next : Step) (xs : List Answer) (es : List Event) → Stepping gives callee limits P words before now host served count (step.Import index asked) → Goes now after (marks_of xs) es
+        → (IsSome now.guest.journal → N es) → Serves gives callee limits.fuel index asked now after served left (Ok next) xs es → Stepping gives callee limits Lives words before after host left (count + 1) next
     stepping_more next xs es h goes moves (r, are) =
         let t : AskTurn = ask_turn index asked now.guest.live now.bytes xs r.resumed r.memory in
         let e : so_far callee words before h.turns (event.Ask index asked now.bytes ∷ []) ++ es ≡ so_far callee words before (h.turns ++ t ∷ []) (step_event next after.bytes ∷ []) =
@@ -212,15 +187,15 @@ module _ {T : Type 0} (gives : Giving T) (callee : Callee) (limits : Limits) (Li
           longer = r.shorter;
           goes = subst (λ ms. Goes before after ms (so_far callee words before (h.turns ++ t ∷ []) (step_event next after.bytes ∷ []))) (marks_more h.turns t)
               (subst (λ ys. Goes before after (marks_of (answers_in h.turns) ++ marks_of xs) ys) e (goes_then before now after _ _ _ es h.goes goes));
-          moves = λ told. subst O e (goes_on _ es (h.moves told) (moves (told_later before now _ _ h.goes told)));
-          lived = λ told. each_more Lives (event.Start callee.func words before.bytes ∷ []) h.turns t (h.lived told) (lives _ (h.moves told));
+          moves = λ told. subst (λ ys. Lives [] ys) e (goes_on _ es (h.moves told) (moves (told_later before now _ _ h.goes told)));
+          lived = λ told. turn_lived h.turns t (step_event next after.bytes) es are (asks _ _ es (h.lived told) (moves (told_later before now _ _ h.goes told)));
         }
 
     -- the ask wasn't served, or the guest trapped after it was
-    pub ran_refused : (e : Error) (xs : List Answer) (es : List Event) (h : Stepping gives callee limits Lives words before now host served M count (step.Import index asked)) → count < limits.turns → Goes now after (marks_of xs) es
-        → Serves gives callee limits.fuel index asked now after served left (Err e) xs es
+    pub ran_refused : (e : Error) (xs : List Answer) (es : List Event) (h : Stepping gives callee limits P words before now host served count (step.Import index asked)) → count < limits.turns → Goes now after (marks_of xs) es
+        → (IsSome now.guest.journal → N es) → Serves gives callee limits.fuel index asked now after served left (Err e) xs es
         → RunsUntil gives callee limits Lives words before after host left (Err e) (answers_in h.turns ++ xs) (so_far callee words before h.turns (event.Ask index asked now.bytes ∷ []) ++ es)
-    ran_refused (error.Fault fault.GuestTrap) xs es h lt goes (r, rose, are) =
+    ran_refused (error.Fault fault.GuestTrap) xs es h lt goes moves (r, rose, are) =
         let t : AskTurn = ask_turn index asked now.guest.live now.bytes xs r.resumed r.memory in
         record {
           turns = h.turns ++ t ∷ [];
@@ -236,13 +211,13 @@ module _ {T : Type 0} (gives : Giving T) (callee : Callee) (limits : Limits) (Li
           longer = r.shorter;
           is = ap (λ ys. so_far callee words before h.turns (event.Ask index asked now.bytes ∷ []) ++ ys) are ∙ joined_turn h.turns t (trap_event (length r.memory) ∷ []);
           stopped = (omega (arith, rose, h.goes.traps_later), refl, (refl, refl, refl));
-          lived = λ told. (each_more Lives (event.Start callee.func words before.bytes ∷ []) h.turns t (h.lived told) (lives _ (h.moves told)), tt);
+          lived = λ told. turn_lived h.turns t (trap_event (length r.memory)) es are (asks _ _ es (h.lived told) (moves (told_later before now _ _ h.goes told)));
         }
-    ran_refused error.TurnsExhausted xs es h lt goes serves = absurd serves
-    ran_refused error.WrongCount xs es h lt goes serves = absurd serves.1
-    ran_refused error.AsyncLifted xs es h lt goes serves = absurd serves.1
-    ran_refused error.CannotEnterComponent xs es h lt goes serves = absurd serves.1
-    ran_refused e xs es h lt goes serves = record {
+    ran_refused error.TurnsExhausted xs es h lt goes moves serves = absurd serves
+    ran_refused error.WrongCount xs es h lt goes moves serves = absurd serves.1
+    ran_refused error.AsyncLifted xs es h lt goes moves serves = absurd serves.1
+    ran_refused error.CannotEnterComponent xs es h lt goes moves serves = absurd serves.1
+    ran_refused e xs es h lt goes moves serves = record {
       turns = h.turns;
       late_live = now.guest.live;
       late = xs;
@@ -269,11 +244,11 @@ module _ {T : Type 0} (gives : Giving T) (callee : Callee) (limits : Limits) (Li
           rises = rises_later e before now after h.goes.traps_later serves.4;
         },
       );
-      lived = λ told. (h.lived told, lives _ (h.moves told));
+      lived = λ told. asks _ _ (events_of xs serves.0) (h.lived told) (subst N serves.2 (moves (told_later before now _ _ h.goes told)));
     }
 
-  module _ (now : Moment) (served : HostSide T) (M : List Event → Type 0) (count : ℕ) where
-    pub ran_returned : (returned : List ℕ) (h : Stepping gives callee limits Lives words before now host served M count (step.Return returned)) → count ≤ limits.turns
+  module _ (now : Moment) (served : HostSide T) (count : ℕ) where
+    pub ran_returned : (returned : List ℕ) (h : Stepping gives callee limits Lives words before now host served count (step.Return returned)) → count ≤ limits.turns
         → RunsUntil gives callee limits Lives words before now host served (Ok returned) (answers_in h.turns) (so_far callee words before h.turns (event.Return returned now.bytes ∷ []))
     ran_returned returned h le = record {
       turns = h.turns;
@@ -289,12 +264,12 @@ module _ {T : Type 0} (gives : Giving T) (callee : Callee) (limits : Limits) (Li
       longer = h.longer;
       is = refl;
       stopped = (refl, (refl, refl, refl));
-      lived = λ told. (h.lived told, tt);
+      lived = h.lived;
     }
 
-    pub ran_exhausted : (lives : (es : List Event) → M es → Lives es now.guest.live) (index : ℕ) (asked : List ℕ) (h : Stepping gives callee limits Lives words before now host served M count (step.Import index asked)) → count ≡ limits.turns
+    pub ran_exhausted : (asks : (stops : List Stop) (xs : List Event) → Lives stops xs → Lives (stops ++ record { events = xs; live = now.guest.live } ∷ []) []) (index : ℕ) (asked : List ℕ) (h : Stepping gives callee limits Lives words before now host served count (step.Import index asked)) → count ≡ limits.turns
         → RunsUntil gives callee limits Lives words before now host served (Err error.TurnsExhausted) (answers_in h.turns) (so_far callee words before h.turns (event.Ask index asked now.bytes ∷ []))
-    ran_exhausted lives index asked h all = record {
+    ran_exhausted asks index asked h all = record {
       turns = h.turns;
       late_live = now.guest.live;
       late = [];
@@ -321,7 +296,7 @@ module _ {T : Type 0} (gives : Giving T) (callee : Callee) (limits : Limits) (Li
           rises = tt;
         },
       );
-      lived = λ told. (h.lived told, lives _ (h.moves told));
+      lived = λ told. asks _ _ (h.lived told);
     }
 
 -- an answer and what it leaves are a step's

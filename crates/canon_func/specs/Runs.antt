@@ -126,19 +126,47 @@ abbrev pub answers_in : List AskTurn → List Answer
 answers_in [] = []
 answers_in (t ∷ turns) = t.answers ++ answers_in turns
 
--- each turn came after these events, and the blocks that lived as it was asked are so, by the events up to the ask
-abbrev pub EachTurn : (List Event → List Block → Type 0) → List Event → List AskTurn → Type 0
-EachTurn Lives front [] = ⊤
-EachTurn Lives front (t ∷ turns) = Lives (front ++ event.Ask t.index t.words t.memory ∷ []) t.live × EachTurn Lives (front ++ events_in (t ∷ [])) turns
+-- ---- the blocks that lived at each ask
 
--- the same, and of an ask after the turns
-abbrev pub AsksFrom : (List Event → List Block → Type 0) → List Event → List AskTurn → List Block → List Event → Type 0
-AsksFrom Lives front turns late_live tail =
-    EachTurn Lives front turns × OnAsk (λ index words memory more. Lives (front ++ (events_in turns ++ event.Ask index words memory ∷ [])) late_live) tail
+-- an ask that a guest came to: the events up to it, from the ask before it on, and the blocks that lived as it was asked
+pub record Stop : Type 0 where
+  pub events : List Event
+  pub live : List Block
 
--- Of all events, which end in those of the turns and what came after them: at each ask the blocks that lived are so.
-abbrev pub AsksLive : (List Event → List Block → Type 0) → List AskTurn → List Block → List Event → List Event → Type 0
+-- what came after an ask: blocks were asked for, and the guest was resumed
+abbrev pub served_in : AskTurn → List Event
+served_in t = events_of t.answers None ++ event.Resume t.resumed_words t.resumed_memory ∷ []
+
+-- the ask of a turn that came after these events
+abbrev pub stop_of : List Event → AskTurn → Stop
+stop_of front t = record { events = front ++ event.Ask t.index t.words t.memory ∷ []; live = t.live }
+
+-- the asks of the turns, which came after these events
+abbrev pub stops_in : List Event → List AskTurn → List Stop
+stops_in front [] = []
+stops_in front (t ∷ turns) = stop_of front t ∷ stops_in (served_in t) turns
+
+-- the events from the last of these asks on
+abbrev pub since_last : List Event → List AskTurn → List Event
+since_last front [] = front
+since_last front (t ∷ turns) = since_last (served_in t) turns
+
+-- By these events and turns and by what came after them, the guest came to the asks of the turns, and to one that came after them, and
+-- did the events that are left.
+abbrev pub AsksFrom : (List Stop → List Event → Type 0) → List Event → List AskTurn → List Block → List Event → Type 0
+AsksFrom Lives front turns late_live (event.Ask index words memory ∷ more) =
+    Lives (stops_in front turns ++ record { events = since_last front turns ++ event.Ask index words memory ∷ []; live = late_live } ∷ []) more
+AsksFrom Lives front turns late_live tail = Lives (stops_in front turns) (since_last front turns ++ tail)
+
+-- the same by all events, which end in those of the turns and what came after them
+abbrev pub AsksLive : (List Stop → List Event → Type 0) → List AskTurn → List Block → List Event → List Event → Type 0
 AsksLive Lives turns late_live tail events = (front : List Event) × (events ≡ front ++ (events_in turns ++ tail)) × AsksFrom Lives front turns late_live tail
+
+-- From one state by the events up to the first ask to a state in which those blocks live, from that one to the next, and so on; and
+-- from the last by the events that are left to such an end.
+abbrev pub Passes : {S : Type 0} → (S → List Event → S → Type 0) → (S → List Block) → (S → List Event → Type 0) → S → List Stop → List Event → Type 0
+Passes moves live Ends s [] rest = Ends s rest
+Passes {S} moves live Ends s (stop ∷ stops) rest = (next : S) × moves s stop.events next × (live next ≡ stop.live) × Passes moves live Ends next stops rest
 
 -- what came after the turns: where it is one more ask, which isn't resumed, blocks were asked for with these answers, and else none
 abbrev pub EndsAsking : List Answer → Option Trap → List Event → Type 0

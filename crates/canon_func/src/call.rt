@@ -6,7 +6,7 @@ ghost use Rattle.canon_context.specs.Core.{guest_of, moment_of};
 ghost use Rattle.canon_ledger.specs.Ledger.{LedgerState, enter};
 ghost use Rattle.canon_host.specs.HostSide.{host_side};
 ghost use Rattle.canon_func.specs.Asks.{allowed};
-ghost use Rattle.canon_func.specs.Call.{Adding, IsCallOf, LivesAfter, OnAnswered};
+ghost use Rattle.canon_func.specs.Call.{Adding, IsCallOf, LivesUntil, OnAnswered};
 ghost use Rattle.canon_func.specs.Steps.{IsLate, IsRest, SameButHost, Serving, map_ok};
 ghost use Rattle.canon_func.specs.Stores.{export_callee};
 
@@ -35,7 +35,7 @@ pub(crate) fn call_core<T, G: Guest, I: Imports<T, G>, P: Params, R: Results>(
     ensures call { Adding (moment_of G.seen core.old) (moment_of G.seen core.new)
         (λ events. OnAnswered result (G.moves (guest_of core.old) events (guest_of core.new)))
         (λ events. IsCallOf (P.args params.old (export_callee core.old.component export.now)) (R.returns (export_callee core.old.component export.now) export.now.options core.old.id)
-        (LivesAfter G.seen G.moves (guest_of core.old)) G.leaves (I.gives (I.plan imports.old))
+        (LivesUntil G.seen G.moves (guest_of core.old) (guest_of core.new) result) G.leaves (I.gives (I.plan imports.old))
         (export_callee core.old.component export.now) (allowed core.old.fuel turns) (moment_of G.seen core.old) (moment_of G.seen core.new)
         (host_side core.old (I.log imports.old) (I.refusals imports.old)) (host_side core.new (I.log imports.new) (I.refusals imports.new)) (map_ok R.out result) events) }
     ensures late { IfErr result IsLate }
@@ -67,7 +67,7 @@ fn call_in_scope<T, G: Guest, I: Imports<T, G>, P: Params, R: Results>(
         (λ events. OnAnswered result (G.moves (guest_of core.old) events (guest_of core.new)))
         (λ events. (before : LedgerState) → enter before ≡ core.old.ledger
         → IsCallOf (P.args params.old (export_callee core.old.component export.now)) (R.returns (export_callee core.old.component export.now) export.now.options core.old.id)
-        (LivesAfter G.seen G.moves (guest_of core.old)) G.leaves (I.gives (I.plan imports.old))
+        (LivesUntil G.seen G.moves (guest_of core.old) (guest_of core.new) result) G.leaves (I.gives (I.plan imports.old))
         (export_callee core.old.component export.now) (allowed core.old.fuel turns) (moment_of G.seen core.old) (moment_of G.seen core.new)
         (host_side (record core.old { ledger = before }) (I.log imports.old) (I.refusals imports.old)) (host_side core.new (I.log imports.new) (I.refusals imports.new)) (map_ok R.out result) events) }
     ensures late { IfErr result IsLate }
@@ -97,7 +97,7 @@ fn call_lowered<T, G: Guest, I: Imports<T, G>, R: Results>(
     ensures did { Serving (moment_of G.seen core.old) (moment_of G.seen core.new)
         (λ events. OnAnswered result (G.moves (guest_of core.old) events (guest_of core.new)))
         (λ answers events. IsRest (R.returns (export_callee core.old.component export.now) export.now.options core.old.id) (I.gives (I.plan imports.old)) (export_callee core.old.component export.now) (allowed core.old.fuel turns)
-        (LivesAfter G.seen G.moves (guest_of core.old)) G.leaves words.now (moment_of G.seen core.old) (moment_of G.seen core.new)
+        (LivesUntil G.seen G.moves (guest_of core.old) (guest_of core.new) result) G.leaves words.now (moment_of G.seen core.old) (moment_of G.seen core.new)
         (host_side core.old (I.log imports.old) (I.refusals imports.old)) (host_side core.new (I.log imports.new) (I.refusals imports.new)) (map_ok R.out result) answers events) }
     ensures counted { IfOk result (R.counted (export_callee core.old.component export.now)) }
     ensures same { SameButHost core.old core.new }

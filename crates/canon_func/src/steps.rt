@@ -11,7 +11,7 @@ ghost use Rattle.canon_ledger.specs.Handles.{can_leave};
 ghost use Rattle.canon_ledger.specs.Ledger.{leave};
 ghost use Rattle.canon_host.specs.HostSide.{host_side};
 ghost use Rattle.canon_func.specs.Asks.{allowed};
-ghost use Rattle.canon_func.specs.Call.{LivesAfter, OnAnswered, words_within};
+ghost use Rattle.canon_func.specs.Call.{LivesUntil, OnAnswered, words_within};
 ghost use Rattle.canon_func.specs.Steps.{Ended, Posted, Proceeds, RunsToEnd, SameButHost, Serving};
 ghost use Rattle.canon_func.specs.Stores.{export_callee, params_in, results_in};
 
@@ -75,7 +75,7 @@ pub(crate) fn run<T, G: Guest, I: Imports<T, G>>(
     ensures did { Serving (moment_of G.seen core.old) (moment_of G.seen core.new)
         (λ events. OnAnswered result (G.moves (guest_of core.old) events (guest_of core.new)))
         (λ answers events. RunsToEnd (I.gives (I.plan imports.old)) (export_callee core.old.component export.now) (allowed core.old.fuel turns)
-        (LivesAfter G.seen G.moves (guest_of core.old)) words.now (moment_of G.seen core.old) (moment_of G.seen core.new)
+        (LivesUntil G.seen G.moves (guest_of core.old) (guest_of core.new) result) words.now (moment_of G.seen core.old) (moment_of G.seen core.new)
         (host_side core.old (I.log imports.old) (I.refusals imports.old)) (host_side core.new (I.log imports.new) (I.refusals imports.new)) result answers events) }
     ensures same { SameButHost core.old core.new }
     ensures plan { I.plan imports.new ≡ I.plan imports.old }

@@ -4,7 +4,7 @@ ghost use Rattle.std.specs.Prelude.{◌≡◌, Err, Ok, IfSome, IsNone, OnErr, O
 ghost use Rattle.canon_context.specs.Core.{guest_of, moment_of};
 ghost use Rattle.canon_host.specs.HostSide.{host_side};
 ghost use Rattle.canon_func.specs.Asks.{allowed};
-ghost use Rattle.canon_func.specs.Call.{Adding, IsCallOf, LivesAfter, OnAnswered, entry_refusal, refused_by};
+ghost use Rattle.canon_func.specs.Call.{Adding, IsCallOf, LivesUntil, OnAnswered, entry_refusal, refused_by};
 ghost use Rattle.canon_func.specs.Steps.{SameButHost};
 ghost use Rattle.canon_func.specs.Stores.{IsOwned, callee_of, type_of};
 ghost use Rattle.canon_func.specs.Typed.{FitsParams, FitsResults, done_by, options_in, params_shape, typed_args, typed_results};
@@ -78,7 +78,7 @@ impl<P: ComponentNamedList + Lower, R: ComponentNamedList + Lift> TypedFunc<P, R
             (λ events. OnAnswered result (G.moves (guest_of store.old.core) events (guest_of store.new.core)))
             (λ events. IsCallOf (typed_args (P.walks params) (P.gives store.old.core.component.types (params_shape (callee_of store.old self.now.func)) params) (callee_of store.old self.now.func))
             (typed_results R.reading (options_in store.old self.now.func) store.old.core.id (callee_of store.old self.now.func))
-            (LivesAfter G.seen G.moves (guest_of store.old.core)) G.leaves (I.gives (I.plan store.old.imports)) (callee_of store.old self.now.func)
+            (LivesUntil G.seen G.moves (guest_of store.old.core) (guest_of store.new.core) result) G.leaves (I.gives (I.plan store.old.imports)) (callee_of store.old self.now.func)
             (allowed store.old.core.fuel store.old.turns) (moment_of G.seen store.old.core) (moment_of G.seen store.new.core)
             (host_side store.old.core (I.log store.old.imports) (I.refusals store.old.imports)) (host_side store.new.core (I.log store.new.imports) (I.refusals store.new.imports)) result events) }
         ensures trapped { IsNone (refused_by (done_by result)) → OnErr result (store.new.trapped ≡ true) }

@@ -6,11 +6,14 @@ use Rattle.canon_memory.specs.Guest.{Goes}
 use Rattle.canon_context.specs.Core.{guest_of, moment_of}
 use Rattle.canon_host.specs.HostSide.{host_side}
 use Rattle.canon_func.specs.Asks.{allowed}
-use Rattle.canon_func.specs.Call.{LivesAfter, OnAnswered}
+use Rattle.canon_func.specs.Call.{LivesUntil, OnAnswered}
+use Rattle.canon_func.specs.Runs.{Stop}
 use Rattle.canon_func.specs.Steps.{Serves, Serving, Stepping}
 use Rattle.canon_func.specs.Stores.{export_callee}
+use Rattle.canon_func.specs.declared.error.Error.{Error}
 use Rattle.canon_func.proofs.Asking.{but_host, has_exhausted, has_returned, has_stopped, not_started, side_same, then_host}
-use Rattle.canon_func.proofs.Composed.{answered, retyped}
+use Rattle.canon_func.proofs.Composed.{retyped}
+use Rattle.canon_func.proofs.Lived.{lives_ask, lives_then}
 use Rattle.canon_func.proofs.Turns.{stepping_begin, stepping_more, told_later}
 use Rattle.canon_func.proofs.asks.run_core.Goals as goal
 
@@ -23,8 +26,8 @@ returns-in-Err-clause-did g c =
     let before = c.args.core.now in
     let after = c.start.new.core in
     let e = c.in-Err.error in
-    not_started (imports.gives (imports.plan i)) (export_callee before.component c.args.export.now) (allowed before.fuel c.args.turns) (LivesAfter g.G.Guest.seen g.G.Guest.moves (guest_of before)) c.args.words.now (moment_of seen before) (host_side before (imports.log i) (imports.refusals i)) (moment_of seen after)
-    (host_side after (imports.log i) (imports.refusals i)) e (λ es. OnAnswered {T = Step} (Err e) (moves (guest_of before) es (guest_of after))) _ (λ es h. retyped Step (List ℕ) e (moves (guest_of before) es (guest_of after)) h)
+    not_started (imports.gives (imports.plan i)) (export_callee before.component c.args.export.now) (allowed before.fuel c.args.turns) (LivesUntil {U = List ℕ} g.G.Guest.seen g.G.Guest.moves (guest_of before) (guest_of after) (Err e)) c.args.words.now (moment_of seen before) (host_side before (imports.log i) (imports.refusals i)) (moment_of seen after)
+    (host_side after (imports.log i) (imports.refusals i)) e (λ es. OnAnswered {T = Step} (Err e) (moves (guest_of before) es (guest_of after))) (λ es h. retyped Step (List ℕ) e (moves (guest_of before) es (guest_of after)) h)
     (side_same before after (imports.log i) (imports.refusals i) c.in-Err.ensures.same) c.in-Err.ensures.did
 
 pub loop-init : goal.loop-init
@@ -44,9 +47,9 @@ loop-init g c =
       same = but_host before now c.in-Ok.ensures.same;
       plan = refl;
       ready = c.requires.ready;
-      stepping = subst (λ k. Stepping gives callee limits (LivesAfter g.G.Guest.seen g.G.Guest.moves (guest_of before)) c.args.words.now (moment_of seen before) (moment_of seen now) host k (λ es. moves (guest_of before) es (guest_of now)) 0 c.in-Ok.step)
+      stepping = subst (λ k. Stepping gives callee limits (LivesUntil {U = Unit {0}} g.G.Guest.seen g.G.Guest.moves (guest_of before) (guest_of now) (Ok tt)) c.args.words.now (moment_of seen before) (moment_of seen now) host k 0 c.in-Ok.step)
           (sym (side_same before now (imports.log i) (imports.refusals i) c.in-Ok.ensures.same))
-          (stepping_begin gives callee limits (LivesAfter g.G.Guest.seen g.G.Guest.moves (guest_of before)) c.args.words.now (moment_of seen before) host (moment_of seen now) (λ es. moves (guest_of before) es (guest_of now)) c.in-Ok.step
+          (stepping_begin gives callee limits (LivesUntil {U = Unit {0}} g.G.Guest.seen g.G.Guest.moves (guest_of before) (guest_of now) (Ok tt)) c.args.words.now (moment_of seen before) host (moment_of seen now) c.in-Ok.step
           (subst (λ es. Goes (moment_of seen before) (moment_of seen now) [] es) did.so did.goes) (λ told. subst (λ es. moves (guest_of before) es (guest_of now)) did.so did.moves));
     }
 
@@ -71,19 +74,18 @@ returns-in-Err-serve-clause-did g c =
     let host = host_side before (imports.log i) (imports.refusals i) in
     let served = host_side mid (imports.log j) (imports.refusals j) in
     let left = host_side after (imports.log k) (imports.refusals k) in
-    let M : List Event → Type 0 = λ es. moves (guest_of before) es (guest_of mid) in
-    let so_far : Stepping gives callee limits (LivesAfter g.G.Guest.seen g.G.Guest.moves (guest_of before)) words (moment_of seen before) (moment_of seen mid) host served M c.loop.counter (step.Import index asked) =
-    subst (λ ws. Stepping gives callee limits (LivesAfter g.G.Guest.seen g.G.Guest.moves (guest_of before)) words (moment_of seen before) (moment_of seen mid) host served M c.loop.counter (step.Import index ws)) (sym c.as_slice.ensures)
-    (subst (λ st. Stepping gives callee limits (LivesAfter g.G.Guest.seen g.G.Guest.moves (guest_of before)) words (moment_of seen before) (moment_of seen mid) host served M c.loop.counter st) c.in-Import.is c.loop.invariant.stepping) in
+    let before_lives : List Stop → List Event → Type 0 = LivesUntil {U = Unit {0}} g.G.Guest.seen g.G.Guest.moves (guest_of before) (guest_of mid) (Ok tt) in
+    let so_far : Stepping gives callee limits before_lives words (moment_of seen before) (moment_of seen mid) host served c.loop.counter (step.Import index asked) =
+    subst (λ ws. Stepping gives callee limits before_lives words (moment_of seen before) (moment_of seen mid) host served c.loop.counter (step.Import index ws)) (sym c.as_slice.ensures)
+    (subst (λ st. Stepping gives callee limits before_lives words (moment_of seen before) (moment_of seen mid) host served c.loop.counter st) c.in-Import.is c.loop.invariant.stepping) in
     let N : List Event → Type 0 = λ es. OnAnswered {T = Step} (Err e) (moves (guest_of mid) es (guest_of after)) in
     let one : Serving (moment_of seen mid) (moment_of seen after) N (Serves gives callee before.fuel index asked (moment_of seen mid) (moment_of seen after) served left (Err e)) =
     subst (λ p. Serving (moment_of seen mid) (moment_of seen after) N (Serves (imports.gives p) callee before.fuel index asked (moment_of seen mid) (moment_of seen after) served left (Err e))) c.loop.invariant.plan
     (subst (λ q. Serving (moment_of seen mid) (moment_of seen after) N (Serves (imports.gives (imports.plan j)) (export_callee q.component c.args.export.now) q.fuel index asked (moment_of seen mid) (moment_of seen after) served left (Err e)))
     c.loop.invariant.same c.in-Err-serve.ensures.did) in
-    has_stopped gives callee limits (LivesAfter g.G.Guest.seen g.G.Guest.moves (guest_of before)) words (moment_of seen before) host (moment_of seen mid) (moment_of seen after) served left M N _ (told_later (moment_of seen before) (moment_of seen mid) _ _ so_far.goes)
-    (λ xs ys p q. retyped Step (List ℕ) e (moves (guest_of before) (xs ++ ys) (guest_of after)) (answered {T = Step} (Err e) (moves (guest_of mid) ys (guest_of after)) (moves (guest_of before) (xs ++ ys) (guest_of after))
-    (λ r. g.met.G.Guest.goes_on (guest_of before) (guest_of mid) (guest_of after) xs ys p r) q))
-    (λ es does. (guest_of mid, does, refl))
+    has_stopped gives callee limits (LivesUntil {U = List ℕ} g.G.Guest.seen g.G.Guest.moves (guest_of before) (guest_of after) (Err e)) words (moment_of seen before) host (moment_of seen mid) (moment_of seen after) served left before_lives N (told_later (moment_of seen before) (moment_of seen mid) _ _ so_far.goes)
+    (λ xs ys p q. lives_then seen moves tt (Err {T = List ℕ} e) (guest_of before) (guest_of mid) (guest_of after) g.met.G.Guest.goes_on [] xs ys p (retyped Step (List ℕ) e (moves (guest_of mid) ys (guest_of after)) q))
+    (λ stops xs ys p q. lives_ask seen moves tt (Err {T = List ℕ} e) (guest_of before) (guest_of mid) (guest_of after) stops xs ys p (retyped Step (List ℕ) e (moves (guest_of mid) ys (guest_of after)) q))
     c.loop.counter index asked e so_far (omega (arith, c.loop-test.true)) one
 
 pub loop-preserved : goal.loop-preserved
@@ -107,10 +109,10 @@ loop-preserved g c =
     let host = host_side before (imports.log i) (imports.refusals i) in
     let served = host_side mid (imports.log j) (imports.refusals j) in
     let left = host_side after (imports.log k) (imports.refusals k) in
-    let M : List Event → Type 0 = λ es. moves (guest_of before) es (guest_of mid) in
-    let so_far : Stepping gives callee limits (LivesAfter g.G.Guest.seen g.G.Guest.moves (guest_of before)) words (moment_of seen before) (moment_of seen mid) host served M c.loop.counter (step.Import index asked) =
-    subst (λ ws. Stepping gives callee limits (LivesAfter g.G.Guest.seen g.G.Guest.moves (guest_of before)) words (moment_of seen before) (moment_of seen mid) host served M c.loop.counter (step.Import index ws)) (sym c.as_slice.ensures)
-    (subst (λ st. Stepping gives callee limits (LivesAfter g.G.Guest.seen g.G.Guest.moves (guest_of before)) words (moment_of seen before) (moment_of seen mid) host served M c.loop.counter st) c.in-Import.is c.loop.invariant.stepping) in
+    let before_lives : List Stop → List Event → Type 0 = LivesUntil {U = Unit {0}} g.G.Guest.seen g.G.Guest.moves (guest_of before) (guest_of mid) (Ok tt) in
+    let so_far : Stepping gives callee limits before_lives words (moment_of seen before) (moment_of seen mid) host served c.loop.counter (step.Import index asked) =
+    subst (λ ws. Stepping gives callee limits before_lives words (moment_of seen before) (moment_of seen mid) host served c.loop.counter (step.Import index ws)) (sym c.as_slice.ensures)
+    (subst (λ st. Stepping gives callee limits before_lives words (moment_of seen before) (moment_of seen mid) host served c.loop.counter st) c.in-Import.is c.loop.invariant.stepping) in
     let did = c.in-Ok-serve.ensures.did in
     let one : Serves gives callee before.fuel index asked (moment_of seen mid) (moment_of seen after) served left (Ok next) did.answers did.events =
     subst (λ p. Serves (imports.gives p) callee before.fuel index asked (moment_of seen mid) (moment_of seen after) served left (Ok next) did.answers did.events) c.loop.invariant.plan
@@ -120,8 +122,9 @@ loop-preserved g c =
       same = then_host before mid after c.loop.invariant.same c.in-Ok-serve.ensures.same;
       plan = c.in-Ok-serve.ensures.plan ∙ c.loop.invariant.plan;
       ready = c.in-Ok-serve.ensures.still_ready;
-      stepping = stepping_more gives callee limits (LivesAfter g.G.Guest.seen g.G.Guest.moves (guest_of before)) words (moment_of seen before) host (moment_of seen mid) (moment_of seen after) served left M (λ es. moves (guest_of mid) es (guest_of after)) (λ es. moves (guest_of before) es (guest_of after))
-          (λ xs ys p q. g.met.G.Guest.goes_on (guest_of before) (guest_of mid) (guest_of after) xs ys p q) (λ es does. (guest_of mid, does, refl)) c.loop.counter index asked next did.answers did.events so_far did.goes did.moves one;
+      stepping = stepping_more gives callee limits (LivesUntil {U = Unit {0}} g.G.Guest.seen g.G.Guest.moves (guest_of before) (guest_of after) (Ok tt)) words (moment_of seen before) host (moment_of seen mid) (moment_of seen after) served left before_lives (λ es. moves (guest_of mid) es (guest_of after))
+          (lives_then seen moves tt (Ok {T = Unit {0}} {E = Error} tt) (guest_of before) (guest_of mid) (guest_of after) g.met.G.Guest.goes_on [])
+          (lives_ask seen moves tt (Ok {T = Unit {0}} {E = Error} tt) (guest_of before) (guest_of mid) (guest_of after)) c.loop.counter index asked next did.answers did.events so_far did.goes did.moves one;
     }
 
 pub returns-in-Return-clause-did : goal.returns-in-Return-clause-did
@@ -137,9 +140,9 @@ returns-in-Return-clause-did g c =
     let limits = allowed before.fuel c.args.turns in
     let host = host_side before (imports.log i) (imports.refusals i) in
     let served = host_side now (imports.log j) (imports.refusals j) in
-    let M : List Event → Type 0 = λ es. g.G.Guest.moves (guest_of before) es (guest_of now) in
-    has_returned gives callee limits (LivesAfter g.G.Guest.seen g.G.Guest.moves (guest_of before)) c.args.words.now (moment_of seen before) host (moment_of seen now) served M c.loop.counter c.in-Return.words
-    (subst (λ st. Stepping gives callee limits (LivesAfter g.G.Guest.seen g.G.Guest.moves (guest_of before)) c.args.words.now (moment_of seen before) (moment_of seen now) host served M c.loop.counter st) c.in-Return.is c.loop.invariant.stepping) (omega (arith, c.loop-test.true))
+    let lives : List Stop → List Event → Type 0 = LivesUntil {U = Unit {0}} g.G.Guest.seen g.G.Guest.moves (guest_of before) (guest_of now) (Ok tt) in
+    has_returned gives callee limits lives c.args.words.now (moment_of seen before) host (moment_of seen now) served c.loop.counter c.in-Return.words
+    (subst (λ st. Stepping gives callee limits lives c.args.words.now (moment_of seen before) (moment_of seen now) host served c.loop.counter st) c.in-Return.is c.loop.invariant.stepping) (omega (arith, c.loop-test.true))
 
 pub returns-in-Return-step-clause-did : goal.returns-in-Return-step-clause-did
 returns-in-Return-step-clause-did g c =
@@ -154,9 +157,9 @@ returns-in-Return-step-clause-did g c =
     let limits = allowed before.fuel c.args.turns in
     let host = host_side before (imports.log i) (imports.refusals i) in
     let served = host_side now (imports.log j) (imports.refusals j) in
-    let M : List Event → Type 0 = λ es. g.G.Guest.moves (guest_of before) es (guest_of now) in
-    has_returned gives callee limits (LivesAfter g.G.Guest.seen g.G.Guest.moves (guest_of before)) c.args.words.now (moment_of seen before) host (moment_of seen now) served M c.loop.counter c.in-Return-step.words
-    (subst (λ st. Stepping gives callee limits (LivesAfter g.G.Guest.seen g.G.Guest.moves (guest_of before)) c.args.words.now (moment_of seen before) (moment_of seen now) host served M c.loop.counter st) c.in-Return-step.is c.loop.invariant.stepping) (omega (arith, c.loop.auto.counter-end))
+    let lives : List Stop → List Event → Type 0 = LivesUntil {U = Unit {0}} g.G.Guest.seen g.G.Guest.moves (guest_of before) (guest_of now) (Ok tt) in
+    has_returned gives callee limits lives c.args.words.now (moment_of seen before) host (moment_of seen now) served c.loop.counter c.in-Return-step.words
+    (subst (λ st. Stepping gives callee limits lives c.args.words.now (moment_of seen before) (moment_of seen now) host served c.loop.counter st) c.in-Return-step.is c.loop.invariant.stepping) (omega (arith, c.loop.auto.counter-end))
 
 pub returns-clause-did : goal.returns-clause-did
 returns-clause-did g c =
@@ -171,6 +174,6 @@ returns-clause-did g c =
     let limits = allowed before.fuel c.args.turns in
     let host = host_side before (imports.log i) (imports.refusals i) in
     let served = host_side now (imports.log j) (imports.refusals j) in
-    let M : List Event → Type 0 = λ es. g.G.Guest.moves (guest_of before) es (guest_of now) in
-    has_exhausted gives callee limits (LivesAfter g.G.Guest.seen g.G.Guest.moves (guest_of before)) c.args.words.now (moment_of seen before) host (moment_of seen now) served M c.loop.counter (λ es does. (guest_of now, does, refl)) c.in-Import-step.index c.in-Import-step.words
-    (subst (λ st. Stepping gives callee limits (LivesAfter g.G.Guest.seen g.G.Guest.moves (guest_of before)) c.args.words.now (moment_of seen before) (moment_of seen now) host served M c.loop.counter st) c.in-Import-step.is c.loop.invariant.stepping) (omega (arith, c.loop-test.false, c.loop.auto.counter-end))
+    let lives : List Stop → List Event → Type 0 = LivesUntil {U = Unit {0}} g.G.Guest.seen g.G.Guest.moves (guest_of before) (guest_of now) (Ok tt) in
+    has_exhausted gives callee limits lives c.args.words.now (moment_of seen before) host (moment_of seen now) served c.loop.counter (λ stops xs p. lives_ask seen g.G.Guest.moves tt (Ok {T = Unit {0}} {E = Error} tt) (guest_of before) (guest_of now) (guest_of now) stops xs [] p (g.met.G.Guest.stays (guest_of now))) c.in-Import-step.index c.in-Import-step.words
+    (subst (λ st. Stepping gives callee limits lives c.args.words.now (moment_of seen before) (moment_of seen now) host served c.loop.counter st) c.in-Import-step.is c.loop.invariant.stepping) (omega (arith, c.loop-test.false, c.loop.auto.counter-end))

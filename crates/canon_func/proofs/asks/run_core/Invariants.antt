@@ -1,6 +1,6 @@
 -- The guest was started, and each of its asks so far was served.
-use Rattle.std.proofs.Common.{◌≡◌}
-use Rattle.canon_func.specs.Call.{LivesAfter}
+use Rattle.std.proofs.Common.{Ok, ◌≡◌}
+use Rattle.canon_func.specs.Call.{LivesUntil}
 use Rattle.canon_context.specs.Core.{guest_of, moment_of}
 use Rattle.canon_host.specs.HostSide.{host_side}
 use Rattle.canon_func.specs.Asks.{allowed}
@@ -16,6 +16,6 @@ invariant-loop g l =
       same : SameButHost l.fn.core l.core;
       plan : imports.plan l.imports ≡ imports.plan l.fn.imports;
       ready : imports.ready l.imports;
-      stepping : Stepping (imports.gives (imports.plan l.fn.imports)) (export_callee l.fn.core.component l.export) (allowed l.fn.core.fuel l.turns) (LivesAfter seen g.G.Guest.moves (guest_of l.fn.core)) l.words (moment_of seen l.fn.core) (moment_of seen l.core)
-          (host_side l.fn.core (imports.log l.fn.imports) (imports.refusals l.fn.imports)) (host_side l.core (imports.log l.imports) (imports.refusals l.imports)) (λ es. g.G.Guest.moves (guest_of l.fn.core) es (guest_of l.core)) l.counter l.step;
+      stepping : Stepping (imports.gives (imports.plan l.fn.imports)) (export_callee l.fn.core.component l.export) (allowed l.fn.core.fuel l.turns) (LivesUntil {U = Unit {0}} seen g.G.Guest.moves (guest_of l.fn.core) (guest_of l.core) (Ok tt)) l.words (moment_of seen l.fn.core) (moment_of seen l.core)
+          (host_side l.fn.core (imports.log l.fn.imports) (imports.refusals l.fn.imports)) (host_side l.core (imports.log l.imports) (imports.refusals l.imports)) l.counter l.step;
     }

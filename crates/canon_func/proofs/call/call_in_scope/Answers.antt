@@ -4,7 +4,7 @@ use Rattle.canon_context.specs.Core.{guest_of, moment_of}
 use Rattle.canon_context.specs.declared.component.Component.{Component}
 use Rattle.canon_host.specs.HostSide.{host_side}
 use Rattle.canon_func.specs.Asks.{allowed}
-use Rattle.canon_func.specs.Call.{LivesAfter, OnAnswered}
+use Rattle.canon_func.specs.Call.{LivesUntil, OnAnswered}
 use Rattle.canon_func.specs.Steps.{IsRest, Serving, map_ok}
 use Rattle.canon_func.specs.Stores.{export_callee}
 use Rattle.canon_func.proofs.Composed.{lowered_is_late, rest_is_late}
@@ -30,7 +30,7 @@ returns-in-Ok-clause-call g c =
     let left = host_side after (imports.log j) (imports.refusals j) in
     let RestOf : Component → ℕ → ℕ → List ℕ → Type 0 = λ comp fuel id ws. let d = export_callee comp c.args.export.now in
     Serving (moment_of seen mid) (moment_of seen after) (λ es. OnAnswered result (moves (guest_of mid) es (guest_of after)))
-    (IsRest (g.R.Results.returns d c.args.export.now.options id) gives d (allowed fuel c.args.turns) (LivesAfter seen moves (guest_of mid)) g.G.Guest.leaves ws (moment_of seen mid) (moment_of seen after) from left (map_ok g.R.Results.out result)) in
+    (IsRest (g.R.Results.returns d c.args.export.now.options id) gives d (allowed fuel c.args.turns) (LivesUntil seen moves (guest_of mid) (guest_of after) result) g.G.Guest.leaves ws (moment_of seen mid) (moment_of seen after) from left (map_ok g.R.Results.out result)) in
     lowered (g.P.Params.args c.args.params.now callee) (g.R.Results.returns callee c.args.export.now.options before.id) gives callee (allowed before.fuel c.args.turns) seen moves g.G.Guest.leaves (imports.log i) (imports.refusals i) result (map_ok g.R.Results.out result) before mid after left words
     c.lower.ensures.same g.met.G.Guest.goes_on c.in-Ok.ensures.lowered
     (subst (λ k. RestOf k.component k.fuel k.id words.items) c.lower.ensures.same (subst (λ ws. RestOf mid.component mid.fuel mid.id ws) c.deref.ensures.value c.call_lowered.ensures.did))

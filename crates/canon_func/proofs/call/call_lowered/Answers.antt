@@ -4,11 +4,12 @@ use Rattle.canon_context.specs.declared.component.Component.{Component}
 use Rattle.canon_context.specs.declared.fault.Fault.{Fault}
 use Rattle.canon_host.specs.HostSide.{host_side}
 use Rattle.canon_func.specs.Asks.{allowed}
-use Rattle.canon_func.specs.Call.{LivesAfter, OnAnswered}
+use Rattle.canon_func.specs.Call.{LivesUntil, OnAnswered}
 use Rattle.canon_func.specs.Steps.{Lifted, Posted, Proceeds, map_ok}
 use Rattle.canon_func.specs.Stores.{export_callee}
-use Rattle.canon_func.proofs.Composed.{retyped, run_refused}
+use Rattle.canon_func.proofs.Composed.{run_refused}
 use Rattle.canon_func.proofs.Finishing.{completed, failed, may_leave, unlifted}
+use Rattle.canon_func.proofs.Lived.{lives_retyped}
 use Rattle.canon_func.proofs.call.call_lowered.Goals as goal
 
 pub returns-in-Err-clause-did : goal.returns-in-Err-clause-did
@@ -23,10 +24,9 @@ returns-in-Err-clause-did g c =
     let callee = export_callee before.component c.args.export.now in
     let e = c.in-Err.error in
     run_refused (g.R.Results.returns callee c.args.export.now.options before.id) (imports.gives (imports.plan i)) callee
-    (allowed before.fuel c.args.turns) (LivesAfter seen moves (guest_of before)) g.G.Guest.leaves (g.met.R.Results.law callee c.args.export.now.options before.id) c.args.words.now
-    (g.met.I.Imports.lawful (imports.plan i)) (moment_of seen before) (moment_of seen after)
-    (host_side before (imports.log i) (imports.refusals i)) (host_side after (imports.log j) (imports.refusals j)) e (λ es. OnAnswered {T = List ℕ} (Err e) (moves (guest_of before) es (guest_of after)))
-    (λ es. OnAnswered {T = g.row.R.Denot} (Err e) (moves (guest_of before) es (guest_of after))) (λ es h. retyped (List ℕ) g.row.R.Denot e (moves (guest_of before) es (guest_of after)) h) c.in-Err.ensures.did
+    (allowed before.fuel c.args.turns) (LivesUntil {U = g.row.R.Denot} seen moves (guest_of before) (guest_of after) (Err e)) g.G.Guest.leaves (g.met.R.Results.law callee c.args.export.now.options before.id) c.args.words.now
+    (g.met.I.Imports.lawful (imports.plan i)) (LivesUntil {U = List ℕ} seen moves (guest_of before) (guest_of after) (Err e)) (lives_retyped seen moves (List ℕ) g.row.R.Denot e (guest_of before) (guest_of after)) (moment_of seen before) (moment_of seen after)
+    (host_side before (imports.log i) (imports.refusals i)) (host_side after (imports.log j) (imports.refusals j)) e c.in-Err.ensures.did
 
 pub returns-in-Err-lift-clause-did : goal.returns-in-Err-lift-clause-did
 returns-in-Err-lift-clause-did g c =
