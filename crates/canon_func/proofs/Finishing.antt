@@ -50,7 +50,7 @@ module _ {T G R : Type 0} (its : ReturnedValues R) (gives : Giving T) (callee : 
         (run_returned its gives callee limits (LivesUntil {U = U} seen moves (guest_of before) (guest_of ran) (Err e)) Leaves law words (moment_of seen before) (moment_of seen ran) (moment_of seen ran) host (host_side ran log refusals)
         (record (host_side ran log refusals) { ledger = lifted.ledger }) refl returned (Err e)
         (LivesUntil {U = List ℕ} seen moves (guest_of before) (guest_of ran) (Ok returned)) N
-        (lives_then seen moves returned (Err {T = U} e) (guest_of before) (guest_of ran) (guest_of ran) goes_on) first
+        (lives_then seen moves U (List ℕ) returned (Err e) (guest_of before) (guest_of ran) (guest_of ran) goes_on) first
         (conclude_unlifted its Leaves callee limits.fuel returned ran.ledger (seen ran.guest) ran.memory lifted.ledger f N h (answers {T = U} (Err e) (moves (guest_of ran) [] (guest_of ran)) (stays (guest_of ran)))))
 
     module _ (after : Parts T G) (kept : SameButHandles lifted after) (results : R) (h : Lifted its limits.fuel returned ran.memory ran.ledger lifted.ledger (Ok results)) where
@@ -70,7 +70,7 @@ module _ {T G R : Type 0} (its : ReturnedValues R) (gives : Giving T) (callee : 
           run_returned its gives callee limits (LivesUntil {U = U} seen moves (guest_of before) (guest_of after) (Err e)) Leaves law words (moment_of seen before) (moment_of seen ran) (moment_of seen after) host (host_side ran log refusals) (host_side after log refusals)
           (side_handles ran after log refusals from_ran) returned (Err e)
           (LivesUntil {U = List ℕ} seen moves (guest_of before) (guest_of ran) (Ok returned)) N
-          (lives_then seen moves returned (Err {T = U} e) (guest_of before) (guest_of ran) (guest_of after) goes_on) first
+          (lives_then seen moves U (List ℕ) returned (Err e) (guest_of before) (guest_of ran) (guest_of after) goes_on) first
           (subst (λ (l : LedgerState). Proceeds (moment_of seen ran) (moment_of seen after) N (Concluded its Leaves callee limits.fuel returned (moment_of seen ran) (moment_of seen after) ran.ledger l (Err e))) (sym left) concluded)
 
       -- and the whole was done
@@ -79,5 +79,5 @@ module _ {T G R : Type 0} (its : ReturnedValues R) (gives : Giving T) (callee : 
           run_returned its gives callee limits (LivesUntil {U = U} seen moves (guest_of before) (guest_of after) (Ok u)) Leaves law words (moment_of seen before) (moment_of seen ran) (moment_of seen after) host (host_side ran log refusals) (host_side after log refusals)
           (side_handles ran after log refusals from_ran) returned (Ok results)
           (LivesUntil {U = List ℕ} seen moves (guest_of before) (guest_of ran) (Ok returned)) (λ es. moves (guest_of ran) es (guest_of after))
-          (lives_then seen moves returned (Ok {T = U} {E = Error} u) (guest_of before) (guest_of ran) (guest_of after) goes_on) first
+          (lives_then seen moves U (List ℕ) returned (Ok u) (guest_of before) (guest_of ran) (guest_of after) goes_on) first
           (conclude_done its Leaves callee limits.fuel returned ran.ledger (moment_of seen ran) (moment_of seen after) lifted.ledger results h after.ledger (λ es. moves (guest_of ran) es (guest_of after)) left (finished (Ok tt) p))
