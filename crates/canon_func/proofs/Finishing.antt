@@ -75,7 +75,7 @@ module _ {T G R : Type 0} (its : ReturnedValues R) (gives : Giving T) (callee : 
 
       -- and the whole was done
       pub completed : {U : Type 0} (u : U) → after.ledger ≡ leave lifted.ledger → Finished lifted (Ok tt) after → Rest {U = U} (Ok u) (Ok results) after
-      completed u left p =
+      completed {U} u left p =
           run_returned its gives callee limits (LivesUntil {U = U} seen moves (guest_of before) (guest_of after) (Ok u)) Leaves law words (moment_of seen before) (moment_of seen ran) (moment_of seen after) host (host_side ran log refusals) (host_side after log refusals)
           (side_handles ran after log refusals from_ran) returned (Ok results)
           (LivesUntil {U = List ℕ} seen moves (guest_of before) (guest_of ran) (Ok returned)) (λ es. moves (guest_of ran) es (guest_of after))

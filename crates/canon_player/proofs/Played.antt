@@ -5,13 +5,13 @@ use Rattle.std.specs.Vec.{with_items}
 use Rattle.std.specs.declared.alloc.Global.{Global}
 use Rattle.std.proofs.lemmas.List.{length-map, with_items_is}
 use Rattle.std.proofs.lemmas.Option.{none-some}
-use Rattle.canon_func.proofs.Turns.{asks_after}
+use Rattle.canon_func.proofs.Passes.{asks_so, passes_as, passes_so}
 use Rattle.canon_func.specs.Asks.{Limits}
 use Rattle.canon_model.specs.Memory.{Block}
 use Rattle.canon_host.specs.HostSide.{Giving, HostSide, host_side}
 use Rattle.canon_imports.specs.Imports.{GivesAnswers, entries_of}
 use Rattle.canon_memory.specs.declared.event.Event.{Event}
-use Rattle.canon_memory.specs.Guest.{Moment, Recorded, Seen, of_guest}
+use Rattle.canon_memory.specs.Guest.{GuestIn, Moment, Recorded, Seen, guest_in, of_guest}
 use Rattle.canon_scripted.specs.declared.actions.Action.{Action}
 use Rattle.canon_scripted.specs.declared.orders.Ordered.{Ordered}
 use Rattle.canon_scripted.specs.Allocator.{Allocator}
@@ -20,7 +20,8 @@ use Rattle.canon_context.specs.Core.{Parts, guest_of, moment_of}
 use Rattle.canon_context.specs.declared.fault.Fault.TheVariants as fault
 use Rattle.canon_val.specs.declared.val.Val.{Val}
 use Rattle.canon_types.specs.Refusal.{first_error}
-use Rattle.canon_func.specs.Call.{Adding, IsCall, IsCallOf, LivesAfter, OnAnswered, dynamic, dynamic_results, refusal, refused_by, with_results}
+use Rattle.canon_func.specs.Call.{Adding, IsCall, IsCallOf, LivesUntil, OnAnswered, dynamic, dynamic_results, refusal, refused_by, with_results}
+use Rattle.canon_func.specs.Runs.{Stop}
 use Rattle.canon_func.specs.Passing.{Arguments, ReturnedValues}
 use Rattle.canon_func.specs.Typed.{done_by}
 use Rattle.canon_func.specs.Stores.{Callee, Named, callee_of}
@@ -33,7 +34,7 @@ use Rattle.canon_transcript.specs.declared.transcript.Answer.{Answer}
 use Rattle.canon_transcript.specs.declared.transcript.Answer.TheVariants as answer
 use Rattle.canon_transcript.specs.declared.transcript.Head.TheVariants as head
 use Rattle.canon_transcript.specs.declared.transcript.Record.{Record}
-use Rattle.canon_player.specs.Session.{Called, Idle, IsEnd, LeavesSame, LivesBy, State, Tells, Themselves, WasCalled, answer_values, entry_view, host_side_of, answer_outcome, plan_of, plan_with, served_view}
+use Rattle.canon_player.specs.Session.{ActsBy, Called, Idle, IsEnd, LeavesSame, LivesBy, State, Tells, Themselves, WasCalled, answer_values, entry_view, host_side_of, answer_outcome, plan_of, plan_with, served_view}
 use Rattle.canon_player.specs.Steps.{CallsOnce}
 use Rattle.canon_player.specs.Session as session
 use Rattle.canon_player.specs.Stores.{ScriptStore, answers_of, callee_at, limits_of, state_of, with_plan}
@@ -87,9 +88,13 @@ told_error Told e answer.Skipped h = absurd h
 abbrev pub journaled : Recorded Doing → Seen
 journaled j = record (seen_of j.guest) { journal = Some j.events; shortages = j.shortages }
 
--- the blocks that live in the guest of a store that did these events
-abbrev pub EnteredLives : ScriptStore → List Event → List Block → Type 0
-EnteredLives loaded = LivesAfter journaled (λ j events k. ScriptMoves (of_guest j) events (of_guest k)) (guest_of loaded.core)
+-- by this the journaled guest of a store goes on
+abbrev pub JournaledMoves : GuestIn (Recorded Doing) → List Event → GuestIn (Recorded Doing) → Type 0
+JournaledMoves j events k = ScriptMoves (of_guest j) events (of_guest k)
+
+-- the guest of a store came from ask to ask, and on to that of the other
+abbrev pub EnteredLives : {R : Type 0} → ScriptStore → ScriptStore → Result R Error → List Stop → List Event → Type 0
+EnteredLives loaded left called = LivesUntil journaled JournaledMoves (guest_of loaded.core) (guest_of left.core) called
 
 -- what a store has beside its guest
 abbrev pub side_of : ScriptStore → HostSide (Unit {0})
@@ -97,9 +102,9 @@ side_of s = host_side s.core (Some (entries_of s.imports.lines.items)) s.imports
 
 -- ---- the blocks that lived
 
--- a call, said of other blocks that may live
-lives_as : {T R : Type 0} (args : Arguments) (its : ReturnedValues R) (P Q : List Event → List Block → Type 0) (Leaves : List ℕ → List ℕ → Type 0) (gives : Giving T) (callee : Callee) (limits : Limits) (before after : Moment) (host left : HostSide T)
-    (called : Result R Error) (events : List Event) → ((es : List Event) (live : List Block) → P es live → Q es live) → IsCallOf args its P Leaves gives callee limits before after host left called events
+-- a call whose guest's way is said otherwise
+lives_as : {T R : Type 0} (args : Arguments) (its : ReturnedValues R) (P Q : List Stop → List Event → Type 0) (Leaves : List ℕ → List ℕ → Type 0) (gives : Giving T) (callee : Callee) (limits : Limits) (before after : Moment) (host left : HostSide T)
+    (called : Result R Error) (events : List Event) → ((stops : List Stop) (es : List Event) → P stops es → Q stops es) → IsCallOf args its P Leaves gives callee limits before after host left called events
     → IsCallOf args its Q Leaves gives callee limits before after host left called events
 lives_as args its P Q Leaves gives callee limits before after host left called events f h = record {
   one_run = h.one_run;
@@ -116,7 +121,7 @@ lives_as args its P Q Leaves gives callee limits before after host left called e
   late_trap = h.late_trap;
   tail = h.tail;
   starts = h.starts;
-  lived = λ told. asks_after P Q [] f h.turns h.late_live h.tail events (h.lived told);
+  lived = λ told. asks_so P Q f h.turns h.late_live h.tail events (h.lived told);
   asks = h.asks;
   accepted = h.accepted;
   marks = h.marks;
@@ -138,7 +143,7 @@ lives_as args its P Q Leaves gives callee limits before after host left called e
 abbrev pub Entered : {R : Type 0} → Arguments → ReturnedValues R → Callee → ScriptStore → ScriptStore → Result R Error → Type 0
 Entered args its callee loaded left called = Adding (moment_of journaled loaded.core) (moment_of journaled left.core)
     (λ events. OnAnswered called (ScriptMoves (of_guest (guest_of loaded.core)) events (of_guest (guest_of left.core))))
-    (λ events. IsCallOf args its (EnteredLives loaded) LeavesSame (GivesAnswers (answers_of loaded)) callee (limits_of loaded) (moment_of journaled loaded.core) (moment_of journaled left.core) (side_of loaded) (side_of left) called events)
+    (λ events. IsCallOf args its (EnteredLives loaded left called) LeavesSame (GivesAnswers (answers_of loaded)) callee (limits_of loaded) (moment_of journaled loaded.core) (moment_of journaled left.core) (side_of loaded) (side_of left) called events)
 
 -- what became of a call, where it was refused before the guest was entered or not
 abbrev pub Became : {R : Type 0} → Arguments → ReturnedValues R → (R → List Val → Type 0) → Callee → (Allocator → Plan) → ScriptStore → ScriptStore → Record → Option Error → Type 0
@@ -156,9 +161,22 @@ module _ {R : Type 0} (args : Arguments) (its : ReturnedValues R) (Told : R → 
   abbrev pub loaded : ScriptStore
   loaded = with_plan s (plan s.core.guest.guest.plan.allocator)
 
+  abbrev starts : GuestIn Plan
+  starts = guest_in (plan s.core.guest.guest.plan.allocator) s.core.memory
+
+  abbrev ends : GuestIn Plan
+  ends = guest_in left.core.guest.guest.plan left.core.memory
+
+  -- the guest acted by its plan from ask to ask
+  lives_by : (stops : List Stop) (es : List Event) → EnteredLives loaded left called stops es → LivesBy starts ends stops es
+  lives_by stops es h =
+      passes_as JournaledMoves ActsBy (λ j. (journaled j.guest).live) (λ g. g.guest.allocator.live) (λ j rest. OnAnswered called (JournaledMoves j rest (guest_of left.core))) (λ g rest. ActsBy g rest ends)
+      (λ j. record { guest = j.guest.guest.plan; len = j.len }) (λ j xs k moved. (moved.new_marks, moved.does)) (λ j. refl)
+      (λ j xs moved. let did : JournaledMoves j xs (guest_of left.core) = on_answered called _ short moved in (did.new_marks, did.does)) (guest_of loaded.core) stops es h
+
   -- the call, by the events before it, those that are printed after it, and the events that it added
   abbrev Calls : List Event → List Event → List Event → Type 0
-  Calls earlier later added = IsCallOf args its (LivesBy (plan s.core.guest.guest.plan.allocator) (length s.core.memory)) LeavesSame (GivesAnswers (answers_of s)) callee (limits_of s) (session.moment_with_events (state_of s) earlier) (session.moment_with_events (state_of left) later)
+  Calls earlier later added = IsCallOf args its (LivesBy starts ends) LeavesSame (GivesAnswers (answers_of s)) callee (limits_of s) (session.moment_with_events (state_of s) earlier) (session.moment_with_events (state_of left) later)
       (host_side_of (state_of s)) (host_side_of (state_of left)) called added
 
   was_called : s.trapped ≡ false → Entered args its callee loaded left called → OnOk called (left.trapped ≡ s.trapped) → OnErr called (left.trapped ≡ true)
@@ -169,9 +187,9 @@ module _ {R : Type 0} (args : Arguments) (its : ReturnedValues R) (Told : R → 
       let gained : left.core.guest.events ≡ s.core.guest.events ++ entered.events = ap (λ o. unwrap_or o []) entered.added in
       let all : r.events ≡ entered.events = events ∙ (gained ∙ ap (λ (es : List Event). es ++ entered.events) empty) in
       let so : Calls s.core.guest.events left.core.guest.events entered.events =
-      lives_as args its (EnteredLives loaded) (LivesBy (plan s.core.guest.guest.plan.allocator) (length s.core.memory)) LeavesSame (GivesAnswers (answers_of s)) callee (limits_of s)
+      lives_as args its (EnteredLives loaded left called) (LivesBy starts ends) LeavesSame (GivesAnswers (answers_of s)) callee (limits_of s)
       (session.moment_with_events before s.core.guest.events) (session.moment_with_events after left.core.guest.events) (host_side_of before) (host_side_of after) called entered.events
-      (λ es live (g, does, is). (does.new_marks, g.guest.guest.plan, g.len, does.does, is)) entered.so in
+      lives_by entered.so in
       let one : Calls [] left.core.guest.events entered.events = subst (λ (es : List Event). Calls es left.core.guest.events entered.events) empty so in
       let two : Calls [] r.events entered.events = subst (λ (es : List Event). Calls [] es entered.events) (sym events) one in
       let moved : ScriptMoves (of_guest (guest_of loaded.core)) entered.events (of_guest (guest_of left.core)) = on_answered called _ short (entered.moves refl) in
@@ -267,11 +285,19 @@ on_answered_with (Err e) results P p = p
 abbrev pub EnteredWith : Callee → List Val → ScriptStore → ScriptStore → Result (Unit {0}) Error → List Val → Type 0
 EnteredWith callee params loaded left called results = Adding (moment_of journaled loaded.core) (moment_of journaled left.core)
     (λ events. OnAnswered called (ScriptMoves (of_guest (guest_of loaded.core)) events (of_guest (guest_of left.core))))
-    (λ events. IsCall (EnteredLives loaded) LeavesSame (GivesAnswers (answers_of loaded)) callee (limits_of loaded) params (moment_of journaled loaded.core) (moment_of journaled left.core) (side_of loaded) (side_of left) called results events)
+    (λ events. IsCall (EnteredLives loaded left called) LeavesSame (GivesAnswers (answers_of loaded)) callee (limits_of loaded) params (moment_of journaled loaded.core) (moment_of journaled left.core) (side_of loaded) (side_of left) called results events)
 
 entered_with : (callee : Callee) (params : List Val) (before left : ScriptStore) (called : Result (Unit {0}) Error) (results : List Val) → EnteredWith callee params before left called results
     → Entered (dynamic callee params) (dynamic_results callee) callee before left (with_results called results)
-entered_with callee params before left called results h = record { events = h.events; added = h.added; moves = λ some. on_answered_with called results _ (h.moves some); so = h.so }
+entered_with callee params before left called results h = record {
+  events = h.events;
+  added = h.added;
+  moves = λ some. on_answered_with called results _ (h.moves some);
+  so = lives_as (dynamic callee params) (dynamic_results callee) (EnteredLives before left called) (EnteredLives before left (with_results called results)) LeavesSame (GivesAnswers (answers_of before)) callee (limits_of before)
+      (moment_of journaled before.core) (moment_of journaled left.core) (side_of before) (side_of left) (with_results called results) h.events
+      (passes_so JournaledMoves (λ j. (journaled j.guest).live) (λ j rest. OnAnswered called (JournaledMoves j rest (guest_of left.core))) (λ j rest. OnAnswered (with_results called results) (JournaledMoves j rest (guest_of left.core)))
+      (λ j es moved. on_answered_with called results _ moved) (guest_of before.core)) h.so;
+}
 
 -- results in a vector that was lent as a slice
 kept_results : (called : Result (Unit {0}) Error) (v : Vec Val Global) (ws vs : List Val) → length ws ≡ v.len → OnOk called (vs ≡ (with_items v ws).items) → OnOk called (vs ≡ ws)

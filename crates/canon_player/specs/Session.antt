@@ -8,7 +8,7 @@ use Rattle.canon_types.specs.Table.{param_members, result_members}
 use Rattle.canon_types.specs.declared.resource.ResourceType.TheVariants.{HostDynamic}
 use Rattle.canon_types.specs.declared.types.TypeFunc.{TypeFunc}
 use Rattle.canon_memory.specs.declared.event.Event.{Event}
-use Rattle.canon_memory.specs.Guest.{Mark, Moment, moment}
+use Rattle.canon_memory.specs.Guest.{GuestIn, Mark, Moment, guest_in, moment}
 use Rattle.canon_scripted.specs.Allocator.{Allocator}
 use Rattle.canon_scripted.specs.Scripted.{CarriesOut, Plan, traps_after}
 use Rattle.canon_scripted.specs.declared.actions.Action.{Action}
@@ -28,6 +28,7 @@ use Rattle.canon_func.specs.Asks.{Limits, allowed}
 use Rattle.canon_func.specs.Call.{IsCallOf, dynamic, dynamic_results, entry_refusal, refusal}
 use Rattle.canon_func.specs.Drop.{IsCutOff, IsDropped, destructor_at, destructor_events, drop_refusal}
 use Rattle.canon_func.specs.Passing.{Arguments, ReturnedValues}
+use Rattle.canon_func.specs.Runs.{Passes, Stop}
 use Rattle.canon_func.specs.Stores.{Callee}
 use Rattle.canon_func.specs.Typed.{FitsParams, FitsResults, params_shape, typed_args, typed_results}
 use Rattle.canon_func.specs.declared.error.Error.{Error}
@@ -197,9 +198,13 @@ pub record Logs (before after : List LoggedEntry) (served : List Served) : Type 
 abbrev pub LeavesSame : List ℕ → List ℕ → Type 0
 LeavesSame memory after = after ≡ memory
 
--- These blocks live in a guest that had this plan, in a memory of so many bytes, and acted by it so far.
-abbrev pub LivesBy : Plan → ℕ → List Event → List Block → Type 0
-LivesBy plan len events live = (new_marks : List Mark) × (left : Plan) × (last : ℕ) × CarriesOut plan len events new_marks left last × (left.allocator.live ≡ live)
+-- by this plan, in a memory of so many bytes, a guest did these events, which left it that plan in a memory of so many
+abbrev pub ActsBy : GuestIn Plan → List Event → GuestIn Plan → Type 0
+ActsBy before events after = (new_marks : List Mark) × CarriesOut before.guest before.len events new_marks after.guest after.len
+
+-- So acted one guest from ask to ask, from before on: at each of them those blocks lived in it; and by the events that are left, to after.
+abbrev pub LivesBy : GuestIn Plan → GuestIn Plan → List Stop → List Event → Type 0
+LivesBy before after = Passes ActsBy (λ g. g.guest.allocator.live) (λ g rest. ActsBy g rest after) before
 
 -- The guest was entered, and acted by its plan in its memory, from the length before to the length after; its traps are counted;
 -- the asks and the results were within these limits; the store is trapped where the call was refused. After an answer that is Ok, memory is
@@ -210,9 +215,9 @@ pub record WasCalled {R : Type 0} (args : Arguments) (its : ReturnedValues R) (T
     (before after : State) (r : Record) : Type 0 where
   pub ended : Result R Error
   pub told : Tells Told ended r.answer
-  pub called : IsCallOf args its (LivesBy (plan before.allocator) (length before.memory)) LeavesSame (GivesAnswers answers) callee limits (moment_with_events before []) (moment_with_events after r.events) (host_side_of before) (host_side_of after) ended r.events
-  pub served : Logs before.log after.log r.served.items
   pub left : Plan
+  pub called : IsCallOf args its (LivesBy (guest_in (plan before.allocator) before.memory) (guest_in left after.memory)) LeavesSame (GivesAnswers answers) callee limits (moment_with_events before []) (moment_with_events after r.events) (host_side_of before) (host_side_of after) ended r.events
+  pub served : Logs before.log after.log r.served.items
   pub new_marks : List Mark
   pub does : CarriesOut (plan before.allocator) (length before.memory) r.events new_marks left (length after.memory)
   pub allocator : after.allocator ≡ left.allocator
