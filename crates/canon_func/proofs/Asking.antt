@@ -3,7 +3,6 @@ use Rattle.std.proofs.Common.{Err, List, None, Ok, Option, Result, Some, [], ap,
 use Rattle.std.proofs.lemmas.List.{append-nil}
 use Rattle.std.specs.Prelude.{IsSome, slice_get, take, slice_index, slice_index_or}
 use Rattle.std.specs.Option.{option_and_then}
-use Rattle.canon_model.specs.Memory.{Block}
 use Rattle.canon_memory.specs.declared.event.Event.{Event}
 use Rattle.canon_memory.specs.declared.event.Event.TheVariants as event
 use Rattle.canon_memory.specs.declared.guest.Step.{Step}
@@ -31,7 +30,7 @@ use Rattle.canon_host.specs.Asked.{row_words}
 use Rattle.canon_func.specs.AskForms.{ask_at}
 use Rattle.canon_func.specs.HostAsks.{HostStops, IsHostAsk, IsHostServed, NothingAsked, asked_error}
 use Rattle.canon_func.specs.AskValues.{asked_results}
-use Rattle.canon_func.specs.Runs.{Stop, answers_in}
+use Rattle.canon_func.specs.Runs.{Leg, answers_in}
 use Rattle.canon_func.specs.Steps.{MayRun, HostAsked, Proceeds, Resumed, Resumes, RisesAt, SameButHost, Serves, Serving, Started, Stepping, TrapsLate, ask_turn, so_far}
 use Rattle.canon_func.specs.Stores.{Callee, export_callee}
 use Rattle.canon_func.specs.declared.asks.Builtin.{Builtin}
@@ -41,7 +40,7 @@ use Rattle.canon_func.proofs.FormLaws.{form_sound}
 use Rattle.canon_func.proofs.HostStopped.{host_tells}
 use Rattle.canon_func.proofs.Turns.{asked_none, done_is, marks_then, ran_exhausted, ran_refused, ran_returned, told_after}
 
-module _ {T : Type 0} (gives : Giving T) (callee : Callee) (limits : Limits) (Lives : List Stop → List Event → Type 0) (words : List ℕ) (before : Moment) (host : HostSide T) where
+module _ {T : Type 0} (gives : Giving T) (callee : Callee) (limits : Limits) (Lives : List Leg → List Event → Type 0) (words : List ℕ) (before : Moment) (host : HostSide T) where
   -- it wasn't started, or trapped at once
   start_failed : (now : Moment) (e : Error) (events : List Event) → length before.bytes ≤ length now.bytes → (IsSome before.guest.journal → Lives [] events) → Started callee.func words before now (Err e) events → MayRun gives callee limits Lives words before now host host (Err e) [] events
   start_failed now (error.Fault fault.OutOfMemory) events longer moves h = inl (refl, h, refl, refl)
@@ -84,7 +83,7 @@ module _ {T : Type 0} (gives : Giving T) (callee : Callee) (limits : Limits) (Li
       so = inr (ran_returned gives callee limits Lives words before host now served count returned h le);
     }
 
-    pub has_exhausted : (asks : (stops : List Stop) (xs : List Event) → Lives stops xs → Lives (stops ++ record { events = xs; live = now.guest.live } ∷ []) []) (index : ℕ) (asked : List ℕ)
+    pub has_exhausted : (asks : (legs : List Leg) (xs : List Event) → Lives legs xs → Lives (legs ++ record { events = xs; live = now.guest.live } ∷ []) []) (index : ℕ) (asked : List ℕ)
         → Stepping gives callee limits Lives words before now host served count (step.Import index asked) → count ≡ limits.turns → Serving before now (Lives []) (MayRun gives callee limits Lives words before now host served (Err error.TurnsExhausted))
     has_exhausted asks index asked h all = record {
       answers = answers_in h.turns;
@@ -95,8 +94,8 @@ module _ {T : Type 0} (gives : Giving T) (callee : Callee) (limits : Limits) (Li
     }
 
   -- it wasn't served, or didn't go on
-  pub has_stopped : (now after : Moment) (served left : HostSide T) (P : List Stop → List Event → Type 0) (N : List Event → Type 0) (told : IsSome before.guest.journal → IsSome now.guest.journal)
-      (goes_on : (xs ys : List Event) → P [] xs → N ys → Lives [] (xs ++ ys)) (asks : (stops : List Stop) (xs ys : List Event) → P stops xs → N ys → Lives (stops ++ record { events = xs; live = now.guest.live } ∷ []) ys)
+  pub has_stopped : (now after : Moment) (served left : HostSide T) (P : List Leg → List Event → Type 0) (N : List Event → Type 0) (told : IsSome before.guest.journal → IsSome now.guest.journal)
+      (goes_on : (xs ys : List Event) → P [] xs → N ys → Lives [] (xs ++ ys)) (asks : (legs : List Leg) (xs ys : List Event) → P legs xs → N ys → Lives (legs ++ record { events = xs; live = now.guest.live } ∷ []) ys)
       (count index : ℕ) (asked : List ℕ) (e : Error)
       → Stepping gives callee limits P words before now host served count (step.Import index asked) → count < limits.turns → Serving now after N (Serves gives callee limits.fuel index asked now after served left (Err e))
       → Serving before after (Lives []) (MayRun gives callee limits Lives words before after host left (Err e))

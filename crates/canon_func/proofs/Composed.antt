@@ -2,7 +2,6 @@
 use Rattle.std.proofs.Common.{Err, List, None, Ok, Result, Some, Vec, Global, [], ap, append_assoc, arith, inl, inr, length, refl, subst, sym, ℕ, ◌++◌, ◌∙◌, ◌∷◌, ◌≡◌, ◌≤◌}
 use Rattle.std.specs.Prelude.{IfErr, IsSome, false}
 use Rattle.std.proofs.lemmas.List.{append-nil}
-use Rattle.canon_model.specs.Memory.{Block}
 use Rattle.canon_memory.specs.declared.error.GuestFault.{GuestFault}
 use Rattle.canon_memory.specs.declared.error.GuestFault.TheVariants as guest
 use Rattle.canon_memory.specs.declared.event.Event.{Event}
@@ -21,14 +20,14 @@ use Rattle.canon_host.specs.Forms.{IsLawful}
 use Rattle.canon_host.specs.HostSide.{Giving, HostSide}
 use Rattle.canon_func.specs.Asks.{Limits}
 use Rattle.canon_func.specs.Call.{Adding, IsCallOf, Left, OnAnswered}
-use Rattle.canon_func.specs.Runs.{AskTurn, AsksFrom, Stop, answers_in, events_in, posts}
+use Rattle.canon_func.specs.Runs.{AskTurn, AsksFrom, Leg, answers_in, events_in, posts}
 use Rattle.canon_func.specs.Passing.{Arguments, ReturnedValues}
 use Rattle.canon_func.specs.Steps.{Concluded, Ended, Proceeds, IsLate, IsRest, Lifted, LoweredArgs, MayRun, Posted, RunsOut, RunsToEnd, RunsUntil, RestCause, Serving, so_far}
 use Rattle.canon_func.specs.Stores.{Callee}
 use Rattle.canon_func.specs.declared.error.Error.{Error}
 use Rattle.canon_func.specs.declared.error.Error.TheVariants as error
 use Rattle.canon_func.proofs.Calls.{goes_advance, joined, ready}
-use Rattle.canon_func.proofs.Passes.{from_so, returned_more}
+use Rattle.canon_func.proofs.Legs.{from_so, returned_more}
 use Rattle.canon_func.specs.Passed.{BlamesRightly, ReadsRightly}
 use Rattle.canon_func.proofs.Refusals.{refused_call, short_call}
 use Rattle.canon_func.proofs.Rests.{returned_rest, unended_tail}
@@ -57,26 +56,26 @@ other e = cc
 
 -- ---- from the start on
 
-module _ {T R : Type 0} (its : ReturnedValues R) (gives : Giving T) (callee : Callee) (limits : Limits) (Lives : List Stop → List Event → Type 0) (Leaves : List ℕ → List ℕ → Type 0) (law : ReadsRightly callee its) (words : List ℕ) where
+module _ {T R : Type 0} (its : ReturnedValues R) (gives : Giving T) (callee : Callee) (limits : Limits) (Lives : List Leg → List Event → Type 0) (Leaves : List ℕ → List ℕ → Type 0) (law : ReadsRightly callee its) (words : List ℕ) where
   -- how the guest ran, and what came after its return
   joined_run : (before : Moment) (turns : List AskTurn) (ret : Event) (later : List Event) → so_far callee words before turns (ret ∷ []) ++ later ≡ so_far callee words before turns (ret ∷ later)
   joined_run before turns ret later = ap (λ es. event.Start callee.func words before.bytes ∷ es) (append_assoc (events_in turns) (ret ∷ []) later)
 
   -- a rest from what came after the turns, which is said of the host as the guest left it
-  rest_of_ran : (P : List Stop → List Event → Type 0) (a b c : Moment) (l m l2 : HostSide T) (returned : List ℕ) (answer : Result R Error) (answers : List Answer) (xs later : List Event) (ran : RunsUntil gives callee limits P words a b l m (Ok returned) answers xs)
-      → ((stops : List Stop) (es : List Event) → P stops es → Lives stops (es ++ later)) → IsTail its gives callee limits Leaves a c (length ran.turns) ran.len m l2 answer [] [] None (event.Return returned b.bytes ∷ later) → IsRest its gives callee limits Lives Leaves words a c l l2 answer answers (xs ++ later)
+  rest_of_ran : (P : List Leg → List Event → Type 0) (a b c : Moment) (l m l2 : HostSide T) (returned : List ℕ) (answer : Result R Error) (answers : List Answer) (xs later : List Event) (ran : RunsUntil gives callee limits P words a b l m (Ok returned) answers xs)
+      → ((legs : List Leg) (es : List Event) → P legs es → Lives legs (es ++ later)) → IsTail its gives callee limits Leaves a c (length ran.turns) ran.len m l2 answer [] [] None (event.Return returned b.bytes ∷ later) → IsRest its gives callee limits Lives Leaves words a c l l2 answer answers (xs ++ later)
   rest_of_ran P a b c l m l2 returned answer answers xs later ran f h =
       let tail : List Event = event.Return returned b.bytes ∷ later in
       let events : xs ++ later ≡ so_far callee words a ran.turns tail =
       ap (λ es. es ++ later) (ran.is ∙ ap (λ es. so_far callee words a ran.turns es) ran.stopped.0) ∙ joined_run a ran.turns (event.Return returned b.bytes) later in
       let none : answers ≡ answers_in ran.turns ++ [] = ran.answers_are ∙ ap (λ ys. answers_in ran.turns ++ ys) ran.stopped.1.0 in
       subst (λ es. IsRest its gives callee limits Lives Leaves words a c l l2 answer answers es) (sym events)
-      (rest_of_tail its gives callee limits Lives Leaves words a c l ran.served l2 ran.turns ran.len ran.asked answer [] answers [] None tail none 
+      (rest_of_tail its gives callee limits Lives Leaves words a c l ran.served l2 ran.turns ran.len ran.asked answer [] answers [] None tail none
       (λ told. returned_more P Lives later f (event.Start callee.func words a.bytes ∷ []) ran.turns ran.late_live returned b.bytes (subst (λ es. AsksFrom P (event.Start callee.func words a.bytes ∷ []) ran.turns ran.late_live es) ran.stopped.0 (ran.lived told)))
       (subst (λ (k : HostSide T). IsTail its gives callee limits Leaves a c (length ran.turns) ran.len k l2 answer [] [] None tail) ran.stopped.1.2 h))
 
   -- the guest returned, and the scope ended
-  pub run_returned : (a b c : Moment) (l m l2 : HostSide T) → l2 ≡ record m { ledger = l2.ledger } → (returned : List ℕ) (answer : Result R Error) (P : List Stop → List Event → Type 0) (N : List Event → Type 0) → ((stops : List Stop) (xs ys : List Event) → P stops xs → N ys → Lives stops (xs ++ ys))
+  pub run_returned : (a b c : Moment) (l m l2 : HostSide T) → l2 ≡ record m { ledger = l2.ledger } → (returned : List ℕ) (answer : Result R Error) (P : List Leg → List Event → Type 0) (N : List Event → Type 0) → ((legs : List Leg) (xs ys : List Event) → P legs xs → N ys → Lives legs (xs ++ ys))
       → Serving a b (P []) (RunsToEnd gives callee limits P words a b l m (Ok returned)) → Proceeds b c N (Concluded its Leaves callee limits.fuel returned b c m.ledger l2.ledger answer)
       → Serving a c (Lives []) (IsRest its gives callee limits Lives Leaves words a c l l2 answer)
   run_returned a b c l m l2 kept returned answer P N f first second =
@@ -87,13 +86,13 @@ module _ {T R : Type 0} (its : ReturnedValues R) (gives : Giving T) (callee : Ca
         events = first.events ++ second.events;
         goes = subst (λ ms. Goes a c ms (first.events ++ second.events)) (append-nil (marks_of first.answers)) (goes_then a b c (marks_of first.answers) [] first.events second.events first.goes second.goes);
         moves = λ told. f [] first.events second.events (first.moves told) second.moves;
-        so = rest_of_ran P a b c l out.ran l2 returned answer first.answers first.events second.events out.run (λ stops es h. f stops es second.events h second.moves)
+        so = rest_of_ran P a b c l out.ran l2 returned answer first.answers first.events second.events out.run (λ legs es h. f legs es second.events h second.moves)
             (returned_rest its gives callee limits Leaves law a b c (length out.run.turns) out.run.len out.ran l2 whole returned out.run.few out.run.longer (goes_advance a b _ _ first.goes) (goes_advance b c _ _ second.goes)
             m.ledger out.ends.0 out.ends.1 answer second.events second.so);
       }
 
   -- the guest stopped
-  module _ (lawful_forms : (n : ℕ) → IsLawful (gives.form n)) (P : List Stop → List Event → Type 0) (f : (stops : List Stop) (es : List Event) → P stops es → Lives stops es) where
+  module _ (lawful_forms : (n : ℕ) → IsLawful (gives.form n)) (P : List Leg → List Event → Type 0) (f : (legs : List Leg) (es : List Event) → P legs es → Lives legs es) where
     rest_stopped : (a b : Moment) (l l2 : HostSide T) (e : Error) (answers : List Answer) (xs : List Event) → length a.bytes ≤ length b.bytes → (IsSome a.guest.journal → P [] xs) → MayRun gives callee limits P words a b l l2 (Err e) answers xs
         → IsRest its gives callee limits Lives Leaves words a b l l2 (Err e) answers xs
     rest_stopped a b l l2 e answers xs longer moves (inl (is, none, quiet, same)) =
@@ -111,7 +110,7 @@ module _ {T R : Type 0} (its : ReturnedValues R) (gives : Giving T) (callee : Ca
     rest_refused a b l l2 e answers xs longer moves (inl ran) = rest_stopped a b l l2 e answers xs longer moves ran
     rest_refused a b l l2 e answers xs longer moves (inr (returned, out)) =
         subst (λ es. IsRest its gives callee limits Lives Leaves words a b l l2 (Err e) answers es) (append-nil xs)
-        (rest_of_ran P a b b l out.ran l2 returned (Err e) answers xs [] out.run (λ stops es h. subst (λ ys. Lives stops ys) (sym (append-nil es)) (f stops es h))
+        (rest_of_ran P a b b l out.ran l2 returned (Err e) answers xs [] out.run (λ legs es h. subst (λ ys. Lives legs ys) (sym (append-nil es)) (f legs es h))
         (unended_tail its gives callee limits Leaves law a b (length out.run.turns) out.run.len out.ran l2 out.kept returned b.bytes out.run.few out.run.longer (same_le (length b.bytes)) refl e out.ends))
 
     pub run_refused : (a b : Moment) (l l2 : HostSide T) (e : Error) → Serving a b (P []) (RunsToEnd gives callee limits P words a b l l2 (Err e))
@@ -126,9 +125,9 @@ module _ {T R : Type 0} (its : ReturnedValues R) (gives : Giving T) (callee : Ca
 
 -- ---- the end of the scope
 
-module _ {T : Type 0} (gives : Giving T) (callee : Callee) (limits : Limits) (Lives : List Stop → List Event → Type 0) (words : List ℕ) (a b : Moment) (l m n : HostSide T) (kept : n ≡ record m { ledger = n.ledger }) (returned : List ℕ) where
+module _ {T : Type 0} (gives : Giving T) (callee : Callee) (limits : Limits) (Lives : List Leg → List Event → Type 0) (words : List ℕ) (a b : Moment) (l m n : HostSide T) (kept : n ≡ record m { ledger = n.ledger }) (returned : List ℕ) where
   -- a run, said otherwise
-  run_so : (Q : List Stop → List Event → Type 0) → ((stops : List Stop) (es : List Event) → Lives stops es → Q stops es) → (r : Result (List ℕ) Error) (answers : List Answer) (es : List Event) → RunsUntil gives callee limits Lives words a b l m r answers es
+  run_so : (Q : List Leg → List Event → Type 0) → ((legs : List Leg) (es : List Event) → Lives legs es → Q legs es) → (r : Result (List ℕ) Error) (answers : List Answer) (es : List Event) → RunsUntil gives callee limits Lives words a b l m r answers es
       → RunsUntil gives callee limits Q words a b l m r answers es
   run_so Q f r answers es h = record {
     turns = h.turns;
@@ -148,16 +147,16 @@ module _ {T : Type 0} (gives : Giving T) (callee : Callee) (limits : Limits) (Li
   }
 
   -- the guest returned, and the scope ended so, which changes nothing but the ledger
-  out_of : (Q : List Stop → List Event → Type 0) → ((stops : List Stop) (es : List Event) → Lives stops es → Q stops es) → (r : Result (Unit {0}) Error) (answers : List Answer) (es : List Event) → Ended callee returned m.ledger n.ledger r
+  out_of : (Q : List Leg → List Event → Type 0) → ((legs : List Leg) (es : List Event) → Lives legs es → Q legs es) → (r : Result (Unit {0}) Error) (answers : List Answer) (es : List Event) → Ended callee returned m.ledger n.ledger r
       → MayRun gives callee limits Lives words a b l m (Ok returned) answers es → RunsOut gives callee limits Q words a b l n returned r answers es
   out_of Q f r xs es ends (inl (is, none, quiet, same)) = absurd (not_ok returned (error.Fault fault.OutOfMemory) is)
   out_of Q f r xs es ends (inr ran) = record { ran = m; run = run_so Q f (Ok returned) xs es ran; ends = ends; kept = kept }
 
   pub run_ended : Ended callee returned m.ledger n.ledger (Ok tt) → Serving a b (Lives []) (MayRun gives callee limits Lives words a b l m (Ok returned))
       → Serving a b (Lives []) (RunsToEnd gives callee limits Lives words a b l n (Ok returned))
-  run_ended ends first = record { answers = first.answers; events = first.events; goes = first.goes; moves = first.moves; so = out_of Lives (λ stops es h. h) (Ok tt) first.answers first.events ends first.so }
+  run_ended ends first = record { answers = first.answers; events = first.events; goes = first.goes; moves = first.moves; so = out_of Lives (λ legs es h. h) (Ok tt) first.answers first.events ends first.so }
 
-  pub run_unended : (Q : List Stop → List Event → Type 0) → ((stops : List Stop) (es : List Event) → Lives stops es → Q stops es) → (e : Error) → Ended callee returned m.ledger n.ledger (Err e)
+  pub run_unended : (Q : List Leg → List Event → Type 0) → ((legs : List Leg) (es : List Event) → Lives legs es → Q legs es) → (e : Error) → Ended callee returned m.ledger n.ledger (Err e)
       → Serving a b (Lives []) (MayRun gives callee limits Lives words a b l m (Ok returned)) → Serving a b (Q []) (RunsToEnd gives callee limits Q words a b l n (Err e))
   run_unended Q f e ends first = record { answers = first.answers; events = first.events; goes = first.goes; moves = λ told. f [] first.events (first.moves told); so = inr (returned, out_of Q f (Err e) first.answers first.events ends first.so) }
 
@@ -238,7 +237,7 @@ lowered_is_late args callee a b l l2 es error.TurnsExhausted h = absurd h
 lowered_is_late args callee a b l l2 es (error.ImportFault n f) h = absurd h
 lowered_is_late args callee a b l l2 es (error.HostRefused n) h = absurd h
 
-module _ {T R : Type 0} (args : Arguments) (its : ReturnedValues R) (gives : Giving T) (callee : Callee) (limits : Limits) (Lives : List Stop → List Event → Type 0) (Leaves : List ℕ → List ℕ → Type 0) where
+module _ {T R : Type 0} (args : Arguments) (its : ReturnedValues R) (gives : Giving T) (callee : Callee) (limits : Limits) (Lives : List Leg → List Event → Type 0) (Leaves : List ℕ → List ℕ → Type 0) where
   -- memory ran out for the scope
   pub scope_short : (s : Seen) (bytes : List ℕ) (l0 l2 : HostSide T) → l2 ≡ l0 → (IsSome s.journal → Lives [] [])
       → Adding (moment s bytes) (moment s bytes) (Lives []) (IsCallOf args its Lives Leaves gives callee limits (moment s bytes) (moment s bytes) l0 l2 (Err (error.Fault fault.OutOfMemory)))
@@ -270,9 +269,9 @@ module _ {T R : Type 0} (args : Arguments) (its : ReturnedValues R) (gives : Giv
   InScope l a b l2 answer es = (before : LedgerState) → enter before ≡ l.ledger → IsCallOf args its Lives Leaves gives callee limits a b (record l { ledger = before }) l2 answer es
 
   -- the parameters were lowered
-  pub call_started : (P : List Stop → List Event → Type 0) (a b c : Moment) (l l1 l2 : HostSide T) → l1 ≡ record l { ledger = l1.ledger } → (words : Vec ℕ Global) (answer : Result R Error) (M : List Event → Type 0)
+  pub call_started : (P : List Leg → List Event → Type 0) (a b c : Moment) (l l1 l2 : HostSide T) → l1 ≡ record l { ledger = l1.ledger } → (words : Vec ℕ Global) (answer : Result R Error) (M : List Event → Type 0)
       → (IsSome a.guest.journal → IsSome b.guest.journal) → ((xs ys : List Event) → M xs → P [] ys → Lives [] (xs ++ ys))
-      → ((xs : List Event) → M xs → (stop : Stop) (stops : List Stop) (ys : List Event) → P (stop ∷ stops) ys → Lives (record { events = xs ++ stop.events; live = stop.live } ∷ stops) ys)
+      → ((xs : List Event) → M xs → (leg : Leg) (legs : List Leg) (ys : List Event) → P (leg ∷ legs) ys → Lives (record { events = xs ++ leg.events; live = leg.live } ∷ legs) ys)
       → Adding a b M (LoweredArgs args callee a b l.ledger l1.ledger (Ok words)) → Serving b c (P []) (IsRest its gives callee limits P Leaves words.items b c l1 l2 answer) → Adding a c (Lives []) (InScope l a c l2 answer)
   call_started P a b c l l1 l2 same words answer M told f g first second =
       let low : LowersArgs false a b callee.encoding callee.params args.are words.items first.so.0 done = first.so.1 in

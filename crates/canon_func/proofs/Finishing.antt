@@ -17,7 +17,7 @@ use Rattle.canon_func.specs.Stores.{Callee}
 use Rattle.canon_func.specs.declared.error.Error.{Error}
 use Rattle.canon_func.specs.declared.error.Error.TheVariants as error
 use Rattle.canon_func.proofs.Asking.{side_handles}
-use Rattle.canon_func.proofs.Composed.{answered, answers, conclude_done, conclude_failed, conclude_unlifted, retyped, run_returned}
+use Rattle.canon_func.proofs.Composed.{answers, conclude_done, conclude_failed, conclude_unlifted, retyped, run_returned}
 use Rattle.canon_func.proofs.Lived.{lives_then}
 use Rattle.canon_func.proofs.Leaving.{lifted_leaves}
 use Rattle.canon_func.specs.Passed.{ReadsRightly}

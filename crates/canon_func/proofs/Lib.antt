@@ -14,11 +14,11 @@ pub mod HostLowered
 pub mod HostServed
 pub mod HostStopped
 pub mod Leaving
+pub mod Legs
 pub mod Lived
 pub mod Lowered
 pub mod Owned
 pub mod Partways
-pub mod Passes
 pub mod Prefixes
 pub mod Refusals
 pub mod Rests

@@ -2,7 +2,6 @@
 use Rattle.std.proofs.Common.{Err, inl, inr, List, None, Option, Some, [], ap, arith, length, refl, subst, sym, ℕ, ◌++◌, ◌%◌, ◌+◌, ◌∷◌, ◌∙◌, ◌≡◌, ◌≤◌}
 use Rattle.std.specs.Prelude.{IsSome, false, slice_index}
 use Rattle.std.proofs.lemmas.List.{append-nil}
-use Rattle.canon_model.specs.Memory.{Block}
 use Rattle.canon_model.specs.Requests.{Call, Request, params_requests}
 use Rattle.canon_model.specs.Tree.{Trees}
 use Rattle.canon_memory.specs.declared.event.Event.{Event}
@@ -21,7 +20,7 @@ use Rattle.canon_host.specs.HostSide.{Giving, HostSide}
 use Rattle.canon_func.specs.Asks.{Limits}
 use Rattle.canon_func.specs.Call.{Accepts, Advances, AsksByTypes, FaultCause, HandlesPassOf, IsCallOf, KeepsLive, Stands}
 use Rattle.canon_func.specs.Passing.{Arguments, ReturnedValues}
-use Rattle.canon_func.specs.Runs.{Each, EndsIn, IsNoPost, IsNoStart, IsTrap, Stop, asks_in}
+use Rattle.canon_func.specs.Runs.{Each, EndsIn, IsNoPost, IsNoStart, IsTrap, Leg, asks_in}
 use Rattle.canon_func.specs.Steps.{EndsFor, TrapsLate}
 use Rattle.canon_func.specs.Stores.{Callee}
 use Rattle.canon_func.specs.declared.error.Error.TheVariants as error
@@ -52,7 +51,7 @@ record Refused {T R : Type 0} (args : Arguments) (its : ReturnedValues R) (gives
   cause : FaultCause args its callee limits.fuel entry after events f
   valid : (ts : Trees) → args.are ts → args.small → AllLawful answers → ¬ EndsIn IsTrap events → Accepts args its gives callee limits.fuel [] before [] → f ≡ fault.OutOfMemory
 
-module _ {T R : Type 0} (args : Arguments) (its : ReturnedValues R) (gives : Giving T) (callee : Callee) (limits : Limits) (Lives : List Stop → List Event → Type 0) (Leaves : List ℕ → List ℕ → Type 0) (entry after : Moment) (before left : HostSide T) where
+module _ {T R : Type 0} (args : Arguments) (its : ReturnedValues R) (gives : Giving T) (callee : Callee) (limits : Limits) (Lives : List Leg → List Event → Type 0) (Leaves : List ℕ → List ℕ → Type 0) (entry after : Moment) (before left : HostSide T) where
   no_asks : (answers : List Answer) (trap : Option Trap) → asks_in (events_of answers trap) ≤ limits.turns
   no_asks answers trap =
       let none : asks_in (events_of answers trap) ≡ 0 = ap asks_in (sym (append-nil (events_of answers trap))) ∙ asks_answers answers trap [] in
@@ -107,7 +106,7 @@ module _ {T R : Type 0} (args : Arguments) (its : ReturnedValues R) (gives : Giv
       (λ ts have. (params_requests false callee.encoding callee.params ts, λ last. refl)) handles
       (record { late = tt; accepted = tt; cause = tt; valid = λ ts have small lawful calm accepted. refl })
 
-module _ {T R : Type 0} (args : Arguments) (its : ReturnedValues R) (gives : Giving T) (callee : Callee) (limits : Limits) (Lives : List Stop → List Event → Type 0) (Leaves : List ℕ → List ℕ → Type 0) (law : BlamesRightly args) (entry after : Moment) (before left : HostSide T) where
+module _ {T R : Type 0} (args : Arguments) (its : ReturnedValues R) (gives : Giving T) (callee : Callee) (limits : Limits) (Lives : List Leg → List Event → Type 0) (Leaves : List ℕ → List ℕ → Type 0) (law : BlamesRightly args) (entry after : Moment) (before left : HostSide T) where
   abbrev Low : List ℕ → List ℕ → Ending → Type 0
   Low words handles ending = LowersArgs false entry after callee.encoding callee.params args.are words handles ending
 

@@ -46,7 +46,7 @@ module _ {T G R : Type 0} (args : Arguments) (its : ReturnedValues R) (gives : G
       (λ es. moves (guest_of before) es (guest_of mid))
       (told_after_lowering (moment_of seen before) (moment_of seen mid) first.events first.added)
       (λ xs ys p q. answered result (moves (guest_of mid) ys (guest_of after)) (moves (guest_of before) (xs ++ ys) (guest_of after)) (λ r. goes_on (guest_of before) (guest_of mid) (guest_of after) xs ys p r) q)
-      (λ xs p stop stops ys (next, does, is, rest). (next, goes_on (guest_of before) (guest_of mid) next xs stop.events p does, is, rest)) first second
+      (λ xs p leg legs ys (next, does, is, rest). (next, goes_on (guest_of before) (guest_of mid) next xs leg.events p does, is, rest)) first second
 
   -- they weren't
   pub unlowered : (U : Type 0) (e : Error) (before after : Parts T G) → BlamesRightly args → SameButHandles before after → Lowers {U = Vec ℕ Global} (Err e) (Err e) before after

@@ -12,7 +12,7 @@ use Rattle.canon_func.specs.Asks.{Limits}
 use Rattle.canon_func.specs.Call.{AcceptsLater, Left}
 use Rattle.canon_func.specs.HostAsks.{IsUnrefused}
 use Rattle.canon_func.specs.Passing.{ReturnedValues}
-use Rattle.canon_func.specs.Runs.{AskTurn, AsksFrom, Each, EndsAsking, EndsIn, Grows, IsNoPost, IsNoResume, IsNoStart, IsPrefixOfRun, IsTrap, MayTrap, OnReturn, OnStart, Stop, answers_in, asks_in, events_in, last_len, posts}
+use Rattle.canon_func.specs.Runs.{AskTurn, AsksFrom, Each, EndsAsking, EndsIn, Grows, IsNoPost, IsNoResume, IsNoStart, IsPrefixOfRun, IsTrap, MayTrap, OnReturn, OnStart, Leg, answers_in, asks_in, events_in, last_len, posts}
 use Rattle.canon_func.specs.Steps.{IsRest, RestCause, RestPasses, TurnsTaken, so_far}
 use Rattle.canon_func.specs.Stores.{Callee}
 use Rattle.canon_func.specs.declared.error.Error.{Error}
@@ -80,7 +80,7 @@ sum_le a b c n k e f h = omega (arith, e, f, h)
 le_sum : (a b c n k : ℕ) → a ≡ b + c → b ≡ n → a ≤ k → n + c ≤ k
 le_sum a b c n k e f h = omega (arith, e, f, h)
 
-module _ {T R : Type 0} (its : ReturnedValues R) (gives : Giving T) (callee : Callee) (limits : Limits) (Lives : List Stop → List Event → Type 0) (Leaves : List ℕ → List ℕ → Type 0) (words : List ℕ) (before after : Moment) (host served left : HostSide T) (turns : List AskTurn) (len : ℕ)
+module _ {T R : Type 0} (its : ReturnedValues R) (gives : Giving T) (callee : Callee) (limits : Limits) (Lives : List Leg → List Event → Type 0) (Leaves : List ℕ → List ℕ → Type 0) (words : List ℕ) (before after : Moment) (host served left : HostSide T) (turns : List AskTurn) (len : ℕ)
     (asked : TurnsTaken gives callee limits.fuel before host served turns len) where
   abbrev first : List Event
   first = event.Start callee.func words before.bytes ∷ events_in turns
@@ -136,7 +136,7 @@ module _ {T R : Type 0} (its : ReturnedValues R) (gives : Giving T) (callee : Ca
   }
 
 -- memory ran out for the start
-pub rest_of_none : {T R : Type 0} (its : ReturnedValues R) (gives : Giving T) (callee : Callee) (limits : Limits) (Lives : List Stop → List Event → Type 0) (Leaves : List ℕ → List ℕ → Type 0) (words : List ℕ) (before after : Moment) (host : HostSide T)
+pub rest_of_none : {T R : Type 0} (its : ReturnedValues R) (gives : Giving T) (callee : Callee) (limits : Limits) (Lives : List Leg → List Event → Type 0) (Leaves : List ℕ → List ℕ → Type 0) (words : List ℕ) (before after : Moment) (host : HostSide T)
     → length before.bytes ≤ length after.bytes → (IsSome before.guest.journal → Lives [] [])
     → IsRest its gives callee limits Lives Leaves words before after host host (Err (error.Fault fault.OutOfMemory)) [] []
 rest_of_none its gives callee limits Lives Leaves words before after host longer moves = record {

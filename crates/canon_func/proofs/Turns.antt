@@ -2,7 +2,6 @@
 use Rattle.std.proofs.Common.{Err, List, None, Ok, Option, Result, Some, [], ap, append_assoc, arith, length, refl, subst, suc, sym, ℕ, ◌++◌, ◌+◌, ◌<◌, ◌∙◌, ◌∷◌, ◌≡◌, ◌≤◌}
 use Rattle.std.proofs.lemmas.List.{append-nil}
 use Rattle.std.specs.Prelude.{IsSome}
-use Rattle.canon_model.specs.Memory.{Block}
 use Rattle.canon_memory.specs.declared.event.Event.{Event}
 use Rattle.canon_memory.specs.declared.event.Event.TheVariants as event
 use Rattle.canon_memory.specs.declared.guest.Step.{Step}
@@ -16,12 +15,12 @@ use Rattle.canon_lowering.specs.Lowering.{Answer, events_of, marks_of}
 use Rattle.canon_context.specs.declared.fault.Fault.TheVariants as fault
 use Rattle.canon_host.specs.HostSide.{Giving, HostSide}
 use Rattle.canon_func.specs.Asks.{AreServed, IsServed, Limits}
-use Rattle.canon_func.specs.Runs.{AskTurn, Each, Grows, Stop, answers_in, asks_in, events_in, last_len, since_last, stops_in}
+use Rattle.canon_func.specs.Runs.{AskTurn, Each, Grows, Leg, answers_in, asks_in, events_in, last_len, since_last, legs_in}
 use Rattle.canon_func.specs.Steps.{RisesAt, RunsUntil, Serves, Stepping, TurnsTaken, ask_turn, so_far}
 use Rattle.canon_func.specs.Stores.{Callee}
 use Rattle.canon_func.specs.declared.error.Error.{Error}
 use Rattle.canon_func.specs.declared.error.Error.TheVariants as error
-use Rattle.canon_func.proofs.Passes.{lives_more}
+use Rattle.canon_func.proofs.Legs.{lives_more}
 use Rattle.canon_func.proofs.Prefixes.{asks_answers, each_then, grows_answers, last_len_answers}
 
 -- ---- answers
@@ -143,7 +142,7 @@ pub length_more : {A : Type 0} (xs : List A) (x : A) → length (xs ++ x ∷ [])
 length_more [] x = refl
 length_more (y ∷ xs) x = ap suc (length_more xs x) ∙ sym (suc_add (length xs) 1)
 
-module _ {T : Type 0} (gives : Giving T) (callee : Callee) (limits : Limits) (Lives : List Stop → List Event → Type 0) (words : List ℕ) (before : Moment) (host : HostSide T) where
+module _ {T : Type 0} (gives : Giving T) (callee : Callee) (limits : Limits) (Lives : List Leg → List Event → Type 0) (words : List ℕ) (before : Moment) (host : HostSide T) where
   pub stepping_begin : (now : Moment) (next : Step) → Goes before now [] (event.Start callee.func words before.bytes ∷ step_event next now.bytes ∷ [])
       → (IsSome before.guest.journal → Lives [] (event.Start callee.func words before.bytes ∷ step_event next now.bytes ∷ [])) → Stepping gives callee limits Lives words before now host host 0 next
   stepping_begin now next goes moves =
@@ -166,13 +165,13 @@ module _ {T : Type 0} (gives : Giving T) (callee : Callee) (limits : Limits) (Li
   marks_more ts t = sym (marks_then (answers_in ts) t.answers) ∙ ap marks_of (ap (λ xs. answers_in ts ++ xs) (sym (append-nil t.answers)) ∙ sym (answers_append ts (t ∷ [])))
 
   -- after one more event of an ask
-  turn_lived : (ts : List AskTurn) (t : AskTurn) (last : Event) (es : List Event) → es ≡ rest_of_turn t (last ∷ []) → Lives (stops_in start ts ++ record { events = since_last start ts ++ event.Ask t.index t.words t.memory ∷ []; live = t.live } ∷ []) es
-      → Lives (stops_in start (ts ++ t ∷ [])) (since_last start (ts ++ t ∷ []) ++ last ∷ [])
+  turn_lived : (ts : List AskTurn) (t : AskTurn) (last : Event) (es : List Event) → es ≡ rest_of_turn t (last ∷ []) → Lives (legs_in start ts ++ record { events = since_last start ts ++ event.Ask t.index t.words t.memory ∷ []; live = t.live } ∷ []) es
+      → Lives (legs_in start (ts ++ t ∷ [])) (since_last start (ts ++ t ∷ []) ++ last ∷ [])
   turn_lived ts t last es are h =
       lives_more Lives start ts t (last ∷ []) es (are ∙ sym (append_assoc (events_of t.answers None) (event.Resume t.resumed_words t.resumed_memory ∷ []) (last ∷ []))) h
 
-  module _ (now after : Moment) (served left : HostSide T) (P : List Stop → List Event → Type 0) (N : List Event → Type 0) (goes_on : (xs ys : List Event) → P [] xs → N ys → Lives [] (xs ++ ys))
-      (asks : (stops : List Stop) (xs ys : List Event) → P stops xs → N ys → Lives (stops ++ record { events = xs; live = now.guest.live } ∷ []) ys) (count index : ℕ) (asked : List ℕ) where
+  module _ (now after : Moment) (served left : HostSide T) (P : List Leg → List Event → Type 0) (N : List Event → Type 0) (goes_on : (xs ys : List Event) → P [] xs → N ys → Lives [] (xs ++ ys))
+      (asks : (legs : List Leg) (xs ys : List Event) → P legs xs → N ys → Lives (legs ++ record { events = xs; live = now.guest.live } ∷ []) ys) (count index : ℕ) (asked : List ℕ) where
     pub stepping_more : (next : Step) (xs : List Answer) (es : List Event) → Stepping gives callee limits P words before now host served count (step.Import index asked) → Goes now after (marks_of xs) es
         → (IsSome now.guest.journal → N es) → Serves gives callee limits.fuel index asked now after served left (Ok next) xs es → Stepping gives callee limits Lives words before after host left (count + 1) next
     stepping_more next xs es h goes moves (r, are) =
@@ -267,7 +266,7 @@ module _ {T : Type 0} (gives : Giving T) (callee : Callee) (limits : Limits) (Li
       lived = h.lived;
     }
 
-    pub ran_exhausted : (asks : (stops : List Stop) (xs : List Event) → Lives stops xs → Lives (stops ++ record { events = xs; live = now.guest.live } ∷ []) []) (index : ℕ) (asked : List ℕ) (h : Stepping gives callee limits Lives words before now host served count (step.Import index asked)) → count ≡ limits.turns
+    pub ran_exhausted : (asks : (legs : List Leg) (xs : List Event) → Lives legs xs → Lives (legs ++ record { events = xs; live = now.guest.live } ∷ []) []) (index : ℕ) (asked : List ℕ) (h : Stepping gives callee limits Lives words before now host served count (step.Import index asked)) → count ≡ limits.turns
         → RunsUntil gives callee limits Lives words before now host served (Err error.TurnsExhausted) (answers_in h.turns) (so_far callee words before h.turns (event.Ask index asked now.bytes ∷ []))
     ran_exhausted asks index asked h all = record {
       turns = h.turns;

@@ -43,7 +43,7 @@ use Rattle.canon_host.specs.HostSide.{Giving, HostSide}
 use Rattle.canon_func.specs.Asks.{AreServed, AskStops, AcceptsAsk, Limits, import_words}
 use Rattle.canon_func.specs.HostAsks.{IsUnrefused}
 use Rattle.canon_func.specs.Passing.{Arguments, ReturnedValues}
-use Rattle.canon_func.specs.Runs.{AskTurn, AsksLive, BeginsInAsk, Each, EndsIn, Grows, IsNoPost, IsNoReturn, IsNoStart, IsOneRun, IsPrefixOfRun, IsReallocAnswer, IsReturn, IsTrap, MayStart, OnAsk, OnReturn, OnStart, Passes, SomeReturn, Stop, answers_in, asks_in}
+use Rattle.canon_func.specs.Runs.{AskTurn, AsksLive, BeginsInAsk, ByLegs, Each, EndsIn, Grows, IsNoPost, IsNoReturn, IsNoStart, IsOneRun, IsPrefixOfRun, IsReallocAnswer, IsReturn, IsTrap, Leg, MayStart, OnAsk, OnReturn, OnStart, SomeReturn, answers_in, asks_in}
 use Rattle.canon_func.specs.Stores.{Callee}
 use Rattle.canon_func.specs.declared.error.Error.{Error}
 use Rattle.canon_func.specs.declared.error.Error.TheVariants as error
@@ -292,15 +292,15 @@ OnAnswered (Ok x) P = P
 OnAnswered (Err (error.Fault fault.OutOfMemory)) P = ⊤
 OnAnswered (Err _) P = P
 
--- One guest came to these asks, one after another, from before on: at each of them those blocks lived in it. From the last of them the
--- events that are left led to the guest after, for every answer except out of memory.
-abbrev pub LivesUntil : {G U : Type 0} → (G → Seen) → (GuestIn G → List Event → GuestIn G → Type 0) → GuestIn G → GuestIn G → Result U Error → List Stop → List Event → Type 0
-LivesUntil seen moves before after answer = Passes moves (λ g. (seen g.guest).live) (λ g rest. OnAnswered answer (moves g rest after)) before
+-- One guest made its way from before to after, by a leg to each ask: by the leg's events, and with the leg's blocks at the ask. The events
+-- after the last ask led to the guest after, for every answer except out of memory.
+abbrev pub LivesUntil : {G U : Type 0} → (G → Seen) → (GuestIn G → List Event → GuestIn G → Type 0) → GuestIn G → GuestIn G → Result U Error → List Leg → List Event → Type 0
+LivesUntil seen moves before after answer = ByLegs moves (λ g. (seen g.guest).live) (λ g rest. OnAnswered answer (moves g rest after)) before
 
--- A call that wasn't refused before the guest was entered, by its parameters, what its results are, how its guest came from ask to ask,
+-- A call that wasn't refused before the guest was entered, by its parameters, what its results are, how its guest went from ask to ask,
 -- what a post-return may leave, what functions of the host may give, its callee, what it may use, the moments and the host before and
 -- after, its answer and the events that it adds to an exposed journal.
-pub record IsCallOf {T R : Type 0} (args : Arguments) (its : ReturnedValues R) (Lives : List Stop → List Event → Type 0) (Leaves : List ℕ → List ℕ → Type 0) (gives : Giving T) (callee : Callee) (limits : Limits) (before after : Moment) (host left : HostSide T) (answer : Result R Error) (events : List Event) : Type 0 where
+pub record IsCallOf {T R : Type 0} (args : Arguments) (its : ReturnedValues R) (Lives : List Leg → List Event → Type 0) (Leaves : List ℕ → List ℕ → Type 0) (gives : Giving T) (callee : Callee) (limits : Limits) (before after : Moment) (host left : HostSide T) (answer : Result R Error) (events : List Event) : Type 0 where
   -- The guest made one run; of a refused call the events are a prefix of one.
   pub one_run : OnOk answer (IsOneRun callee.func callee.post events)
   pub prefix : IsPrefixOfRun callee.func callee.post (length before.bytes) events
@@ -319,7 +319,7 @@ pub record IsCallOf {T R : Type 0} (args : Arguments) (its : ReturnedValues R) (
   pub late_trap : Option Trap
   pub tail : List Event
   pub starts : MayStart callee.func turns late late_trap tail later
-  -- Where the journal is exposed: from ask to ask one guest did the events between them, and at each ask those blocks lived in it.
+  -- Where the journal is exposed: one guest went from ask to ask by the events between them, and at each ask those blocks lived in it.
   pub lived : IsSome before.guest.journal → AsksLive Lives turns late_live tail events
   pub asks : answer ≢ Err error.TurnsExhausted → asks_in events ≤ limits.turns
   -- each answer was aligned and its block ended inside memory, but one that the call was refused for; and each answer has its mark
@@ -398,7 +398,7 @@ module _ {T : Type 0} (gives : Giving T) (callee : Callee) (fuel : ℕ) where
       HandlesPassOf (dynamic callee params) (dynamic_results callee) gives callee fuel turns late_live memory2 late late_trap before after given (with_results answer results) events tail
 
 -- A call with these parameters, by its answer and the results that it leaves.
-abbrev pub IsCall : {T : Type 0} → (List Stop → List Event → Type 0) → (List ℕ → List ℕ → Type 0) → Giving T → Callee → Limits → List Val → Moment → Moment → HostSide T → HostSide T → Result (Unit {0}) Error → List Val → List Event → Type 0
+abbrev pub IsCall : {T : Type 0} → (List Leg → List Event → Type 0) → (List ℕ → List ℕ → Type 0) → Giving T → Callee → Limits → List Val → Moment → Moment → HostSide T → HostSide T → Result (Unit {0}) Error → List Val → List Event → Type 0
 IsCall Lives Leaves gives callee limits params before after host left answer results events =
     IsCallOf (dynamic callee params) (dynamic_results callee) Lives Leaves gives callee limits before after host left (with_results answer results) events
 

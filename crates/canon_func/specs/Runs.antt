@@ -128,45 +128,45 @@ answers_in (t ∷ turns) = t.answers ++ answers_in turns
 
 -- ---- the blocks that lived at each ask
 
--- an ask that a guest came to: the events up to it, from the ask before it on, and the blocks that lived as it was asked
-pub record Stop : Type 0 where
+-- a leg of a guest's way: the events up to an ask, from the ask before it on, and the blocks that lived as it asked
+pub record Leg : Type 0 where
   pub events : List Event
   pub live : List Block
+
+-- From one state by the events of each leg to a next, in which the leg's blocks live; and from the last by the events that are left to
+-- such an end.
+abbrev pub ByLegs : {S : Type 0} → (S → List Event → S → Type 0) → (S → List Block) → (S → List Event → Type 0) → S → List Leg → List Event → Type 0
+ByLegs moves live Ends s [] rest = Ends s rest
+ByLegs {S} moves live Ends s (leg ∷ legs) rest = (next : S) × moves s leg.events next × (live next ≡ leg.live) × ByLegs moves live Ends next legs rest
 
 -- what came after an ask: blocks were asked for, and the guest was resumed
 abbrev pub served_in : AskTurn → List Event
 served_in t = events_of t.answers None ++ event.Resume t.resumed_words t.resumed_memory ∷ []
 
--- the ask of a turn that came after these events
-abbrev pub stop_of : List Event → AskTurn → Stop
-stop_of front t = record { events = front ++ event.Ask t.index t.words t.memory ∷ []; live = t.live }
+-- the leg to the ask of a turn, by these events before it
+abbrev pub leg_of : List Event → AskTurn → Leg
+leg_of front t = record { events = front ++ event.Ask t.index t.words t.memory ∷ []; live = t.live }
 
--- the asks of the turns, which came after these events
-abbrev pub stops_in : List Event → List AskTurn → List Stop
-stops_in front [] = []
-stops_in front (t ∷ turns) = stop_of front t ∷ stops_in (served_in t) turns
+-- the legs to the asks of these turns
+abbrev pub legs_in : List Event → List AskTurn → List Leg
+legs_in front [] = []
+legs_in front (t ∷ turns) = leg_of front t ∷ legs_in (served_in t) turns
 
--- the events from the last of these asks on
+-- what came after the last of these asks
 abbrev pub since_last : List Event → List AskTurn → List Event
 since_last front [] = front
 since_last front (t ∷ turns) = since_last (served_in t) turns
 
--- By these events and turns and by what came after them, the guest came to the asks of the turns, and to one that came after them, and
--- did the events that are left.
-abbrev pub AsksFrom : (List Stop → List Event → Type 0) → List Event → List AskTurn → List Block → List Event → Type 0
+-- The guest made its way by these events, by the turns and by what came after them: in legs to the asks of the turns and to one more ask
+-- after them, and by the events that are left.
+abbrev pub AsksFrom : (List Leg → List Event → Type 0) → List Event → List AskTurn → List Block → List Event → Type 0
 AsksFrom Lives front turns late_live (event.Ask index words memory ∷ more) =
-    Lives (stops_in front turns ++ record { events = since_last front turns ++ event.Ask index words memory ∷ []; live = late_live } ∷ []) more
-AsksFrom Lives front turns late_live tail = Lives (stops_in front turns) (since_last front turns ++ tail)
+    Lives (legs_in front turns ++ record { events = since_last front turns ++ event.Ask index words memory ∷ []; live = late_live } ∷ []) more
+AsksFrom Lives front turns late_live tail = Lives (legs_in front turns) (since_last front turns ++ tail)
 
 -- the same by all events, which end in those of the turns and what came after them
-abbrev pub AsksLive : (List Stop → List Event → Type 0) → List AskTurn → List Block → List Event → List Event → Type 0
+abbrev pub AsksLive : (List Leg → List Event → Type 0) → List AskTurn → List Block → List Event → List Event → Type 0
 AsksLive Lives turns late_live tail events = (front : List Event) × (events ≡ front ++ (events_in turns ++ tail)) × AsksFrom Lives front turns late_live tail
-
--- From one state by the events up to the first ask to a state in which those blocks live, from that one to the next, and so on; and
--- from the last by the events that are left to such an end.
-abbrev pub Passes : {S : Type 0} → (S → List Event → S → Type 0) → (S → List Block) → (S → List Event → Type 0) → S → List Stop → List Event → Type 0
-Passes moves live Ends s [] rest = Ends s rest
-Passes {S} moves live Ends s (stop ∷ stops) rest = (next : S) × moves s stop.events next × (live next ≡ stop.live) × Passes moves live Ends next stops rest
 
 -- what came after the turns: where it is one more ask, which isn't resumed, blocks were asked for with these answers, and else none
 abbrev pub EndsAsking : List Answer → Option Trap → List Event → Type 0

@@ -42,7 +42,7 @@ use Rattle.canon_func.specs.HostAsks.{HostStopsBy, IsHostServedBy, IsUnrefused}
 use Rattle.canon_func.specs.AskValues.{asked_results}
 use Rattle.canon_func.specs.Call.{AcceptsLater, AfterTurns, AskCause, AsksByTypes, Concludes, HasFault, IsPastFuel, Left, StopsStartedOf, refused_by, result_words, scope_exit, words_within}
 use Rattle.canon_func.specs.Passing.{Arguments, ReturnedValues}
-use Rattle.canon_func.specs.Runs.{AskTurn, AsksFrom, AsksLive, Each, EndsIn, Grows, IsNoPost, IsNoStart, IsOneRun, IsPrefixOfRun, IsReturn, IsTrap, MayStart, OnReturn, OnStart, Stop, answers_in, asks_in, events_in, last_len, posts, since_last, stops_in}
+use Rattle.canon_func.specs.Runs.{AskTurn, AsksFrom, AsksLive, Each, EndsIn, Grows, IsNoPost, IsNoStart, IsOneRun, IsPrefixOfRun, IsReturn, IsTrap, Leg, MayStart, OnReturn, OnStart, answers_in, asks_in, events_in, last_len, legs_in, posts, since_last}
 use Rattle.canon_func.specs.Stores.{Callee}
 use Rattle.canon_func.specs.declared.error.Error.{Error}
 use Rattle.canon_func.specs.declared.error.Error.TheVariants as error
@@ -180,15 +180,16 @@ so_far callee words before turns tail = event.Start callee.func words before.byt
 
 module _ {T : Type 0} (gives : Giving T) (callee : Callee) (limits : Limits) where
   -- The guest asked so often and was served, and then took this step.
-  pub record Stepping (Lives : List Stop → List Event → Type 0) (words : List ℕ) (before now : Moment) (host served : HostSide T) (count : ℕ) (next : Step) : Type 0 where
+  pub record Stepping (Lives : List Leg → List Event → Type 0) (words : List ℕ) (before now : Moment) (host served : HostSide T) (count : ℕ) (next : Step) : Type 0 where
     pub turns : List AskTurn
     pub len : ℕ
     pub asked : TurnsTaken gives callee limits.fuel before host served turns len
     pub count_is : length turns ≡ count
     pub longer : len ≤ length now.bytes
     pub goes : Goes before now (marks_of (answers_in turns)) (so_far callee words before turns (step_event next now.bytes ∷ []))
+    -- by these events, and by the same in legs
     pub moves : IsSome before.guest.journal → Lives [] (so_far callee words before turns (step_event next now.bytes ∷ []))
-    pub lived : IsSome before.guest.journal → Lives (stops_in (event.Start callee.func words before.bytes ∷ []) turns) (since_last (event.Start callee.func words before.bytes ∷ []) turns ++ step_event next now.bytes ∷ [])
+    pub lived : IsSome before.guest.journal → Lives (legs_in (event.Start callee.func words before.bytes ∷ []) turns) (since_last (event.Start callee.func words before.bytes ∷ []) turns ++ step_event next now.bytes ∷ [])
 
   -- The guest was left after so many asks that were served in an ask that wasn't.
   pub record StopsInAsk (count len : ℕ) (before after : Moment) (served left : HostSide T) (e : Error) (live : List Block) (late : List Answer) (trap : Option Trap) (tail : List Event) : Type 0 where
@@ -214,7 +215,7 @@ module _ {T : Type 0} (gives : Giving T) (callee : Callee) (limits : Limits) whe
   Stopped count len before after served left (Err e) live late trap tail = (count < limits.turns) × StopsInAsk count len before after served left e live late trap tail
 
   -- A core function was started with these words, and asked and was served until it returned these words or stopped otherwise.
-  pub record RunsUntil (Lives : List Stop → List Event → Type 0) (words : List ℕ) (before after : Moment) (host left : HostSide T) (answer : Result (List ℕ) Error) (answers : List Answer) (events : List Event) : Type 0 where
+  pub record RunsUntil (Lives : List Leg → List Event → Type 0) (words : List ℕ) (before after : Moment) (host left : HostSide T) (answer : Result (List ℕ) Error) (answers : List Answer) (events : List Event) : Type 0 where
     pub turns : List AskTurn
     pub late_live : List Block
     pub late : List Answer
@@ -231,7 +232,7 @@ module _ {T : Type 0} (gives : Giving T) (callee : Callee) (limits : Limits) whe
     pub lived : IsSome before.guest.journal → AsksFrom Lives (event.Start callee.func words before.bytes ∷ []) turns late_live tail
 
   -- or memory ran out for its start
-  abbrev pub MayRun : (List Stop → List Event → Type 0) → List ℕ → Moment → Moment → HostSide T → HostSide T → Result (List ℕ) Error → List Answer → List Event → Type 0
+  abbrev pub MayRun : (List Leg → List Event → Type 0) → List ℕ → Moment → Moment → HostSide T → HostSide T → Result (List ℕ) Error → List Answer → List Event → Type 0
   MayRun Lives words before after host left answer answers events =
       ((answer ≡ Err (error.Fault fault.OutOfMemory)) × (events ≡ []) × (answers ≡ []) × (left ≡ host)) ⊎ RunsUntil Lives words before after host left answer answers events
 
@@ -247,14 +248,14 @@ Ended callee words before after (Err _) = ⊥
 
 module _ {T : Type 0} (gives : Giving T) (callee : Callee) (limits : Limits) where
   -- A core function was started with these words, and ran until it returned these; then the call's scope ended, or didn't.
-  pub record RunsOut (Lives : List Stop → List Event → Type 0) (words : List ℕ) (before after : Moment) (host left : HostSide T) (returned : List ℕ) (ended : Result (Unit {0}) Error) (answers : List Answer) (events : List Event) : Type 0 where
+  pub record RunsOut (Lives : List Leg → List Event → Type 0) (words : List ℕ) (before after : Moment) (host left : HostSide T) (returned : List ℕ) (ended : Result (Unit {0}) Error) (answers : List Answer) (events : List Event) : Type 0 where
     pub ran : HostSide T
     pub run : RunsUntil gives callee limits Lives words before after host ran (Ok returned) answers events
     pub ends : Ended callee returned ran.ledger left.ledger ended
     pub kept : left ≡ record ran { ledger = left.ledger }
 
   -- the same, or it stopped before
-  abbrev pub RunsToEnd : (List Stop → List Event → Type 0) → List ℕ → Moment → Moment → HostSide T → HostSide T → Result (List ℕ) Error → List Answer → List Event → Type 0
+  abbrev pub RunsToEnd : (List Leg → List Event → Type 0) → List ℕ → Moment → Moment → HostSide T → HostSide T → Result (List ℕ) Error → List Answer → List Event → Type 0
   RunsToEnd Lives words before after host left (Ok returned) answers events = RunsOut Lives words before after host left returned (Ok tt) answers events
   RunsToEnd Lives words before after host left (Err e) answers events =
       MayRun gives callee limits Lives words before after host left (Err e) answers events ⊎ ((returned : List ℕ) × RunsOut Lives words before after host left returned (Err e) answers events)
@@ -312,7 +313,7 @@ module _ {T R : Type 0} (its : ReturnedValues R) (gives : Giving T) (callee : Ca
 
   -- A callee was started with these words at the moment `before`, was served in these turns, what it returned was lifted with this fuel,
   -- and post-return was run.
-  pub record IsRest (Lives : List Stop → List Event → Type 0) (Leaves : List ℕ → List ℕ → Type 0) (words : List ℕ) (before after : Moment) (host left : HostSide T) (answer : Result R Error) (answers : List Answer) (events : List Event) : Type 0 where
+  pub record IsRest (Lives : List Leg → List Event → Type 0) (Leaves : List ℕ → List ℕ → Type 0) (words : List ℕ) (before after : Moment) (host left : HostSide T) (answer : Result R Error) (answers : List Answer) (events : List Event) : Type 0 where
     pub one_run : OnOk answer (IsOneRun callee.func callee.post events)
     pub prefix : (len : ℕ) → IsPrefixOfRun callee.func callee.post len events
     pub turns : List AskTurn

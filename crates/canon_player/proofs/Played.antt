@@ -5,7 +5,7 @@ use Rattle.std.specs.Vec.{with_items}
 use Rattle.std.specs.declared.alloc.Global.{Global}
 use Rattle.std.proofs.lemmas.List.{length-map, with_items_is}
 use Rattle.std.proofs.lemmas.Option.{none-some}
-use Rattle.canon_func.proofs.Passes.{asks_so, passes_as, passes_so}
+use Rattle.canon_func.proofs.Legs.{asks_so, legs_as, legs_so}
 use Rattle.canon_func.specs.Asks.{Limits}
 use Rattle.canon_model.specs.Memory.{Block}
 use Rattle.canon_host.specs.HostSide.{Giving, HostSide, host_side}
@@ -21,7 +21,7 @@ use Rattle.canon_context.specs.declared.fault.Fault.TheVariants as fault
 use Rattle.canon_val.specs.declared.val.Val.{Val}
 use Rattle.canon_types.specs.Refusal.{first_error}
 use Rattle.canon_func.specs.Call.{Adding, IsCall, IsCallOf, LivesUntil, OnAnswered, dynamic, dynamic_results, refusal, refused_by, with_results}
-use Rattle.canon_func.specs.Runs.{Stop}
+use Rattle.canon_func.specs.Runs.{Leg}
 use Rattle.canon_func.specs.Passing.{Arguments, ReturnedValues}
 use Rattle.canon_func.specs.Typed.{done_by}
 use Rattle.canon_func.specs.Stores.{Callee, Named, callee_of}
@@ -92,8 +92,8 @@ journaled j = record (seen_of j.guest) { journal = Some j.events; shortages = j.
 abbrev pub JournaledMoves : GuestIn (Recorded Doing) → List Event → GuestIn (Recorded Doing) → Type 0
 JournaledMoves j events k = ScriptMoves (of_guest j) events (of_guest k)
 
--- the guest of a store came from ask to ask, and on to that of the other
-abbrev pub EnteredLives : {R : Type 0} → ScriptStore → ScriptStore → Result R Error → List Stop → List Event → Type 0
+-- the guest of a store went from ask to ask, and on to that of the other
+abbrev pub EnteredLives : {R : Type 0} → ScriptStore → ScriptStore → Result R Error → List Leg → List Event → Type 0
 EnteredLives loaded left called = LivesUntil journaled JournaledMoves (guest_of loaded.core) (guest_of left.core) called
 
 -- what a store has beside its guest
@@ -103,8 +103,8 @@ side_of s = host_side s.core (Some (entries_of s.imports.lines.items)) s.imports
 -- ---- the blocks that lived
 
 -- a call whose guest's way is said otherwise
-lives_as : {T R : Type 0} (args : Arguments) (its : ReturnedValues R) (P Q : List Stop → List Event → Type 0) (Leaves : List ℕ → List ℕ → Type 0) (gives : Giving T) (callee : Callee) (limits : Limits) (before after : Moment) (host left : HostSide T)
-    (called : Result R Error) (events : List Event) → ((stops : List Stop) (es : List Event) → P stops es → Q stops es) → IsCallOf args its P Leaves gives callee limits before after host left called events
+lives_as : {T R : Type 0} (args : Arguments) (its : ReturnedValues R) (P Q : List Leg → List Event → Type 0) (Leaves : List ℕ → List ℕ → Type 0) (gives : Giving T) (callee : Callee) (limits : Limits) (before after : Moment) (host left : HostSide T)
+    (called : Result R Error) (events : List Event) → ((legs : List Leg) (es : List Event) → P legs es → Q legs es) → IsCallOf args its P Leaves gives callee limits before after host left called events
     → IsCallOf args its Q Leaves gives callee limits before after host left called events
 lives_as args its P Q Leaves gives callee limits before after host left called events f h = record {
   one_run = h.one_run;
@@ -168,11 +168,11 @@ module _ {R : Type 0} (args : Arguments) (its : ReturnedValues R) (Told : R → 
   ends = guest_in left.core.guest.guest.plan left.core.memory
 
   -- the guest acted by its plan from ask to ask
-  lives_by : (stops : List Stop) (es : List Event) → EnteredLives loaded left called stops es → LivesBy starts ends stops es
-  lives_by stops es h =
-      passes_as JournaledMoves ActsBy (λ j. (journaled j.guest).live) (λ g. g.guest.allocator.live) (λ j rest. OnAnswered called (JournaledMoves j rest (guest_of left.core))) (λ g rest. ActsBy g rest ends)
+  lives_by : (legs : List Leg) (es : List Event) → EnteredLives loaded left called legs es → LivesBy starts ends legs es
+  lives_by legs es h =
+      legs_as JournaledMoves ActsBy (λ j. (journaled j.guest).live) (λ g. g.guest.allocator.live) (λ j rest. OnAnswered called (JournaledMoves j rest (guest_of left.core))) (λ g rest. ActsBy g rest ends)
       (λ j. record { guest = j.guest.guest.plan; len = j.len }) (λ j xs k moved. (moved.new_marks, moved.does)) (λ j. refl)
-      (λ j xs moved. let did : JournaledMoves j xs (guest_of left.core) = on_answered called _ short moved in (did.new_marks, did.does)) (guest_of loaded.core) stops es h
+      (λ j xs moved. let did : JournaledMoves j xs (guest_of left.core) = on_answered called _ short moved in (did.new_marks, did.does)) (guest_of loaded.core) legs es h
 
   -- the call, by the events before it, those that are printed after it, and the events that it added
   abbrev Calls : List Event → List Event → List Event → Type 0
@@ -295,7 +295,7 @@ entered_with callee params before left called results h = record {
   moves = λ some. on_answered_with called results _ (h.moves some);
   so = lives_as (dynamic callee params) (dynamic_results callee) (EnteredLives before left called) (EnteredLives before left (with_results called results)) LeavesSame (GivesAnswers (answers_of before)) callee (limits_of before)
       (moment_of journaled before.core) (moment_of journaled left.core) (side_of before) (side_of left) (with_results called results) h.events
-      (passes_so JournaledMoves (λ j. (journaled j.guest).live) (λ j rest. OnAnswered called (JournaledMoves j rest (guest_of left.core))) (λ j rest. OnAnswered (with_results called results) (JournaledMoves j rest (guest_of left.core)))
+      (legs_so JournaledMoves (λ j. (journaled j.guest).live) (λ j rest. OnAnswered called (JournaledMoves j rest (guest_of left.core))) (λ j rest. OnAnswered (with_results called results) (JournaledMoves j rest (guest_of left.core)))
       (λ j es moved. on_answered_with called results _ moved) (guest_of before.core)) h.so;
 }
 

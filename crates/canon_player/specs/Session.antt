@@ -28,7 +28,7 @@ use Rattle.canon_func.specs.Asks.{Limits, allowed}
 use Rattle.canon_func.specs.Call.{IsCallOf, dynamic, dynamic_results, entry_refusal, refusal}
 use Rattle.canon_func.specs.Drop.{IsCutOff, IsDropped, destructor_at, destructor_events, drop_refusal}
 use Rattle.canon_func.specs.Passing.{Arguments, ReturnedValues}
-use Rattle.canon_func.specs.Runs.{Passes, Stop}
+use Rattle.canon_func.specs.Runs.{ByLegs, Leg}
 use Rattle.canon_func.specs.Stores.{Callee}
 use Rattle.canon_func.specs.Typed.{FitsParams, FitsResults, params_shape, typed_args, typed_results}
 use Rattle.canon_func.specs.declared.error.Error.{Error}
@@ -198,13 +198,13 @@ pub record Logs (before after : List LoggedEntry) (served : List Served) : Type 
 abbrev pub LeavesSame : List ℕ → List ℕ → Type 0
 LeavesSame memory after = after ≡ memory
 
--- by this plan, in a memory of so many bytes, a guest did these events, which left it that plan in a memory of so many
+-- by its plan, in a memory of so many bytes, a guest did these events, which left it that plan in a memory of so many
 abbrev pub ActsBy : GuestIn Plan → List Event → GuestIn Plan → Type 0
 ActsBy before events after = (new_marks : List Mark) × CarriesOut before.guest before.len events new_marks after.guest after.len
 
--- So acted one guest from ask to ask, from before on: at each of them those blocks lived in it; and by the events that are left, to after.
-abbrev pub LivesBy : GuestIn Plan → GuestIn Plan → List Stop → List Event → Type 0
-LivesBy before after = Passes ActsBy (λ g. g.guest.allocator.live) (λ g rest. ActsBy g rest after) before
+-- One guest made its way so from before to after, in legs to its asks, at each of which the leg's blocks lived by its plan.
+abbrev pub LivesBy : GuestIn Plan → GuestIn Plan → List Leg → List Event → Type 0
+LivesBy before after = ByLegs ActsBy (λ g. g.guest.allocator.live) (λ g rest. ActsBy g rest after) before
 
 -- The guest was entered, and acted by its plan in its memory, from the length before to the length after; its traps are counted;
 -- the asks and the results were within these limits; the store is trapped where the call was refused. After an answer that is Ok, memory is

@@ -1,4 +1,4 @@
-use Rattle.std.proofs.Common.{Err, List, Ok, [], arith, refl, subst, sym, ℕ, ◌++◌, ◌∙◌}
+use Rattle.std.proofs.Common.{Err, List, Ok, [], arith, refl, subst, sym, ℕ, ◌∙◌}
 use Rattle.canon_memory.specs.declared.event.Event.{Event}
 use Rattle.canon_memory.specs.declared.guest.Step.{Step}
 use Rattle.canon_memory.specs.declared.guest.Step.TheVariants as step
@@ -7,7 +7,7 @@ use Rattle.canon_context.specs.Core.{guest_of, moment_of}
 use Rattle.canon_host.specs.HostSide.{host_side}
 use Rattle.canon_func.specs.Asks.{allowed}
 use Rattle.canon_func.specs.Call.{LivesUntil, OnAnswered}
-use Rattle.canon_func.specs.Runs.{Stop}
+use Rattle.canon_func.specs.Runs.{Leg}
 use Rattle.canon_func.specs.Steps.{Serves, Serving, Stepping}
 use Rattle.canon_func.specs.Stores.{export_callee}
 use Rattle.canon_func.proofs.Asking.{but_host, has_exhausted, has_returned, has_stopped, not_started, side_same, then_host}
@@ -73,7 +73,7 @@ returns-in-Err-serve-clause-did g c =
     let host = host_side before (imports.log i) (imports.refusals i) in
     let served = host_side mid (imports.log j) (imports.refusals j) in
     let left = host_side after (imports.log k) (imports.refusals k) in
-    let before_lives : List Stop → List Event → Type 0 = LivesUntil {U = Unit {0}} g.G.Guest.seen g.G.Guest.moves (guest_of before) (guest_of mid) (Ok tt) in
+    let before_lives : List Leg → List Event → Type 0 = LivesUntil {U = Unit {0}} g.G.Guest.seen g.G.Guest.moves (guest_of before) (guest_of mid) (Ok tt) in
     let so_far : Stepping gives callee limits before_lives words (moment_of seen before) (moment_of seen mid) host served c.loop.counter (step.Import index asked) =
     subst (λ ws. Stepping gives callee limits before_lives words (moment_of seen before) (moment_of seen mid) host served c.loop.counter (step.Import index ws)) (sym c.as_slice.ensures)
     (subst (λ st. Stepping gives callee limits before_lives words (moment_of seen before) (moment_of seen mid) host served c.loop.counter st) c.in-Import.is c.loop.invariant.stepping) in
@@ -84,7 +84,7 @@ returns-in-Err-serve-clause-did g c =
     c.loop.invariant.same c.in-Err-serve.ensures.did) in
     has_stopped gives callee limits (LivesUntil {U = List ℕ} g.G.Guest.seen g.G.Guest.moves (guest_of before) (guest_of after) (Err e)) words (moment_of seen before) host (moment_of seen mid) (moment_of seen after) served left before_lives N (told_later (moment_of seen before) (moment_of seen mid) _ _ so_far.goes)
     (λ xs ys p q. lives_then seen moves (List ℕ) (Unit {0}) tt (Err e) (guest_of before) (guest_of mid) (guest_of after) g.met.G.Guest.goes_on [] xs ys p (retyped Step (List ℕ) e (moves (guest_of mid) ys (guest_of after)) q))
-    (λ stops xs ys p q. lives_ask seen moves (List ℕ) (Unit {0}) tt (Err e) (guest_of before) (guest_of mid) (guest_of after) stops xs ys p (retyped Step (List ℕ) e (moves (guest_of mid) ys (guest_of after)) q))
+    (λ legs xs ys p q. lives_ask seen moves (List ℕ) (Unit {0}) tt (Err e) (guest_of before) (guest_of mid) (guest_of after) legs xs ys p (retyped Step (List ℕ) e (moves (guest_of mid) ys (guest_of after)) q))
     c.loop.counter index asked e so_far (omega (arith, c.loop-test.true)) one
 
 pub loop-preserved : goal.loop-preserved
@@ -108,7 +108,7 @@ loop-preserved g c =
     let host = host_side before (imports.log i) (imports.refusals i) in
     let served = host_side mid (imports.log j) (imports.refusals j) in
     let left = host_side after (imports.log k) (imports.refusals k) in
-    let before_lives : List Stop → List Event → Type 0 = LivesUntil {U = Unit {0}} g.G.Guest.seen g.G.Guest.moves (guest_of before) (guest_of mid) (Ok tt) in
+    let before_lives : List Leg → List Event → Type 0 = LivesUntil {U = Unit {0}} g.G.Guest.seen g.G.Guest.moves (guest_of before) (guest_of mid) (Ok tt) in
     let so_far : Stepping gives callee limits before_lives words (moment_of seen before) (moment_of seen mid) host served c.loop.counter (step.Import index asked) =
     subst (λ ws. Stepping gives callee limits before_lives words (moment_of seen before) (moment_of seen mid) host served c.loop.counter (step.Import index ws)) (sym c.as_slice.ensures)
     (subst (λ st. Stepping gives callee limits before_lives words (moment_of seen before) (moment_of seen mid) host served c.loop.counter st) c.in-Import.is c.loop.invariant.stepping) in
@@ -139,7 +139,7 @@ returns-in-Return-clause-did g c =
     let limits = allowed before.fuel c.args.turns in
     let host = host_side before (imports.log i) (imports.refusals i) in
     let served = host_side now (imports.log j) (imports.refusals j) in
-    let lives : List Stop → List Event → Type 0 = LivesUntil {U = Unit {0}} g.G.Guest.seen g.G.Guest.moves (guest_of before) (guest_of now) (Ok tt) in
+    let lives : List Leg → List Event → Type 0 = LivesUntil {U = Unit {0}} g.G.Guest.seen g.G.Guest.moves (guest_of before) (guest_of now) (Ok tt) in
     has_returned gives callee limits lives c.args.words.now (moment_of seen before) host (moment_of seen now) served c.loop.counter c.in-Return.words
     (subst (λ st. Stepping gives callee limits lives c.args.words.now (moment_of seen before) (moment_of seen now) host served c.loop.counter st) c.in-Return.is c.loop.invariant.stepping) (omega (arith, c.loop-test.true))
 
@@ -156,7 +156,7 @@ returns-in-Return-step-clause-did g c =
     let limits = allowed before.fuel c.args.turns in
     let host = host_side before (imports.log i) (imports.refusals i) in
     let served = host_side now (imports.log j) (imports.refusals j) in
-    let lives : List Stop → List Event → Type 0 = LivesUntil {U = Unit {0}} g.G.Guest.seen g.G.Guest.moves (guest_of before) (guest_of now) (Ok tt) in
+    let lives : List Leg → List Event → Type 0 = LivesUntil {U = Unit {0}} g.G.Guest.seen g.G.Guest.moves (guest_of before) (guest_of now) (Ok tt) in
     has_returned gives callee limits lives c.args.words.now (moment_of seen before) host (moment_of seen now) served c.loop.counter c.in-Return-step.words
     (subst (λ st. Stepping gives callee limits lives c.args.words.now (moment_of seen before) (moment_of seen now) host served c.loop.counter st) c.in-Return-step.is c.loop.invariant.stepping) (omega (arith, c.loop.auto.counter-end))
 
@@ -173,6 +173,6 @@ returns-clause-did g c =
     let limits = allowed before.fuel c.args.turns in
     let host = host_side before (imports.log i) (imports.refusals i) in
     let served = host_side now (imports.log j) (imports.refusals j) in
-    let lives : List Stop → List Event → Type 0 = LivesUntil {U = Unit {0}} g.G.Guest.seen g.G.Guest.moves (guest_of before) (guest_of now) (Ok tt) in
-    has_exhausted gives callee limits lives c.args.words.now (moment_of seen before) host (moment_of seen now) served c.loop.counter (λ stops xs p. lives_ask seen g.G.Guest.moves (Unit {0}) (Unit {0}) tt (Ok tt) (guest_of before) (guest_of now) (guest_of now) stops xs [] p (g.met.G.Guest.stays (guest_of now))) c.in-Import-step.index c.in-Import-step.words
+    let lives : List Leg → List Event → Type 0 = LivesUntil {U = Unit {0}} g.G.Guest.seen g.G.Guest.moves (guest_of before) (guest_of now) (Ok tt) in
+    has_exhausted gives callee limits lives c.args.words.now (moment_of seen before) host (moment_of seen now) served c.loop.counter (λ legs xs p. lives_ask seen g.G.Guest.moves (Unit {0}) (Unit {0}) tt (Ok tt) (guest_of before) (guest_of now) (guest_of now) legs xs [] p (g.met.G.Guest.stays (guest_of now))) c.in-Import-step.index c.in-Import-step.words
     (subst (λ st. Stepping gives callee limits lives c.args.words.now (moment_of seen before) (moment_of seen now) host served c.loop.counter st) c.in-Import-step.is c.loop.invariant.stepping) (omega (arith, c.loop-test.false, c.loop.auto.counter-end))

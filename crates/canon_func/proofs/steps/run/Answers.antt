@@ -1,5 +1,4 @@
 use Rattle.std.proofs.Common.{Err, List, Ok, refl, subst, sym, ℕ}
-use Rattle.canon_memory.specs.declared.event.Event.{Event}
 use Rattle.canon_context.specs.Core.{guest_of, moment_of}
 use Rattle.canon_host.specs.HostSide.{host_side}
 use Rattle.canon_func.specs.Asks.{allowed}
