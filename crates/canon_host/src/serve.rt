@@ -85,7 +85,7 @@ fn lift<T, G>(
     lift_args(alloc, &mut cx, tuple, words)
 }
 
-/// CallsFunction the function with these parameters, and ends the ask.
+/// Calls the function with these parameters, and ends the ask.
 fn answer<
     T,
     G: Guest,
@@ -133,7 +133,7 @@ fn with_slots(params: Vec<Val>, count: usize) -> Result<Vec<Val>, OutOfMemory>
     Ok(values)
 }
 
-/// CallsFunction the function over the parameters and the slots after them.
+/// Calls the function over the parameters and the slots after them.
 fn call<
     T,
     G,

@@ -1,5 +1,5 @@
 -- The steps of an item.
-use Rattle.std.specs.Prelude.{Bool, Err, List, None, Ok, Result, [], false, length, true, ℕ, ◌≡◌, ◌∷◌, ◌⊎◌}
+use Rattle.std.specs.Prelude.{Bool, Err, List, None, Ok, Result, [], false, length, true, ℕ, ◌≡◌, ◌++◌, ◌∷◌, ◌⊎◌}
 use Rattle.canon_types.specs.declared.resource.ResourceType.TheVariants.{HostDynamic}
 use Rattle.canon_ledger.specs.Index.{GivenIndex}
 use Rattle.canon_ledger.specs.Ledger.{Done, LedgerState, given, host_resource_lower_own}
@@ -9,6 +9,7 @@ use Rattle.canon_resources.specs.Held.{Any, any, table_handle}
 use Rattle.canon_resources.specs.declared.any.ResourceAnyHandle.TheVariants.{Synthetic}
 use Rattle.canon_context.specs.declared.fault.Fault.TheVariants as fault
 use Rattle.canon_val.specs.declared.val.Val.TheVariants as val
+use Rattle.canon_value_parts.specs.Resources.{all_resources}
 use Rattle.canon_func.specs.Asks.{Limits}
 use Rattle.canon_func.specs.Call.{refusal as call_refusal}
 use Rattle.canon_func.specs.Stores.{Callee}
@@ -20,7 +21,7 @@ use Rattle.canon_transcript.specs.declared.transcript.Answer.{Answer}
 use Rattle.canon_transcript.specs.declared.transcript.Answer.TheVariants as answer
 use Rattle.canon_transcript.specs.declared.transcript.Head.TheVariants as head
 use Rattle.canon_transcript.specs.declared.transcript.Record.{Record}
-use Rattle.canon_player.specs.Session.{AnswersOk, Called, IsPlayed, Plays, State}
+use Rattle.canon_player.specs.Session.{AnswersOk, Called, IsPlayed, Plays, State, answer_values}
 use Rattle.canon_player.specs.Stores.{ScriptStore, answers_of, callee_at, limits_of, state_of}
 
 -- items were played on a store, from no resources on
@@ -30,6 +31,13 @@ PlaysItems store items records = Plays (callee_at store.core.component) (limits_
 -- an item was played on a store, with this list of resources
 abbrev pub PlaysItem : ScriptStore → ScriptItem → List Any → ScriptStore → Record → Type 0
 PlaysItem before i list after r = IsPlayed (callee_at before.core.component) (limits_of before) (answers_of before) i list (state_of before) (state_of after) r
+
+-- an item was played on a store, with this list of resources; its record was added, and the resources of its answer
+pub record PlaysNext (before : ScriptStore) (i : ScriptItem) (list : List Any) (records : List Record) (after : ScriptStore) (longer : List Any) (more : List Record) : Type 0 where
+  pub added : Record
+  pub played : PlaysItem before i list after added
+  pub longer_by : longer ≡ list ++ all_resources (answer_values added.answer)
+  pub more_by : more ≡ records ++ added ∷ []
 
 -- the record of a call that wasn't skipped
 pub record CallsOnce (callee : Callee) (limits : Limits) (answers : List (List HostAnswer)) (call : ScriptCall) (list : List Any) (before after : State) (r : Record) : Type 0 where

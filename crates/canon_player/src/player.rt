@@ -4,7 +4,7 @@ ghost use Rattle.std.specs.Prelude.{◌≡◌, ◌≢◌, ◌++◌, [], All, Err
 ghost use Rattle.canon_value_parts.specs.Resources.{all_resources};
 ghost use Rattle.canon_script.specs.Script.{IsWellFormed, call_item, call_item_view, drop_item, item_view, new_item, play_of};
 ghost use Rattle.canon_player.specs.Session.{IsEnd, Session, WasDropped, answer_values, answer_outcome};
-ghost use Rattle.canon_player.specs.Steps.{MadeAnswer, MakesCall, MakesResource, PlaysItem, PlaysItems};
+ghost use Rattle.canon_player.specs.Steps.{MadeAnswer, MakesCall, MakesResource, PlaysItem, PlaysItems, PlaysNext};
 ghost use Rattle.canon_player.specs.Stores.{HasItsTypes, IsCallable, IsPlayable, answers_of, limits_of, state_of};
 
 use crate::component::{ScriptStore, component_of, store_of};
@@ -52,7 +52,7 @@ pub fn play(alloc: Global, script: Script, transcript: &mut Transcript) -> Resul
     Ok(())
 }
 
-/// Plays items, one after another, on one store.
+/// Plays items, one after another, on a store of their own.
 fn play_items(
     alloc: Global,
     store: ScriptStore,
@@ -64,14 +64,50 @@ fn play_items(
     ensures { IfOk result (λ records. PlaysItems store (map item_view items.items) records) }
 {
     let mut store = store;
+    play_each(alloc, &mut store, items)
+}
+
+/// Plays items, one after another, on this store.
+fn play_each(
+    alloc: Global,
+    store: &mut ScriptStore,
+    items: Vec<Item>,
+) -> Result<Transcript, OutOfMemory>
+    requires fresh { store.old.core.guest.events ≡ [] }
+    requires own_types { HasItsTypes store.old }
+    requires playable { All (IsPlayable store.old.core.component) (map item_view items.items) }
+    ensures { IfOk result (λ records. PlaysItems store.old (map item_view items.items) records) }
+{
     let mut records = Transcript::new(alloc);
     let mut list = Vec::new(alloc);
     for item in items {
-        let record = play_item(alloc, &mut store, &list, item)?;
-        add_resources(alloc, &mut list, &record.answer)?;
-        records.push(record)?;
+        play_next(alloc, store, &mut list, &mut records, item)?;
     }
     Ok(records)
+}
+
+/// Plays an item, and adds its record and the resources of its answer.
+fn play_next(
+    alloc: Global,
+    store: &mut ScriptStore,
+    list: &mut Vec<ResourceAny>,
+    records: &mut Transcript,
+    item: Item,
+) -> Result<(), OutOfMemory>
+    requires fresh { store.old.core.guest.events ≡ [] }
+    requires own_types { HasItsTypes store.old }
+    requires playable { IsPlayable store.old.core.component (item_view item) }
+    ensures next { OnOk result (PlaysNext store.old (item_view item) list.old.items records.old store.new list.new.items records.new) }
+    ensures fresh { store.new.core.guest.events ≡ [] }
+    ensures same { store.new.core.component ≡ store.old.core.component }
+    ensures id { store.new.core.id ≡ store.old.core.id }
+    ensures limits { limits_of store.new ≡ limits_of store.old }
+    ensures answers { answers_of store.new ≡ answers_of store.old }
+{
+    let record = play_item(alloc, store, list, item)?;
+    add_resources(alloc, list, &record.answer)?;
+    records.push(record)?;
+    Ok(())
 }
 
 /// Adds the resources of an answer to the list.

@@ -113,8 +113,8 @@ row_step F f us k x done new a rows lt at is grown inv =
     at_drop_more F us k x lt ∙ (rows _ _ ∙ ap (option_and_then (λ y. option_map (λ ys. y ∷ ys) rest)) (ap f (sym at) ∙ is)) in
     one_more done new a rest grown ∙ (ap (option_map (λ xs. done ++ xs)) (sym first) ∙ inv)
 
-pub map_more : {A B : Type 0} (f : A → B) (xs ys : List A) (x : A) → ys ≡ xs ++ x ∷ [] → map f ys ≡ map f xs ++ f x ∷ []
-map_more f xs ys x e = ap (map f) e ∙ map-append f xs (x ∷ [])
+pub map_grown : {A B : Type 0} (f : A → B) (xs ys : List A) (x : A) → ys ≡ xs ++ x ∷ [] → map f ys ≡ map f xs ++ f x ∷ []
+map_grown f xs ys x e = ap (map f) e ∙ map-append f xs (x ∷ [])
 
 -- ---- literals
 

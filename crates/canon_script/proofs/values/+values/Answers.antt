@@ -7,7 +7,7 @@ use Rattle.canon_literals.specs.Literals.{Literal, enum, fields_view, fixed, fla
 use Rattle.canon_script.specs.Values.{optional_of, pair_of, pairs_in, value_by, value_of, values_of}
 use Rattle.canon_script.specs.declared.kinds.ValueKind.TheVariants as kind
 use Rattle.canon_script.proofs.Cases.{case_given, case_refused, first_in_two, key_refused, option_by, outcome_by, pair_given, payload_within, result_reads, value_refused, variant_by, variant_reads}
-use Rattle.canon_script.proofs.Members.{array_end, array_refused, array_step, enum_by, field_step, fixed_by, flags_by, in_array, in_form, in_two, list_by, made_of, map_by, map_more, no_value, record_end, record_refused, scalar_is, text_by, tuple_by, value_is}
+use Rattle.canon_script.proofs.Members.{array_end, array_refused, array_step, enum_by, field_step, fixed_by, flags_by, in_array, in_form, in_two, list_by, made_of, map_by, map_grown, no_value, record_end, record_refused, scalar_is, text_by, tuple_by, value_is}
 use Rattle.canon_literals.proofs.Views.{literal-Enum, literal-FixedLengthList, literal-Flags, literal-List, literal-Map, literal-Option, literal-Record, literal-String, literal-Tuple}
 use Rattle.canon_script.proofs.values.+values.Goals as goal
 
@@ -149,7 +149,7 @@ record_of-returns-in-Err t c =
 pub pairs_of-loop-item-preserved : goal.pairs_of-loop-item-preserved
 pairs_of-loop-item-preserved t c =
     array_step pairs_in pair_of c.deref-item-items.result.now c.loop-item.item-index c.item-item.result (pairs_view c.loop-item.pairs.items) (pairs_view c.keep.new.row.items) (pair_view c.in-Ok.pair)
-    (λ d ds. refl) c.loop-item-test.true c.item-item.is c.in-Ok.ensures (map_more pair_view c.loop-item.pairs.items c.keep.new.row.items c.in-Ok.pair c.in_ok-keep-in-Ok.ensures.ok) c.loop-item.invariant
+    (λ d ds. refl) c.loop-item-test.true c.item-item.is c.in-Ok.ensures (map_grown pair_view c.loop-item.pairs.items c.keep.new.row.items c.in-Ok.pair c.in_ok-keep-in-Ok.ensures.ok) c.loop-item.invariant
 
 pub pair_of-value_of-requires : goal.pair_of-value_of-requires
 pair_of-value_of-requires t c = (omega (arith, first_in_two (view c.args.v.now) (view c.in-Some.key.now) (view c.in-Some.value.now) c.in-Some.ensures), tt)
@@ -197,4 +197,4 @@ result_of-returns-in-Err t c =
 pub values_of-loop-item-preserved : goal.values_of-loop-item-preserved
 values_of-loop-item-preserved t c =
     array_step values_of value_of c.deref-item-items.result.now c.loop-item.item-index c.item-item.result (literals_view c.loop-item.values.items) (literals_view c.keep.new.row.items) (literal_view c.in-Ok.value)
-    (λ d ds. refl) c.loop-item-test.true c.item-item.is c.in-Ok.ensures (map_more literal_view c.loop-item.values.items c.keep.new.row.items c.in-Ok.value c.in_ok-keep-in-Ok.ensures.ok) c.loop-item.invariant
+    (λ d ds. refl) c.loop-item-test.true c.item-item.is c.in-Ok.ensures (map_grown literal_view c.loop-item.values.items c.keep.new.row.items c.in-Ok.value c.in_ok-keep-in-Ok.ensures.ok) c.loop-item.invariant

@@ -1,7 +1,7 @@
 -- The items so far were played; the rest completes the records.
 use Rattle.std.specs.Vec.Iter.{into_iter_items}
 use Rattle.canon_player.proofs.Playing.{IsPlaying}
-use Rattle.canon_player.proofs.player.play_items.Given as goal
+use Rattle.canon_player.proofs.player.play_each.Given as goal
 
 abbrev pub invariant-loop-item : goal.invariant-loop-item
 invariant-loop-item l = record {
